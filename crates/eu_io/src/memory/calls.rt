@@ -1,0 +1,69 @@
+//! Which calls of an object fail.
+
+ghost use Rattle.std.specs.Prelude.{◌≡◌, ◌≤◌};
+ghost use Rattle.std.specs.Bool.{OnTrue};
+ghost use Rattle.eu_io.specs.Faults.{Rose};
+ghost use Rattle.eu_io.specs.Memory.{fails_next, after_call, raised};
+
+use crate::fault_count::FaultCount;
+use std::marker::Model;
+
+/// The numbers of the calls that fail, and counts of the calls so far and of those that failed.
+#[derive(Drop)]
+pub struct Calls {
+    fails: Vec<u64>,
+    made: u64,
+    faults: FaultCount,
+}
+
+impl Model for Calls {
+    ghost use Rattle.eu_io.specs.Memory.{CallState};
+
+    ghost Value = { CallState };
+
+    ghost view = { λ inside. record { fails = inside.fails.items; made = inside.made; faults = inside.faults } };
+}
+
+impl Calls {
+    /// No call so far. The first call has the number 1.
+    pub fn new(fails: Vec<u64>) -> Calls
+        ensures { result ≡ record { fails = fails.items; made = 0; faults = 0 } }
+    {
+        Calls {
+            fails,
+            made: 0,
+            faults: FaultCount::new(),
+        }
+    }
+
+    /// Counts a call, and says whether it is one of those that fail.
+    pub fn count(&mut self) -> bool
+        ensures named { result ≡ fails_next self.old }
+        ensures counted { self.new ≡ after_call self.old result }
+        ensures rose { OnTrue result (Rose self.old.faults self.new.faults) }
+        ensures no_less { self.old.faults ≤ self.new.faults }
+    {
+        self.made = self.made.saturating_add(1);
+        let named = self.fails.contains(&self.made);
+        if named {
+            self.faults.raise();
+        }
+        named
+    }
+
+    /// Counts a failure of the call that was counted last.
+    pub fn fail(&mut self)
+        ensures exact { self.new ≡ record self.old { faults = raised self.old.faults } }
+        ensures rose { Rose self.old.faults self.new.faults }
+        ensures no_less { self.old.faults ≤ self.new.faults }
+    {
+        self.faults.raise();
+    }
+
+    /// How many calls have failed.
+    pub fn faults(&self) -> u64
+        ensures { result ≡ self.now.faults }
+    {
+        self.faults.get()
+    }
+}

@@ -1,0 +1,13 @@
+-- Which global variable a name means.
+use Rattle.std.specs.Prelude.{ℕ, ◌+◌, List, [], ◌∷◌, Option, Some, None, if◌then◌else◌, bytes_eq}
+use Rattle.model_core.specs.declared.model.Model.{Model}
+use Rattle.model_core.specs.declared.model.VarDecl.{VarDecl}
+
+-- the number of the first variable of this name, counted from here on
+abbrev pub first_named : ℕ → List ℕ → List VarDecl → Option ℕ
+first_named number name [] = None
+first_named number name (variable ∷ variables) = if bytes_eq variable.name name then Some number else first_named (number + 1) name variables
+
+-- the number of the global of this name
+abbrev pub global_named : Model → List ℕ → Option ℕ
+global_named model name = first_named 0 name model.problem.globals
