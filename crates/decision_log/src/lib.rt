@@ -1,0 +1,15 @@
+// The decisions that stand, and the lists of decisions that undo can bring back.
+#![tactic(auto)]
+
+pub mod log;
+
+/// Why there was nothing to give.
+#[derive(Clone, Copy, Debug, PartialEq, Eq)]
+pub enum LogFault {
+    /// Nothing was decided that could be undone.
+    Nothing,
+    Memory,
+}
+
+#[cfg(test)]
+mod tests;

@@ -1,0 +1,102 @@
+-- What the database keeps, through its calls.
+use Rattle.std.proofs.Common.{◌≡◌, get_or, List, [], ◌∷◌, ◌++◌, length, Option, Some, None, Ok, Err, Vec, refl, sym, ap, ◌∙◌, subst, arith}
+use Rattle.std.specs.Prelude.{MatchOption, MatchBool, is_some, ◌<◌, ◌≤◌, ℕ}
+use Rattle.std.specs.declared.alloc.Global.{Global as Global_allocator}
+use Rattle.domain_core.specs.Domain.{Domain}
+use Rattle.model_core.specs.declared.decision.Decision.{Decision}
+use Rattle.model_core.specs.declared.model.Model.{Model}
+use Rattle.model_core.specs.History.{History, standing, accepted}
+use Rattle.eu_name.specs.declared.name.VarName.{VarName}
+use Rattle.eu_name.specs.declared.name.VarName.TheVariants.{Global}
+use Rattle.std.proofs.lemmas.Option.{slice_get_read}
+use Rattle.plan_defs.proofs.Members.{get_below}
+use Rattle.plan_defs.specs.State.{State, Gives}
+use Rattle.plan_defs.specs.Closure.{IsLeast, IsCollapsed}
+use Rattle.plan_defs.specs.Decisions.{IsAdmissible, IsSettled}
+use Rattle.plan_defs.specs.History.{IsHistory}
+use Rattle.plan_defs.proofs.Settling.{IsSettled-push}
+use Rattle.plan_db.specs.declared.fault.DbFault.{DbFault}
+use Rattle.plan_db.specs.declared.fault.DbFault.TheVariants.{InInconsistent, Unknown, Decided, NotInDomain, Nothing, Memory}
+use Rattle.plan_db.specs.Kept.{IsKept, state_of, outcome_where}
+use Rattle.plan_db.specs.Database.{Database, OutcomeIs, Applies, Finds, HasLeast, HasCollapsed}
+use Rattle.decision_log.specs.Undoing.{Pops}
+use Rattle.plan_db.proofs.Positions.{gives_at, given_at, number_same}
+
+-- the list that stands is settled
+pub standing_settled : (model : Model) (history : History) → IsHistory model history → IsSettled model (standing history)
+standing_settled model [] is = absurd is
+standing_settled model (decisions ∷ []) is = subst (IsSettled model) (sym is) refl
+standing_settled model (decisions ∷ below ∷ former) is = is.0
+
+-- a further decision that is admissible makes a history
+pub IsHistory-accepted : (model : Model) (history : History) (decision : Decision) → IsHistory model history → IsAdmissible model (standing history) decision → IsHistory model (accepted history decision)
+IsHistory-accepted model [] decision is admissible = absurd is
+IsHistory-accepted model (decisions ∷ former) decision is admissible =
+    (IsSettled-push model decisions decision (standing_settled model (decisions ∷ former) is) admissible, is)
+
+-- a history of one list is the first
+pub first_history : (model : Model) (history : History) → IsHistory model history → length history ≡ 1 → history ≡ [] ∷ []
+first_history model [] is one = absurd is
+first_history model (decisions ∷ []) is one = ap (λ list. list ∷ []) is
+first_history model (decisions ∷ below ∷ former) is one = absurd (omega arith)
+
+module _ (model : Model) (history : History) (kept : Option (Vec Domain Global_allocator)) (is : IsKept model history kept) where
+  pub least_kept : (domains : Vec Domain Global_allocator) → kept ≡ Some domains → IsLeast model (standing history) (state_of domains.items)
+  least_kept domains e = subst (λ o. MatchOption o (IsCollapsed model (standing history)) (λ d. IsLeast model (standing history) (state_of d.items))) e is.state
+
+  pub collapsed_kept : kept ≡ None → IsCollapsed model (standing history)
+  collapsed_kept e = subst (λ o. MatchOption o (IsCollapsed model (standing history)) (λ d. IsLeast model (standing history) (state_of d.items))) e is.state
+
+-- the outcome that is answered is that of the decisions
+pub outcome_is : (database : Database) (kept : Option (Vec Domain Global_allocator))
+    → MatchOption kept (IsCollapsed database.model (standing database.history)) (λ domains. IsLeast database.model (standing database.history) (state_of domains.items)) → OutcomeIs database (outcome_where kept)
+outcome_is database None collapsed = collapsed
+outcome_is database (Some domains) least = (state_of domains.items, least)
+
+-- a reason that the tests find in the least state is why the decision is refused
+pub refused : (database : Database) (decision : Decision) (state : State) (fault : DbFault) → HasLeast database state → Finds database.model (standing database.history) state decision (Err fault) → Applies database decision (Err fault) database
+refused database decision state InInconsistent least finds = absurd finds
+refused database decision state Unknown least finds = (refl, record { state = state; least = least; first = finds })
+refused database decision state Decided least finds = (refl, record { state = state; least = least; first = finds })
+refused database decision state NotInDomain least finds = (refl, record { state = state; least = least; first = finds })
+refused database decision state Nothing least finds = absurd finds
+refused database decision state Memory least finds = absurd finds
+
+-- and where they find none it is admissible
+pub admissible : (database : Database) (decision : Decision) (state : State) → HasLeast database state → Finds database.model (standing database.history) state decision (Ok tt) → IsAdmissible database.model (standing database.history) decision
+admissible database decision state least finds = record { state = state; least = least; known = finds.0; undecided = finds.1; in_base = finds.2 }
+
+-- whether the kept state is there says whether the decisions leave something
+pub consistent_kept : (database : Database) (kept : Option (Vec Domain Global_allocator)) → IsKept database.model database.history kept → MatchBool (is_some kept) ((state : State) × HasLeast database state) (HasCollapsed database)
+consistent_kept database None is = is.state
+consistent_kept database (Some domains) is = (state_of domains.items, is.state)
+
+-- a variable that isn't a global is in no kept state
+pub ungiven_other : (domains : List Domain) (name : VarName) → ((number : ℕ) → name ≡ Global number → ⊥) → (domain : Domain) → Gives (state_of domains) name domain → ⊥
+ungiven_other domains name other domain gives = let at = given_at domains name domain gives in other at.place at.is_global
+
+-- nor is a global past the last
+pub ungiven_past : (domains : List Domain) (name : VarName) (number : ℕ) → name ≡ Global number → length domains ≤ number → (domain : Domain) → Gives (state_of domains) name domain → ⊥
+ungiven_past domains name number is past domain gives =
+    let at = given_at domains name domain gives in
+    let same = number_same number at.place (sym is ∙ at.is_global) in
+    omega (arith, get_below domains at.place domain at.at)
+
+-- the others are
+pub given_within : (domains : List Domain) (name : VarName) (number : ℕ) (domain : Domain) → name ≡ Global number → number < length domains → domain ≡ get_or domains number domain → Gives (state_of domains) name domain
+given_within domains name number domain is within read =
+    subst (λ n. Gives (state_of domains) n domain) (sym is) (gives_at domains number domain (slice_get_read domains (length domains) number domain refl within read))
+
+-- the list that undo brings back is the one that was copied before
+pub standing_below : (old new : History) (former : List Decision) (below : History) → old ≡ standing old ∷ former ∷ below → old ≡ standing old ∷ new → standing new ≡ former
+standing_below old new former below copied undone =
+    let rest : former ∷ below ≡ new = cc in
+    ap standing (sym rest)
+
+-- what was pushed last is what is popped
+pub pop_after_push : (before pushed popped : History) (decision : Decision) (last : Option Decision) → pushed ≡ accepted before decision → Pops pushed last popped → popped ≡ before
+pop_after_push before pushed popped decision None is pops = absurd (pops.1 before decision is)
+pop_after_push before pushed popped decision (Some last) is pops =
+    let same : (standing before ++ decision ∷ []) ∷ before ≡ (standing popped ++ last ∷ []) ∷ popped = sym is ∙ pops in
+    let rest : before ≡ popped = cc in
+    sym rest

@@ -1,0 +1,24 @@
+use Rattle.std.proofs.Common.{◌≡◌, [], ◌∷◌, length, refl, sym, ◌∙◌, subst}
+use Rattle.std.specs.Prelude.{MatchOption}
+use Rattle.plan_defs.specs.Closure.{IsLeast, IsCollapsed}
+use Rattle.plan_db.specs.Kept.{state_of}
+use Rattle.plan_db.proofs.Keeping.{first_history, outcome_is, standing_below}
+use Rattle.plan_db.proofs.database.Db.undo.Goals as goal
+
+pub returns-in-Err-Nothing-clause-undone : goal.returns-in-Err-Nothing-clause-undone
+returns-in-Err-Nothing-clause-undone c =
+    let one : length c.self.inside.log ≡ 1 = rw c.in-Err-Nothing.field-0-is at c.in-Err-Nothing.ensures in
+    (refl, subst (λ db. db.history ≡ [] ∷ []) c.self.view_is (first_history c.self.inside.model c.self.inside.log c.self.invariant.history_is one))
+
+pub returns-in-Ok-undo-clause-undone : goal.returns-in-Ok-undo-clause-undone
+returns-in-Ok-undo-clause-undone c =
+    let model = c.self.inside.model in
+    let old = c.self.inside.log in
+    let new = c.undo.new.self in
+    let copied = c.in-Ok.ensures in
+    let undone = c.in-Ok-undo.ensures in
+    let stood = standing_below old new c.in-Ok.decisions copied.0 copied.1 undone.3 in
+    let list = c.as_slice.ensures ∙ sym stood in
+    let kept = subst (λ decisions. MatchOption c.in_ok-domains.domains (IsCollapsed model decisions) (λ domains. IsLeast model decisions (state_of domains.items))) list c.in_ok-domains.ensures in
+    rw (← c.self.view_is, c.outcome_of-outcome.ensures)
+    (refl, undone.3, outcome_is (record { model = model; history = new }) c.in_ok-domains.domains kept)

@@ -1,0 +1,4 @@
+pub mod Members
+pub mod States
+pub mod Advancing
+pub mod Settling
