@@ -1,0 +1,4 @@
+pub mod Lexeme
+pub mod Parts
+pub mod Readers
+pub mod Spelling

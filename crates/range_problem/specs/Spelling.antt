@@ -1,0 +1,44 @@
+-- Which model a problem's text spells.
+use Rattle.std.specs.Prelude.{◌≡◌, ℕ, List, [], ◌∷◌, ◌++◌, slice_index_or, codes}
+use Rattle.std.specs.List.{flat_map}
+use Rattle.domain_core.specs.Domain.{least, greatest}
+use Rattle.model_core.specs.declared.model.Model.{Model}
+use Rattle.model_core.specs.declared.model.VarDecl.{VarDecl}
+use Rattle.model_core.specs.declared.model.Base.{Base}
+use Rattle.model_core.specs.declared.model.Base.TheVariants.{Given, Void}
+use Rattle.model_core.specs.declared.model.Item.{Item}
+use Rattle.model_core.specs.declared.model.Item.TheVariants.{Constraint}
+use Rattle.model_core.specs.declared.model.Term.TheVariants.{Global}
+use Rattle.model_core.specs.Lawful.{IsLawful, IsBuilt, global_names}
+use Rattle.range_problem.specs.Lexeme.{Lexeme, Word, Number, Mark, Lexes}
+
+-- `[least greatest]`
+abbrev pub range_of : Base → List Lexeme
+range_of (Given domain) = Mark (codes "[") ∷ Number (least domain) ∷ Number (greatest domain) ∷ Mark (codes "]") ∷ []
+range_of Void = []
+
+-- `int [least greatest] name;`
+abbrev pub declaration_of : VarDecl → List Lexeme
+declaration_of variable = Word (codes "int") ∷ (range_of variable.base ++ (Word variable.name ∷ Mark (codes ";") ∷ []))
+
+-- `leq(one, other);`, where a global variable goes by its name
+abbrev pub constraint_of : List (List ℕ) → Item → List Lexeme
+constraint_of names (Constraint kind (Global one ∷ Global other ∷ [])) =
+    Word (codes "leq") ∷ Mark (codes "(") ∷ Word (slice_index_or names one []) ∷ Mark (codes ",")
+    ∷ Word (slice_index_or names other []) ∷ Mark (codes ")") ∷ Mark (codes ";") ∷ []
+constraint_of names item = []
+
+-- the lexemes of the model's text: first the declarations, and then the constraints
+abbrev pub lexemes_of : Model → List Lexeme
+lexemes_of model =
+    flat_map declaration_of model.problem.globals ++ flat_map (constraint_of (global_names model)) model.problem.items
+
+-- the text spells the model, which is lawful and built from ranges and `leq` alone
+pub record Spells (text : List ℕ) (model : Model) : Type 0 where
+  pub lexemes : Lexes text (lexemes_of model)
+  pub lawful : IsLawful model
+  pub built : IsBuilt model
+
+-- a text spells at most one model
+abbrev pub SpellsAtMostOne : Type 0
+SpellsAtMostOne = (text : List ℕ) (one other : Model) → Spells text one → Spells text other → one ≡ other

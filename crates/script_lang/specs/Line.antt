@@ -1,0 +1,37 @@
+-- What a line of a script asks for.
+use Rattle.std.specs.Prelude.{◌≡◌, ℕ, ◌<◌, ◌≤◌, List, [], ◌∷◌, length, codes, Result, Ok, Err, ⊤}
+use Rattle.eu_name.specs.Word.{IsName}
+use Rattle.script_lang.specs.declared.line.Command.{Command}
+use Rattle.script_lang.specs.declared.line.Command.TheVariants.{Empty, Specify, Undo, Domain}
+use Rattle.script_lang.specs.declared.line.LineFault.{LineFault}
+use Rattle.script_lang.specs.declared.line.LineFault.TheVariants.{TooLong, Syntax, Memory}
+use Rattle.script_lang.specs.Words.{words_of}
+use Rattle.script_lang.specs.Number.{IsNumber}
+
+-- the words ask for this
+abbrev pub IsCommand : List (List ℕ) → Command → Type 0
+IsCommand words Empty = words ≡ []
+IsCommand words (Specify variable value) = (words ≡ codes "specify" ∷ variable ∷ value ∷ []) × IsName variable × IsNumber value
+IsCommand words Undo = words ≡ codes "undo" ∷ []
+IsCommand words (Domain variable) = (words ≡ codes "domain" ∷ variable ∷ []) × IsName variable
+
+-- the command has a word of its line, which takes memory
+abbrev pub KeepsWord : Command → Type 0
+KeepsWord Empty = ⊥
+KeepsWord (Specify variable value) = ⊤
+KeepsWord Undo = ⊥
+KeepsWord (Domain variable) = ⊤
+
+-- the answer to words: what they ask for, that they ask for nothing, or that memory ran out for a word that they ask to keep
+abbrev pub Answers : List (List ℕ) → Result Command LineFault → Type 0
+Answers words (Ok command) = IsCommand words command
+Answers words (Err TooLong) = ⊥
+Answers words (Err Syntax) = (command : Command) → IsCommand words command → ⊥
+Answers words (Err Memory) = (command : Command) × IsCommand words command × KeepsWord command
+
+-- the answer to a line: a line of more than 4,096 bytes is too long, whatever it has
+abbrev pub Reads : List ℕ → Result Command LineFault → Type 0
+Reads line (Ok command) = (length line ≤ 4096) × IsCommand (words_of line) command
+Reads line (Err TooLong) = 4096 < length line
+Reads line (Err Syntax) = (length line ≤ 4096) × Answers (words_of line) (Err Syntax)
+Reads line (Err Memory) = (length line ≤ 4096) × Answers (words_of line) (Err Memory)

@@ -1,0 +1,57 @@
+-- All numbers outside the range of values are answered alike.
+use Rattle.std.proofs.Common.{ℕ, ℤ, List, Option, Some, None, inl, inr, subst, arith}
+use Rattle.std.specs.Prelude.{MatchOption, codes}
+use Rattle.std.proofs.lemmas.Int.{ints}
+use Rattle.domain_core.specs.Domain.{Domain, IsDomain, IsValue, Has}
+use Rattle.domain_core.proofs.Words.{between_ends, least_is_value, greatest_is_value}
+use Rattle.eu_name.specs.declared.name.VarName.TheVariants.{Global}
+use Rattle.model_core.specs.declared.decision.Decision.TheVariants.{Specify}
+use Rattle.model_core.specs.declared.model.Model.{Model}
+use Rattle.model_core.specs.declared.model.VarDecl.{VarDecl}
+use Rattle.model_core.specs.History.{History}
+use Rattle.model_core.specs.Lookup.{global_named}
+use Rattle.model_core.specs.Lawful.{IsLawful, IsBase}
+use Rattle.plan_defs.specs.Decisions.{IsInBase}
+use Rattle.plan_defs.proofs.Members.{get_all}
+use Rattle.session_core.specs.Replies.{Refuses, SpecifiesGlobal, SpecifyReplies, StandsFor}
+
+-- a domain has values alone
+has_value : (domain : Domain) (value : ℤ) → IsDomain domain → Has domain value → IsValue value
+has_value domain value ok has =
+    let ends = between_ends domain value has in
+    (omega (arith, ints, ends.0, (least_is_value domain ok).0), omega (arith, ints, ends.1, (greatest_is_value domain ok).1))
+
+-- so what is in a base is a value
+in_base_value : (model : Model) (number : ℕ) (value : ℤ) → IsLawful model → IsInBase model (Specify (Global number) value) → IsValue value
+in_base_value model number value lawful is =
+    let base = is.1 in
+    let ok = subst IsBase base.2 (get_all (λ (v : VarDecl). IsBase v.base) model.problem.globals number base.0 lawful.bases base.1) in
+    has_value is.0 value ok is.2
+
+specifies_beyond : (model : Model) (history : History) (number : ℕ) (value other : ℤ) (lines : List (List ℕ)) (after : History) → IsLawful model → (IsValue value → ⊥) → (IsValue other → ⊥)
+    → SpecifiesGlobal model history number value lines after → SpecifiesGlobal model history number other lines after
+specifies_beyond model history number value other lines after lawful beyond beyond_too (inl p) =
+    inl (record { state = p.0.state; least = p.0.least; first = p.0.first }, p.1)
+specifies_beyond model history number value other lines after lawful beyond beyond_too (inr (inl p)) =
+    inr (inl (record { state = p.0.state; least = p.0.least; first = (p.0.first.0, p.0.first.1, λ is. beyond_too (in_base_value model number other lawful is)) }, p.1))
+specifies_beyond model history number value other lines after lawful beyond beyond_too (inr (inr p)) = absurd (beyond (in_base_value model number value lawful p.0.in_base))
+
+under_option : {X : Type 0} (P : Type 0) (Q Q' : X → Type 0) (o : Option X) → ((x : X) → Q x → Q' x) → MatchOption o P Q → MatchOption o P Q'
+under_option P Q Q' None some p = p
+under_option P Q Q' (Some x) some p = some x p
+
+pub replies_beyond : (model : Model) (history : History) (variable : List ℕ) (value other : ℤ) (lines : List (List ℕ)) (after : History) → IsLawful model → (IsValue value → ⊥) → (IsValue other → ⊥)
+    → SpecifyReplies model history variable value lines after → SpecifyReplies model history variable other lines after
+replies_beyond model history variable value other lines after lawful beyond beyond_too (inl p) = inl p
+replies_beyond model history variable value other lines after lawful beyond beyond_too (inr p) =
+    inr (
+      p.0,
+      under_option (Refuses (codes "unknown") history lines after) (λ number. SpecifiesGlobal model history number value lines after) (λ number. SpecifiesGlobal model history number other lines after)
+          (global_named model variable) (λ number. specifies_beyond model history number value other lines after lawful beyond beyond_too) p.1,
+    )
+
+-- what is answered to the value that stands for a number is the answer to the number
+pub replies_standing : (model : Model) (history : History) (variable : List ℕ) (value number : ℤ) (lines : List (List ℕ)) (after : History) → IsLawful model → StandsFor value number
+    → SpecifyReplies model history variable value lines after → SpecifyReplies model history variable number lines after
+replies_standing model history variable value number lines after lawful (inl same) p = subst (λ v. SpecifyReplies model history variable v lines after) same p
+replies_standing model history variable value number lines after lawful (inr beyond) p = replies_beyond model history variable value number lines after lawful beyond.0 beyond.1 p

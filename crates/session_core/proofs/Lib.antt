@@ -1,0 +1,4 @@
+pub mod Replying
+pub mod Once
+pub mod Beyond
+pub mod Lines

@@ -1,0 +1,9 @@
+use Rattle.std.proofs.Common.{sym}
+use Rattle.session_core.proofs.Replying.{named_within, never_untold}
+use Rattle.session_core.proofs.replies.domain.Goals as goal
+
+pub unreachable-requires-in-Err-Unknown : goal.unreachable-requires-in-Err-Unknown
+unreachable-requires-in-Err-Unknown c =
+    let named = sym (rw (c.model.ensures.model, c.as_bytes.ensures) at c.in-Some.ensures) in
+    let untold = rw c.in-Err-Unknown.field-0-is at c.in-Err-Unknown.ensures in
+    never_untold c.args.db.now c.in-Some.number (named_within c.args.db.now.model c.args.variable.now c.in-Some.number named) untold

@@ -1,0 +1,6 @@
+// What a session answers to each line of a script.
+#![tactic(auto)]
+
+pub mod editor;
+pub mod laws;
+mod replies;
