@@ -1,0 +1,5 @@
+pub mod CommandLine
+pub mod Output
+pub mod Pieces
+pub mod Runs
+pub mod StatusNumbers
