@@ -1,2 +1,11 @@
+pub mod Around
+pub mod Ascending
+pub mod Forms
+pub mod Inserting
+pub mod Keeping
+pub mod Lists
+pub mod Merging
+pub mod Parts
 pub mod Ranges
+pub mod Searching
 pub mod Words

@@ -1,2 +1,6 @@
 pub mod Domain
 pub mod Narrowing
+pub mod Intervals
+pub mod Forms
+pub mod Lists
+pub mod Laws

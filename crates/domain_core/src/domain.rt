@@ -1,11 +1,15 @@
-//! The domain of a variable: a range of whole numbers without holes.
+//! The domain of a variable: a range of whole numbers without holes, or a set of values.
 
-ghost use Rattle.std.specs.Prelude.{◌≡◌, ◌≤ℤ◌, ◌↔◌, ◌⊎◌, IsTrue, IfSome, IfNone, IfOk, ℤ};
-ghost use Rattle.domain_core.specs.Domain.{Range, IsDomain, IsRange, IsSingle, Has, least, greatest};
+ghost use Rattle.std.specs.Prelude.{◌≡◌, ◌≤◌, ◌≤ℤ◌, ◌↔◌, All, IsTrue, IfSome, IfNone, IfOk, MatchBool, ℤ};
+ghost use Rattle.std.specs.List.{Any};
+ghost use Rattle.domain_core.specs.Domain.{Range, IsDomain, IsRange, IsSingle, IsNth, IsValue, Has, least, greatest, count_of};
 ghost use Rattle.domain_core.specs.Narrowing.{Keeps};
+ghost use Rattle.domain_core.specs.Lists.{MakesSet};
 
-use super::Change;
-use std::alloc::AllocError;
+use super::distinct::Distinct;
+use super::interval::Interval;
+use super::{Change, SetFault, members};
+use std::alloc::{AllocError, Global};
 use std::marker::Model;
 
 /// The least value of all, which `-inf` names.
@@ -14,40 +18,45 @@ pub const LEAST_VALUE: i32 = -1_000_000;
 /// The greatest value of all, which `inf` names.
 pub const GREATEST_VALUE: i32 = 1_000_000;
 
+/// How many values a set may have.
+pub const MOST_MEMBERS: usize = 4096;
+
 /// The values that a variable may still have; never none.
 #[derive(Drop)]
 pub struct Dom {
-    lo: i32,
-    hi: i32,
+    form: Form,
+}
+
+// How the values are kept.
+#[derive(Drop)]
+enum Form {
+    Range(Interval),
+    Set(Vec<i32>),
 }
 
 impl Model for Dom {
-    ghost use Rattle.std.specs.Prelude.{◌≤ℤ◌};
-    ghost use Rattle.domain_core.specs.Domain.{Domain, Range, IsDomain};
+    ghost use Rattle.domain_core.specs.Domain.{Domain, IsDomain};
 
     ghost Value = { Domain };
 
-    ghost view = { λ inside. Range inside.lo inside.hi };
+    ghost use Rattle.domain_core.specs.Forms.{domain_of};
 
-    ghost invariant = { λ inside. IsDomain (Range inside.lo inside.hi) };
+    ghost view = { λ inside. domain_of inside.form };
+
+    ghost invariant = { λ inside. IsDomain (domain_of inside.form) };
 }
 
-// The greater of two numbers.
-fn later(a: i32, b: i32) -> i32
-    ensures is_one { (result ≡ a) ⊎ (result ≡ b) }
-    ensures a { a ≤ℤ result }
-    ensures b { b ≤ℤ result }
+fn is_value(number: i32) -> bool
+    ensures { IsTrue result ↔ IsValue number }
 {
-    if a < b { b } else { a }
+    LEAST_VALUE <= number && number <= GREATEST_VALUE
 }
 
-// The less of two numbers.
-fn earlier(a: i32, b: i32) -> i32
-    ensures is_one { (result ≡ a) ⊎ (result ≡ b) }
-    ensures a { result ≤ℤ a }
-    ensures b { result ≤ℤ b }
+// Whether the numbers are all values.
+fn are_values(numbers: &[i32]) -> bool
+    ensures { MatchBool result (All IsValue numbers.now) (Any (λ number. IsValue number → ⊥) numbers.now) }
 {
-    if a < b { a } else { b }
+    numbers.iter().all(|number| is_value(*number))
 }
 
 impl Dom {
@@ -57,16 +66,40 @@ impl Dom {
         ensures none { IfNone result (IsDomain (Range lo hi) → ⊥) }
     {
         if LEAST_VALUE <= lo && lo <= hi && hi <= GREATEST_VALUE {
-            Some(Dom { lo, hi })
+            Some(Dom {
+                form: Form::Range(Interval { lo, hi }),
+            })
         } else {
             None
         }
     }
 
+    /// The set of the numbers in the list, in whatever order and however often each stands there.
+    pub fn set_of(alloc: Global, values: &[i32]) -> Result<Dom, SetFault>
+        ensures { MakesSet values.now result }
+    {
+        if values.is_empty() {
+            return Err(SetFault::Empty);
+        }
+        if !are_values(values) {
+            return Err(SetFault::OutOfRange);
+        }
+        let Some(distinct) = Distinct::of(values) else {
+            return Err(SetFault::TooMany);
+        };
+        let members = Vec::from_slice(alloc, distinct.as_slice())?;
+        Ok(Dom {
+            form: Form::Set(members),
+        })
+    }
+
     pub fn is_range(&self) -> bool
         ensures { IsTrue result ↔ IsRange self.now }
     {
-        true
+        match &self.form {
+            Form::Range(_) => true,
+            Form::Set(_) => false,
+        }
     }
 
     /// The least value.
@@ -74,7 +107,10 @@ impl Dom {
         ensures least { result ≡ least self.now }
         ensures domain { IsDomain self.now }
     {
-        self.lo
+        match &self.form {
+            Form::Range(interval) => interval.lo,
+            Form::Set(members) => members[0],
+        }
     }
 
     /// The greatest value.
@@ -82,13 +118,31 @@ impl Dom {
         ensures greatest { result ≡ greatest self.now }
         ensures domain { IsDomain self.now }
     {
-        self.hi
+        match &self.form {
+            Form::Range(interval) => interval.hi,
+            Form::Set(members) => members[members.len() - 1],
+        }
     }
 
+    /// Whether the value is one of the domain's. Of a set it is found by bisection.
     pub fn has(&self, value: i32) -> bool
         ensures { IsTrue result ↔ Has self.now value }
     {
-        self.lo <= value && value <= self.hi
+        match &self.form {
+            Form::Range(interval) => interval.lo <= value && value <= interval.hi,
+            Form::Set(members) => members::is_member(members.as_slice(), value),
+        }
+    }
+
+    /// How many values there are.
+    pub fn count(&self) -> u32
+        ensures count { result ≡ count_of self.now }
+        ensures domain { IsDomain self.now }
+    {
+        match &self.form {
+            Form::Range(interval) => (interval.hi - interval.lo) as u32 + 1,
+            Form::Set(members) => members.len() as u32,
+        }
     }
 
     /// The value, if there is only one.
@@ -96,10 +150,21 @@ impl Dom {
         ensures some { IfSome result (λ value. IsSingle self.now value) }
         ensures none { IfNone result ((value : ℤ) → IsSingle self.now value → ⊥) }
     {
-        if self.lo == self.hi {
-            Some(self.lo)
-        } else {
-            None
+        let lo = self.lo();
+        if lo == self.hi() { Some(lo) } else { None }
+    }
+
+    /// The value at place `k`, counted from 0 in ascending order. None where there are no more than `k` values.
+    pub fn nth(&self, k: u32) -> Option<i32>
+        ensures some { IfSome result (λ value. IsNth self.now k value) }
+        ensures none { IfNone result (count_of self.now ≤ k) }
+    {
+        if self.count() <= k {
+            return None;
+        }
+        match &self.form {
+            Form::Range(interval) => Some(interval.lo + k as i32),
+            Form::Set(members) => Some(members[k as usize]),
         }
     }
 
@@ -108,28 +173,47 @@ impl Dom {
         ensures kept { Keeps (λ value. (lo ≤ℤ value) × (value ≤ℤ hi)) self.old result self.new }
         ensures domain { IsDomain self.new }
     {
-        let new_lo = later(self.lo, lo);
-        let new_hi = earlier(self.hi, hi);
-        if new_hi < new_lo {
-            return Change::Empty;
+        match &mut self.form {
+            Form::Range(interval) => interval.meet(lo, hi),
+            Form::Set(members) => members::meet_range(members, lo, hi),
         }
-        if lo <= self.lo {
-            if self.hi <= hi {
-                return Change::Same;
-            }
-        }
-        self.lo = new_lo;
-        self.hi = new_hi;
-        Change::Smaller
     }
 
-    /// An equal domain. A range takes no memory of its own.
+    /// Keeps the values that the other domain has too. A range that is met with a set becomes the least range around the common values.
+    pub fn meet_set(&mut self, other: &Dom) -> Change
+        ensures kept { Keeps (Has other.now) self.old result self.new }
+        ensures domain { IsDomain self.new }
+    {
+        match &other.form {
+            Form::Range(bounds) => self.meet_range(bounds.lo, bounds.hi),
+            Form::Set(others) => match &mut self.form {
+                Form::Range(interval) => members::meet_around(interval, others.as_slice()),
+                Form::Set(members) => members::meet_set(members, others.as_slice()),
+            },
+        }
+    }
+
+    /// Takes the value out of a set, or off an end of a range. From the middle of a range it can't go.
+    pub fn drop_value(&mut self, value: i32) -> Change
+        ensures kept { Keeps (λ other. other ≡ value → ⊥) self.old result self.new }
+        ensures domain { IsDomain self.new }
+    {
+        match &mut self.form {
+            Form::Range(interval) => interval.drop_value(value),
+            Form::Set(members) => members::drop_value(members, value),
+        }
+    }
+
+    /// An equal domain, whose members are in memory of their own. A range takes none.
     pub fn copy(&self) -> Result<Dom, AllocError>
         ensures { IfOk result (λ copied. copied ≡ self.now) }
     {
-        Ok(Dom {
-            lo: self.lo,
-            hi: self.hi,
-        })
+        let form = match &self.form {
+            Form::Range(interval) => Form::Range(*interval),
+            Form::Set(members) => {
+                Form::Set(Vec::from_slice(*members.allocator(), members.as_slice())?)
+            }
+        };
+        Ok(Dom { form })
     }
 }

@@ -3,7 +3,15 @@
 
 ghost use Rattle.std.specs.Prelude.{◌≡◌};
 
+mod distinct;
 pub mod domain;
+mod interval;
+pub mod laws;
+mod members;
+#[cfg(test)]
+mod tests;
+
+use std::alloc::AllocError;
 
 /// What taking values away did.
 #[derive(Clone, Copy, Debug, PartialEq, Eq)]
@@ -31,5 +39,29 @@ impl Change {
                 _ => Change::Smaller,
             },
         }
+    }
+}
+
+/// Why a list gives no set.
+#[derive(Clone, Copy, Debug, PartialEq, Eq)]
+pub enum SetFault {
+    /// The list is empty, and a domain never is.
+    Empty,
+    /// One of its numbers is no value.
+    OutOfRange,
+    /// It has more distinct values than a set may have.
+    TooMany,
+    /// There is such a set, but no memory for it.
+    Memory,
+}
+
+impl From<AllocError> for SetFault {
+    ghost use Rattle.std.specs.Prelude.{◌≡◌};
+    ghost use Rattle.domain_core.specs.declared.SetFault.TheVariants.{Memory};
+
+    ghost from_gives = { λ _ fault. fault ≡ Memory };
+
+    fn from(_none: AllocError) -> SetFault {
+        SetFault::Memory
     }
 }

@@ -50,11 +50,11 @@ consistent_from_ends : (one other : Domain) → IsDomain one → IsDomain other 
 consistent_from_ends one other one_ok other_ok greatest_le least_le before domain after value split =
     by_cut one other (λ b d a. IsTested d value → HasTuple b value a)
     (λ tested.
-    let ends = between_ends one value (has_tested one value one_ok tested) in
-    ([], greatest other ∷ [], tt, (between_ends other (greatest other) (has_greatest other other_ok), tt), omega (arith, ints, ends.1, greatest_le)))
+    let ends = between_ends one value one_ok (has_tested one value one_ok tested) in
+    ([], greatest other ∷ [], tt, (between_ends other (greatest other) other_ok (has_greatest other other_ok), tt), omega (arith, ints, ends.1, greatest_le)))
     (λ tested.
-    let ends = between_ends other value (has_tested other value other_ok tested) in
-    (least one ∷ [], [], (between_ends one (least one) (has_least one one_ok), tt), tt, omega (arith, ints, ends.0, least_le)))
+    let ends = between_ends other value other_ok (has_tested other value other_ok tested) in
+    (least one ∷ [], [], (between_ends one (least one) one_ok (has_least one one_ok), tt), tt, omega (arith, ints, ends.0, least_le)))
     before domain after split
 
 first_of_tuple : (other : Domain) (value : ℤ) (left right : List ℤ) → AllZip (Admits Leq) [] left → AllZip (Admits Leq) (other ∷ []) right → Holds Leq (left ++ value ∷ right) → value ≤ℤ greatest other
@@ -70,14 +70,14 @@ second_of_tuple one value (w ∷ []) (v ∷ right) p q holds = absurd q
 second_of_tuple one value (w ∷ v ∷ left) right p q holds = absurd p.1
 
 -- and consistent domains have their ends in order
-greatest_from_consistent : (one other : Domain) → AreConsistent Leq (one ∷ other ∷ []) → greatest one ≤ℤ greatest other
-greatest_from_consistent one other consistent =
-    let tuple = consistent [] one (other ∷ []) (greatest one) refl (tested_greatest one) in
+greatest_from_consistent : (one other : Domain) → IsDomain one → AreConsistent Leq (one ∷ other ∷ []) → greatest one ≤ℤ greatest other
+greatest_from_consistent one other one_ok consistent =
+    let tuple = consistent [] one (other ∷ []) (greatest one) refl (tested_greatest one one_ok) in
     first_of_tuple other (greatest one) tuple.0 tuple.1 tuple.2 tuple.3 tuple.4
 
-least_from_consistent : (one other : Domain) → AreConsistent Leq (one ∷ other ∷ []) → least one ≤ℤ least other
-least_from_consistent one other consistent =
-    let tuple = consistent (one ∷ []) other [] (least other) refl (tested_least other) in
+least_from_consistent : (one other : Domain) → IsDomain other → AreConsistent Leq (one ∷ other ∷ []) → least one ≤ℤ least other
+least_from_consistent one other other_ok consistent =
+    let tuple = consistent (one ∷ []) other [] (least other) refl (tested_least other other_ok) in
     second_of_tuple one (least other) tuple.0 tuple.1 tuple.2 tuple.3 tuple.4
 
 -- the arguments of the constraint, in a state in which it is consistent
@@ -104,10 +104,10 @@ module _ (model : Model) (first second : ℕ) where
       let a = arguments first second state c in (
         λ one other gives_one gives_other.
             subst (λ d. greatest d ≤ℤ greatest other) (gives_same model state ok (Global first) a.one one a.gives_one gives_one)
-            (subst (λ d. greatest a.one ≤ℤ greatest d) (gives_same model state ok (Global second) a.other other a.gives_other gives_other) (greatest_from_consistent a.one a.other a.consistent)),
+            (subst (λ d. greatest a.one ≤ℤ greatest d) (gives_same model state ok (Global second) a.other other a.gives_other gives_other) (greatest_from_consistent a.one a.other (gives_domain model state ok _ a.one a.gives_one) a.consistent)),
         λ one other gives_one gives_other.
             subst (λ d. least d ≤ℤ least other) (gives_same model state ok (Global first) a.one one a.gives_one gives_one)
-            (subst (λ d. least a.one ≤ℤ least d) (gives_same model state ok (Global second) a.other other a.gives_other gives_other) (least_from_consistent a.one a.other a.consistent)),
+            (subst (λ d. least a.one ≤ℤ least d) (gives_same model state ok (Global second) a.other other a.gives_other gives_other) (least_from_consistent a.one a.other (gives_domain model state ok _ a.other a.gives_other) a.consistent)),
       )
 
   -- and a state that has both variables with their ends in order is consistent
@@ -121,14 +121,15 @@ module _ (model : Model) (first second : ℕ) where
 
   module _ (domains : List Domain) (one other : Domain) (at_first : slice_get domains first ≡ Some one) (at_second : slice_get domains second ≡ Some other) where
     -- taking away what lies above the second variable is a step
-    pub lowers : (change : Change) (new : List Domain) → MeetsAt domains first (negsuc 999999) (greatest other) change new → AdvancesTo model (GreatestInOrder first second) (state_of domains) change (state_of new)
-    lowers change new meets =
+    pub lowers : IsDomain other → (change : Change) (new : List Domain) → MeetsAt domains first (negsuc 999999) (greatest other) change new → AdvancesTo model (GreatestInOrder first second) (state_of domains) change (state_of new)
+    lowers other_ok change new meets =
         meets_advances model (GreatestInOrder first second) domains first (negsuc 999999) (greatest other)
         (λ state ok below fit domain gives value has.
         let lower = below (Global second) other (gives_at domains second other at_second) in
-        let top = between_ends other _ (lower.2 (greatest lower.0) (has_greatest lower.0 (gives_domain model state ok _ lower.0 lower.1))) in
-        let ends = between_ends domain value has in
-        let bound = least_is_value domain (gives_domain model state ok _ domain gives) in
+        let top = between_ends other _ other_ok (lower.2.values (greatest lower.0) (has_greatest lower.0 (gives_domain model state ok _ lower.0 lower.1))) in
+        let domain_ok = gives_domain model state ok _ domain gives in
+        let ends = between_ends domain value domain_ok has in
+        let bound = least_is_value domain domain_ok in
         (omega (arith, ints, ends.0, bound.0), omega (arith, ints, ends.1, top.1, fit domain lower.0 gives lower.1)))
         change new meets
         (λ all ok a b gives_a gives_b.
@@ -138,14 +139,15 @@ module _ (model : Model) (first second : ℕ) where
         subst (λ d. greatest a ≤ℤ greatest d) other_is (all (greatest a) (subst (λ d. Has d (greatest a)) before_is (has_greatest a a_ok))).1)
 
     -- and so is taking away what lies below the first
-    pub raises : (change : Change) (new : List Domain) → MeetsAt domains second (least one) (pos 1000000) change new → AdvancesTo model (LeastInOrder first second) (state_of domains) change (state_of new)
-    raises change new meets =
+    pub raises : IsDomain one → (change : Change) (new : List Domain) → MeetsAt domains second (least one) (pos 1000000) change new → AdvancesTo model (LeastInOrder first second) (state_of domains) change (state_of new)
+    raises one_ok change new meets =
         meets_advances model (LeastInOrder first second) domains second (least one) (pos 1000000)
         (λ state ok below fit domain gives value has.
         let lower = below (Global first) one (gives_at domains first one at_first) in
-        let bottom = between_ends one _ (lower.2 (least lower.0) (has_least lower.0 (gives_domain model state ok _ lower.0 lower.1))) in
-        let ends = between_ends domain value has in
-        let bound = greatest_is_value domain (gives_domain model state ok _ domain gives) in
+        let bottom = between_ends one _ one_ok (lower.2.values (least lower.0) (has_least lower.0 (gives_domain model state ok _ lower.0 lower.1))) in
+        let domain_ok = gives_domain model state ok _ domain gives in
+        let ends = between_ends domain value domain_ok has in
+        let bound = greatest_is_value domain domain_ok in
         (omega (arith, ints, ends.0, bottom.0, fit lower.0 domain lower.1 gives), omega (arith, ints, ends.1, bound.1)))
         change new meets
         (λ all ok a b gives_a gives_b.

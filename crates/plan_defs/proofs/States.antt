@@ -3,7 +3,7 @@ use Rattle.std.proofs.Common.{◌≡◌, ℕ, suc, zero, ◌+◌, ◌<◌, List,
 use Rattle.std.specs.Prelude.{slice_get}
 use Rattle.std.proofs.lemmas.List.{length-map}
 use Rattle.domain_core.specs.Domain.{Domain, IsDomain, IsWithin}
-use Rattle.domain_core.proofs.Words.{IsWithin-refl, IsWithin-antisym}
+use Rattle.domain_core.proofs.Words.{IsWithin-refl, IsWithin-trans, IsWithin-antisym}
 use Rattle.eu_name.specs.declared.name.VarName.{VarName}
 use Rattle.eu_name.specs.declared.name.VarName.TheVariants.{Global}
 use Rattle.model_core.specs.declared.model.Model.{Model}
@@ -83,7 +83,7 @@ pub IsBelow-trans : (high middle low : State) → IsBelow high middle → IsBelo
 IsBelow-trans high middle low p q = λ name domain gives.
     let first = p name domain gives in
     let second = q name first.0 first.1 in
-    (second.0, second.1, λ value has. first.2 value (second.2 value has))
+    (second.0, second.1, IsWithin-trans second.0 first.0 domain second.2 first.2)
 
 -- states below each other are equal
 pub IsBelow-antisym : (model : Model) (a b : State) → IsState model a → IsState model b → IsBelow a b → IsBelow b a → a ≡ b

@@ -2,8 +2,8 @@
 use Rattle.std.proofs.Common.{◌≡◌, ℕ, ◌<◌, ℤ, List, [], ◌∷◌, ◌++◌, length, get_or, refl, sym, subst, ◌∙◌, ap, Contains, codes, w32, to_z, of_z, arith}
 use Rattle.std.proofs.lemmas.Int.{ints}
 use Rattle.std.proofs.lemmas.List.{get_or-map, length-map, get_or_default}
-use Rattle.domain_core.specs.Domain.{Domain, Range, IsDomain, IsValue, least, greatest}
-use Rattle.domain_core.proofs.Words.{least_is_value, greatest_is_value}
+use Rattle.domain_core.specs.Domain.{Domain, Range, Set, IsDomain, IsRange, IsValue, least, greatest}
+use Rattle.domain_core.proofs.Words.{has_least, between_ends, least_is_value, greatest_is_value}
 use Rattle.model_core.specs.declared.model.VarDecl.{VarDecl}
 use Rattle.model_core.specs.declared.model.Base.TheVariants.{Given}
 use Rattle.range_problem.specs.Lexeme.{Lexeme, Word, Number, Mark, Begins, Leads}
@@ -92,12 +92,13 @@ range_leads text opened past_lo past_hi after lo hi domain opens low high close 
 
 pub no_domain : (text opened past_lo past_hi after : List ℕ) (lo hi : ℤ) → Begins text (Mark (codes "[")) opened → Begins opened (Number lo) past_lo → Begins past_lo (Number hi) past_hi → Begins past_hi (Mark (codes "]")) after
     → (IsDomain (Range lo hi) → ⊥) → NoRange text
-no_domain text opened past_lo past_hi after lo hi opens low high close none (Range lo' hi') rest ok leads =
-    let once = leads_once text (range_of (Given (Range lo' hi'))) (range_of (Given (Range lo hi))) rest after refl leads (opened, opens, (past_lo, low, (past_hi, high, (after, close, refl)))) in
-    let same : Mark (codes "[") ∷ Number lo' ∷ Number hi' ∷ Mark (codes "]") ∷ [] ≡ Mark (codes "[") ∷ Number lo ∷ Number hi ∷ Mark (codes "]") ∷ [] = once.0 in
-    let lows : lo' ≡ lo = cc in
-    let highs : hi' ≡ hi = cc in
-    none (subst (λ (hi : ℤ). IsDomain (Range lo hi)) highs (subst (λ (lo : ℤ). IsDomain (Range lo hi')) lows ok))
+no_domain text opened past_lo past_hi after lo hi opens low high close none domain rest ok leads =
+    let once = leads_once text (range_of (Given domain)) (range_of (Given (Range lo hi))) rest after refl leads (opened, opens, (past_lo, low, (past_hi, high, (after, close, refl)))) in
+    let same : Mark (codes "[") ∷ Number (least domain) ∷ Number (greatest domain) ∷ Mark (codes "]") ∷ [] ≡ Mark (codes "[") ∷ Number lo ∷ Number hi ∷ Mark (codes "]") ∷ [] = once.0 in
+    let lows : least domain ≡ lo = cc in
+    let highs : greatest domain ≡ hi = cc in
+    let ends : IsDomain (Range (least domain) (greatest domain)) = (least_is_value domain ok, greatest_is_value domain ok, (between_ends domain (least domain) ok (has_least domain ok)).1) in
+    none (subst (λ (hi : ℤ). IsDomain (Range lo hi)) highs (subst (λ (lo : ℤ). IsDomain (Range lo (greatest domain))) lows ends))
 
 -- an end of a range is kept as it was read
 value_kept : (value : ℤ) → IsValue value → to_z w32 (of_z w32 value) ≡ value
@@ -105,6 +106,11 @@ value_kept value is_value = omega (arith, ints)
 
 pub ends_kept : (lo hi : ℤ) → IsValue lo → IsValue hi → Range (to_z w32 (of_z w32 lo)) (to_z w32 (of_z w32 hi)) ≡ Range lo hi
 ends_kept lo hi lo_value hi_value = (λ i. Range (value_kept lo lo_value i) (value_kept hi hi_value i))
+
+-- a range has its two ends
+pub ends_of : (domain : Domain) → IsRange domain → (lo hi : ℤ) × (Given domain ≡ Given (Range lo hi))
+ends_of (Range lo hi) range = (lo, hi, refl)
+ends_of (Set members) range = absurd range
 
 -- ---- declarations
 

@@ -1,7 +1,7 @@
 //! The parts of a problem: declarations of variables, and constraints.
 
 ghost use Rattle.std.specs.Prelude.{◌≡◌, ◌<◌, ◌≤◌, ◌↔◌, ℕ, [], ◌∷◌, Contains, IfNone, IfSome, IsTrue, List, MatchOption, length, slice_index_or};
-ghost use Rattle.domain_core.specs.Domain.{Domain, IsDomain};
+ghost use Rattle.domain_core.specs.Domain.{Domain, IsDomain, IsRange};
 ghost use Rattle.model_core.specs.declared.model.Base.{Base};
 ghost use Rattle.model_core.specs.declared.model.Base.TheVariants.{Given};
 ghost use Rattle.model_core.specs.declared.model.VarDecl.{VarDecl};
@@ -60,7 +60,7 @@ fn is_free(name: &[u8]) -> bool
 // The range that the text begins with, and the rest.
 fn range(text: &[u8]) -> Option<(Dom, &[u8])>
     ensures some { IfSome result
-        (λ found. IsDomain found.0 × Leads text.now (range_of (Given found.0)) found.1.now) }
+        (λ found. IsDomain found.0 × Leads text.now (range_of (Given found.0)) found.1.now × IsRange found.0) }
     ensures none { IfNone result
         ((domain : Domain) (rest : List ℕ)
         → IsDomain domain → Leads text.now (range_of (Given domain)) rest → ⊥) }

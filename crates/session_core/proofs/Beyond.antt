@@ -3,7 +3,7 @@ use Rattle.std.proofs.Common.{ℕ, ℤ, List, Option, Some, None, inl, inr, subs
 use Rattle.std.specs.Prelude.{MatchOption, codes}
 use Rattle.std.proofs.lemmas.Int.{ints}
 use Rattle.domain_core.specs.Domain.{Domain, IsDomain, IsValue, Has}
-use Rattle.domain_core.proofs.Words.{between_ends, least_is_value, greatest_is_value}
+use Rattle.domain_core.proofs.Words.{has_value}
 use Rattle.eu_name.specs.declared.name.VarName.TheVariants.{Global}
 use Rattle.model_core.specs.declared.decision.Decision.TheVariants.{Specify}
 use Rattle.model_core.specs.declared.model.Model.{Model}
@@ -14,12 +14,6 @@ use Rattle.model_core.specs.Lawful.{IsLawful, IsBase}
 use Rattle.plan_defs.specs.Decisions.{IsInBase}
 use Rattle.plan_defs.proofs.Members.{get_all}
 use Rattle.session_core.specs.Replies.{Refuses, SpecifiesGlobal, SpecifyReplies, StandsFor}
-
--- a domain has values alone
-has_value : (domain : Domain) (value : ℤ) → IsDomain domain → Has domain value → IsValue value
-has_value domain value ok has =
-    let ends = between_ends domain value has in
-    (omega (arith, ints, ends.0, (least_is_value domain ok).0), omega (arith, ints, ends.1, (greatest_is_value domain ok).1))
 
 -- so what is in a base is a value
 in_base_value : (model : Model) (number : ℕ) (value : ℤ) → IsLawful model → IsInBase model (Specify (Global number) value) → IsValue value

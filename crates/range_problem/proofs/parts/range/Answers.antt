@@ -1,5 +1,5 @@
 use Rattle.std.proofs.Common.{refl, sym, subst, ◌∙◌, arith}
-use Rattle.domain_core.specs.Domain.{IsDomain}
+use Rattle.domain_core.specs.Domain.{IsDomain, IsRange}
 use Rattle.range_problem.proofs.Steps.{no_open, no_lo, no_hi, no_close, no_domain, range_leads, ends_kept}
 use Rattle.range_problem.proofs.parts.range.Goals as goal
 
@@ -31,4 +31,5 @@ returns-clause-some c =
     let is = c.in_ok-domain.ensures.some.0 in (
       subst IsDomain (sym is) c.in_ok-domain.ensures.some.1,
       range_leads _ _ _ _ _ _ _ c.in_ok-domain.domain c.in_ok-rest.ensures c.in_ok-lo.ensures.some.1 c.in_ok-hi.ensures.some.1 c.in_ok-rest-2.ensures (is ∙ kept),
+      subst IsRange (sym is) tt,
     )

@@ -1,25 +1,21 @@
-use Rattle.std.proofs.Common.{◌≤ℤ◌, inl, inr, refl, w32, to_z, of_z, arith}
-use Rattle.std.proofs.lemmas.Int.{ints}
-use Rattle.domain_core.proofs.Ranges.{AreMet, all_between, met_values, met_slack}
+use Rattle.std.proofs.Common.{sym, ap, ◌∙◌, w32}
+use Rattle.std.proofs.lemmas.Int.{to_z-of_z}
+use Rattle.domain_core.specs.declared.domain.Dom.TheInside.{Inside}
+use Rattle.domain_core.specs.Forms.{domain_of}
+use Rattle.domain_core.proofs.Forms.{keeps_same, between_same}
 use Rattle.domain_core.proofs.domain.Dom.meet_range.Goals as goal
-use Rattle.domain_core.proofs.domain.Dom.meet_range.Goals.{then-lo-self+else-self-hi, else-lo-self}
-
-pub returns-then-self-hi-clause-kept : goal.returns-then-self-hi-clause-kept
-returns-then-self-hi-clause-kept c = rw (← c.self.view_is) (refl, all_between _ _ _ _ (omega (arith, ints)) (omega (arith, ints)))
+use Rattle.domain_core.proofs.domain.Dom.meet_range.Goals.{in-Range, in-Set}
 
 pub returns-clause-kept : goal.returns-clause-kept
 returns-clause-kept c =
-    let lo = c.self.inside.lo in
-    let hi = c.self.inside.hi in
-    let met : AreMet lo hi c.args.lo c.args.hi (to_z w32 (of_z w32 c.later-new_lo.result)) (to_z w32 (of_z w32 c.earlier-new_hi.result)) = record {
-      lower = elim c.later-new_lo.ensures.is_one [ inl same ↦ inl (omega (arith, ints)) | inr same ↦ inr (omega (arith, ints)) ];
-      from_lo = omega (arith, ints);
-      from_low = omega (arith, ints);
-      upper = elim c.earlier-new_hi.ensures.is_one [ inl same ↦ inl (omega (arith, ints)) | inr same ↦ inr (omega (arith, ints)) ];
-      to_hi = omega (arith, ints);
-      to_high = omega (arith, ints);
-    } in
-    let moved : c.args.lo ≤ℤ lo → hi ≤ℤ c.args.hi → ⊥ =
-    λ low high. elim c.if-lo-self.branch [ then-lo-self+else-self-hi w ↦ omega (arith, ints) | else-lo-self w ↦ omega (arith, ints) ] in
-    rw (← c.self.view_is)
-    (met_values _ _ _ _ _ _ met, met_slack _ _ _ _ _ _ met (omega (arith, ints, c.self.invariant)) (omega (arith, ints)) moved)
+    let view = λ (inside : Inside). domain_of inside.form in
+    let lo_is = to_z-of_z w32 c.args.lo c.ranges.lo in
+    let hi_is = to_z-of_z w32 c.args.hi c.ranges.hi in
+    elim c.match-self.branch [
+      | in-Range w ↦
+          keeps_same _ _ _ _ _ _ _ (ap domain_of (sym w.in-Range.is) ∙ c.self.view_is) (sym w.result-is) (ap view (sym w.self-inside-is))
+          (between_same _ _ c.args.lo c.args.hi _ _ _ lo_is hi_is w.meet.ensures.kept)
+      | in-Set w ↦
+          keeps_same _ _ _ _ _ _ _ (ap domain_of (sym w.in-Set.is) ∙ c.self.view_is) (sym w.result-is) (ap view (sym w.self-inside-is))
+          (between_same _ _ c.args.lo c.args.hi _ _ _ lo_is hi_is w.meet_range.ensures.kept)
+    ]

@@ -1,0 +1,9 @@
+-- The domains that the two forms of keeping one stand for.
+use Rattle.domain_core.specs.Domain.{Domain, Range, Set}
+use Rattle.domain_core.specs.declared.domain.Form.{Form}
+use Rattle.domain_core.specs.declared.domain.Form.TheVariants as form
+
+-- the domain that is kept so
+abbrev pub domain_of : Form → Domain
+domain_of (form.Range interval) = Range interval.lo interval.hi
+domain_of (form.Set members) = Set members.items
