@@ -1,1 +1,5 @@
 pub mod Word
+pub mod NameOrder
+pub mod Spelling
+pub mod Readers
+pub mod Laws

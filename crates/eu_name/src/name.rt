@@ -6,7 +6,7 @@ use super::sequence::Sequence;
 use std::alloc::AllocError;
 
 /// One step from a token to a subgoal: the rule's number in the predicate's list, and the slot's number in the rule.
-#[derive(Clone, Copy)]
+#[derive(Clone, Copy, PartialEq, Eq, PartialOrd, Ord)]
 pub struct Step {
     pub rule: u16,
     pub slot: u16,

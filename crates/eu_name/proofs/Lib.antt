@@ -1,0 +1,5 @@
+pub mod Orders
+pub mod Fronts
+pub mod Numbers
+pub mod Endings
+pub mod Names
