@@ -1,0 +1,9 @@
+pub mod Prefixes
+pub mod Closing
+pub mod Sizes
+pub mod Classes
+pub mod Shapes
+pub mod Found
+pub mod Outcomes
+pub mod Walks
+pub mod Laws
