@@ -1,0 +1,3 @@
+pub mod Instant
+pub mod Usage
+pub mod Level
