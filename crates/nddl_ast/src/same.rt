@@ -1,0 +1,472 @@
+//! Comparing trees without regard to places.
+
+ghost use Rattle.std.specs.Prelude.{◌≡◌, ◌↔◌, IsTrue};
+ghost use Rattle.nddl_ast.specs.Same.{AllSame, BothSame, SameName, SamePath, SameLiteral, SameExpr, SameValue, SameBase, SameBounds, SameType, SameCreation, SameInit, SameVariable, SameCall, SameAsk, SameGuard, SameStatements, SameBlock, SameTyped, SamePart, SameSet, SameMember, SameDecl};
+ghost use Rattle.nddl_ast.specs.Unplaced.{SameIsEqual, SameIsAnEquivalence};
+ghost use Rattle.nddl_ast.specs.SameStatement.{SameStmt};
+
+use super::declaration::{Decl, Member, Part, Set, Typed};
+use super::expression::{Base, Bounds, Creation, Expr, Init, Literal, Type, Value};
+use super::name::{Name, Path};
+use super::statement::{Ask, Block, Call, Guard, Stmt, Variable};
+
+/// What can be compared without regard to places.
+pub trait Same {
+    ghost same: { Self → Self → Type 0 };
+
+    /// Whether the two are equal but for the places in them.
+    fn is_same(&self, other: &Self) -> bool
+        ensures { IsTrue result ↔ same self.now other.now };
+}
+
+/// Whether the lists are equally long and the same item by item.
+pub fn are_same<T: Same>(one: &[T], other: &[T]) -> bool
+    ensures { IsTrue result ↔ AllSame T.same one.now other.now }
+{
+    if one.len() != other.len() {
+        return false;
+    }
+    for (i, x) in one.iter().enumerate() {
+        if !x.is_same(&other[i]) {
+            return false;
+        }
+    }
+    true
+}
+
+// Whether both are there and the same, or neither is.
+fn both_same<T: Same>(one: &Option<T>, other: &Option<T>) -> bool
+    ensures { IsTrue result ↔ BothSame T.same one.now other.now }
+{
+    match (one, other) {
+        (Some(one), Some(other)) => one.is_same(other),
+        (None, None) => true,
+        _ => false,
+    }
+}
+
+impl Same for Name {
+    ghost same = { SameName };
+
+    fn is_same(&self, other: &Name) -> bool {
+        self.text.as_bytes() == other.text.as_bytes()
+    }
+}
+
+impl Same for Path {
+    ghost same = { SamePath };
+
+    fn is_same(&self, other: &Path) -> bool {
+        self.first.is_same(&other.first) && are_same(self.rest.as_slice(), other.rest.as_slice())
+    }
+}
+
+impl Same for Literal {
+    ghost same = { SameLiteral };
+
+    fn is_same(&self, other: &Literal) -> bool {
+        self.constant == other.constant
+    }
+}
+
+impl Same for Expr {
+    ghost same = { SameExpr };
+
+    fn is_same(&self, other: &Expr) -> bool {
+        match (self, other) {
+            (Expr::Path(one), Expr::Path(other)) => one.is_same(other),
+            (Expr::Literal(one), Expr::Literal(other)) => one.is_same(other),
+            _ => false,
+        }
+    }
+}
+
+impl Same for Value {
+    ghost same = { SameValue };
+
+    fn is_same(&self, other: &Value) -> bool {
+        match (self, other) {
+            (Value::Name(one), Value::Name(other)) => one.is_same(other),
+            (Value::Literal(one), Value::Literal(other)) => one.is_same(other),
+            _ => false,
+        }
+    }
+}
+
+impl Same for Base {
+    ghost same = { SameBase };
+
+    fn is_same(&self, other: &Base) -> bool {
+        match (self, other) {
+            (Base::Int, Base::Int) => true,
+            (Base::Float, Base::Float) => true,
+            (Base::Bool, Base::Bool) => true,
+            (Base::Str, Base::Str) => true,
+            (Base::Named(one), Base::Named(other)) => one.is_same(other),
+            _ => false,
+        }
+    }
+}
+
+impl Same for Bounds {
+    ghost same = { SameBounds };
+
+    fn is_same(&self, other: &Bounds) -> bool {
+        match (self, other) {
+            (Bounds::All, Bounds::All) => true,
+            (
+                Bounds::Range {
+                    least,
+                    greatest,
+                    ..
+                },
+                Bounds::Range {
+                    least: other_least,
+                    greatest: other_greatest,
+                    ..
+                },
+            ) => least.is_same(other_least) && greatest.is_same(other_greatest),
+            (
+                Bounds::Set { values, .. },
+                Bounds::Set {
+                    values: other_values,
+                    ..
+                },
+            ) => are_same(values.as_slice(), other_values.as_slice()),
+            _ => false,
+        }
+    }
+}
+
+impl Same for Type {
+    ghost same = { SameType };
+
+    fn is_same(&self, other: &Type) -> bool {
+        self.base.is_same(&other.base) && self.bounds.is_same(&other.bounds)
+    }
+}
+
+impl Same for Creation {
+    ghost same = { SameCreation };
+
+    fn is_same(&self, other: &Creation) -> bool {
+        self.class.is_same(&other.class)
+            && are_same(self.arguments.as_slice(), other.arguments.as_slice())
+    }
+}
+
+impl Same for Init {
+    ghost same = { SameInit };
+
+    fn is_same(&self, other: &Init) -> bool {
+        match (self, other) {
+            (Init::Expr(one), Init::Expr(other)) => one.is_same(other),
+            (Init::New(one), Init::New(other)) => one.is_same(other),
+            _ => false,
+        }
+    }
+}
+
+impl Same for Variable {
+    ghost same = { SameVariable };
+
+    fn is_same(&self, other: &Variable) -> bool {
+        self.declared.is_same(&other.declared)
+            && self.name.is_same(&other.name)
+            && both_same(&self.init, &other.init)
+    }
+}
+
+impl Same for Call {
+    ghost same = { SameCall };
+
+    fn is_same(&self, other: &Call) -> bool {
+        self.path.is_same(&other.path)
+            && are_same(self.arguments.as_slice(), other.arguments.as_slice())
+    }
+}
+
+impl Same for Ask {
+    ghost same = { SameAsk };
+
+    fn is_same(&self, other: &Ask) -> bool {
+        self.word.is_same(&other.word)
+            && self.path.is_same(&other.path)
+            && self.label.is_same(&other.label)
+    }
+}
+
+impl Same for Guard {
+    ghost same = { SameGuard };
+
+    fn is_same(&self, other: &Guard) -> bool {
+        match (self, other) {
+            (Guard::Truth(one), Guard::Truth(other)) => one.is_same(other),
+            (Guard::Equal(one, second), Guard::Equal(other, other_second)) => {
+                one.is_same(other) && second.is_same(other_second)
+            }
+            (Guard::NotEqual(one, second), Guard::NotEqual(other, other_second)) => {
+                one.is_same(other) && second.is_same(other_second)
+            }
+            _ => false,
+        }
+    }
+}
+
+// The same of statements, of blocks, and of a block that may be missing.
+#[cycle(same)]
+fn same_stmt(one: &Stmt, other: &Stmt) -> bool
+    ensures { IsTrue result ↔ SameStmt one.now other.now }
+{
+    match (one, other) {
+        (Stmt::Variable(one), Stmt::Variable(other)) => one.is_same(other),
+        (Stmt::Call(one), Stmt::Call(other)) => one.is_same(other),
+        (Stmt::Ask(one), Stmt::Ask(other)) => one.is_same(other),
+        (
+            Stmt::If {
+                guard,
+                then,
+                otherwise,
+                ..
+            },
+            Stmt::If {
+                guard: other_guard,
+                then: other_then,
+                otherwise: other_otherwise,
+                ..
+            },
+        ) => {
+            guard.is_same(other_guard)
+                && same_block(then, other_then)
+                && both_same_blocks(otherwise, other_otherwise)
+        }
+        (
+            Stmt::Foreach {
+                variable,
+                class,
+                body,
+                ..
+            },
+            Stmt::Foreach {
+                variable: other_variable,
+                class: other_class,
+                body: other_body,
+                ..
+            },
+        ) => {
+            variable.is_same(other_variable)
+                && class.is_same(other_class)
+                && same_block(body, other_body)
+        }
+        _ => false,
+    }
+}
+
+#[cycle(same)]
+fn both_same_blocks(one: &Option<Block>, other: &Option<Block>) -> bool
+    ensures { IsTrue result ↔ BothSame SameBlock one.now other.now }
+{
+    match (one, other) {
+        (Some(one), Some(other)) => same_block(one, other),
+        (None, None) => true,
+        _ => false,
+    }
+}
+
+#[cycle(same)]
+fn same_stmts(one: &[Stmt], other: &[Stmt]) -> bool
+    ensures { IsTrue result ↔ AllSame SameStmt one.now other.now }
+{
+    if one.len() != other.len() {
+        return false;
+    }
+    for (i, x) in one.iter().enumerate() {
+        if !same_stmt(x, &other[i]) {
+            return false;
+        }
+    }
+    true
+}
+
+#[cycle(same)]
+fn same_block(one: &Block, other: &Block) -> bool
+    ensures { IsTrue result ↔ SameBlock one.now other.now }
+{
+    same_stmts(one.stmts.as_slice(), other.stmts.as_slice())
+}
+
+impl Same for Block {
+    ghost same = { SameBlock };
+
+    fn is_same(&self, other: &Block) -> bool {
+        same_block(self, other)
+    }
+}
+
+impl Same for Typed {
+    ghost same = { SameTyped };
+
+    fn is_same(&self, other: &Typed) -> bool {
+        self.declared.is_same(&other.declared) && self.name.is_same(&other.name)
+    }
+}
+
+impl Same for Part {
+    ghost same = { SamePart };
+
+    fn is_same(&self, other: &Part) -> bool {
+        match (self, other) {
+            (Part::Parameter(one), Part::Parameter(other)) => one.is_same(other),
+            (Part::Constraint(one), Part::Constraint(other)) => one.is_same(other),
+            _ => false,
+        }
+    }
+}
+
+impl Same for Set {
+    ghost same = { SameSet };
+
+    fn is_same(&self, other: &Set) -> bool {
+        match (self, other) {
+            (
+                Set::Field { name, value },
+                Set::Field {
+                    name: other_name,
+                    value: other_value,
+                },
+            ) => name.is_same(other_name) && value.is_same(other_value),
+            (
+                Set::Super { arguments, .. },
+                Set::Super {
+                    arguments: other_arguments,
+                    ..
+                },
+            ) => are_same(arguments.as_slice(), other_arguments.as_slice()),
+            _ => false,
+        }
+    }
+}
+
+impl Same for Member {
+    ghost same = { SameMember };
+
+    fn is_same(&self, other: &Member) -> bool {
+        match (self, other) {
+            (Member::Field(one), Member::Field(other)) => one.is_same(other),
+            (
+                Member::Predicate { name, parts, .. },
+                Member::Predicate {
+                    name: other_name,
+                    parts: other_parts,
+                    ..
+                },
+            ) => name.is_same(other_name) && are_same(parts.as_slice(), other_parts.as_slice()),
+            (
+                Member::Constructor {
+                    name,
+                    formals,
+                    sets,
+                },
+                Member::Constructor {
+                    name: other_name,
+                    formals: other_formals,
+                    sets: other_sets,
+                },
+            ) => {
+                name.is_same(other_name)
+                    && are_same(formals.as_slice(), other_formals.as_slice())
+                    && are_same(sets.as_slice(), other_sets.as_slice())
+            }
+            _ => false,
+        }
+    }
+}
+
+impl Same for Decl {
+    ghost same = { SameDecl };
+
+    fn is_same(&self, other: &Decl) -> bool {
+        match (self, other) {
+            (
+                Decl::Include { file, .. },
+                Decl::Include {
+                    file: other_file,
+                    ..
+                },
+            ) => file.as_slice() == other_file.as_slice(),
+            (
+                Decl::Enum { name, members, .. },
+                Decl::Enum {
+                    name: other_name,
+                    members: other_members,
+                    ..
+                },
+            ) => {
+                name.is_same(other_name) && are_same(members.as_slice(), other_members.as_slice())
+            }
+            (
+                Decl::Typedef { declared, name, .. },
+                Decl::Typedef {
+                    declared: other_declared,
+                    name: other_name,
+                    ..
+                },
+            ) => declared.is_same(other_declared) && name.is_same(other_name),
+            (
+                Decl::Forward { name, .. },
+                Decl::Forward {
+                    name: other_name,
+                    ..
+                },
+            ) => name.is_same(other_name),
+            (
+                Decl::Class {
+                    name,
+                    parent,
+                    members,
+                    ..
+                },
+                Decl::Class {
+                    name: other_name,
+                    parent: other_parent,
+                    members: other_members,
+                    ..
+                },
+            ) => {
+                name.is_same(other_name)
+                    && both_same(parent, other_parent)
+                    && are_same(members.as_slice(), other_members.as_slice())
+            }
+            (
+                Decl::Rule {
+                    class,
+                    predicate,
+                    body,
+                },
+                Decl::Rule {
+                    class: other_class,
+                    predicate: other_predicate,
+                    body: other_body,
+                },
+            ) => {
+                class.is_same(other_class)
+                    && predicate.is_same(other_predicate)
+                    && body.is_same(other_body)
+            }
+            (Decl::Variable(one), Decl::Variable(other)) => one.is_same(other),
+            (Decl::Call(one), Decl::Call(other)) => one.is_same(other),
+            (Decl::Ask(one), Decl::Ask(other)) => one.is_same(other),
+            _ => false,
+        }
+    }
+}
+
+/// Declarations are the same where they are equal once their places are 0.
+pub fn same_is_equal()
+    ensures { SameIsEqual }
+{}
+
+/// To be the same is an equivalence.
+pub fn same_is_an_equivalence()
+    ensures { SameIsAnEquivalence }
+{}
