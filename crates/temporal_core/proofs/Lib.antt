@@ -1,0 +1,13 @@
+pub mod Members
+pub mod Values
+pub mod Links
+pub mod Raising
+pub mod Walks
+pub mod Settling
+pub mod Cycles
+pub mod Least
+pub mod Turning
+pub mod Leaving
+pub mod Needed
+pub mod Ordering
+pub mod Following

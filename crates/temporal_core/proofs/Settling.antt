@@ -1,0 +1,138 @@
+-- Values that keep the edges, before and after a further edge.
+use Rattle.std.proofs.Common.{◌≡◌, ℕ, ◌<◌, ℤ, pos, neg_ℤ, ◌+ℤ◌, ◌≤ℤ◌, ◌<ℤ◌, ⊎_elim, Bool, true, false, MatchBool, List, [], ◌∷◌, ◌++◌, length, replicate, refl, sym, ap, ◌∙◌, subst, arith}
+use Rattle.std.specs.Prelude.{Contains, All}
+use Rattle.std.proofs.lemmas.Int.{ints}
+use Rattle.std.proofs.lemmas.List.{get_or_past, get_or-replicate, length-replicate}
+use Rattle.std.proofs.lemmas.Bool.{cases_lt}
+use Rattle.std.proofs.lemmas.List.Elements.{All-push, All-contains, Contains-append_left, Contains-append_cases, Contains-push}
+use Rattle.temporal_core.specs.declared.edges.Edge.{Edge}
+use Rattle.temporal_core.specs.Network.{IsEdge}
+use Rattle.temporal_core.specs.Schedule.{Keeps}
+use Rattle.temporal_core.specs.Cycle.{gap_sum}
+use Rattle.temporal_core.specs.Settled.{value_at, Walk, HasPositiveCycle, Raises, Exceeds, AreSettled}
+use Rattle.temporal_core.proofs.Members.{all_from_contains}
+use Rattle.temporal_core.proofs.Raising.{gap_sum-append}
+use Rattle.temporal_core.proofs.Walks.{Contains-cons_cases, Leads-append, Path, path_or_cycle, cycle_from_walk, none_keeps, IsSimple-path, simple_is_short, gap_sum_modest}
+
+-- a path is short, so its gaps sum to no more than that, up or down
+pub path_modest : (points : ℕ) (edges : List Edge) (from to : ℕ) (least : ℤ) → points < 65536 → All (IsEdge points) edges → (path : Path edges from to least)
+    → (neg_ℤ (pos 131072000000) ≤ℤ gap_sum path.steps) × (gap_sum path.steps ≤ℤ pos 131072000000)
+path_modest points edges from to least few each path =
+    let joins : All (IsEdge points) path.steps = all_from_contains (IsEdge points) path.steps (λ edge among. All-contains (IsEdge points) edges edge each (path.within edge among)) in
+    let begins : All (λ (edge : Edge). edge.from < points) path.steps = all_from_contains (λ (edge : Edge). edge.from < points) path.steps (λ edge among. (All-contains (IsEdge points) edges edge each (path.within edge among)).from) in
+    let short = simple_is_short points path.steps (IsSimple-path to path.steps path.path) begins in
+    let modest = gap_sum_modest points path.steps joins in
+    (omega (arith, ints, modest.0), omega (arith, ints, modest.1))
+
+-- no value is far up
+pub settled_modest : (points : ℕ) (edges : List Edge) (values : List ℤ) → points < 65536 → All (IsEdge points) edges → AreSettled points edges values → (point : ℕ) → value_at values point ≤ℤ pos 131072000000
+settled_modest points edges values few each settled point =
+    ⊎_elim
+    (λ within.
+    let walked = settled.walked point within in
+    let value = walked.2 in
+    ⊎_elim
+    (λ cycle. absurd (none_keeps (value_at values) edges settled.keeps cycle))
+    (λ path. let modest = (path_modest points edges walked.0 point (gap_sum walked.1.steps) few each path).1 in let enough = path.sum in omega (arith, ints))
+    (path_or_cycle edges walked.1.steps walked.0 point walked.1.leads walked.1.within))
+    (λ past. let nothing : value_at values point ≡ pos 0 = get_or_past values point (pos 0) (omega (arith, settled.count)) in omega (arith, ints))
+    (cases_lt point points)
+
+pub Walk-more : (edges : List Edge) (edge : Edge) (from to : ℕ) → Walk edges from to → Walk (edges ++ edge ∷ []) from to
+Walk-more edges edge from to walk = record { steps = walk.steps; leads = walk.leads; within = λ other among. Contains-append_left edges (edge ∷ []) other (walk.within other among) }
+
+module _ (points : ℕ) (edges : List Edge) (edge : Edge) (old : List ℤ) (settled : AreSettled points edges old) where
+  -- the values keep the further edge already
+  pub settled_already : Keeps (value_at old) edge → AreSettled points (edges ++ edge ∷ []) old
+  unfolding Walk-more
+  settled_already keeps = record {
+    count = settled.count;
+    keeps = All-push (Keeps (value_at old)) edges edge settled.keeps keeps;
+    low = settled.low;
+    walked = λ point within. let walked = settled.walked point within in (walked.0, Walk-more edges edge walked.0 point walked.1, walked.2);
+  }
+
+  -- an edge that leads back up to its own point
+  pub cycle_alone : edge.from ≡ edge.to → value_at old edge.to <ℤ (value_at old edge.from +ℤ edge.gap) → HasPositiveCycle (edges ++ edge ∷ [])
+  cycle_alone same more = record {
+    cycle = edge ∷ [];
+    within = λ other among. ⊎_elim (λ is. subst (Contains (edges ++ edge ∷ [])) is (Contains-push edges edge)) (λ none. absurd (omega (arith, none.1))) (Contains-cons_cases edge [] other among);
+    closed = sym same;
+    simple = ((λ k d below. absurd (omega arith)), tt);
+    positive = let values = ap (value_at old) same in omega (arith, ints);
+  }
+
+  module _ (raised : ℤ) (is_raised : raised ≡ value_at old edge.from +ℤ edge.gap) (begins : edge.from < points) where
+    -- a walk that leads on from the edge begins with the walk to it
+    through : (to : ℕ) (walk : Walk edges edge.to to) → (first : ℕ) × (longer : Walk (edges ++ edge ∷ []) first to) × (raised +ℤ gap_sum walk.steps ≡ gap_sum longer.steps)
+    through to walk =
+        let walked = settled.walked edge.from begins in
+        let before = walked.1 in
+        let value = walked.2 in
+        let sum = gap_sum-append before.steps (edge ∷ walk.steps) in (
+          walked.0,
+          record {
+            steps = before.steps ++ edge ∷ walk.steps;
+            leads = Leads-append walked.0 edge.from to before.steps (edge ∷ walk.steps) before.leads (refl, walk.leads);
+            within = λ other among. ⊎_elim
+                (λ first. Contains-append_left edges (edge ∷ []) other (before.within other first))
+                (λ later. ⊎_elim (λ is. subst (Contains (edges ++ edge ∷ [])) is (Contains-push edges edge)) (λ rest. Contains-append_left edges (edge ∷ []) other (walk.within other rest)) (Contains-cons_cases edge walk.steps other later))
+                (Contains-append_cases before.steps (edge ∷ walk.steps) other among);
+          },
+          omega (arith, ints),
+        )
+
+    pub settled_raised : (new : List ℤ) → length new ≡ length old → Raises edges edge.to raised edge.from old new → AreSettled points (edges ++ edge ∷ []) new
+    unfolding Walk-more
+    settled_raised new count raises = record {
+      count = count ∙ settled.count;
+      keeps = All-push (Keeps (value_at new)) edges edge raises.keeps (let stays = raises.fixed_stays in let enough = raises.started in omega (arith, ints));
+      low = λ point. let was = settled.low point in let rose = raises.low point in omega (arith, ints);
+      walked = λ point within.
+          ⊎_elim
+          (λ same. let walked = settled.walked point within in (walked.0, Walk-more edges edge walked.0 point walked.1, same ∙ walked.2))
+          (λ up. let longer = through point up.0 in (longer.0, longer.1, up.1 ∙ longer.2))
+          (raises.each point);
+    }
+
+    -- the edge's second point would have to raise its first
+    pub cycle_through : Exceeds edges edge.to raised edge.from old → HasPositiveCycle (edges ++ edge ∷ [])
+    cycle_through exceeds =
+        let walk = exceeds.0 in
+        let more = exceeds.1 in
+        let round : Walk (edges ++ edge ∷ []) edge.from edge.from = record {
+          steps = edge ∷ walk.steps;
+          leads = (refl, walk.leads);
+          within = λ other among. ⊎_elim (λ is. subst (Contains (edges ++ edge ∷ [])) is (Contains-push edges edge)) (λ rest. Contains-append_left edges (edge ∷ []) other (walk.within other rest)) (Contains-cons_cases edge walk.steps other among);
+        } in
+        cycle_from_walk (edges ++ edge ∷ []) edge.from round (omega (arith, ints))
+
+-- without an edge each point may be at 0
+pub settled_nothing : (points : ℕ) (values : List ℤ) → values ≡ replicate points (pos 0) → AreSettled points [] values
+settled_nothing points values all = record {
+  count = ap length all ∙ length-replicate points (pos 0);
+  keeps = λ k d below. absurd (omega arith);
+  low = λ point. let is = nothing point in omega (arith, ints);
+  walked = λ point within. (point, record { steps = []; leads = refl; within = λ edge among. among }, nothing point);
+}
+  where
+    nothing : (point : ℕ) → value_at values point ≡ pos 0
+    nothing point =
+        ap (λ xs. value_at xs point) all ∙ ⊎_elim (λ within. get_or-replicate points point (pos 0) (pos 0) within) (λ past. get_or_past (replicate points (pos 0)) point (pos 0) (let n : length (replicate points (pos 0)) ≡ points = length-replicate points (pos 0) in omega arith)) (cases_lt point points)
+
+-- after values were raised for the edge, or couldn't be
+pub kept_too : (points : ℕ) (edges : List Edge) (edge : Edge) (old : List ℤ) (settled : AreSettled points edges old) (raised : ℤ) → raised ≡ value_at old edge.from +ℤ edge.gap → edge.from < points
+    → (new : List ℤ) → length new ≡ length old → (done : Bool) → MatchBool done (Raises edges edge.to raised edge.from old new) (Exceeds edges edge.to raised edge.from old)
+    → MatchBool done (AreSettled points (edges ++ edge ∷ []) new) (HasPositiveCycle (edges ++ edge ∷ []))
+kept_too points edges edge old settled raised is_raised begins new count true raises = settled_raised points edges edge old settled raised is_raised begins new count raises
+kept_too points edges edge old settled raised is_raised begins new count false exceeds = cycle_through points edges edge old settled raised is_raised begins exceeds
+
+-- a further edge takes no cycle away
+pub HasPositiveCycle-within : (edges more : List Edge) → ((edge : Edge) → Contains edges edge → Contains more edge) → HasPositiveCycle edges → HasPositiveCycle more
+HasPositiveCycle-within edges more within found = record {
+  cycle = found.cycle;
+  within = λ edge among. within edge (found.within edge among);
+  closed = found.closed;
+  simple = found.simple;
+  positive = found.positive;
+}

@@ -1,0 +1,195 @@
+//! The least and the greatest value of each point over all schedules.
+
+ghost use Rattle.std.specs.Prelude.{◌≡◌, ℕ, ◌<◌, ℤ, pos, neg_ℤ, ◌≤ℤ◌, length, map, slice_index_or, All, None, IfOk, IfErr, MatchOption, ⊤};
+ghost use Rattle.temporal_core.specs.Network.{IsEdge};
+ghost use Rattle.temporal_core.specs.Schedule.{IsSchedule, AreLeastValues, AreGreatestValues};
+ghost use Rattle.temporal_core.specs.Settled.{value_at, IsSettled};
+ghost use Rattle.temporal_core.specs.TimeBounds.{AreBounds, IsNoBounds};
+ghost use Rattle.temporal_core.specs.Bounds.{far_below, reversed_edge, negative_of, Tells, AreNear};
+
+use super::canonical::canonical_cycle;
+use super::edges::{Edge, Edges};
+use super::settled::{Settled, raise, settle};
+use eu_name::sequence::Sequence;
+use std::alloc::{AllocError, Global};
+
+/// For each point, by its number, the least and the greatest value that a schedule gives it; None where there is no bound.
+#[derive(Drop)]
+pub struct TimeBounds {
+    pub lo: Sequence<Option<i64>>,
+    pub hi: Sequence<Option<i64>>,
+}
+
+/// Why there are no bounds.
+#[derive(Drop)]
+pub enum TimeFault {
+    /// There is no schedule. These are places of edges that have none either, and each of which is needed for that:
+    /// a cycle whose gaps sum to more than 0, from its least point on.
+    Cycle(Sequence<u32>),
+    Memory,
+}
+
+impl From<AllocError> for TimeFault {
+    ghost use Rattle.std.specs.Prelude.{◌≡◌};
+    ghost use Rattle.temporal_core.specs.declared.bounds.TimeFault.TheVariants.{Memory};
+
+    ghost from_gives = { λ _ fault. fault ≡ Memory };
+
+    fn from(_none: AllocError) -> TimeFault {
+        TimeFault::Memory
+    }
+}
+
+/// So far below the values of a schedule that no walk from the origin leads there.
+const FAR: i64 = 1_099_511_627_776;
+
+// Each value that much less.
+fn lowered(alloc: Global, values: &[i64]) -> Result<Vec<i64>, AllocError>
+    requires { (point : ℕ) → pos 0 ≤ℤ value_at values.now point }
+    ensures { IfOk result (λ low. low.items ≡ map far_below values.now) }
+{
+    let mut low = Vec::with_capacity(alloc, values.len())?;
+    for value in values {
+        low.push(*value - FAR)?;
+    }
+    Ok(low)
+}
+
+// What the value of a point says that was raised from far below, if it was.
+fn told(value: i64, settled: i64, origin: i64) -> Option<i64>
+    requires value { (neg_ℤ (pos 2199023255552) ≤ℤ value) × (value ≤ℤ pos 2199023255552) }
+    requires settled { (pos 0 ≤ℤ settled) × (settled ≤ℤ pos 2199023255552) }
+    requires origin { (pos 0 ≤ℤ origin) × (origin ≤ℤ pos 2199023255552) }
+    ensures { Tells value settled origin result }
+{
+    if value > settled - FAR {
+        Some(value - origin)
+    } else {
+        None
+    }
+}
+
+// What the value of each point says.
+fn told_all(
+    alloc: Global,
+    values: &[i64],
+    settled: &[i64],
+    origin: i64,
+) -> Result<Vec<Option<i64>>, AllocError>
+    requires count { length values.now ≡ length settled.now }
+    requires values { (point : ℕ) → (neg_ℤ (pos 2199023255552) ≤ℤ value_at values.now point) × (value_at values.now point ≤ℤ pos 2199023255552) }
+    requires settled { (point : ℕ) → (pos 0 ≤ℤ value_at settled.now point) × (value_at settled.now point ≤ℤ pos 2199023255552) }
+    requires origin { (pos 0 ≤ℤ origin) × (origin ≤ℤ pos 2199023255552) }
+    ensures count { IfOk result (λ all. length all.items ≡ length settled.now) }
+    ensures each { IfOk result (λ all. (point : ℕ) → point < length settled.now → Tells (value_at values.now point) (value_at settled.now point) origin (slice_index_or all.items point None)) }
+{
+    let mut all = Vec::with_capacity(alloc, settled.len())?;
+    for point in 0..settled.len() {
+        all.push(told(values[point], settled[point], origin))?;
+    }
+    Ok(all)
+}
+
+// The least value of each point. The origin is raised from far below to where it is: the points that this raises are as
+// low then as they can be, and the others can be as low as one likes.
+fn least_values(alloc: Global, settled: &Settled) -> Result<Vec<Option<i64>>, AllocError>
+    requires some { 0 < length settled.now.values.items }
+    requires settled { IsSettled (length settled.now.values.items) settled.now.graph.edges.items settled.now }
+    ensures values { IfOk result (λ least. AreLeastValues (length settled.now.values.items) settled.now.graph.edges.items least.items) }
+    ensures near { IfOk result (λ least. AreNear least.items) }
+{
+    let first = settled.values.as_slice();
+    let origin = first[0];
+    let mut values = lowered(alloc, first)?;
+    if !raise(alloc, &settled.graph, &mut values, 0, origin, first.len())? {
+        unreachable!();
+    }
+    let least = told_all(alloc, &values, first, origin)?;
+    Ok(least)
+}
+
+// The edges with the flow of time turned round.
+fn reversed(alloc: Global, edges: &[Edge]) -> Result<Vec<Edge>, AllocError>
+    ensures { IfOk result (λ turned. turned.items ≡ map reversed_edge edges.now) }
+{
+    let mut turned = Vec::with_capacity(alloc, edges.len())?;
+    for edge in edges {
+        turned.push(Edge {
+            from: edge.to,
+            to: edge.from,
+            gap: edge.gap,
+        })?;
+    }
+    Ok(turned)
+}
+
+// The negative of the number, if it is one.
+fn negative(value: Option<i64>) -> Option<i64>
+    requires { MatchOption value ⊤ (λ number. (neg_ℤ (pos 2199023255552) ≤ℤ number) × (number ≤ℤ pos 2199023255552)) }
+    ensures { result ≡ negative_of value }
+{
+    match value {
+        Some(number) => Some(-number),
+        None => None,
+    }
+}
+
+// The negative of each number.
+fn negatives(alloc: Global, values: &[Option<i64>]) -> Result<Vec<Option<i64>>, AllocError>
+    requires { AreNear values.now }
+    ensures { IfOk result (λ turned. turned.items ≡ map negative_of values.now) }
+{
+    let mut turned = Vec::with_capacity(alloc, values.len())?;
+    for value in values {
+        turned.push(negative(*value))?;
+    }
+    Ok(turned)
+}
+
+// The greatest value of each point, where there is a schedule: the negative of the least with time turned round.
+fn greatest_values(
+    alloc: Global,
+    points: usize,
+    edges: &[Edge],
+) -> Result<Vec<Option<i64>>, AllocError>
+    requires some { 0 < points }
+    requires few { points < 65536 }
+    requires edges { All (IsEdge points) edges.now }
+    requires schedule { (value : ℕ → ℤ) × IsSchedule edges.now value }
+    ensures { IfOk result (λ greatest. AreGreatestValues points edges.now greatest.items) }
+{
+    let turned = reversed(alloc, edges)?;
+    let Some(settled) = settle(alloc, points, &turned)? else {
+        unreachable!();
+    };
+    let least = least_values(alloc, &settled)?;
+    let greatest = negatives(alloc, &least)?;
+    Ok(greatest)
+}
+
+/// The least and the greatest value of each point over all schedules of the edges.
+///
+/// It takes a shortest-path computation in each direction. Where there is no schedule it takes about one more for each
+/// edge of the cycle.
+pub fn bounds(edges: &Edges) -> Result<TimeBounds, TimeFault>
+    ensures ok { IfOk result (AreBounds edges.now) }
+    ensures err { IfErr result (IsNoBounds edges.now) }
+{
+    let alloc = edges.allocator();
+    let points = edges.points() as usize;
+    let list = edges.as_slice();
+    match settle(alloc, points, list)? {
+        Some(settled) => {
+            let lo = least_values(alloc, &settled)?;
+            let hi = greatest_values(alloc, points, list)?;
+            Ok(TimeBounds {
+                lo: Sequence::from_vec(lo),
+                hi: Sequence::from_vec(hi),
+            })
+        }
+        None => {
+            let cycle = canonical_cycle(alloc, points, list)?;
+            Err(TimeFault::Cycle(Sequence::from_vec(cycle)))
+        }
+    }
+}
