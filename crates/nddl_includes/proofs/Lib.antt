@@ -1,0 +1,3 @@
+pub mod OneOutcome
+pub mod ReadFiles
+pub mod VisitLemmas

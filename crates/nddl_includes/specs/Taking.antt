@@ -1,0 +1,52 @@
+-- What the pieces of the work do. The public calls promise none of it.
+use Rattle.std.specs.Prelude.{◌≡◌, ℕ, ◌≤◌, List, length, Option, Result, Ok, Err, ⊤}
+use Rattle.eu_io.specs.Faults.{Rose}
+use Rattle.eu_io.specs.declared.shelf.FileEntry.{FileEntry}
+use Rattle.eu_io.specs.declared.shelf.ShelfFail.{ShelfFail}
+use Rattle.eu_io.specs.declared.shelf.ShelfFail.TheVariants as shelf
+use Rattle.nddl_ast.specs.declared.declaration.Decl.{Decl}
+use Rattle.nddl_ast.specs.declared.declaration.FileDecls.{FileDecls}
+use Rattle.nddl_includes.specs.declared.include.Ask.{Ask}
+use Rattle.nddl_includes.specs.declared.include.Include.{Include}
+use Rattle.nddl_includes.specs.declared.fault.Refusal.TheVariants as refused
+use Rattle.nddl_includes.specs.declared.taking.FetchFail.{FetchFail}
+use Rattle.nddl_includes.specs.declared.taking.FetchFail.TheVariants as fetch
+use Rattle.nddl_includes.specs.declared.fault.ReadAllFault.{ReadAllFault}
+use Rattle.nddl_includes.specs.declared.fault.ReadAllFault.TheVariants as all
+use Rattle.nddl_includes.specs.Includes.{includes_of}
+use Rattle.nddl_includes.specs.Outcomes.{Reading}
+use Rattle.nddl_includes.specs.Visits.{Loads, Stops, Takes, with_file}
+
+-- what the answer of a shelf says of a file
+abbrev pub fail_of : ShelfFail → FetchFail
+fail_of shelf.Absent = fetch.Refused refused.Absent
+fail_of shelf.TooLong = fetch.Refused refused.TooLong
+fail_of shelf.Failed = fetch.ReadFault
+fail_of shelf.Memory = fetch.Memory
+
+-- the count of faults rose where the call of the shelf failed, and otherwise is what it was
+abbrev pub CountsFetch : {T : Type 0} → Result T FetchFail → ℕ → ℕ → Type 0
+CountsFetch (Err fetch.ReadFault) old new = Rose old new × (old ≤ new)
+CountsFetch other old new = new ≡ old
+
+-- the text of the file or why it isn't read, unless there was no memory or the call of the shelf failed
+abbrev pub Fetches : Option (List FileEntry) → ℕ → ℕ → List ℕ → Result (List ℕ) FetchFail → Type 0
+Fetches files count levels name (Ok text) = Loads files count levels name (Ok text)
+Fetches files count levels name (Err (fetch.Refused refusal)) = Loads files count levels name (Err refusal)
+Fetches files count levels name (Err fetch.ReadFault) = ⊤
+Fetches files count levels name (Err fetch.Memory) = ⊤
+
+-- the declarations of the text of this file, or the fault in it
+abbrev pub Parses : Reading → List ℕ → List ℕ → Result (List Decl) ReadAllFault → Type 0
+Parses reads name text (Ok decls) = reads text (Ok decls)
+Parses reads name text (Err (all.Faulty file wrong)) = (file ≡ name) × reads text (Err wrong)
+Parses reads name text (Err all.Memory) = ⊤
+Parses reads name text (Err fault) = ⊥
+
+-- the file was read, and these are its includes, or why not
+abbrev pub TakesFile : Reading → Option (List FileEntry) → ℕ → Ask → List FileDecls → List FileDecls → Result (List Include) ReadAllFault → Type 0
+TakesFile reads files levels ask old new (Ok includes) = (decls : List Decl) × Takes reads files (length old) levels ask decls
+    × (includes ≡ includes_of decls) × (new ≡ with_file old ask decls)
+TakesFile reads files levels ask old new (Err all.ReadFault) = ⊤
+TakesFile reads files levels ask old new (Err all.Memory) = ⊤
+TakesFile reads files levels ask old new (Err fault) = Stops reads files (length old) levels ask fault
