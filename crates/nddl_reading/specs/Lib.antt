@@ -1,0 +1,4 @@
+pub mod Sorts
+pub mod Symbols
+pub mod Readers
+pub mod Exact

@@ -1,0 +1,6 @@
+// Symbols of a text, readers of lists of them as values of the proofs, and a cursor that reads them in the code.
+#![tactic(auto)]
+
+pub mod cursor;
+pub mod sort;
+pub mod symbol;
