@@ -1,0 +1,4 @@
+pub mod Grammar
+pub mod Symbols
+pub mod Derives
+pub mod Productions

@@ -1,0 +1,404 @@
+//! Declarations.
+
+ghost use Rattle.std.specs.Prelude.{◌≡◌};
+ghost use Rattle.nddl_reading.specs.Readers.{Reads};
+ghost use Rattle.nddl_parser.specs.Productions.{part_after, part_named, part, field_set, super_set, set_item, begins_set, predicate, constructor_after, member_after, member_named, member, begins_member, file, include, enumeration, typedef, parent, class_body, class_after, class, rule_after, decl_of, decl_after, decl_named, decl, begins_decl, text};
+
+use super::blocks::block;
+use super::expressions::{init, name};
+use super::list;
+use super::list::Item;
+use super::statements::{SimpleStmt, call_after, call_end, dotted_after, plain_after, variable};
+use super::types::{begins_type, field, field_after, type_of};
+use eu_name::bytes::Bytes;
+use eu_name::sequence::Sequence;
+use nddl_ast::declaration::{Decl, Member, Part, Set, Typed};
+use nddl_ast::name::Name;
+use nddl_reading::cursor::{Cursor, Stop};
+use nddl_reading::sort::Sort;
+
+/// How deep blocks may be nested.
+pub const MOST_NESTED: u8 = 16;
+
+// What can stand in a predicate behind a name.
+#[tactic(auto, unfolding(crate::specs::Productions::part_after))]
+fn part_after(cursor: &mut Cursor<'_>, first: Name) -> Result<Part, Stop>
+    ensures { Reads result cursor.new (part_after first cursor.old) }
+{
+    if cursor.is_at(Sort::ParenOpen) {
+        return Ok(Part::Constraint(call_after(cursor, first)?));
+    }
+    if cursor.is_at(Sort::Point) {
+        return Ok(Part::Constraint(dotted_after(cursor, first)?));
+    }
+    Ok(Part::Parameter(field_after(cursor, first)?))
+}
+
+#[tactic(auto, unfolding(crate::specs::Productions::part_named))]
+fn part_named(cursor: &mut Cursor<'_>) -> Result<Part, Stop>
+    ensures { Reads result cursor.new (part_named cursor.old) }
+{
+    let first = name(cursor)?;
+    part_after(cursor, first)
+}
+
+/// `Type Name ";" | Call`
+#[tactic(auto, unfolding(crate::specs::Productions::part))]
+fn part(cursor: &mut Cursor<'_>) -> Result<Part, Stop>
+    ensures { Reads result cursor.new (part cursor.old) }
+{
+    if cursor.is_at(Sort::Name) {
+        return part_named(cursor);
+    }
+    Ok(Part::Parameter(field(cursor)?))
+}
+
+impl Item for Part {
+    ghost use Rattle.nddl_parser.specs.Productions.{begins_type, part};
+
+    ghost first = { begins_type };
+
+    ghost reader = { part };
+
+    fn is_first(sort: Sort) -> bool {
+        begins_type(sort)
+    }
+
+    fn read(cursor: &mut Cursor<'_>) -> Result<Part, Stop> {
+        part(cursor)
+    }
+}
+
+/// `Name "=" Init ";"`
+#[tactic(auto, unfolding(crate::specs::Productions::field_set))]
+fn field_set(cursor: &mut Cursor<'_>) -> Result<Set, Stop>
+    ensures { Reads result cursor.new (field_set cursor.old) }
+{
+    let name = name(cursor)?;
+    cursor.mark(Sort::Assign)?;
+    let value = init(cursor)?;
+    cursor.mark(Sort::Semicolon)?;
+    Ok(Set::Field { name, value })
+}
+
+/// `"super" "(" [ Args ] ")" ";"`
+#[tactic(auto, unfolding(crate::specs::Productions::super_set))]
+fn super_set(cursor: &mut Cursor<'_>) -> Result<Set, Stop>
+    ensures { Reads result cursor.new (super_set cursor.old) }
+{
+    let at = cursor.place_of(Sort::Super)?;
+    let arguments = call_end(cursor)?;
+    Ok(Set::Super { at, arguments })
+}
+
+/// `Name "=" Init ";" | "super" "(" [ Args ] ")" ";"`
+#[tactic(auto, unfolding(crate::specs::Productions::set_item))]
+fn set_item(cursor: &mut Cursor<'_>) -> Result<Set, Stop>
+    ensures { Reads result cursor.new (set_item cursor.old) }
+{
+    if cursor.is_at(Sort::Super) {
+        return super_set(cursor);
+    }
+    field_set(cursor)
+}
+
+impl Item for Set {
+    ghost use Rattle.nddl_parser.specs.Productions.{begins_set, set_item};
+
+    ghost first = { begins_set };
+
+    ghost reader = { set_item };
+
+    fn is_first(sort: Sort) -> bool {
+        match sort {
+            Sort::Name | Sort::Super => true,
+            _ => false,
+        }
+    }
+
+    fn read(cursor: &mut Cursor<'_>) -> Result<Set, Stop> {
+        set_item(cursor)
+    }
+}
+
+/// `"predicate" Name "{" { Type Name ";" | Call } "}" [";"]`
+#[tactic(auto, unfolding(crate::specs::Productions::predicate))]
+fn predicate(cursor: &mut Cursor<'_>) -> Result<Member, Stop>
+    ensures { Reads result cursor.new (predicate cursor.old) }
+{
+    let at = cursor.place_of(Sort::Predicate)?;
+    let name = name(cursor)?;
+    cursor.mark(Sort::BraceOpen)?;
+    let parts = list::many::<Part>(cursor)?;
+    cursor.mark(Sort::BraceClose)?;
+    cursor.may_mark(Sort::Semicolon)?;
+    Ok(Member::Predicate { at, name, parts })
+}
+
+/// `Name "(" [ Type Name { "," Type Name } ] ")" "{" { Set } "}"`, behind the name.
+#[tactic(auto, unfolding(crate::specs::Productions::constructor_after))]
+fn constructor_after(cursor: &mut Cursor<'_>, first: Name) -> Result<Member, Stop>
+    ensures { Reads result cursor.new (constructor_after first cursor.old) }
+{
+    cursor.mark(Sort::ParenOpen)?;
+    let formals = list::listed::<Typed>(cursor, Sort::Comma)?;
+    cursor.mark(Sort::ParenClose)?;
+    cursor.mark(Sort::BraceOpen)?;
+    let sets = list::many::<Set>(cursor)?;
+    cursor.mark(Sort::BraceClose)?;
+    Ok(Member::Constructor {
+        name: first,
+        formals,
+        sets,
+    })
+}
+
+// What can stand in a class behind a name: here a constructor and a field are told apart.
+#[tactic(auto, unfolding(crate::specs::Productions::member_after))]
+fn member_after(cursor: &mut Cursor<'_>, first: Name) -> Result<Member, Stop>
+    ensures { Reads result cursor.new (member_after first cursor.old) }
+{
+    if cursor.is_at(Sort::ParenOpen) {
+        return constructor_after(cursor, first);
+    }
+    Ok(Member::Field(field_after(cursor, first)?))
+}
+
+#[tactic(auto, unfolding(crate::specs::Productions::member_named))]
+fn member_named(cursor: &mut Cursor<'_>) -> Result<Member, Stop>
+    ensures { Reads result cursor.new (member_named cursor.old) }
+{
+    let first = name(cursor)?;
+    member_after(cursor, first)
+}
+
+/// A field, a predicate or a constructor.
+#[tactic(auto, unfolding(crate::specs::Productions::member))]
+fn member(cursor: &mut Cursor<'_>) -> Result<Member, Stop>
+    ensures { Reads result cursor.new (member cursor.old) }
+{
+    if cursor.is_at(Sort::Predicate) {
+        return predicate(cursor);
+    }
+    if cursor.is_at(Sort::Name) {
+        return member_named(cursor);
+    }
+    Ok(Member::Field(field(cursor)?))
+}
+
+impl Item for Member {
+    ghost use Rattle.nddl_parser.specs.Productions.{begins_member, member};
+
+    ghost first = { begins_member };
+
+    ghost reader = { member };
+
+    fn is_first(sort: Sort) -> bool {
+        match sort {
+            Sort::Predicate => true,
+            _ => begins_type(sort),
+        }
+    }
+
+    fn read(cursor: &mut Cursor<'_>) -> Result<Member, Stop> {
+        member(cursor)
+    }
+}
+
+// Bytes between quotes, and where the quotes begin.
+#[tactic(auto, unfolding(crate::specs::Productions::file))]
+fn file(cursor: &mut Cursor<'_>) -> Result<(Bytes, u32), Stop>
+    ensures { Reads result cursor.new (file cursor.old) }
+{
+    let symbol = cursor.take(Sort::Quoted)?;
+    let bytes = symbol.bytes(cursor.allocator())?;
+    Ok((bytes, symbol.at()))
+}
+
+/// `Include Str [";"]`
+#[tactic(auto, unfolding(crate::specs::Productions::include))]
+fn include(cursor: &mut Cursor<'_>) -> Result<Decl, Stop>
+    ensures { Reads result cursor.new (include cursor.old) }
+{
+    let at = cursor.place_of(Sort::Include)?;
+    let (file, file_at) = file(cursor)?;
+    cursor.may_mark(Sort::Semicolon)?;
+    Ok(Decl::Include { at, file, file_at })
+}
+
+/// `"enum" Name "{" Name { "," Name } "}" [";"]`
+#[tactic(auto, unfolding(crate::specs::Productions::enumeration))]
+fn enumeration(cursor: &mut Cursor<'_>) -> Result<Decl, Stop>
+    ensures { Reads result cursor.new (enumeration cursor.old) }
+{
+    let at = cursor.place_of(Sort::Enum)?;
+    let name = name(cursor)?;
+    let members_at = cursor.place_of(Sort::BraceOpen)?;
+    let members = list::separated::<Name>(cursor, Sort::Comma)?;
+    cursor.mark(Sort::BraceClose)?;
+    cursor.may_mark(Sort::Semicolon)?;
+    Ok(Decl::Enum {
+        at,
+        name,
+        members_at,
+        members,
+    })
+}
+
+/// `"typedef" Type Name ";"`
+#[tactic(auto, unfolding(crate::specs::Productions::typedef))]
+fn typedef(cursor: &mut Cursor<'_>) -> Result<Decl, Stop>
+    ensures { Reads result cursor.new (typedef cursor.old) }
+{
+    let at = cursor.place_of(Sort::Typedef)?;
+    let declared = type_of(cursor)?;
+    let name = name(cursor)?;
+    cursor.mark(Sort::Semicolon)?;
+    Ok(Decl::Typedef { at, declared, name })
+}
+
+/// `[ "extends" Name ]`
+#[tactic(auto, unfolding(crate::specs::Productions::parent))]
+fn parent(cursor: &mut Cursor<'_>) -> Result<Option<Name>, Stop>
+    ensures { Reads result cursor.new (parent cursor.old) }
+{
+    if cursor.is_at(Sort::Extends) {
+        cursor.mark(Sort::Extends)?;
+        return Ok(Some(name(cursor)?));
+    }
+    Ok(None)
+}
+
+/// `["extends" Name] "{" { Member } "}" [";"]`
+#[tactic(auto, unfolding(crate::specs::Productions::class_body))]
+fn class_body(cursor: &mut Cursor<'_>, at: u32, name: Name) -> Result<Decl, Stop>
+    ensures { Reads result cursor.new (class_body at name cursor.old) }
+{
+    let parent = parent(cursor)?;
+    cursor.mark(Sort::BraceOpen)?;
+    let members = list::many::<Member>(cursor)?;
+    cursor.mark(Sort::BraceClose)?;
+    cursor.may_mark(Sort::Semicolon)?;
+    Ok(Decl::Class {
+        at,
+        name,
+        parent,
+        members,
+    })
+}
+
+// What stands behind the name of a class: here one that is only named is told from one with a body.
+#[tactic(auto, unfolding(crate::specs::Productions::class_after))]
+fn class_after(cursor: &mut Cursor<'_>, at: u32, name: Name) -> Result<Decl, Stop>
+    ensures { Reads result cursor.new (class_after at name cursor.old) }
+{
+    if cursor.is_at(Sort::Semicolon) {
+        cursor.mark(Sort::Semicolon)?;
+        return Ok(Decl::Forward { at, name });
+    }
+    class_body(cursor, at, name)
+}
+
+/// `"class" Name ";" | "class" Name ["extends" Name] "{" { Member } "}" [";"]`
+#[tactic(auto, unfolding(crate::specs::Productions::class))]
+fn class(cursor: &mut Cursor<'_>) -> Result<Decl, Stop>
+    ensures { Reads result cursor.new (class cursor.old) }
+{
+    let at = cursor.place_of(Sort::Class)?;
+    let name = name(cursor)?;
+    class_after(cursor, at, name)
+}
+
+/// `Name "::" Name Block`, behind the first name.
+#[tactic(auto, unfolding(crate::specs::Productions::rule_after))]
+fn rule_after(cursor: &mut Cursor<'_>, first: Name) -> Result<Decl, Stop>
+    ensures { Reads result cursor.new (rule_after first cursor.old) }
+{
+    cursor.mark(Sort::DoubleColon)?;
+    let predicate = name(cursor)?;
+    let body = block(cursor, MOST_NESTED)?;
+    Ok(Decl::Rule {
+        class: first,
+        predicate,
+        body,
+    })
+}
+
+fn decl_of(simple: SimpleStmt) -> Decl
+    ensures { result ≡ decl_of simple }
+{
+    match simple {
+        SimpleStmt::Variable(variable) => Decl::Variable(variable),
+        SimpleStmt::Call(call) => Decl::Call(call),
+        SimpleStmt::Ask(ask) => Decl::Ask(ask),
+    }
+}
+
+// What can stand in a file behind a name: here rules are told from the rest.
+#[tactic(auto, unfolding(crate::specs::Productions::decl_after))]
+fn decl_after(cursor: &mut Cursor<'_>, first: Name) -> Result<Decl, Stop>
+    ensures { Reads result cursor.new (decl_after first cursor.old) }
+{
+    if cursor.is_at(Sort::DoubleColon) {
+        return rule_after(cursor, first);
+    }
+    Ok(decl_of(plain_after(cursor, first)?))
+}
+
+#[tactic(auto, unfolding(crate::specs::Productions::decl_named))]
+fn decl_named(cursor: &mut Cursor<'_>) -> Result<Decl, Stop>
+    ensures { Reads result cursor.new (decl_named cursor.old) }
+{
+    let first = name(cursor)?;
+    decl_after(cursor, first)
+}
+
+/// A declaration.
+#[tactic(auto, unfolding(crate::specs::Productions::decl))]
+fn decl(cursor: &mut Cursor<'_>) -> Result<Decl, Stop>
+    ensures { Reads result cursor.new (decl cursor.old) }
+{
+    if cursor.is_at(Sort::Include) {
+        return include(cursor);
+    }
+    if cursor.is_at(Sort::Enum) {
+        return enumeration(cursor);
+    }
+    if cursor.is_at(Sort::Typedef) {
+        return typedef(cursor);
+    }
+    if cursor.is_at(Sort::Class) {
+        return class(cursor);
+    }
+    if cursor.is_at(Sort::Name) {
+        return decl_named(cursor);
+    }
+    Ok(Decl::Variable(variable(cursor)?))
+}
+
+impl Item for Decl {
+    ghost use Rattle.nddl_parser.specs.Productions.{begins_decl, decl};
+
+    ghost first = { begins_decl };
+
+    ghost reader = { decl };
+
+    fn is_first(sort: Sort) -> bool {
+        match sort {
+            Sort::Include | Sort::Enum | Sort::Typedef | Sort::Class => true,
+            _ => begins_type(sort),
+        }
+    }
+
+    fn read(cursor: &mut Cursor<'_>) -> Result<Decl, Stop> {
+        decl(cursor)
+    }
+}
+
+/// `{ Decl }`
+#[tactic(auto, unfolding(crate::specs::Productions::text))]
+pub fn text(cursor: &mut Cursor<'_>) -> Result<Sequence<Decl>, Stop>
+    ensures { Reads result cursor.new (text cursor.old) }
+{
+    list::many::<Decl>(cursor)
+}

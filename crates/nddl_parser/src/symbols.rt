@@ -1,0 +1,180 @@
+//! The symbols of lexemes: reserved words are told from names, and numbers have their values.
+
+ghost use Rattle.std.specs.Prelude.{◌≡◌, ◌++◌, ◌∷◌, [], Some, IfOk};
+ghost use Rattle.std.specs.Str.{bytes_eq};
+ghost use Rattle.nddl_lexer.specs.Spelling.{IsSpelled, IsInRange, IsString};
+ghost use Rattle.nddl_lexer.specs.Reading.{AreLexemesOf, IsLexemeOf};
+ghost use Rattle.nddl_parser.specs.Symbols.{word_sort, statement_sort, type_sort, value_sort, sort_of, Keeps, HasValue, IsSymbolOf, AreSymbols};
+
+use nddl_lexer::kinds::{LexKind, Lexeme};
+use nddl_lexer::numbers::{decimal_value, number_value};
+use nddl_reading::sort::Sort;
+use nddl_reading::symbol::Token;
+use std::alloc::{AllocError, Global};
+
+// Whether the bytes are the word.
+fn is(bytes: &[u8], word: &[u8]) -> bool
+    ensures { result ≡ bytes_eq bytes.now word.now }
+{
+    bytes == word
+}
+
+// The sort of a word: a name unless it is reserved.
+fn word_sort(bytes: &[u8]) -> Sort
+    ensures { result ≡ word_sort bytes.now }
+{
+    if is(bytes, b"class") {
+        Sort::Class
+    } else if is(bytes, b"predicate") {
+        Sort::Predicate
+    } else if is(bytes, b"enum") {
+        Sort::Enum
+    } else if is(bytes, b"typedef") {
+        Sort::Typedef
+    } else if is(bytes, b"extends") {
+        Sort::Extends
+    } else if is(bytes, b"new") {
+        Sort::New
+    } else {
+        statement_sort(bytes)
+    }
+}
+
+// The same, where the word is none with which a declaration begins.
+fn statement_sort(bytes: &[u8]) -> Sort
+    ensures { result ≡ statement_sort bytes.now }
+{
+    if is(bytes, b"if") {
+        Sort::If
+    } else if is(bytes, b"else") {
+        Sort::Else
+    } else if is(bytes, b"foreach") {
+        Sort::Foreach
+    } else if is(bytes, b"in") {
+        Sort::In
+    } else {
+        type_sort(bytes)
+    }
+}
+
+// The same, where the word is none of statements either.
+fn type_sort(bytes: &[u8]) -> Sort
+    ensures { result ≡ type_sort bytes.now }
+{
+    if is(bytes, b"int") {
+        Sort::Int
+    } else if is(bytes, b"float") {
+        Sort::Float
+    } else if is(bytes, b"bool") {
+        Sort::Bool
+    } else if is(bytes, b"string") {
+        Sort::Text
+    } else {
+        value_sort(bytes)
+    }
+}
+
+// The same, where the word is none of types either.
+fn value_sort(bytes: &[u8]) -> Sort
+    ensures { result ≡ value_sort bytes.now }
+{
+    if is(bytes, b"true") {
+        Sort::True
+    } else if is(bytes, b"false") {
+        Sort::False
+    } else if is(bytes, b"super") {
+        Sort::Super
+    } else {
+        Sort::Name
+    }
+}
+
+fn sort_of(kind: LexKind, bytes: &[u8]) -> Sort
+    ensures { result ≡ sort_of kind bytes.now }
+{
+    match kind {
+        LexKind::Word => word_sort(bytes),
+        LexKind::Number => Sort::Number,
+        LexKind::Decimal => Sort::Decimal,
+        LexKind::Str => Sort::Quoted,
+        LexKind::Include => Sort::Include,
+        LexKind::BraceOpen => Sort::BraceOpen,
+        LexKind::BraceClose => Sort::BraceClose,
+        LexKind::ParenOpen => Sort::ParenOpen,
+        LexKind::ParenClose => Sort::ParenClose,
+        LexKind::BracketOpen => Sort::BracketOpen,
+        LexKind::BracketClose => Sort::BracketClose,
+        LexKind::Semicolon => Sort::Semicolon,
+        LexKind::Comma => Sort::Comma,
+        LexKind::Point => Sort::Point,
+        LexKind::Assign => Sort::Assign,
+        LexKind::Equal => Sort::Equal,
+        LexKind::NotEqual => Sort::NotEqual,
+        LexKind::DoubleColon => Sort::DoubleColon,
+    }
+}
+
+// The value of a number, and of a decimal in thousandths; 0 of all else.
+fn value_of(kind: LexKind, bytes: &[u8]) -> i32
+    requires { IsInRange (Some kind) bytes.now }
+    ensures { HasValue kind bytes.now result }
+{
+    match kind {
+        LexKind::Number => match number_value(bytes) {
+            Some(value) => value,
+            None => unreachable!(),
+        },
+        LexKind::Decimal => match decimal_value(bytes) {
+            Some(value) => value,
+            None => unreachable!(),
+        },
+        _ => 0,
+    }
+}
+
+// The bytes, of a string without its quotes.
+fn kept(kind: LexKind, bytes: &[u8]) -> &[u8]
+    requires { IsSpelled kind bytes.now }
+    ensures { Keeps kind bytes.now result.now }
+{
+    match kind {
+        LexKind::Str => inside(bytes),
+        _ => bytes,
+    }
+}
+
+// What stands between the quotes.
+fn inside(bytes: &[u8]) -> &[u8]
+    requires { IsString bytes.now }
+    ensures { bytes.now ≡ 34 ∷ (result.now ++ 34 ∷ []) }
+{
+    &bytes[1..bytes.len() - 1]
+}
+
+// The symbol that a lexeme is.
+fn symbol_of<'a>(text: &'a [u8], lexeme: &Lexeme) -> Token<'a>
+    requires { IsLexemeOf text.now lexeme.now }
+    ensures { IsSymbolOf text.now lexeme.now result }
+{
+    let bytes = lexeme.bytes(text);
+    let sort = sort_of(lexeme.kind, bytes);
+    let value = value_of(lexeme.kind, bytes);
+    Token::new(sort, kept(lexeme.kind, bytes), value, lexeme.at)
+}
+
+/// The symbols of the lexemes of a text, in order.
+pub fn symbols_of<'a>(
+    alloc: Global,
+    text: &'a [u8],
+    lexemes: &[Lexeme],
+) -> Result<Vec<Token<'a>>, AllocError>
+    requires { AreLexemesOf text.now 0 lexemes.now }
+    ensures { IfOk result (λ symbols. AreSymbols text.now lexemes.now symbols.items) }
+{
+    let mut symbols = Vec::new(alloc);
+    for lexeme in lexemes {
+        let symbol = symbol_of(text, lexeme);
+        symbols.push(symbol)?;
+    }
+    Ok(symbols)
+}
