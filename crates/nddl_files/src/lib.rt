@@ -1,0 +1,7 @@
+// Files of the language as trees, with the files that they include.
+#![tactic(auto)]
+
+pub mod language;
+pub mod reading;
+#[cfg(test)]
+mod tests;
