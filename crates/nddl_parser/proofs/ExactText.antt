@@ -18,7 +18,7 @@ use Rattle.nddl_ast.specs.declared.declaration.Decl.TheVariants as decls
 use Rattle.nddl_ast.specs.Tree.{Braces}
 use Rattle.nddl_parser.specs.declared.statements.SimpleStmt.{SimpleStmt}
 use Rattle.nddl_parser.specs.declared.statements.SimpleStmt.TheVariants as plains
-use Rattle.nddl_parser.specs.Grammar.{IsName, IsType, IsVariable, IsBlock, IsMember, IsFile, IsParent, IsDecl, IsText, most_nested, deep_decl, deep_text}
+use Rattle.nddl_parser.specs.Grammar.{IsName, IsType, IsVariable, IsBlock, IsMember, IsFile, IsParent, IsDecl, IsText, deep_decl, deep_text}
 use Rattle.nddl_parser.specs.Productions.{begins_member, file, include, enumeration, typedef, parent, class_body, class_after, class, rule_after, decl_of, decl_after, decl_named, decl, begins_decl, text}
 use Rattle.nddl_parser.proofs.Flat.{Starts, front_starts, flat, refuses, apart, ◌>>◌, closed}
 use Rattle.nddl_parser.proofs.ExactExpressions.{name_exact, name_begins}
@@ -26,9 +26,6 @@ use Rattle.nddl_parser.proofs.ExactStatements.{aside_empty, more_bounds, type_ex
 use Rattle.nddl_parser.proofs.ExactPlain.{any, plain_to, plain_from}
 use Rattle.nddl_parser.proofs.ExactNested.{nested_exact, not_that}
 use Rattle.nddl_parser.proofs.ExactDeclarations.{member_exact, member_begins}
-
-abbrev deep_here : Decl → Option ℕ
-deep_here = deep_decl most_nested
 
 -- ---- includes, enums, typedefs
 
@@ -48,9 +45,9 @@ IncludeParts = Paired (IsPlaced sorts.Include) (Paired IsFileAt (May sorts.Semic
 abbrev include_of : ℕ × ((List ℕ × ℕ) × Unit {0}) → Decl
 include_of p = decls.Include p.0 p.1.0.0 p.1.0.1
 
-include_exact : IsExact (Image include_of IncludeParts) deep_here (is sorts.Semicolon) include
+include_exact : (left : ℕ) → IsExact (Image include_of IncludeParts) (deep_decl left) (is sorts.Semicolon) include
 unfolding include
-include_exact = image_exact deep_here include_of (place_exact sorts.Include >> file_exact >> may_mark_exact sorts.Semicolon) (λ p. refl)
+include_exact left = image_exact (deep_decl left) include_of (place_exact sorts.Include >> file_exact >> may_mark_exact sorts.Semicolon) (λ p. refl)
 
 abbrev EnumParts : ℕ × (Name × (ℕ × (List Name × (Unit {0} × Unit {0})))) → List Symbol → Type 0
 EnumParts = Paired (IsPlaced sorts.Enum) (Paired IsName (Paired (IsPlaced sorts.BraceOpen) (Paired (AreSeparated sorts.Comma IsName) (Paired (MarkOf sorts.BraceClose) (May sorts.Semicolon)))))
@@ -58,9 +55,9 @@ EnumParts = Paired (IsPlaced sorts.Enum) (Paired IsName (Paired (IsPlaced sorts.
 abbrev enum_of : ℕ × (Name × (ℕ × (List Name × (Unit {0} × Unit {0})))) → Decl
 enum_of p = decls.Enum p.0 p.1.0 p.1.1.0 p.1.1.1.0
 
-enum_exact : IsExact (Image enum_of EnumParts) deep_here (is sorts.Semicolon) enumeration
+enum_exact : (left : ℕ) → IsExact (Image enum_of EnumParts) (deep_decl left) (is sorts.Semicolon) enumeration
 unfolding enumeration same refuses
-enum_exact = image_exact deep_here enum_of
+enum_exact left = image_exact (deep_decl left) enum_of
     (place_exact sorts.Enum >> name_exact >> place_exact sorts.BraceOpen
     >> closed (flat (separated_exact sorts.Comma name_exact (λ other holds. refl))) (mark_exact sorts.BraceClose >> may_mark_exact sorts.Semicolon)
     (pair_begins (May sorts.Semicolon) (refuses (wider (is sorts.Comma) no_more)) (mark_begins sorts.BraceClose (refuses (wider (is sorts.Comma) no_more)) refl)))
@@ -72,9 +69,9 @@ TypedefParts = Paired (IsPlaced sorts.Typedef) (Paired IsType (Paired IsName (Ma
 abbrev typedef_of : ℕ × (types.Type × (Name × Unit {0})) → Decl
 typedef_of p = decls.Typedef p.0 p.1.0 p.1.1.0
 
-typedef_exact : IsExact (Image typedef_of TypedefParts) deep_here no_more typedef
+typedef_exact : (left : ℕ) → IsExact (Image typedef_of TypedefParts) (deep_decl left) no_more typedef
 unfolding typedef same refuses
-typedef_exact = image_exact deep_here typedef_of
+typedef_exact left = image_exact (deep_decl left) typedef_of
     (place_exact sorts.Typedef >> closed type_exact (name_exact >> mark_exact sorts.Semicolon) (pair_begins (MarkOf sorts.Semicolon) (refuses more_bounds) (name_begins (refuses more_bounds) refl))) (λ p. refl)
 
 -- ---- classes
@@ -104,9 +101,9 @@ BodyParts = Paired IsParent (Paired (MarkOf sorts.BraceOpen) (Paired (AreMany Is
 abbrev class_with : ℕ → Name → Option Name × (Unit {0} × (List Member × (Unit {0} × Unit {0}))) → Decl
 class_with at name p = decls.Class at name p.0 p.1.1.0
 
-class_body_exact : (at : ℕ) (name : Name) → IsExact (Image (class_with at name) BodyParts) deep_here (is sorts.Semicolon) (class_body at name)
+class_body_exact : (left at : ℕ) (name : Name) → IsExact (Image (class_with at name) BodyParts) (deep_decl left) (is sorts.Semicolon) (class_body at name)
 unfolding class_body same refuses
-class_body_exact at name = image_exact deep_here (class_with at name)
+class_body_exact left at name = image_exact (deep_decl left) (class_with at name)
     (closed parent_exact
     (mark_exact sorts.BraceOpen
     >> closed (flat (many_exact begins_member member_exact (member_begins begins_member refl refl refl refl refl refl) (not_that begins_member sorts.Semicolon refl))) (mark_exact sorts.BraceClose >> may_mark_exact sorts.Semicolon)
@@ -128,20 +125,20 @@ forward_with at name nil = decls.Forward at name
 abbrev ClassAfter : ℕ → Name → Decl → List Symbol → Type 0
 ClassAfter at name y w = Image (forward_with at name) (MarkOf sorts.Semicolon) y w ⊎ Image (class_with at name) BodyParts y w
 
-class_after_exact : (at : ℕ) (name : Name) → IsExact (ClassAfter at name) deep_here (is sorts.Semicolon) (class_after at name)
+class_after_exact : (left at : ℕ) (name : Name) → IsExact (ClassAfter at name) (deep_decl left) (is sorts.Semicolon) (class_after at name)
 unfolding class_after same refuses
-class_after_exact at name = choice_exact (is sorts.Semicolon)
-    (widened_exact (is sorts.Semicolon) (image_exact deep_here (forward_with at name) (mark_exact sorts.Semicolon) (λ x. refl)) (λ sort out. refl)) (class_body_exact at name)
+class_after_exact left at name = choice_exact (is sorts.Semicolon)
+    (widened_exact (is sorts.Semicolon) (image_exact (deep_decl left) (forward_with at name) (mark_exact sorts.Semicolon) (λ x. refl)) (λ sort out. refl)) (class_body_exact left at name)
     (image_begins (forward_with at name) (is sorts.Semicolon) (mark_begins sorts.Semicolon (is sorts.Semicolon) refl))
     (apart (Image (class_with at name) BodyParts) (is sorts.Semicolon) (is sorts.Semicolon) (λ y word h. body_begins (refuses (is sorts.Semicolon)) refl refl h.0.0 _ word h.2))
 
 abbrev Classes : Decl → List Symbol → Type 0
 Classes = Bound (IsPlaced sorts.Class) (λ at. Bound IsName (ClassAfter at))
 
-class_exact : IsExact Classes deep_here (is sorts.Semicolon) class
+class_exact : (left : ℕ) → IsExact Classes (deep_decl left) (is sorts.Semicolon) class
 unfolding class
-class_exact = bound_exact (λ at. Bound IsName (ClassAfter at)) deep_here (is sorts.Semicolon) _ (place_exact sorts.Class)
-    (λ at. bound_exact (ClassAfter at) deep_here (is sorts.Semicolon) (class_after at) name_exact (class_after_exact at) (λ name. follows_none (ClassAfter at name) (is sorts.Semicolon)))
+class_exact left = bound_exact (λ at. Bound IsName (ClassAfter at)) (deep_decl left) (is sorts.Semicolon) _ (place_exact sorts.Class)
+    (λ at. bound_exact (ClassAfter at) (deep_decl left) (is sorts.Semicolon) (class_after at) name_exact (class_after_exact left at) (λ name. follows_none (ClassAfter at name) (is sorts.Semicolon)))
     (λ at. follows_none (Bound IsName (ClassAfter at)) (is sorts.Semicolon))
 
 -- ---- behind a name
@@ -152,21 +149,21 @@ RuleParts = Paired (MarkOf sorts.DoubleColon) (Paired IsName IsBlock)
 abbrev rule_with : Name → Unit {0} × (Name × Braces) → Decl
 rule_with first p = decls.Rule first p.1.0 p.1.1
 
-rule_after_exact : (first : Name) → IsExact (Image (rule_with first) RuleParts) deep_here no_more (rule_after first)
+rule_after_exact : (left : ℕ) (first : Name) → IsExact (Image (rule_with first) RuleParts) (deep_decl left) no_more (rule_after left first)
 unfolding rule_after
-rule_after_exact first = image_exact deep_here (rule_with first) (mark_exact sorts.DoubleColon >> name_exact >> nested_exact most_nested) (λ p. refl)
+rule_after_exact left first = image_exact (deep_decl left) (rule_with first) (mark_exact sorts.DoubleColon >> name_exact >> nested_exact left) (λ p. refl)
 
-plain_flat : (y : SimpleStmt) → deep_here (decl_of y) ≡ None
-plain_flat (plains.Variable v) = refl
-plain_flat (plains.Call c) = refl
-plain_flat (plains.Ask a) = refl
+plain_flat : (left : ℕ) (y : SimpleStmt) → deep_decl left (decl_of y) ≡ None
+plain_flat left (plains.Variable v) = refl
+plain_flat left (plains.Call c) = refl
+plain_flat left (plains.Ask a) = refl
 
 abbrev DeclAfter : Name → Decl → List Symbol → Type 0
 DeclAfter first y w = Image (rule_with first) RuleParts y w ⊎ Image decl_of (PlainAfter first) y w
 
-decl_after_exact : (first : Name) → IsExact (DeclAfter first) deep_here no_more (decl_after first)
+decl_after_exact : (left : ℕ) (first : Name) → IsExact (DeclAfter first) (deep_decl left) no_more (decl_after left first)
 unfolding decl_after same refuses
-decl_after_exact first = choice_exact (is sorts.DoubleColon) (rule_after_exact first) (image_exact deep_here decl_of (plain_after_exact first) plain_flat)
+decl_after_exact left first = choice_exact (is sorts.DoubleColon) (rule_after_exact left first) (image_exact (deep_decl left) decl_of (plain_after_exact first) (plain_flat left))
     (image_begins (rule_with first) (is sorts.DoubleColon) (pair_begins (Paired IsName IsBlock) (is sorts.DoubleColon) (mark_begins sorts.DoubleColon (is sorts.DoubleColon) refl)))
     (apart (Image decl_of (PlainAfter first)) (is sorts.DoubleColon) no_more (image_begins decl_of (refuses (is sorts.DoubleColon)) (plain_after_begins (refuses (is sorts.DoubleColon)) refl refl refl refl refl first)))
 
@@ -239,17 +236,17 @@ enums_begin test holds = image_begins enum_of test (pair_begins _ test (place_be
 includes_begin : (test : Sort → Bool) → test sorts.Include ≡ true → BeginsWith (Image include_of IncludeParts) test
 includes_begin test holds = image_begins include_of test (pair_begins _ test (place_begins sorts.Include test holds))
 
-decl_exact : IsExact IsDecl deep_here (is sorts.Semicolon) decl
+decl_exact : (left : ℕ) → IsExact IsDecl (deep_decl left) (is sorts.Semicolon) (decl left)
 unfolding decl decl_named same refuses
-decl_exact = relabelled_exact IsDecl deep_here
-    (choice_exact (is sorts.Include) include_exact
-    (choice_exact (is sorts.Enum) enum_exact
-    (choice_exact (is sorts.Typedef) (widened_exact (is sorts.Semicolon) typedef_exact (λ sort out. refl))
-    (choice_exact (is sorts.Class) class_exact
+decl_exact left = relabelled_exact IsDecl (deep_decl left)
+    (choice_exact (is sorts.Include) (include_exact left)
+    (choice_exact (is sorts.Enum) (enum_exact left)
+    (choice_exact (is sorts.Typedef) (widened_exact (is sorts.Semicolon) (typedef_exact left) (λ sort out. refl))
+    (choice_exact (is sorts.Class) (class_exact left)
     (widened_exact (is sorts.Semicolon)
     (beside_exact (is sorts.Name)
-    (bound_exact DeclAfter deep_here no_more decl_after name_exact decl_after_exact (λ first. follows_none (DeclAfter first) no_more))
-    (image_exact deep_here decls.Variable variable_exact (λ x. refl))
+    (bound_exact DeclAfter (deep_decl left) no_more (decl_after left) name_exact (decl_after_exact left) (λ first. follows_none (DeclAfter first) no_more))
+    (image_exact (deep_decl left) decls.Variable variable_exact (λ x. refl))
     (bound_begins DeclAfter (is sorts.Name) (name_begins (is sorts.Name) refl))
     (λ y word after h none out. some_still (Image decls.Variable IsVariable) (is sorts.Name) any (image_begins decls.Variable any (variable_begins any refl refl refl refl refl)) y word after h none))
     (λ sort out. refl))
@@ -277,6 +274,6 @@ decl_begins y word h = elim (decls_from y word h) as (λ f. Starts begins_decl w
   | inr (inr (inr (inr g))) ↦ named_decls_begin begins_decl refl refl refl refl refl y word g
 ]
 
-pub text_exact : IsExact IsText (deep_text most_nested) (wider begins_decl (is sorts.Semicolon)) text
+pub text_exact : (left : ℕ) → IsExact IsText (deep_text left) (wider begins_decl (is sorts.Semicolon)) (text left)
 unfolding text
-text_exact = many_exact begins_decl decl_exact decl_begins (not_that begins_decl sorts.Semicolon refl)
+text_exact left = many_exact begins_decl (decl_exact left) decl_begins (not_that begins_decl sorts.Semicolon refl)

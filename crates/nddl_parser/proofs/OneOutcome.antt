@@ -1,20 +1,22 @@
 -- A text has one outcome.
-use Rattle.std.proofs.Common.{◌≡◌, ℕ, ◌+◌, ◌<◌, ◌≤◌, Option, Some, None, ◌⊎◌, inl, inr, Result, Ok, Err, List, [], ◌∷◌, ◌++◌, length, refl, sym, ap, subst, ◌∙◌, arith}
+use Rattle.std.proofs.Common.{◌≡◌, ℕ, zero, suc, ◌+◌, ◌<◌, ◌≤◌, Option, Some, None, Result, Ok, Err, List, [], ◌∷◌, ◌++◌, length, refl, sym, ap, subst, ◌∙◌, arith}
 use Rattle.nddl_lexer.specs.declared.kinds.Lexeme.{Lexeme}
 use Rattle.nddl_lexer.specs.Reading.{AreLexemesOf}
 use Rattle.nddl_lexer.proofs.Laws.{lie_in_order}
 use Rattle.nddl_reading.specs.declared.sort.Sort.TheVariants as sorts
 use Rattle.nddl_reading.specs.Symbols.{Symbol}
 use Rattle.nddl_reading.specs.Readers.{Outcome, got, stuck, deep, next_place, is}
-use Rattle.nddl_reading.specs.Exact.{Agrees, Answers}
+use Rattle.nddl_reading.specs.Exact.{Agrees, Answers, earlier}
 use Rattle.nddl_reading.proofs.Lists.{append_none, regroup}
 use Rattle.nddl_reading.proofs.Many.{wider}
 use Rattle.nddl_ast.specs.declared.declaration.Decl.{Decl}
+use Rattle.nddl_ast.specs.declared.declaration.Decl.TheVariants as decls
+use Rattle.nddl_ast.specs.Tree.{Statements, Nothing, Declares, Calls, Asks, Tests, Chooses, Repeats, count}
 use Rattle.nddl_parser.specs.declared.parse.ParseFault.{ParseFault}
 use Rattle.nddl_parser.specs.declared.parse.ParseFault.TheVariants.{Syntax, TooDeep, Memory}
 use Rattle.nddl_parser.specs.Symbols.{AreSymbols}
-use Rattle.nddl_parser.specs.Grammar.{IsText, most_nested, deep_text}
-use Rattle.nddl_parser.specs.Derives.{IsNotBefore, IsSyntax, IsTooDeep, IsOutcome, HasOneOutcome}
+use Rattle.nddl_parser.specs.Grammar.{IsText, most_nested, deep_statements, deep_decl, deep_text}
+use Rattle.nddl_parser.specs.Derives.{IsNotBefore, IsSyntax, IsTooDeep, IsOutcome, HasOneOutcome, HasOneTree}
 use Rattle.nddl_parser.specs.Productions.{text, begins_decl}
 use Rattle.nddl_parser.proofs.SymbolsOnce.{symbols_once}
 use Rattle.nddl_parser.proofs.ExactText.{text_exact}
@@ -27,16 +29,19 @@ none_is_some : {at : ℕ} {o : Option ℕ} → o ≡ None → o ≡ Some at → 
 none_is_some p q = let e = sym p ∙ q in cc
 
 -- two trees of the same symbols are one, unless a block is nested too deep in both
-same_tree : (symbols : List Symbol) (one other : List Decl) → IsText one symbols → deep_text most_nested one ≡ None → IsText other symbols
-    → (o : Outcome (List Decl)) → Answers IsText (deep_text most_nested) (wider begins_decl (is sorts.Semicolon)) symbols o → one ≡ other
-same_tree symbols one other h shallow g (got x rest) a =
+same_tree : (left : ℕ) (symbols : List Symbol) (one other : List Decl) → IsText one symbols → deep_text left one ≡ None → IsText other symbols
+    → (o : Outcome (List Decl)) → Answers IsText (deep_text left) (wider begins_decl (is sorts.Semicolon)) symbols o → one ≡ other
+same_tree left symbols one other h shallow g (got x rest) a =
     let split = agrees_self symbols a.used rest a.split in
     let again = subst (λ (l : List Symbol). Agrees l a.used rest) (sym (append_none symbols)) split in
     (a.only one symbols [] h refl again).0 ∙ sym (a.only other symbols [] g refl again).0
-same_tree symbols one other h shallow g (stuck rest) a =
+same_tree left symbols one other h shallow g (stuck rest) a =
     absurd (a.none one symbols [] h refl (subst (λ (l : List Symbol). Agrees l a.used rest) (sym (append_none symbols)) (agrees_self symbols a.used rest a.split)))
-same_tree symbols one other h shallow g (deep rest) a =
+same_tree left symbols one other h shallow g (deep rest) a =
     absurd (none_is_some shallow (a.all one symbols [] h refl (subst (λ (l : List Symbol). Agrees l a.used rest) (sym (append_none symbols)) (agrees_self symbols a.used rest a.split))))
+
+tree_once : (left : ℕ) (symbols : List Symbol) (one other : List Decl) → IsText one symbols → deep_text left one ≡ None → IsText other symbols → one ≡ other
+tree_once left symbols one other h shallow g = same_tree left symbols one other h shallow g (text left symbols) ((text_exact left).answers symbols)
 
 -- two ways to split a list: at one place, or at an earlier and a later one
 data Meet (one left other right : List Symbol) : Type 0 where
@@ -141,7 +146,7 @@ tree_or_deep : (symbols : List Symbol) (tree : List Decl) (p : ℕ) → IsText t
 tree_or_deep symbols tree p h shallow fault = none_is_some shallow (fault.all tree fault.rest (subst (IsText tree) fault.split h))
 
 same_outcome : (end : ℕ) (symbols : List Symbol) (one other : Result (List Decl) ParseFault) → AreRising end symbols → IsOutcome end symbols one → IsOutcome end symbols other → one ≡ other
-same_outcome end symbols (Ok one) (Ok other) rise h g = ap Ok (same_tree symbols one other h.0 h.1 g.0 (text symbols) (text_exact.answers symbols))
+same_outcome end symbols (Ok one) (Ok other) rise h g = ap Ok (tree_once most_nested symbols one other h.0 h.1 g.0)
 same_outcome end symbols (Ok one) (Err (Syntax q)) rise h g = absurd (tree_or_syntax end symbols one q h.0 g)
 same_outcome end symbols (Ok one) (Err (TooDeep q)) rise h g = absurd (tree_or_deep symbols one q h.0 h.1 g)
 same_outcome end symbols (Ok one) (Err Memory) rise h g = absurd g
@@ -160,3 +165,49 @@ one_outcome bytes lexemes one other lexes h g =
     let same = symbols_once bytes lexemes g.symbols h.symbols g.read h.read in
     same_outcome (length bytes) h.symbols one other (rising bytes 0 lexemes h.symbols (lie_in_order bytes lexemes lexes) h.read) h.ends
     (subst (λ (symbols : List Symbol). IsOutcome (length bytes) symbols other) same g.ends)
+
+-- ---- one tree, however deep its blocks are nested
+
+neither : (one other : Option ℕ) → one ≡ None → other ≡ None → earlier one other ≡ None
+neither one other p q = ap (λ (o : Option ℕ). earlier o other) p ∙ q
+
+-- blocks aren't nested deeper than there are statements
+statements_within : (statements : Statements) (left : ℕ) → count statements ≤ left → deep_statements statements left ≡ None
+statements_within Nothing left within = refl
+statements_within (Declares variable more) left within = statements_within more left (omega arith)
+statements_within (Calls call more) left within = statements_within more left (omega arith)
+statements_within (Asks ask more) left within = statements_within more left (omega arith)
+statements_within (Tests at guard then_at then more) zero within = absurd (omega arith)
+statements_within (Tests at guard then_at then more) (suc left) within =
+    neither (deep_statements then left) (deep_statements more (suc left)) (statements_within then left (omega arith)) (statements_within more (suc left) (omega arith))
+statements_within (Chooses at guard then_at then else_at else more) zero within = absurd (omega arith)
+statements_within (Chooses at guard then_at then else_at else more) (suc left) within =
+    neither (earlier (deep_statements then left) (deep_statements else left)) (deep_statements more (suc left))
+    (neither (deep_statements then left) (deep_statements else left) (statements_within then left (omega arith)) (statements_within else left (omega arith)))
+    (statements_within more (suc left) (omega arith))
+statements_within (Repeats at name class body_at body more) zero within = absurd (omega arith)
+statements_within (Repeats at name class body_at body more) (suc left) within =
+    neither (deep_statements body left) (deep_statements more (suc left)) (statements_within body left (omega arith)) (statements_within more (suc left) (omega arith))
+
+abbrev decl_size : Decl → ℕ
+decl_size (decls.Rule class predicate body) = count body.statements + 1
+decl_size other = 0
+
+decl_within : (decl : Decl) (left : ℕ) → decl_size decl ≤ left → deep_decl left decl ≡ None
+decl_within (decls.Rule class predicate body) zero within = absurd (omega arith)
+decl_within (decls.Rule class predicate body) (suc left) within = statements_within body.statements left (omega arith)
+decl_within other left within = refl
+
+abbrev text_size : List Decl → ℕ
+text_size [] = 0
+text_size (decl ∷ tree) = decl_size decl + text_size tree
+
+text_within : (tree : List Decl) (left : ℕ) → text_size tree ≤ left → deep_text left tree ≡ None
+text_within [] left within = refl
+text_within (decl ∷ tree) left within =
+    neither (deep_decl left decl) (deep_text left tree) (decl_within decl left (omega arith)) (text_within tree left (omega arith))
+
+pub one_tree : HasOneTree
+one_tree bytes lexemes one other h g =
+    let same = symbols_once bytes lexemes g.0 h.0 g.1 h.1 in
+    tree_once (text_size one) h.0 one other h.2 (text_within one (text_size one) (omega arith)) (subst (IsText other) same g.2)

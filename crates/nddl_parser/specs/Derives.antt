@@ -66,3 +66,7 @@ pub record Parses (text : List ℕ) (lexemes : List Lexeme) (outcome : Result (L
 abbrev pub HasOneOutcome : Type 0
 HasOneOutcome = (text : List ℕ) (lexemes : List Lexeme) (one other : Result (List Decl) ParseFault)
     → Lexes text lexemes → Parses text lexemes one → Parses text lexemes other → one ≡ other
+
+-- no lexemes derive two trees, however deep blocks are nested in them
+abbrev pub HasOneTree : Type 0
+HasOneTree = (text : List ℕ) (lexemes : List Lexeme) (one other : List Decl) → Derives text lexemes one → Derives text lexemes other → one ≡ other

@@ -38,7 +38,6 @@ use Rattle.nddl_ast.specs.declared.declaration.Decl.TheVariants as decls
 use Rattle.nddl_ast.specs.Tree.{Braces}
 use Rattle.nddl_ast.specs.Places.{stmt_place}
 use Rattle.nddl_reading.specs.Sorts.{same}
-use Rattle.nddl_parser.specs.Grammar.{most_nested}
 use Rattle.nddl_ast.specs.Block.{statements_of}
 use Rattle.nddl_parser.specs.declared.statements.SimpleStmt.{SimpleStmt}
 use Rattle.nddl_parser.specs.declared.statements.SimpleStmt.TheVariants as plains
@@ -362,27 +361,28 @@ class_after at name = choice (is sorts.Semicolon) (mapped (λ nil. decls.Forward
 unfoldable pub class : Reader Decl
 class symbols = and_then (place_of sorts.Class symbols) (λ at rest. and_then (name rest) (class_after at))
 
-unfoldable pub rule_after : Name → Reader Decl
-rule_after first = mapped (λ p. decls.Rule first p.1.0 p.1.1) (sequence (mark sorts.DoubleColon) (sequence name (block most_nested)))
+-- a rule in which so many blocks may be nested
+unfoldable pub rule_after : ℕ → Name → Reader Decl
+rule_after left first = mapped (λ p. decls.Rule first p.1.0 p.1.1) (sequence (mark sorts.DoubleColon) (sequence name (block left)))
 
 abbrev pub decl_of : SimpleStmt → Decl
 decl_of (plains.Variable variable) = decls.Variable variable
 decl_of (plains.Call call) = decls.Call call
 decl_of (plains.Ask ask) = decls.Ask ask
 
-unfoldable pub decl_after : Name → Reader Decl
-decl_after first = choice (is sorts.DoubleColon) (rule_after first) (mapped decl_of (plain_after first))
+unfoldable pub decl_after : ℕ → Name → Reader Decl
+decl_after left first = choice (is sorts.DoubleColon) (rule_after left first) (mapped decl_of (plain_after first))
 
-unfoldable pub decl_named : Reader Decl
-decl_named symbols = and_then (name symbols) decl_after
+unfoldable pub decl_named : ℕ → Reader Decl
+decl_named left symbols = and_then (name symbols) (decl_after left)
 
-unfoldable pub decl : Reader Decl
-decl =
+unfoldable pub decl : ℕ → Reader Decl
+decl left =
     choice (is sorts.Include) include
     (choice (is sorts.Enum) enumeration
     (choice (is sorts.Typedef) typedef
     (choice (is sorts.Class) class
-    (choice (is sorts.Name) decl_named (mapped decls.Variable variable)))))
+    (choice (is sorts.Name) (decl_named left) (mapped decls.Variable variable)))))
 
 abbrev pub begins_decl : Sort → Bool
 begins_decl sorts.Include = true
@@ -391,5 +391,5 @@ begins_decl sorts.Typedef = true
 begins_decl sorts.Class = true
 begins_decl other = begins_type other
 
-unfoldable pub text : Reader (List Decl)
-text = many begins_decl decl
+unfoldable pub text : ℕ → Reader (List Decl)
+text left = many begins_decl (decl left)

@@ -2,6 +2,7 @@
 
 ghost use Rattle.std.specs.Prelude.{◌≡◌};
 ghost use Rattle.nddl_reading.specs.Readers.{Reads};
+ghost use Rattle.nddl_parser.specs.Grammar.{most_nested};
 ghost use Rattle.nddl_parser.specs.Productions.{part_after, part_named, part, field_set, super_set, set_item, begins_set, predicate, constructor_after, member_after, member_named, member, begins_member, file, include, enumeration, typedef, parent, class_body, class_after, class, rule_after, decl_of, decl_after, decl_named, decl, begins_decl, text};
 
 use super::blocks::block;
@@ -312,7 +313,7 @@ fn class(cursor: &mut Cursor<'_>) -> Result<Decl, Stop>
 /// `Name "::" Name Block`, behind the first name.
 #[tactic(auto, unfolding(crate::specs::Productions::rule_after))]
 fn rule_after(cursor: &mut Cursor<'_>, first: Name) -> Result<Decl, Stop>
-    ensures { Reads result cursor.new (rule_after first cursor.old) }
+    ensures { Reads result cursor.new (rule_after most_nested first cursor.old) }
 {
     cursor.mark(Sort::DoubleColon)?;
     let predicate = name(cursor)?;
@@ -337,7 +338,7 @@ fn decl_of(simple: SimpleStmt) -> Decl
 // What can stand in a file behind a name: here rules are told from the rest.
 #[tactic(auto, unfolding(crate::specs::Productions::decl_after))]
 fn decl_after(cursor: &mut Cursor<'_>, first: Name) -> Result<Decl, Stop>
-    ensures { Reads result cursor.new (decl_after first cursor.old) }
+    ensures { Reads result cursor.new (decl_after most_nested first cursor.old) }
 {
     if cursor.is_at(Sort::DoubleColon) {
         return rule_after(cursor, first);
@@ -347,7 +348,7 @@ fn decl_after(cursor: &mut Cursor<'_>, first: Name) -> Result<Decl, Stop>
 
 #[tactic(auto, unfolding(crate::specs::Productions::decl_named))]
 fn decl_named(cursor: &mut Cursor<'_>) -> Result<Decl, Stop>
-    ensures { Reads result cursor.new (decl_named cursor.old) }
+    ensures { Reads result cursor.new (decl_named most_nested cursor.old) }
 {
     let first = name(cursor)?;
     decl_after(cursor, first)
@@ -356,7 +357,7 @@ fn decl_named(cursor: &mut Cursor<'_>) -> Result<Decl, Stop>
 /// A declaration.
 #[tactic(auto, unfolding(crate::specs::Productions::decl))]
 fn decl(cursor: &mut Cursor<'_>) -> Result<Decl, Stop>
-    ensures { Reads result cursor.new (decl cursor.old) }
+    ensures { Reads result cursor.new (decl most_nested cursor.old) }
 {
     if cursor.is_at(Sort::Include) {
         return include(cursor);
@@ -377,11 +378,12 @@ fn decl(cursor: &mut Cursor<'_>) -> Result<Decl, Stop>
 }
 
 impl Item for Decl {
+    ghost use Rattle.nddl_parser.specs.Grammar.{most_nested};
     ghost use Rattle.nddl_parser.specs.Productions.{begins_decl, decl};
 
     ghost first = { begins_decl };
 
-    ghost reader = { decl };
+    ghost reader = { decl most_nested };
 
     fn is_first(sort: Sort) -> bool {
         match sort {
@@ -398,7 +400,7 @@ impl Item for Decl {
 /// `{ Decl }`
 #[tactic(auto, unfolding(crate::specs::Productions::text))]
 pub fn text(cursor: &mut Cursor<'_>) -> Result<Sequence<Decl>, Stop>
-    ensures { Reads result cursor.new (text cursor.old) }
+    ensures { Reads result cursor.new (text most_nested cursor.old) }
 {
     list::many::<Decl>(cursor)
 }
