@@ -3,15 +3,15 @@ use Rattle.std.specs.Prelude.{◌≡◌, ℕ, ◌<◌, ◌≤◌, List, [], ◌�
 use Rattle.domain_core.specs.Domain.{Range, IsDomain, IsValue}
 use Rattle.eu_name.specs.Word.{IsName}
 use Rattle.model_core.specs.declared.model.Model.{Model}
-use Rattle.model_core.specs.declared.model.VarDecl.{VarDecl}
-use Rattle.model_core.specs.declared.model.ValueKind.TheVariants.{Int}
-use Rattle.model_core.specs.declared.model.Base.{Base}
-use Rattle.model_core.specs.declared.model.Base.TheVariants.{Given, Void}
-use Rattle.model_core.specs.declared.model.Item.{Item}
-use Rattle.model_core.specs.declared.model.Item.TheVariants.{Constraint, Relation}
-use Rattle.model_core.specs.declared.model.Kind.TheVariants.{Leq}
-use Rattle.model_core.specs.declared.model.Term.{Term}
-use Rattle.model_core.specs.declared.model.Term.TheVariants.{Lit, Global}
+use Rattle.model_core.specs.declared.variable.VarDecl.{VarDecl}
+use Rattle.model_core.specs.declared.variable.ValueKind.TheVariants.{Int}
+use Rattle.model_core.specs.declared.variable.Base.{Base}
+use Rattle.model_core.specs.declared.variable.Base.TheVariants.{Given, Void}
+use Rattle.model_core.specs.declared.item.Item.{Item}
+use Rattle.model_core.specs.declared.item.Item.TheVariants.{Constraint, Relation}
+use Rattle.model_core.specs.declared.item.Kind.TheVariants.{Leq}
+use Rattle.model_core.specs.declared.item.Term.{Term}
+use Rattle.model_core.specs.declared.item.Term.TheVariants.{Lit, Global}
 
 -- the names that the language gives to classes of its own; no file may declare them
 abbrev pub builtin_names : List (List ℕ)

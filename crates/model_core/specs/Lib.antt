@@ -1,3 +1,9 @@
 pub mod History
 pub mod Lawful
 pub mod Lookup
+pub mod Consistency
+pub mod Constraints
+pub mod Entries
+pub mod Code
+pub mod Block
+pub mod Falls

@@ -1,7 +1,7 @@
 -- Which global variable a name means.
 use Rattle.std.specs.Prelude.{ℕ, ◌+◌, List, [], ◌∷◌, Option, Some, None, if◌then◌else◌, bytes_eq}
 use Rattle.model_core.specs.declared.model.Model.{Model}
-use Rattle.model_core.specs.declared.model.VarDecl.{VarDecl}
+use Rattle.model_core.specs.declared.variable.VarDecl.{VarDecl}
 
 -- the number of the first variable of this name, counted from here on
 abbrev pub first_named : ℕ → List ℕ → List VarDecl → Option ℕ

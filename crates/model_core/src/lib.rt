@@ -1,7 +1,11 @@
 // The compiled model of a planning problem as plain lists, and the decisions that can be taken in it.
 #![tactic(auto)]
 
+pub mod class;
 pub mod decision;
+pub mod item;
 pub mod model;
+pub mod rule;
 #[cfg(test)]
 mod tests;
+pub mod variable;

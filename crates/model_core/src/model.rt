@@ -3,14 +3,24 @@
 ghost use Rattle.std.specs.Prelude.{◌≡◌, ◌<◌, ◌^◌, length, bytes_eq};
 ghost use Rattle.model_core.specs.Lookup.{global_named};
 
+use super::class::{Class, Enum, Object, Pred};
+use super::decision::Decision;
+use super::item::Item;
+use super::rule::Rule;
+use super::variable::VarDecl;
 use domain_core::domain::Dom;
-use eu_name::name::Part;
 use eu_name::sequence::Sequence;
 use eu_name::text::Text;
 
 /// A compiled problem.
 #[derive(Drop)]
 pub struct Model {
+    pub enums: Sequence<Enum>,
+    pub classes: Sequence<Class>,
+    /// The objects, in order of making.
+    pub objects: Sequence<Object>,
+    pub preds: Sequence<Pred>,
+    pub rules: Sequence<Rule>,
     pub problem: Problem,
 }
 
@@ -36,100 +46,49 @@ fn has_name(variable: &VarDecl, name: &[u8]) -> bool
     variable.name.as_bytes() == name
 }
 
-/// The variables of the file and what is asked of them.
+/// What is asked for, and within which times.
 #[derive(Drop)]
 pub struct Problem {
+    /// The horizon: the first and the last instant at which a token may start or end.
+    pub start: i32,
+    pub end: i32,
+    /// How many lists a search may visit.
+    pub steps: u32,
+    /// The tokens that are posted, by number.
+    pub roots: Sequence<Root>,
     /// The global variables, by number.
     pub globals: Sequence<VarDecl>,
     /// The constraints of the problem, in order of text.
     pub items: Sequence<Item>,
+    /// The decisions of the text, in order.
+    pub decisions: Sequence<Placed>,
 }
 
-/// A declared variable.
+/// A token that the problem posts.
 #[derive(Drop)]
-pub struct VarDecl {
-    pub name: Text,
-    pub kind: ValueKind,
-    pub base: Base,
+pub struct Root {
+    pub label: Text,
+    pub kind: RootKind,
+    pub pred: u32,
+    /// The objects that it may be on.
+    pub object: Dom,
 }
 
-/// What the values of a variable are.
+/// What a posted token has to become.
 #[derive(Clone, Copy)]
-pub enum ValueKind {
-    Int,
-    Bool,
-    /// The members of an enum, by its number.
-    Enum(u32),
-    Object,
+pub enum RootKind {
+    /// Active or merged.
+    Goal,
+    /// Active, merged or rejected.
+    Rejectable,
+    /// It takes place from the start, and nothing is decided of it.
+    Fact,
 }
 
-/// The domain that a variable's declaration gives.
+/// A decision of the text, with the file and the place of its first name.
 #[derive(Drop)]
-pub enum Base {
-    Given(Dom),
-    /// There is no value: the class of an object variable has no object.
-    Void,
-}
-
-/// What has to hold.
-#[derive(Drop)]
-pub enum Item {
-    /// The constraint holds of the values of its arguments.
-    Constraint(Kind, Sequence<Term>),
-    /// The temporal relation holds between the token of the rule and its slot of this number.
-    Relation(Rel, u32),
-}
-
-/// The kinds of constraint.
-#[derive(Clone, Copy)]
-pub enum Kind {
-    Eq,
-    Neq,
-    Lt,
-    Leq,
-    AddEq,
-    MulEq,
-    TestEq,
-    TestLeq,
-    AllDiff,
-    /// The second argument is this field of the object that is the first.
-    Field(u32),
-}
-
-/// The temporal relations between two tokens.
-#[derive(Clone, Copy)]
-pub enum Rel {
-    Any,
-    Before,
-    After,
-    Meets,
-    MetBy,
-    Equals,
-    Contains,
-    ContainedBy,
-    Starts,
-    Ends,
-    Parallels,
-    ParalleledBy,
-    StartsDuring,
-    ContainsStart,
-    EndsDuring,
-    ContainsEnd,
-}
-
-/// An argument of a constraint.
-#[derive(Clone, Copy)]
-pub enum Term {
-    /// A value as it is written.
-    Lit(i32),
-    /// A part of the token whose rule it is.
-    Here(Part),
-    /// A part of the token of a slot, by the slot's number.
-    Slot(u32, Part),
-    /// A local variable, by its number.
-    Local(u32),
-    /// A global variable, by its number.
-    Global(u32),
-    /// A part of a root token, by the root's number.
-    Root(u32, Part),
+pub struct Placed {
+    pub decision: Decision,
+    pub file: Text,
+    pub at: u32,
 }
