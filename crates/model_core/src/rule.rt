@@ -31,6 +31,22 @@ pub enum Guard {
     Differ(Term, Term),
 }
 
+/// A turn on the way to a block: the place of the branch among the entries, and which of its two blocks.
+#[derive(Clone, Copy)]
+pub struct Turn {
+    pub entry: u16,
+    pub side: Side,
+}
+
+/// One of the two blocks of a branch.
+#[derive(Clone, Copy)]
+pub enum Side {
+    /// The block that opens where the guard is true.
+    Then,
+    /// The block that opens where the guard is false.
+    Otherwise,
+}
+
 /// What stands in a block.
 #[derive(Drop)]
 #[cycle(block)]
