@@ -1,43 +1,42 @@
 -- What the decisions leave possible: the closed states, and the least of them.
-use Rattle.std.specs.Prelude.{◌≡◌, ◌<◌, List, length, slice_get, Some, Contains, ⊤}
-use Rattle.domain_core.specs.Domain.{Domain, IsWithin, IsSingle}
+use Rattle.std.specs.Prelude.{List, Contains, ⊤}
+use Rattle.domain_core.specs.Domain.{Domain, IsSingle}
+use Rattle.eu_name.specs.declared.name.TokenName.{TokenName}
 use Rattle.eu_name.specs.declared.name.VarName.{VarName}
-use Rattle.eu_name.specs.declared.name.VarName.TheVariants.{Global}
 use Rattle.model_core.specs.declared.decision.Decision.{Decision}
 use Rattle.model_core.specs.declared.decision.Decision.TheVariants.{Specify}
 use Rattle.model_core.specs.declared.model.Model.{Model}
-use Rattle.model_core.specs.declared.model.VarDecl.{VarDecl}
-use Rattle.model_core.specs.declared.model.Base.TheVariants.{Given}
-use Rattle.model_core.specs.declared.model.Item.{Item}
-use Rattle.plan_defs.specs.State.{State, Gives, IsState, IsBelow}
+use Rattle.model_core.specs.declared.variable.Base.{Base}
+use Rattle.model_core.specs.Blocks.{TokenBlock}
+use Rattle.model_core.specs.Entries.{Entries}
+use Rattle.model_core.specs.State.{State, Gives, IsState, IsBelow}
+use Rattle.model_core.specs.Variables.{HasBase, IsInBase}
+use Rattle.plan_defs.specs.Claims.{Claim, IsClaim}
 use Rattle.plan_defs.specs.Consistency.{IsConsistent}
-
--- each global is supported from the start
-abbrev pub IsSupported : Model → VarName → Type 0
-IsSupported model (Global number) = number < length model.problem.globals
-IsSupported model _ = ⊥
-
--- the declaration of the variable gives it this domain
-abbrev pub HasBase : Model → VarName → Domain → Type 0
-HasBase model (Global number) base = (variable : VarDecl) × (slice_get model.problem.globals number ≡ Some variable) × (variable.base ≡ Given base)
-HasBase model _ base = ⊥
-
--- the items that count: the constraints of the problem
-abbrev pub IsItem : Model → Item → Type 0
-IsItem model item = Contains model.problem.items item
+use Rattle.plan_defs.specs.Resources.{FitReusables, FitReservoirs}
+use Rattle.plan_defs.specs.Support.{IsSupportedToken, IsSupportedBlock}
+use Rattle.plan_defs.specs.Timelines.{FitTimelines}
 
 -- the state grants the decision: a specified variable has that value alone
 abbrev pub IsRespected : Decision → State → Type 0
 IsRespected (Specify name value) state = (domain : Domain) → Gives state name domain → IsSingle domain value
-IsRespected _ state = ⊤
+IsRespected decision state = ⊤
 
--- the state has all that is supported, within its base, grants the decisions, and all that counts is consistent
+-- each variable is within the domain that it is declared with
+abbrev pub AreInBase : Model → State → Type 0
+AreInBase model state = (name : VarName) (domain : Domain) → Gives state name domain → (base : Base) × HasBase model name base × IsInBase domain base
+
+-- the state has all that is supported, within its bases, grants the decisions, all that is claimed is consistent in it, and timelines and resources fit
 pub record IsClosed (model : Model) (decisions : List Decision) (state : State) : Type 0 where
   pub is_state : IsState model state
-  pub supported : (name : VarName) → IsSupported model name → (domain : Domain) × Gives state name domain
-  pub in_base : (name : VarName) (domain : Domain) → Gives state name domain → (base : Domain) × HasBase model name base × IsWithin domain base
+  pub tokens : (token : TokenName) → IsSupportedToken model decisions state token → Contains state.tokens token
+  pub blocks : (block : TokenBlock) (entries : Entries) → IsSupportedBlock model decisions state block entries → Contains state.blocks block
+  pub in_base : AreInBase model state
   pub respected : (decision : Decision) → Contains decisions decision → IsRespected decision state
-  pub consistent : (item : Item) → IsItem model item → IsConsistent item state
+  pub consistent : (claim : Claim) → IsClaim model decisions state claim → IsConsistent model state claim
+  pub timelines : FitTimelines model decisions state
+  pub reusables : FitReusables model decisions state
+  pub reservoirs : FitReservoirs model decisions state
 
 -- the closed state that every closed state is below
 pub record IsLeast (model : Model) (decisions : List Decision) (state : State) : Type 0 where

@@ -1,11 +1,21 @@
 -- Which histories come about.
-use Rattle.std.specs.Prelude.{◌≡◌, [], ◌∷◌}
-use Rattle.model_core.specs.History.{History}
+use Rattle.std.specs.Prelude.{◌≡◌, List, [], ◌∷◌, ◌++◌, ◌⊎◌}
+use Rattle.model_core.specs.declared.decision.Decision.{Decision}
 use Rattle.model_core.specs.declared.model.Model.{Model}
-use Rattle.plan_defs.specs.Decisions.{IsSettled}
+use Rattle.model_core.specs.History.{History}
+use Rattle.plan_defs.specs.Refusals.{IsAdmissible}
+use Rattle.plan_defs.specs.Settling.{Settles}
 
--- at the bottom nothing is decided, and each list above it is settled
+-- the list has one admissible decision more
+abbrev pub Accepts : Model → List Decision → List Decision → Type 0
+Accepts model below list = (decision : Decision) × IsAdmissible model below decision × (list ≡ below ++ decision ∷ [])
+
+-- one decision was taken out, and the rest settled
+abbrev pub TakesOut : Model → List Decision → List Decision → Type 0
+TakesOut model below list = (front : List Decision) × ((decision : Decision) × ((back : List Decision) × ((below ≡ front ++ decision ∷ back) × Settles model (front ++ back) list)))
+
+-- at the bottom nothing is decided, and each list comes of the one below it by a decision or by taking one out
 abbrev pub IsHistory : Model → History → Type 0
 IsHistory model [] = ⊥
 IsHistory model (decisions ∷ []) = decisions ≡ []
-IsHistory model (decisions ∷ below ∷ former) = IsSettled model decisions × IsHistory model (below ∷ former)
+IsHistory model (decisions ∷ below ∷ former) = (Accepts model below decisions ⊎ TakesOut model below decisions) × IsHistory model (below ∷ former)

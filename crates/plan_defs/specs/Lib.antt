@@ -1,6 +1,12 @@
-pub mod State
+pub mod Decided
+pub mod Terms
+pub mod Support
+pub mod Claims
 pub mod Consistency
+pub mod Timelines
+pub mod Resources
 pub mod Closure
-pub mod Decisions
+pub mod Refusals
+pub mod Settling
 pub mod History
 pub mod Steps

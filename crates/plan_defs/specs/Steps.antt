@@ -4,7 +4,7 @@ use Rattle.domain_core.specs.Domain.{slack}
 use Rattle.domain_core.specs.declared.Change.{Change}
 use Rattle.domain_core.specs.declared.Change.TheVariants.{Same, Smaller, Empty}
 use Rattle.model_core.specs.declared.model.Model.{Model}
-use Rattle.plan_defs.specs.State.{State, IsState, IsBelow}
+use Rattle.model_core.specs.State.{State, IsState, IsBelow}
 
 -- how far the state is from single values; it falls whenever a value goes
 abbrev pub slack_of : State → ℕ

@@ -1,4 +1,0 @@
-pub mod Members
-pub mod States
-pub mod Advancing
-pub mod Settling
