@@ -1,5 +1,5 @@
 -- One step towards the least state, and any number of them: nothing that fits is lost.
-use Rattle.std.specs.Prelude.{◌≡◌, ℕ, ◌<◌, List, Some, slice_get, sum_by}
+use Rattle.std.specs.Prelude.{◌≡◌, ℕ, ◌<◌, List, [], ◌∷◌, Some, slice_get, sum_by, ⊤}
 use Rattle.domain_core.specs.Domain.{slack}
 use Rattle.domain_core.specs.declared.Change.{Change}
 use Rattle.domain_core.specs.declared.Change.TheVariants.{Same, Smaller, Empty}
@@ -25,3 +25,13 @@ AdvancesTo model fits old Empty new = (other : State) → IsState model other �
 -- each of the first n items fits the state
 abbrev pub FitsBefore : {X : Type 0} → (X → State → Type 0) → List X → ℕ → State → Type 0
 FitsBefore {X} fits items n state = (k : ℕ) (item : X) → k < n → slice_get items k ≡ Some item → fits item state
+
+-- each state comes of the one before it by a step
+abbrev pub AreSteps : Model → (State → Type 0) → State → List State → Type 0
+AreSteps model fits state [] = ⊤
+AreSteps model fits state (next ∷ states) = Advances model fits state next × AreSteps model fits next states
+
+-- where the steps lead to
+abbrev pub last_of : State → List State → State
+last_of state [] = state
+last_of state (next ∷ states) = last_of next states
