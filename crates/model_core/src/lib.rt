@@ -9,3 +9,4 @@ pub mod rule;
 #[cfg(test)]
 mod tests;
 pub mod variable;
+pub mod view;
