@@ -25,7 +25,7 @@ grants model decision domains new number value change is meets =
     (λ other ok below fit domain gives v has. let same = (fit domain gives).only v has in (omega (arith, ints, same), omega (arith, ints, same)))
     change new meets
     (λ all ok domain gives.
-    let before_is : meets.before ≡ domain = gives_same model (state_of domains) ok _ meets.before domain (gives_at domains number meets.before meets.at) gives in
+    let before_is : meets.before ≡ domain = gives_same (state_of domains) ok.order _ meets.before domain (gives_at domains number meets.before meets.at) gives in
     let one : (v : ℤ) → Has domain v → v ≡ value = λ v has. let ends = all v (subst (λ d. Has d v) (sym before_is) has) in omega (arith, ints, ends.0, ends.1) in
     let some = has_least domain (gives_domain model (state_of domains) ok _ domain gives) in
     record { has = subst (Has domain) (one (least domain) some) some; only = one }))

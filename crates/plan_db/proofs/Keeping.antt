@@ -1,5 +1,5 @@
 -- What the database keeps, through its calls.
-use Rattle.std.proofs.Common.{◌≡◌, get_or, List, [], ◌∷◌, ◌++◌, length, Option, Some, None, Ok, Err, Vec, refl, sym, ap, ◌∙◌, subst, arith}
+use Rattle.std.proofs.Common.{◌≡◌, get_or, List, [], ◌∷◌, ◌++◌, length, Option, Some, None, Ok, Err, Vec, inl, refl, sym, ap, ◌∙◌, subst, arith}
 use Rattle.std.specs.Prelude.{MatchOption, MatchBool, is_some, ◌<◌, ◌≤◌, ℕ}
 use Rattle.std.specs.declared.alloc.Global.{Global as Global_allocator}
 use Rattle.domain_core.specs.Domain.{Domain}
@@ -10,11 +10,10 @@ use Rattle.eu_name.specs.declared.name.VarName.{VarName}
 use Rattle.eu_name.specs.declared.name.VarName.TheVariants.{Global}
 use Rattle.std.proofs.lemmas.Option.{slice_get_read}
 use Rattle.plan_defs.proofs.Members.{get_below}
-use Rattle.plan_defs.specs.State.{State, Gives}
+use Rattle.model_core.specs.State.{State, Gives}
 use Rattle.plan_defs.specs.Closure.{IsLeast, IsCollapsed}
-use Rattle.plan_defs.specs.Decisions.{IsAdmissible, IsSettled}
+use Rattle.plan_defs.specs.Refusals.{IsAdmissible}
 use Rattle.plan_defs.specs.History.{IsHistory}
-use Rattle.plan_defs.proofs.Settling.{IsSettled-push}
 use Rattle.plan_db.specs.declared.fault.DbFault.{DbFault}
 use Rattle.plan_db.specs.declared.fault.DbFault.TheVariants.{InInconsistent, Unknown, Decided, NotInDomain, Nothing, Memory}
 use Rattle.plan_db.specs.Kept.{IsKept, state_of, outcome_where}
@@ -22,17 +21,10 @@ use Rattle.plan_db.specs.Database.{Database, OutcomeIs, Applies, Finds, HasLeast
 use Rattle.decision_log.specs.Undoing.{Pops}
 use Rattle.plan_db.proofs.Positions.{gives_at, given_at, number_same}
 
--- the list that stands is settled
-pub standing_settled : (model : Model) (history : History) → IsHistory model history → IsSettled model (standing history)
-standing_settled model [] is = absurd is
-standing_settled model (decisions ∷ []) is = subst (IsSettled model) (sym is) refl
-standing_settled model (decisions ∷ below ∷ former) is = is.0
-
 -- a further decision that is admissible makes a history
 pub IsHistory-accepted : (model : Model) (history : History) (decision : Decision) → IsHistory model history → IsAdmissible model (standing history) decision → IsHistory model (accepted history decision)
 IsHistory-accepted model [] decision is admissible = absurd is
-IsHistory-accepted model (decisions ∷ former) decision is admissible =
-    (IsSettled-push model decisions decision (standing_settled model (decisions ∷ former) is) admissible, is)
+IsHistory-accepted model (decisions ∷ former) decision is admissible = (inl (decision, admissible, refl), is)
 
 -- a history of one list is the first
 pub first_history : (model : Model) (history : History) → IsHistory model history → length history ≡ 1 → history ≡ [] ∷ []
@@ -56,15 +48,15 @@ outcome_is database (Some domains) least = (state_of domains.items, least)
 -- a reason that the tests find in the least state is why the decision is refused
 pub refused : (database : Database) (decision : Decision) (state : State) (fault : DbFault) → HasLeast database state → Finds database.model (standing database.history) state decision (Err fault) → Applies database decision (Err fault) database
 refused database decision state InInconsistent least finds = absurd finds
-refused database decision state Unknown least finds = (refl, record { state = state; least = least; first = finds })
-refused database decision state Decided least finds = (refl, record { state = state; least = least; first = finds })
-refused database decision state NotInDomain least finds = (refl, record { state = state; least = least; first = finds })
+refused database decision state Unknown least finds = (refl, record { state = state; least = least; refusal = finds })
+refused database decision state Decided least finds = (refl, record { state = state; least = least; refusal = finds })
+refused database decision state NotInDomain least finds = (refl, record { state = state; least = least; refusal = finds })
 refused database decision state Nothing least finds = absurd finds
 refused database decision state Memory least finds = absurd finds
 
 -- and where they find none it is admissible
 pub admissible : (database : Database) (decision : Decision) (state : State) → HasLeast database state → Finds database.model (standing database.history) state decision (Ok tt) → IsAdmissible database.model (standing database.history) decision
-admissible database decision state least finds = record { state = state; least = least; known = finds.0; undecided = finds.1; in_base = finds.2 }
+admissible database decision state least finds = record { state = state; least = least; free = finds }
 
 -- whether the kept state is there says whether the decisions leave something
 pub consistent_kept : (database : Database) (kept : Option (Vec Domain Global_allocator)) → IsKept database.model database.history kept → MatchBool (is_some kept) ((state : State) × HasLeast database state) (HasCollapsed database)
@@ -92,6 +84,12 @@ pub standing_below : (old new : History) (former : List Decision) (below : Histo
 standing_below old new former below copied undone =
     let rest : former ∷ below ≡ new = cc in
     ap standing (sym rest)
+
+-- what lies below the list that undo takes off is a history
+pub IsHistory-below : (model : Model) (old new : History) (former : List Decision) (below : History) → IsHistory model old → old ≡ standing old ∷ former ∷ below → old ≡ standing old ∷ new → IsHistory model new
+IsHistory-below model old new former below is copied undone =
+    let rest : former ∷ below ≡ new = cc in
+    subst (IsHistory model) rest (subst (IsHistory model) copied is).1
 
 -- what was pushed last is what is popped
 pub pop_after_push : (before pushed popped : History) (decision : Decision) (last : Option Decision) → pushed ≡ accepted before decision → Pops pushed last popped → popped ≡ before

@@ -1,3 +1,4 @@
+pub mod Tokenless
 pub mod Positions
 pub mod Narrowed
 pub mod LeqSteps

@@ -1,17 +1,20 @@
 -- The state that a list of domains is.
 use Rattle.std.proofs.Common.{◌≡◌, ℕ, suc, zero, ◌+◌, ◌<◌, List, [], ◌∷◌, length, set, get_or, Some, refl, sym, ap, ◌∙◌, subst, ⊎_elim, arith}
-use Rattle.std.specs.Prelude.{slice_get, map, sum_by}
-use Rattle.std.proofs.lemmas.Bool.{cases_eq}
+use Rattle.std.specs.Prelude.{slice_get, sum_by, AllPairs}
+use Rattle.std.proofs.lemmas.Bool.{cases_eq, cases_lt}
 use Rattle.std.proofs.lemmas.List.Sums.{sum_by-set}
 use Rattle.std.proofs.lemmas.Option.{get_or_from_slice_get}
 use Rattle.domain_core.specs.Domain.{Domain, IsDomain, IsWithin, slack}
 use Rattle.domain_core.proofs.Words.{IsWithin-refl}
 use Rattle.eu_name.specs.declared.name.VarName.{VarName}
-use Rattle.eu_name.specs.declared.name.VarName.TheVariants.{Global}
+use Rattle.eu_name.specs.declared.name.VarName.TheVariants.{Global, Token, Local}
+use Rattle.eu_name.specs.NameOrder.{IsVarBefore}
 use Rattle.model_core.specs.declared.model.Model.{Model}
-use Rattle.plan_defs.specs.State.{Entry, Gives, IsState, IsBelow}
+use Rattle.model_core.specs.State.{Entry, Gives, IsAbout, IsState, IsBelow}
 use Rattle.plan_defs.specs.Steps.{slack_of}
-use Rattle.plan_defs.proofs.Members.{get_from_contains, get_below, contains_from_get, get_within, get_all, get_same, all_from_get}
+use Rattle.plan_defs.proofs.Members.{get_from_contains, get_below, contains_from_get, get_within, get_same, all_from_get}
+use Rattle.plan_defs.proofs.Ordered.{contains_none}
+use Rattle.plan_defs.proofs.States.{gives_domain}
 use Rattle.plan_db.specs.Kept.{entries_from, state_of}
 
 -- ---- reading after a write
@@ -49,14 +52,6 @@ pub length-entries_from : (number : ℕ) (domains : List Domain) → length (ent
 length-entries_from number [] = refl
 length-entries_from number (first ∷ domains) = ap suc (length-entries_from (number + 1) domains)
 
--- the names say nothing of the domains
-pub names-entries_from : (number : ℕ) (domains others : List Domain) → length domains ≡ length others
-    → map (λ (entry : Entry). entry.name) (entries_from number domains) ≡ map (λ (entry : Entry). entry.name) (entries_from number others)
-names-entries_from number [] [] e = refl
-names-entries_from number [] (other ∷ others) e = absurd (omega arith)
-names-entries_from number (first ∷ domains) [] e = absurd (omega arith)
-names-entries_from number (first ∷ domains) (other ∷ others) e = ap (λ names. Global number ∷ names) (names-entries_from (number + 1) domains others (omega arith))
-
 -- the state gives each global its domain
 pub gives_at : (domains : List Domain) (k : ℕ) (domain : Domain) → slice_get domains k ≡ Some domain → Gives (state_of domains) (Global k) domain
 gives_at domains k domain e =
@@ -84,6 +79,68 @@ given_at domains name domain gives =
 pub number_same : (one other : ℕ) → Global one ≡ Global other → one ≡ other
 number_same one other e = cc
 
+-- ---- which domains are a state of the model
+
+-- the entries are in order
+ordered : (domains : List Domain) → AllPairs (λ (one later : Entry). IsVarBefore one.name later.name) (entries_from 0 domains)
+ordered domains i j d less within =
+    let j_within : j < length domains = subst (λ n. j < n) (length-entries_from 0 domains) within in
+    let first = get_within domains i (omega arith) in
+    let second = get_within domains j j_within in
+    let one = get_or_from_slice_get (entries_from 0 domains) i _ d (get-entries_from 0 domains i first.0 first.1) in
+    let later = get_or_from_slice_get (entries_from 0 domains) j _ d (get-entries_from 0 domains j second.0 second.1) in
+    subst (λ (entry : Entry). IsVarBefore entry.name (get_or (entries_from 0 domains) j d).name) (sym one)
+    (subst (λ (entry : Entry). IsVarBefore (Global (0 + i)) entry.name) (sym later) (omega arith))
+
+-- so many domains as the model has globals
+pub are_state : (model : Model) (domains : List Domain) → length domains ≡ length model.problem.globals
+    → ((k : ℕ) (domain : Domain) → slice_get domains k ≡ Some domain → IsDomain domain) → IsState model (state_of domains)
+are_state model domains count each = record {
+  order = record { tokens = λ i j d less within. absurd (omega arith); blocks = λ i j d less within. absurd (omega arith); entries = ordered domains };
+  tokens = λ k d within. absurd (omega arith);
+  blocks = λ k d within. absurd (omega arith);
+  variables = λ name. (given name, about name);
+  domains = all_from_get (λ (entry : Entry). IsDomain entry.domain) (entries_from 0 domains) (λ j entry e.
+      let stands = given_at domains entry.name entry.domain (contains_from_get (entries_from 0 domains) j entry e) in
+      each stands.place entry.domain stands.at);
+}
+  where
+    given : (name : VarName) → IsAbout model (state_of domains) name → (domain : Domain) × Gives (state_of domains) name domain
+    given (Global number) within = let found = get_within domains number (subst (λ n. number < n) (sym count) within) in (found.0, gives_at domains number found.0 found.1)
+    given (Token token part) is = absurd (contains_none token is.0)
+    given (Local token rule number) is = absurd (contains_none is.0 is.1.0)
+
+    about : (name : VarName) → (domain : Domain) × Gives (state_of domains) name domain → IsAbout model (state_of domains) name
+    about (Global number) has =
+        let stands = given_at domains (Global number) has.0 has.1 in
+        let same = number_same number stands.place stands.is_global in
+        omega (arith, same, count, get_below domains stands.place has.0 stands.at)
+    about (Token token part) has = let stands = given_at domains (Token token part) has.0 has.1 in absurd (let e = stands.is_global in cc)
+    about (Local token rule number) has = let stands = given_at domains (Local token rule number) has.0 has.1 in absurd (let e = stands.is_global in cc)
+
+-- two numbers with the same smaller numbers are one
+same_bounds : (m n : ℕ) → ((k : ℕ) → k < m → k < n) → ((k : ℕ) → k < n → k < m) → m ≡ n
+same_bounds m n into back =
+    ⊎_elim
+    (λ less. absurd (omega (arith, back m less)))
+    (λ no_less. ⊎_elim (λ less. absurd (omega (arith, into n less))) (λ no_more. omega arith) (cases_lt n m))
+    (cases_lt m n)
+
+module _ (model : Model) (domains : List Domain) (ok : IsState model (state_of domains)) where
+  -- a state has as many domains as the model has globals
+  pub count_of_state : length domains ≡ length model.problem.globals
+  count_of_state = same_bounds (length domains) (length model.problem.globals) into back
+    where
+      into : (k : ℕ) → k < length domains → k < length model.problem.globals
+      into k within = let found = get_within domains k within in (ok.variables (Global k)).1 (found.0, gives_at domains k found.0 found.1)
+
+      back : (k : ℕ) → k < length model.problem.globals → k < length domains
+      back k within =
+          let given = (ok.variables (Global k)).0 within in
+          let stands = given_at domains (Global k) given.0 given.1 in
+          let same = number_same k stands.place stands.is_global in
+          omega (arith, same, get_below domains stands.place given.0 stands.at)
+
 -- ---- a write makes the state smaller
 
 pub length-set_domains : (domains : List Domain) (k : ℕ) (domain : Domain) → length (set domains k domain) ≡ length domains
@@ -93,32 +150,33 @@ length-set_domains (first ∷ domains) (suc k) domain = ap suc (length-set_domai
 
 module _ (domains : List Domain) (k : ℕ) (before after : Domain) (at : slice_get domains k ≡ Some before) where
   pub IsBelow-set : IsWithin after before → IsBelow (state_of domains) (state_of (set domains k after))
-  IsBelow-set within = λ name domain gives.
-      let stands = given_at domains name domain gives in
-      ⊎_elim
-      (λ same.
-      let here : before ≡ domain = get_same domains k before domain at (subst (λ n. slice_get domains n ≡ Some domain) same stands.at) in
-      let named : Global k ≡ name = sym (stands.is_global ∙ ap Global same) in
-      (after, subst (λ n. Gives (state_of (set domains k after)) n after) named (gives_at (set domains k after) k after (get-set_same domains k before after at)), subst (IsWithin after) here within))
-      (λ apart.
-      let there = get-set_other domains k stands.place after apart ∙ stands.at in
-      (domain, subst (λ n. Gives (state_of (set domains k after)) n domain) (sym stands.is_global) (gives_at (set domains k after) stands.place domain there), IsWithin-refl domain))
-      (cases_eq stands.place k)
-
-  pub IsState-set : (model : Model) → IsDomain after → IsState model (state_of domains) → IsState model (state_of (set domains k after))
-  IsState-set model is_domain ok = record {
-    variables = names-entries_from 0 (set domains k after) domains (length-set_domains domains k after) ∙ ok.variables;
-    domains = all_from_get (λ (entry : Entry). IsDomain entry.domain) (entries_from 0 (set domains k after)) (λ j entry e.
-        let stands = given_at (set domains k after) entry.name entry.domain (contains_from_get (entries_from 0 (set domains k after)) j entry e) in
+  IsBelow-set within = record {
+    tokens = λ token there. there;
+    blocks = λ block there. there;
+    variables = λ name domain gives.
+        let stands = given_at domains name domain gives in
         ⊎_elim
         (λ same.
-        let here : after ≡ entry.domain = get_same (set domains k after) k _ _ (get-set_same domains k before after at) (subst (λ n. slice_get (set domains k after) n ≡ Some entry.domain) same stands.at) in
-        subst IsDomain here is_domain)
+        let here : before ≡ domain = get_same domains k before domain at (subst (λ n. slice_get domains n ≡ Some domain) same stands.at) in
+        let named : Global k ≡ name = sym (stands.is_global ∙ ap Global same) in
+        (after, subst (λ n. Gives (state_of (set domains k after)) n after) named (gives_at (set domains k after) k after (get-set_same domains k before after at)), subst (IsWithin after) here within))
         (λ apart.
-        let there : slice_get domains stands.place ≡ Some entry.domain = sym (get-set_other domains k stands.place after apart) ∙ stands.at in
-        get_all (λ (other : Entry). IsDomain other.domain) (entries_from 0 domains) stands.place _ ok.domains (get-entries_from 0 domains stands.place entry.domain there))
-        (cases_eq stands.place k));
+        let there = get-set_other domains k stands.place after apart ∙ stands.at in
+        (domain, subst (λ n. Gives (state_of (set domains k after)) n domain) (sym stands.is_global) (gives_at (set domains k after) stands.place domain there), IsWithin-refl domain))
+        (cases_eq stands.place k);
   }
+
+  pub IsState-set : (model : Model) → IsDomain after → IsState model (state_of domains) → IsState model (state_of (set domains k after))
+  IsState-set model is_domain ok =
+      are_state model (set domains k after) (length-set_domains domains k after ∙ count_of_state model domains ok) (λ j domain e.
+      ⊎_elim
+      (λ same.
+      let here : after ≡ domain = get_same (set domains k after) k _ _ (get-set_same domains k before after at) (subst (λ n. slice_get (set domains k after) n ≡ Some domain) same e) in
+      subst IsDomain here is_domain)
+      (λ apart.
+      let there : slice_get domains j ≡ Some domain = sym (get-set_other domains k j after apart) ∙ e in
+      gives_domain model (state_of domains) ok (Global j) domain (gives_at domains j domain there))
+      (cases_eq j k))
 
 entries_from-set : (number : ℕ) (domains : List Domain) (k : ℕ) (after : Domain) → entries_from number (set domains k after) ≡ set (entries_from number domains) k (record { name = Global (number + k); domain = after })
 entries_from-set number [] k after = refl

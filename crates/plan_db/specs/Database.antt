@@ -6,9 +6,9 @@ use Rattle.model_core.specs.declared.decision.Decision.{Decision}
 use Rattle.model_core.specs.declared.model.Model.{Model}
 use Rattle.model_core.specs.History.{History, standing, accepted}
 use Rattle.model_core.specs.Lawful.{IsLawful, IsBuilt}
-use Rattle.plan_defs.specs.State.{State, Gives}
+use Rattle.model_core.specs.State.{State, Gives}
 use Rattle.plan_defs.specs.Closure.{IsLeast, IsCollapsed}
-use Rattle.plan_defs.specs.Decisions.{Refusal, Unknown, Decided, NotInDomain, IsKnown, IsDecided, IsInBase, IsFirstRefusal, IsRefused, IsAdmissible}
+use Rattle.plan_defs.specs.Refusals.{Refusal, Unknown, Decided, NotInDomain, Hinders, IsFirstRefusal, IsRefused, IsAdmissible}
 use Rattle.plan_defs.specs.History.{IsHistory}
 use Rattle.plan_db.specs.declared.fault.Outcome.{Outcome}
 use Rattle.plan_db.specs.declared.fault.Outcome.TheVariants.{Consistent, Inconsistent}
@@ -76,7 +76,7 @@ IsUntold database name query.Unknown = (state : State) × HasLeast database stat
 
 -- what the tests of a decision in the least state find
 abbrev pub Finds : Model → List Decision → State → Decision → Result (Unit {0}) DbFault → Type 0
-Finds model decisions state decision (Ok done) = IsKnown state decision × (¬ IsDecided decisions decision) × IsInBase model decision
+Finds model decisions state decision (Ok done) = (reason : Refusal) → Hinders model decisions state reason decision → ⊥
 Finds model decisions state decision (Err fault.Unknown) = IsFirstRefusal model decisions state decision Unknown
 Finds model decisions state decision (Err fault.Decided) = IsFirstRefusal model decisions state decision Decided
 Finds model decisions state decision (Err fault.NotInDomain) = IsFirstRefusal model decisions state decision NotInDomain

@@ -3,22 +3,27 @@ use Rattle.std.specs.Prelude.{◌≡◌, ℕ, ◌+◌, ◌<◌, ◌≤◌, ℤ, 
 use Rattle.domain_core.specs.Domain.{Domain, IsDomain, least, greatest}
 use Rattle.domain_core.specs.Narrowing.{Keeps}
 use Rattle.domain_core.specs.declared.Change.{Change}
+use Rattle.eu_name.specs.declared.name.TokenName.{TokenName}
 use Rattle.eu_name.specs.declared.name.VarName.TheVariants.{Global}
 use Rattle.model_core.specs.declared.decision.Decision.{Decision}
-use Rattle.model_core.specs.declared.model.Item.{Item}
-use Rattle.model_core.specs.declared.model.Item.TheVariants.{Constraint}
-use Rattle.model_core.specs.declared.model.Kind.TheVariants.{Leq}
+use Rattle.model_core.specs.declared.decision.Decision.TheVariants.{Order}
+use Rattle.model_core.specs.declared.item.Item.{Item}
+use Rattle.model_core.specs.declared.item.Item.TheVariants.{Constraint}
+use Rattle.model_core.specs.declared.item.Kind.TheVariants.{Leq}
+use Rattle.model_core.specs.declared.item.Term.TheVariants as term
 use Rattle.model_core.specs.declared.model.Model.{Model}
-use Rattle.model_core.specs.declared.model.Base.{Base}
-use Rattle.model_core.specs.declared.model.Base.TheVariants.{Given}
-use Rattle.model_core.specs.declared.model.Term.TheVariants as term
-use Rattle.plan_defs.specs.State.{State, Entry, Gives, IsState, IsBelow}
-use Rattle.plan_defs.specs.Steps.{slack_of, Advances}
-use Rattle.plan_defs.specs.Consistency.{IsConsistent}
+use Rattle.model_core.specs.declared.variable.Base.{Base}
+use Rattle.model_core.specs.declared.variable.Base.TheVariants.{Given}
 use Rattle.model_core.specs.History.{History, standing}
 use Rattle.model_core.specs.Lawful.{IsLawful, IsBuilt}
-use Rattle.plan_defs.specs.Closure.{HasBase, IsRespected, IsLeast, IsCollapsed}
+use Rattle.model_core.specs.State.{State, Entry, Gives, IsState, IsBelow}
+use Rattle.model_core.specs.Variables.{HasBase}
+use Rattle.plan_defs.specs.Claims.{Claim, Says}
+use Rattle.plan_defs.specs.Closure.{IsRespected, IsLeast, IsCollapsed}
+use Rattle.plan_defs.specs.Consistency.{IsConsistent}
 use Rattle.plan_defs.specs.History.{IsHistory}
+use Rattle.plan_defs.specs.Steps.{slack_of, Advances}
+use Rattle.plan_defs.specs.Terms.{OfProblem}
 use Rattle.plan_db.specs.declared.fault.Outcome.{Outcome}
 use Rattle.plan_db.specs.declared.fault.Outcome.TheVariants.{Consistent, Inconsistent}
 use Rattle.std.specs.declared.alloc.Global.{Global as Global_allocator}
@@ -28,9 +33,9 @@ abbrev pub entries_from : ℕ → List Domain → List Entry
 entries_from number [] = []
 entries_from number (domain ∷ domains) = record { name = Global number; domain = domain } ∷ entries_from (number + 1) domains
 
--- the state that these domains are
+-- the state that these domains are: the globals, and no tokens
 abbrev pub state_of : List Domain → State
-state_of domains = record { entries = entries_from 0 domains }
+state_of domains = record { tokens = []; blocks = []; entries = entries_from 0 domains }
 
 -- the base gives a domain
 abbrev pub IsGiven : Base → Type 0
@@ -39,7 +44,7 @@ IsGiven base = (domain : Domain) × (base ≡ Given domain)
 -- each global has its base
 pub record AreBases (model : Model) (domains : List Domain) : Type 0 where
   pub count : length domains ≡ length model.problem.globals
-  pub each : (k : ℕ) (domain : Domain) → slice_get domains k ≡ Some domain → HasBase model (Global k) domain
+  pub each : (k : ℕ) (domain : Domain) → slice_get domains k ≡ Some domain → HasBase model (Global k) (Given domain)
 
 -- one domain was met with a range, the others stay
 pub record MeetsAt (old : List Domain) (place : ℕ) (lo hi : ℤ) (change : Change) (new : List Domain) : Type 0 where
@@ -70,14 +75,22 @@ GreatestInOrder first second state = (one other : Domain) → Gives state (Globa
 abbrev pub LeastInOrder : ℕ → ℕ → State → Type 0
 LeastInOrder first second state = (one other : Domain) → Gives state (Global first) one → Gives state (Global second) other → least one ≤ℤ least other
 
--- the decisions are granted and the items consistent
-pub record Fits (decisions : List Decision) (items : List Item) (state : State) : Type 0 where
-  pub respected : (decision : Decision) → Contains decisions decision → IsRespected decision state
-  pub consistent : (item : Item) → Contains items item → IsConsistent item state
+-- some decision is an order
+abbrev pub HasOrder : List Decision → Type 0
+HasOrder decisions = (one other : TokenName) × Contains decisions (Order one other)
+
+-- what the item says in the problem is consistent
+abbrev pub IsItemConsistent : Model → List Decision → Item → State → Type 0
+IsItemConsistent model decisions item state = (claim : Claim) → Says model decisions OfProblem item claim → IsConsistent model state claim
 
 -- all items are consistent
-abbrev pub FitsAll : List Item → State → Type 0
-FitsAll items state = (item : Item) → Contains items item → IsConsistent item state
+abbrev pub FitsAll : Model → List Decision → List Item → State → Type 0
+FitsAll model decisions items state = (item : Item) → Contains items item → IsItemConsistent model decisions item state
+
+-- the decisions are granted and the items consistent
+pub record Fits (model : Model) (decisions : List Decision) (items : List Item) (state : State) : Type 0 where
+  pub respected : (decision : Decision) → Contains decisions decision → IsRespected decision state
+  pub consistent : FitsAll model decisions items state
 
 -- no state below this one fits
 abbrev pub NothingFits : Model → (State → Type 0) → State → Type 0

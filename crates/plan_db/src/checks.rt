@@ -5,15 +5,16 @@ ghost use Rattle.domain_core.specs.Domain.{Domain, Has};
 ghost use Rattle.eu_name.specs.declared.name.VarName.TheVariants as VarName;
 ghost use Rattle.model_core.specs.Lawful.{IsLawful, IsBuilt};
 ghost use Rattle.model_core.specs.declared.decision.Decision.TheVariants.{Specify};
-ghost use Rattle.model_core.specs.declared.model.Base.TheVariants.{Given};
-ghost use Rattle.plan_defs.specs.State.{State, IsState};
+ghost use Rattle.model_core.specs.declared.variable.Base.TheVariants.{Given};
+ghost use Rattle.model_core.specs.State.{State, IsState};
 ghost use Rattle.plan_db.specs.Kept.{IsGiven};
 ghost use Rattle.plan_db.specs.Database.{Finds};
 
 use super::domains::specified_global;
 use super::fault::DbFault;
 use model_core::decision::Decision;
-use model_core::model::{Base, Model};
+use model_core::model::Model;
+use model_core::variable::Base;
 
 /// Looks for the reasons against the decision, in their order, where the decisions leave a least state.
 pub fn check(model: &Model, decisions: &[Decision], decision: &Decision) -> Result<(), DbFault>

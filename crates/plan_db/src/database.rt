@@ -3,7 +3,7 @@
 ghost use Rattle.std.specs.Prelude.{◌≡◌, ◌+◌, [], ◌∷◌, length, IfOk, MatchBool, MatchResult};
 ghost use Rattle.model_core.specs.History.{standing};
 ghost use Rattle.model_core.specs.Lawful.{IsLawful, IsBuilt};
-ghost use Rattle.plan_defs.specs.State.{State};
+ghost use Rattle.model_core.specs.State.{State};
 ghost use Rattle.plan_db.specs.Kept.{outcome_where};
 ghost use Rattle.plan_db.specs.Database.{IsSound, HasLeast, HasCollapsed, Applies, TakesBack, IsTold, IsUntold};
 
@@ -33,6 +33,11 @@ impl marker::Model for Db {
     ghost use Rattle.plan_db.specs.Kept.{IsKept};
 
     ghost Value = { Database };
+
+    ghost use Rattle.std.specs.Coded.{codes};
+    ghost use Rattle.model_core.specs.contracts.model.Model as a_model;
+
+    ghost coded = { Prim.hlevel (codes, a_model.the_row.coded) };
 
     ghost view = { λ db. record { model = db.model; history = db.log } };
 

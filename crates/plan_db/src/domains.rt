@@ -1,20 +1,21 @@
 //! The least state of a list of decisions, as the domains of the globals by number.
 
-ghost use Rattle.std.specs.Prelude.{◌≡◌, ◌<◌, ℕ, ℤ, length, IfOk, IfSome, IfNone, MatchOption, MatchBool};
+ghost use Rattle.std.specs.Prelude.{◌≡◌, ◌<◌, ◌↔◌, ℕ, ℤ, List, length, IfOk, IfSome, IfNone, IsTrue, MatchOption, MatchBool};
 ghost use Rattle.eu_name.specs.declared.name.VarName.TheVariants as VarName;
 ghost use Rattle.model_core.specs.declared.decision.Decision.TheVariants.{Specify};
 ghost use Rattle.model_core.specs.Lawful.{IsLawful, IsBuilt};
-ghost use Rattle.model_core.specs.declared.model.Base.TheVariants.{Given};
-ghost use Rattle.plan_defs.specs.Consistency.{IsConsistent};
+ghost use Rattle.model_core.specs.declared.variable.Base.TheVariants.{Given};
 ghost use Rattle.plan_defs.specs.Closure.{IsLeast, IsCollapsed, IsRespected};
 ghost use Rattle.plan_defs.specs.Steps.{AdvancesTo, FitsBefore};
-ghost use Rattle.plan_db.specs.Kept.{state_of, IsGiven, AreBases, MeetsAt, JoinsPlaces, JoinAll, leq_item, GreatestInOrder, LeastInOrder, Fits, FitsAll, NothingFits, SettlesTo, StepsDown};
+ghost use Rattle.plan_db.specs.Kept.{state_of, IsGiven, AreBases, MeetsAt, JoinsPlaces, JoinAll, leq_item, GreatestInOrder, LeastInOrder, HasOrder, IsItemConsistent, Fits, FitsAll, NothingFits, SettlesTo, StepsDown};
 
 use domain_core::Change;
 use domain_core::domain::{Dom, GREATEST_VALUE, LEAST_VALUE};
 use eu_name::name::VarName;
 use model_core::decision::Decision;
-use model_core::model::{Base, Item, Kind, Model, Term};
+use model_core::item::{Item, Kind, Term};
+use model_core::model::Model;
+use model_core::variable::Base;
 use std::alloc::{AllocError, Global};
 
 /// The domains of the least state that the decisions leave, or None where they leave none.
@@ -27,12 +28,25 @@ pub fn least_domains(
     requires built { IsBuilt model.now }
     ensures { IfOk result (λ answer. MatchOption answer (IsCollapsed model.now decisions.now) (λ domains. IsLeast model.now decisions.now (state_of domains.items))) }
 {
+    // An order is about tokens, and there are none.
+    if has_order(decisions) {
+        return Ok(None);
+    }
     let mut domains = bases(alloc, model)?;
     if settle(decisions, model.problem.items.as_slice(), &mut domains) {
         Ok(Some(domains))
     } else {
         Ok(None)
     }
+}
+
+// Whether some decision is an order.
+fn has_order(decisions: &[Decision]) -> bool
+    ensures { IsTrue result ↔ HasOrder decisions.now }
+{
+    decisions
+        .iter()
+        .any(|decision| matches!(decision, Decision::Order(_, _)))
 }
 
 // The bases of the globals.
@@ -63,8 +77,8 @@ fn base_of(base: &Base) -> Result<Dom, AllocError>
 fn settle(decisions: &[Decision], items: &[Item], domains: &mut [Dom]) -> bool
     requires { JoinAll items.now (length domains.old) }
     ensures { (model : Model) → MatchBool result
-        (SettlesTo model (Fits decisions.now items.now) (state_of domains.old) (state_of domains.new))
-        (NothingFits model (Fits decisions.now items.now) (state_of domains.old)) }
+        (SettlesTo model (Fits model decisions.now items.now) (state_of domains.old) (state_of domains.new))
+        (NothingFits model (Fits model decisions.now items.now) (state_of domains.old)) }
 {
     loop {
         match pass(decisions, items, domains) {
@@ -83,7 +97,7 @@ fn settle(decisions: &[Decision], items: &[Item], domains: &mut [Dom]) -> bool
 // Grants each decision and narrows each item once, in order.
 fn pass(decisions: &[Decision], items: &[Item], domains: &mut [Dom]) -> Change
     requires { JoinAll items.now (length domains.old) }
-    ensures { (model : Model) → AdvancesTo model (Fits decisions.now items.now) (state_of domains.old) result (state_of domains.new) }
+    ensures { (model : Model) → AdvancesTo model (Fits model decisions.now items.now) (state_of domains.old) result (state_of domains.new) }
 {
     let granted = grant_all(decisions, domains);
     if let Change::Empty = granted {
@@ -134,7 +148,7 @@ pub fn specified_global(decision: &Decision) -> Option<(u32, i32)>
 // Narrows each item in order.
 fn narrow_all(items: &[Item], domains: &mut [Dom]) -> Change
     requires { JoinAll items.now (length domains.old) }
-    ensures { (model : Model) → AdvancesTo model (FitsBefore IsConsistent items.now (length items.now)) (state_of domains.old) result (state_of domains.new) }
+    ensures { (model : Model) (decisions : List Decision) → AdvancesTo model (FitsBefore (IsItemConsistent model decisions) items.now (length items.now)) (state_of domains.old) result (state_of domains.new) }
 {
     let mut change = Change::Same;
     for item in items {
@@ -149,9 +163,9 @@ fn narrow_all(items: &[Item], domains: &mut [Dom]) -> Change
 // Narrows each item, the last one first; false where that leaves nothing.
 fn narrow_back(items: &[Item], domains: &mut [Dom]) -> bool
     requires { JoinAll items.now (length domains.old) }
-    ensures { (model : Model) → MatchBool result
-        (StepsDown model (FitsAll items.now) (state_of domains.old) (state_of domains.new))
-        (NothingFits model (FitsAll items.now) (state_of domains.old)) }
+    ensures { (model : Model) (decisions : List Decision) → MatchBool result
+        (StepsDown model (FitsAll model decisions items.now) (state_of domains.old) (state_of domains.new))
+        (NothingFits model (FitsAll model decisions items.now) (state_of domains.old)) }
 {
     for place in (0..items.len()).rev() {
         if let Change::Empty = narrow_item(&items[place], domains) {
@@ -164,7 +178,7 @@ fn narrow_back(items: &[Item], domains: &mut [Dom]) -> bool
 // Takes away what the item doesn't allow.
 fn narrow_item(item: &Item, domains: &mut [Dom]) -> Change
     requires { JoinsPlaces item.now (length domains.old) }
-    ensures { (model : Model) → AdvancesTo model (IsConsistent item.now) (state_of domains.old) result (state_of domains.new) }
+    ensures { (model : Model) (decisions : List Decision) → AdvancesTo model (IsItemConsistent model decisions item.now) (state_of domains.old) result (state_of domains.new) }
 {
     match item {
         Item::Constraint(Kind::Leq, terms) => match terms.as_slice() {
@@ -181,7 +195,7 @@ fn narrow_item(item: &Item, domains: &mut [Dom]) -> Change
 fn narrow_leq(domains: &mut [Dom], first: usize, second: usize) -> Change
     requires first { first < length domains.old }
     requires second { second < length domains.old }
-    ensures { (model : Model) → AdvancesTo model (IsConsistent (leq_item first second)) (state_of domains.old) result (state_of domains.new) }
+    ensures { (model : Model) (decisions : List Decision) → AdvancesTo model (IsItemConsistent model decisions (leq_item first second)) (state_of domains.old) result (state_of domains.new) }
 {
     let lowered = lower_to(domains, first, second);
     if let Change::Empty = lowered {

@@ -1,6 +1,6 @@
 use Rattle.std.proofs.Common.{◌≡◌, length, subst, arith}
 use Rattle.plan_db.specs.Kept.{JoinAll, state_of}
-use Rattle.plan_db.proofs.Passes.{settles_at, goes_on, slack_falls, nothing_back, some_model}
+use Rattle.plan_db.proofs.Passes.{settles_at, nothing_at, goes_on, slack_falls, nothing_back, some_model}
 use Rattle.plan_db.proofs.domains.settle.Goals as goal
 
 pub pass-requires : goal.pass-requires
@@ -18,13 +18,16 @@ returns-in-Same c = λ model. settles_at model c.args.decisions.now c.args.items
 
 pub returns-then-not-narrow_back : goal.returns-then-not-narrow_back
 returns-then-not-narrow_back c = λ model.
-    nothing_back model c.args.decisions.now c.args.items.now (state_of c.args.domains.now) (state_of c.loop-domains.domains) (state_of c.pass.new.domains) (c.loop-domains.invariant model) (c.in-Smaller.ensures model) (c.if-not-narrow_back.ensures model)
+    nothing_back model c.args.decisions.now c.args.items.now (state_of c.args.domains.now) (state_of c.loop-domains.domains) (state_of c.pass.new.domains) (c.loop-domains.invariant model) (c.in-Smaller.ensures model) (c.if-not-narrow_back.ensures model c.args.decisions.now)
 
 pub loop-domains-smaller : goal.loop-domains-smaller
 loop-domains-smaller c =
     let model = some_model in
-    slack_falls model c.args.decisions.now c.args.items.now (state_of c.loop-domains.domains) (state_of c.pass.new.domains) (state_of c.narrow_back.new.domains) (c.in-Smaller.ensures model) (c.if-not-narrow_back.ensures model)
+    slack_falls model c.args.decisions.now c.args.items.now (state_of c.loop-domains.domains) (state_of c.pass.new.domains) (state_of c.narrow_back.new.domains) (c.in-Smaller.ensures model) (c.if-not-narrow_back.ensures model c.args.decisions.now)
 
 pub loop-domains-preserved : goal.loop-domains-preserved
 loop-domains-preserved c = λ model.
-    goes_on model c.args.decisions.now c.args.items.now _ _ _ _ (c.loop-domains.invariant model) (c.in-Smaller.ensures model) (c.if-not-narrow_back.ensures model)
+    goes_on model c.args.decisions.now c.args.items.now _ _ _ _ (c.loop-domains.invariant model) (c.in-Smaller.ensures model) (c.if-not-narrow_back.ensures model c.args.decisions.now)
+
+pub returns-in-Empty : goal.returns-in-Empty
+returns-in-Empty c = λ model. nothing_at model c.args.decisions.now c.args.items.now _ _ (state_of c.pass.new.domains) (c.loop-domains.invariant model) (c.in-Empty.ensures model)

@@ -4,7 +4,7 @@ use Rattle.plan_db.specs.Kept.{state_of, Fits}
 use Rattle.plan_db.proofs.domains.settle.Given as goal
 
 abbrev pub invariant-loop-domains : goal.invariant-loop-domains
-invariant-loop-domains l = (model : Model) → Advances model (Fits l.decisions l.items) (state_of l.fn.domains) (state_of l.domains)
+invariant-loop-domains l = (model : Model) → Advances model (Fits model l.decisions l.items) (state_of l.fn.domains) (state_of l.domains)
 
 abbrev pub decreases-loop-domains : goal.decreases-loop-domains
 decreases-loop-domains l = slack_of (state_of l.domains)

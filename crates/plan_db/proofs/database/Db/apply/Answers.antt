@@ -1,15 +1,18 @@
-use Rattle.std.proofs.Common.{◌≡◌, Ok, Err, sym, ap, ◌∙◌, subst}
+use Rattle.std.proofs.Common.{◌≡◌, Ok, Err, refl, sym, ap, ◌∙◌, subst}
 use Rattle.std.specs.Prelude.{MatchOption}
 use Rattle.std.proofs.lemmas.Result.{err_from_is_err_and}
 use Rattle.model_core.specs.History.{standing, accepted}
 use Rattle.plan_defs.specs.Closure.{IsLeast, IsCollapsed}
-use Rattle.plan_defs.specs.Decisions.{IsAdmissible}
+use Rattle.plan_defs.specs.Refusals.{IsAdmissible}
 use Rattle.plan_db.specs.Kept.{IsKept, state_of}
 use Rattle.plan_db.specs.Database.{Database, Finds, Applies}
 use Rattle.plan_defs.specs.History.{IsHistory}
-use Rattle.plan_db.proofs.Keeping.{least_kept, refused, admissible, IsHistory-accepted, outcome_is, pop_after_push}
+use Rattle.plan_db.proofs.Keeping.{least_kept, collapsed_kept, refused, admissible, IsHistory-accepted, outcome_is, pop_after_push}
 use Rattle.plan_db.proofs.database.Db.apply.Goals as goal
 use Rattle.plan_db.proofs.database.Db.apply.Goals.{Joined-self-domains, Joined-pop}
+
+pub returns-in_default-clause-applied : goal.returns-in_default-clause-applied
+returns-in_default-clause-applied c = rw (← c.self.view_is) (refl, collapsed_kept _ _ _ c.self.invariant c.in_default.is)
 
 pub returns-in_err-check-clause-applied : goal.returns-in_err-check-clause-applied
 returns-in_err-check-clause-applied c =

@@ -1,7 +1,10 @@
 use Rattle.std.proofs.Common.{◌<◌, ◌≤◌, length, arith}
 use Rattle.plan_db.specs.Kept.{state_of}
-use Rattle.plan_db.proofs.Keeping.{least_kept, ungiven_other, ungiven_past, given_within}
+use Rattle.plan_db.proofs.Keeping.{least_kept, collapsed_kept, ungiven_other, ungiven_past, given_within}
 use Rattle.plan_db.proofs.database.Db.domain.Goals as goal
+
+pub returns-in_default : goal.returns-in_default
+returns-in_default c = rw (← c.self.view_is) (collapsed_kept _ _ _ c.self.invariant c.in_default.is)
 
 pub returns-in_default-variable : goal.returns-in_default-variable
 returns-in_default-variable c =

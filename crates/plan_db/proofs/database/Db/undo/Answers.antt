@@ -1,17 +1,20 @@
 use Rattle.std.proofs.Common.{◌≡◌, [], ◌∷◌, length, refl, sym, ◌∙◌, subst}
 use Rattle.std.specs.Prelude.{MatchOption}
 use Rattle.plan_defs.specs.Closure.{IsLeast, IsCollapsed}
-use Rattle.plan_db.specs.Kept.{state_of}
-use Rattle.plan_db.proofs.Keeping.{first_history, outcome_is, standing_below}
+use Rattle.plan_db.specs.Kept.{IsKept, state_of}
+use Rattle.plan_db.specs.Database.{Database}
+use Rattle.plan_db.proofs.Keeping.{first_history, outcome_is, standing_below, IsHistory-below}
 use Rattle.plan_db.proofs.database.Db.undo.Goals as goal
+use Rattle.plan_db.proofs.database.Db.undo.Goals.{After-drop-former-inside-in-Ok-undo}
 
 pub returns-in-Err-Nothing-clause-undone : goal.returns-in-Err-Nothing-clause-undone
 returns-in-Err-Nothing-clause-undone c =
     let one : length c.self.inside.log ≡ 1 = rw c.in-Err-Nothing.field-0-is at c.in-Err-Nothing.ensures in
     (refl, subst (λ db. db.history ≡ [] ∷ []) c.self.view_is (first_history c.self.inside.model c.self.inside.log c.self.invariant.history_is one))
 
-pub returns-in-Ok-undo-clause-undone : goal.returns-in-Ok-undo-clause-undone
-returns-in-Ok-undo-clause-undone c =
+-- the state that was computed before is that of the list that stands then
+keeps : (c : After-drop-former-inside-in-Ok-undo) → IsKept c.self.inside.model c.undo.new.self c.in_ok-domains.domains
+keeps c =
     let model = c.self.inside.model in
     let old = c.self.inside.log in
     let new = c.undo.new.self in
@@ -19,6 +22,18 @@ returns-in-Ok-undo-clause-undone c =
     let undone = c.in-Ok-undo.ensures in
     let stood = standing_below old new c.in-Ok.decisions copied.0 copied.1 undone.3 in
     let list = c.as_slice.ensures ∙ sym stood in
-    let kept = subst (λ decisions. MatchOption c.in_ok-domains.domains (IsCollapsed model decisions) (λ domains. IsLeast model decisions (state_of domains.items))) list c.in_ok-domains.ensures in
+    record {
+      lawful = c.self.invariant.lawful;
+      built = c.self.invariant.built;
+      history_is = IsHistory-below model old new c.in-Ok.decisions copied.0 c.self.invariant.history_is copied.1 undone.3;
+      state = subst (λ decisions. MatchOption c.in_ok-domains.domains (IsCollapsed model decisions) (λ domains. IsLeast model decisions (state_of domains.items))) list c.in_ok-domains.ensures;
+    }
+
+pub invariant_of-self : goal.invariant_of-self
+invariant_of-self c = keeps c
+
+pub returns-in-Ok-undo-clause-undone : goal.returns-in-Ok-undo-clause-undone
+returns-in-Ok-undo-clause-undone c =
+    let database : Database = record { model = c.self.inside.model; history = c.undo.new.self } in
     rw (← c.self.view_is, c.outcome_of-outcome.ensures)
-    (refl, undone.3, outcome_is (record { model = model; history = new }) c.in_ok-domains.domains kept)
+    (refl, c.in-Ok-undo.ensures.3, outcome_is database c.in_ok-domains.domains (keeps c).state)

@@ -1,0 +1,18 @@
+use Rattle.std.proofs.Common.{refl, sym, subst}
+use Rattle.std.specs.Prelude.{MatchOption}
+use Rattle.plan_defs.specs.Closure.{IsLeast, IsCollapsed}
+use Rattle.plan_defs.specs.History.{IsHistory}
+use Rattle.plan_db.specs.Kept.{IsKept, state_of}
+use Rattle.plan_db.proofs.database.Db.new.Goals as goal
+use Rattle.plan_db.proofs.database.Db.new.Goals.{In_ok-domains}
+
+keeps : (c : In_ok-domains) → IsKept c.args.model c.new-log.result c.in_ok-domains.domains
+keeps c = record {
+  lawful = c.requires.lawful;
+  built = c.requires.built;
+  history_is = subst (IsHistory c.args.model) (sym c.new-log.ensures) refl;
+  state = subst (λ list. MatchOption c.in_ok-domains.domains (IsCollapsed c.args.model list) (λ domains. IsLeast c.args.model list (state_of domains.items))) c.standing.ensures c.in_ok-domains.ensures;
+}
+
+pub invariant_of-result : goal.invariant_of-result
+invariant_of-result c = keeps c
