@@ -1,34 +1,63 @@
 -- All numbers outside the range of values are answered alike.
-use Rattle.std.proofs.Common.{ℕ, ℤ, List, Option, Some, None, inl, inr, subst, arith}
+use Rattle.std.proofs.Common.{ℕ, ◌<◌, ℤ, List, Option, Some, None, inl, inr, sym, subst, arith}
 use Rattle.std.specs.Prelude.{MatchOption, codes}
-use Rattle.std.proofs.lemmas.Int.{ints}
-use Rattle.domain_core.specs.Domain.{Domain, IsDomain, IsValue, Has}
+use Rattle.domain_core.specs.Domain.{IsValue}
 use Rattle.domain_core.proofs.Words.{has_value}
 use Rattle.eu_name.specs.declared.name.VarName.TheVariants.{Global}
+use Rattle.model_core.specs.declared.decision.Decision.{Decision}
 use Rattle.model_core.specs.declared.decision.Decision.TheVariants.{Specify}
 use Rattle.model_core.specs.declared.model.Model.{Model}
-use Rattle.model_core.specs.declared.model.VarDecl.{VarDecl}
-use Rattle.model_core.specs.History.{History}
+use Rattle.model_core.specs.History.{History, standing}
 use Rattle.model_core.specs.Lookup.{global_named}
-use Rattle.model_core.specs.Lawful.{IsLawful, IsBase}
-use Rattle.plan_defs.specs.Decisions.{IsInBase}
+use Rattle.model_core.specs.Lawful.{IsLawful, IsLawfulVariable, IsBase}
+use Rattle.model_core.specs.State.{State}
+use Rattle.plan_defs.specs.Refusals.{Refusal, Unknown, Decided, NotInDomain, place_of, IsDeclared, Hinders}
 use Rattle.plan_defs.proofs.Members.{get_all}
 use Rattle.session_core.specs.Replies.{Refuses, SpecifiesGlobal, SpecifyReplies, StandsFor}
 
--- so what is in a base is a value
-in_base_value : (model : Model) (number : ℕ) (value : ℤ) → IsLawful model → IsInBase model (Specify (Global number) value) → IsValue value
-in_base_value model number value lawful is =
+-- what a global is declared with is a value
+declared_value : (model : Model) (number : ℕ) (value : ℤ) → IsLawful model → IsDeclared model (Global number) value → IsValue value
+declared_value model number value lawful is =
     let base = is.1 in
-    let ok = subst IsBase base.2 (get_all (λ (v : VarDecl). IsBase v.base) model.problem.globals number base.0 lawful.bases base.1) in
+    let ok = subst IsBase (sym base.2) (get_all (IsLawfulVariable model) model.problem.globals number base.0 lawful.globals base.1).base in
     has_value is.0 value ok is.2
+
+-- reasons that are looked for before the value matters
+same_hindrance : (model : Model) (decisions : List Decision) (state : State) (number : ℕ) (value other : ℤ) (reason : Refusal) → place_of reason < 2
+    → Hinders model decisions state reason (Specify (Global number) other) → Hinders model decisions state reason (Specify (Global number) value)
+same_hindrance model decisions state number value other Unknown before hinders = hinders
+same_hindrance model decisions state number value other Decided before hinders = hinders
+same_hindrance model decisions state number value other reason before hinders = absurd (omega arith)
 
 specifies_beyond : (model : Model) (history : History) (number : ℕ) (value other : ℤ) (lines : List (List ℕ)) (after : History) → IsLawful model → (IsValue value → ⊥) → (IsValue other → ⊥)
     → SpecifiesGlobal model history number value lines after → SpecifiesGlobal model history number other lines after
 specifies_beyond model history number value other lines after lawful beyond beyond_too (inl p) =
-    inl (record { state = p.0.state; least = p.0.least; first = p.0.first }, p.1)
+    let refusal = p.0.refusal in
+    inl (
+      record {
+        state = p.0.state;
+        least = p.0.least;
+        refusal = record {
+          hinders = refusal.hinders;
+          first = λ earlier before hinders. refusal.first earlier before (same_hindrance model (standing history) p.0.state number value other earlier (omega arith) hinders);
+        };
+      },
+      p.1,
+    )
 specifies_beyond model history number value other lines after lawful beyond beyond_too (inr (inl p)) =
-    inr (inl (record { state = p.0.state; least = p.0.least; first = (p.0.first.0, p.0.first.1, λ is. beyond_too (in_base_value model number other lawful is)) }, p.1))
-specifies_beyond model history number value other lines after lawful beyond beyond_too (inr (inr p)) = absurd (beyond (in_base_value model number value lawful p.0.in_base))
+    let refusal = p.0.refusal in
+    inr (inl (
+      record {
+        state = p.0.state;
+        least = p.0.least;
+        refusal = record {
+          hinders = λ declared. beyond_too (declared_value model number other lawful declared);
+          first = λ earlier before hinders. refusal.first earlier before (same_hindrance model (standing history) p.0.state number value other earlier (omega arith) hinders);
+        };
+      },
+      p.1,
+    ))
+specifies_beyond model history number value other lines after lawful beyond beyond_too (inr (inr p)) = absurd (p.0.free NotInDomain (λ declared. beyond (declared_value model number value lawful declared)))
 
 under_option : {X : Type 0} (P : Type 0) (Q Q' : X → Type 0) (o : Option X) → ((x : X) → Q x → Q' x) → MatchOption o P Q → MatchOption o P Q'
 under_option P Q Q' None some p = p

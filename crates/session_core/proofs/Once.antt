@@ -1,12 +1,13 @@
 -- Each command has one reply, and leaves one history.
-use Rattle.std.proofs.Common.{◌≡◌, ℕ, ℤ, List, [], ◌∷◌, Option, Some, None, inl, inr, sym, ap, ◌∙◌, subst}
+use Rattle.std.proofs.Common.{◌≡◌, ℕ, ℤ, List, [], ◌∷◌, Option, Some, None, inl, inr, sym, ap, ◌∙◌, subst, arith}
 use Rattle.std.specs.Prelude.{MatchOption, codes}
 use Rattle.domain_core.specs.Domain.{Domain}
 use Rattle.eu_name.specs.declared.name.VarName.TheVariants.{Global}
 use Rattle.model_core.specs.declared.model.Model.{Model}
 use Rattle.model_core.specs.History.{History, standing}
 use Rattle.model_core.specs.Lookup.{global_named}
-use Rattle.plan_defs.specs.State.{State, Gives}
+use Rattle.model_core.specs.State.{State, Gives}
+use Rattle.plan_defs.specs.Refusals.{Decided, NotInDomain}
 use Rattle.plan_defs.proofs.States.{gives_same}
 use Rattle.plan_defs.proofs.Settling.{least_same, least_not_collapsed}
 use Rattle.session_core.specs.Replies.{Refuses, SaysOutcome, SpecifiesGlobal, SpecifyReplies, UndoReplies, DomainReplies, domain_line}
@@ -30,13 +31,13 @@ outcome_once_at model lines others after then' same p q = outcome_once model aft
 specifies_once : (model : Model) (history : History) (number : ℕ) (value : ℤ) (lines others : List (List ℕ)) (after then' : History)
     → SpecifiesGlobal model history number value lines after → SpecifiesGlobal model history number value others then' → AreSame lines others after then'
 specifies_once model history number value lines others after then' (inl p) (inl q) = refused_once (codes "decided") history lines others after then' p.1 q.1
-specifies_once model history number value lines others after then' (inl p) (inr (inl q)) = absurd (q.0.first.1 p.0.first.1)
-specifies_once model history number value lines others after then' (inl p) (inr (inr q)) = absurd (q.0.undecided p.0.first.1)
-specifies_once model history number value lines others after then' (inr (inl p)) (inl q) = absurd (p.0.first.1 q.0.first.1)
+specifies_once model history number value lines others after then' (inl p) (inr (inl q)) = absurd (q.0.refusal.first Decided (omega arith) p.0.refusal.hinders)
+specifies_once model history number value lines others after then' (inl p) (inr (inr q)) = absurd (q.0.free Decided p.0.refusal.hinders)
+specifies_once model history number value lines others after then' (inr (inl p)) (inl q) = absurd (p.0.refusal.first Decided (omega arith) q.0.refusal.hinders)
 specifies_once model history number value lines others after then' (inr (inl p)) (inr (inl q)) = refused_once (codes "not-in-domain") history lines others after then' p.1 q.1
-specifies_once model history number value lines others after then' (inr (inl p)) (inr (inr q)) = absurd (p.0.first.2 q.0.in_base)
-specifies_once model history number value lines others after then' (inr (inr p)) (inl q) = absurd (p.0.undecided q.0.first.1)
-specifies_once model history number value lines others after then' (inr (inr p)) (inr (inl q)) = absurd (q.0.first.2 p.0.in_base)
+specifies_once model history number value lines others after then' (inr (inl p)) (inr (inr q)) = absurd (q.0.free NotInDomain p.0.refusal.hinders)
+specifies_once model history number value lines others after then' (inr (inr p)) (inl q) = absurd (p.0.free Decided q.0.refusal.hinders)
+specifies_once model history number value lines others after then' (inr (inr p)) (inr (inl q)) = absurd (p.0.free NotInDomain q.0.refusal.hinders)
 specifies_once model history number value lines others after then' (inr (inr p)) (inr (inr q)) =
     let same = q.1 ∙ sym p.1 in
     (outcome_once_at model lines others after then' same p.2 q.2, same)
@@ -81,5 +82,5 @@ domain_once model history variable lines others after then' (inr p) (inr q) =
     (global_named model variable)
     (refused_once (codes "unknown") history lines others after then')
     (λ number a b.
-    let domains = gives_same model p.0 p.1.closed.is_state (Global number) a.0 b.0 a.1 (subst (λ s. Gives s (Global number) b.0) (sym same) b.1) in
+    let domains = gives_same p.0 p.1.closed.is_state.order (Global number) a.0 b.0 a.1 (subst (λ s. Gives s (Global number) b.0) (sym same) b.1) in
     (b.2 ∙ sym (a.2 ∙ ap (λ d. domain_line variable d ∷ []) domains), b.3 ∙ sym a.3)) p.2 q.2

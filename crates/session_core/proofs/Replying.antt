@@ -1,21 +1,22 @@
 -- What the database answers, as replies.
-use Rattle.std.proofs.Common.{◌≡◌, ℕ, ◌+◌, ◌<◌, ℤ, List, [], ◌∷◌, length, Some, Ok, inl, inr, ap, subst, arith}
+use Rattle.std.proofs.Common.{◌≡◌, ℕ, ◌+◌, ◌<◌, ℤ, List, [], ◌∷◌, length, Some, Ok, inl, inr, refl, sym, ap, subst, arith}
 use Rattle.std.specs.Prelude.{Bool, true, false, bytes_eq, cond}
 use Rattle.eu_name.specs.declared.name.VarName.TheVariants.{Global}
+use Rattle.model_core.specs.declared.decision.Decision.{Decision}
 use Rattle.model_core.specs.declared.decision.Decision.TheVariants.{Specify}
 use Rattle.model_core.specs.declared.model.Model.{Model}
-use Rattle.model_core.specs.declared.model.VarDecl.{VarDecl}
-use Rattle.model_core.specs.History.{standing}
+use Rattle.model_core.specs.declared.variable.VarDecl.{VarDecl}
+use Rattle.model_core.specs.History.{History, standing}
 use Rattle.model_core.specs.Lookup.{first_named, global_named}
-use Rattle.plan_defs.specs.State.{State}
+use Rattle.model_core.specs.State.{State}
 use Rattle.plan_defs.specs.Closure.{IsLeast}
-use Rattle.plan_defs.specs.Decisions.{Unknown}
-use Rattle.plan_defs.proofs.States.{gives_global}
+use Rattle.plan_defs.specs.History.{IsHistory}
+use Rattle.plan_defs.specs.Refusals.{Unknown}
 use Rattle.plan_db.specs.declared.fault.Outcome.{Outcome}
 use Rattle.plan_db.specs.declared.fault.Outcome.TheVariants.{Consistent, Inconsistent}
 use Rattle.plan_db.specs.declared.fault.QueryFault.TheVariants as query
-use Rattle.plan_db.specs.Database.{Database, OutcomeIs, Applies, IsUntold, RefusesFor}
-use Rattle.session_core.specs.Replies.{outcome_lines, SaysOutcome, SpecifyReplies}
+use Rattle.plan_db.specs.Database.{Database, IsSound, OutcomeIs, Applies, TakesBack, IsUntold, RefusesFor}
+use Rattle.session_core.specs.Replies.{outcome_lines, SaysOutcome, SpecifyReplies, UndoReplies}
 
 -- the number that a name means is that of a global
 named_at : (number : ℕ) (name : List ℕ) (variable : VarDecl) (variables : List VarDecl) (found : ℕ)
@@ -33,17 +34,28 @@ named_within model name number e = omega (arith, named_from 0 name model.problem
 
 -- a global that is there is never unknown
 pub never_unknown : (database : Database) (number : ℕ) (value : ℤ) → number < length database.model.problem.globals → RefusesFor database (Specify (Global number) value) Unknown → ⊥
-never_unknown database number value within refused = refused.first (gives_global database.model refused.state refused.least.closed.is_state number within)
+never_unknown database number value within refused = refused.refusal.hinders ((refused.least.closed.is_state.variables (Global number)).0 within)
 
 pub never_untold : (database : Database) (number : ℕ) → number < length database.model.problem.globals → IsUntold database (Global number) query.Unknown → ⊥
 never_untold database number within untold =
-    let given = gives_global database.model untold.0 untold.1.closed.is_state number within in
+    let given = (untold.1.closed.is_state.variables (Global number)).0 within in
     untold.2 given.0 given.1
 
 -- an outcome is said as the lines that it has
 pub says_outcome : (database : Database) (outcome : Outcome) (lines : List (List ℕ)) → OutcomeIs database outcome → lines ≡ outcome_lines outcome → SaysOutcome database.model database.history lines
 says_outcome database Consistent lines is e = inl (is, e)
 says_outcome database Inconsistent lines is e = inr (is, e)
+
+-- a list that is taken back lies on another, which stands then
+undone_from : (model : Model) (old new : History) (top : List Decision) (lines : List (List ℕ)) → IsHistory model new → old ≡ top ∷ new → SaysOutcome model new lines → UndoReplies model old lines new
+undone_from model old [] top lines is e says = absurd is
+undone_from model old (below ∷ former) top lines is e says = subst (λ history. UndoReplies model history lines (below ∷ former)) (sym e) (refl, says)
+
+-- a step that is taken back answers the outcome of what stands then
+pub undone : (old new : Database) (outcome : Outcome) (lines : List (List ℕ)) → TakesBack old (Ok outcome) new → IsSound new → lines ≡ outcome_lines outcome → UndoReplies old.model old.history lines new.history
+undone old new outcome lines takes sound e =
+    subst (λ model. UndoReplies model old.history lines new.history) takes.0
+    (undone_from new.model old.history new.history (standing old.history) lines sound.history takes.1 (says_outcome new outcome lines takes.2 e))
 
 -- an accepted decision on a global answers its outcome
 pub specified : (old new : Database) (variable : List ℕ) (number : ℕ) (value : ℤ) (outcome : Outcome) (lines : List (List ℕ))

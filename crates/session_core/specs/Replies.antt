@@ -8,6 +8,7 @@ use Rattle.model_core.specs.declared.decision.Decision.TheVariants.{Specify}
 use Rattle.model_core.specs.declared.model.Model.{Model}
 use Rattle.model_core.specs.History.{History, standing, accepted}
 use Rattle.model_core.specs.Lookup.{global_named}
+use Rattle.model_core.specs.State.{State, Gives}
 use Rattle.script_lang.specs.declared.line.Command.{Command}
 use Rattle.script_lang.specs.declared.line.Command.TheVariants.{Empty, Undo, Domain}
 use Rattle.script_lang.specs.declared.line.Command.TheVariants as command
@@ -17,9 +18,8 @@ use Rattle.script_lang.specs.Number.{IsNumber, number_of}
 use Rattle.plan_db.specs.Database.{Database}
 use Rattle.plan_db.specs.declared.fault.Outcome.{Outcome}
 use Rattle.plan_db.specs.declared.fault.Outcome.TheVariants.{Consistent, Inconsistent}
-use Rattle.plan_defs.specs.State.{State, Gives}
 use Rattle.plan_defs.specs.Closure.{IsLeast, IsCollapsed}
-use Rattle.plan_defs.specs.Decisions.{Decided, NotInDomain, IsRefused, IsAdmissible}
+use Rattle.plan_defs.specs.Refusals.{Decided, NotInDomain, IsRefused, IsAdmissible}
 
 -- the one line that refuses a command for a reason
 abbrev pub refusal : List ℕ → List (List ℕ)

@@ -30,6 +30,10 @@ impl Model for Editor {
 
     ghost Value = { Database };
 
+    ghost use Rattle.plan_db.specs.contracts.database.Db as a_database;
+
+    ghost coded = { a_database.the_row.coded };
+
     ghost view = { λ editor. editor.db };
 }
 

@@ -16,6 +16,12 @@ returns-in-Ok-clause-replies c =
     (λ lines e. specified old new c.args.variable.now c.in-Some.number c.args.value c.in-Ok.outcome lines c.if-not-is_consistent.ensures.state named applies e)
     c.says.ensures
 
+pub unreachable-requires : goal.unreachable-requires
+unreachable-requires c =
+    let least = c.if-not-is_consistent.ensures.state in
+    let refused = rw c.in-Err-InInconsistent.field-0-is at c.in-Err-InInconsistent.ensures.applied in
+    refused.1 least.0 least.1.closed
+
 pub unreachable-requires-in-Err-Unknown : goal.unreachable-requires-in-Err-Unknown
 unreachable-requires-in-Err-Unknown c =
     let named = sym (rw (c.model.ensures.model, c.as_bytes.ensures) at c.in-Some.ensures) in
