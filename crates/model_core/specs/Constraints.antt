@@ -1,5 +1,5 @@
 -- What the constraints of the language say of values.
-use Rattle.std.specs.Prelude.{◌≡◌, ◌↔◌, ◌*ℤ◌, ℕ, ℤ, pos, ◌≤ℤ◌, ◌<ℤ◌, ◌+ℤ◌, List, [], ◌∷◌, length}
+use Rattle.std.specs.Prelude.{◌≡◌, ◌↔◌, ◌*ℤ◌, ℕ, ℤ, pos, ◌≤ℤ◌, ◌<ℤ◌, ◌+ℤ◌, List, [], ◌∷◌}
 use Rattle.domain_core.specs.Domain.{Domain}
 use Rattle.model_core.specs.Consistency.{Reach, Values, Ends, AreConsistent}
 use Rattle.model_core.specs.declared.item.Kind.{Kind}
