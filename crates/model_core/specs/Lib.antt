@@ -9,5 +9,11 @@ pub mod Consistency
 pub mod Constraints
 pub mod State
 pub mod History
+pub mod Kinds
+pub mod Naming
+pub mod Standing
 pub mod Lawful
 pub mod Lookup
+pub mod Names
+pub mod TokenStates
+pub mod Views

@@ -1,0 +1,58 @@
+-- Which token and which variable of a model a text names.
+use Rattle.std.specs.Prelude.{◌≡◌, ℕ, List, [], Some, slice_get, codes}
+use Rattle.eu_name.specs.declared.name.Part.{Part}
+use Rattle.eu_name.specs.declared.name.Part.TheVariants.{Start, End, Duration, Object, Param}
+use Rattle.eu_name.specs.declared.name.Step.{Step}
+use Rattle.eu_name.specs.declared.name.TokenName.{TokenName}
+use Rattle.eu_name.specs.declared.name.VarName.{VarName}
+use Rattle.eu_name.specs.declared.name.VarName.TheVariants.{Token, Local, Global}
+use Rattle.eu_name.specs.declared.name_text.NameText.{NameText}
+use Rattle.eu_name.specs.declared.name_text.Tail.TheVariants as tails
+use Rattle.model_core.specs.declared.model.Model.{Model}
+use Rattle.model_core.specs.declared.model.Root.{Root}
+use Rattle.model_core.specs.declared.rule.Slot.{Slot}
+use Rattle.model_core.specs.declared.variable.VarDecl.{VarDecl}
+use Rattle.model_core.specs.Lawful.{IsLawful}
+use Rattle.model_core.specs.Tokens.{IsRoot, HasToken}
+use Rattle.model_core.specs.Variables.{HasParameter, HasLocal}
+
+-- the token to which the steps lead from the root of this number
+abbrev pub token_at : ℕ → List Step → TokenName
+token_at root steps = record { root = root; steps = steps }
+
+-- the label is that of the token's root, the steps are those from there, and the model has the token, as the slot says
+pub record LeadsToToken (model : Model) (text : NameText) (token : TokenName) (slot : Slot) : Type 0 where
+  pub root : Root
+  pub is_root : IsRoot model token.root root
+  pub label : root.label ≡ text.label
+  pub steps : token.steps ≡ text.steps
+  pub has_token : HasToken model token slot
+
+-- the text names the token: it leads there and ends
+abbrev pub NamesToken : Model → NameText → TokenName → Type 0
+NamesToken model text token = (text.tail ≡ tails.None) × ((slot : Slot) × LeadsToToken model text token slot)
+
+-- the word for a part of a token of this predicate
+abbrev pub IsPartWord : Model → ℕ → Part → List ℕ → Type 0
+IsPartWord model pred Start word = word ≡ codes "start"
+IsPartWord model pred End word = word ≡ codes "end"
+IsPartWord model pred Duration word = word ≡ codes "duration"
+IsPartWord model pred Object word = word ≡ codes "object"
+IsPartWord model pred (Param number) word = (variable : VarDecl) × HasParameter model pred number variable × (variable.name ≡ word)
+
+-- the text names the variable: a global by its name alone, and any other by its token with the word for the part, or with the numbers of the rule and the local
+abbrev pub NamesVariable : Model → NameText → VarName → Type 0
+NamesVariable model text (Global number) =
+    (text.steps ≡ []) × (text.tail ≡ tails.None) × ((variable : VarDecl) × (slice_get model.problem.globals number ≡ Some variable) × (variable.name ≡ text.label))
+NamesVariable model text (Token token part) =
+    (slot : Slot) × LeadsToToken model text token slot × ((word : List ℕ) × (text.tail ≡ tails.Part word) × IsPartWord model slot.pred part word)
+NamesVariable model text (Local token rule number) =
+    (slot : Slot) × LeadsToToken model text token slot × (text.tail ≡ tails.Local rule number) × ((variable : VarDecl) × HasLocal model slot rule number variable)
+
+-- a text names at most one token of a lawful model, and at most one variable
+abbrev pub NamesOneToken : Type 0
+NamesOneToken = (model : Model) (text : NameText) (one other : TokenName) → IsLawful model → NamesToken model text one → NamesToken model text other → one ≡ other
+
+abbrev pub NamesOneVariable : Type 0
+NamesOneVariable =
+    (model : Model) (text : NameText) (one other : VarName) → IsLawful model → NamesVariable model text one → NamesVariable model text other → one ≡ other
