@@ -1,0 +1,41 @@
+-- What the constraints of the language say of values.
+use Rattle.std.specs.Prelude.{◌≡◌, ◌↔◌, ◌*ℤ◌, ℕ, ℤ, pos, ◌≤ℤ◌, ◌<ℤ◌, ◌+ℤ◌, List, [], ◌∷◌, length}
+use Rattle.domain_core.specs.Domain.{Domain}
+use Rattle.model_core.specs.Consistency.{Reach, Values, Ends, AreConsistent}
+use Rattle.model_core.specs.declared.model.Kind.{Kind}
+use Rattle.model_core.specs.declared.model.Kind.TheVariants.{Eq, Neq, Lt, Leq, AddEq, MulEq, TestEq, TestLeq, AllDiff, Field}
+
+-- the constraint holds of these values, where `fields` says which object has which value in which field
+abbrev pub Holds : (ℕ → ℤ → ℤ → Type 0) → Kind → List ℤ → Type 0
+Holds fields Eq (x ∷ y ∷ []) = x ≡ y
+Holds fields Neq (x ∷ y ∷ []) = x ≡ y → ⊥
+Holds fields Lt (x ∷ y ∷ []) = x <ℤ y
+Holds fields Leq (x ∷ y ∷ []) = x ≤ℤ y
+Holds fields AddEq (x ∷ y ∷ z ∷ []) = x +ℤ y ≡ z
+Holds fields MulEq (x ∷ factor ∷ z ∷ []) = x *ℤ factor ≡ z
+Holds fields TestEq (b ∷ x ∷ y ∷ []) = (b ≡ pos 1) ↔ (x ≡ y)
+Holds fields TestLeq (b ∷ x ∷ y ∷ []) = (b ≡ pos 1) ↔ (x ≤ℤ y)
+Holds fields (Field number) (object ∷ value ∷ []) = fields number object value
+Holds fields kind values = ⊥
+
+-- of the linear constraints but equality the ends of the others count alone
+abbrev pub reach_of : Kind → Reach
+reach_of Lt = Ends
+reach_of Leq = Ends
+reach_of AddEq = Ends
+reach_of MulEq = Ends
+reach_of TestLeq = Ends
+reach_of kind = Values
+
+-- how many arguments the constraint has; inequality of all is none that is posted, since its inequalities are
+abbrev pub count_of : Kind → ℕ
+count_of AddEq = 3
+count_of MulEq = 3
+count_of TestEq = 3
+count_of TestLeq = 3
+count_of AllDiff = 0
+count_of kind = 2
+
+-- the arguments' domains support each other
+abbrev pub AgreeOn : (ℕ → ℤ → ℤ → Type 0) → Kind → List Domain → Type 0
+AgreeOn fields kind domains = AreConsistent (reach_of kind) (Holds fields kind) domains
