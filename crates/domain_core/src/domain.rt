@@ -223,7 +223,7 @@ impl Dom {
     /// Keeps the members of a set that pass.
     pub fn keep_members<F: Fn(i32) -> bool>(&mut self, passes: F) -> Change
         requires set { IsRange self.old → ⊥ }
-        requires callable { F.IsAlwaysCallable passes }
+        requires callable { (value : ℤ) → IsValue value → F.pre passes value }
         requires decided { IsDecided (F.post passes) }
         ensures kept { Keeps (λ value. F.post passes value true) self.old result self.new }
         ensures domain { IsDomain self.new }

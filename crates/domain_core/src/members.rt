@@ -1,8 +1,8 @@
 //! The members of a set, kept in order.
 
-ghost use Rattle.std.specs.Prelude.{◌≡◌, ◌≤◌, ◌≤ℤ◌, ◌<ℤ◌, ◌↔◌, IsTrue, true, Contains, length, slice_index_or};
+ghost use Rattle.std.specs.Prelude.{◌≡◌, ◌≤◌, ◌≤ℤ◌, ◌<ℤ◌, ◌↔◌, IsTrue, true, Contains, ℤ, length, slice_index_or};
 ghost use Rattle.std.specs.List.{AllWithin};
-ghost use Rattle.domain_core.specs.Domain.{Set, HaveCommon, IsDomain, AreAscending, AreMembers};
+ghost use Rattle.domain_core.specs.Domain.{Set, HaveCommon, IsDomain, IsValue, AreAscending, AreMembers};
 ghost use Rattle.domain_core.specs.Narrowing.{Keeps, IsDecided};
 ghost use Rattle.domain_core.specs.Intervals.{range_of};
 ghost use Rattle.domain_core.specs.Lists.{KeepsFront, Cuts};
@@ -119,7 +119,7 @@ fn skip_below(numbers: &[i32], start: usize, value: i32) -> usize
 /// Keeps the members that pass.
 pub fn keep<F: Fn(i32) -> bool>(members: &mut Vec<i32>, passes: F) -> Change
     requires are { AreMembers members.old.items }
-    requires callable { F.IsAlwaysCallable passes }
+    requires callable { (value : ℤ) → IsValue value → F.pre passes value }
     requires decided { IsDecided (F.post passes) }
     ensures kept { Keeps (λ value. F.post passes value true) (Set members.old.items) result (Set members.new.items) }
     ensures domain { IsDomain (Set members.new.items) }
@@ -130,8 +130,8 @@ pub fn keep<F: Fn(i32) -> bool>(members: &mut Vec<i32>, passes: F) -> Change
 
 // Moves what passes to the front of the list, and answers how much that is.
 fn keep_passing<F: Fn(i32) -> bool>(members: &mut Vec<i32>, passes: F) -> usize
-    requires members { AreAscending members.old.items }
-    requires callable { F.IsAlwaysCallable passes }
+    requires are { AreMembers members.old.items }
+    requires callable { (value : ℤ) → IsValue value → F.pre passes value }
     requires decided { IsDecided (F.post passes) }
     ensures { KeepsFront (λ value. F.post passes value true) members.old.items result members.new.items }
 {

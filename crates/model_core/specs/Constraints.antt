@@ -1,22 +1,31 @@
 -- What the constraints of the language say of values.
-use Rattle.std.specs.Prelude.{◌≡◌, ◌↔◌, ◌*ℤ◌, ℕ, ℤ, pos, ◌≤ℤ◌, ◌<ℤ◌, ◌+ℤ◌, List, [], ◌∷◌, length}
+use Rattle.std.specs.Prelude.{◌≡◌, ◌↔◌, ◌*ℤ◌, ℕ, ℤ, pos, ◌≤ℤ◌, ◌<ℤ◌, ◌+ℤ◌, List, [], ◌∷◌}
 use Rattle.domain_core.specs.Domain.{Domain}
 use Rattle.model_core.specs.Consistency.{Reach, Values, Ends, AreConsistent}
 use Rattle.model_core.specs.declared.model.Kind.{Kind}
 use Rattle.model_core.specs.declared.model.Kind.TheVariants.{Eq, Neq, Lt, Leq, AddEq, MulEq, TestEq, TestLeq, AllDiff, Field}
 
+-- the constraint holds of these values, whatever the objects are; a field isn't among these
+abbrev pub HoldsOf : Kind → List ℤ → Type 0
+HoldsOf Eq (x ∷ y ∷ []) = x ≡ y
+HoldsOf Neq (x ∷ y ∷ []) = x ≡ y → ⊥
+HoldsOf Lt (x ∷ y ∷ []) = x <ℤ y
+HoldsOf Leq (x ∷ y ∷ []) = x ≤ℤ y
+HoldsOf AddEq (x ∷ y ∷ z ∷ []) = (x +ℤ y) ≡ z
+HoldsOf MulEq (x ∷ factor ∷ z ∷ []) = (x *ℤ factor) ≡ z
+HoldsOf TestEq (b ∷ x ∷ y ∷ []) = (b ≡ pos 1) ↔ (x ≡ y)
+HoldsOf TestLeq (b ∷ x ∷ y ∷ []) = (b ≡ pos 1) ↔ (x ≤ℤ y)
+HoldsOf kind values = ⊥
+
+-- the second value is in the field of the object that is the first
+abbrev pub IsFieldOf : (ℤ → ℤ → Type 0) → List ℤ → Type 0
+IsFieldOf field (object ∷ value ∷ []) = field object value
+IsFieldOf field values = ⊥
+
 -- the constraint holds of these values, where `fields` says which object has which value in which field
 abbrev pub Holds : (ℕ → ℤ → ℤ → Type 0) → Kind → List ℤ → Type 0
-Holds fields Eq (x ∷ y ∷ []) = x ≡ y
-Holds fields Neq (x ∷ y ∷ []) = x ≡ y → ⊥
-Holds fields Lt (x ∷ y ∷ []) = x <ℤ y
-Holds fields Leq (x ∷ y ∷ []) = x ≤ℤ y
-Holds fields AddEq (x ∷ y ∷ z ∷ []) = x +ℤ y ≡ z
-Holds fields MulEq (x ∷ factor ∷ z ∷ []) = x *ℤ factor ≡ z
-Holds fields TestEq (b ∷ x ∷ y ∷ []) = (b ≡ pos 1) ↔ (x ≡ y)
-Holds fields TestLeq (b ∷ x ∷ y ∷ []) = (b ≡ pos 1) ↔ (x ≤ℤ y)
-Holds fields (Field number) (object ∷ value ∷ []) = fields number object value
-Holds fields kind values = ⊥
+Holds fields (Field number) values = IsFieldOf (fields number) values
+Holds fields kind values = HoldsOf kind values
 
 -- of the linear constraints but equality the ends of the others count alone
 abbrev pub reach_of : Kind → Reach
