@@ -12,7 +12,7 @@ use Rattle.domain_core.proofs.Ascending.{ascending_le, stands_at}
 use Rattle.domain_core.proofs.Parts.{Bounds}
 
 -- a range that is met with the first and the last of its values that pass is the least range around those
-met_around : (passes : ℤ → Type 0) (lo hi first last : ℤ) (change : Change) (new : Domain)
+pub met_around : (passes : ℤ → Type 0) (lo hi first last : ℤ) (change : Change) (new : Domain)
     → lo ≤ℤ first → last ≤ℤ hi → first ≤ℤ last → passes first → passes last
     → ((value : ℤ) → Has (Range lo hi) value → passes value → (first ≤ℤ value) × (value ≤ℤ last))
     → IsDomain new → Keeps (λ value. (first ≤ℤ value) × (value ≤ℤ last)) (Range lo hi) change new → Keeps passes (Range lo hi) change new

@@ -29,18 +29,18 @@ all_left : (passes : ℤ → Type 0) (old : Domain) → ((value : ℤ) → IsTes
 all_left passes old pass = record { within = IsWithin-refl old; kept = λ value has passing. has; tested = pass }
 
 -- what is left, of whatever change that isn't empty
-left_of : (passes : ℤ → Type 0) (old new : Domain) (change : Change) → (change ≡ Empty → ⊥) → Keeps passes old change new → IsLeft passes old new
+pub left_of : (passes : ℤ → Type 0) (old new : Domain) (change : Change) → (change ≡ Empty → ⊥) → Keeps passes old change new → IsLeft passes old new
 left_of passes old new Same some keeps = subst (IsLeft passes old) (sym keeps.0) (all_left passes old keeps.1)
 left_of passes old new Smaller some keeps = keeps.0
 left_of passes old new Empty some keeps = absurd (some refl)
 
 -- and where it is empty, nothing passes
-none_of : (passes : ℤ → Type 0) (old new : Domain) (change : Change) → change ≡ Empty → Keeps passes old change new → (value : ℤ) → Has old value → passes value → ⊥
+pub none_of : (passes : ℤ → Type 0) (old new : Domain) (change : Change) → change ≡ Empty → Keeps passes old change new → (value : ℤ) → Has old value → passes value → ⊥
 none_of passes old new Same empty keeps = absurd (cc)
 none_of passes old new Smaller empty keeps = absurd (cc)
 none_of passes old new Empty empty keeps = keeps.1
 
-no_part : (passes : ℤ → Type 0) (old new : Domain) (change : Change) → change ≡ Empty → Keeps passes old change new → (part : Domain) → IsDomain part → IsWithin part old → ((value : ℤ) → IsTested part value → passes value) → ⊥
+pub no_part : (passes : ℤ → Type 0) (old new : Domain) (change : Change) → change ≡ Empty → Keeps passes old change new → (part : Domain) → IsDomain part → IsWithin part old → ((value : ℤ) → IsTested part value → passes value) → ⊥
 no_part passes old new change empty keeps part ok within pass = none_of passes old new change empty keeps (least part) (within.values (least part) (has_least part ok)) (pass (least part) (tested_least part ok))
 
 pub keeps_greatest : (passes : ℤ → Type 0) (old new : Domain) (change : Change) → IsDomain old → IsDomain new → Keeps passes old change new → KeepsGreatest passes old change new

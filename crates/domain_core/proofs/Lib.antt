@@ -1,6 +1,7 @@
 pub mod Around
 pub mod Ascending
 pub mod Forms
+pub mod Fronts
 pub mod Inserting
 pub mod Keeping
 pub mod Lists
@@ -8,4 +9,5 @@ pub mod Merging
 pub mod Parts
 pub mod Ranges
 pub mod Searching
+pub mod Sharing
 pub mod Words

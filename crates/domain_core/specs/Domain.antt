@@ -65,6 +65,10 @@ pub record IsWithin (inner outer : Domain) : Type 0 where
   pub kind : IsSameKind inner outer
   pub values : (value : ℤ) → Has inner value → Has outer value
 
+-- some value is in both domains
+abbrev pub HaveCommon : Domain → Domain → Type 0
+HaveCommon one other = (value : ℤ) × Has one value × Has other value
+
 -- the domain has this value and no other
 pub record IsSingle (domain : Domain) (value : ℤ) : Type 0 where
   pub has : Has domain value

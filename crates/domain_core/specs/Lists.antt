@@ -5,6 +5,8 @@ use Rattle.domain_core.specs.Domain.{Domain, Set, IsValue, AreAscending, AreMemb
 use Rattle.domain_core.specs.Narrowing.{IsPart}
 use Rattle.domain_core.specs.declared.SetFault.{SetFault}
 use Rattle.domain_core.specs.declared.SetFault.TheVariants.{Empty, OutOfRange, TooMany, Memory}
+use Rattle.domain_core.specs.declared.Change.{Change}
+use Rattle.domain_core.specs.declared.Change.TheVariants as change
 
 -- the lists have the same items, whatever their order and however often each stands there
 abbrev pub HaveSameItems : List ℤ → List ℤ → Type 0
@@ -30,13 +32,19 @@ MakesSet values (Err OutOfRange) = Any (λ value. IsValue value → ⊥) values
 MakesSet values (Err TooMany) = All IsValue values × HasTooMany values
 MakesSet values (Err Memory) = (members : List ℤ) × AreMembersOf values members
 
--- what two ascending lists have in common stands at the front of the first one; where that is nothing or all of it, nothing has moved
-pub record KeepsCommon (others old : List ℤ) (kept : ℕ) (new : List ℤ) : Type 0 where
+-- what passes of an ascending list stands at its front; where that is nothing or all of it, nothing has moved
+pub record KeepsFront (passes : ℤ → Type 0) (old : List ℤ) (kept : ℕ) (new : List ℤ) : Type 0 where
   pub few : kept ≤ length old
   pub long : length new ≡ length old
-  pub part : IsPart (Contains others) old (take kept new)
+  pub part : IsPart passes old (take kept new)
   pub none : kept ≡ 0 → new ≡ old
   pub all : kept ≡ length old → new ≡ old
+
+-- what is left where only the front of a list is to stay: nothing changes where that is nothing or all of it
+abbrev pub Cuts : ℕ → List ℤ → Change → List ℤ → Type 0
+Cuts kept old change.Same new = (new ≡ old) × (kept ≡ length old)
+Cuts kept old change.Smaller new = (new ≡ take kept old) × (0 < kept) × (kept ≡ length old → ⊥)
+Cuts kept old change.Empty new = (new ≡ old) × (kept ≡ 0)
 
 -- the number stands among the others, in its place
 pub record Inserts (old : List ℤ) (number : ℤ) (new : List ℤ) : Type 0 where

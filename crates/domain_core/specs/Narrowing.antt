@@ -1,5 +1,5 @@
 -- What a call that takes values away answers and leaves.
-use Rattle.std.specs.Prelude.{◌≡◌, ◌<◌, ◌↔◌, ℤ, List, Contains}
+use Rattle.std.specs.Prelude.{◌≡◌, ◌<◌, ◌↔◌, ℤ, Bool, true, false, List, Contains}
 use Rattle.domain_core.specs.Domain.{Domain, Has, IsTested, IsWithin, AreAscending, slack}
 use Rattle.domain_core.specs.declared.Change.{Change}
 use Rattle.domain_core.specs.declared.Change.TheVariants.{Same, Smaller, Empty}
@@ -15,6 +15,10 @@ abbrev pub Keeps : (ℤ → Type 0) → Domain → Change → Domain → Type 0
 Keeps passes old Same new = (new ≡ old) × ((value : ℤ) → IsTested old value → passes value)
 Keeps passes old Smaller new = IsLeft passes old new × (slack new < slack old)
 Keeps passes old Empty new = (new ≡ old) × ((value : ℤ) → Has old value → passes value → ⊥)
+
+-- a test answers one thing or the other of a value, and not now this and now that
+abbrev pub IsDecided : (ℤ → Bool → Type 0) → Type 0
+IsDecided answers = (value : ℤ) → answers value true → answers value false → ⊥
 
 -- what two steps together answer
 abbrev pub joined : Change → Change → Change

@@ -1,9 +1,9 @@
 //! The domain of a variable: a range of whole numbers without holes, or a set of values.
 
-ghost use Rattle.std.specs.Prelude.{◌≡◌, ◌≤◌, ◌≤ℤ◌, ◌↔◌, All, IsTrue, IfSome, IfNone, IfOk, MatchBool, ℤ};
+ghost use Rattle.std.specs.Prelude.{◌≡◌, ◌≤◌, ◌≤ℤ◌, ◌↔◌, All, IsTrue, true, IfSome, IfNone, IfOk, MatchBool, ℤ};
 ghost use Rattle.std.specs.List.{Any};
-ghost use Rattle.domain_core.specs.Domain.{Range, IsDomain, IsRange, IsSingle, IsNth, IsValue, Has, least, greatest, count_of};
-ghost use Rattle.domain_core.specs.Narrowing.{Keeps};
+ghost use Rattle.domain_core.specs.Domain.{Range, IsDomain, IsRange, IsSingle, HaveCommon, IsNth, IsValue, Has, least, greatest, count_of};
+ghost use Rattle.domain_core.specs.Narrowing.{Keeps, IsDecided};
 ghost use Rattle.domain_core.specs.Lists.{MakesSet};
 
 use super::distinct::Distinct;
@@ -134,6 +134,22 @@ impl Dom {
         }
     }
 
+    /// Whether some value is in both domains. Two sets are gone through once.
+    pub fn has_common(&self, other: &Dom) -> bool
+        ensures { IsTrue result ↔ HaveCommon self.now other.now }
+    {
+        match &self.form {
+            Form::Range(interval) => match &other.form {
+                Form::Range(bounds) => interval.overlaps(bounds),
+                Form::Set(others) => members::reach(others.as_slice(), interval),
+            },
+            Form::Set(members) => match &other.form {
+                Form::Range(bounds) => members::reach(members.as_slice(), bounds),
+                Form::Set(others) => members::have_common(members.as_slice(), others.as_slice()),
+            },
+        }
+    }
+
     /// How many values there are.
     pub fn count(&self) -> u32
         ensures count { result ≡ count_of self.now }
@@ -201,6 +217,20 @@ impl Dom {
         match &mut self.form {
             Form::Range(interval) => interval.drop_value(value),
             Form::Set(members) => members::drop_value(members, value),
+        }
+    }
+
+    /// Keeps the members of a set that pass.
+    pub fn keep_members<F: Fn(i32) -> bool>(&mut self, passes: F) -> Change
+        requires set { IsRange self.old → ⊥ }
+        requires callable { (value : ℤ) → IsValue value → F.pre passes value }
+        requires decided { IsDecided (F.post passes) }
+        ensures kept { Keeps (λ value. F.post passes value true) self.old result self.new }
+        ensures domain { IsDomain self.new }
+    {
+        match &mut self.form {
+            Form::Range(_) => unreachable!(),
+            Form::Set(members) => members::keep(members, passes),
         }
     }
 

@@ -1,7 +1,7 @@
 //! Intervals: all whole numbers between two ends.
 
-ghost use Rattle.std.specs.Prelude.{◌≡◌, ◌≤ℤ◌, ◌⊎◌};
-ghost use Rattle.domain_core.specs.Domain.{IsDomain};
+ghost use Rattle.std.specs.Prelude.{◌≡◌, ◌≤ℤ◌, ◌⊎◌, ◌↔◌, IsTrue};
+ghost use Rattle.domain_core.specs.Domain.{IsDomain, HaveCommon};
 ghost use Rattle.domain_core.specs.Narrowing.{Keeps};
 
 use super::Change;
@@ -33,6 +33,15 @@ fn earlier(a: i32, b: i32) -> i32
 
 impl Interval {
     ghost use Rattle.domain_core.specs.Intervals.{range_of};
+
+    /// Whether the intervals have a number in common.
+    pub fn overlaps(&self, other: &Interval) -> bool
+        requires self_domain { IsDomain (range_of self.now) }
+        requires other_domain { IsDomain (range_of other.now) }
+        ensures { IsTrue result ↔ HaveCommon (range_of self.now) (range_of other.now) }
+    {
+        self.lo <= other.hi && other.lo <= self.hi
+    }
 
     /// Keeps the values from `lo` to `hi`.
     pub fn meet(&mut self, lo: i32, hi: i32) -> Change

@@ -1,11 +1,11 @@
 //! The members of a set, kept in order.
 
-ghost use Rattle.std.specs.Prelude.{◌≡◌, ◌≤◌, ◌≤ℤ◌, ◌<ℤ◌, ◌↔◌, IsTrue, Contains, length, slice_index_or};
+ghost use Rattle.std.specs.Prelude.{◌≡◌, ◌≤◌, ◌≤ℤ◌, ◌<ℤ◌, ◌↔◌, IsTrue, true, Contains, ℤ, length, slice_index_or};
 ghost use Rattle.std.specs.List.{AllWithin};
-ghost use Rattle.domain_core.specs.Domain.{Set, IsDomain, AreAscending, AreMembers};
-ghost use Rattle.domain_core.specs.Narrowing.{Keeps};
+ghost use Rattle.domain_core.specs.Domain.{Set, HaveCommon, IsDomain, IsValue, AreAscending, AreMembers};
+ghost use Rattle.domain_core.specs.Narrowing.{Keeps, IsDecided};
 ghost use Rattle.domain_core.specs.Intervals.{range_of};
-ghost use Rattle.domain_core.specs.Lists.{KeepsCommon};
+ghost use Rattle.domain_core.specs.Lists.{KeepsFront, Cuts};
 
 use super::Change;
 use super::interval::Interval;
@@ -65,6 +65,13 @@ pub fn meet_set(members: &mut Vec<i32>, others: &[i32]) -> Change
     ensures domain { IsDomain (Set members.new.items) }
 {
     let kept = keep_common(members, others);
+    cut(members, kept)
+}
+
+// Leaves the first `kept` numbers, unless these are none or all.
+fn cut(members: &mut Vec<i32>, kept: usize) -> Change
+    ensures { Cuts kept members.old.items result members.new.items }
+{
     if kept == 0 {
         return Change::Empty;
     }
@@ -79,7 +86,7 @@ pub fn meet_set(members: &mut Vec<i32>, others: &[i32]) -> Change
 fn keep_common(members: &mut Vec<i32>, others: &[i32]) -> usize
     requires members { AreAscending members.old.items }
     requires others { AreAscending others.now }
-    ensures { KeepsCommon others.now members.old.items result members.new.items }
+    ensures { KeepsFront (Contains others.now) members.old.items result members.new.items }
 {
     let mut kept = 0;
     let mut next = 0;
@@ -107,6 +114,61 @@ fn skip_below(numbers: &[i32], start: usize, value: i32) -> usize
         place += 1;
     }
     place
+}
+
+/// Keeps the members that pass.
+pub fn keep<F: Fn(i32) -> bool>(members: &mut Vec<i32>, passes: F) -> Change
+    requires are { AreMembers members.old.items }
+    requires callable { (value : ℤ) → IsValue value → F.pre passes value }
+    requires decided { IsDecided (F.post passes) }
+    ensures kept { Keeps (λ value. F.post passes value true) (Set members.old.items) result (Set members.new.items) }
+    ensures domain { IsDomain (Set members.new.items) }
+{
+    let kept = keep_passing(members, passes);
+    cut(members, kept)
+}
+
+// Moves what passes to the front of the list, and answers how much that is.
+fn keep_passing<F: Fn(i32) -> bool>(members: &mut Vec<i32>, passes: F) -> usize
+    requires are { AreMembers members.old.items }
+    requires callable { (value : ℤ) → IsValue value → F.pre passes value }
+    requires decided { IsDecided (F.post passes) }
+    ensures { KeepsFront (λ value. F.post passes value true) members.old.items result members.new.items }
+{
+    let mut kept = 0;
+    for read in 0..members.len() {
+        let member = members[read];
+        if passes(member) {
+            members[kept] = member;
+            kept += 1;
+        }
+    }
+    kept
+}
+
+/// Whether the lists have a number in common. Both are gone through once.
+pub fn have_common(members: &[i32], others: &[i32]) -> bool
+    requires members { AreAscending members.now }
+    requires others { AreAscending others.now }
+    ensures { IsTrue result ↔ HaveCommon (Set members.now) (Set others.now) }
+{
+    let mut next = 0;
+    for member in members {
+        next = skip_below(others, next, *member);
+        if next < others.len() && others[next] == *member {
+            return true;
+        }
+    }
+    false
+}
+
+/// Whether a member lies between the ends of the interval.
+pub fn reach(members: &[i32], interval: &Interval) -> bool
+    requires domain { IsDomain (range_of interval.now) }
+    requires ascending { AreAscending members.now }
+    ensures { IsTrue result ↔ HaveCommon (range_of interval.now) (Set members.now) }
+{
+    first_from(members, interval.lo) < first_above(members, interval.hi)
 }
 
 /// Keeps the least range around the values of the interval that are members.

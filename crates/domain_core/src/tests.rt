@@ -71,5 +71,42 @@ fn values_are_taken_away(rt: HostRuntime) -> Result<(), Fail> {
     let mut common = threes.copy()?;
     assert_eq!(rt; common.meet_set(&evens), Change::Smaller);
     assert_eq!(rt; shape(&common), (false, 6, 6, 1));
+
+    let mut some = evens.copy()?;
+    assert_eq!(rt;
+        some.keep_members(|member| member % 4 == 0),
+        Change::Smaller
+    );
+    assert_eq!(rt; shape(&some), (false, 0, 8, 3));
+    let mut all = evens.copy()?;
+    assert_eq!(rt; all.keep_members(|member| member >= 0), Change::Same);
+    let mut none = evens.copy()?;
+    assert_eq!(rt; none.keep_members(|member| member == 3), Change::Empty);
+    assert_eq!(rt; shape(&none), (false, 0, 8, 5));
+    Ok(())
+}
+
+#[test]
+fn domains_share_values(rt: HostRuntime) -> Result<(), Fail> {
+    let alloc = rt.alloc();
+    let domains = [
+        Dom::range(3, 5).ok_or("no range")?,
+        Dom::range(5, 7).ok_or("no range")?,
+        Dom::set_of(alloc, &[0, 4, 9])?,
+        Dom::set_of(alloc, &[1, 5, 9])?,
+        Dom::set_of(alloc, &[2, 3])?,
+    ];
+    let wanted = [
+        [true, true, true, true, true],
+        [true, true, false, true, false],
+        [true, false, true, true, false],
+        [true, true, true, true, false],
+        [true, false, false, false, true],
+    ];
+    for (one, row) in domains.iter().zip(wanted.iter()) {
+        for (other, shares) in domains.iter().zip(row.iter()) {
+            assert_eq!(rt; one.has_common(other), *shares);
+        }
+    }
     Ok(())
 }

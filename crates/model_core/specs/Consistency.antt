@@ -1,5 +1,5 @@
 -- When the domains of a constraint's arguments support each other.
-use Rattle.std.specs.Prelude.{◌≡◌, ℤ, List, [], ◌∷◌, ◌++◌}
+use Rattle.std.specs.Prelude.{◌≡◌, ℤ, List, ◌∷◌, ◌++◌}
 use Rattle.std.specs.List.{AllZip}
 use Rattle.domain_core.specs.Domain.{Domain, IsTested, IsBetweenEnds, Has}
 

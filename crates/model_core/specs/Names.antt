@@ -2,12 +2,12 @@
 use Rattle.std.specs.Prelude.{◌≡◌, ℕ, List, [], Some, slice_get, codes}
 use Rattle.eu_name.specs.declared.name.Part.{Part}
 use Rattle.eu_name.specs.declared.name.Part.TheVariants.{Start, End, Duration, Object, Param}
+use Rattle.eu_name.specs.declared.name.Step.{Step}
 use Rattle.eu_name.specs.declared.name.TokenName.{TokenName}
 use Rattle.eu_name.specs.declared.name.VarName.{VarName}
 use Rattle.eu_name.specs.declared.name.VarName.TheVariants.{Token, Local, Global}
 use Rattle.eu_name.specs.declared.name_text.NameText.{NameText}
 use Rattle.eu_name.specs.declared.name_text.Tail.TheVariants as tails
-use Rattle.eu_name.specs.Spelling.{IsWellFormed}
 use Rattle.model_core.specs.declared.model.Model.{Model}
 use Rattle.model_core.specs.declared.model.Root.{Root}
 use Rattle.model_core.specs.declared.rule.Slot.{Slot}
@@ -15,6 +15,10 @@ use Rattle.model_core.specs.declared.variable.VarDecl.{VarDecl}
 use Rattle.model_core.specs.Lawful.{IsLawful}
 use Rattle.model_core.specs.Tokens.{IsRoot, HasToken}
 use Rattle.model_core.specs.Variables.{HasParameter, HasLocal}
+
+-- the token to which the steps lead from the root of this number
+abbrev pub token_at : ℕ → List Step → TokenName
+token_at root steps = record { root = root; steps = steps }
 
 -- the label is that of the token's root, the steps are those from there, and the model has the token, as the slot says
 pub record LeadsToToken (model : Model) (text : NameText) (token : TokenName) (slot : Slot) : Type 0 where
@@ -52,7 +56,3 @@ NamesOneToken = (model : Model) (text : NameText) (one other : TokenName) → Is
 abbrev pub NamesOneVariable : Type 0
 NamesOneVariable =
     (model : Model) (text : NameText) (one other : VarName) → IsLawful model → NamesVariable model text one → NamesVariable model text other → one ≡ other
-
--- and the text has a spelling
-abbrev pub NamesBySpelling : Type 0
-NamesBySpelling = (model : Model) (text : NameText) (variable : VarName) → IsLawful model → NamesVariable model text variable → IsWellFormed text

@@ -4,9 +4,12 @@
 pub mod class;
 pub mod decision;
 pub mod item;
+pub mod lookup;
 pub mod model;
+pub mod resolve;
 pub mod rule;
 #[cfg(test)]
 mod tests;
+pub mod var_text;
 pub mod variable;
 pub mod view;

@@ -1,13 +1,13 @@
 //! The model: what a problem's text says, as lists.
 
-ghost use Rattle.std.specs.Prelude.{◌≡◌, ◌<◌, ◌^◌, length, bytes_eq};
+ghost use Rattle.std.specs.Prelude.{◌≡◌, ◌<◌, ◌^◌, length};
 ghost use Rattle.model_core.specs.Lookup.{global_named};
 
 use super::class::{Class, Enum, Object, Pred};
 use super::decision::Decision;
 use super::item::Item;
 use super::rule::Rule;
-use super::variable::VarDecl;
+use super::variable::{VarDecl, first_named};
 use domain_core::domain::Dom;
 use eu_name::sequence::Sequence;
 use eu_name::text::Text;
@@ -30,20 +30,8 @@ impl Model {
         requires { length self.now.problem.globals < 2 ^ 32 }
         ensures { result ≡ global_named self.now name.now }
     {
-        for (number, variable) in self.problem.globals.as_slice().iter().enumerate() {
-            if has_name(variable, name) {
-                return Some(number as u32);
-            }
-        }
-        None
+        first_named(self.problem.globals.as_slice(), name)
     }
-}
-
-// Whether the variable has this name.
-fn has_name(variable: &VarDecl, name: &[u8]) -> bool
-    ensures { result ≡ bytes_eq variable.now.name name.now }
-{
-    variable.name.as_bytes() == name
 }
 
 /// What is asked for, and within which times.

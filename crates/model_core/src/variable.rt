@@ -1,5 +1,8 @@
 //! Declared variables.
 
+ghost use Rattle.std.specs.Prelude.{◌≡◌, ◌<◌, ◌^◌, length, bytes_eq};
+ghost use Rattle.model_core.specs.Lookup.{first_named};
+
 use domain_core::domain::Dom;
 use eu_name::text::Text;
 
@@ -28,4 +31,24 @@ pub enum Base {
     Given(Dom),
     /// There is no value: the class of an object variable has no object.
     Void,
+}
+
+/// The number of the first of the variables that has this name.
+pub fn first_named(variables: &[VarDecl], name: &[u8]) -> Option<u32>
+    requires { length variables.now < 2 ^ 32 }
+    ensures { result ≡ first_named 0 name.now variables.now }
+{
+    for (number, variable) in variables.iter().enumerate() {
+        if has_name(variable, name) {
+            return Some(number as u32);
+        }
+    }
+    None
+}
+
+// Whether the variable has this name.
+fn has_name(variable: &VarDecl, name: &[u8]) -> bool
+    ensures { result ≡ bytes_eq variable.now.name name.now }
+{
+    variable.name.as_bytes() == name
 }

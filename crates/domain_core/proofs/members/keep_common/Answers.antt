@@ -16,13 +16,13 @@ loop-read-preserved c =
     let z = to_z w32 (of_z w32 x) in
     let e : z ≡ x = omega (arith, ints) in
     let read_is : z ≡ get_or items read z = e ∙ c.index-member.ensures ∙ ap (get_or items read) (sym e) in
-    let within : read < length items = omega (arith, c.loop-read.invariant.filtered.long, c.len-read-end.ensures, c.loop-read-test.true) in
+    let within : read < length items = omega (arith, c.loop-read.invariant.sifted.long, c.len-read-end.ensures, c.loop-read-test.true) in
     elim c.if-next-others.branch [
       | then-next-others+then-others-next w ↦
           let same : get_or others next (pos 0) ≡ z = omega (arith, ints, w.if-others-next.true) in
           rw (w.members-is, w.kept-is)
           (merged_take others c.args.members.now.items items c.loop-read.kept read c.loop-read.next next z c.requires.members c.requires.others c.loop-read.invariant
-          within read_is s.from s.bound s.below s.next w.if-next-others.true (get_or_default others next z (pos 0) w.if-next-others.true ∙ same))
+          within read_is s.bound s.below s.next w.if-next-others.true (get_or_default others next z (pos 0) w.if-next-others.true ∙ same))
       | else-next-others w ↦
           let apart : get_or others next z ≡ z → next < length others → ⊥ = λ same there. elim w.else-next-others.branch [
             | else-next-others-via-then-next-others+else-others-next v ↦ v.if-others-next.false (let same_bits : of_z w32 (get_or others next (pos 0)) ≡ of_z w32 x = ap (of_z w32) (get_or_default others next (pos 0) z there ∙ same ∙ e) in same_bits)
@@ -30,8 +30,8 @@ loop-read-preserved c =
           ] in
           rw (w.members-is, w.kept-is)
           (merged_leave others c.args.members.now.items items c.loop-read.kept read c.loop-read.next next z c.requires.members c.requires.others c.loop-read.invariant
-          within read_is s.from s.bound s.below s.next apart)
+          within read_is s.bound s.below s.next apart)
     ]
 
 pub returns : goal.returns
-returns c = merged_all _ _ _ _ _ _ c.requires.members c.loop-read.invariant (omega arith)
+returns c = merged_all _ _ _ _ _ _ c.loop-read.invariant (omega arith)

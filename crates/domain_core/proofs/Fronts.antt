@@ -1,0 +1,154 @@
+-- What passes a test comes to the front of a list, and what the set keeps of it.
+use Rattle.std.proofs.Common.{◌≡◌, ℕ, ◌+◌, ◌<◌, ◌≤◌, List, [], ◌∷◌, ◌++◌, length, get_or, set, take, drop, ℤ, ◌<ℤ◌, ⊎_elim, refl, sym, ap, ◌∙◌, subst, arith}
+use Rattle.std.specs.Prelude.{Contains}
+use Rattle.std.proofs.lemmas.Int.{ints}
+use Rattle.std.proofs.lemmas.List.{get_or-drop, set-get_or, take_all, take_more, take_more_set, drop-set-lt, drop-drop, length-set, length-take-le, get_or-take, get_or_default}
+use Rattle.std.proofs.lemmas.List.Elements.{Contains-get_or, Contains-append_left, Contains-push, Contains-push_cases}
+use Rattle.std.proofs.lemmas.List.Quantifiers.{all_pairs_push}
+use Rattle.domain_core.specs.Domain.{Set, AreAscending, AreMembers}
+use Rattle.domain_core.specs.Narrowing.{Keeps, IsPart}
+use Rattle.domain_core.specs.declared.Change.{Change}
+use Rattle.domain_core.specs.declared.Change.TheVariants.{Same, Smaller, Empty}
+use Rattle.domain_core.specs.Lists.{KeepsFront, Cuts}
+use Rattle.domain_core.proofs.Parts.{part_smaller, part_members}
+
+-- ---- a part grows with the list
+
+module _ (passes : ℤ → Type 0) (old new : List ℤ) (x : ℤ) (part : IsPart passes old new) where
+  pub part_taken : passes x → ((value : ℤ) → Contains old value → value <ℤ x) → IsPart passes (old ++ x ∷ []) (new ++ x ∷ [])
+  part_taken pass above = record {
+    ascending = all_pairs_push (λ one later. one <ℤ later) new x part.ascending (λ k d within. above (get_or new k d) ((part.items (get_or new k d)).0 (Contains-get_or new k d within)).0);
+    items = λ value. (
+      λ has.
+          ⊎_elim
+          (λ earlier. let both = (part.items value).0 earlier in (Contains-append_left old (x ∷ []) value both.0, both.1))
+          (λ last. (subst (Contains (old ++ x ∷ [])) last (Contains-push old x), subst passes last pass))
+          (Contains-push_cases new x value has),
+      λ both.
+          ⊎_elim
+          (λ earlier. Contains-append_left new (x ∷ []) value ((part.items value).1 (earlier, both.1)))
+          (λ last. subst (Contains (new ++ x ∷ [])) last (Contains-push new x))
+          (Contains-push_cases old x value both.0),
+    );
+  }
+
+  pub part_left_out : (passes x → ⊥) → IsPart passes (old ++ x ∷ []) new
+  part_left_out fails = record {
+    ascending = part.ascending;
+    items = λ value. (
+      λ has. let both = (part.items value).0 has in (Contains-append_left old (x ∷ []) value both.0, both.1),
+      λ both.
+          ⊎_elim
+          (λ earlier. (part.items value).1 (earlier, both.1))
+          (λ last. absurd (fails (subst passes (sym last) both.1)))
+          (Contains-push_cases old x value both.0),
+    );
+  }
+
+-- ---- one pass over a list, with a test
+
+-- how far the pass has come: of the first `read` numbers those that pass stand in front, and the rest is as it was
+pub record Sifted (passes : ℤ → Type 0) (old new : List ℤ) (kept read : ℕ) : Type 0 where
+  pub part : IsPart passes (take read old) (take kept new)
+  pub rest : drop read new ≡ drop read old
+  pub behind : kept ≤ read
+  pub within : read ≤ length old
+  pub long : length new ≡ length old
+  pub none : kept ≡ 0 → new ≡ old
+  pub all : kept ≡ read → new ≡ old
+
+pub sifted_start : (passes : ℤ → Type 0) (old : List ℤ) → Sifted passes old old 0 0
+sifted_start passes old = record {
+  part = record {
+    ascending = λ i j d before within. absurd (omega (arith, within));
+    items = λ value. (λ has. absurd (omega (arith, has.1)), λ both. absurd (omega (arith, both.0.1)));
+  };
+  rest = refl;
+  behind = omega arith;
+  within = omega arith;
+  long = refl;
+  none = λ _. refl;
+  all = λ _. refl;
+}
+
+module _ (passes : ℤ → Type 0) (old new : List ℤ) (kept read : ℕ) (x : ℤ)
+    (ascending : AreAscending old) (sifted : Sifted passes old new kept read) (inside : read < length new) (read_is : x ≡ get_or new read x) where
+  -- what is read is still what stood there
+  pub was_there : get_or old read x ≡ x
+  was_there =
+      let here = get_or-drop read new 0 x in
+      let there = get_or-drop read old 0 x in
+      let plain : read + 0 ≡ read = omega arith in
+      sym (there ∙ ap (λ k. get_or old k x) plain) ∙ ap (λ list. get_or list 0 x) (sym sifted.rest) ∙ (here ∙ ap (λ k. get_or new k x) plain) ∙ sym read_is
+
+  old_inside : read < length old
+  old_inside = omega (arith, sifted.long, inside)
+
+  one_more : take (read + 1) old ≡ take read old ++ x ∷ []
+  one_more = take_more old read x old_inside ∙ ap (λ y. take read old ++ y ∷ []) was_there
+
+  above_earlier : (value : ℤ) → Contains (take read old) value → value <ℤ x
+  above_earlier value has =
+      let place : has.0 < read = omega (arith, has.1, length-take-le read old (omega (arith, old_inside))) in
+      let at : get_or old has.0 value ≡ value = sym (get_or-take read old has.0 value place) ∙ has.2 in
+      let less = ascending has.0 read value place old_inside in
+      let here = get_or_default old read value x old_inside ∙ was_there in
+      omega (arith, ints, less, at, here)
+
+  rest_later : drop (read + 1) new ≡ drop (read + 1) old
+  rest_later = sym (drop-drop 1 read new) ∙ ap (drop 1) sifted.rest ∙ drop-drop 1 read old
+
+  pub sifted_take : passes x → Sifted passes old (set new kept x) (kept + 1) (read + 1)
+  sifted_take pass = record {
+    part = rw (one_more, take_more_set new kept x (omega (arith, sifted.behind, inside))) (part_taken passes (take read old) (take kept new) x sifted.part pass above_earlier);
+    rest = drop-set-lt (read + 1) new kept x (omega (arith, sifted.behind)) ∙ rest_later;
+    behind = omega (arith, sifted.behind);
+    within = omega (arith, old_inside);
+    long = length-set new kept x ∙ sifted.long;
+    none = λ zero_is. absurd (omega arith);
+    all = λ caught_up.
+        let e : kept ≡ read = omega arith in
+        ap (λ k. set new k x) e ∙ ap (set new read) read_is ∙ set-get_or new read x ∙ sifted.all e;
+  }
+
+  pub sifted_leave : (passes x → ⊥) → Sifted passes old new kept (read + 1)
+  sifted_leave fails = record {
+    part = rw one_more (part_left_out passes (take read old) (take kept new) x sifted.part fails);
+    rest = rest_later;
+    behind = omega (arith, sifted.behind);
+    within = omega (arith, old_inside);
+    long = sifted.long;
+    none = sifted.none;
+    all = λ caught_up. absurd (omega (arith, sifted.behind));
+  }
+
+-- at the end what passes stands in front
+pub sifted_all : (passes : ℤ → Type 0) (old new : List ℤ) (kept read : ℕ) → Sifted passes old new kept read → length old ≤ read → KeepsFront passes old kept new
+sifted_all passes old new kept read sifted through = record {
+  few = omega (arith, sifted.behind, sifted.within);
+  long = sifted.long;
+  part = subst (λ list. IsPart passes list (take kept new)) (take_all read old through) sifted.part;
+  none = sifted.none;
+  all = λ full. sifted.all (omega (arith, full, sifted.within));
+}
+
+-- ---- what the set keeps of it
+
+module _ (passes : ℤ → Type 0) (old moved : List ℤ) (kept : ℕ) (front : KeepsFront passes old kept moved) where
+  length_kept : length (take kept moved) ≡ kept
+  length_kept = length-take-le kept moved (omega (arith, front.few, front.long))
+
+  pub front_keeps : (change : Change) (new : List ℤ) → Cuts kept moved change new → Keeps passes (Set old) change (Set new)
+  front_keeps Same new cut =
+      let same = front.all (omega (arith, cut.1, front.long)) in
+      (ap Set (cut.0 ∙ same), λ value has. ((front.part.items value).0 (subst (λ list. Contains list value) (sym (take_all kept moved (omega (arith, cut.1)))) (subst (λ list. Contains list value) (sym same) has))).1)
+  front_keeps Smaller new cut =
+      subst (λ list. Keeps passes (Set old) Smaller (Set list)) (sym cut.0)
+      (part_smaller passes old (take kept moved) front.part (omega (arith, cut.1, length_kept)) (omega (arith, cut.2, length_kept, front.few, front.long)))
+  front_keeps Empty new cut =
+      (ap Set (cut.0 ∙ front.none cut.1), λ value has pass. let c = (front.part.items value).1 (has, pass) in omega (arith, c.1, length_kept, cut.1))
+
+  pub front_members : AreMembers old → (change : Change) (new : List ℤ) → Cuts kept moved change new → AreMembers new
+  front_members are Same new cut = subst AreMembers (sym (cut.0 ∙ front.all (omega (arith, cut.1, front.long)))) are
+  front_members are Smaller new cut = subst AreMembers (sym cut.0) (part_members passes old (take kept moved) front.part are (omega (arith, cut.1, length_kept)))
+  front_members are Empty new cut = subst AreMembers (sym (cut.0 ∙ front.none cut.1)) are

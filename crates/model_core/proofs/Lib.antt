@@ -1,0 +1,7 @@
+pub mod Items
+pub mod Rules
+pub mod Distinct
+pub mod Leading
+pub mod Lookups
+pub mod Resolving
+pub mod Naming

@@ -1,0 +1,8 @@
+// Constraints: what each takes from the domains of its arguments, and what one pass over them leaves.
+#![tactic(auto)]
+
+pub mod equal;
+pub mod laws;
+mod limits;
+pub mod narrow;
+pub mod order;

@@ -1,0 +1,30 @@
+//! The constraints of order: their arguments have to be so to each other at their ends.
+
+use super::limits::{keep_from, keep_up_to};
+use super::narrow::Narrow;
+use domain_core::Change;
+use domain_core::domain::Dom;
+
+/// The first argument is at most the second.
+#[derive(Clone, Copy)]
+pub struct Leq;
+
+impl Narrow for Leq {
+    ghost use Rattle.model_core.specs.Consistency.{Ends};
+    ghost use Rattle.narrow_core.specs.Meanings.{HoldsAlone};
+    ghost use Rattle.model_core.specs.declared.model.Kind.TheVariants as kind;
+
+    ghost count = { λ _. 2 };
+
+    ghost reach = { λ _. Ends };
+
+    ghost holds = { λ _. HoldsAlone kind.Leq };
+
+    fn keep_supported(&self, before: &[Dom], own: &mut Dom, after: &[Dom]) -> Change {
+        match (before, after) {
+            ([], [y]) => keep_up_to(own, y.hi()),
+            ([x], []) => keep_from(own, x.lo()),
+            _ => unreachable!(),
+        }
+    }
+}

@@ -1,0 +1,308 @@
+-- When the states of scenes are closed, but for what depends on the object.
+use Rattle.std.proofs.Common.{◌≡◌, ℕ, suc, zero, ◌+◌, ◌≤◌, List, [], ◌∷◌, length, Some, ℤ, pos, ◌+ℤ◌, inl, inr, refl, sym, ap, ◌∙◌, subst, arith}
+use Rattle.std.specs.Prelude.{Contains, All, AllPairs, slice_get, ⊤, ◌⊎◌, ◌↔◌}
+use Rattle.std.proofs.lemmas.Int.{ints}
+use Rattle.std.proofs.lemmas.List.Elements.{All-contains}
+use Rattle.domain_core.specs.Domain.{Domain, Range, IsDomain, IsValue, IsWithin, IsTested, IsBetweenEnds}
+use Rattle.domain_core.proofs.Words.{IsWithin-refl}
+use Rattle.eu_name.specs.declared.name.Part.{Part}
+use Rattle.eu_name.specs.declared.name.Part.TheVariants.{Start, End, Duration, Object, Param}
+use Rattle.eu_name.specs.declared.name.Step.{Step}
+use Rattle.eu_name.specs.declared.name.TokenName.{TokenName}
+use Rattle.eu_name.specs.declared.name.VarName.{VarName}
+use Rattle.eu_name.specs.declared.name.VarName.TheVariants.{Token, Local, Global}
+use Rattle.model_core.specs.declared.class.ObjectKind.{ObjectKind}
+use Rattle.model_core.specs.declared.class.Pred.{Pred}
+use Rattle.model_core.specs.declared.class.PredKind.{PredKind}
+use Rattle.model_core.specs.declared.decision.Decision.{Decision}
+use Rattle.model_core.specs.declared.decision.Decision.TheVariants.{Specify, Activate, Merge, Reject, Order}
+use Rattle.model_core.specs.declared.item.Kind.TheVariants.{AddEq}
+use Rattle.model_core.specs.declared.model.Model.{Model}
+use Rattle.model_core.specs.declared.model.RootKind.{RootKind}
+use Rattle.model_core.specs.declared.rule.Guard.{Guard}
+use Rattle.model_core.specs.declared.rule.Rule.{Rule}
+use Rattle.model_core.specs.declared.rule.Side.{Side}
+use Rattle.model_core.specs.declared.rule.Side.TheVariants.{Then, Otherwise}
+use Rattle.model_core.specs.declared.rule.Slot.{Slot}
+use Rattle.model_core.specs.declared.rule.Turn.{Turn}
+use Rattle.model_core.specs.declared.variable.Base.{Base}
+use Rattle.model_core.specs.declared.variable.Base.TheVariants.{Given}
+use Rattle.model_core.specs.Blocks.{TokenBlock, Follows, HasBlock, IsBlock, IsBlockBefore, Direct, OfSlot, OfLocal, OfItem, OfBranch, direct, chosen}
+use Rattle.model_core.specs.Consistency.{Ends}
+use Rattle.model_core.specs.Constraints.{HoldsOf}
+use Rattle.model_core.specs.Entries.{Entries, Nothing}
+use Rattle.model_core.specs.State.{State, Entry, Gives, IsAbout, IsState}
+use Rattle.model_core.specs.Tokens.{HasToken, HasRule, root_token, slot_of}
+use Rattle.model_core.specs.Variables.{HasBase, HasPartBase, IsInBase}
+use Rattle.plan_defs.specs.Claims.{Claim, IsClaim, lasts}
+use Rattle.plan_defs.specs.Closure.{IsClosed, AreInBase, IsRespected}
+use Rattle.plan_defs.specs.Consistency.{IsConsistent}
+use Rattle.plan_defs.specs.Resources.{FitReusables, FitReservoirs}
+use Rattle.plan_defs.specs.Support.{Opens, IsSupportedToken, IsSupportedBlock}
+use Rattle.plan_defs.specs.Terms.{OfRule}
+use Rattle.plan_defs.specs.Timelines.{FitTimelines}
+use Rattle.plan_defs.proofs.Ordered.{contains_none}
+use Rattle.plan_examples.specs.Scenes.{the_object, predicate_of, root_of, scene, Moment, only, tokens_of, entries_of, state_of, guarded}
+use Rattle.plan_examples.proofs.Lists.{all_members, only_member, same_some, get_map, map_get, get_alike}
+use Rattle.plan_examples.proofs.Scenes.{tokens_in_order, entries_in_order, HasPartDomain, entry_of, entry_there, token_of, token_there}
+use Rattle.plan_examples.proofs.Tuples.{three_consistent}
+
+-- the times are those that tokens can have, and the quantity is one
+pub record IsMoment (moment : Moment) : Type 0 where
+  pub some : 1 ≤ moment.duration
+  pub ends : moment.start + moment.duration ≤ 10
+  pub quantity : IsDomain moment.quantity
+  pub within : IsWithin moment.quantity (Range (pos 0) (pos 1000000))
+
+-- neither a value is specified, nor are tokens merged or put in order
+abbrev pub IsPlain : Decision → Type 0
+IsPlain (Activate token) = ⊤
+IsPlain (Reject token) = ⊤
+IsPlain decision = ⊥
+
+-- ---- what stands in the one rule
+
+pub nothing_follows : (Allows : Guard → Side → Type 0) (path : List Turn) (entries : Entries) → Follows Allows Nothing path entries → entries ≡ Nothing
+nothing_follows Allows [] entries way = way
+nothing_follows Allows (turn ∷ path) entries way = let at = way.1.2.0 in absurd (cc)
+
+-- the ways through the rule lead to its own block, or to one without entries
+pub guarded_follows : (Allows : Guard → Side → Type 0) (path : List Turn) (entries : Entries) → Follows Allows guarded.top path entries → (entries ≡ guarded.top) ⊎ (entries ≡ Nothing)
+guarded_follows Allows [] entries way = inl way
+guarded_follows Allows (turn ∷ path) entries way = inr (behind turn.entry turn.side way.0 way.1.0 way.1.1 way.1.2.0 way.1.2.1.1)
+  where
+    behind : (place : ℕ) (side : Side) (guard : Guard) (then otherwise : Entries) → slice_get (direct guarded.top) place ≡ Some (OfBranch guard then otherwise)
+        → Follows Allows (chosen side then otherwise) path entries → entries ≡ Nothing
+    behind (suc place) side guard then otherwise at way = absurd (cc)
+    behind zero Then guard then otherwise at way = let is : then ≡ Nothing = cc in nothing_follows Allows path entries (subst (λ e. Follows Allows e path entries) is way)
+    behind zero Otherwise guard then otherwise at way = let is : otherwise ≡ Nothing = cc in nothing_follows Allows path entries (subst (λ e. Follows Allows e path entries) is way)
+
+-- so nothing but a guard stands anywhere in it
+only_guards : (entries : Entries) (item : Direct) → (entries ≡ guarded.top) ⊎ (entries ≡ Nothing) → Contains (direct entries) item → (guard : Guard) × ((then otherwise : Entries) × (item ≡ OfBranch guard then otherwise))
+only_guards entries item (inl top) c =
+    let same = only_member (OfBranch _ Nothing Nothing) item (subst (λ e. Contains (direct e) item) top c) in
+    (_, (Nothing, Nothing, sym same))
+only_guards entries item (inr none) c = absurd (contains_none item (subst (λ e. Contains (direct e) item) none c))
+
+module _ (object_kind : ObjectKind) (pred_kind : PredKind) (numbers : List ℕ) (rules : List Rule) (kinds : List RootKind) where
+  abbrev model : Model
+  model = scene object_kind pred_kind numbers rules kinds
+
+  abbrev the_slot : Slot
+  the_slot = record { pred = 0; object = Given the_object }
+
+  -- what a token of the scene is, is always the same
+  pub slot_same : (number : ℕ) (slot : Slot) → HasToken model (root_token number) slot → slot ≡ the_slot
+  slot_same number slot p =
+      let found = get_map root_of kinds number p.root p.is_root in
+      p.reached ∙ ap slot_of (sym found.1.1)
+
+  has_token : (number : ℕ) (kind : RootKind) → slice_get kinds number ≡ Some kind → HasToken model (root_token number) the_slot
+  has_token number kind at = record { root = root_of kind; is_root = map_get root_of kinds number kind at; reached = refl }
+
+  -- parts of tokens, and the bases of those that there are
+  abbrev part_base : Part → Base
+  part_base Object = Given the_object
+  part_base Start = Given (Range (pos 0) (pos 10))
+  part_base End = Given (Range (pos 0) (pos 10))
+  part_base Duration = Given (Range (pos 1) (pos 10))
+  part_base (Param number) = Given (Range (pos 0) (pos 1000000))
+
+  has_part_base : (moment : Moment) (part : Part) (domain : Domain) → HasPartDomain moment part domain → HasPartBase model the_slot part (part_base part)
+  has_part_base moment Object domain is = refl
+  has_part_base moment Start domain is = refl
+  has_part_base moment End domain is = refl
+  has_part_base moment Duration domain is = refl
+  has_part_base moment (Param zero) domain is = (_, record { predicate = predicate_of pred_kind numbers; is_predicate = refl; declared = refl }, refl)
+  has_part_base moment (Param (suc number)) domain is = absurd is
+
+  -- a part that has a base has a domain at each moment
+  part_domain : (moment : Moment) (part : Part) (base : Base) → HasPartBase model the_slot part base → (domain : Domain) × HasPartDomain moment part domain
+  part_domain moment Object base is = (the_object, refl)
+  part_domain moment Start base is = (only moment.start, refl)
+  part_domain moment End base is = (only (moment.start + moment.duration), refl)
+  part_domain moment Duration base is = (only moment.duration, refl)
+  part_domain moment (Param zero) base is = (moment.quantity, refl)
+  part_domain moment (Param (suc number)) base (variable, has, e) =
+      let predicate : predicate_of pred_kind numbers ≡ has.predicate = same_some (predicate_of pred_kind numbers) has.predicate has.is_predicate in
+      let declared : slice_get (predicate_of pred_kind numbers).params (suc number) ≡ Some variable = subst (λ (p : Pred). slice_get p.params (suc number) ≡ Some variable) (sym predicate) has.declared in
+      absurd (cc)
+
+  only_within : (value lo hi : ℕ) → lo ≤ value → value ≤ hi → IsWithin (only value) (Range (pos lo) (pos hi))
+  only_within value lo hi low high = record { kind = tt; values = λ v has. (omega (arith, ints, has.0), omega (arith, ints, has.1)) }
+
+  part_within : (moment : Moment) (part : Part) (domain : Domain) → IsMoment moment → HasPartDomain moment part domain → IsInBase domain (part_base part)
+  part_within moment Object domain ok is = subst (λ d. IsWithin d the_object) (sym is) (IsWithin-refl the_object)
+  part_within moment Start domain ok is = subst (λ d. IsWithin d (Range (pos 0) (pos 10))) (sym is) (only_within moment.start 0 10 (omega arith) (omega (arith, ok.ends)))
+  part_within moment End domain ok is = subst (λ d. IsWithin d (Range (pos 0) (pos 10))) (sym is) (only_within (moment.start + moment.duration) 0 10 (omega arith) (omega (arith, ok.ends)))
+  part_within moment Duration domain ok is = subst (λ d. IsWithin d (Range (pos 1) (pos 10))) (sym is) (only_within moment.duration 1 10 (omega (arith, ok.some)) (omega (arith, ok.ends)))
+  part_within moment (Param zero) domain ok is = subst (λ d. IsWithin d (Range (pos 0) (pos 1000000))) (sym is) ok.within
+  part_within moment (Param (suc number)) domain ok is = absurd is
+
+  only_domain : (value : ℕ) → value ≤ 10 → IsDomain (only value)
+  only_domain value low = ((omega (arith, ints), omega (arith, ints)), (omega (arith, ints), omega (arith, ints)), omega (arith, ints))
+
+  object_domain : IsDomain the_object
+  object_domain = record {
+    ascending = λ i j d less within. absurd (omega arith);
+    values = all_members IsValue (pos 0 ∷ []) (λ x c. let same = only_member (pos 0) x c in (omega (arith, ints, same), omega (arith, ints, same)));
+    some = omega arith;
+    few = omega arith;
+  }
+
+  part_is_domain : (moment : Moment) (part : Part) (domain : Domain) → IsMoment moment → HasPartDomain moment part domain → IsDomain domain
+  part_is_domain moment Object domain ok is = subst IsDomain (sym is) object_domain
+  part_is_domain moment Start domain ok is = subst IsDomain (sym is) (only_domain moment.start (omega (arith, ok.ends)))
+  part_is_domain moment End domain ok is = subst IsDomain (sym is) (only_domain (moment.start + moment.duration) (omega (arith, ok.ends)))
+  part_is_domain moment Duration domain ok is = subst IsDomain (sym is) (only_domain moment.duration (omega (arith, ok.ends)))
+  part_is_domain moment (Param zero) domain ok is = subst IsDomain (sym is) ok.quantity
+  part_is_domain moment (Param (suc number)) domain ok is = absurd is
+
+  -- the block is one of a token of the state
+  abbrev pub HasItsBlock : List Moment → TokenBlock → Type 0
+  HasItsBlock moments block = Contains (tokens_of 0 moments) block.token × ((entries : Entries) × IsBlock model block entries)
+
+  -- ---- a state with as many moments as there are roots
+
+  module _ (blocks : List TokenBlock) (moments : List Moment) (lengths : length moments ≡ length kinds) (are : (place : ℕ) (moment : Moment) → slice_get moments place ≡ Some moment → IsMoment moment)
+      (plain : (number : ℕ) (rule : Rule) → HasRule model 0 number rule → rule ≡ guarded) where
+    abbrev state : State
+    state = state_of blocks moments
+
+    stands_in : (Allows : Guard → Side → Type 0) (block : TokenBlock) (entries : Entries) (number : ℕ) → block.token ≡ root_token number → HasBlock model Allows block entries → (entries ≡ guarded.top) ⊎ (entries ≡ Nothing)
+    stands_in Allows block entries number named p =
+        let slot = slot_same number p.slot (subst (λ t. HasToken model t p.slot) named p.has_token) in
+        let rule = plain block.rule p.rule (subst (λ (s : Slot). HasRule model s.pred block.rule p.rule) slot p.has_rule) in
+        guarded_follows Allows block.path entries (subst (λ (r : Rule). Follows Allows r.top block.path entries) rule p.way)
+
+    no_shift : (number : ℕ) → 0 + number ≡ number
+    no_shift number = omega arith
+
+    -- the variables of the state are those that it is about
+    gives_part : (token : TokenName) (part : Part) → IsAbout model state (Token token part) → (domain : Domain) × Gives state (Token token part) domain
+    gives_part token part about =
+        let is = token_of 0 moments token about.0 in
+        let base = about.1.0 in
+        let named : token ≡ root_token is.place = is.named ∙ ap root_token (no_shift is.place) in
+        let slot = slot_same is.place about.1.1.0 (subst (λ t. HasToken model t about.1.1.0) named about.1.1.1) in
+        let found = part_domain is.moment part base (subst (λ (s : Slot). HasPartBase model s part base) slot about.1.1.2) in
+        (found.0, subst (λ t. Gives state (Token t part) found.0) (sym is.named) (entry_there 0 moments is.place is.moment part found.0 is.at found.1))
+
+    about_part : (name : VarName) (domain : Domain) → Gives state name domain → IsAbout model state name
+    about_part name domain gives =
+        let is = entry_of 0 moments name domain gives in
+        let kind = get_alike moments kinds is.place is.moment lengths is.at in
+        let named : name ≡ Token (root_token is.place) is.part = is.named ∙ ap (λ n. Token (root_token n) is.part) (no_shift is.place) in
+        let there = subst (λ n. Contains (tokens_of 0 moments) (root_token n)) (no_shift is.place) (token_there 0 moments is.place is.moment is.at) in
+        subst (IsAbout model state) (sym named)
+        (there, (part_base is.part, (the_slot, has_token is.place kind.0 kind.1, has_part_base is.moment is.part domain is.is)))
+
+    no_locals : (token : TokenName) (rule number : ℕ) → All (HasItsBlock moments) blocks → IsAbout model state (Local token rule number) → ⊥
+    no_locals token rule number blocks_ok about =
+        let block : TokenBlock = about.0 in
+        let entries : Entries = about.1.1.1.1.0 in
+        let place : HasItsBlock moments block = All-contains (HasItsBlock moments) blocks block blocks_ok about.1.0 in
+        let is = token_of 0 moments block.token place.0 in
+        let none = only_guards entries (OfLocal number) (stands_in (λ guard side. ⊤) block entries is.place (is.named ∙ ap root_token (no_shift is.place)) about.1.1.1.1.1.0) about.1.1.1.1.1.1 in
+        let e = none.1.2 in absurd (cc)
+
+    variables_of : All (HasItsBlock moments) blocks → (name : VarName) → IsAbout model state name ↔ ((domain : Domain) × Gives state name domain)
+    variables_of blocks_ok (Global number) = (λ about. absurd (omega (arith, about)), λ found. about_part (Global number) found.0 found.1)
+    variables_of blocks_ok (Token token part) = (gives_part token part, λ found. about_part (Token token part) found.0 found.1)
+    variables_of blocks_ok (Local token rule number) = (λ about. absurd (no_locals token rule number blocks_ok about), λ found. about_part (Local token rule number) found.0 found.1)
+
+    is_state : AllPairs IsBlockBefore blocks → All (HasItsBlock moments) blocks → IsState model state
+    is_state ordered blocks_ok = record {
+      order = record { tokens = tokens_in_order 0 moments; blocks = ordered; entries = entries_in_order 0 moments };
+      tokens = all_members (λ token. (slot : Slot) × HasToken model token slot) (tokens_of 0 moments) (λ token c.
+          let is = token_of 0 moments token c in
+          let kind = get_alike moments kinds is.place is.moment lengths is.at in
+          (the_slot, subst (λ t. HasToken model t the_slot) (sym (is.named ∙ ap root_token (no_shift is.place))) (has_token is.place kind.0 kind.1)));
+      blocks = blocks_ok;
+      variables = variables_of blocks_ok;
+      domains = all_members (λ (entry : Entry). IsDomain entry.domain) (entries_of 0 moments) (λ entry c.
+          let is = entry_of 0 moments entry.name entry.domain c in
+          part_is_domain is.moment is.part entry.domain (are is.place is.moment is.at) is.is);
+    }
+
+    in_base : AreInBase model state
+    in_base name domain gives =
+        let is = entry_of 0 moments name domain gives in
+        let about = about_part name domain gives in
+        let named : name ≡ Token (root_token is.place) is.part = is.named ∙ ap (λ n. Token (root_token n) is.part) (no_shift is.place) in
+        let kind = get_alike moments kinds is.place is.moment lengths is.at in
+        (part_base is.part,
+        subst (λ n. HasBase model n (part_base is.part)) (sym named) (the_slot, has_token is.place kind.0 kind.1, has_part_base is.moment is.part domain is.is),
+        part_within is.moment is.part domain (are is.place is.moment is.at) is.is)
+
+    -- a supported token is a root
+    supported_at : (decisions : List Decision) (number : ℕ) (steps : List Step) → IsSupportedToken model decisions state (record { root = number; steps = steps }) → Contains (tokens_of 0 moments) (record { root = number; steps = steps })
+    supported_at decisions number [] p =
+        let kind = get_map root_of kinds number p.root p.is_root in
+        let moment = get_alike kinds moments number kind.0 (sym lengths) kind.1.0 in
+        subst (λ n. Contains (tokens_of 0 moments) (root_token n)) (no_shift number) (token_there 0 moments number moment.0 moment.1)
+    supported_at decisions number (step ∷ steps) p =
+        let asks = p.asked [] step steps refl in
+        let none = only_guards asks.entries (OfSlot step.slot) (stands_in (Opens model decisions state (OfRule (root_token number) step.rule)) (record { token = root_token number; rule = step.rule; path = asks.path }) asks.entries number refl asks.is_open.has_block) asks.stands in
+        let e = none.1.2 in absurd (cc)
+
+    pub supported : (decisions : List Decision) (token : TokenName) → IsSupportedToken model decisions state token → Contains (tokens_of 0 moments) token
+    supported decisions token p = supported_at decisions token.root token.steps p
+
+    -- a token ends its duration after its start
+    lasts_at : (number : ℕ) (moment : Moment) → slice_get moments number ≡ Some moment → IsConsistent model state (lasts (root_token number))
+    lasts_at number moment at =
+        let gives : (part : Part) (domain : Domain) → HasPartDomain moment part domain → Gives state (Token (root_token number) part) domain
+              = λ part domain is. subst (λ n. Gives state (Token (root_token n) part) domain) (no_shift number) (entry_there 0 moments number moment part domain at is) in
+        let start = only moment.start in
+        let duration = only moment.duration in
+        let end = only (moment.start + moment.duration) in
+        let sum : (pos moment.start +ℤ pos moment.duration) ≡ pos (moment.start + moment.duration) = omega (arith, ints) in
+        let in_start = (let b : IsBetweenEnds start (pos moment.start) = (omega (arith, ints), omega (arith, ints)) in b) in
+        let in_duration = (let b : IsBetweenEnds duration (pos moment.duration) = (omega (arith, ints), omega (arith, ints)) in b) in
+        let in_end = (let b : IsBetweenEnds end (pos (moment.start + moment.duration)) = (omega (arith, ints), omega (arith, ints)) in b) in
+        (start ∷ duration ∷ end ∷ [], (gives Start start refl, (gives Duration duration refl, (gives End end refl, tt))),
+        three_consistent Ends (HoldsOf AddEq) start duration end
+        (λ v tested. ([], pos moment.duration ∷ pos (moment.start + moment.duration) ∷ [], tt, (in_duration, (in_end, tt)), one_value moment.start v tested (λ w. (w +ℤ pos moment.duration) ≡ pos (moment.start + moment.duration)) sum))
+        (λ v tested. (pos moment.start ∷ [], pos (moment.start + moment.duration) ∷ [], (in_start, tt), (in_end, tt), one_value moment.duration v tested (λ w. (pos moment.start +ℤ w) ≡ pos (moment.start + moment.duration)) sum))
+        (λ v tested. (pos moment.start ∷ pos moment.duration ∷ [], [], (in_start, (in_duration, tt)), tt, one_value (moment.start + moment.duration) v tested (λ w. (pos moment.start +ℤ pos moment.duration) ≡ w) sum)))
+      where
+        one_value : (number : ℕ) (v : ℤ) → IsTested (only number) v → (P : ℤ → Type 0) → P (pos number) → P v
+        one_value number v (inl e) P p = subst P (sym e) p
+        one_value number v (inr e) P p = subst P (sym e) p
+
+    claims : (decisions : List Decision) → ((decision : Decision) → Contains decisions decision → IsPlain decision) → All (HasItsBlock moments) blocks → (claim : Claim) → IsClaim model decisions state claim → IsConsistent model state claim
+    claims decisions quiet blocks_ok claim (inl p) = absurd (contains_none p.0 p.1)
+    claims decisions quiet blocks_ok claim (inr (inl p)) =
+        let place : HasItsBlock moments p.block = All-contains (HasItsBlock moments) blocks p.block blocks_ok p.is_open in
+        let is = token_of 0 moments p.block.token place.0 in
+        let none = only_guards p.entries (OfItem p.item) (stands_in (λ guard side. ⊤) p.block p.entries is.place (is.named ∙ ap root_token (no_shift is.place)) p.has_block) p.stands in
+        let e = none.1.2 in absurd (cc)
+    claims decisions quiet blocks_ok claim (inr (inr (inl (token, there, says)))) =
+        let is = token_of 0 moments token there in
+        subst (IsConsistent model state) (sym (says ∙ ap lasts (is.named ∙ ap root_token (no_shift is.place)))) (lasts_at is.place is.moment is.at)
+    claims decisions quiet blocks_ok claim (inr (inr (inr (inl p)))) = absurd (quiet (Merge p.0 p.1) p.2.1.0)
+    claims decisions quiet blocks_ok claim (inr (inr (inr (inr p)))) = absurd (quiet (Order p.0 p.1) p.2.0)
+
+    respected_of : (state' : State) (decision : Decision) → IsPlain decision → IsRespected decision state'
+    respected_of state' (Activate token) plain = tt
+    respected_of state' (Reject token) plain = tt
+    respected_of state' (Specify name value) plain = absurd plain
+    respected_of state' (Merge token target) plain = tt
+    respected_of state' (Order one other) plain = tt
+
+    -- so the state is closed where timelines and resources fit, and no block is missing
+    pub closed : (decisions : List Decision) → ((decision : Decision) → Contains decisions decision → IsPlain decision) → AllPairs IsBlockBefore blocks → All (HasItsBlock moments) blocks
+        → ((block : TokenBlock) (entries : Entries) → IsSupportedBlock model decisions state block entries → Contains blocks block)
+        → FitTimelines model decisions state → FitReusables model decisions state → FitReservoirs model decisions state → IsClosed model decisions state
+    closed decisions quiet ordered blocks_ok complete timelines reusables reservoirs = record {
+      is_state = is_state ordered blocks_ok;
+      tokens = supported decisions;
+      blocks = complete;
+      in_base = in_base;
+      respected = λ decision there. respected_of state decision (quiet decision there);
+      consistent = claims decisions quiet blocks_ok;
+      timelines = timelines;
+      reusables = reusables;
+      reservoirs = reservoirs;
+    }

@@ -1,0 +1,63 @@
+-- The problems and moments of the examples.
+use Rattle.std.specs.Prelude.{ℕ, pos, List, [], ◌∷◌}
+use Rattle.domain_core.specs.Domain.{Domain}
+use Rattle.model_core.specs.declared.class.ObjectKind.{ObjectKind}
+use Rattle.model_core.specs.declared.class.ObjectKind.TheVariants as kind
+use Rattle.model_core.specs.declared.class.PredKind.TheVariants as pred
+use Rattle.model_core.specs.declared.decision.Decision.{Decision}
+use Rattle.model_core.specs.declared.decision.Decision.TheVariants.{Activate, Reject}
+use Rattle.model_core.specs.declared.model.Model.{Model}
+use Rattle.model_core.specs.declared.model.RootKind.TheVariants.{Goal, Rejectable, Fact}
+use Rattle.model_core.specs.State.{State}
+use Rattle.model_core.specs.Tokens.{root_token}
+use Rattle.plan_examples.specs.Scenes.{scene, Moment, only, state_of, guarded}
+
+-- from 0 to 1, with a quantity in this domain
+abbrev pub short : Domain → Moment
+short quantity = record { start = 0; duration = 1; quantity = quantity }
+
+-- from 0 to 5, and from 4 to 7
+abbrev pub early : Moment
+early = record { start = 0; duration = 5; quantity = only 0 }
+
+abbrev pub late : Moment
+late = record { start = 4; duration = 3; quantity = only 0 }
+
+-- from 0 to 5, with a quantity of 2 or 6
+abbrev pub using : Moment
+using = record { start = 0; duration = 5; quantity = only 2 }
+
+abbrev pub taking : Moment
+taking = record { start = 0; duration = 5; quantity = only 6 }
+
+-- one goal, on an object that is nothing special
+abbrev pub lone_goal : Model
+lone_goal = scene kind.Plain pred.Plain [] [] (Goal ∷ [])
+
+-- the same, where the predicate has a rule with a guard
+abbrev pub ruled : Model
+ruled = scene kind.Plain pred.Plain (0 ∷ []) (guarded ∷ []) (Goal ∷ [])
+
+-- two facts on an object of this kind
+abbrev pub two_facts : ObjectKind → Model
+two_facts object_kind = scene object_kind pred.Plain [] [] (Fact ∷ Fact ∷ [])
+
+-- a fact that uses a tool of this capacity
+abbrev pub tool : ℕ → Model
+tool capacity = scene (kind.Reusable (pos capacity)) pred.Uses [] [] (Fact ∷ [])
+
+-- a fact and a rejectable that take from a battery, which holds 5 and may hold 0 to 10
+abbrev pub battery : Model
+battery = scene (kind.Reservoir (pos 5) (pos 0) (pos 10)) pred.Consume [] [] (Fact ∷ Rejectable ∷ [])
+
+-- the fact takes 6
+abbrev pub drained : State
+drained = state_of [] (taking ∷ late ∷ [])
+
+-- the goal is activated
+abbrev pub activated : List Decision
+activated = Activate (root_token 0) ∷ []
+
+-- the second root is rejected
+abbrev pub rejected : List Decision
+rejected = Reject (root_token 1) ∷ []

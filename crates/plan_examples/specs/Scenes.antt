@@ -1,0 +1,92 @@
+-- Problems with one object and one predicate, and states in which each token has its times and a quantity.
+use Rattle.std.specs.Prelude.{ℕ, ◌+◌, pos, List, [], ◌∷◌, None, codes, map}
+use Rattle.domain_core.specs.Domain.{Domain, Range, Set}
+use Rattle.eu_name.specs.declared.name.Part.TheVariants.{Start, End, Duration, Object, Param}
+use Rattle.eu_name.specs.declared.name.TokenName.{TokenName}
+use Rattle.eu_name.specs.declared.name.VarName.TheVariants.{Token}
+use Rattle.model_core.specs.declared.class.ObjectKind.{ObjectKind}
+use Rattle.model_core.specs.declared.class.PredKind.{PredKind}
+use Rattle.model_core.specs.declared.class.Pred.{Pred}
+use Rattle.model_core.specs.declared.item.Term.TheVariants as term
+use Rattle.model_core.specs.declared.model.Model.{Model}
+use Rattle.model_core.specs.declared.model.Root.{Root}
+use Rattle.model_core.specs.declared.model.RootKind.{RootKind}
+use Rattle.model_core.specs.declared.rule.Guard.TheVariants.{Equal}
+use Rattle.model_core.specs.declared.rule.Rule.{Rule}
+use Rattle.model_core.specs.declared.rule.Side.TheVariants.{Then}
+use Rattle.model_core.specs.declared.variable.Base.TheVariants.{Given}
+use Rattle.model_core.specs.declared.variable.ValueKind.TheVariants.{Int}
+use Rattle.model_core.specs.Blocks.{TokenBlock}
+use Rattle.model_core.specs.Entries.{Nothing, Branches}
+use Rattle.model_core.specs.State.{State, Entry}
+use Rattle.model_core.specs.Tokens.{root_token}
+
+-- the object, which has the number 0, alone
+abbrev pub the_object : Domain
+the_object = Set (pos 0 ∷ [])
+
+-- the predicate: its tokens have a quantity
+abbrev pub predicate_of : PredKind → List ℕ → Pred
+predicate_of kind rules = record {
+  class = 0;
+  name = codes "P";
+  params = record { name = codes "quantity"; kind = Int; base = Given (Range (pos 0) (pos 1000000)) } ∷ [];
+  kind = kind;
+  rules = rules;
+}
+
+abbrev pub root_of : RootKind → Root
+root_of kind = record { label = codes "g"; kind = kind; pred = 0; object = the_object }
+
+-- a problem from 0 to 10 with an object and a predicate of these kinds, these rules of the predicate, and these roots
+abbrev pub scene : ObjectKind → PredKind → List ℕ → List Rule → List RootKind → Model
+scene object_kind pred_kind numbers rules kinds = record {
+  enums = [];
+  classes = record { name = codes "C"; parent = None; fields = [] } ∷ [];
+  objects = record { name = codes "o"; class = 0; fields = []; kind = object_kind } ∷ [];
+  preds = predicate_of pred_kind numbers ∷ [];
+  rules = rules;
+  problem = record { start = pos 0; end = pos 10; steps = 1; roots = map root_of kinds; globals = []; items = []; decisions = [] };
+}
+
+-- when a token takes place, and how much it uses, produces or consumes
+pub record Moment : Type 0 where
+  pub start : ℕ
+  pub duration : ℕ
+  pub quantity : Domain
+
+abbrev pub only : ℕ → Domain
+only number = Range (pos number) (pos number)
+
+-- the roots from this number on
+abbrev pub tokens_of : ℕ → List Moment → List TokenName
+tokens_of number [] = []
+tokens_of number (moment ∷ moments) = root_token number ∷ tokens_of (number + 1) moments
+
+-- their variables
+abbrev pub entries_of : ℕ → List Moment → List Entry
+entries_of number [] = []
+entries_of number (moment ∷ moments) =
+    record { name = Token (root_token number) Object; domain = the_object }
+    ∷ record { name = Token (root_token number) Start; domain = only moment.start }
+    ∷ record { name = Token (root_token number) End; domain = only (moment.start + moment.duration) }
+    ∷ record { name = Token (root_token number) Duration; domain = only moment.duration }
+    ∷ record { name = Token (root_token number) (Param 0); domain = moment.quantity }
+    ∷ entries_of (number + 1) moments
+
+-- the state in which the roots take place so, with these open blocks
+abbrev pub state_of : List TokenBlock → List Moment → State
+state_of blocks moments = record { tokens = tokens_of 0 moments; blocks = blocks; entries = entries_of 0 moments }
+
+-- ---- a rule with a guard
+
+-- `if (quantity == 1) { } else { }`
+abbrev pub guarded : Rule
+guarded = record { top = Branches (Equal (term.Here (Param 0)) (term.Lit (pos 1))) Nothing Nothing Nothing; slots = []; locals = [] }
+
+-- the rule's own block, and that of the guard
+abbrev pub top_block : TokenBlock
+top_block = record { token = root_token 0; rule = 0; path = [] }
+
+abbrev pub then_block : TokenBlock
+then_block = record { token = root_token 0; rule = 0; path = record { entry = 0; side = Then } ∷ [] }
