@@ -1,20 +1,27 @@
 -- From the parts of a lawful model to the model and back.
-use Rattle.std.proofs.Common.{◌≡◌, ℕ, ◌<◌, ◌≤◌, List, [], ◌∷◌, ◌++◌, length, refl, sym, subst, ◌∙◌, All, AllPairs, Contains, arith}
+use Rattle.std.proofs.Common.{◌≡◌, ℕ, ◌<◌, ◌≤◌, ◌^◌, pos, List, [], ◌∷◌, ◌++◌, length, get_or, inl, ap, refl, sym, subst, ◌∙◌, All, AllPairs, Contains, arith}
 use Rattle.std.specs.List.{flat_map}
+use Rattle.std.proofs.lemmas.Int.{ints}
 use Rattle.std.proofs.lemmas.List.{append_assoc, append-nil, length-append, length-map, map-append, get_or-map, get_or_append_left, get_or_at, get_or_default, length_push, map_push}
 use Rattle.std.proofs.lemmas.List.Elements.{All-from_recursion, recursion_from_All, All-push, All-map, All-weaker}
 use Rattle.std.proofs.lemmas.List.Quantifiers.{all_pairs_push}
+use Rattle.domain_core.specs.Domain.{Range, IsDomain}
 use Rattle.eu_name.specs.Word.{IsName}
 use Rattle.model_core.specs.declared.model.Model.{Model}
-use Rattle.model_core.specs.declared.model.VarDecl.{VarDecl}
-use Rattle.model_core.specs.declared.model.Item.{Item}
-use Rattle.model_core.specs.declared.model.Term.TheVariants.{Global}
-use Rattle.model_core.specs.Lawful.{IsBase, IsRangeVariable, IsLeqOfGlobals, IsLawfulItem, IsArgument, builtin_names, global_names}
+use Rattle.model_core.specs.declared.variable.VarDecl.{VarDecl}
+use Rattle.model_core.specs.declared.item.Item.{Item}
+use Rattle.model_core.specs.declared.item.Term.TheVariants.{Global}
+use Rattle.model_core.specs.declared.variable.ValueKind.TheVariants.{Int}
+use Rattle.model_core.specs.Kinds.{OfProblem, IsOfKind}
+use Rattle.model_core.specs.Lawful.{IsBase, IsRangeVariable, IsLeqOfGlobals, IsLawfulItem, IsLawfulVariable, IsLawful}
+use Rattle.model_core.specs.Naming.{names_of, builtin_names, global_names, declared_names}
+use Rattle.model_core.proofs.Distinct.{pairs_front}
+use Rattle.model_core.proofs.Items.{item_within, item_is, item_at}
 use Rattle.range_problem.specs.Lexeme.{Lexeme, Lexes, Leads}
-use Rattle.range_problem.specs.Parts.{names_of, IsDeclarable, AreGlobals, IsLeqAmong}
+use Rattle.range_problem.specs.Parts.{variable_of, IsDeclarable, AreGlobals, IsLeqAmong}
 use Rattle.range_problem.specs.Readers.{DeclaresGlobals, DeclaresTooMuch, IsConstraints}
-use Rattle.range_problem.specs.Spelling.{declaration_of, constraint_of, lexemes_of, Spells}
-use Rattle.range_problem.proofs.Lists.{lead_split, lexes_on, lexes_join, HasNoDeclaration, declarations_on, constraints_no_declaration}
+use Rattle.range_problem.specs.Spelling.{declaration_of, constraint_of, lexemes_of, model_of, Spells}
+use Rattle.range_problem.proofs.Lists.{variable_is, lead_split, lexes_on, lexes_join, HasNoDeclaration, declarations_on, constraints_no_declaration}
 
 abbrev pub name_of : VarDecl → List ℕ
 name_of variable = variable.name
@@ -31,12 +38,6 @@ All-front P xs ys all = λ k d in_xs. subst P (get_or_append_left xs ys d k in_x
 
 All-middle : {X : Type 0} (P : X → Type 0) (xs ys : List X) (y : X) → All P (xs ++ y ∷ ys) → P y
 All-middle P xs ys y all = subst P (get_or_at xs y ys y (length xs) refl) (all (length xs) y (omega (arith, length-append xs (y ∷ ys))))
-
-pairs_front : {X : Type 0} (xs ys : List X) → AllPairs (λ one other. one ≡ other → ⊥) (xs ++ ys) → AllPairs (λ one other. one ≡ other → ⊥) xs
-pairs_front xs ys pairs = λ i j d below in_xs same.
-    let in_first : i < length xs = omega arith in
-    pairs i j d below (omega (arith, length-append xs ys))
-    (get_or_append_left xs ys d i in_first ∙ (same ∙ sym (get_or_append_left xs ys d j in_xs)))
 
 -- ---- globals
 
@@ -60,7 +61,7 @@ pub globals_front : (globals more : List VarDecl) → AreGlobals (globals ++ mor
 globals_front globals more are = record {
   few = omega (arith, are.few, length-append globals more);
   all = All-front IsDeclarable globals more are.all;
-  distinct = pairs_front (names_of globals) (names_of more) (rw (map-append name_of globals more) at are.distinct);
+  distinct = pairs_front (λ one other. one ≡ other → ⊥) (names_of globals) (names_of more) (rw (map-append name_of globals more) at are.distinct);
 }
 
 pub globals_next : (globals more : List VarDecl) (variable : VarDecl) → AreGlobals (globals ++ variable ∷ more) → IsDeclarable variable
@@ -78,56 +79,104 @@ globals_ranges globals are = All-weaker IsDeclarable IsRangeVariable (λ variabl
 
 -- ---- models
 
-abbrev pub model_of : List VarDecl → List Item → Model
-model_of globals items = record { problem = record { globals = globals; items = items } }
-
 spelled_variable : (text : List ℕ) (model : Model) → Spells text model → All IsDeclarable model.problem.globals
 spelled_variable text model spells = λ k d in_globals.
     let at = get_or-map name_of model.problem.globals k d (name_of d) in_globals in
     let in_names : k < length (global_names model) = omega (arith, length-map model.problem.globals name_of) in
+    let not_builtin = All-front (λ name. Contains builtin_names name → ⊥) (global_names model) _ spells.lawful.not_builtin in
     record {
       free = record {
-        word = subst IsName at (spells.lawful.names k (name_of d) in_names);
-        not_builtin = subst (λ (name : List ℕ). Contains builtin_names name → ⊥) at (spells.lawful.not_builtin k (name_of d) in_names);
+        word = subst IsName at (spells.names k (name_of d) in_names);
+        not_builtin = subst (λ (name : List ℕ). Contains builtin_names name → ⊥) at (not_builtin k (name_of d) in_names);
       };
-      base = spells.lawful.bases k d in_globals;
+      base = (spells.lawful.globals k d in_globals).base;
       range = spells.built.variables k d in_globals;
     }
+
+pub spelled_distinct : (text : List ℕ) (model : Model) → Spells text model → AllPairs (λ one other. one ≡ other → ⊥) (global_names model)
+spelled_distinct text model spells =
+    pairs_front (λ one other. one ≡ other → ⊥) (global_names model) _ (pairs_front (λ one other. one ≡ other → ⊥) (declared_names model) _ spells.lawful.distinct)
 
 pub spelled_globals : (text : List ℕ) (model : Model) → Spells text model → AreGlobals model.problem.globals
 spelled_globals text model spells = record {
   few = spells.lawful.few_globals;
   all = spelled_variable text model spells;
-  distinct = spells.lawful.distinct;
+  distinct = spelled_distinct text model spells;
 }
 
-lawful_leq : (model : Model) (item : Item) → IsLeqOfGlobals item → IsLawfulItem model item → IsLeqAmong (length model.problem.globals) item
+-- ---- constraints
+
+lawful_leq : (model : Model) (item : Item) → IsLeqOfGlobals item → IsLawfulItem model OfProblem item → IsLeqAmong (length model.problem.globals) item
 lawful_leq model item (first, second, same) lawful =
-    let arguments : All (IsArgument model) (Global first ∷ Global second ∷ []) = subst (IsLawfulItem model) same lawful in
-    let each = recursion_from_All (IsArgument model) (Global first ∷ Global second ∷ []) arguments in
-    (first, second, each.0, each.1.0, same)
+    let arguments : All (IsOfKind model OfProblem Int) (Global first ∷ Global second ∷ []) = (subst (IsLawfulItem model OfProblem) same lawful).1 in
+    let each = recursion_from_All (IsOfKind model OfProblem Int) (Global first ∷ Global second ∷ []) arguments in
+    (first, second, item_within model.problem.globals first each.0.0 each.0.1, item_within model.problem.globals second each.1.0.0 each.1.0.1, same)
 
 pub spelled_items : (text : List ℕ) (model : Model) → Spells text model → All (IsLeqAmong (length model.problem.globals)) model.problem.items
 spelled_items text model spells = λ k d in_items. lawful_leq model _ (spells.built.constraints k d in_items) (spells.lawful.items k d in_items)
 
-leq_lawful : (model : Model) (item : Item) → IsLeqAmong (length model.problem.globals) item → IsLawfulItem model item
-leq_lawful model item (first, second, in_first, in_second, same) =
-    let arguments : All (IsArgument model) (Global first ∷ Global second ∷ []) = All-from_recursion (IsArgument model) (Global first ∷ Global second ∷ []) (in_first, (in_second, tt)) in
-    subst (IsLawfulItem model) (sym same) arguments
+global_int : (model : Model) (number : ℕ) → All IsRangeVariable model.problem.globals → number < length model.problem.globals → IsOfKind model OfProblem Int (Global number)
+global_int model number ranges within =
+    let d = variable_of [] (Range (pos 0) (pos 0)) in
+    (get_or model.problem.globals number d, item_at model.problem.globals number d within, sym (ranges number d within).0)
 
-pub spells_from : (text rest : List ℕ) (globals : List VarDecl) (items : List Item) → DeclaresGlobals text globals rest → IsConstraints globals rest items → Spells text (model_of globals items)
-spells_from text rest globals items declares constraints = record {
+leq_lawful : (model : Model) (item : Item) → All IsRangeVariable model.problem.globals → IsLeqAmong (length model.problem.globals) item → IsLawfulItem model OfProblem item
+leq_lawful model item ranges (first, second, in_first, in_second, same) =
+    let arguments : All (IsOfKind model OfProblem Int) (Global first ∷ Global second ∷ []) =
+    All-from_recursion (IsOfKind model OfProblem Int) (Global first ∷ Global second ∷ []) (global_int model first ranges in_first, (global_int model second ranges in_second, tt)) in
+    subst (IsLawfulItem model OfProblem) (sym same) (refl, arguments)
+
+-- ---- models
+
+declarable_lawful : (model : Model) (variable : VarDecl) → IsDeclarable variable → IsLawfulVariable model variable
+declarable_lawful model variable declarable =
+    let is = variable_is variable declarable.range in
+    let domain : IsDomain (Range is.0 is.1) = subst IsBase (ap (λ (v : VarDecl). v.base) is.2) declarable.base in
+    let lawful : IsLawfulVariable model (variable_of variable.name (Range is.0 is.1)) = record {
+      kind = tt;
+      base = domain;
+      inside = record { values = λ value has. (omega (arith, ints, domain.0, has), omega (arith, ints, domain.1, has)); range = λ is_range. refl };
+    } in
+    subst (IsLawfulVariable model) (sym is.2) lawful
+
+lawful_from : (globals : List VarDecl) (items : List Item) → AreGlobals globals → All (IsLeqAmong (length globals)) items → length items < 2 ^ 32 → IsLawful (model_of globals items)
+lawful_from globals items are among few =
+    let not_builtin : All (λ name. Contains builtin_names name → ⊥) (names_of globals) = All-map (λ name. Contains builtin_names name → ⊥) name_of globals
+    (All-weaker IsDeclarable (λ variable. Contains builtin_names variable.name → ⊥) (λ variable declarable. declarable.free.not_builtin) globals are.all) in
+    let all_names : (names_of globals ++ []) ++ [] ≡ names_of globals = append-nil (names_of globals ++ []) ∙ append-nil (names_of globals) in
+    record {
+      horizon = record { start = omega (arith, ints); order = omega (arith, ints); end = (omega (arith, ints), omega (arith, ints)); some_steps = omega arith; few_steps = omega arith };
+      few_enums = omega arith;
+      few_classes = omega arith;
+      few_preds = omega arith;
+      few_rules = omega arith;
+      few_objects = omega arith;
+      few_roots = omega arith;
+      few_facts = omega arith;
+      few_globals = are.few;
+      few_items = few;
+      enums = All-from_recursion _ [] tt;
+      classes = λ number class at. cc;
+      objects = All-from_recursion _ [] tt;
+      preds = λ number pred at. cc;
+      pred_names = λ i j d below within. absurd (omega (arith, within));
+      roots = All-from_recursion _ [] tt;
+      globals = All-weaker IsDeclarable (IsLawfulVariable (model_of globals items)) (declarable_lawful (model_of globals items)) globals are.all;
+      items = All-weaker (IsLeqAmong (length globals)) (IsLawfulItem (model_of globals items) OfProblem) (λ item. leq_lawful (model_of globals items) item (globals_ranges globals are)) items among;
+      decisions = All-from_recursion _ [] tt;
+      names = λ number variable at. inl (subst IsName (ap name_of (item_is globals number variable variable at)) (are.all number variable (item_within globals number variable at)).free.word);
+      not_builtin = subst (All (λ name. Contains builtin_names name → ⊥)) (sym (append-nil (names_of globals))) not_builtin;
+      distinct = subst (AllPairs (λ one other. one ≡ other → ⊥)) (sym all_names) are.distinct;
+    }
+
+pub spells_from : (text rest : List ℕ) (globals : List VarDecl) (items : List Item) → DeclaresGlobals text globals rest → IsConstraints globals rest items → length items < 2 ^ 32 → Spells text (model_of globals items)
+spells_from text rest globals items declares constraints few = record {
+  whole = refl;
+  names = All-map IsName name_of globals (All-weaker IsDeclarable (λ variable. IsName variable.name) (λ variable declarable. declarable.free.word) globals declares.together.all);
   lexemes = lexes_join text _ _ rest declares.declared constraints.lexemes;
-  lawful = record {
-    few_globals = declares.together.few;
-    names = All-map IsName name_of globals (All-weaker IsDeclarable (λ variable. IsName variable.name) (λ variable declarable. declarable.free.word) globals declares.together.all);
-    not_builtin = All-map (λ name. Contains builtin_names name → ⊥) name_of globals
-        (All-weaker IsDeclarable (λ variable. Contains builtin_names variable.name → ⊥) (λ variable declarable. declarable.free.not_builtin) globals declares.together.all);
-    distinct = declares.together.distinct;
-    bases = All-weaker IsDeclarable (λ variable. IsBase variable.base) (λ variable declarable. declarable.base) globals declares.together.all;
-    items = All-weaker (IsLeqAmong (length globals)) (IsLawfulItem (model_of globals items)) (leq_lawful (model_of globals items)) items constraints.among;
-  };
+  lawful = lawful_from globals items declares.together constraints.among few;
   built = record {
+    roots = refl;
     variables = globals_ranges globals declares.together;
     constraints = All-weaker (IsLeqAmong (length globals)) IsLeqOfGlobals (λ item among. (among.0, among.1, among.4)) items constraints.among;
   };

@@ -3,8 +3,8 @@ use Rattle.std.proofs.Common.{◌≡◌, ℕ, ℤ, List, [], ◌∷◌, ◌++◌
 use Rattle.std.specs.List.{flat_map, AllByRecursion}
 use Rattle.std.proofs.lemmas.List.{append_assoc, append-nil, length-append}
 use Rattle.domain_core.specs.Domain.{Range}
-use Rattle.model_core.specs.declared.model.VarDecl.{VarDecl}
-use Rattle.model_core.specs.declared.model.Item.{Item}
+use Rattle.model_core.specs.declared.variable.VarDecl.{VarDecl}
+use Rattle.model_core.specs.declared.item.Item.{Item}
 use Rattle.model_core.specs.Lawful.{IsRangeVariable}
 use Rattle.range_problem.specs.Lexeme.{is_blank, Lexeme, Word, Begins, Leads, Lexes}
 use Rattle.range_problem.specs.Parts.{variable_of, leq_of, IsLeqAmong}

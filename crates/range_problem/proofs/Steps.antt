@@ -4,10 +4,11 @@ use Rattle.std.proofs.lemmas.Int.{ints}
 use Rattle.std.proofs.lemmas.List.{get_or-map, length-map, get_or_default}
 use Rattle.domain_core.specs.Domain.{Domain, Range, Set, IsDomain, IsRange, IsValue, least, greatest}
 use Rattle.domain_core.proofs.Words.{has_least, between_ends, least_is_value, greatest_is_value}
-use Rattle.model_core.specs.declared.model.VarDecl.{VarDecl}
-use Rattle.model_core.specs.declared.model.Base.TheVariants.{Given}
+use Rattle.model_core.specs.declared.variable.VarDecl.{VarDecl}
+use Rattle.model_core.specs.declared.variable.Base.TheVariants.{Given}
 use Rattle.range_problem.specs.Lexeme.{Lexeme, Word, Number, Mark, Begins, Leads}
-use Rattle.range_problem.specs.Parts.{variable_of, leq_of, names_of, IsFree, IsDeclarable}
+use Rattle.model_core.specs.Naming.{names_of}
+use Rattle.range_problem.specs.Parts.{variable_of, leq_of, IsFree, IsDeclarable}
 use Rattle.range_problem.specs.Readers.{DeclaresNone}
 use Rattle.range_problem.specs.Spelling.{range_of, declaration_of, constraint_of}
 use Rattle.range_problem.proofs.Lexing.{begins_once}

@@ -5,11 +5,12 @@ use Rattle.std.proofs.lemmas.Bool.{both_ways, not-true, not-false}
 use Rattle.std.specs.List.{flat_map, AllByRecursion}
 use Rattle.std.proofs.lemmas.List.{length-append, length-map, get_or_default, flat_map_more}
 use Rattle.std.proofs.lemmas.List.Elements.{recursion_from_All, All-push}
-use Rattle.model_core.specs.declared.model.VarDecl.{VarDecl}
-use Rattle.model_core.specs.declared.model.Item.{Item}
+use Rattle.model_core.specs.declared.variable.VarDecl.{VarDecl}
+use Rattle.model_core.specs.declared.item.Item.{Item}
 use Rattle.model_core.specs.Lawful.{IsRangeVariable}
 use Rattle.range_problem.specs.Lexeme.{is_blank, Lexeme, Mark, IsSpelling, Begins, Starts, Leads, Lexes}
-use Rattle.range_problem.specs.Parts.{leq_of, names_of, IsDeclarable, AreGlobals, IsLeqAmong}
+use Rattle.model_core.specs.Naming.{names_of}
+use Rattle.range_problem.specs.Parts.{leq_of, IsDeclarable, AreGlobals, IsLeqAmong}
 use Rattle.range_problem.specs.Readers.{DeclaresNone, DeclaresGlobals, DeclaresTooMuch, IsConstraints}
 use Rattle.range_problem.specs.Spelling.{declaration_of, constraint_of}
 use Rattle.range_problem.proofs.Lexing.{no_empty}

@@ -5,15 +5,17 @@ use Rattle.std.proofs.lemmas.Bool.{cases_order}
 use Rattle.std.proofs.lemmas.List.{append-nil, length-append, length-map}
 use Rattle.std.proofs.lemmas.List.Elements.{recursion_from_All}
 use Rattle.model_core.specs.declared.model.Model.{Model}
-use Rattle.model_core.specs.declared.model.VarDecl.{VarDecl}
-use Rattle.model_core.specs.declared.model.Item.{Item}
-use Rattle.model_core.specs.Lawful.{IsRangeVariable, global_names}
+use Rattle.model_core.specs.declared.variable.VarDecl.{VarDecl}
+use Rattle.model_core.specs.declared.item.Item.{Item}
+use Rattle.model_core.specs.Lawful.{IsRangeVariable}
+use Rattle.model_core.specs.Naming.{global_names}
 use Rattle.range_problem.specs.Lexeme.{Lexeme}
-use Rattle.range_problem.specs.Parts.{leq_of, names_of, IsLeqAmong}
-use Rattle.range_problem.specs.Spelling.{declaration_of, constraint_of, lexemes_of, Spells}
+use Rattle.model_core.specs.Naming.{names_of}
+use Rattle.range_problem.specs.Parts.{leq_of, IsLeqAmong}
+use Rattle.range_problem.specs.Spelling.{declaration_of, constraint_of, lexemes_of, model_of, Spells}
 use Rattle.range_problem.proofs.Front.{same_fronts}
 use Rattle.range_problem.proofs.Lists.{lexes_once, HasNoDeclaration, declarations_on, constraint_len}
-use Rattle.range_problem.proofs.Lawfulness.{name_of, spelled_items, spelled_end}
+use Rattle.range_problem.proofs.Lawfulness.{name_of, spelled_distinct, spelled_items, spelled_end}
 
 -- a name stands at one place
 place_once : (names : List (List ℕ)) (one other : ℕ) → AllPairs (λ name name'. name ≡ name' → ⊥) names → one < length names → other < length names → get_or names one [] ≡ get_or names other [] → one ≡ other
@@ -72,5 +74,5 @@ spells_unique text one other p q =
     (recursion_from_All IsRangeVariable one.problem.globals p.built.variables) (recursion_from_All IsRangeVariable other.problem.globals q.built.variables) (spelled_end text other q) lexemes in
     let parts = all_declared one.problem.globals other.problem.globals lists.0 _ _ (spelled_end text one p) lists.1 lists.2 in
     let items = items_same one other (recursion_from_All (IsLeqAmong (length one.problem.globals)) one.problem.items (spelled_items text one p))
-    (recursion_from_All (IsLeqAmong (length other.problem.globals)) other.problem.items (spelled_items text other q)) p.lawful.distinct parts.0 parts.1 in
-    (λ i. record { problem = record { globals = parts.0 i; items = items i } })
+    (recursion_from_All (IsLeqAmong (length other.problem.globals)) other.problem.items (spelled_items text other q)) (spelled_distinct text one p) parts.0 parts.1 in
+    p.whole ∙ ((λ i. model_of (parts.0 i) (items i)) ∙ sym q.whole)

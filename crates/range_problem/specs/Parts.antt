@@ -1,15 +1,16 @@
 -- The parts of a problem that its readers promise.
-use Rattle.std.specs.Prelude.{◌≡◌, ℕ, ◌<◌, ◌≤◌, List, [], ◌∷◌, length, map, All, AllPairs, Contains}
+use Rattle.std.specs.Prelude.{◌≡◌, ℕ, ◌<◌, ◌≤◌, List, [], ◌∷◌, length, All, AllPairs, Contains}
 use Rattle.domain_core.specs.Domain.{Domain}
 use Rattle.eu_name.specs.Word.{IsName}
-use Rattle.model_core.specs.declared.model.VarDecl.{VarDecl}
-use Rattle.model_core.specs.declared.model.ValueKind.TheVariants.{Int}
-use Rattle.model_core.specs.declared.model.Base.TheVariants.{Given}
-use Rattle.model_core.specs.declared.model.Item.{Item}
-use Rattle.model_core.specs.declared.model.Item.TheVariants.{Constraint}
-use Rattle.model_core.specs.declared.model.Kind.TheVariants.{Leq}
-use Rattle.model_core.specs.declared.model.Term.TheVariants.{Global}
-use Rattle.model_core.specs.Lawful.{builtin_names, IsBase, IsRangeVariable}
+use Rattle.model_core.specs.declared.variable.VarDecl.{VarDecl}
+use Rattle.model_core.specs.declared.variable.ValueKind.TheVariants.{Int}
+use Rattle.model_core.specs.declared.variable.Base.TheVariants.{Given}
+use Rattle.model_core.specs.declared.item.Item.{Item}
+use Rattle.model_core.specs.declared.item.Item.TheVariants.{Constraint}
+use Rattle.model_core.specs.declared.item.Kind.TheVariants.{Leq}
+use Rattle.model_core.specs.declared.item.Term.TheVariants.{Global}
+use Rattle.model_core.specs.Lawful.{IsBase, IsRangeVariable}
+use Rattle.model_core.specs.Naming.{builtin_names, names_of}
 
 -- a variable with a range
 abbrev pub variable_of : List ℕ → Domain → VarDecl
@@ -18,10 +19,6 @@ variable_of name domain = record { name = name; kind = Int; base = Given domain 
 -- the constraint that the first of two globals is at most the second
 abbrev pub leq_of : ℕ → ℕ → Item
 leq_of first second = Constraint Leq (Global first ∷ Global second ∷ [])
-
--- the names of variables, in order
-abbrev pub names_of : List VarDecl → List (List ℕ)
-names_of globals = map (λ variable. variable.name) globals
 
 -- a file may declare the name
 pub record IsFree (name : List ℕ) : Type 0 where

@@ -1,11 +1,12 @@
 -- What the readers of the parts of a text find.
 use Rattle.std.specs.Prelude.{ℕ, List, length, All}
 use Rattle.std.specs.List.{flat_map}
-use Rattle.model_core.specs.declared.model.VarDecl.{VarDecl}
-use Rattle.model_core.specs.declared.model.Item.{Item}
+use Rattle.model_core.specs.declared.variable.VarDecl.{VarDecl}
+use Rattle.model_core.specs.declared.item.Item.{Item}
 use Rattle.model_core.specs.Lawful.{IsRangeVariable}
 use Rattle.range_problem.specs.Lexeme.{Leads, Lexes}
-use Rattle.range_problem.specs.Parts.{names_of, IsDeclarable, AreGlobals, IsLeqAmong}
+use Rattle.model_core.specs.Naming.{names_of}
+use Rattle.range_problem.specs.Parts.{IsDeclarable, AreGlobals, IsLeqAmong}
 use Rattle.range_problem.specs.Spelling.{declaration_of, constraint_of}
 
 -- no declaration of one variable begins the text

@@ -1,15 +1,17 @@
 -- Which model a problem's text spells.
-use Rattle.std.specs.Prelude.{◌≡◌, ℕ, List, [], ◌∷◌, ◌++◌, slice_index_or, codes}
+use Rattle.std.specs.Prelude.{◌≡◌, ℕ, pos, List, [], ◌∷◌, ◌++◌, slice_index_or, All, codes}
 use Rattle.std.specs.List.{flat_map}
 use Rattle.domain_core.specs.Domain.{least, greatest}
+use Rattle.eu_name.specs.Word.{IsName}
 use Rattle.model_core.specs.declared.model.Model.{Model}
-use Rattle.model_core.specs.declared.model.VarDecl.{VarDecl}
-use Rattle.model_core.specs.declared.model.Base.{Base}
-use Rattle.model_core.specs.declared.model.Base.TheVariants.{Given, Void}
-use Rattle.model_core.specs.declared.model.Item.{Item}
-use Rattle.model_core.specs.declared.model.Item.TheVariants.{Constraint}
-use Rattle.model_core.specs.declared.model.Term.TheVariants.{Global}
-use Rattle.model_core.specs.Lawful.{IsLawful, IsBuilt, global_names}
+use Rattle.model_core.specs.declared.variable.VarDecl.{VarDecl}
+use Rattle.model_core.specs.declared.variable.Base.{Base}
+use Rattle.model_core.specs.declared.variable.Base.TheVariants.{Given, Void}
+use Rattle.model_core.specs.declared.item.Item.{Item}
+use Rattle.model_core.specs.declared.item.Item.TheVariants.{Constraint}
+use Rattle.model_core.specs.declared.item.Term.TheVariants.{Global}
+use Rattle.model_core.specs.Lawful.{IsLawful, IsBuilt}
+use Rattle.model_core.specs.Naming.{global_names}
 use Rattle.range_problem.specs.Lexeme.{Lexeme, Word, Number, Mark, Lexes}
 
 -- `[least greatest]`
@@ -33,8 +35,21 @@ abbrev pub lexemes_of : Model → List Lexeme
 lexemes_of model =
     flat_map declaration_of model.problem.globals ++ flat_map (constraint_of (global_names model)) model.problem.items
 
--- the text spells the model, which is lawful and built from ranges and `leq` alone
+-- the model of these globals and constraints alone, with the horizon and the steps of a problem that doesn't say them
+abbrev pub model_of : List VarDecl → List Item → Model
+model_of globals items = record {
+  enums = [];
+  classes = [];
+  objects = [];
+  preds = [];
+  rules = [];
+  problem = record { start = pos 0; end = pos 1000; steps = 1000; roots = []; globals = globals; items = items; decisions = [] };
+}
+
+-- the text spells the model, which is lawful and built from ranges and `leq` alone, and whose globals have names of their own
 pub record Spells (text : List ℕ) (model : Model) : Type 0 where
+  pub whole : model ≡ model_of model.problem.globals model.problem.items
+  pub names : All IsName (global_names model)
   pub lexemes : Lexes text (lexemes_of model)
   pub lawful : IsLawful model
   pub built : IsBuilt model

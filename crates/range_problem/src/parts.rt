@@ -2,18 +2,19 @@
 
 ghost use Rattle.std.specs.Prelude.{◌≡◌, ◌<◌, ◌≤◌, ◌↔◌, ℕ, [], ◌∷◌, Contains, IfNone, IfSome, IsTrue, List, MatchOption, length, slice_index_or};
 ghost use Rattle.domain_core.specs.Domain.{Domain, IsDomain, IsRange};
-ghost use Rattle.model_core.specs.declared.model.Base.{Base};
-ghost use Rattle.model_core.specs.declared.model.Base.TheVariants.{Given};
-ghost use Rattle.model_core.specs.declared.model.VarDecl.{VarDecl};
+ghost use Rattle.model_core.specs.declared.variable.Base.{Base};
+ghost use Rattle.model_core.specs.declared.variable.Base.TheVariants.{Given};
+ghost use Rattle.model_core.specs.declared.variable.VarDecl.{VarDecl};
 ghost use Rattle.range_problem.specs.Lexeme.{Word, Begins, Leads};
-ghost use Rattle.range_problem.specs.Parts.{variable_of, leq_of, names_of, IsFree, IsDeclarable};
+ghost use Rattle.model_core.specs.Naming.{names_of};
+ghost use Rattle.range_problem.specs.Parts.{variable_of, leq_of, IsFree, IsDeclarable};
 ghost use Rattle.range_problem.specs.Readers.{DeclaresNone};
 ghost use Rattle.range_problem.specs.Spelling.{range_of, declaration_of, constraint_of};
 
 use super::lexeme;
 use domain_core::domain::Dom;
 use eu_name::word;
-use model_core::model::VarDecl;
+use model_core::variable::VarDecl;
 
 /// The names of the classes that the language has.
 const BUILTIN: [&[u8]; 5] = [

@@ -1,22 +1,35 @@
 //! Reading of a problem's text.
 
-ghost use Rattle.std.specs.Prelude.{◌≡◌, ◌<◌, ◌≤◌, ◌↔◌, List, Contains, IfOk, IsTrue, MatchOption, length};
+ghost use Rattle.std.specs.Prelude.{◌≡◌, ◌<◌, ◌≤◌, ◌^◌, ◌↔◌, List, Contains, IfOk, IfSome, IsTrue, MatchOption, length};
 ghost use Rattle.eu_name.specs.Word.{IsWord};
 ghost use Rattle.model_core.specs.declared.model.Model.{Model};
-ghost use Rattle.model_core.specs.declared.model.Item.{Item};
-ghost use Rattle.range_problem.specs.Parts.{variable_of, leq_of, names_of};
+ghost use Rattle.model_core.specs.declared.item.Item.{Item};
+ghost use Rattle.model_core.specs.Naming.{names_of};
+ghost use Rattle.range_problem.specs.Parts.{variable_of, leq_of};
 ghost use Rattle.range_problem.specs.Readers.{DeclaresGlobals, DeclaresTooMuch, IsConstraints};
-ghost use Rattle.range_problem.specs.Spelling.{Spells, SpellsAtMostOne};
+ghost use Rattle.range_problem.specs.Spelling.{model_of, Spells, SpellsAtMostOne};
 
 use super::lexeme;
 use super::parts::{self, Declaration, Leq};
 use domain_core::domain::Dom;
 use eu_name::sequence::Sequence;
-use model_core::model::{Base, Item, Kind, Model, Problem, Term, ValueKind, VarDecl};
+use model_core::item::{Item, Kind, Term};
+use model_core::model::{Model, Problem};
+use model_core::variable::{Base, ValueKind, VarDecl};
 use std::alloc::{AllocError, Global};
 
 /// How many variables a problem may declare.
 const MAX_GLOBALS: usize = 4096;
+
+/// How many constraints have numbers; for more there is no memory.
+const MAX_ITEMS: usize = 4_294_967_295;
+
+/// The horizon and the steps of a problem that doesn't say them.
+const FIRST_INSTANT: i32 = 0;
+
+const LAST_INSTANT: i32 = 1000;
+
+const STEPS: u32 = 1000;
 
 // The variable of a declaration.
 fn declared(alloc: Global, name: &[u8], domain: Dom) -> Result<VarDecl, AllocError>
@@ -79,9 +92,10 @@ fn read_constraints(
     text: &[u8],
 ) -> Result<Option<Vec<Item>>, AllocError>
     requires { length globals.now ≤ 4096 }
-    ensures { IfOk result (λ answer. MatchOption answer
+    ensures all { IfOk result (λ answer. MatchOption answer
         ((items : List Item) → IsConstraints globals.now text.now items → ⊥)
         (λ items. IsConstraints globals.now text.now items.items)) }
+    ensures few { IfOk result (λ answer. IfSome answer (λ items. length items.items < 2 ^ 32)) }
 {
     let mut items = Vec::new(alloc);
     let mut rest = text;
@@ -93,6 +107,9 @@ fn read_constraints(
         },
     ) = parts::read_leq(globals, rest)
     {
+        if items.len() >= MAX_ITEMS {
+            return Err(AllocError);
+        }
         items.push(constraint(alloc, first, second)?)?;
         rest = after;
     }
@@ -100,6 +117,28 @@ fn read_constraints(
         Ok(Some(items))
     } else {
         Ok(None)
+    }
+}
+
+// The model of these globals and constraints alone.
+fn model_of(alloc: Global, globals: Vec<VarDecl>, items: Vec<Item>) -> Model
+    ensures { result ≡ model_of globals.items items.items }
+{
+    Model {
+        enums: Sequence::new(alloc),
+        classes: Sequence::new(alloc),
+        objects: Sequence::new(alloc),
+        preds: Sequence::new(alloc),
+        rules: Sequence::new(alloc),
+        problem: Problem {
+            start: FIRST_INSTANT,
+            end: LAST_INSTANT,
+            steps: STEPS,
+            roots: Sequence::new(alloc),
+            globals: Sequence::from_vec(globals),
+            items: Sequence::from_vec(items),
+            decisions: Sequence::new(alloc),
+        },
     }
 }
 
@@ -115,12 +154,7 @@ pub fn read_problem(alloc: Global, text: &[u8]) -> Result<Option<Model>, AllocEr
     let Some(items) = read_constraints(alloc, &globals, rest)? else {
         return Ok(None);
     };
-    Ok(Some(Model {
-        problem: Problem {
-            globals: Sequence::from_vec(globals),
-            items: Sequence::from_vec(items),
-        },
-    }))
+    Ok(Some(model_of(alloc, globals, items)))
 }
 
 /// A law: no text spells two models.

@@ -1,5 +1,5 @@
 use Rattle.std.proofs.Common.{◌≡◌, ℕ, ◌<◌, get_or}
-use Rattle.range_problem.specs.Parts.{names_of}
+use Rattle.model_core.specs.Naming.{names_of}
 use Rattle.range_problem.proofs.parts.number_of.Given as goal
 
 -- the globals before this one have other names
