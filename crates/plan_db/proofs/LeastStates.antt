@@ -54,10 +54,11 @@ joins_built model count lawful built e = all_from_get (λ item. JoinsPlaces item
 
 -- with no tokens no timeline has two that overlap, no reusable is used and no level changes
 module _ (model : Model) (decisions : List Decision) (lawful : IsLawful model) (no_roots : model.problem.roots ≡ []) (state : State) (ok : IsState model state) where
+  -- an object keeps the limits of its kind
   object_kind : (value : ℤ) (object : classes.Object) → IsObject model value object → IsLawfulKind object.kind
   object_kind value object is = (get_all (IsLawfulObject model) model.objects is.0 object lawful.objects is.2).kind
 
-  -- no amount is a list of amounts, one for each token
+  -- the empty list has an amount for each token
   no_amounts : (Amount : TokenName → ℤ → Type 0) → AllZip Amount state.tokens []
   no_amounts Amount = subst (λ tokens. AllZip Amount tokens []) (sym (no_tokens model no_roots state ok)) tt
 
@@ -105,6 +106,7 @@ module _ (model : Model) (decisions : List Decision) (bases : List Domain) (lawf
       lies_in k domain is inner (Given base) has within = subst (IsWithin inner) (base_same model k base domain has is) within
       lies_in k domain is inner Void has within = absurd within
 
+  -- what is claimed of a closed state holds of its items
   closed_fits : (other : State) → IsClosed model decisions other → Fits model decisions model.problem.items other
   closed_fits other closed = record { respected = closed.respected; consistent = λ item there claim says. closed.consistent claim (inl (item, there, says)) }
 

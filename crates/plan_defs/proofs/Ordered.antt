@@ -56,8 +56,8 @@ module _ {X : Type 0} (before : X → X → Type 0) (irreflexive : (x : X) → b
   same_members (x ∷ xs) (y ∷ ys) p q into back =
       let first = first_same x y xs ys p q (into x (contains_head x xs)) (back y (contains_head y ys)) in
       let rest = same_members xs ys (ordered_tail before x xs p) (ordered_tail before y ys q)
-          (λ v c. behind x y v xs ys p first (into v (contains_later x v xs c)) c)
-          (λ v c. behind y x v ys xs q (sym first) (back v (contains_later y v ys c)) c) in
+      (λ v c. behind x y v xs ys p first (into v (contains_later x v xs c)) c)
+      (λ v c. behind y x v ys xs q (sym first) (back v (contains_later y v ys c)) c) in
       (λ i. first i ∷ rest i)
 
 -- where things are in the order of their keys, there is one of a key at most

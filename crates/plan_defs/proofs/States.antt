@@ -62,5 +62,5 @@ IsBelow-antisym model a b a_ok b_ok p q =
     let tokens = same_members IsTokenBefore token_order.irreflexive token_order.transitive a.tokens b.tokens a_ok.order.tokens b_ok.order.tokens p.tokens q.tokens in
     let blocks = same_members IsBlockBefore block_irreflexive block_transitive a.blocks b.blocks a_ok.order.blocks b_ok.order.blocks p.blocks q.blocks in
     let entries = same_members (λ (one later : Entry). IsVarBefore one.name later.name) entry_irreflexive entry_transitive a.entries b.entries a_ok.order.entries b_ok.order.entries
-        (gives_both model a b a_ok b_ok p q) (gives_both model b a b_ok a_ok q p) in
+    (gives_both model a b a_ok b_ok p q) (gives_both model b a b_ok a_ok q p) in
     (λ i. record { tokens = tokens i; blocks = blocks i; entries = entries i })

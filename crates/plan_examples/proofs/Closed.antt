@@ -230,10 +230,11 @@ module _ (object_kind : ObjectKind) (pred_kind : PredKind) (numbers : List ℕ) 
         let is = entry_of 0 moments name domain gives in
         let about = about_part name domain gives in
         let named : name ≡ Token (root_token is.place) is.part = is.named ∙ ap (λ n. Token (root_token n) is.part) (no_shift is.place) in
-        let kind = get_alike moments kinds is.place is.moment lengths is.at in
-        (part_base is.part,
-        subst (λ n. HasBase model n (part_base is.part)) (sym named) (the_slot, has_token is.place kind.0 kind.1, has_part_base is.moment is.part domain is.is),
-        part_within is.moment is.part domain (are is.place is.moment is.at) is.is)
+        let kind = get_alike moments kinds is.place is.moment lengths is.at in (
+          part_base is.part,
+          subst (λ n. HasBase model n (part_base is.part)) (sym named) (the_slot, has_token is.place kind.0 kind.1, has_part_base is.moment is.part domain is.is),
+          part_within is.moment is.part domain (are is.place is.moment is.at) is.is,
+        )
 
     -- a supported token is a root
     supported_at : (decisions : List Decision) (number : ℕ) (steps : List Step) → IsSupportedToken model decisions state (record { root = number; steps = steps }) → Contains (tokens_of 0 moments) (record { root = number; steps = steps })
@@ -253,19 +254,21 @@ module _ (object_kind : ObjectKind) (pred_kind : PredKind) (numbers : List ℕ) 
     lasts_at : (number : ℕ) (moment : Moment) → slice_get moments number ≡ Some moment → IsConsistent model state (lasts (root_token number))
     lasts_at number moment at =
         let gives : (part : Part) (domain : Domain) → HasPartDomain moment part domain → Gives state (Token (root_token number) part) domain
-              = λ part domain is. subst (λ n. Gives state (Token (root_token n) part) domain) (no_shift number) (entry_there 0 moments number moment part domain at is) in
+        = λ part domain is. subst (λ n. Gives state (Token (root_token n) part) domain) (no_shift number) (entry_there 0 moments number moment part domain at is) in
         let start = only moment.start in
         let duration = only moment.duration in
         let end = only (moment.start + moment.duration) in
         let sum : (pos moment.start +ℤ pos moment.duration) ≡ pos (moment.start + moment.duration) = omega (arith, ints) in
         let in_start = (let b : IsBetweenEnds start (pos moment.start) = (omega (arith, ints), omega (arith, ints)) in b) in
         let in_duration = (let b : IsBetweenEnds duration (pos moment.duration) = (omega (arith, ints), omega (arith, ints)) in b) in
-        let in_end = (let b : IsBetweenEnds end (pos (moment.start + moment.duration)) = (omega (arith, ints), omega (arith, ints)) in b) in
-        (start ∷ duration ∷ end ∷ [], (gives Start start refl, (gives Duration duration refl, (gives End end refl, tt))),
-        three_consistent Ends (HoldsOf AddEq) start duration end
-        (λ v tested. ([], pos moment.duration ∷ pos (moment.start + moment.duration) ∷ [], tt, (in_duration, (in_end, tt)), one_value moment.start v tested (λ w. (w +ℤ pos moment.duration) ≡ pos (moment.start + moment.duration)) sum))
-        (λ v tested. (pos moment.start ∷ [], pos (moment.start + moment.duration) ∷ [], (in_start, tt), (in_end, tt), one_value moment.duration v tested (λ w. (pos moment.start +ℤ w) ≡ pos (moment.start + moment.duration)) sum))
-        (λ v tested. (pos moment.start ∷ pos moment.duration ∷ [], [], (in_start, (in_duration, tt)), tt, one_value (moment.start + moment.duration) v tested (λ w. (pos moment.start +ℤ pos moment.duration) ≡ w) sum)))
+        let in_end = (let b : IsBetweenEnds end (pos (moment.start + moment.duration)) = (omega (arith, ints), omega (arith, ints)) in b) in (
+          start ∷ duration ∷ end ∷ [],
+          (gives Start start refl, (gives Duration duration refl, (gives End end refl, tt))),
+          three_consistent Ends (HoldsOf AddEq) start duration end
+              (λ v tested. ([], pos moment.duration ∷ pos (moment.start + moment.duration) ∷ [], tt, (in_duration, (in_end, tt)), one_value moment.start v tested (λ w. (w +ℤ pos moment.duration) ≡ pos (moment.start + moment.duration)) sum))
+              (λ v tested. (pos moment.start ∷ [], pos (moment.start + moment.duration) ∷ [], (in_start, tt), (in_end, tt), one_value moment.duration v tested (λ w. (pos moment.start +ℤ w) ≡ pos (moment.start + moment.duration)) sum))
+              (λ v tested. (pos moment.start ∷ pos moment.duration ∷ [], [], (in_start, (in_duration, tt)), tt, one_value (moment.start + moment.duration) v tested (λ w. (pos moment.start +ℤ pos moment.duration) ≡ w) sum)),
+        )
       where
         one_value : (number : ℕ) (v : ℤ) → IsTested (only number) v → (P : ℤ → Type 0) → P (pos number) → P v
         one_value number v (inl e) P p = subst P (sym e) p

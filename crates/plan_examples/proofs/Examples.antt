@@ -163,9 +163,10 @@ module _ (blocks : List TokenBlock) (quantity : Domain) where
       let slot = slot_same kind.Plain pred.Plain (0 ∷ []) (guarded ∷ []) (Goal ∷ []) 0 has.slot (subst (λ t. HasToken ruled t has.slot) (sym token) has.has_token) in
       let found = one_rule kind.Plain pred.Plain (Goal ∷ []) block.rule has.rule (subst (λ (s : Slot). HasRule ruled s.pred block.rule has.rule) slot has.has_rule) in
       let by_rule = subst (λ (r : Rule). Follows (Opens ruled activated (ruled_state blocks quantity) (OfRule block.token block.rule)) r.top block.path entries) found.0 has.way in
-      let by_number = subst (λ n. Follows (Opens ruled activated (ruled_state blocks quantity) (OfRule block.token n)) guarded.top block.path entries) found.1 by_rule in
-      ((λ i. record { token = sym token i; rule = found.1 i; path = block.path }),
-      subst (λ t. Follows (Opens ruled activated (ruled_state blocks quantity) (OfRule t 0)) guarded.top block.path entries) (sym token) by_number)
+      let by_number = subst (λ n. Follows (Opens ruled activated (ruled_state blocks quantity) (OfRule block.token n)) guarded.top block.path entries) found.1 by_rule in (
+        (λ i. record { token = sym token i; rule = found.1 i; path = block.path }),
+        subst (λ t. Follows (Opens ruled activated (ruled_state blocks quantity) (OfRule t 0)) guarded.top block.path entries) (sym token) by_number,
+      )
 
   -- the way ends at once, or goes to a side that the guard chooses
   abbrev GoesTo : List Turn → Type 0
@@ -310,9 +311,9 @@ pub overlap_collides : IsClosed (scene kind.Timeline pred.Plain [] [] (Fact ∷ 
 overlap_collides p =
     let moments = early ∷ late ∷ [] in
     let consistent = p.timelines (root_token 0) (root_token 1) (pos 0) (λ same. let roots = ap (λ (t : TokenName). t.root) same in omega (arith, roots))
-        (inl (refl, (root_of Fact, refl, refl))) (inl (refl, (root_of Fact, refl, refl))) (_, (0, refl, refl), refl)
-        (is_on moments 0 early refl) (is_on moments 1 late refl)
-        (only 5, only 4, (part_there moments 0 early End (only 5) refl refl, (part_there moments 1 late Start (only 4) refl refl, omega (arith, ints)))) in
+    (inl (refl, (root_of Fact, refl, refl))) (inl (refl, (root_of Fact, refl, refl))) (_, (0, refl, refl), refl)
+    (is_on moments 0 early refl) (is_on moments 1 late refl)
+    (only 5, only 4, (part_there moments 0 early End (only 5) refl refl, (part_there moments 1 late Start (only 4) refl refl, omega (arith, ints)))) in
     seven_is_late consistent.0 consistent.1 consistent.2
 
 -- ---- reusables
@@ -330,15 +331,21 @@ enough_closed =
     fits : FitReusables (tool 2) [] (state_of [] (using ∷ []))
     fits value object capacity instant is kind_is inside =
         let same : kind.Reusable (pos 2) ≡ kind.Reusable capacity = sym (kind_of (kind.Reusable (pos 2)) pred.Uses [] [] (Fact ∷ []) value object is) ∙ kind_is in
-        let two : pos 2 ≡ capacity = cc in
-        (pos 2 ∷ [], (record {
-          none = omega (arith, ints);
-          enough = λ quantity uses.
-              let domain = part_is (using ∷ []) 0 using (Param 0) (only 2) uses.least.0 refl refl uses.least.1 in
-              let least_is : uses.least.0 ≡ only 2 = sym domain in
-              let quantity_is : quantity ≡ pos 2 = uses.least.2 ∙ ap least least_is in
-              omega (arith, ints, quantity_is);
-        }, tt), omega (arith, ints, two))
+        let two : pos 2 ≡ capacity = cc in (
+          pos 2 ∷ [],
+          (
+            record {
+              none = omega (arith, ints);
+              enough = λ quantity uses.
+                  let domain = part_is (using ∷ []) 0 using (Param 0) (only 2) uses.least.0 refl refl uses.least.1 in
+                  let least_is : uses.least.0 ≡ only 2 = sym domain in
+                  let quantity_is : quantity ≡ pos 2 = uses.least.2 ∙ ap least least_is in
+                  omega (arith, ints, quantity_is);
+            },
+            tt,
+          ),
+          omega (arith, ints, two),
+        )
 
 -- the fact surely uses 2 at once
 surely_uses : (capacity : ℕ) → SurelyUses (tool capacity) [] (state_of [] (using ∷ [])) (pos 0) (pos 0) (root_token 0) (pos 2)

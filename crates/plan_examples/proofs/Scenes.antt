@@ -178,7 +178,7 @@ token_of number [] token c = absurd (contains_none token c)
 token_of number (moment ∷ moments) token c = elim (contains_cases (root_token number) token (tokens_of (number + 1) moments) c) [
   | inl same ↦ record { place = 0; moment = moment; at = refl; named = sym same ∙ ap root_token (let e : number ≡ number + 0 = omega arith in e) }
   | inr later ↦ (let found = token_of (number + 1) moments token later in
-    record { place = suc found.place; moment = found.moment; at = found.at; named = found.named ∙ ap root_token (let e : number + 1 + found.place ≡ number + suc found.place = omega arith in e) })
+      record { place = suc found.place; moment = found.moment; at = found.at; named = found.named ∙ ap root_token (let e : number + 1 + found.place ≡ number + suc found.place = omega arith in e) })
 ]
 
 pub token_there : (number : ℕ) (moments : List Moment) (place : ℕ) (moment : Moment) → slice_get moments place ≡ Some moment → Contains (tokens_of number moments) (root_token (number + place))

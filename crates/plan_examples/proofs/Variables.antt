@@ -110,9 +110,11 @@ x_closed items decisions number few granted consistent =
     (λ n within. let zero_is : 0 ≡ n = omega (arith, within) in (up_to number, subst (λ k. Gives (with_x (up_to number)) (Global k) (up_to number)) zero_is (gives_x (up_to number))))
     (λ name domain gives. (0, (is_x (up_to number) name domain gives).0, omega arith))
     (all_members (λ (entry : Entry). IsDomain entry.domain) (with_x (up_to number)).entries (λ entry c. subst (λ (e : Entry). IsDomain e.domain) (only_member (record { name = Global 0; domain = up_to number }) entry c) (up_to_domain number (omega (arith, few)))))
-    (λ name domain gives. let is = is_x (up_to number) name domain gives in
-    (Given (up_to 2), subst (λ n. HasBase (problem_of (declared_x ∷ []) items) n (Given (up_to 2))) (sym is.0) (x_base items),
-    subst (λ d. IsWithin d (up_to 2)) is.1 (record { kind = tt; values = λ v has. (omega (arith, ints, has.0), omega (arith, ints, has.1, few)) })))
+    (λ name domain gives. let is = is_x (up_to number) name domain gives in (
+      Given (up_to 2),
+      subst (λ n. HasBase (problem_of (declared_x ∷ []) items) n (Given (up_to 2))) (sym is.0) (x_base items),
+      subst (λ d. IsWithin d (up_to 2)) is.1 (record { kind = tt; values = λ v has. (omega (arith, ints, has.0), omega (arith, ints, has.1, few)) }),
+    ))
     granted consistent
 
 no_decision : (state : State) (decision : Decision) → Contains [] decision → IsSpecify decision × IsRespected decision state
@@ -175,11 +177,13 @@ claim_same decisions claim p =
     (λ i. record { kind = says.1 i; arguments = arguments i })
 
 low_consistent : IsConsistent low_x (with_x (up_to 1)) low_claim
-low_consistent =
-    (up_to 1 ∷ Range (pos 1) (pos 1) ∷ [], (gives_x (up_to 1), (refl, tt)),
-    two_consistent Ends (HoldsOf Leq) (up_to 1) (Range (pos 1) (pos 1))
-    (λ v tested. ([], pos 1 ∷ [], tt, ((omega (arith, ints), omega (arith, ints)), tt), below_1 v tested))
-    (λ v tested. (pos 0 ∷ [], [], ((omega (arith, ints), omega (arith, ints)), tt), tt, above_0 v tested)))
+low_consistent = (
+  up_to 1 ∷ Range (pos 1) (pos 1) ∷ [],
+  (gives_x (up_to 1), (refl, tt)),
+  two_consistent Ends (HoldsOf Leq) (up_to 1) (Range (pos 1) (pos 1))
+      (λ v tested. ([], pos 1 ∷ [], tt, ((omega (arith, ints), omega (arith, ints)), tt), below_1 v tested))
+      (λ v tested. (pos 0 ∷ [], [], ((omega (arith, ints), omega (arith, ints)), tt), tt, above_0 v tested)),
+)
   where
     below_1 : (v : ℤ) → IsTested (up_to 1) v → v ≤ℤ pos 1
     below_1 v (inl e) = omega (arith, ints, e)
