@@ -1,0 +1,4 @@
+pub mod Spaced
+pub mod Printing
+pub mod Some
+pub mod Decimals
