@@ -5,6 +5,7 @@
 mod declarations;
 #[tactic(auto, using(crate::proofs::Spaced::words_joined))]
 mod expressions;
+pub mod laws;
 mod line;
 #[tactic(auto, using(crate::proofs::Spaced::words_joined))]
 mod lists;
