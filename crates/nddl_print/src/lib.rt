@@ -6,6 +6,7 @@ mod declarations;
 #[tactic(auto, using(crate::proofs::Spaced::words_joined))]
 mod expressions;
 pub mod laws;
+#[tactic(auto, using(crate::proofs::Spaced::spaced_one))]
 mod line;
 #[tactic(auto, using(crate::proofs::Spaced::words_joined))]
 mod lists;

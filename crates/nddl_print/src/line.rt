@@ -80,7 +80,7 @@ impl Lines {
         Bytes::from_vec(bytes)
     }
 
-    fn bytes(&mut self, bytes: &[u8]) -> Result<(), AllocError>
+    fn append(&mut self, bytes: &[u8]) -> Result<(), AllocError>
         ensures { OnOk result (self.new ≡ self.old ++ bytes.now) }
     {
         self.bytes.extend_from_slice(bytes)
@@ -90,26 +90,23 @@ impl Lines {
     fn word(&mut self, bytes: &[u8]) -> Result<(), AllocError>
         ensures { OnOk result (self.new ≡ self.old ++ (bytes.now ++ codes " ")) }
     {
-        self.bytes(bytes)?;
-        self.bytes(b" ")
+        self.append(bytes)?;
+        self.append(b" ")
     }
 
     /// A reserved word or a mark.
-    #[tactic(auto, using(crate::proofs::Spaced::spaced_one))]
     pub fn fixed(&mut self, sort: Sort) -> Result<(), AllocError>
         ensures { OnOk result (self.new ≡ self.old ++ spaced (Fixed sort ∷ [])) }
     {
         self.word(fixed_text(sort))
     }
 
-    #[tactic(auto, using(crate::proofs::Spaced::spaced_one))]
     pub fn name(&mut self, name: &Name) -> Result<(), AllocError>
         ensures { OnOk result (self.new ≡ self.old ++ spaced (Named name.now.text ∷ [])) }
     {
         self.word(name.text.as_bytes())
     }
 
-    #[tactic(auto, using(crate::proofs::Spaced::spaced_one))]
     pub fn number(&mut self, value: i32) -> Result<(), AllocError>
         ensures { OnOk result (self.new ≡ self.old ++ spaced (Number value ∷ [])) }
     {
@@ -122,7 +119,7 @@ impl Lines {
         ensures { OnOk result (self.new ≡ self.old ++ (size_text size ++ codes " ")) }
     {
         let mut buffer = Buffer::new();
-        self.bytes(buffer.format(size / 1000).as_bytes())?;
+        self.append(buffer.format(size / 1000).as_bytes())?;
         let below = size % 1000;
         let digits = [
             b'.',
@@ -139,7 +136,7 @@ impl Lines {
     {
         let size = thousandths.unsigned_abs();
         if thousandths < 0 {
-            self.bytes(b"-")?;
+            self.append(b"-")?;
             self.size(size)
         } else {
             self.size(size)
@@ -150,8 +147,8 @@ impl Lines {
     pub fn quoted(&mut self, inside: &[u8]) -> Result<(), AllocError>
         ensures { OnOk result (self.new ≡ self.old ++ spaced (Quoted inside.now ∷ [])) }
     {
-        self.bytes(b"\"")?;
-        self.bytes(inside)?;
+        self.append(b"\"")?;
+        self.append(inside)?;
         self.word(b"\"")
     }
 

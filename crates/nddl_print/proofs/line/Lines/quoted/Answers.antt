@@ -8,5 +8,5 @@ use Rattle.nddl_print.proofs.line.Lines.quoted.Goals as goal
 pub returns : goal.returns
 returns c =
     on_ok_weaker c.word.result
-    (λ last. quoted_text c.args.self.now c.bytes.new.self c.bytes-2.new.self c.word.new.self c.args.inside.now c.in_ok-bytes.ensures c.in_ok-bytes-2.ensures last
+    (λ last. quoted_text c.args.self.now c.append.new.self c.append-2.new.self c.word.new.self c.args.inside.now c.in_ok-append.ensures c.in_ok-append-2.ensures last
     ∙ ap (λ text. c.args.self.now ++ text) (sym (spaced_one (Quoted c.args.inside.now)))) c.word.ensures
