@@ -1,45 +1,29 @@
 -- Trees that are the same have the same words, since places aren't printed.
-use Rattle.std.proofs.Common.{◌≡◌, ℕ, Option, Some, None, List, [], ◌∷◌, ◌++◌, map, refl, sym, ap, ◌∙◌}
+use Rattle.std.proofs.Common.{◌≡◌, Option, Some, None, List, [], ◌∷◌, ◌++◌, map, refl, sym, ap, ◌∙◌}
 use Rattle.std.specs.Option.{option_map}
 use Rattle.nddl_reading.specs.declared.sort.Sort.{Sort}
 use Rattle.nddl_reading.specs.declared.sort.Sort.TheVariants as sorts
 use Rattle.nddl_ast.specs.declared.name.Name.{Name}
-use Rattle.nddl_ast.specs.declared.name.Path.{Path}
-use Rattle.nddl_ast.specs.declared.expression.Constant.{Constant}
-use Rattle.nddl_ast.specs.declared.expression.Constant.TheVariants as constants
-use Rattle.nddl_ast.specs.declared.expression.Literal.{Literal}
 use Rattle.nddl_ast.specs.declared.expression.Expr.{Expr}
 use Rattle.nddl_ast.specs.declared.expression.Expr.TheVariants as exprs
-use Rattle.nddl_ast.specs.declared.expression.Value.{Value}
 use Rattle.nddl_ast.specs.declared.expression.Value.TheVariants as values
-use Rattle.nddl_ast.specs.declared.expression.Base.{Base}
 use Rattle.nddl_ast.specs.declared.expression.Base.TheVariants as bases
-use Rattle.nddl_ast.specs.declared.expression.Bounds.{Bounds}
 use Rattle.nddl_ast.specs.declared.expression.Bounds.TheVariants as bounds
-use Rattle.nddl_ast.specs.declared.expression.Type as types
-use Rattle.nddl_ast.specs.declared.expression.Creation.{Creation}
 use Rattle.nddl_ast.specs.declared.expression.Init.{Init}
 use Rattle.nddl_ast.specs.declared.expression.Init.TheVariants as inits
-use Rattle.nddl_ast.specs.declared.statement.Variable.{Variable}
-use Rattle.nddl_ast.specs.declared.statement.Call.{Call}
-use Rattle.nddl_ast.specs.declared.statement.Ask.{Ask}
 use Rattle.nddl_ast.specs.declared.statement.Guard.{Guard}
 use Rattle.nddl_ast.specs.declared.statement.Guard.TheVariants as guards
-use Rattle.nddl_ast.specs.declared.declaration.Typed.{Typed}
-use Rattle.nddl_ast.specs.declared.declaration.Part.{Part}
 use Rattle.nddl_ast.specs.declared.declaration.Part.TheVariants as parts
-use Rattle.nddl_ast.specs.declared.declaration.Set.{Set}
 use Rattle.nddl_ast.specs.declared.declaration.Set.TheVariants as sets
-use Rattle.nddl_ast.specs.declared.declaration.Member.{Member}
 use Rattle.nddl_ast.specs.declared.declaration.Member.TheVariants as members
 use Rattle.nddl_ast.specs.declared.declaration.Decl.{Decl}
 use Rattle.nddl_ast.specs.declared.declaration.Decl.TheVariants as decls
-use Rattle.nddl_ast.specs.Tree.{Statements, Nothing, Declares, Calls, Asks, Tests, Chooses, Repeats}
+use Rattle.nddl_ast.specs.Tree.{Nothing, Declares, Calls, Asks, Tests, Chooses, Repeats}
 use Rattle.nddl_ast.specs.Same.{AllSame, SameDecl}
-use Rattle.nddl_ast.specs.Unplaced.{unplaced_name, unplaced_path, unplaced_literal, unplaced_expr, unplaced_value, unplaced_base, unplaced_bounds, unplaced_type, unplaced_creation, unplaced_init, unplaced_variable, unplaced_call, unplaced_ask, unplaced_guard, unplaced_statements, unplaced_typed, unplaced_part, unplaced_set, unplaced_member, unplaced}
+use Rattle.nddl_ast.specs.Unplaced.{unplaced_name, unplaced_path, unplaced_expr, unplaced_value, unplaced_base, unplaced_bounds, unplaced_type, unplaced_init, unplaced_variable, unplaced_call, unplaced_ask, unplaced_guard, unplaced_statements, unplaced_typed, unplaced_part, unplaced_set, unplaced_member, unplaced}
 use Rattle.nddl_ast.proofs.Equal.{same_is_equal}
 use Rattle.nddl_print.specs.Words.{Word, line_of}
-use Rattle.nddl_print.specs.Canonical.{◌⌢◌, fixed, braced, many_words, following_words, listed_words, name_words, path_words, literal_words, expr_words, value_words, argument_words, creation_words, init_words, base_words, bounds_words, type_words, typed_words, start_words, variable_words, call_words, ask_words, guard_words, if_words, foreach_words, statements_words, part_words, set_words, member_words, parent_words, decl_words, spelling_of}
+use Rattle.nddl_print.specs.Canonical.{◌⌢◌, fixed, braced, many_words, following_words, listed_words, name_words, path_words, expr_words, value_words, argument_words, init_words, base_words, bounds_words, type_words, typed_words, start_words, variable_words, call_words, ask_words, guard_words, if_words, statements_words, part_words, set_words, member_words, parent_words, decl_words, spelling_of}
 
 -- what has the same words without its places
 abbrev Unplaces : {X : Type 0} → (X → X) → (X → List Word) → Type 0

@@ -10,13 +10,13 @@ use Rattle.nddl_lexer.specs.declared.kinds.LexKind.TheVariants as kinds
 use Rattle.nddl_lexer.specs.declared.kinds.Lexeme.{Lexeme}
 use Rattle.nddl_lexer.specs.Bytes.{AreDigits, unsigned, is_quotable, AllPassing}
 use Rattle.nddl_lexer.specs.Spelling.{IsSpelled, IsInRange, IsString, IsValue, SpellsNumber, SpellsDecimal, thousandths_of, with_sign}
-use Rattle.nddl_lexer.specs.Reading.{IsLexemeOf, AreLexemesOf, bytes_of}
+use Rattle.nddl_lexer.specs.Reading.{AreLexemesOf, bytes_of}
 use Rattle.nddl_lexer.proofs.Sizes.{parts_once}
 use Rattle.nddl_reading.specs.declared.sort.Sort.{Sort}
 use Rattle.nddl_reading.specs.declared.sort.Sort.TheVariants as sorts
 use Rattle.nddl_reading.specs.Symbols.{Symbol}
-use Rattle.nddl_parser.specs.Symbols.{word_sort, sort_of, Keeps, HasValue, IsSymbolOf, AreSymbols}
-use Rattle.nddl_print.proofs.Saying.{is_fixed, IsNamed, IsFine, AreFine}
+use Rattle.nddl_parser.specs.Symbols.{word_sort, sort_of, Keeps, HasValue, AreSymbols}
+use Rattle.nddl_print.proofs.Saying.{is_fixed, IsFine, AreFine}
 
 -- ---- sorts
 

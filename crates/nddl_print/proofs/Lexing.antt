@@ -1,21 +1,19 @@
 -- Words with a blank behind each are lexemes, and their symbols are the words.
-use Rattle.std.proofs.Common.{◌≡◌, ℕ, ◌+◌, ◌-◌, Bool, true, Option, Some, None, List, [], ◌∷◌, ◌++◌, length, take, drop, map, refl, sym, ap, subst, ◌∙◌, append_assoc, length-append, arith}
+use Rattle.std.proofs.Common.{◌≡◌, ℕ, ◌+◌, ◌-◌, true, Some, None, List, [], ◌∷◌, ◌++◌, length, take, drop, map, refl, sym, ap, subst, ◌∙◌, append_assoc, length-append, arith}
 use Rattle.std.specs.Prelude.{slice_range, codes}
 use Rattle.std.specs.List.{flat_map, join_by}
 use Rattle.std.proofs.lemmas.List.{append-nil, take_at, drop_at}
-use Rattle.nddl_lexer.specs.declared.kinds.LexKind.{LexKind}
 use Rattle.nddl_lexer.specs.declared.kinds.Lexeme.{Lexeme}
 use Rattle.nddl_lexer.specs.Bytes.{is_blank}
-use Rattle.nddl_lexer.specs.Spelling.{IsInRange}
-use Rattle.nddl_lexer.specs.Reading.{Piece, piece_of, Starts, Leads, lexemes_of, bytes_of, Lexes}
+use Rattle.nddl_lexer.specs.Reading.{Piece, piece_of, Starts, Leads, lexemes_of, bytes_of}
 use Rattle.nddl_lexer.proofs.Laws.{blanks_separate}
 use Rattle.nddl_reading.specs.Symbols.{Symbol}
-use Rattle.nddl_parser.specs.Symbols.{sort_of, Keeps, HasValue, IsSymbolOf, AreSymbols}
+use Rattle.nddl_parser.specs.Symbols.{sort_of, Keeps, HasValue, AreSymbols}
 use Rattle.nddl_ast.specs.declared.declaration.Decl.{Decl}
 use Rattle.nddl_print.specs.Words.{Word, text_of, line_of}
 use Rattle.nddl_print.specs.Canonical.{◌⌢◌, many_words, decl_words, spelling_of}
 use Rattle.nddl_print.proofs.Saying.{AreSound, Say}
-use Rattle.nddl_print.proofs.Spelling.{Spells, word_spells}
+use Rattle.nddl_print.proofs.Spelling.{word_spells}
 use Rattle.nddl_print.proofs.Spaced.{line_is}
 use Rattle.nddl_print.proofs.Some.{decl_some}
 

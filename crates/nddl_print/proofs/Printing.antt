@@ -1,5 +1,5 @@
 -- Steps of loops that print: what is printed, and then what follows, is what is wanted.
-use Rattle.std.proofs.Common.{◌≡◌, ℕ, suc, ◌+◌, ◌<◌, ◌≤◌, refl, sym, ap, ◌∙◌, List, [], ◌∷◌, ◌++◌, length, drop, get_or, append_assoc, add-one, arith}
+use Rattle.std.proofs.Common.{◌≡◌, ℕ, suc, ◌+◌, ◌<◌, ◌≤◌, refl, sym, ap, ◌∙◌, List, [], ◌∷◌, ◌++◌, length, drop, get_or, append_assoc, add-one}
 use Rattle.std.proofs.Math.Seq.{drop-cons}
 use Rattle.std.proofs.Math.ListN.{drop_of_length-le}
 use Rattle.std.proofs.lemmas.List.{append-nil}
@@ -9,8 +9,8 @@ use Rattle.std.specs.Prelude.{Some, None}
 use Rattle.nddl_ast.specs.Tree.{Statements, Nothing}
 use Rattle.nddl_ast.specs.Block.{with_statement}
 use Rattle.nddl_print.specs.Words.{Word, spaced}
-use Rattle.nddl_print.specs.Canonical.{◌⌢◌, statements_words, variable_words, call_words, ask_words, if_words, fixed, braced, foreach_words}
-use Rattle.nddl_print.proofs.Spaced.{spaced_then, spaced_none, words_joined}
+use Rattle.nddl_print.specs.Canonical.{◌⌢◌, statements_words, variable_words, call_words, ask_words, if_words, braced}
+use Rattle.nddl_print.proofs.Spaced.{spaced_then, spaced_none}
 
 pub item_printed : {X : Type 0} (text : List X → List ℕ) (items : List X) (i : ℕ) (x : X) (first lines next start : List ℕ) → i < length items → x ≡ get_or items i x
     → text (x ∷ drop (i + 1) items) ≡ first ++ text (drop (i + 1) items) → next ≡ lines ++ first → lines ++ text (drop i items) ≡ start

@@ -1,13 +1,11 @@
 -- Names, values, expressions and types, read back from their words.
-use Rattle.std.proofs.Common.{◌≡◌, ℕ, true, false, Option, List, [], ◌∷◌, ◌++◌, refl, sym, ap, subst, ◌∙◌}
+use Rattle.std.proofs.Common.{◌≡◌, ℕ, true, false, List, [], ◌∷◌, refl, sym, ap, subst}
 use Rattle.nddl_reading.specs.declared.sort.Sort.TheVariants as sorts
 use Rattle.nddl_reading.specs.Symbols.{Symbol}
-use Rattle.nddl_reading.specs.Exact.{◌·◌, IsPlaced, IsMark, IsNothing}
+use Rattle.nddl_reading.specs.Exact.{◌·◌, IsMark}
 use Rattle.nddl_ast.specs.declared.name.Name.{Name}
-use Rattle.nddl_ast.specs.declared.name.Path.{Path}
 use Rattle.nddl_ast.specs.declared.expression.Constant.{Constant}
 use Rattle.nddl_ast.specs.declared.expression.Constant.TheVariants as constants
-use Rattle.nddl_ast.specs.declared.expression.Literal.{Literal}
 use Rattle.nddl_ast.specs.declared.expression.Thousandths.{Thousandths}
 use Rattle.nddl_ast.specs.declared.expression.Expr.{Expr}
 use Rattle.nddl_ast.specs.declared.expression.Expr.TheVariants as exprs
@@ -18,14 +16,11 @@ use Rattle.nddl_ast.specs.declared.expression.Base.TheVariants as bases
 use Rattle.nddl_ast.specs.declared.expression.Bounds.{Bounds}
 use Rattle.nddl_ast.specs.declared.expression.Bounds.TheVariants as bounds
 use Rattle.nddl_ast.specs.declared.expression.Type as types
-use Rattle.nddl_ast.specs.declared.expression.Creation.{Creation}
-use Rattle.nddl_ast.specs.declared.expression.Init.{Init}
 use Rattle.nddl_ast.specs.declared.expression.Init.TheVariants as inits
-use Rattle.nddl_ast.specs.declared.declaration.Typed.{Typed}
 use Rattle.nddl_ast.specs.Same.{AllSame, SameName, SamePath, SameLiteral, SameExpr, SameValue, SameBase, SameBounds, SameType, SameCreation, SameInit, SameTyped}
 use Rattle.nddl_parser.specs.Grammar.{IsName, IsPath, Writes, IsLiteral, IsExpr, IsValue, AreArguments, IsCreation, IsInit, IsBase, IsBounds, IsType, IsTyped}
-use Rattle.nddl_print.specs.Words.{Word, Fixed, Named, Number, Decimal}
-use Rattle.nddl_print.specs.Canonical.{◌⌢◌, fixed, name_words, path_words, constant_words, literal_words, expr_words, value_words, argument_words, creation_words, init_words, base_words, bounds_words, type_words, typed_words}
+use Rattle.nddl_print.specs.Words.{Fixed, Named, Number, Decimal}
+use Rattle.nddl_print.specs.Canonical.{name_words, path_words, constant_words, literal_words, expr_words, value_words, argument_words, creation_words, init_words, base_words, bounds_words, type_words, typed_words}
 use Rattle.nddl_print.proofs.Saying.{AreSound, AreFine, Say, one_said}
 use Rattle.nddl_print.proofs.Reprinting.{Reprints, EachReprints, mapped, both, mark, after, before, may_then, placed, after_placed, following, separated, listed}
 

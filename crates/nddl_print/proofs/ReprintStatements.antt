@@ -1,26 +1,23 @@
 -- Statements read back from their words.
-use Rattle.std.proofs.Common.{◌≡◌, ℕ, ◌⊎◌, inl, inr, Option, Some, None, List, [], ◌∷◌, ◌++◌, refl, sym, ap, subst, ◌∙◌}
+use Rattle.std.proofs.Common.{◌≡◌, ℕ, ◌⊎◌, inl, inr, Option, Some, None, List, refl}
 use Rattle.nddl_reading.specs.declared.sort.Sort.TheVariants as sorts
 use Rattle.nddl_reading.specs.Symbols.{Symbol}
-use Rattle.nddl_reading.specs.Exact.{◌·◌, IsPlaced, IsMark, IsNothing}
 use Rattle.nddl_ast.specs.declared.name.Name.{Name}
 use Rattle.nddl_ast.specs.declared.name.Path.{Path}
 use Rattle.nddl_ast.specs.declared.expression.Expr.{Expr}
-use Rattle.nddl_ast.specs.declared.expression.Expr.TheVariants as exprs
 use Rattle.nddl_ast.specs.declared.expression.Type as types
 use Rattle.nddl_ast.specs.declared.expression.Init.{Init}
-use Rattle.nddl_ast.specs.declared.expression.Init.TheVariants as inits
 use Rattle.nddl_ast.specs.declared.statement.Variable.{Variable}
 use Rattle.nddl_ast.specs.declared.statement.Call.{Call}
 use Rattle.nddl_ast.specs.declared.statement.Ask.{Ask}
 use Rattle.nddl_ast.specs.declared.statement.Guard.{Guard}
 use Rattle.nddl_ast.specs.declared.statement.Guard.TheVariants as guards
-use Rattle.nddl_ast.specs.Tree.{Statements, Nothing, Declares, Calls, Asks, Tests, Chooses, Repeats, Braces}
-use Rattle.nddl_ast.specs.Same.{AllSame, BothSame, SameInit, SameExpr, SameGuard, SameName, SameVariable, SameCall, SameAsk, SameStatements, SameBlock}
-use Rattle.nddl_parser.specs.Grammar.{IsStart, IsVariable, IsCall, IsAsk, IsGuard, IsExpr, IsName, IsLoneIf, Encloses, AreStatements, IsBlock}
+use Rattle.nddl_ast.specs.Tree.{Statements, Nothing, Declares, Calls, Asks, Tests, Chooses, Repeats}
+use Rattle.nddl_ast.specs.Same.{BothSame, SameInit, SameGuard, SameVariable, SameCall, SameAsk, SameStatements, SameBlock}
+use Rattle.nddl_parser.specs.Grammar.{IsStart, IsVariable, IsCall, IsAsk, IsGuard, IsLoneIf, Encloses, AreStatements, IsBlock}
 use Rattle.nddl_print.specs.Words.{Word, Fixed}
-use Rattle.nddl_print.specs.Canonical.{◌⌢◌, fixed, braced, start_words, variable_words, call_words, ask_words, guard_words, if_words, foreach_words, expr_words, listed_words, name_words, statements_words, block_words}
-use Rattle.nddl_print.proofs.Saying.{AreSound, then_assoc, sound_then, say_then, one_said}
+use Rattle.nddl_print.specs.Canonical.{◌⌢◌, fixed, braced, start_words, variable_words, call_words, ask_words, guard_words, expr_words, listed_words, statements_words, block_words}
+use Rattle.nddl_print.proofs.Saying.{AreSound, then_assoc, three_first, sound_then, say_then, one_said}
 use Rattle.nddl_print.proofs.Reprinting.{Reprints, EachReprints, mapped, reworded, both, mark, marks, after, before, after_placed, listed}
 use Rattle.nddl_print.proofs.ReprintParts.{name_reprints, path_reprints, expr_reprints, init_reprints, type_reprints}
 
@@ -34,15 +31,11 @@ variable_reprints variable =
     (λ p symbols is. is) (λ symbols is. is) (λ p same. (same.0, same.1.0, same.1.1))
     (both (type_reprints variable.declared) (both (name_reprints variable.name) (before (start_reprints variable.init) (mark sorts.Semicolon refl))))
 
--- arguments between parentheses, and what follows
-with_semicolon : (a b c d : List Word) → a ⌢ (b ⌢ (c ⌢ d)) ≡ (a ⌢ (b ⌢ c)) ⌢ d
-with_semicolon a b c d = simp then_assoc refl
-
 pub call_reprints : EachReprints IsCall SameCall call_words
 call_reprints call =
     mapped {X = Path × List Expr} (λ p. record { path = p.0; arguments = p.1 }) (call.path, call.arguments) (λ p symbols is. is) (λ symbols is. is) (λ p same. same)
     (both (path_reprints call.path)
-    (reworded (with_semicolon (fixed sorts.ParenOpen) (listed_words expr_words call.arguments) (fixed sorts.ParenClose) (fixed sorts.Semicolon))
+    (reworded (three_first (fixed sorts.ParenOpen) (listed_words expr_words call.arguments) (fixed sorts.ParenClose) (fixed sorts.Semicolon))
     (after (mark sorts.ParenOpen refl) (before (listed expr_reprints call.arguments) (marks (mark sorts.ParenClose refl) (mark sorts.Semicolon refl))))))
 
 pub ask_reprints : EachReprints IsAsk SameAsk ask_words

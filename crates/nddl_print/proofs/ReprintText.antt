@@ -1,15 +1,11 @@
 -- Declarations read back from their words.
-use Rattle.std.proofs.Common.{◌≡◌, ℕ, Option, Some, None, List, [], ◌∷◌, ◌++◌, refl, sym, ap, subst, ◌∙◌}
+use Rattle.std.proofs.Common.{◌≡◌, ℕ, Option, Some, None, List, [], ◌∷◌, refl, sym, subst}
 use Rattle.nddl_reading.specs.declared.sort.Sort.TheVariants as sorts
 use Rattle.nddl_reading.specs.Symbols.{Symbol}
-use Rattle.nddl_reading.specs.Exact.{◌·◌, IsPlaced, IsMark, IsNothing, MayMark}
 use Rattle.nddl_ast.specs.declared.name.Name.{Name}
 use Rattle.nddl_ast.specs.declared.expression.Expr.{Expr}
-use Rattle.nddl_ast.specs.declared.expression.Expr.TheVariants as exprs
 use Rattle.nddl_ast.specs.declared.expression.Type as types
 use Rattle.nddl_ast.specs.declared.expression.Init.{Init}
-use Rattle.nddl_ast.specs.declared.expression.Init.TheVariants as inits
-use Rattle.nddl_ast.specs.declared.statement.Call.{Call}
 use Rattle.nddl_ast.specs.declared.declaration.Typed.{Typed}
 use Rattle.nddl_ast.specs.declared.declaration.Part.{Part}
 use Rattle.nddl_ast.specs.declared.declaration.Part.TheVariants as parts
@@ -17,14 +13,13 @@ use Rattle.nddl_ast.specs.declared.declaration.Set.{Set}
 use Rattle.nddl_ast.specs.declared.declaration.Set.TheVariants as sets
 use Rattle.nddl_ast.specs.declared.declaration.Member.{Member}
 use Rattle.nddl_ast.specs.declared.declaration.Member.TheVariants as members
-use Rattle.nddl_ast.specs.declared.declaration.Decl.{Decl}
 use Rattle.nddl_ast.specs.declared.declaration.Decl.TheVariants as decls
 use Rattle.nddl_ast.specs.Tree.{Braces}
 use Rattle.nddl_ast.specs.Same.{AllSame, BothSame, SameName, SamePart, SameSet, SameMember, SameDecl}
 use Rattle.nddl_parser.specs.Grammar.{IsPart, IsSet, IsMember, IsFile, IsParent, IsDecl, IsText}
-use Rattle.nddl_print.specs.Words.{Word, Quoted}
-use Rattle.nddl_print.specs.Canonical.{◌⌢◌, fixed, braced, listed_words, many_words, expr_words, typed_words, part_words, set_words, member_words, parent_words, decl_words}
-use Rattle.nddl_print.proofs.Saying.{AreSound, AreFine, then_assoc, one_said}
+use Rattle.nddl_print.specs.Words.{Quoted}
+use Rattle.nddl_print.specs.Canonical.{fixed, braced, listed_words, many_words, expr_words, typed_words, part_words, set_words, member_words, parent_words, decl_words}
+use Rattle.nddl_print.proofs.Saying.{AreSound, AreFine, three_first, one_said}
 use Rattle.nddl_print.proofs.Reprinting.{Reprints, EachReprints, mapped, reworded, both, mark, marks, mark_may, then_may, after, before, after_placed, many, separated, listed}
 use Rattle.nddl_print.proofs.ReprintParts.{name_reprints, expr_reprints, init_reprints, type_reprints, typed_reprints}
 use Rattle.nddl_print.proofs.ReprintStatements.{variable_reprints, call_reprints, ask_reprints, block_reprints}
@@ -34,9 +29,6 @@ part_reprints (parts.Parameter typed) =
     mapped parts.Parameter typed (λ p symbols is. is) (λ symbols is. is) (λ p same. same) (before (typed_reprints typed) (mark sorts.Semicolon refl))
 part_reprints (parts.Constraint call) = mapped parts.Constraint call (λ p symbols is. is) (λ symbols is. is) (λ p same. same) (call_reprints call)
 
-with_semicolon : (a b c d : List Word) → a ⌢ (b ⌢ (c ⌢ d)) ≡ (a ⌢ (b ⌢ c)) ⌢ d
-with_semicolon a b c d = simp then_assoc refl
-
 set_reprints : EachReprints IsSet SameSet set_words
 set_reprints (sets.Field name value) =
     mapped {X = Name × Init} (λ p. sets.Field p.0 p.1) (name, value) (λ p symbols is. is) (λ symbols is. is) (λ p same. same)
@@ -44,12 +36,8 @@ set_reprints (sets.Field name value) =
 set_reprints (sets.Super at arguments) =
     mapped {X = ℕ × List Expr} (λ p. sets.Super p.0 p.1) (at, arguments) (λ p symbols is. is) (λ symbols is. is) (λ p same. same)
     (after_placed sorts.Super at refl
-    (reworded (with_semicolon (fixed sorts.ParenOpen) (listed_words expr_words arguments) (fixed sorts.ParenClose) (fixed sorts.Semicolon))
+    (reworded (three_first (fixed sorts.ParenOpen) (listed_words expr_words arguments) (fixed sorts.ParenClose) (fixed sorts.Semicolon))
     (after (mark sorts.ParenOpen refl) (before (listed expr_reprints arguments) (marks (mark sorts.ParenClose refl) (mark sorts.Semicolon refl))))))
-
--- formals between parentheses, and the body
-with_body : (a b c d : List Word) → a ⌢ (b ⌢ (c ⌢ d)) ≡ (a ⌢ (b ⌢ c)) ⌢ d
-with_body a b c d = simp then_assoc refl
 
 member_reprints : EachReprints IsMember SameMember member_words
 member_reprints (members.Field typed) =
@@ -61,7 +49,7 @@ member_reprints (members.Predicate at name body) =
 member_reprints (members.Constructor name formals body) =
     mapped {X = Name × (List Typed × List Set)} (λ p. members.Constructor p.0 p.1.0 p.1.1) (name, (formals, body)) (λ p symbols is. is) (λ symbols is. is) (λ p same. (same.0, same.1.0, same.1.1))
     (both (name_reprints name)
-    (reworded (with_body (fixed sorts.ParenOpen) (listed_words typed_words formals) (fixed sorts.ParenClose) (braced (many_words set_words body)))
+    (reworded (three_first (fixed sorts.ParenOpen) (listed_words typed_words formals) (fixed sorts.ParenClose) (braced (many_words set_words body)))
     (after (mark sorts.ParenOpen refl) (both (listed typed_reprints formals)
     (after (mark sorts.ParenClose refl) (after (mark sorts.BraceOpen refl) (before (many set_reprints body) (mark sorts.BraceClose refl))))))))
 

@@ -1,9 +1,9 @@
 -- From the words of a tree, a tree that is the same: by one lemma for each way to put languages together.
-use Rattle.std.proofs.Common.{◌≡◌, ℕ, Bool, true, ◌⊎◌, inl, inr, List, [], ◌∷◌, ◌++◌, refl, sym, ap, subst, ◌∙◌}
+use Rattle.std.proofs.Common.{◌≡◌, ℕ, true, inr, List, [], ◌∷◌, refl, sym, subst}
 use Rattle.nddl_reading.specs.declared.sort.Sort.{Sort}
 use Rattle.nddl_reading.specs.declared.sort.Sort.TheVariants as sorts
 use Rattle.nddl_reading.specs.Symbols.{Symbol}
-use Rattle.nddl_reading.specs.Exact.{◌·◌, IsPlaced, IsMark, IsNothing, AreMany, AreFollowing, AreSeparated, AreListed, MayMark}
+use Rattle.nddl_reading.specs.Exact.{◌·◌, IsPlaced, IsMark, AreMany, AreFollowing, AreSeparated, AreListed, MayMark}
 use Rattle.nddl_reading.proofs.Lists.{append_none}
 use Rattle.nddl_ast.specs.Same.{AllSame}
 use Rattle.nddl_print.specs.Words.{Word, Fixed}

@@ -1,16 +1,14 @@
 -- The spelling of a tree is read back as the same tree.
-use Rattle.std.proofs.Common.{◌≡◌, ℕ, ◌+◌, Ok, List, [], ◌∷◌, refl, sym, ap, subst, ◌∙◌, arith}
-use Rattle.nddl_lexer.specs.declared.kinds.Lexeme.{Lexeme}
-use Rattle.nddl_lexer.specs.Reading.{Lexes, lexemes_of}
+use Rattle.std.proofs.Common.{◌≡◌, Ok, List, [], refl, sym, ap, subst, ◌∙◌}
+use Rattle.nddl_lexer.specs.Reading.{lexemes_of}
 use Rattle.nddl_lexer.proofs.Laws.{lie_in_order}
 use Rattle.nddl_lexer.proofs.Outcomes.{one_reading}
 use Rattle.nddl_ast.specs.declared.declaration.Decl.{Decl}
-use Rattle.nddl_ast.specs.Same.{AllSame, SameDecl}
 use Rattle.nddl_parser.specs.Derives.{Parses}
 use Rattle.nddl_parser.specs.Grammar.{most_nested}
 use Rattle.nddl_parser.proofs.OneOutcome.{one_outcome}
 use Rattle.nddl_print.specs.Canonical.{many_words, decl_words, spelling_of}
-use Rattle.nddl_print.specs.Laws.{IsReadable, IsReadBack, PrintsAreReadBack, PrintsAreReadAsNoOther, SameTreesAreSpelledAlike, PrintsAreLasting}
+use Rattle.nddl_print.specs.Laws.{IsReadable, PrintsAreReadBack, PrintsAreReadAsNoOther, SameTreesAreSpelledAlike, PrintsAreLasting}
 use Rattle.nddl_print.proofs.Saying.{AreSound}
 use Rattle.nddl_print.proofs.ReprintText.{text_reprints}
 use Rattle.nddl_print.proofs.Fine.{symbols_fine}

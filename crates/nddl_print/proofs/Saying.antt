@@ -1,5 +1,5 @@
 -- Symbols that are words, and words that can be spelled.
-use Rattle.std.proofs.Common.{◌≡◌, ℕ, ℤ, Bool, true, false, List, [], ◌∷◌, ◌++◌, refl, sym, ap, subst, ◌∙◌}
+use Rattle.std.proofs.Common.{◌≡◌, ℕ, Bool, true, false, List, [], ◌∷◌, ◌++◌, refl, ap, ◌∙◌}
 use Rattle.nddl_reading.specs.declared.sort.Sort.{Sort}
 use Rattle.nddl_reading.specs.declared.sort.Sort.TheVariants as sorts
 use Rattle.nddl_reading.specs.Symbols.{Symbol}
@@ -68,10 +68,6 @@ pub sound_then : (words more : List Word) → AreSound words → AreSound more �
 unfolding ◌⌢◌
 sound_then words more first rest = sound-append words more first rest
 
-pub sound_front : (words more : List Word) → AreSound (words ++ more) → AreSound words × AreSound more
-sound_front [] more sound = (tt, sound)
-sound_front (word ∷ words) more sound = let parts = sound_front words more sound.1 in ((sound.0, parts.0), parts.1)
-
 say-append : (words more : List Word) (symbols : List Symbol) → Say (words ++ more) symbols → (front : List Symbol) × (back : List Symbol) × (symbols ≡ front ++ back) × Say words front × Say more back
 say-append [] more symbols say = ([], symbols, refl, refl, say)
 say-append (word ∷ words) more symbols (symbol, rest, split, says, say) =
@@ -87,6 +83,10 @@ unfolding ◌⌢◌
 then_assoc [] two three = refl
 then_assoc (word ∷ one) two three = ap (λ rest. word ∷ rest) (then_assoc one two three)
 
--- one symbol, of the sort
+-- the first three of four are a part of their own
+pub three_first : (a b c d : List Word) → a ⌢ (b ⌢ (c ⌢ d)) ≡ (a ⌢ (b ⌢ c)) ⌢ d
+three_first a b c d = simp then_assoc refl
+
+-- symbols that are one word are one symbol
 pub one_said : (word : Word) (symbols : List Symbol) → Say (word ∷ []) symbols → (symbol : Symbol) × (symbols ≡ symbol ∷ []) × Says word symbol
 one_said word symbols (symbol, rest, split, says, none) = (symbol, split ∙ ap (λ left. symbol ∷ left) none, says)

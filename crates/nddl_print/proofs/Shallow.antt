@@ -1,6 +1,6 @@
 -- Trees that are the same have blocks nested equally deep.
 use Rattle.std.proofs.Common.{◌≡◌, ℕ, zero, suc, Option, Some, None, List, [], ◌∷◌, refl}
-use Rattle.nddl_reading.specs.Exact.{earlier, earliest}
+use Rattle.nddl_reading.specs.Exact.{earlier}
 use Rattle.nddl_reading.proofs.Lists.{earlier_none}
 use Rattle.nddl_ast.specs.declared.declaration.Decl.{Decl}
 use Rattle.nddl_ast.specs.declared.declaration.Decl.TheVariants as decls

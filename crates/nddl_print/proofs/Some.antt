@@ -1,11 +1,10 @@
 -- Each declaration has a word.
-use Rattle.std.proofs.Common.{◌≡◌, ◌≢◌, refl, List, [], ◌∷◌, ◌++◌}
-use Rattle.nddl_ast.specs.declared.name.Name.{Name}
+use Rattle.std.proofs.Common.{◌≢◌, refl, List, [], ◌∷◌}
 use Rattle.nddl_ast.specs.declared.expression.Base.{Base}
 use Rattle.nddl_ast.specs.declared.expression.Base.TheVariants as bases
 use Rattle.nddl_ast.specs.declared.declaration.Decl.{Decl}
 use Rattle.nddl_ast.specs.declared.declaration.Decl.TheVariants as decls
-use Rattle.nddl_print.specs.Words.{Word, Named}
+use Rattle.nddl_print.specs.Words.{Word}
 use Rattle.nddl_print.specs.Canonical.{◌⌢◌, base_words, decl_words}
 
 one : (word : Word) → ◌≢◌ {A = List Word} (word ∷ []) []

@@ -1,5 +1,5 @@
 -- Each word's spelling is one lexeme, and its symbol is the word.
-use Rattle.std.proofs.Common.{◌≡◌, ℕ, ℤ, pos, Bool, true, false, ◌&&◌, not, IsTrue, Some, inl, inr, List, [], ◌∷◌, ◌++◌, codes, refl, sym, ap, subst, ◌∙◌}
+use Rattle.std.proofs.Common.{◌≡◌, ℕ, ℤ, pos, Bool, true, false, ◌&&◌, not, IsTrue, Some, inl, inr, List, [], ◌∷◌, codes, refl}
 use Rattle.std.specs.Str.{bytes_eq}
 use Rattle.std.proofs.lemmas.Bool.{and_parts, both_ways}
 use Rattle.std.proofs.lemmas.Slice.Eq.{bytes_eq-Decides}
@@ -9,10 +9,9 @@ use Rattle.eu_name.specs.Word.{is_word_start, is_word_byte, IsWord}
 use Rattle.nddl_lexer.specs.declared.kinds.LexKind.{LexKind}
 use Rattle.nddl_lexer.specs.declared.kinds.LexKind.TheVariants as kinds
 use Rattle.nddl_lexer.specs.Bytes.{AllPassing}
-use Rattle.nddl_lexer.specs.Spelling.{IsSpelled, IsInRange, IsNumber, IsDecimal, SpellsNumber}
+use Rattle.nddl_lexer.specs.Spelling.{IsSpelled, IsInRange, IsNumber, SpellsNumber}
 use Rattle.nddl_reading.specs.declared.sort.Sort.{Sort}
 use Rattle.nddl_reading.specs.declared.sort.Sort.TheVariants as sorts
-use Rattle.nddl_reading.specs.Symbols.{Symbol}
 use Rattle.nddl_parser.specs.Symbols.{word_sort, sort_of, Keeps, HasValue}
 use Rattle.nddl_print.specs.Words.{Word, Fixed, Named, Number, Decimal, Quoted, fixed_text, decimal_text, text_of}
 use Rattle.nddl_print.proofs.Saying.{is_fixed, IsSound, Says}

@@ -1,7 +1,6 @@
-use Rattle.std.proofs.Common.{◌++◌, drop, ap, ◌∙◌, append_assoc}
 use Rattle.nddl_print.specs.Words.{spaced}
 use Rattle.nddl_print.specs.Canonical.{following_words}
-use Rattle.nddl_print.proofs.Spaced.{spaced_then, spaced_none, words_joined}
+use Rattle.nddl_print.proofs.Spaced.{spaced_then, spaced_none}
 use Rattle.nddl_print.proofs.Printing.{item_printed, all_printed, both_printed}
 use Rattle.nddl_print.proofs.lists.print_following.Goals as goal
 

@@ -1,4 +1,3 @@
-use Rattle.std.proofs.Common.{◌++◌, drop}
 use Rattle.nddl_print.specs.Words.{spaced}
 use Rattle.nddl_print.specs.Canonical.{many_words}
 use Rattle.nddl_print.proofs.Spaced.{spaced_then, spaced_none}

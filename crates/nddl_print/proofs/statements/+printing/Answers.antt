@@ -1,4 +1,3 @@
-use Rattle.std.proofs.Common.{◌++◌, drop}
 use Rattle.nddl_ast.specs.Block.{statements_of}
 use Rattle.nddl_print.specs.Words.{spaced}
 use Rattle.nddl_print.specs.Canonical.{statements_words}
