@@ -1,0 +1,144 @@
+-- The symbols of a text can be written.
+use Rattle.std.proofs.Common.{◌≡◌, ℕ, ℤ, Bool, true, false, ◌&&◌, inl, inr, Some, List, [], ◌∷◌, ◌++◌, ◌+◌, codes, refl, sym, ap, subst, ◌∙◌}
+use Rattle.std.specs.Str.{bytes_eq}
+use Rattle.std.specs.Prelude.{if◌then◌else◌}
+use Rattle.std.proofs.lemmas.Bool.{and_parts}
+use Rattle.std.proofs.lemmas.List.{append_cancel_right}
+use Rattle.eu_name.specs.Word.{IsWord}
+use Rattle.nddl_lexer.specs.declared.kinds.LexKind.{LexKind}
+use Rattle.nddl_lexer.specs.declared.kinds.LexKind.TheVariants as kinds
+use Rattle.nddl_lexer.specs.declared.kinds.Lexeme.{Lexeme}
+use Rattle.nddl_lexer.specs.Bytes.{AreDigits, unsigned, is_quotable, AllPassing}
+use Rattle.nddl_lexer.specs.Spelling.{IsSpelled, IsInRange, IsString, IsValue, SpellsNumber, SpellsDecimal, thousandths_of, with_sign}
+use Rattle.nddl_lexer.specs.Reading.{AreLexemesOf, bytes_of}
+use Rattle.nddl_lexer.proofs.Sizes.{parts_once}
+use Rattle.nddl_reading.specs.declared.sort.Sort.{Sort}
+use Rattle.nddl_reading.specs.declared.sort.Sort.TheVariants as sorts
+use Rattle.nddl_reading.specs.Symbols.{Symbol}
+use Rattle.nddl_parser.specs.Symbols.{word_sort, sort_of, Keeps, HasValue, AreSymbols}
+use Rattle.nddl_print.proofs.Saying.{is_fixed, IsFine, AreFine}
+
+-- ---- sorts
+
+-- whether the sort is a name's or has one spelling
+abbrev is_of_word : Sort → Bool
+is_of_word sorts.Number = false
+is_of_word sorts.Decimal = false
+is_of_word sorts.Quoted = false
+is_of_word sort = true
+
+-- the sort beside the first of the words that is this one, else a name's
+abbrev sort_among : List (List ℕ × Sort) → List ℕ → Sort
+sort_among [] bytes = sorts.Name
+sort_among (pair ∷ pairs) bytes = if bytes_eq bytes pair.0 then pair.1 else sort_among pairs bytes
+
+abbrev are_of_words : List (List ℕ × Sort) → Bool
+are_of_words [] = true
+are_of_words (pair ∷ pairs) = is_of_word pair.1 && are_of_words pairs
+
+either : (flag : Bool) (one other : Sort) → is_of_word one ≡ true → is_of_word other ≡ true → is_of_word (if flag then one else other) ≡ true
+either true one other p q = p
+either false one other p q = q
+
+sorts_among : (pairs : List (List ℕ × Sort)) (bytes : List ℕ) → are_of_words pairs ≡ true → is_of_word (sort_among pairs bytes) ≡ true
+sorts_among [] bytes are = refl
+sorts_among (pair ∷ pairs) bytes are =
+    let parts = and_parts (is_of_word pair.1) (are_of_words pairs) are in
+    either (bytes_eq bytes pair.0) pair.1 (sort_among pairs bytes) parts.0 (sorts_among pairs bytes parts.1)
+
+abbrev the_reserved : List (List ℕ × Sort)
+the_reserved =
+    (codes "class", sorts.Class) ∷ ((codes "predicate", sorts.Predicate) ∷ ((codes "enum", sorts.Enum) ∷ ((codes "typedef", sorts.Typedef)
+    ∷ ((codes "extends", sorts.Extends) ∷ ((codes "new", sorts.New) ∷ ((codes "if", sorts.If) ∷ ((codes "else", sorts.Else)
+    ∷ ((codes "foreach", sorts.Foreach) ∷ ((codes "in", sorts.In) ∷ ((codes "int", sorts.Int) ∷ ((codes "float", sorts.Float)
+    ∷ ((codes "bool", sorts.Bool) ∷ ((codes "string", sorts.Text) ∷ ((codes "true", sorts.True) ∷ ((codes "false", sorts.False)
+    ∷ ((codes "super", sorts.Super) ∷ []))))))))))))))))
+
+word_sorts : (bytes : List ℕ) → is_of_word (word_sort bytes) ≡ true
+word_sorts bytes = sorts_among the_reserved bytes refl
+
+-- a sort that passes is none that fails
+no_sort : (test : Sort → Bool) (sort is other : Sort) → test is ≡ true → test other ≡ false → sort ≡ is → sort ≡ other → ⊥
+no_sort test sort is other passes fails p q = let both : true ≡ false = sym passes ∙ (ap test (sym p ∙ q) ∙ fails) in cc
+
+fine_fixed : (symbol : Symbol) (sort : Sort) → is_fixed sort ≡ true → symbol.sort ≡ sort → IsFine symbol
+fine_fixed symbol sort fixed is = record {
+  named = λ other. absurd (no_sort is_fixed _ sort sorts.Name fixed refl is other);
+  number = λ other. absurd (no_sort is_fixed _ sort sorts.Number fixed refl is other);
+  decimal = λ other. absurd (no_sort is_fixed _ sort sorts.Decimal fixed refl is other);
+  quoted = λ other. absurd (no_sort is_fixed _ sort sorts.Quoted fixed refl is other);
+}
+
+-- ---- values
+
+no_digits : (bytes : List ℕ) → AreDigits bytes → bytes ≡ codes "inf" → ⊥
+no_digits bytes digits is = let first = (subst AreDigits is digits).1.0 in absurd cc
+
+number_once : (bytes : List ℕ) (one other : ℤ) → SpellsNumber bytes one → SpellsNumber bytes other → one ≡ other
+number_once bytes one other (inl p) (inl q) = p.1 ∙ sym q.1
+number_once bytes one other (inl p) (inr q) = absurd (no_digits (unsigned bytes) p.0 q.0)
+number_once bytes one other (inr p) (inl q) = absurd (no_digits (unsigned bytes) q.0 p.0)
+number_once bytes one other (inr p) (inr q) = p.1 ∙ sym q.1
+
+decimal_once : (bytes : List ℕ) (one other : ℤ) → SpellsDecimal bytes one → SpellsDecimal bytes other → one ≡ other
+decimal_once bytes one other p q =
+    let same = parts_once (unsigned bytes) p.whole p.fraction q.whole q.fraction p.parts q.parts in
+    p.value ∙ (ap (with_sign bytes) (ap (λ (xs : List ℕ). thousandths_of xs p.fraction) same.0 ∙ ap (thousandths_of q.whole) same.1) ∙ sym q.value)
+
+inside_once : (one other : List ℕ) → 34 ∷ (one ++ 34 ∷ []) ≡ 34 ∷ (other ++ 34 ∷ []) → one ≡ other
+inside_once one other same = let tails : one ++ 34 ∷ [] ≡ other ++ 34 ∷ [] = cc in append_cancel_right one other (34 ∷ []) tails
+
+fine_inside : (bytes kept : List ℕ) → IsString bytes → bytes ≡ 34 ∷ (kept ++ 34 ∷ []) → AllPassing is_quotable kept
+fine_inside bytes kept string keeps = subst (AllPassing is_quotable) (inside_once string.inside kept (sym string.parts ∙ keeps)) string.quotable
+
+-- ---- symbols
+
+fine_kind : (kind : LexKind) (bytes : List ℕ) (symbol : Symbol) → IsSpelled kind bytes → IsInRange (Some kind) bytes → symbol.sort ≡ sort_of kind bytes → Keeps kind bytes symbol.bytes
+    → HasValue kind bytes symbol.value → IsFine symbol
+fine_kind kinds.Word bytes symbol spelled range sort keeps value = record {
+  named = λ is. (subst IsWord (sym keeps) spelled, ap word_sort keeps ∙ (sym sort ∙ is));
+  number = λ is. absurd (no_sort is_of_word _ (word_sort bytes) sorts.Number (word_sorts bytes) refl sort is);
+  decimal = λ is. absurd (no_sort is_of_word _ (word_sort bytes) sorts.Decimal (word_sorts bytes) refl sort is);
+  quoted = λ is. absurd (no_sort is_of_word _ (word_sort bytes) sorts.Quoted (word_sorts bytes) refl sort is);
+}
+fine_kind kinds.Number bytes symbol spelled range sort keeps value = record {
+  named = λ is. let no : sorts.Number ≡ sorts.Name = sym sort ∙ is in absurd cc;
+  number = λ is. subst IsValue (number_once bytes range.0 symbol.value range.1 value) range.2;
+  decimal = λ is. let no : sorts.Number ≡ sorts.Decimal = sym sort ∙ is in absurd cc;
+  quoted = λ is. let no : sorts.Number ≡ sorts.Quoted = sym sort ∙ is in absurd cc;
+}
+fine_kind kinds.Decimal bytes symbol spelled range sort keeps value = record {
+  named = λ is. let no : sorts.Decimal ≡ sorts.Name = sym sort ∙ is in absurd cc;
+  number = λ is. let no : sorts.Decimal ≡ sorts.Number = sym sort ∙ is in absurd cc;
+  decimal = λ is. subst IsValue (decimal_once bytes range.0 symbol.value range.1 value) range.2;
+  quoted = λ is. let no : sorts.Decimal ≡ sorts.Quoted = sym sort ∙ is in absurd cc;
+}
+fine_kind kinds.Str bytes symbol spelled range sort keeps value = record {
+  named = λ is. let no : sorts.Quoted ≡ sorts.Name = sym sort ∙ is in absurd cc;
+  number = λ is. let no : sorts.Quoted ≡ sorts.Number = sym sort ∙ is in absurd cc;
+  decimal = λ is. let no : sorts.Quoted ≡ sorts.Decimal = sym sort ∙ is in absurd cc;
+  quoted = λ is. fine_inside bytes symbol.bytes spelled keeps;
+}
+fine_kind kinds.Include bytes symbol spelled range sort keeps value = fine_fixed symbol _ refl sort
+fine_kind kinds.BraceOpen bytes symbol spelled range sort keeps value = fine_fixed symbol _ refl sort
+fine_kind kinds.BraceClose bytes symbol spelled range sort keeps value = fine_fixed symbol _ refl sort
+fine_kind kinds.ParenOpen bytes symbol spelled range sort keeps value = fine_fixed symbol _ refl sort
+fine_kind kinds.ParenClose bytes symbol spelled range sort keeps value = fine_fixed symbol _ refl sort
+fine_kind kinds.BracketOpen bytes symbol spelled range sort keeps value = fine_fixed symbol _ refl sort
+fine_kind kinds.BracketClose bytes symbol spelled range sort keeps value = fine_fixed symbol _ refl sort
+fine_kind kinds.Semicolon bytes symbol spelled range sort keeps value = fine_fixed symbol _ refl sort
+fine_kind kinds.Comma bytes symbol spelled range sort keeps value = fine_fixed symbol _ refl sort
+fine_kind kinds.Point bytes symbol spelled range sort keeps value = fine_fixed symbol _ refl sort
+fine_kind kinds.Assign bytes symbol spelled range sort keeps value = fine_fixed symbol _ refl sort
+fine_kind kinds.Equal bytes symbol spelled range sort keeps value = fine_fixed symbol _ refl sort
+fine_kind kinds.NotEqual bytes symbol spelled range sort keeps value = fine_fixed symbol _ refl sort
+fine_kind kinds.DoubleColon bytes symbol spelled range sort keeps value = fine_fixed symbol _ refl sort
+
+pub symbols_fine : (text : List ℕ) (from : ℕ) (lexemes : List Lexeme) (symbols : List Symbol) → AreLexemesOf text from lexemes → AreSymbols text lexemes symbols → AreFine symbols
+symbols_fine text from [] [] lie are = tt
+symbols_fine text from [] (symbol ∷ symbols) lie are = absurd are
+symbols_fine text from (lexeme ∷ lexemes) [] lie are = absurd are
+symbols_fine text from (lexeme ∷ lexemes) (symbol ∷ symbols) lie are = (
+  fine_kind lexeme.kind (bytes_of text lexeme) symbol lie.1.spelled lie.1.in_range are.0.sort are.0.bytes are.0.value,
+  symbols_fine text (lexeme.at + lexeme.len) lexemes symbols lie.2 are.1,
+)

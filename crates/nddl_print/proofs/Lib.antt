@@ -1,0 +1,16 @@
+pub mod Spaced
+pub mod Printing
+pub mod Some
+pub mod Decimals
+pub mod Saying
+pub mod Reprinting
+pub mod ReprintParts
+pub mod ReprintStatements
+pub mod ReprintText
+pub mod Shallow
+pub mod Alike
+pub mod Digits
+pub mod Spelling
+pub mod Fine
+pub mod Lexing
+pub mod RoundTrip
