@@ -1,5 +1,5 @@
 -- That open blocks are in an order.
-use Rattle.std.proofs.Common.{◌≡◌, ℕ, ◌<◌, List, [], ◌∷◌, inl, inr, sym, subst, ◌∙◌, arith}
+use Rattle.std.proofs.Common.{◌≡◌, ℕ, List, [], ◌∷◌, inl, inr, sym, subst, ◌∙◌, arith}
 use Rattle.eu_name.specs.declared.name.TokenName.{TokenName}
 use Rattle.eu_name.specs.NameOrder.{ByNumber, ByToken, IsTokenBefore}
 use Rattle.eu_name.proofs.Orders.{token_order}

@@ -4,5 +4,7 @@ pub mod BlockOrder
 pub mod States
 pub mod Advancing
 pub mod Settling
+pub mod Setting
 pub mod Lower
+pub mod Bounding
 pub mod Reasons

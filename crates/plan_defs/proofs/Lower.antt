@@ -1,5 +1,5 @@
 -- What a state asks for is asked for below it.
-use Rattle.std.proofs.Common.{◌≡◌, List, [], ◌∷◌, ◌⊎◌, inl, inr, ℤ, ◌<ℤ◌, ◌≤ℤ◌, arith}
+use Rattle.std.proofs.Common.{List, [], ◌∷◌, inl, inr, ℤ, ◌≤ℤ◌, arith}
 use Rattle.std.proofs.lemmas.Int.{ints}
 use Rattle.domain_core.specs.Domain.{Domain, IsDomain, IsWithin, Has, least, greatest}
 use Rattle.domain_core.proofs.Words.{has_least, has_greatest, between_ends}
@@ -15,8 +15,8 @@ use Rattle.model_core.specs.declared.rule.Side.{Side}
 use Rattle.model_core.specs.declared.rule.Turn.{Turn}
 use Rattle.model_core.specs.Blocks.{TokenBlock, Follows, HasBlock, chosen}
 use Rattle.model_core.specs.Entries.{Entries}
-use Rattle.model_core.specs.State.{State, Gives, IsState, IsBelow}
-use Rattle.plan_defs.specs.Claims.{Claim, IsOfBlock, IsClaim}
+use Rattle.model_core.specs.State.{State, IsState, IsBelow}
+use Rattle.plan_defs.specs.Claims.{Claim, IsClaim}
 use Rattle.plan_defs.specs.Support.{IsTermDomain, Opens, IsOpen, AsksFor, IsSupportedToken, IsSupportedBlock, one_side, other_side}
 use Rattle.plan_defs.specs.Terms.{Scope, OfRule, Argument, Value, Variable, HasDomain}
 use Rattle.plan_defs.specs.Timelines.{EndsTooLate}

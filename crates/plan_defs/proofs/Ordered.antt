@@ -1,6 +1,7 @@
 -- Lists in order: nothing stands twice, and two with the same members are one.
-use Rattle.std.proofs.Common.{◌≡◌, ℕ, suc, zero, ◌<◌, List, [], ◌∷◌, length, get_or, ◌⊎◌, ⊎_elim, inl, inr, refl, sym, ap, ◌∙◌, subst, arith}
+use Rattle.std.proofs.Common.{◌≡◌, ℕ, suc, zero, ◌<◌, List, [], ◌∷◌, length, get_or, ◌⊎◌, ⊎_elim, inl, inr, refl, sym, ◌∙◌, subst, arith}
 use Rattle.std.specs.Prelude.{Contains, AllPairs}
+use Rattle.std.proofs.lemmas.List.Elements.{Contains-get_or}
 
 -- ---- membership, by the first item
 
@@ -59,6 +60,28 @@ module _ {X : Type 0} (before : X → X → Type 0) (irreflexive : (x : X) → b
       (λ v c. behind x y v xs ys p first (into v (contains_later x v xs c)) c)
       (λ v c. behind y x v ys xs q (sym first) (back v (contains_later y v ys c)) c) in
       (λ i. first i ∷ rest i)
+
+-- ---- putting lists in order together
+
+pub ordered_none : {X : Type 0} (before : X → X → Type 0) → AllPairs before []
+ordered_none before = λ i j d less within. absurd (omega arith)
+
+pub ordered_cons : {X : Type 0} (before : X → X → Type 0) (x : X) (xs : List X) → ((y : X) → Contains xs y → before x y) → AllPairs before xs → AllPairs before (x ∷ xs)
+ordered_cons before x xs first rest i zero d less within = absurd (omega arith)
+ordered_cons before x xs first rest zero (suc j) d less within = first (get_or xs j d) (Contains-get_or xs j d (omega arith))
+ordered_cons before x xs first rest (suc i) (suc j) d less within = rest i j d (omega arith) (omega arith)
+
+pub ordered_one : {X : Type 0} (before : X → X → Type 0) (x : X) → AllPairs before (x ∷ [])
+ordered_one before x = ordered_cons before x [] (λ y c. absurd (contains_none y c)) (ordered_none before)
+
+-- it is enough that the first comes before the second
+pub ordered_link : {X : Type 0} (before : X → X → Type 0) → ((x y z : X) → before x y → before y z → before x z)
+    → (x y : X) (ys : List X) → before x y → AllPairs before (y ∷ ys) → AllPairs before (x ∷ y ∷ ys)
+ordered_link before transitive x y ys first rest =
+    ordered_cons before x (y ∷ ys) (λ z c. elim (contains_cases y z ys c) [
+      | inl same ↦ subst (before x) same first
+      | inr later ↦ transitive x y z first (ordered_head before y ys rest z later)
+    ]) rest
 
 -- where things are in the order of their keys, there is one of a key at most
 module _ {X K : Type 0} (key : X → K) (before : K → K → Type 0) (irreflexive : (k : K) → before k k → ⊥) where

@@ -1,6 +1,6 @@
 -- Laws of states: each variable once, and two states below each other are equal.
-use Rattle.std.proofs.Common.{◌≡◌, List, refl, sym, ap, ◌∙◌, subst}
-use Rattle.std.specs.Prelude.{AllPairs, Contains}
+use Rattle.std.proofs.Common.{◌≡◌, refl, ap, subst}
+use Rattle.std.specs.Prelude.{Contains}
 use Rattle.std.proofs.lemmas.List.Elements.{All-contains}
 use Rattle.domain_core.specs.Domain.{Domain, IsDomain, IsWithin}
 use Rattle.domain_core.proofs.Words.{IsWithin-refl, IsWithin-trans, IsWithin-antisym}

@@ -1,8 +1,8 @@
 -- What has to be consistent in a state: constraints over values and variables.
-use Rattle.std.specs.Prelude.{◌≡◌, ℕ, ◌⊎◌, List, [], ◌∷◌, All, Contains}
+use Rattle.std.specs.Prelude.{◌≡◌, ◌⊎◌, List, [], ◌∷◌, All, Contains}
 use Rattle.std.specs.List.{AllZip}
 use Rattle.eu_name.specs.declared.name.Part.{Part}
-use Rattle.eu_name.specs.declared.name.Part.TheVariants.{Start, End, Duration, Object, Param}
+use Rattle.eu_name.specs.declared.name.Part.TheVariants.{Start, End, Duration}
 use Rattle.eu_name.specs.declared.name.TokenName.{TokenName}
 use Rattle.eu_name.specs.declared.name.VarName.TheVariants.{Token}
 use Rattle.model_core.specs.declared.decision.Decision.{Decision}

@@ -11,7 +11,6 @@ use Rattle.model_core.specs.declared.class.Pred.{Pred}
 use Rattle.model_core.specs.declared.class.PredKind.{PredKind}
 use Rattle.model_core.specs.declared.class.PredKind.TheVariants.{Uses, Produce, Consume}
 use Rattle.model_core.specs.declared.decision.Decision.{Decision}
-use Rattle.model_core.specs.declared.decision.Decision.TheVariants.{Reject}
 use Rattle.model_core.specs.declared.item.Term.{Term}
 use Rattle.model_core.specs.declared.item.Term.TheVariants as term
 use Rattle.model_core.specs.declared.model.Model.{Model}

@@ -1,9 +1,10 @@
 -- One step towards the least state, and any number of them: nothing that fits is lost.
-use Rattle.std.specs.Prelude.{◌≡◌, ℕ, ◌<◌, List, [], ◌∷◌, Some, slice_get, sum_by, ⊤}
-use Rattle.domain_core.specs.Domain.{slack}
+use Rattle.std.specs.Prelude.{◌≡◌, ℕ, ◌<◌, List, [], ◌∷◌, Some, set, slice_get, sum_by, ⊤}
+use Rattle.domain_core.specs.Domain.{Domain, slack}
 use Rattle.domain_core.specs.declared.Change.{Change}
 use Rattle.domain_core.specs.declared.Change.TheVariants.{Same, Smaller, Empty}
 use Rattle.model_core.specs.declared.model.Model.{Model}
+use Rattle.eu_name.specs.declared.name.VarName.{VarName}
 use Rattle.model_core.specs.State.{State, IsState, IsBelow}
 
 -- how far the state is from single values; it falls whenever a value goes
@@ -35,3 +36,10 @@ AreSteps model fits state (next ∷ states) = Advances model fits state next × 
 abbrev pub last_of : State → List State → State
 last_of state [] = state
 last_of state (next ∷ states) = last_of next states
+
+-- the variable at this place has another domain, and all else is as it was
+pub record SetsDomain (old : State) (place : ℕ) (name : VarName) (before after : Domain) (new : State) : Type 0 where
+  pub at : slice_get old.entries place ≡ Some (record { name = name; domain = before })
+  pub tokens : new.tokens ≡ old.tokens
+  pub blocks : new.blocks ≡ old.blocks
+  pub entries : new.entries ≡ set old.entries place (record { name = name; domain = after })

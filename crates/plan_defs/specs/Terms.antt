@@ -1,5 +1,5 @@
 -- What the terms of items and guards mean.
-use Rattle.std.specs.Prelude.{◌≡◌, ℕ, ℤ, List, [], ⊤}
+use Rattle.std.specs.Prelude.{◌≡◌, ℕ, ℤ, List, ⊤}
 use Rattle.domain_core.specs.Domain.{Domain, Range}
 use Rattle.eu_name.specs.declared.name.TokenName.{TokenName}
 use Rattle.eu_name.specs.declared.name.VarName.{VarName}

@@ -43,14 +43,14 @@ use Rattle.plan_defs.specs.Support.{Chooses, Opens, IsSupportedToken, IsSupporte
 use Rattle.plan_defs.specs.Terms.{OfRule, Value, Variable, HasDomain}
 use Rattle.plan_defs.specs.Timelines.{IsOn}
 use Rattle.plan_defs.proofs.BlockOrder.{block_transitive}
-use Rattle.plan_defs.proofs.Ordered.{contains_head, contains_cases, contains_none}
+use Rattle.plan_defs.proofs.Ordered.{contains_head, contains_cases, contains_none, ordered_none, ordered_one, ordered_link}
 use Rattle.plan_defs.proofs.States.{gives_same}
 use Rattle.plan_examples.specs.Globals.{nothing, up_to}
 use Rattle.plan_examples.specs.Cases.{short, early, late, using, taking, ruled, tool, battery, drained, activated, rejected}
 use Rattle.plan_examples.specs.Scenes.{the_object, predicate_of, root_of, scene, Moment, only, tokens_of, state_of, guarded, top_block, then_block}
 use Rattle.plan_examples.proofs.Casts.{only_moment, open_moment, one_moment, two_moments, nothing_decided, one_decided, kind_of, fit_no_timelines, fit_no_reusables, fit_no_reservoirs, no_block, root_supported, no_rule, one_rule, none_activated}
 use Rattle.plan_examples.proofs.Closed.{IsMoment, closed, supported, slot_same, HasItsBlock}
-use Rattle.plan_examples.proofs.Lists.{all_members, only_member, same_some, ordered_none, ordered_one, ordered_link}
+use Rattle.plan_examples.proofs.Lists.{all_members, only_member, same_some}
 use Rattle.plan_examples.proofs.Scenes.{tokens_in_order, entries_in_order, HasPartDomain, entry_there, IsTokenOf, token_of}
 
 -- a state in which nothing is decided and no block is open is closed where the object is nothing special

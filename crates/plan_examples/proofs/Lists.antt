@@ -1,8 +1,8 @@
 -- Short lists, item by item.
-use Rattle.std.proofs.Common.{◌≡◌, ℕ, suc, zero, List, [], ◌∷◌, length, get_or, Some, map, inl, inr, refl, ap, subst, arith}
-use Rattle.std.specs.Prelude.{Contains, All, AllPairs, slice_get}
+use Rattle.std.proofs.Common.{◌≡◌, ℕ, suc, zero, List, [], ◌∷◌, length, get_or, Some, map, inl, inr, refl, ap, arith}
+use Rattle.std.specs.Prelude.{Contains, All, slice_get}
 use Rattle.std.proofs.lemmas.List.Elements.{Contains-get_or}
-use Rattle.plan_defs.proofs.Ordered.{contains_cases, contains_none, ordered_head}
+use Rattle.plan_defs.proofs.Ordered.{contains_cases, contains_none}
 
 -- what holds of each member holds of all
 pub all_members : {X : Type 0} (P : X → Type 0) (xs : List X) → ((x : X) → Contains xs x → P x) → All P xs
@@ -14,28 +14,6 @@ only_member x y c = elim (contains_cases x y [] c) [ inl same ↦ same | inr lat
 
 pub same_some : {X : Type 0} (x y : X) → Some x ≡ Some y → x ≡ y
 same_some x y e = cc
-
--- ---- order
-
-pub ordered_none : {X : Type 0} (before : X → X → Type 0) → AllPairs before []
-ordered_none before = λ i j d less within. absurd (omega arith)
-
-pub ordered_cons : {X : Type 0} (before : X → X → Type 0) (x : X) (xs : List X) → ((y : X) → Contains xs y → before x y) → AllPairs before xs → AllPairs before (x ∷ xs)
-ordered_cons before x xs first rest i zero d less within = absurd (omega arith)
-ordered_cons before x xs first rest zero (suc j) d less within = first (get_or xs j d) (Contains-get_or xs j d (omega arith))
-ordered_cons before x xs first rest (suc i) (suc j) d less within = rest i j d (omega arith) (omega arith)
-
-pub ordered_one : {X : Type 0} (before : X → X → Type 0) (x : X) → AllPairs before (x ∷ [])
-ordered_one before x = ordered_cons before x [] (λ y c. absurd (contains_none y c)) (ordered_none before)
-
--- it is enough that the first comes before the second
-pub ordered_link : {X : Type 0} (before : X → X → Type 0) → ((x y z : X) → before x y → before y z → before x z)
-    → (x y : X) (ys : List X) → before x y → AllPairs before (y ∷ ys) → AllPairs before (x ∷ y ∷ ys)
-ordered_link before transitive x y ys first rest =
-    ordered_cons before x (y ∷ ys) (λ z c. elim (contains_cases y z ys c) [
-      | inl same ↦ subst (before x) same first
-      | inr later ↦ transitive x y z first (ordered_head before y ys rest z later)
-    ]) rest
 
 -- ---- places
 

@@ -11,9 +11,9 @@ use Rattle.eu_name.specs.NameOrder.{IsTokenBefore, IsVarBefore, place_of}
 use Rattle.eu_name.proofs.Orders.{token_order, var_order}
 use Rattle.model_core.specs.State.{Entry}
 use Rattle.model_core.specs.Tokens.{root_token}
-use Rattle.plan_defs.proofs.Ordered.{contains_head, contains_later, contains_cases, contains_none}
+use Rattle.plan_defs.proofs.Ordered.{contains_head, contains_later, contains_cases, contains_none, ordered_none, ordered_one, ordered_link}
 use Rattle.plan_examples.specs.Scenes.{the_object, Moment, only, tokens_of, entries_of}
-use Rattle.plan_examples.proofs.Lists.{ordered_none, ordered_one, ordered_link, same_some}
+use Rattle.plan_examples.proofs.Lists.{same_some}
 
 -- ---- in order
 

@@ -25,9 +25,9 @@ use Rattle.plan_defs.specs.Claims.{Claim, IsClaim, IsOfProblem, Says}
 use Rattle.plan_defs.specs.Closure.{IsClosed, AreInBase, IsRespected}
 use Rattle.plan_defs.specs.Consistency.{IsConsistent, HasField}
 use Rattle.plan_defs.specs.Terms.{Value, Variable, Argument, Means, OfProblem, HasDomain, Counts}
-use Rattle.plan_defs.proofs.Ordered.{contains_head, contains_none}
+use Rattle.plan_defs.proofs.Ordered.{contains_head, contains_none, ordered_none, ordered_one}
 use Rattle.plan_examples.specs.Globals.{declared_x, problem_of, free_x, low_x, at_most_1, nothing, with_x, up_to}
-use Rattle.plan_examples.proofs.Lists.{all_members, only_member, same_some, ordered_none, ordered_one}
+use Rattle.plan_examples.proofs.Lists.{all_members, only_member, same_some}
 use Rattle.plan_examples.proofs.Tuples.{two_consistent}
 
 -- the decision specifies a variable

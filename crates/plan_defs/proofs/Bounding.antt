@@ -1,0 +1,68 @@
+-- What a claim of order says of the ends.
+use Rattle.std.proofs.Common.{List, [], ◌∷◌, ◌++◌, ℤ, ◌≤ℤ◌, refl, subst, arith}
+use Rattle.std.specs.List.{AllZip}
+use Rattle.std.proofs.lemmas.Int.{ints}
+use Rattle.domain_core.specs.Domain.{Domain, IsDomain, IsWithin, least, greatest}
+use Rattle.domain_core.proofs.Words.{tested_least, tested_greatest}
+use Rattle.eu_name.specs.declared.name.VarName.{VarName}
+use Rattle.model_core.specs.declared.decision.Decision.{Decision}
+use Rattle.model_core.specs.declared.item.Kind.TheVariants.{Leq}
+use Rattle.model_core.specs.declared.model.Model.{Model}
+use Rattle.model_core.specs.Consistency.{Ends, Admits, AreConsistent}
+use Rattle.model_core.specs.Constraints.{HoldsOf}
+use Rattle.model_core.specs.State.{State, Gives, IsState, IsBelow}
+use Rattle.plan_defs.specs.Claims.{IsClaim, at_most}
+use Rattle.plan_defs.specs.Closure.{IsClosed}
+use Rattle.plan_defs.specs.Terms.{Variable, HasDomain}
+use Rattle.plan_defs.proofs.Lower.{least_rises, greatest_falls}
+use Rattle.plan_defs.proofs.States.{gives_same, gives_domain}
+
+-- the ends of both domains are in order
+abbrev EndsInOrder : Domain → Domain → Type 0
+EndsInOrder one other = (greatest one ≤ℤ greatest other) × (least one ≤ℤ least other)
+
+above : (other : Domain) (value : ℤ) (left right : List ℤ) → AllZip (Admits Ends) [] left → AllZip (Admits Ends) (other ∷ []) right → HoldsOf Leq (left ++ value ∷ right) → value ≤ℤ greatest other
+above other value (v ∷ left) right before after holds = absurd before
+above other value [] [] before after holds = absurd after
+above other value [] (w ∷ v ∷ right) before after holds = absurd after.1
+above other value [] (w ∷ []) before after holds = omega (arith, ints, after.0.1, holds)
+
+below : (one : Domain) (value : ℤ) (left right : List ℤ) → AllZip (Admits Ends) (one ∷ []) left → AllZip (Admits Ends) [] right → HoldsOf Leq (left ++ value ∷ right) → least one ≤ℤ value
+below one value [] right before after holds = absurd before
+below one value (w ∷ v ∷ left) right before after holds = absurd before.1
+below one value (w ∷ []) (v ∷ right) before after holds = absurd after
+below one value (w ∷ []) [] before after holds = omega (arith, ints, before.0.0, holds)
+
+pub ends_in_order : (one other : Domain) → IsDomain one → IsDomain other → AreConsistent Ends (HoldsOf Leq) (one ∷ other ∷ []) → EndsInOrder one other
+ends_in_order one other one_ok other_ok consistent =
+    let high = consistent [] one (other ∷ []) (greatest one) refl (tested_greatest one one_ok) in
+    let low = consistent (one ∷ []) other [] (least other) refl (tested_least other other_ok) in
+    (above other (greatest one) high.0 high.1 high.2 high.3 high.4, below one (least other) low.0 low.1 low.2 low.3 low.4)
+
+module _ (model : Model) (state : State) (ok : IsState model state) (one other : VarName) (one_is other_is : Domain) (gives_one : Gives state one one_is) (gives_other : Gives state other other_is) where
+  claimed : (domains : List Domain) → AllZip (HasDomain state) (Variable one ∷ Variable other ∷ []) domains → AreConsistent Ends (HoldsOf Leq) domains → EndsInOrder one_is other_is
+  claimed [] have consistent = absurd have
+  claimed (a ∷ []) have consistent = absurd have.1
+  claimed (a ∷ b ∷ c ∷ domains) have consistent = absurd have.1.1
+  claimed (a ∷ b ∷ []) have consistent =
+      let first = gives_same state ok.order one a one_is have.0 gives_one in
+      let second = gives_same state ok.order other b other_is have.1.0 gives_other in
+      let ends = ends_in_order a b (gives_domain model state ok one a have.0) (gives_domain model state ok other b have.1.0) consistent in
+      subst (λ d. EndsInOrder d other_is) first (subst (EndsInOrder a) second ends)
+
+pub bounds_both : (model : Model) (decisions : List Decision) (high low : State) (one other : VarName) (one_high other_high one_low other_low : Domain)
+    → IsState model high → IsClosed model decisions low → IsBelow high low → IsClaim model decisions low (at_most (Variable one) (Variable other))
+    → Gives high one one_high → Gives high other other_high → Gives low one one_low → Gives low other other_low → (greatest one_low ≤ℤ greatest other_high) × (least one_high ≤ℤ least other_low)
+bounds_both model decisions high low one other one_high other_high one_low other_low high_ok closed lower claim gives_one gives_other one_there other_there =
+    let low_ok = closed.is_state in
+    let consistent = closed.consistent (at_most (Variable one) (Variable other)) claim in
+    let ends = claimed model low low_ok one other one_low other_low one_there other_there consistent.0 consistent.1 consistent.2 in
+    let one_below = lower.variables one one_high gives_one in
+    let other_below = lower.variables other other_high gives_other in
+    let one_same = gives_same low low_ok.order one one_below.0 one_low one_below.1 one_there in
+    let other_same = gives_same low low_ok.order other other_below.0 other_low other_below.1 other_there in
+    let one_low_ok = gives_domain model low low_ok one one_low one_there in
+    let other_low_ok = gives_domain model low low_ok other other_low other_there in
+    let rises = least_rises one_low one_high one_low_ok (gives_domain model high high_ok one one_high gives_one) (subst (λ d. IsWithin d one_high) one_same one_below.2) in
+    let falls = greatest_falls other_low other_high other_low_ok (gives_domain model high high_ok other other_high gives_other) (subst (λ d. IsWithin d other_high) other_same other_below.2) in
+    (omega (arith, ints, ends.0, falls), omega (arith, ints, ends.1, rises))
