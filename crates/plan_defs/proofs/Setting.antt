@@ -140,7 +140,7 @@ module _ (old new : State) (place : ℕ) (name : VarName) (before after : Domain
       blocks = λ block c. below.blocks block (subst (λ blocks. Contains blocks block) sets.blocks c);
       variables = λ other domain gives. elim (given other domain gives) [
         | inl changed ↦ (let found = below.variables name before gives_before in
-          (found.0, subst (λ n. Gives low n found.0) (ap (λ (e : Entry). e.name) changed) found.1, subst (IsWithin found.0) (ap (λ (e : Entry). e.domain) changed) (keeps low found.0 fit below found.1)))
+            (found.0, subst (λ n. Gives low n found.0) (ap (λ (e : Entry). e.name) changed) found.1, subst (IsWithin found.0) (ap (λ (e : Entry). e.domain) changed) (keeps low found.0 fit below found.1)))
         | inr there ↦ below.variables other domain there
       ];
     };
