@@ -5,3 +5,4 @@ pub mod Leading
 pub mod Lookups
 pub mod Resolving
 pub mod Naming
+pub mod Sample

@@ -1,8 +1,9 @@
 -- The texts of variables, and that a text names one thing.
-use Rattle.std.proofs.Common.{◌≡◌, ℕ, ◌<◌, List, Result, Ok, Err, Some, slice_get, refl, sym, ◌∙◌, ap, subst, get_or, length, arith}
+use Rattle.std.proofs.Common.{◌≡◌, ℕ, pos, ◌-ℤ◌, ◌<◌, List, Result, Ok, Err, Some, slice_get, refl, sym, ◌∙◌, ap, subst, get_or, length, arith}
 use Rattle.std.specs.Prelude.{IfOk, codes}
 use Rattle.std.proofs.lemmas.List.{get_or-map, length-map}
 use Rattle.std.proofs.lemmas.List.Elements.{All-get_or}
+use Rattle.domain_core.specs.Domain.{Range}
 use Rattle.eu_name.specs.declared.name.Part.{Part}
 use Rattle.eu_name.specs.declared.name.Part.TheVariants as parts
 use Rattle.eu_name.specs.declared.name.TokenName.{TokenName}
@@ -14,6 +15,7 @@ use Rattle.model_core.specs.declared.class.Pred.{Pred}
 use Rattle.model_core.specs.declared.model.Model.{Model}
 use Rattle.model_core.specs.declared.rule.Slot.{Slot}
 use Rattle.model_core.specs.declared.variable.Base.{Base}
+use Rattle.model_core.specs.declared.variable.Base.TheVariants.{Given}
 use Rattle.model_core.specs.declared.variable.VarDecl.{VarDecl}
 use Rattle.model_core.specs.Lawful.{IsLawful}
 use Rattle.model_core.specs.Naming.{names_of, IsParameterName}
@@ -118,3 +120,19 @@ names_one_variable model text (Token one part) (Global n) lawful (slot, leads, (
 names_one_variable model text (Token one part) (Local other rule number) lawful (slot, leads, (word, tail, named)) (slot', leads', tail', declared) = cc
 names_one_variable model text (Local one rule number) (Global n) lawful (slot, leads, tail, declared) (steps, whole, found) = cc
 names_one_variable model text (Local one rule number) (Token other part) lawful (slot, leads, tail, declared) (slot', leads', (word, tail', named)) = cc
+
+-- ---- what there is
+
+part_has_base : (model : Model) (slot : Slot) (part : Part) (word : List ℕ) → IsPartWord model slot.pred part word → (base : Base) × HasPartBase model slot part base
+part_has_base model slot parts.Start word is = (Given (Range model.problem.start model.problem.end), refl)
+part_has_base model slot parts.End word is = (Given (Range model.problem.start model.problem.end), refl)
+part_has_base model slot parts.Duration word is = (Given (Range (pos 1) (model.problem.end -ℤ model.problem.start)), refl)
+part_has_base model slot parts.Object word is = (slot.object, refl)
+part_has_base model slot (parts.Param number) word (variable, has, named) = (variable.base, (variable, has, refl))
+
+pub names_what_there_is : (model : Model) (text : NameText) (variable : VarName) → NamesVariable model text variable → (base : Base) × HasBase model variable base
+names_what_there_is model text (Global number) (steps, whole, (variable, stands, named)) = (variable.base, (variable, stands, refl))
+names_what_there_is model text (Token token part) (slot, leads, (word, tail, named)) =
+    let part = part_has_base model slot part word named in
+    (part.0, (slot, leads.has_token, part.1))
+names_what_there_is model text (Local token rule number) (slot, leads, tail, (variable, has)) = (variable.base, (slot, leads.has_token, (variable, has, refl)))

@@ -17,3 +17,4 @@ pub mod Lookup
 pub mod Names
 pub mod TokenStates
 pub mod Views
+pub mod Sample

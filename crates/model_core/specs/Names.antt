@@ -11,10 +11,11 @@ use Rattle.eu_name.specs.declared.name_text.Tail.TheVariants as tails
 use Rattle.model_core.specs.declared.model.Model.{Model}
 use Rattle.model_core.specs.declared.model.Root.{Root}
 use Rattle.model_core.specs.declared.rule.Slot.{Slot}
+use Rattle.model_core.specs.declared.variable.Base.{Base}
 use Rattle.model_core.specs.declared.variable.VarDecl.{VarDecl}
 use Rattle.model_core.specs.Lawful.{IsLawful}
 use Rattle.model_core.specs.Tokens.{IsRoot, HasToken}
-use Rattle.model_core.specs.Variables.{HasParameter, HasLocal}
+use Rattle.model_core.specs.Variables.{HasBase, HasParameter, HasLocal}
 
 -- the token to which the steps lead from the root of this number
 abbrev pub token_at : ℕ → List Step → TokenName
@@ -56,3 +57,7 @@ NamesOneToken = (model : Model) (text : NameText) (one other : TokenName) → Is
 abbrev pub NamesOneVariable : Type 0
 NamesOneVariable =
     (model : Model) (text : NameText) (one other : VarName) → IsLawful model → NamesVariable model text one → NamesVariable model text other → one ≡ other
+
+-- what a text names, the model has
+abbrev pub NamesWhatThereIs : Type 0
+NamesWhatThereIs = (model : Model) (text : NameText) (variable : VarName) → NamesVariable model text variable → (base : Base) × HasBase model variable base

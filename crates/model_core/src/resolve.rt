@@ -7,7 +7,7 @@ ghost use Rattle.eu_name.specs.declared.name.VarName.{VarName};
 ghost use Rattle.eu_name.specs.declared.name_text.Tail.TheVariants as tails;
 ghost use Rattle.model_core.specs.declared.rule.Slot.{Slot};
 ghost use Rattle.model_core.specs.Lawful.{IsLawful};
-ghost use Rattle.model_core.specs.Names.{LeadsToToken, NamesToken, NamesVariable, NamesOneToken, NamesOneVariable, IsPartWord, token_at};
+ghost use Rattle.model_core.specs.Names.{LeadsToToken, NamesToken, NamesVariable, NamesOneToken, NamesOneVariable, NamesWhatThereIs, IsPartWord, token_at};
 
 use super::model::Model;
 use eu_name::name::{Part, Step, TokenName, VarName};
@@ -177,4 +177,9 @@ fn token_of(reached: Reached, name: &NameText) -> Result<TokenName, AllocError>
 pub fn texts_name_one()
     ensures tokens { NamesOneToken }
     ensures variables { NamesOneVariable }
+{}
+
+/// A law: what a text names, the model has.
+pub fn texts_name_what_there_is()
+    ensures { NamesWhatThereIs }
 {}
