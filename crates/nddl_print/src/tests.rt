@@ -22,12 +22,63 @@ fn printed(alloc: Global, text: &[u8]) -> Result<Vec<u8>, AllocError> {
 }
 
 // A file with everything that the grammar has, as one writes it by hand.
-const USUAL: &[u8] =
-    b"// a file\n#include \"Plasma.nddl\";\n#include \"more.nddl\"\n\nenum Colour { red, green };\ntypedef int [0, +010] Level;\ntypedef float [-0.0 02.5] Rate;\ntypedef Colour {red} Warm;\n\nclass Rover;\nclass Base { }\nclass Rover extends Timeline {\n  Level fuel; bool {true, false} ready; string note; float rate;\n  Rover(int {1, 2} count, Colour colour) {\n    super(count, colour);\n    fuel = count; rate = -1.5; base = new Base();\n  }\n  Rover() { super(); }\n  predicate Go { Level far; leq(far, 7); neq(object.fuel, far); };\n  predicate Stay { }\n};\n\nRover::Go {\n  meets(object.Stay s); any(Stay); Level x = s.far; /* both */\n  if (ready) { eq(x, -3); } else if (x != far) { starts(object.Go t); }\n  else { foreach (r in Rover) { neq(r.fuel, inf); } }\n  if (x == true) { }\n}\n\nRover rover = new Rover(3, red);\nint [-5 -inf] y;\nint z = +0;\nclose();\nRover.close();\ngoal(rover.Go g);\nrover.specify(false);\n";
+const USUAL: &[u8] = br#"// a file
+#include "Plasma.nddl";
+#include "more.nddl"
+
+enum Colour { red, green };
+typedef int [0, +010] Level;
+typedef float [-0.0 02.5] Rate;
+typedef Colour {red} Warm;
+
+class Rover;
+class Base { }
+class Rover extends Timeline {
+  Level fuel; bool {true, false} ready; string note; float rate;
+  Rover(int {1, 2} count, Colour colour) {
+    super(count, colour);
+    fuel = count; rate = -1.5; base = new Base();
+  }
+  Rover() { super(); }
+  predicate Go { Level far; leq(far, 7); neq(object.fuel, far); };
+  predicate Stay { }
+};
+
+Rover::Go {
+  meets(object.Stay s); any(Stay); Level x = s.far; /* both */
+  if (ready) { eq(x, -3); } else if (x != far) { starts(object.Go t); }
+  else { foreach (r in Rover) { neq(r.fuel, inf); } }
+  if (x == true) { }
+}
+
+Rover rover = new Rover(3, red);
+int [-5 -inf] y;
+int z = +0;
+close();
+Rover.close();
+goal(rover.Go g);
+rover.specify(false);
+"#;
 
 // The same in the canonical spelling.
-const CANONICAL: &[u8] =
-    b"#include \"Plasma.nddl\"\n#include \"more.nddl\"\nenum Colour { red , green }\ntypedef int [ 0 10 ] Level ;\ntypedef float [ 0.000 2.500 ] Rate ;\ntypedef Colour { red } Warm ;\nclass Rover ;\nclass Base { }\nclass Rover extends Timeline { Level fuel ; bool { true , false } ready ; string note ; float rate ; Rover ( int { 1 , 2 } count , Colour colour ) { super ( count , colour ) ; fuel = count ; rate = -1.500 ; base = new Base ( ) ; } Rover ( ) { super ( ) ; } predicate Go { Level far ; leq ( far , 7 ) ; neq ( object . fuel , far ) ; } predicate Stay { } }\nRover :: Go { meets ( object . Stay s ) ; any ( Stay ) ; Level x = s . far ; if ( ready ) { eq ( x , -3 ) ; } else { if ( x != far ) { starts ( object . Go t ) ; } else { foreach ( r in Rover ) { neq ( r . fuel , 1000000 ) ; } } } if ( x == true ) { } }\nRover rover = new Rover ( 3 , red ) ;\nint [ -5 -1000000 ] y ;\nint z = 0 ;\nclose ( ) ;\nRover . close ( ) ;\ngoal ( rover . Go g ) ;\nrover . specify ( false ) ;\n";
+const CANONICAL: &[u8] = br#"#include "Plasma.nddl"
+#include "more.nddl"
+enum Colour { red , green }
+typedef int [ 0 10 ] Level ;
+typedef float [ 0.000 2.500 ] Rate ;
+typedef Colour { red } Warm ;
+class Rover ;
+class Base { }
+class Rover extends Timeline { Level fuel ; bool { true , false } ready ; string note ; float rate ; Rover ( int { 1 , 2 } count , Colour colour ) { super ( count , colour ) ; fuel = count ; rate = -1.500 ; base = new Base ( ) ; } Rover ( ) { super ( ) ; } predicate Go { Level far ; leq ( far , 7 ) ; neq ( object . fuel , far ) ; } predicate Stay { } }
+Rover :: Go { meets ( object . Stay s ) ; any ( Stay ) ; Level x = s . far ; if ( ready ) { eq ( x , -3 ) ; } else { if ( x != far ) { starts ( object . Go t ) ; } else { foreach ( r in Rover ) { neq ( r . fuel , 1000000 ) ; } } } if ( x == true ) { } }
+Rover rover = new Rover ( 3 , red ) ;
+int [ -5 -1000000 ] y ;
+int z = 0 ;
+close ( ) ;
+Rover . close ( ) ;
+goal ( rover . Go g ) ;
+rover . specify ( false ) ;
+"#;
 
 #[test]
 fn texts_in_the_canonical_spelling(rt: HostRuntime) -> Result<(), Fail> {
