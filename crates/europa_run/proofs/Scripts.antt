@@ -1,5 +1,5 @@
 -- What the session with a file's problem writes is the output of the words, or a front of it.
-use Rattle.std.proofs.Common.{◌≡◌, ℕ, ◌≤◌, List, [], ◌∷◌, ◌++◌, length, Option, Some, Result, Ok, Err, inl, inr, refl, sym, ap, ◌∙◌, subst, append-nil, arith}
+use Rattle.std.proofs.Common.{◌≡◌, ℕ, ◌<◌, ◌≤◌, List, [], ◌++◌, length, Option, Some, Result, Ok, Err, inl, inr, refl, sym, ap, ◌∙◌, subst, append-nil, codes, arith}
 use Rattle.eu_io.specs.Files.{file_named, Holds}
 use Rattle.eu_io.specs.declared.shelf.FileEntry.{FileEntry}
 use Rattle.line_session.specs.declared.fault.SessionFault.{SessionFault}
@@ -15,12 +15,16 @@ use Rattle.range_problem.specs.Spelling.{Spells}
 use Rattle.range_problem.proofs.Unique.{spells_unique}
 use Rattle.session_core.specs.Replies.{AnswersLine}
 use Rattle.session_core.proofs.Lines.{one_reply}
+use Rattle.europa_run.specs.declared.command_line.Command.TheVariants.{Script}
 use Rattle.europa_run.specs.declared.status.Status.{Status}
 use Rattle.europa_run.specs.declared.status.Status.TheVariants.{Done, Usage, Text, LinesSpent, ReadFault, WriteFault, Memory}
-use Rattle.europa_run.specs.CommandLine.{AsksScript}
-use Rattle.europa_run.specs.Output.{file_limit, start_of, ScriptOutput, FileOutput, Output}
-use Rattle.europa_run.specs.Pieces.{ScriptTells, CountsInput, status_of}
+use Rattle.europa_run.specs.CommandLine.{Asks}
+use Rattle.europa_run.specs.Output.{start_of, ScriptOutput, FileOutput, Output}
+use Rattle.europa_run.specs.Printed.{FaultOutput, file_limit}
+use Rattle.europa_run.specs.Pieces.{ScriptTells, RoseAtReadFault, PrintsFault, status_of}
 use Rattle.europa_run.specs.Runs.{Prints, Runs, StopsAtRead, StopsAtReadFault, CountsWrites}
+use Rattle.europa_run.proofs.Requests.{is_output, only_output}
+use Rattle.europa_run.proofs.Written.{writes_fault, written_runs}
 
 -- what is told of the session is told of the script
 pub script_tells : (model : Model) (start : Database) (left_old left_new written_old written_new : Option (List ℕ)) (result : Result (Unit {0}) SessionFault) (last : Database)
@@ -30,7 +34,7 @@ script_tells model start left_old left_new written_old written_new result last i
     (t.0, t.1, t.2, result, last, t.3, t.4, t.5, subst (λ s. Ends AnswersLine 0 s t.0 t.1 t.2 result last) is t.6, refl)
 
 -- the counts of faults tell of the status as of the session's end
-pub counts_input : (result : Result (Unit {0}) SessionFault) (old new : ℕ) → sessions.CountsReads result old new → CountsInput (status_of result) old new
+pub counts_input : (result : Result (Unit {0}) SessionFault) (old new : ℕ) → sessions.CountsReads result old new → RoseAtReadFault (status_of result) old new
 counts_input (Ok done) old new counts = counts
 counts_input (Err fault.ReadFault) old new counts = counts.0
 counts_input (Err fault.WriteFault) old new counts = counts
@@ -59,28 +63,17 @@ script_unbegun model left written = λ input before told_left told_written. (
   refl,
 )
 
-second_word : List (List ℕ) → List ℕ
-second_word [] = []
-second_word (first ∷ []) = []
-second_word (first ∷ second ∷ rest) = second
-
--- the words name one file
-one_file : (words : List (List ℕ)) (file other : List ℕ) → AsksScript words file → AsksScript words other → other ≡ file
-unfolding second_word
-one_file words file other p q = ap second_word (sym q.0 ∙ p.0)
-
-module _ (words : List (List ℕ)) (file bytes : List ℕ) (model : Model) (asks : AsksScript words file) (short : length bytes ≤ file_limit) (spells : Spells bytes model) where
+module _ (words : List (List ℕ)) (file bytes : List ℕ) (model : Model) (asks : Asks words Script file) (short : length bytes ≤ file_limit) (spells : Spells bytes model) where
   -- the output of a script is the output of the words that ask for it
   output_of_script : (files : List FileEntry) (input out : List ℕ) (status : Status) → file_named file files ≡ Some bytes → ScriptOutput model input out status → Output words (λ name. file_named name files) input out status
   output_of_script files input out status named script =
-      inr (file, asks, subst (λ content. FileOutput file content input out status) (sym named) (inr (inr (short, (model, spells, script)))))
+      is_output words Script file asks (λ name. file_named name files) input out status
+      (subst (λ content. FileOutput file content input out status) (sym named) (inr (inr (short, (model, spells, script)))))
 
   -- and only that is the output of the words
   only_script : (files : List FileEntry) (input out : List ℕ) (status : Status) → file_named file files ≡ Some bytes → Output words (λ name. file_named name files) input out status → ScriptOutput model input out status
-  only_script files input out status named (inl unasked) = absurd (unasked.0 file asks)
-  only_script files input out status named (inr asked) =
-      let same = one_file words file asked.0 asks asked.1 in
-      of_content (subst (λ content. FileOutput file content input out status) named (subst (λ name. FileOutput name (file_named name files) input out status) same asked.2))
+  only_script files input out status named output =
+      of_content (subst (λ content. FileOutput file content input out status) named (only_output words Script file asks (λ name. file_named name files) input out status output))
     where
       of_content : FileOutput file (Some bytes) input out status → ScriptOutput model input out status
       of_content (inl long) = absurd (omega (arith, long.0, short))
@@ -136,3 +129,28 @@ module _ (words : List (List ℕ)) (file bytes : List ℕ) (model : Model) (asks
       let t = tells input before told_left told_written in
       let named : file_named file files ≡ Some bytes = sym (subst (λ f. Holds f file (Some bytes)) told_files holds) in
       (t.1, t.2, t.6, t.7, stops_at_read files input t.0 t.1 t.2 t.3 t.4 named t.5 (sym t.9 ∙ is) t.8)
+
+-- ---- files without a problem
+
+module _ (words : List (List ℕ)) (file bytes : List ℕ) (asks : Asks words Script file) where
+  pub long_runs : (told : Option (List FileEntry)) (left old new : Option (List ℕ)) (status : Status) → Holds told file (Some bytes) → file_limit < length bytes
+      → PrintsFault (codes "Limit:bytes") file 0 old new status → Runs words told left old new status
+  long_runs told left old new status holds long w =
+      written_runs words Script file asks (Some bytes) (FaultOutput (codes "Limit:bytes") file 0) (λ input out status given. inl (long, given)) once told left old new status holds
+      (writes_fault (codes "Limit:bytes") file 0 old new status w)
+    where
+      once : (input out other : List ℕ) (status last : Status) → FaultOutput (codes "Limit:bytes") file 0 out status → FileOutput file (Some bytes) input other last → other ≡ out
+      once input out other status last p (inl q) = q.1.0 ∙ sym p.0
+      once input out other status last p (inr (inl q)) = absurd (omega (arith, long, q.0))
+      once input out other status last p (inr (inr q)) = absurd (omega (arith, long, q.0))
+
+  pub strange_runs : (told : Option (List FileEntry)) (left old new : Option (List ℕ)) (status : Status) → Holds told file (Some bytes) → length bytes ≤ file_limit → ((model : Model) → Spells bytes model → ⊥)
+      → PrintsFault (codes "NotBuilt") file 0 old new status → Runs words told left old new status
+  strange_runs told left old new status holds short strange w =
+      written_runs words Script file asks (Some bytes) (FaultOutput (codes "NotBuilt") file 0) (λ input out status given. inr (inl (short, strange, given))) once told left old new status holds
+      (writes_fault (codes "NotBuilt") file 0 old new status w)
+    where
+      once : (input out other : List ℕ) (status last : Status) → FaultOutput (codes "NotBuilt") file 0 out status → FileOutput file (Some bytes) input other last → other ≡ out
+      once input out other status last p (inl q) = absurd (omega (arith, short, q.0))
+      once input out other status last p (inr (inl q)) = q.2.0 ∙ sym p.0
+      once input out other status last p (inr (inr q)) = absurd (strange q.1.0 q.1.1)

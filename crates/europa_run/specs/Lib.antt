@@ -1,5 +1,7 @@
 pub mod CommandLine
 pub mod Output
 pub mod Pieces
+pub mod Printed
 pub mod Runs
+pub mod Showing
 pub mod StatusNumbers

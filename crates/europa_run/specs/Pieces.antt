@@ -16,7 +16,9 @@ use Rattle.europa_run.specs.declared.file.FileFault.{FileFault}
 use Rattle.europa_run.specs.declared.file.FileFault.TheVariants as file
 use Rattle.europa_run.specs.declared.status.Status.{Status}
 use Rattle.europa_run.specs.declared.status.Status.TheVariants.{Done, Text, LinesSpent, ReadFault, WriteFault, Memory}
-use Rattle.europa_run.specs.Output.{file_limit, start_of, printed, fault_line}
+use Rattle.europa_run.specs.Output.{start_of}
+use Rattle.europa_run.specs.Printed.{file_limit, printed, fault_line}
+use Rattle.europa_run.specs.Showing.{ShowOutput}
 use Rattle.std.specs.Io.KnownBytes.{Appends}
 
 -- what a file of this name has
@@ -49,14 +51,27 @@ ScriptTells model left_old left_new written_old written_new status =
     × (input ≡ taken ++ rest) × (left_new ≡ Some rest) × (written_new ≡ Some (before ++ out))
     × Ends AnswersLine 0 (start_of model) taken rest out result last × (status ≡ status_of result)
 
--- a failed read of the input is the only cause of `ReadFault`, and no other answer comes after one
-abbrev pub CountsInput : Status → ℕ → ℕ → Type 0
-CountsInput ReadFault old new = Rose old new
-CountsInput status old new = new ≡ old
+-- a failed read is the only cause of `ReadFault`, and no other answer comes after one
+abbrev pub RoseAtReadFault : Status → ℕ → ℕ → Type 0
+RoseAtReadFault ReadFault old new = Rose old new
+RoseAtReadFault status old new = new ≡ old
 
 -- the line about the file was appended, or a front of it
-abbrev pub PrintsFault : List ℕ → List ℕ → Option (List ℕ) → Option (List ℕ) → Status → Type 0
-PrintsFault kind name old new Text = Appends old new (printed (fault_line kind name))
-PrintsFault kind name old new WriteFault = (front lost : List ℕ) × Appends old new front × (printed (fault_line kind name) ≡ front ++ lost)
-PrintsFault kind name old new Memory = new ≡ old
-PrintsFault kind name old new _ = ⊥
+abbrev pub PrintsFault : List ℕ → List ℕ → ℕ → Option (List ℕ) → Option (List ℕ) → Status → Type 0
+PrintsFault kind name place old new Text = Appends old new (printed (fault_line kind name place))
+PrintsFault kind name place old new WriteFault = (front lost : List ℕ) × Appends old new front × (printed (fault_line kind name place) ≡ front ++ lost)
+PrintsFault kind name place old new Memory = new ≡ old
+PrintsFault kind name place old new _ = ⊥
+
+-- a text was appended that may be printed with this status; or, where a write failed, a front of such a text; or nothing for want of memory
+abbrev pub Writes : (List ℕ → Status → Type 0) → Option (List ℕ) → Option (List ℕ) → Status → Type 0
+Writes IsPrinted old new ReadFault = ⊥
+Writes IsPrinted old new WriteFault = (front lost : List ℕ) × (status : Status) × Appends old new front × IsPrinted (front ++ lost) status
+Writes IsPrinted old new Memory = new ≡ old
+Writes IsPrinted old new status = (text : List ℕ) × Appends old new text × IsPrinted text status
+
+-- the file was shown as its content asks, or nothing was written after a failed read
+abbrev pub Shows : Option (List FileEntry) → List ℕ → Option (List ℕ) → Option (List ℕ) → Status → Type 0
+Shows files name old new ReadFault = new ≡ old
+Shows files name old new Memory = new ≡ old
+Shows files name old new status = (content : Option (List ℕ)) × Holds files name content × Writes (ShowOutput name content) old new status

@@ -10,9 +10,10 @@ use Rattle.model_core.specs.declared.model.Model.{Model}
 use Rattle.plan_db.specs.Database.{Database}
 use Rattle.range_problem.specs.Spelling.{Spells}
 use Rattle.session_core.specs.Replies.{AnswersLine}
+use Rattle.europa_run.specs.declared.command_line.Command.TheVariants.{Script}
 use Rattle.europa_run.specs.declared.status.Status.{Status}
 use Rattle.europa_run.specs.declared.status.Status.TheVariants.{ReadFault, WriteFault, Memory}
-use Rattle.europa_run.specs.CommandLine.{AsksScript}
+use Rattle.europa_run.specs.CommandLine.{Asks}
 use Rattle.europa_run.specs.Output.{Output, start_of}
 
 -- the output is the defined one, or after a fault it comes first in whatever is defined
@@ -33,7 +34,7 @@ Runs words told left written_old written_new status =
 abbrev pub StopsAtRead : List (List ℕ) → List FileEntry → List ℕ → List ℕ → List ℕ → Type 0
 StopsAtRead words files input rest out =
     ((out ≡ []) × (rest ≡ input))
-    ⊎ ((file : List ℕ) × (bytes : List ℕ) × (model : Model) × (taken : List ℕ) × (last : Database) × AsksScript words file
+    ⊎ ((file : List ℕ) × (bytes : List ℕ) × (model : Model) × (taken : List ℕ) × (last : Database) × Asks words Script file
     × (file_named file files ≡ Some bytes) × Spells bytes model × (input ≡ taken ++ rest)
     × Session AnswersLine 0 (start_of model) (ended_lines taken) out AtEnd last)
 

@@ -1,33 +1,54 @@
 //! The words after the program's name.
 
-ghost use Rattle.std.specs.Prelude.{◌≡◌, ◌↔◌, ℕ, List, IsTrue, IfSome, IfNone, codes, map};
-ghost use Rattle.europa_run.specs.CommandLine.{AsksScript, IsNoFile};
+ghost use Rattle.std.specs.Prelude.{◌≡◌, ◌↔◌, ℕ, List, IsTrue, IfSome, IfNone};
+ghost use Rattle.europa_run.specs.declared.command_line.Command.{Command};
+ghost use Rattle.europa_run.specs.CommandLine.{Asks, IsNoFile, word_of};
 
 use eu_name::text::Text;
 
-/// The file whose script the words ask for. None where they are no command line.
-pub fn script_file(words: &[Text]) -> Option<&Text>
-    ensures some { IfSome result (λ file. AsksScript words.now file.now) }
-    ensures none { IfNone result ((file : List ℕ) → AsksScript words.now file → ⊥) }
+/// A command that is given a file.
+#[derive(Clone, Copy)]
+pub enum Command {
+    /// Answers the input's lines over the problem of the file.
+    Script,
+    /// Prints the file in the canonical spelling.
+    Show,
+}
+
+/// What the words ask for.
+#[derive(Clone, Copy)]
+pub struct Request<'a> {
+    pub command: Command,
+    pub file: &'a Text,
+}
+
+/// The command and the file that the words ask for. None where they are no command line.
+pub fn read_words(words: &[Text]) -> Option<Request<'_>>
+    ensures some { IfSome result (λ request. Asks words.now request.command request.file.now) }
+    ensures none { IfNone result ((command : Command) (file : List ℕ) → Asks words.now command file → ⊥) }
 {
     match words {
-        [command, file] => {
-            if !is_script(command) {
-                return None;
-            }
+        [word, file] => {
+            let command = command_of(word)?;
             if is_no_file(file) {
                 return None;
             }
-            return Some(file);
+            return Some(Request { command, file });
         }
         _ => return None,
     }
 }
 
-fn is_script(word: &Text) -> bool
-    ensures { IsTrue result ↔ (word.now ≡ codes "script") }
+// The command that is written so.
+fn command_of(word: &Text) -> Option<Command>
+    ensures some { IfSome result (λ command. word.now ≡ word_of command) }
+    ensures none { IfNone result ((command : Command) → word.now ≡ word_of command → ⊥) }
 {
-    word.as_bytes() == b"script".as_slice()
+    match word.as_bytes() {
+        b"script" => Some(Command::Script),
+        b"show" => Some(Command::Show),
+        _ => None,
+    }
 }
 
 // Whether the word is empty or begins as an option does.

@@ -5,6 +5,7 @@ mod command_line;
 mod file;
 mod printing;
 pub mod run;
+mod show;
 pub mod status;
 #[cfg(test)]
 mod tests;

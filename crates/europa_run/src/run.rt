@@ -2,12 +2,13 @@
 
 ghost use Rattle.std.specs.Prelude.{◌≡◌};
 ghost use Rattle.model_core.specs.Lawful.{IsLawful, IsBuilt};
-ghost use Rattle.europa_run.specs.Pieces.{ScriptTells, PrintsFault, CountsInput, status_of};
+ghost use Rattle.europa_run.specs.Pieces.{ScriptTells, RoseAtReadFault, status_of};
 ghost use Rattle.europa_run.specs.Runs.{Runs, StopsAtReadFault, CountsReads, CountsWrites};
 
-use super::command_line::script_file;
+use super::command_line::{Command, read_words};
 use super::file::{FileContent, FileFault, read_file};
-use super::printing::{USAGE, fault_text};
+use super::printing::{USAGE, print_fault};
+use super::show::show;
 use super::status::Status;
 use eu_io::shelf::Shelf;
 use eu_io::sink::Sink;
@@ -21,7 +22,7 @@ use plan_db::database::Db;
 use session_core::editor::Editor;
 use std::alloc::Global;
 
-/// Runs the program on the words after its name: reads the file that they name, answers the input's lines, and says how it ended.
+/// Runs the program on the words after its name: carries out the command that they are over the file that they name, and says how it ended.
 /// After a fault nothing more is read or written.
 pub fn europa<F: Shelf, S: Source, O: Sink>(
     alloc: Global,
@@ -38,33 +39,23 @@ pub fn europa<F: Shelf, S: Source, O: Sink>(
     ensures reads { CountsReads result (F.faults shelf.old) (F.faults shelf.new) (S.faults input.old) (S.faults input.new) }
     ensures writes { CountsWrites result (O.faults out.old) (O.faults out.new) }
 {
-    let Some(file) = script_file(words) else {
+    let Some(request) = read_words(words) else {
         match write_whole(out, USAGE) {
             Ok(()) => return Status::Usage,
             Err(_failed) => return Status::WriteFault,
         }
     };
-    match read_file(alloc, shelf, file) {
-        Ok(FileContent::Problem(model)) => return run_script(alloc, model, input, out),
-        Ok(FileContent::Absent) => return print_fault(alloc, out, "Absent", file),
-        Ok(FileContent::TooLong) => return print_fault(alloc, out, "Limit:bytes", file),
-        Ok(FileContent::NotBuilt) => return print_fault(alloc, out, "NotBuilt", file),
-        Err(FileFault::Read) => return Status::ReadFault,
-        Err(FileFault::Memory) => return Status::Memory,
-    }
-}
-
-// Prints what is wrong with the file.
-fn print_fault<O: Sink>(alloc: Global, out: &mut O, kind: &str, file: &Text) -> Status
-    ensures printed { PrintsFault kind.now file.now (O.written out.old) (O.written out.new) result }
-    ensures writes { CountsWrites result (O.faults out.old) (O.faults out.new) }
-{
-    let Ok(line) = fault_text(alloc, kind, file) else {
-        return Status::Memory;
-    };
-    match write_whole(out, line.as_bytes()) {
-        Ok(()) => return Status::Text,
-        Err(_failed) => return Status::WriteFault,
+    let file = request.file;
+    match request.command {
+        Command::Script => match read_file(alloc, shelf, file) {
+            Ok(FileContent::Problem(model)) => return run_script(alloc, model, input, out),
+            Ok(FileContent::Absent) => return print_fault(alloc, out, "Absent", file, 0),
+            Ok(FileContent::TooLong) => return print_fault(alloc, out, "Limit:bytes", file, 0),
+            Ok(FileContent::NotBuilt) => return print_fault(alloc, out, "NotBuilt", file, 0),
+            Err(FileFault::Read) => return Status::ReadFault,
+            Err(FileFault::Memory) => return Status::Memory,
+        },
+        Command::Show => return show(alloc, shelf, out, file),
     }
 }
 
@@ -73,7 +64,7 @@ fn run_script<S: Source, O: Sink>(alloc: Global, model: Model, input: &mut S, ou
     requires lawful { IsLawful model }
     requires built { IsBuilt model }
     ensures told { ScriptTells model (S.left input.old) (S.left input.new) (O.written out.old) (O.written out.new) result }
-    ensures reads { CountsInput result (S.faults input.old) (S.faults input.new) }
+    ensures reads { RoseAtReadFault result (S.faults input.old) (S.faults input.new) }
     ensures writes { CountsWrites result (O.faults out.old) (O.faults out.new) }
 {
     let Ok(db) = Db::new(alloc, model) else {

@@ -23,7 +23,7 @@ const USAGE: &str =
     "usage: europa plan FILE [--steps N] [--tokens N] | script FILE | check FILE PLAN | show FILE | gen N | try N\n";
 
 /// Room for what any run here writes.
-const ROOM: usize = 1_000;
+const ROOM: usize = 2_000;
 
 fn words_of(alloc: Global, line: &str) -> Result<Vec<Text>, Fail> {
     let mut words = Vec::new(alloc);
@@ -121,6 +121,10 @@ fn refuses_words_and_files(rt: HostRuntime) -> Result<(), Fail> {
         ("script", ORDERED, USAGE, 2),
         ("script -f", ORDERED, USAGE, 2),
         ("script m.nddl m.nddl", ORDERED, USAGE, 2),
+        ("show", ORDERED, USAGE, 2),
+        ("show -f", ORDERED, USAGE, 2),
+        ("show m.nddl m.nddl", ORDERED, USAGE, 2),
+        ("show n.nddl", ORDERED, "text Absent n.nddl 0\n", 3),
         ("script n.nddl", ORDERED, "text Absent n.nddl 0\n", 3),
         (
             "script m.nddl",
@@ -147,6 +151,9 @@ fn long_files_and_lines_are_refused(rt: HostRuntime) -> Result<(), Fail> {
         b"text Limit:bytes m.nddl 0\n".as_slice()
     );
     assert_eq!(rt; too_long.status, 3);
+    let not_shown = run_on(alloc, "show m.nddl", file.as_slice(), b"")?;
+    assert_eq!(rt; not_shown.written.as_slice(), too_long.written.as_slice());
+    assert_eq!(rt; not_shown.status, 3);
     let mut input = vec![in alloc; b'a'; 4_097]?;
     input.extend_from_slice(b"\ndomain y\n")?;
     let long = run_on(alloc, "script m.nddl", ORDERED.as_bytes(), input.as_slice())?;
@@ -159,8 +166,14 @@ fn long_files_and_lines_are_refused(rt: HostRuntime) -> Result<(), Fail> {
 }
 
 /// Runs on the first problem and its script, where the calls of these numbers fail.
-fn failing(alloc: Global, of_shelf: u64, of_source: u64, of_sink: u64) -> Result<Ended, Fail> {
-    let words = words_of(alloc, "script m.nddl")?;
+fn failing(
+    alloc: Global,
+    line: &str,
+    of_shelf: u64,
+    of_source: u64,
+    of_sink: u64,
+) -> Result<Ended, Fail> {
+    let words = words_of(alloc, line)?;
     let mut shelf = shelf_of(alloc, ORDERED.as_bytes(), vec![in alloc; of_shelf]?)?;
     let input = Bytes::from_slice(alloc, b"specify x 4\ndomain y\nundo\ndomain y\n")?;
     let mut source = MemSource::new(input, 16, vec![in alloc; of_source]?);
@@ -175,17 +188,117 @@ fn failing(alloc: Global, of_shelf: u64, of_source: u64, of_sink: u64) -> Result
 #[test]
 fn a_fault_ends_the_run(rt: HostRuntime) -> Result<(), Fail> {
     let cases = [
-        (1, 9, 9, "", 20),
-        (9, 1, 9, "", 20),
-        (9, 2, 9, "ok\n", 20),
-        (9, 9, 1, "", 21),
-        (9, 9, 3, "ok\ny [4 10]\n", 21),
-        (9, 9, 9, "ok\ny [4 10]\nok\ny [0 10]\n", 0),
+        ("script m.nddl", 1, 9, 9, "", 20),
+        ("script m.nddl", 9, 1, 9, "", 20),
+        ("script m.nddl", 9, 2, 9, "ok\n", 20),
+        ("script m.nddl", 9, 9, 1, "", 21),
+        ("script m.nddl", 9, 9, 3, "ok\ny [4 10]\n", 21),
+        ("script m.nddl", 9, 9, 9, "ok\ny [4 10]\nok\ny [0 10]\n", 0),
+        ("show m.nddl", 1, 9, 9, "", 20),
+        // A line is one piece.
+        ("show m.nddl", 9, 9, 2, "int [ 0 10 ] x ;\n", 21),
+        // The input isn't read.
+        (
+            "show m.nddl",
+            9,
+            1,
+            9,
+            "int [ 0 10 ] x ;\nint [ 0 10 ] y ;\nleq ( x , y ) ;\n",
+            0,
+        ),
     ];
-    for (of_shelf, of_source, of_sink, output, status) in cases {
-        let ended = failing(rt.alloc(), of_shelf, of_source, of_sink)?;
+    for (line, of_shelf, of_source, of_sink, output, status) in cases {
+        let ended = failing(rt.alloc(), line, of_shelf, of_source, of_sink)?;
         assert_eq!(rt; ended.written.as_slice(), output.as_bytes());
-        assert_eq!(rt; ended.status, status, "after {output}");
+        assert_eq!(rt; ended.status, status, "{line} after {output}");
+    }
+    Ok(())
+}
+
+#[test]
+fn shows_texts(rt: HostRuntime) -> Result<(), Fail> {
+    let cases = [
+        ("", "", 0),
+        ("int[0,+inf]x;", "int [ 0 1000000 ] x ;\n", 0),
+        // Includes aren't followed.
+        (
+            "#include \"q.nddl\"; int x; // the end",
+            "#include \"q.nddl\"\nint x ;\n",
+            0,
+        ),
+        ("/* x", "text OpenComment m.nddl 0\n", 3),
+        ("int x; @", "text BadByte m.nddl 7\n", 3),
+        ("int [0 1000001] x;", "text OutOfRange m.nddl 7\n", 3),
+        ("int x", "text Syntax m.nddl 5\n", 3),
+        ("int int @", "text BadByte m.nddl 8\n", 3),
+        (
+            "A::P{if(a){if(a){if(a){if(a){if(a){if(a){if(a){if(a){if(a){if(a){if(a){if(a){if(a){if(a){if(a){if(a){}}}}}}}}}}}}}}}}}",
+            "text Limit:nesting m.nddl 100\n",
+            3,
+        ),
+    ];
+    for (file, output, status) in cases {
+        let ended = run_on(rt.alloc(), "show m.nddl", file.as_bytes(), b"")?;
+        assert_eq!(rt; ended.written.as_slice(), output.as_bytes(), "at {file}");
+        assert_eq!(rt; ended.status, status, "at {file}");
+    }
+    Ok(())
+}
+
+/// A file in the usual form, with everything that the grammar has.
+const USUAL: &str = r#"#include "Plasma.nddl"
+#include "PlannerConfig.nddl";
+enum Location { lander, rock, hill };
+typedef int [0, 10] Level;
+typedef float {-0.5, inf} Charge;
+class Rock;
+class Rover extends Timeline { // one of two
+  Location home;
+  Level [0 +5] level;
+  predicate At { Location location; eq(location, home); }
+  predicate Going { bool {true, false} fast; float [0.25 1] speed; neq(fast, true); };
+  Rover(Location l, string s) { super(l, -1.5, true); home = l; level = 007; mate = new Rock(); }
+}
+class Rock { Rock() { } };
+Rover::At {
+  met_by(object.Going g);
+  Rock r;
+  Location l = g.to;
+  if (fast) { eq(speed, 0.5); } else if (l == home) { } else { any(Going h); }
+  foreach (r in Rock) { if (r.level != 3) { leq(r.level, duration); } }
+}
+PlannerConfig config = new PlannerConfig(0, 100, 500);
+Rover spirit = new Rover(lander, x.y);
+bool done = false;
+close();
+fact(spirit.At here);
+here.location.specify(lander);
+"#;
+
+/// The same in the canonical spelling.
+const SPELLED: &str = r#"#include "Plasma.nddl"
+#include "PlannerConfig.nddl"
+enum Location { lander , rock , hill }
+typedef int [ 0 10 ] Level ;
+typedef float { -0.500 , 1000000 } Charge ;
+class Rock ;
+class Rover extends Timeline { Location home ; Level [ 0 5 ] level ; predicate At { Location location ; eq ( location , home ) ; } predicate Going { bool { true , false } fast ; float [ 0.250 1 ] speed ; neq ( fast , true ) ; } Rover ( Location l , string s ) { super ( l , -1.500 , true ) ; home = l ; level = 7 ; mate = new Rock ( ) ; } }
+class Rock { Rock ( ) { } }
+Rover :: At { met_by ( object . Going g ) ; Rock r ; Location l = g . to ; if ( fast ) { eq ( speed , 0.500 ) ; } else { if ( l == home ) { } else { any ( Going h ) ; } } foreach ( r in Rock ) { if ( r . level != 3 ) { leq ( r . level , duration ) ; } } }
+PlannerConfig config = new PlannerConfig ( 0 , 100 , 500 ) ;
+Rover spirit = new Rover ( lander , x . y ) ;
+bool done = false ;
+close ( ) ;
+fact ( spirit . At here ) ;
+here . location . specify ( lander ) ;
+"#;
+
+#[test]
+fn what_is_shown_is_shown_alike(rt: HostRuntime) -> Result<(), Fail> {
+    for file in [USUAL, SPELLED] {
+        let ended = run_on(rt.alloc(), "show m.nddl", file.as_bytes(), b"")?;
+        assert_eq!(rt; ended.written.as_slice(), SPELLED.as_bytes());
+        assert_eq!(rt; ended.status, 0);
     }
     Ok(())
 }

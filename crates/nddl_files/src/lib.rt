@@ -2,6 +2,7 @@
 #![tactic(auto)]
 
 pub mod language;
+pub mod laws;
 pub mod reading;
 #[cfg(test)]
 mod tests;

@@ -1,0 +1,29 @@
+-- Lines that the program prints of its own.
+use Rattle.std.specs.Prelude.{◌≡◌, ℕ, Bool, not, ◌==◌, List, [], ◌∷◌, ◌++◌, codes}
+use Rattle.std.specs.Fmt.{decimal}
+use Rattle.europa_run.specs.declared.status.Status.{Status}
+use Rattle.europa_run.specs.declared.status.Status.TheVariants.{Text}
+
+-- the byte doesn't end a line
+abbrev pub is_in_line : ℕ → Bool
+is_in_line byte = not (byte == 10)
+
+-- the line with its line feed
+abbrev pub printed : List ℕ → List ℕ
+printed line = line ++ 10 ∷ []
+
+-- what is printed where the words are no command line
+abbrev pub usage_line : List ℕ
+usage_line = codes "usage: europa plan FILE [--steps N] [--tokens N] | script FILE | check FILE PLAN | show FILE | gen N | try N"
+
+-- the line that says what is wrong with a file, and at which byte
+abbrev pub fault_line : List ℕ → List ℕ → ℕ → List ℕ
+fault_line kind file place = codes "text " ++ (kind ++ (codes " " ++ (file ++ (codes " " ++ decimal place))))
+
+-- a fault of the file is printed
+abbrev pub FaultOutput : List ℕ → List ℕ → ℕ → List ℕ → Status → Type 0
+FaultOutput kind file place out status = (out ≡ printed (fault_line kind file place)) × (status ≡ Text)
+
+-- the most bytes that a file may have
+abbrev pub file_limit : ℕ
+file_limit = 1048576
