@@ -16,3 +16,11 @@ word_of Show = codes "show"
 -- the words are the command's and a file
 abbrev pub Asks : List (List ℕ) → Command → List ℕ → Type 0
 Asks words command file = (words ≡ word_of command ∷ file ∷ []) × (¬ IsNoFile file)
+
+-- the words ask for no script
+abbrev pub AreNoScript : List (List ℕ) → Type 0
+AreNoScript words = (file : List ℕ) → Asks words Script file → ⊥
+
+-- the words are no command line
+abbrev pub AreNoCommand : List (List ℕ) → Type 0
+AreNoCommand words = (command : Command) (file : List ℕ) → Asks words command file → ⊥

@@ -10,7 +10,7 @@ use Rattle.europa_run.specs.declared.command_line.Command.{Command}
 use Rattle.europa_run.specs.declared.command_line.Command.TheVariants.{Script, Show}
 use Rattle.europa_run.specs.declared.status.Status.{Status}
 use Rattle.europa_run.specs.declared.status.Status.TheVariants.{Done, Usage, LinesSpent}
-use Rattle.europa_run.specs.CommandLine.{Asks}
+use Rattle.europa_run.specs.CommandLine.{Asks, AreNoCommand}
 use Rattle.europa_run.specs.Printed.{printed, usage_line, FaultOutput, file_limit}
 use Rattle.europa_run.specs.Showing.{ShowOutput}
 
@@ -41,5 +41,5 @@ CommandOutput Show file content input out status = ShowOutput file content out s
 -- and else what their command gives for their file.
 abbrev pub Output : List (List ℕ) → (List ℕ → Option (List ℕ)) → List ℕ → List ℕ → Status → Type 0
 Output words content_of input out status =
-    (((command : Command) (file : List ℕ) → Asks words command file → ⊥) × (out ≡ printed usage_line) × (status ≡ Usage))
+    (AreNoCommand words × (out ≡ printed usage_line) × (status ≡ Usage))
     ⊎ ((command : Command) × (file : List ℕ) × Asks words command file × CommandOutput command file (content_of file) input out status)

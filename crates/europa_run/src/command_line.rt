@@ -1,8 +1,8 @@
 //! The words after the program's name.
 
-ghost use Rattle.std.specs.Prelude.{◌≡◌, ◌↔◌, ℕ, List, IsTrue, IfSome, IfNone};
+ghost use Rattle.std.specs.Prelude.{◌≡◌, ◌↔◌, IsTrue, IfSome, IfNone};
 ghost use Rattle.europa_run.specs.declared.command_line.Command.{Command};
-ghost use Rattle.europa_run.specs.CommandLine.{Asks, IsNoFile, word_of};
+ghost use Rattle.europa_run.specs.CommandLine.{Asks, AreNoCommand, IsNoFile, word_of};
 
 use eu_name::text::Text;
 
@@ -25,7 +25,7 @@ pub struct Request<'a> {
 /// The command and the file that the words ask for. None where they are no command line.
 pub fn read_words(words: &[Text]) -> Option<Request<'_>>
     ensures some { IfSome result (λ request. Asks words.now request.command request.file.now) }
-    ensures none { IfNone result ((command : Command) (file : List ℕ) → Asks words.now command file → ⊥) }
+    ensures none { IfNone result (AreNoCommand words.now) }
 {
     match words {
         [word, file] => {

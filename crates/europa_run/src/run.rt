@@ -2,6 +2,7 @@
 
 ghost use Rattle.std.specs.Prelude.{◌≡◌};
 ghost use Rattle.model_core.specs.Lawful.{IsLawful, IsBuilt};
+ghost use Rattle.europa_run.specs.CommandLine.{AreNoScript, AreNoCommand};
 ghost use Rattle.europa_run.specs.Pieces.{ScriptTells, RoseAtReadFault, status_of};
 ghost use Rattle.europa_run.specs.Runs.{Runs, StopsAtReadFault, CountsReads, CountsWrites};
 
@@ -38,6 +39,9 @@ pub fn europa<F: Shelf, S: Source, O: Sink>(
     // When each fault comes.
     ensures reads { CountsReads result (F.faults shelf.old) (F.faults shelf.new) (S.faults input.old) (S.faults input.new) }
     ensures writes { CountsWrites result (O.faults out.old) (O.faults out.new) }
+    // Only a script reads the input, and only a command asks for files.
+    ensures unread { AreNoScript words.now → input.new ≡ input.old }
+    ensures unasked { AreNoCommand words.now → shelf.new ≡ shelf.old }
 {
     let Some(request) = read_words(words) else {
         match write_whole(out, USAGE) {
