@@ -10,6 +10,10 @@ use Rattle.domain_core.specs.Lists.{KeepsFront}
 use Rattle.domain_core.proofs.Ascending.{ascending_le, stands_at}
 use Rattle.domain_core.proofs.Fronts.{Sifted, was_there, sifted_start, sifted_take, sifted_leave, sifted_all}
 
+-- the number is none of the others
+abbrev pub IsApart : List ℤ → ℤ → Type 0
+IsApart others number = Contains others number → ⊥
+
 -- the first `next` of the others are below all numbers of the list from `read` on
 abbrev pub IsBehind : List ℤ → List ℤ → ℕ → ℕ → Type 0
 IsBehind others old read next = (k j : ℕ) (d : ℤ) → k < next → read ≤ j → j < length old → get_or others k d <ℤ get_or old j d
@@ -46,13 +50,13 @@ module _ (others old : List ℤ) (read next then_next : ℕ) (x : ℤ)
 -- ---- what both have comes to the front of the first
 
 pub record Merged (others old new : List ℤ) (kept read next : ℕ) : Type 0 where
-  pub sifted : Sifted (Contains others) old new kept read
+  pub sifted : Sifted (Contains others) (IsApart others) old new kept read
   pub bound : next ≤ length others
   pub passed : IsBehind others old read next
 
 pub merged_start : (others old : List ℤ) → Merged others old old 0 0 0
 merged_start others old = record {
-  sifted = sifted_start (Contains others) old;
+  sifted = sifted_start (Contains others) (IsApart others) old;
   bound = omega arith;
   passed = λ k j d none from within. absurd (omega arith);
 }
@@ -66,28 +70,28 @@ module _ (others old new : List ℤ) (kept read next then_next : ℕ) (x : ℤ)
   old_within = omega (arith, merged.sifted.long, within)
 
   at_read : (d : ℤ) → get_or old read d ≡ x
-  at_read d = get_or_default old read d x old_within ∙ was_there (Contains others) old new kept read x ascending merged.sifted within read_is
+  at_read d = get_or_default old read d x old_within ∙ was_there (Contains others) (IsApart others) old new kept read x ascending merged.sifted within read_is
 
   behind : IsBehind others old (read + 1) then_next
   behind = passed_on others old read next then_next x ascending others_ascending merged.passed old_within at_read below following
 
   pub merged_take : then_next < length others → get_or others then_next x ≡ x → Merged others old (set new kept x) (kept + 1) (read + 1) then_next
   merged_take there same = record {
-    sifted = sifted_take (Contains others) old new kept read x ascending merged.sifted within read_is (then_next, there, same);
+    sifted = sifted_take (Contains others) (IsApart others) old new kept read x ascending merged.sifted within read_is (then_next, there, same);
     bound = bound;
     passed = behind;
   }
 
   pub merged_leave : (get_or others then_next x ≡ x → then_next < length others → ⊥) → Merged others old new kept (read + 1) then_next
   merged_leave apart = record {
-    sifted = sifted_leave (Contains others) old new kept read x ascending merged.sifted within read_is
+    sifted = sifted_leave (Contains others) (IsApart others) old new kept read x ascending merged.sifted within read_is
         (not_among others old read next then_next x ascending others_ascending merged.passed old_within at_read below following apart);
     bound = bound;
     passed = behind;
   }
 
-pub merged_all : (others old new : List ℤ) (kept read next : ℕ) → Merged others old new kept read next → length old ≤ read → KeepsFront (Contains others) old kept new
-merged_all others old new kept read next merged through = sifted_all (Contains others) old new kept read merged.sifted through
+pub merged_all : (others old new : List ℤ) (kept read next : ℕ) → Merged others old new kept read next → length old ≤ read → KeepsFront (Contains others) (IsApart others) old kept new
+merged_all others old new kept read next merged through = sifted_all (Contains others) (IsApart others) old new kept read merged.sifted through
 
 -- ---- whether there is a number that both have
 

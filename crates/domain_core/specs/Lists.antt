@@ -2,7 +2,7 @@
 use Rattle.std.specs.Prelude.{◌≡◌, ℕ, ◌<◌, ◌≤◌, ◌↔◌, ◌⊎◌, ℤ, List, [], length, take, All, Contains, Result, Ok, Err}
 use Rattle.std.specs.List.{Any}
 use Rattle.domain_core.specs.Domain.{Domain, Set, IsValue, AreAscending, AreMembers}
-use Rattle.domain_core.specs.Narrowing.{IsPart}
+use Rattle.domain_core.specs.Narrowing.{IsSievedPart}
 use Rattle.domain_core.specs.declared.SetFault.{SetFault}
 use Rattle.domain_core.specs.declared.SetFault.TheVariants.{Empty, OutOfRange, TooMany, Memory}
 use Rattle.domain_core.specs.declared.Change.{Change}
@@ -32,11 +32,11 @@ MakesSet values (Err OutOfRange) = Any (λ value. IsValue value → ⊥) values
 MakesSet values (Err TooMany) = All IsValue values × HasTooMany values
 MakesSet values (Err Memory) = (members : List ℤ) × AreMembersOf values members
 
--- what passes of an ascending list stands at its front; where that is nothing or all of it, nothing has moved
-pub record KeepsFront (passes : ℤ → Type 0) (old : List ℤ) (kept : ℕ) (new : List ℤ) : Type 0 where
+-- what passed of an ascending list stands at its front; where that is nothing or all of it, nothing has moved
+pub record KeepsFront (passed failed : ℤ → Type 0) (old : List ℤ) (kept : ℕ) (new : List ℤ) : Type 0 where
   pub few : kept ≤ length old
   pub long : length new ≡ length old
-  pub part : IsPart passes old (take kept new)
+  pub part : IsSievedPart passed failed old (take kept new)
   pub none : kept ≡ 0 → new ≡ old
   pub all : kept ≡ length old → new ≡ old
 

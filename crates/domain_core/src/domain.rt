@@ -1,9 +1,9 @@
 //! The domain of a variable: a range of whole numbers without holes, or a set of values.
 
-ghost use Rattle.std.specs.Prelude.{◌≡◌, ◌≤◌, ◌≤ℤ◌, ◌↔◌, All, IsTrue, true, IfSome, IfNone, IfOk, MatchBool, ℤ};
+ghost use Rattle.std.specs.Prelude.{◌≡◌, ◌≤◌, ◌≤ℤ◌, ◌↔◌, All, IsTrue, true, false, IfSome, IfNone, IfOk, MatchBool, ℤ};
 ghost use Rattle.std.specs.List.{Any};
 ghost use Rattle.domain_core.specs.Domain.{Range, IsDomain, IsRange, IsSingle, HaveCommon, IsNth, IsValue, Has, least, greatest, count_of};
-ghost use Rattle.domain_core.specs.Narrowing.{Keeps, IsDecided};
+ghost use Rattle.domain_core.specs.Narrowing.{Keeps, Sieves};
 ghost use Rattle.domain_core.specs.Lists.{MakesSet};
 
 use super::distinct::Distinct;
@@ -224,8 +224,7 @@ impl Dom {
     pub fn keep_members<F: Fn(i32) -> bool>(&mut self, passes: F) -> Change
         requires set { IsRange self.old → ⊥ }
         requires callable { (value : ℤ) → IsValue value → F.pre passes value }
-        requires decided { IsDecided (F.post passes) }
-        ensures kept { Keeps (λ value. F.post passes value true) self.old result self.new }
+        ensures sieved { Sieves (λ value. F.post passes value true) (λ value. F.post passes value false) self.old result self.new }
         ensures domain { IsDomain self.new }
     {
         match &mut self.form {

@@ -1,9 +1,9 @@
 //! The members of a set, kept in order.
 
-ghost use Rattle.std.specs.Prelude.{◌≡◌, ◌≤◌, ◌≤ℤ◌, ◌<ℤ◌, ◌↔◌, IsTrue, true, Contains, ℤ, length, slice_index_or};
+ghost use Rattle.std.specs.Prelude.{◌≡◌, ◌≤◌, ◌≤ℤ◌, ◌<ℤ◌, ◌↔◌, IsTrue, true, false, Contains, ℤ, length, slice_index_or};
 ghost use Rattle.std.specs.List.{AllWithin};
 ghost use Rattle.domain_core.specs.Domain.{Set, HaveCommon, IsDomain, IsValue, AreAscending, AreMembers};
-ghost use Rattle.domain_core.specs.Narrowing.{Keeps, IsDecided};
+ghost use Rattle.domain_core.specs.Narrowing.{Keeps, Sieves};
 ghost use Rattle.domain_core.specs.Intervals.{range_of};
 ghost use Rattle.domain_core.specs.Lists.{KeepsFront, Cuts};
 
@@ -86,7 +86,7 @@ fn cut(members: &mut Vec<i32>, kept: usize) -> Change
 fn keep_common(members: &mut Vec<i32>, others: &[i32]) -> usize
     requires members { AreAscending members.old.items }
     requires others { AreAscending others.now }
-    ensures { KeepsFront (Contains others.now) members.old.items result members.new.items }
+    ensures { KeepsFront (Contains others.now) (λ value. Contains others.now value → ⊥) members.old.items result members.new.items }
 {
     let mut kept = 0;
     let mut next = 0;
@@ -120,8 +120,7 @@ fn skip_below(numbers: &[i32], start: usize, value: i32) -> usize
 pub fn keep<F: Fn(i32) -> bool>(members: &mut Vec<i32>, passes: F) -> Change
     requires are { AreMembers members.old.items }
     requires callable { (value : ℤ) → IsValue value → F.pre passes value }
-    requires decided { IsDecided (F.post passes) }
-    ensures kept { Keeps (λ value. F.post passes value true) (Set members.old.items) result (Set members.new.items) }
+    ensures sieved { Sieves (λ value. F.post passes value true) (λ value. F.post passes value false) (Set members.old.items) result (Set members.new.items) }
     ensures domain { IsDomain (Set members.new.items) }
 {
     let kept = keep_passing(members, passes);
@@ -132,8 +131,7 @@ pub fn keep<F: Fn(i32) -> bool>(members: &mut Vec<i32>, passes: F) -> Change
 fn keep_passing<F: Fn(i32) -> bool>(members: &mut Vec<i32>, passes: F) -> usize
     requires are { AreMembers members.old.items }
     requires callable { (value : ℤ) → IsValue value → F.pre passes value }
-    requires decided { IsDecided (F.post passes) }
-    ensures { KeepsFront (λ value. F.post passes value true) members.old.items result members.new.items }
+    ensures { KeepsFront (λ value. F.post passes value true) (λ value. F.post passes value false) members.old.items result members.new.items }
 {
     let mut kept = 0;
     for read in 0..members.len() {

@@ -1,10 +1,11 @@
 -- What supports a value where the ends of the others count alone, and the numbers that the code computes for it.
-use Rattle.std.proofs.Common.{◌≡◌, ℤ, ◌≤ℤ◌, arith}
+use Rattle.std.proofs.Common.{◌≡◌, ℤ, pos, ◌≤ℤ◌, ◌<ℤ◌, ◌+ℤ◌, ◌-ℤ◌, ◌⊎◌, inl, inr, subst, arith}
 use Rattle.std.specs.Prelude.{◌↔◌}
-use Rattle.std.proofs.lemmas.Int.{ints}
-use Rattle.domain_core.specs.Domain.{Domain, IsDomain, IsBetweenEnds, least, greatest}
+use Rattle.std.proofs.lemmas.Int.{ints, by_lt_z}
+use Rattle.domain_core.specs.Domain.{Domain, Range, Set, IsDomain, IsRange, Has, IsBetweenEnds, least, greatest}
 use Rattle.domain_core.specs.Narrowing.{Keeps}
 use Rattle.domain_core.specs.declared.Change.{Change}
+use Rattle.domain_core.proofs.Around.{met_around}
 use Rattle.domain_core.proofs.Words.{has_least, between_ends}
 use Rattle.narrow_core.proofs.Supports.{keeps_among}
 
@@ -39,3 +40,67 @@ above_some x from value ok at = (
   λ le. (least x, (omega (arith, ints), ends_ordered x ok), omega (arith, ints, le, at)),
   λ some. omega (arith, ints, some.1.0, some.2, at),
 )
+
+-- just below the greatest value there is a greater one, and just above the least a smaller one
+pub less_than_some : (y : Domain) (most value : ℤ) → IsDomain y → (most +ℤ pos 1) ≡ greatest y → (value ≤ℤ most) ↔ ((w : ℤ) × IsBetweenEnds y w × (value <ℤ w))
+less_than_some y most value ok at = (
+  λ le. (greatest y, (ends_ordered y ok, omega (arith, ints)), omega (arith, ints, le, at)),
+  λ some. omega (arith, ints, some.1.1, some.2, at),
+)
+
+pub more_than_some : (x : Domain) (from value : ℤ) → IsDomain x → from ≡ (least x +ℤ pos 1) → (from ≤ℤ value) ↔ ((w : ℤ) × IsBetweenEnds x w × (w <ℤ value))
+more_than_some x from value ok at = (
+  λ le. (least x, (omega (arith, ints), ends_ordered x ok), omega (arith, ints, le, at)),
+  λ some. omega (arith, ints, some.1.0, some.2, at),
+)
+
+-- ---- sums
+
+abbrev pub IsDifference : Domain → Domain → ℤ → Type 0
+IsDifference added sum value = (w u : ℤ) × IsBetweenEnds added w × IsBetweenEnds sum u × ((value +ℤ w) ≡ u)
+
+pub difference_back : (added sum : Domain) (value : ℤ) → IsDifference added sum value ↔ ((w u : ℤ) × IsBetweenEnds added w × IsBetweenEnds sum u × ((w +ℤ value) ≡ u))
+difference_back added sum value = (
+  λ some. (some.0, some.1, some.2, some.3, omega (arith, ints, some.4)),
+  λ some. (some.0, some.1, some.2, some.3, omega (arith, ints, some.4)),
+)
+
+pub differences : (added sum : Domain) (low high value : ℤ) → IsDomain added → IsDomain sum → (low +ℤ greatest added) ≡ least sum → (high +ℤ least added) ≡ greatest sum
+    → ((low ≤ℤ value) × (value ≤ℤ high)) ↔ ((w u : ℤ) × IsBetweenEnds added w × IsBetweenEnds sum u × ((value +ℤ w) ≡ u))
+differences added sum low high value ok sum_ok low_is high_is = (
+  λ within.
+      by_lt_z (value +ℤ least added) (least sum)
+      (λ short. (least sum -ℤ value, least sum, (omega (arith, ints, short), omega (arith, ints, within.0, low_is)), (omega (arith, ints), ends_ordered sum sum_ok), omega (arith, ints)))
+      (λ enough. (least added, value +ℤ least added, (omega (arith, ints), ends_ordered added ok), (enough, omega (arith, ints, within.1, high_is)), omega (arith, ints))),
+  λ some. (omega (arith, ints, some.2.1, some.3.0, some.4, low_is), omega (arith, ints, some.2.0, some.3.1, some.4, high_is)),
+)
+
+pub sums : (x y : Domain) (low high value : ℤ) → IsDomain x → IsDomain y → low ≡ (least x +ℤ least y) → high ≡ (greatest x +ℤ greatest y)
+    → ((low ≤ℤ value) × (value ≤ℤ high)) ↔ ((w u : ℤ) × IsBetweenEnds x w × IsBetweenEnds y u × ((w +ℤ u) ≡ value))
+sums x y low high value ok y_ok low_is high_is = (
+  λ within.
+      by_lt_z (greatest y) (value -ℤ least x)
+      (λ short. (value -ℤ greatest y, greatest y, (omega (arith, ints, short), omega (arith, ints, within.1, high_is)), (ends_ordered y y_ok, omega (arith, ints)), omega (arith, ints)))
+      (λ enough. (least x, value -ℤ least x, (omega (arith, ints), ends_ordered x ok), (omega (arith, ints, within.0, low_is), enough), omega (arith, ints))),
+  λ some. (omega (arith, ints, some.2.0, some.3.0, some.4, low_is), omega (arith, ints, some.2.1, some.3.1, some.4, high_is)),
+)
+
+-- ---- a range whose ends move to the first and the last of its values that pass
+
+pub keeps_around : (passes : ℤ → Type 0) (old new : Domain) (change : Change) (first last a b : ℤ) → IsRange old → IsDomain new → a ≡ first → b ≡ last
+    → Has old first → passes first → Has old last → passes last → ((value : ℤ) → Has old value → passes value → (first ≤ℤ value) × (value ≤ℤ last))
+    → Keeps (λ value. (a ≤ℤ value) × (value ≤ℤ b)) old change new → Keeps passes old change new
+keeps_around passes (Set members) new change first last a b range nok a_is b_is has_first pass_first has_last pass_last outside keeps = absurd range
+keeps_around passes (Range lo hi) new change first last a b range nok a_is b_is has_first pass_first has_last pass_last outside keeps =
+    met_around passes lo hi first last change new has_first.0 has_last.1 (outside first has_first pass_first).1 pass_first pass_last outside nok
+    (subst (λ l. Keeps (λ value. (l ≤ℤ value) × (value ≤ℤ last)) (Range lo hi) change new) a_is (subst (λ h. Keeps (λ value. (a ≤ℤ value) × (value ≤ℤ h)) (Range lo hi) change new) b_is keeps))
+
+-- ---- the greater and the less of two numbers
+
+pub from_greater : (greater a b value : ℤ) → (greater ≡ a) ⊎ (greater ≡ b) → a ≤ℤ value → b ≤ℤ value → greater ≤ℤ value
+from_greater greater a b value (inl e) p q = omega (arith, ints, e, p)
+from_greater greater a b value (inr e) p q = omega (arith, ints, e, q)
+
+pub upto_less : (less a b value : ℤ) → (less ≡ a) ⊎ (less ≡ b) → value ≤ℤ a → value ≤ℤ b → value ≤ℤ less
+upto_less less a b value (inl e) p q = omega (arith, ints, e, p)
+upto_less less a b value (inr e) p q = omega (arith, ints, e, q)

@@ -1,6 +1,11 @@
 pub mod Below
 pub mod Bounds
+pub mod Outcomes
 pub mod Places
+pub mod Producing
+pub mod Spanning
 pub mod Supports
 pub mod Sweeping
+pub mod Three
+pub mod Times
 pub mod Values

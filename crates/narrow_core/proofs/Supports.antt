@@ -46,13 +46,13 @@ module _ (reach : Reach) (holds : List ℤ → Type 0) where
   abbrev pub HoldsBehind : Domain → ℤ → Type 0
   HoldsBehind x value = (w : ℤ) × Admits reach x w × holds (w ∷ value ∷ [])
 
-  first_of_two : (y : Domain) (value : ℤ) → IsSupported reach holds [] value (y ∷ []) → HoldsBefore y value
+  pub first_of_two : (y : Domain) (value : ℤ) → IsSupported reach holds [] value (y ∷ []) → HoldsBefore y value
   first_of_two y value ([], w ∷ [], none, admit, holding) = (w, admit.0, holding)
   first_of_two y value ([], [], none, admit, holding) = absurd admit
   first_of_two y value ([], w ∷ u ∷ right, none, admit, holding) = absurd admit.1
   first_of_two y value (other ∷ left, right, none, admit, holding) = absurd none
 
-  second_of_two : (x : Domain) (value : ℤ) → IsSupported reach holds (x ∷ []) value [] → HoldsBehind x value
+  pub second_of_two : (x : Domain) (value : ℤ) → IsSupported reach holds (x ∷ []) value [] → HoldsBehind x value
   second_of_two x value (w ∷ [], [], admit, none, holding) = (w, admit.0, holding)
   second_of_two x value ([], right, admit, none, holding) = absurd admit
   second_of_two x value (w ∷ u ∷ left, right, admit, none, holding) = absurd admit.1
@@ -95,21 +95,21 @@ module _ (reach : Reach) (holds : List ℤ → Type 0) where
   abbrev pub HoldsAsThird : Domain → Domain → ℤ → Type 0
   HoldsAsThird x y value = (w u : ℤ) × Admits reach x w × Admits reach y u × holds (w ∷ u ∷ value ∷ [])
 
-  first_of_three : (y z : Domain) (value : ℤ) → IsSupported reach holds [] value (y ∷ z ∷ []) → HoldsAsFirst y z value
+  pub first_of_three : (y z : Domain) (value : ℤ) → IsSupported reach holds [] value (y ∷ z ∷ []) → HoldsAsFirst y z value
   first_of_three y z value ([], w ∷ u ∷ [], none, admit, holding) = (w, u, admit.0, admit.1.0, holding)
   first_of_three y z value ([], [], none, admit, holding) = absurd admit
   first_of_three y z value ([], w ∷ [], none, admit, holding) = absurd admit.1
   first_of_three y z value ([], w ∷ u ∷ t ∷ right, none, admit, holding) = absurd admit.1.1
   first_of_three y z value (other ∷ left, right, none, admit, holding) = absurd none
 
-  second_of_three : (x z : Domain) (value : ℤ) → IsSupported reach holds (x ∷ []) value (z ∷ []) → HoldsAsSecond x z value
+  pub second_of_three : (x z : Domain) (value : ℤ) → IsSupported reach holds (x ∷ []) value (z ∷ []) → HoldsAsSecond x z value
   second_of_three x z value (w ∷ [], u ∷ [], first, third, holding) = (w, u, first.0, third.0, holding)
   second_of_three x z value ([], right, first, third, holding) = absurd first
   second_of_three x z value (w ∷ t ∷ left, right, first, third, holding) = absurd first.1
   second_of_three x z value (w ∷ [], [], first, third, holding) = absurd third
   second_of_three x z value (w ∷ [], u ∷ t ∷ right, first, third, holding) = absurd third.1
 
-  third_of_three : (x y : Domain) (value : ℤ) → IsSupported reach holds (x ∷ y ∷ []) value [] → HoldsAsThird x y value
+  pub third_of_three : (x y : Domain) (value : ℤ) → IsSupported reach holds (x ∷ y ∷ []) value [] → HoldsAsThird x y value
   third_of_three x y value (w ∷ u ∷ [], [], admit, none, holding) = (w, u, admit.0, admit.1.0, holding)
   third_of_three x y value ([], right, admit, none, holding) = absurd admit
   third_of_three x y value (w ∷ [], right, admit, none, holding) = absurd admit.1

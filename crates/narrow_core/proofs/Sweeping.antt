@@ -88,7 +88,7 @@ module _ (reach : Reach) (holds : List ℤ → Type 0) where
     λ some. (Same, refl, sweep_same (left ++ old ∷ []) later (supported_later left old later supported)),
   )
 
-  no_split : (before : List Domain) (domain : Domain) (after : List Domain) → [] ≡ before ++ domain ∷ after → ⊥
+  pub no_split : (before : List Domain) (domain : Domain) (after : List Domain) → [] ≡ before ++ domain ∷ after → ⊥
   no_split [] domain after e = cc
   no_split (b ∷ before) domain after e = cc
 

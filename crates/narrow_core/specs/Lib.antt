@@ -1,3 +1,6 @@
-pub mod Sweeps
 pub mod Laws
 pub mod Meanings
+pub mod Products
+pub mod Sides
+pub mod Sweeps
+pub mod Truths

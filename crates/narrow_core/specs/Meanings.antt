@@ -1,8 +1,12 @@
--- What the constraints hold of.
-use Rattle.std.specs.Prelude.{ℤ, List}
-use Rattle.model_core.specs.Constraints.{Holds}
-use Rattle.model_core.specs.declared.model.Kind.{Kind}
+-- What the constraints hold of that know something of their own.
+use Rattle.std.specs.Prelude.{◌≡◌, ℤ, ◌*ℤ◌, List, [], ◌∷◌, Contains}
+use Rattle.narrow_core.specs.declared.field.FieldEntry.{FieldEntry}
 
--- the constraint holds of these values, where no object has a field, which only that of a field asks for
-abbrev pub HoldsAlone : Kind → List ℤ → Type 0
-HoldsAlone kind values = Holds (λ number object value. ⊥) kind values
+-- the second value is the first times the factor
+abbrev pub IsProduct : ℤ → List ℤ → Type 0
+IsProduct factor (x ∷ z ∷ []) = (x *ℤ factor) ≡ z
+IsProduct factor values = ⊥
+
+-- the table has an entry that gives this object this value
+abbrev pub IsInTable : List FieldEntry → ℤ → ℤ → Type 0
+IsInTable entries object value = (entry : FieldEntry) × Contains entries entry × (entry.object ≡ object) × (entry.value ≡ value)

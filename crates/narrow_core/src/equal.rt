@@ -1,8 +1,25 @@
 //! Equality and its opposite.
 
+ghost use Rattle.std.specs.Prelude.{◌≡◌, ℤ};
+ghost use Rattle.domain_core.specs.Domain.{IsDomain, Has};
+ghost use Rattle.domain_core.specs.Narrowing.{Keeps};
+
 use super::narrow::Narrow;
 use domain_core::Change;
 use domain_core::domain::Dom;
+
+/// Keeps the values from which a value of the other domain differs: all, unless the other domain has one value alone.
+pub fn keep_apart(own: &mut Dom, other: &Dom) -> Change
+    ensures kept { Keeps (λ value. (w : ℤ) × Has other.now w × (value ≡ w → ⊥)) own.old result own.new }
+    ensures domain { IsDomain own.old → IsDomain own.new }
+{
+    let value = other.lo();
+    if value == other.hi() {
+        own.drop_value(value)
+    } else {
+        Change::Same
+    }
+}
 
 /// The arguments are equal.
 #[derive(Clone, Copy)]
@@ -10,19 +27,43 @@ pub struct Eq;
 
 impl Narrow for Eq {
     ghost use Rattle.model_core.specs.Consistency.{Values};
-    ghost use Rattle.narrow_core.specs.Meanings.{HoldsAlone};
-    ghost use Rattle.model_core.specs.declared.model.Kind.TheVariants as kind;
+    ghost use Rattle.model_core.specs.Constraints.{HoldsOf};
+    ghost use Rattle.model_core.specs.declared.item.Kind.TheVariants as kind;
 
     ghost count = { λ _. 2 };
 
     ghost reach = { λ _. Values };
 
-    ghost holds = { λ _. HoldsAlone kind.Eq };
+    ghost holds = { λ _. HoldsOf kind.Eq };
 
     fn keep_supported(&self, before: &[Dom], own: &mut Dom, after: &[Dom]) -> Change {
         match (before, after) {
             ([], [other]) => own.meet_set(other),
             ([other], []) => own.meet_set(other),
+            _ => unreachable!(),
+        }
+    }
+}
+
+/// The arguments aren't equal.
+#[derive(Clone, Copy)]
+pub struct Neq;
+
+impl Narrow for Neq {
+    ghost use Rattle.model_core.specs.Consistency.{Values};
+    ghost use Rattle.model_core.specs.Constraints.{HoldsOf};
+    ghost use Rattle.model_core.specs.declared.item.Kind.TheVariants as kind;
+
+    ghost count = { λ _. 2 };
+
+    ghost reach = { λ _. Values };
+
+    ghost holds = { λ _. HoldsOf kind.Neq };
+
+    fn keep_supported(&self, before: &[Dom], own: &mut Dom, after: &[Dom]) -> Change {
+        match (before, after) {
+            ([], [other]) => keep_apart(own, other),
+            ([other], []) => keep_apart(own, other),
             _ => unreachable!(),
         }
     }

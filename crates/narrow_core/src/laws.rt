@@ -7,6 +7,7 @@ ghost use Rattle.domain_core.specs.declared.Change.{Change};
 ghost use Rattle.domain_core.specs.declared.Change.TheVariants.{Same};
 ghost use Rattle.model_core.specs.Consistency.{AreConsistent};
 ghost use Rattle.narrow_core.specs.Sweeps.{Sweeps};
+ghost use Rattle.narrow_core.specs.Products.{IsLikeThree};
 ghost use Rattle.narrow_core.specs.Laws.{Narrows, IsMonotone, Decides};
 
 use super::narrow::Narrow;
@@ -30,4 +31,9 @@ pub fn a_pass_is_monotone<C: Narrow>()
 pub fn a_pass_decides<C: Narrow>()
     ensures { (it : C) (old new : List Domain) (values : List ℤ) (change : Change) → 0 < length old → All IsDomain old → All IsDomain new
         → AllZip IsSingle old values → Sweeps (C.reach it) (C.holds it) [] old change new → Decides change (C.holds it values) }
+{}
+
+/// A product by a factor is the constraint of three arguments whose second one is the factor alone.
+pub fn a_factor_is_a_second_argument()
+    ensures { (factor : ℤ) → IsLikeThree factor }
 {}

@@ -2,7 +2,13 @@
 #![tactic(auto)]
 
 pub mod equal;
+pub mod field;
 pub mod laws;
 mod limits;
 pub mod narrow;
 pub mod order;
+pub mod product;
+pub mod sum;
+pub mod tested;
+#[cfg(test)]
+mod tests;

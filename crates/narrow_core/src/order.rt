@@ -1,9 +1,33 @@
-//! The constraints of order: their arguments have to be so to each other at their ends.
+//! Order. An argument is cut where the end of the other one is.
 
 use super::limits::{keep_from, keep_up_to};
 use super::narrow::Narrow;
 use domain_core::Change;
 use domain_core::domain::Dom;
+
+/// The first argument is less than the second.
+#[derive(Clone, Copy)]
+pub struct Lt;
+
+impl Narrow for Lt {
+    ghost use Rattle.model_core.specs.Consistency.{Ends};
+    ghost use Rattle.model_core.specs.Constraints.{HoldsOf};
+    ghost use Rattle.model_core.specs.declared.item.Kind.TheVariants as kind;
+
+    ghost count = { λ _. 2 };
+
+    ghost reach = { λ _. Ends };
+
+    ghost holds = { λ _. HoldsOf kind.Lt };
+
+    fn keep_supported(&self, before: &[Dom], own: &mut Dom, after: &[Dom]) -> Change {
+        match (before, after) {
+            ([], [y]) => keep_up_to(own, y.hi() - 1),
+            ([x], []) => keep_from(own, x.lo() + 1),
+            _ => unreachable!(),
+        }
+    }
+}
 
 /// The first argument is at most the second.
 #[derive(Clone, Copy)]
@@ -11,14 +35,14 @@ pub struct Leq;
 
 impl Narrow for Leq {
     ghost use Rattle.model_core.specs.Consistency.{Ends};
-    ghost use Rattle.narrow_core.specs.Meanings.{HoldsAlone};
-    ghost use Rattle.model_core.specs.declared.model.Kind.TheVariants as kind;
+    ghost use Rattle.model_core.specs.Constraints.{HoldsOf};
+    ghost use Rattle.model_core.specs.declared.item.Kind.TheVariants as kind;
 
     ghost count = { λ _. 2 };
 
     ghost reach = { λ _. Ends };
 
-    ghost holds = { λ _. HoldsAlone kind.Leq };
+    ghost holds = { λ _. HoldsOf kind.Leq };
 
     fn keep_supported(&self, before: &[Dom], own: &mut Dom, after: &[Dom]) -> Change {
         match (before, after) {

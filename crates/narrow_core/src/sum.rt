@@ -1,0 +1,42 @@
+//! Sums.
+
+ghost use Rattle.std.specs.Prelude.{◌≡◌, ℤ, ◌+ℤ◌};
+ghost use Rattle.domain_core.specs.Domain.{IsDomain, IsBetweenEnds};
+ghost use Rattle.domain_core.specs.Narrowing.{Keeps};
+
+use super::narrow::Narrow;
+use domain_core::Change;
+use domain_core::domain::Dom;
+
+// Keeps the values to which something can be added that gives the sum.
+fn keep_differences(own: &mut Dom, added: &Dom, sum: &Dom) -> Change
+    ensures kept { Keeps (λ value. (w u : ℤ) × IsBetweenEnds added.now w × IsBetweenEnds sum.now u × ((value +ℤ w) ≡ u)) own.old result own.new }
+    ensures domain { IsDomain own.new }
+{
+    own.meet_range(sum.lo() - added.hi(), sum.hi() - added.lo())
+}
+
+/// The first argument and the second sum to the third.
+#[derive(Clone, Copy)]
+pub struct AddEq;
+
+impl Narrow for AddEq {
+    ghost use Rattle.model_core.specs.Consistency.{Ends};
+    ghost use Rattle.model_core.specs.Constraints.{HoldsOf};
+    ghost use Rattle.model_core.specs.declared.item.Kind.TheVariants as kind;
+
+    ghost count = { λ _. 3 };
+
+    ghost reach = { λ _. Ends };
+
+    ghost holds = { λ _. HoldsOf kind.AddEq };
+
+    fn keep_supported(&self, before: &[Dom], own: &mut Dom, after: &[Dom]) -> Change {
+        match (before, after) {
+            ([], [y, z]) => keep_differences(own, y, z),
+            ([x], [z]) => keep_differences(own, x, z),
+            ([x, y], []) => own.meet_range(x.lo() + y.lo(), x.hi() + y.hi()),
+            _ => unreachable!(),
+        }
+    }
+}
