@@ -23,7 +23,7 @@ use plan_db::database::Db;
 use session_core::editor::Editor;
 use std::alloc::Global;
 
-/// Runs the program on the words after its name: carries out the command that they are over the file that they name, and says how it ended.
+/// Runs the program on the words after its name: carries out the command that they ask for, over the file that they name, and says how it ended.
 /// After a fault nothing more is read or written.
 pub fn europa<F: Shelf, S: Source, O: Sink>(
     alloc: Global,
