@@ -26,13 +26,12 @@ pub fn keep_apart(own: &mut Dom, other: &Dom) -> Change
 pub struct Eq;
 
 impl Narrow for Eq {
-    ghost use Rattle.model_core.specs.Consistency.{Values};
-    ghost use Rattle.model_core.specs.Constraints.{HoldsOf};
+    ghost use Rattle.model_core.specs.Constraints.{HoldsOf, count_of, reach_of};
     ghost use Rattle.model_core.specs.declared.item.Kind.TheVariants as kind;
 
-    ghost count = { λ _. 2 };
+    ghost count = { λ _. count_of kind.Eq };
 
-    ghost reach = { λ _. Values };
+    ghost reach = { λ _. reach_of kind.Eq };
 
     ghost holds = { λ _. HoldsOf kind.Eq };
 
@@ -50,13 +49,12 @@ impl Narrow for Eq {
 pub struct Neq;
 
 impl Narrow for Neq {
-    ghost use Rattle.model_core.specs.Consistency.{Values};
-    ghost use Rattle.model_core.specs.Constraints.{HoldsOf};
+    ghost use Rattle.model_core.specs.Constraints.{HoldsOf, count_of, reach_of};
     ghost use Rattle.model_core.specs.declared.item.Kind.TheVariants as kind;
 
-    ghost count = { λ _. 2 };
+    ghost count = { λ _. count_of kind.Neq };
 
-    ghost reach = { λ _. Values };
+    ghost reach = { λ _. reach_of kind.Neq };
 
     ghost holds = { λ _. HoldsOf kind.Neq };
 

@@ -10,13 +10,12 @@ use domain_core::domain::Dom;
 pub struct Lt;
 
 impl Narrow for Lt {
-    ghost use Rattle.model_core.specs.Consistency.{Ends};
-    ghost use Rattle.model_core.specs.Constraints.{HoldsOf};
+    ghost use Rattle.model_core.specs.Constraints.{HoldsOf, count_of, reach_of};
     ghost use Rattle.model_core.specs.declared.item.Kind.TheVariants as kind;
 
-    ghost count = { λ _. 2 };
+    ghost count = { λ _. count_of kind.Lt };
 
-    ghost reach = { λ _. Ends };
+    ghost reach = { λ _. reach_of kind.Lt };
 
     ghost holds = { λ _. HoldsOf kind.Lt };
 
@@ -34,13 +33,12 @@ impl Narrow for Lt {
 pub struct Leq;
 
 impl Narrow for Leq {
-    ghost use Rattle.model_core.specs.Consistency.{Ends};
-    ghost use Rattle.model_core.specs.Constraints.{HoldsOf};
+    ghost use Rattle.model_core.specs.Constraints.{HoldsOf, count_of, reach_of};
     ghost use Rattle.model_core.specs.declared.item.Kind.TheVariants as kind;
 
-    ghost count = { λ _. 2 };
+    ghost count = { λ _. count_of kind.Leq };
 
-    ghost reach = { λ _. Ends };
+    ghost reach = { λ _. reach_of kind.Leq };
 
     ghost holds = { λ _. HoldsOf kind.Leq };
 

@@ -21,13 +21,12 @@ fn keep_differences(own: &mut Dom, added: &Dom, sum: &Dom) -> Change
 pub struct AddEq;
 
 impl Narrow for AddEq {
-    ghost use Rattle.model_core.specs.Consistency.{Ends};
-    ghost use Rattle.model_core.specs.Constraints.{HoldsOf};
+    ghost use Rattle.model_core.specs.Constraints.{HoldsOf, count_of, reach_of};
     ghost use Rattle.model_core.specs.declared.item.Kind.TheVariants as kind;
 
-    ghost count = { λ _. 3 };
+    ghost count = { λ _. count_of kind.AddEq };
 
-    ghost reach = { λ _. Ends };
+    ghost reach = { λ _. reach_of kind.AddEq };
 
     ghost holds = { λ _. HoldsOf kind.AddEq };
 

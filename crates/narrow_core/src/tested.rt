@@ -121,13 +121,12 @@ fn keep_upper(truth: &Dom, own: &mut Dom, lower: &Dom) -> Change
 pub struct TestEq;
 
 impl Narrow for TestEq {
-    ghost use Rattle.model_core.specs.Consistency.{Values};
-    ghost use Rattle.model_core.specs.Constraints.{HoldsOf};
+    ghost use Rattle.model_core.specs.Constraints.{HoldsOf, count_of, reach_of};
     ghost use Rattle.model_core.specs.declared.item.Kind.TheVariants as kind;
 
-    ghost count = { λ _. 3 };
+    ghost count = { λ _. count_of kind.TestEq };
 
-    ghost reach = { λ _. Values };
+    ghost reach = { λ _. reach_of kind.TestEq };
 
     ghost holds = { λ _. HoldsOf kind.TestEq };
 
@@ -146,13 +145,12 @@ impl Narrow for TestEq {
 pub struct TestLeq;
 
 impl Narrow for TestLeq {
-    ghost use Rattle.model_core.specs.Consistency.{Ends};
-    ghost use Rattle.model_core.specs.Constraints.{HoldsOf};
+    ghost use Rattle.model_core.specs.Constraints.{HoldsOf, count_of, reach_of};
     ghost use Rattle.model_core.specs.declared.item.Kind.TheVariants as kind;
 
-    ghost count = { λ _. 3 };
+    ghost count = { λ _. count_of kind.TestLeq };
 
-    ghost reach = { λ _. Ends };
+    ghost reach = { λ _. reach_of kind.TestLeq };
 
     ghost holds = { λ _. HoldsOf kind.TestLeq };
 
