@@ -1,0 +1,6 @@
+use Rattle.std.proofs.Common.{◌≡◌, take}
+use Rattle.constraint_net.specs.Arguments.{domains_of}
+use Rattle.constraint_net.proofs.domains.gather.Given as goal
+
+abbrev pub invariant-loop-arg : goal.invariant-loop-arg
+invariant-loop-arg l = l.room.items ≡ domains_of l.variables (take l.arg-index l.args)

@@ -1,0 +1,32 @@
+// Variables with their domains and constraints on them: what is left of the domains where all constraints are to be consistent.
+#![tactic(auto)]
+
+pub mod constraint;
+mod domains;
+mod kinds;
+pub mod laws;
+pub mod net;
+mod rounds;
+#[cfg(test)]
+mod tests;
+
+use std::alloc::AllocError;
+
+/// Why there are no greatest consistent domains.
+#[derive(Clone, Copy, Debug, PartialEq, Eq)]
+pub enum NetFault {
+    /// No domains within those that were there are consistent.
+    Collapsed,
+    Memory,
+}
+
+impl From<AllocError> for NetFault {
+    ghost use Rattle.std.specs.Prelude.{◌≡◌};
+    ghost use Rattle.constraint_net.specs.declared.NetFault.TheVariants.{Memory};
+
+    ghost from_gives = { λ _ fault. fault ≡ Memory };
+
+    fn from(_none: AllocError) -> NetFault {
+        NetFault::Memory
+    }
+}
