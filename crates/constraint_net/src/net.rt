@@ -1,6 +1,6 @@
 //! Networks.
 
-ghost use Rattle.std.specs.Prelude.{◌≡◌, ◌+◌, ◌^◌, ◌<◌, ◌≤◌, [], ◌∷◌, ◌++◌, All, length, map, OnErr, IfOk, MatchOption, Some, slice_get};
+ghost use Rattle.std.specs.Prelude.{◌≡◌, ◌^◌, ◌<◌, ◌≤◌, [], ◌∷◌, ◌++◌, All, length, OnErr, IfOk, MatchOption, Some, slice_get};
 ghost use Rattle.domain_core.specs.Domain.{IsDomain};
 ghost use Rattle.constraint_net.specs.Networks.{CanPost, AllConsistent};
 ghost use Rattle.constraint_net.specs.Steps.{SettlesTo};

@@ -2,7 +2,7 @@
 
 ghost use Rattle.std.specs.Prelude.{◌≡◌, ◌≢◌, ◌<◌, ◌≤◌, All, length};
 ghost use Rattle.domain_core.specs.Domain.{IsDomain};
-ghost use Rattle.constraint_net.specs.Steps.{StepsTo, FitBefore, SettlesTo};
+ghost use Rattle.constraint_net.specs.Steps.{StepsTo, SettlesTo};
 ghost use Rattle.constraint_net.specs.Networks.{AllConsistent};
 ghost use Rattle.constraint_net.specs.Passes.{place_of, WerePosted};
 

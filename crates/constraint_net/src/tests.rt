@@ -4,7 +4,7 @@ use super::NetFault;
 use super::constraint::NetArg::{Lit, Var};
 use super::net::Net;
 use domain_core::Change;
-use domain_core::domain::Dom;
+use domain_core::domain::{Dom, GREATEST_VALUE, LEAST_VALUE};
 use model_core::item::Kind;
 use std::alloc::Global;
 use std::test::Fail;
@@ -90,8 +90,8 @@ fn a_product_is_settled_before_and_after_a_test_is_false(rt: HostRuntime) -> Res
 /// Each of two variables is less than the other.
 fn contradiction(alloc: Global) -> Result<Net, Fail> {
     let mut net = Net::new(alloc);
-    let x = add_range(&mut net, 0, 100)?;
-    let y = add_range(&mut net, 0, 100)?;
+    let x = add_range(&mut net, LEAST_VALUE, GREATEST_VALUE)?;
+    let y = add_range(&mut net, LEAST_VALUE, GREATEST_VALUE)?;
     net.get(x).ok_or("no variable")?;
     net.get(y).ok_or("no variable")?;
     net.post(Kind::Lt, &[Var(x), Var(y)])?;

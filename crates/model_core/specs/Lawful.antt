@@ -16,8 +16,9 @@ use Rattle.model_core.specs.declared.decision.Decision.{Decision}
 use Rattle.model_core.specs.declared.decision.Decision.TheVariants.{Specify, Activate, Merge, Reject, Order}
 use Rattle.model_core.specs.declared.item.Item.{Item}
 use Rattle.model_core.specs.declared.item.Item.TheVariants.{Constraint, Relation}
-use Rattle.model_core.specs.declared.item.Kind.TheVariants.{Leq}
-use Rattle.model_core.specs.declared.item.Term.TheVariants.{Global}
+use Rattle.model_core.specs.declared.item.Kind.TheVariants.{Field}
+use Rattle.model_core.specs.declared.item.Term.{Term}
+use Rattle.model_core.specs.declared.item.Term.TheVariants.{Lit, Global}
 use Rattle.model_core.specs.declared.model.Model.{Model}
 use Rattle.model_core.specs.declared.model.Problem.{Problem}
 use Rattle.model_core.specs.declared.model.Root.{Root}
@@ -229,12 +230,20 @@ pub record IsLawful (model : Model) : Type 0 where
 abbrev pub IsRangeVariable : VarDecl → Type 0
 IsRangeVariable variable = (variable.kind ≡ kinds.Int) × ((lo hi : _) × (variable.base ≡ Given (Range lo hi)))
 
--- the constraint that one global is at most another
-abbrev pub IsLeqOfGlobals : Item → Type 0
-IsLeqOfGlobals item = (first second : ℕ) × (item ≡ Constraint Leq (Global first ∷ Global second ∷ []))
+-- the term is a value or a global
+abbrev pub IsPlain : Term → Type 0
+IsPlain (Lit value) = ⊤
+IsPlain (Global number) = ⊤
+IsPlain term = ⊥
 
--- what the plan database is built for so far: no roots, globals with ranges, and constraints that one is at most another
+-- a constraint on globals and values, other than that of a field
+abbrev pub IsOfGlobals : Item → Type 0
+IsOfGlobals (Constraint (Field number) terms) = ⊥
+IsOfGlobals (Constraint kind terms) = All IsPlain terms
+IsOfGlobals (Relation relation slot) = ⊥
+
+-- what the plan database is built for so far: no roots, globals with ranges, and constraints on these and on values
 pub record IsBuilt (model : Model) : Type 0 where
   pub roots : model.problem.roots ≡ []
   pub variables : All IsRangeVariable model.problem.globals
-  pub constraints : All IsLeqOfGlobals model.problem.items
+  pub constraints : All IsOfGlobals model.problem.items

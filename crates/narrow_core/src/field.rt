@@ -1,7 +1,7 @@
 //! The field of an object, by a table of what each object has in it.
 
-ghost use Rattle.std.specs.Prelude.{◌≡◌, ◌↔◌, ℤ, List, [], ◌∷◌, ◌++◌, IsTrue};
-ghost use Rattle.domain_core.specs.Domain.{IsDomain, IsRange, Has};
+ghost use Rattle.std.specs.Prelude.{◌≡◌, ◌↔◌, List, [], ◌∷◌, ◌++◌, IsTrue};
+ghost use Rattle.domain_core.specs.Domain.{IsDomain, IsRange};
 ghost use Rattle.domain_core.specs.Narrowing.{Keeps};
 ghost use Rattle.narrow_core.specs.declared.field.FieldEntry.{FieldEntry};
 ghost use Rattle.narrow_core.specs.Sides.{side_of, opposite, Pairs, IsPaired, Spans, IsWidened};

@@ -1,7 +1,7 @@
 //! Products by a factor. They are reached through the numbers that the factor multiplies, so no product is formed that doesn't lie between the ends of a domain.
 
 ghost use Rattle.std.specs.Prelude.{◌≡◌, ◌↔◌, ℤ, pos, ◌≤ℤ◌, ◌<ℤ◌, ◌*ℤ◌, IsTrue};
-ghost use Rattle.domain_core.specs.Domain.{IsDomain, IsRange, IsValue, IsBetweenEnds, least, greatest};
+ghost use Rattle.domain_core.specs.Domain.{IsDomain, IsRange, IsValue, IsBetweenEnds};
 ghost use Rattle.domain_core.specs.Narrowing.{Keeps};
 
 use super::limits::{greater, less};

@@ -1,14 +1,13 @@
 -- What the database keeps, through its calls.
-use Rattle.std.proofs.Common.{◌≡◌, get_or, List, [], ◌∷◌, ◌++◌, length, Option, Some, None, Ok, Err, Vec, inl, refl, sym, ap, ◌∙◌, subst, arith}
-use Rattle.std.specs.Prelude.{MatchOption, MatchBool, is_some, ◌<◌, ◌≤◌, ℕ}
-use Rattle.std.specs.declared.alloc.Global.{Global as Global_allocator}
+use Rattle.std.proofs.Common.{◌≡◌, List, [], ◌∷◌, ◌++◌, length, Option, Some, None, Ok, Err, inl, refl, sym, ap, ◌∙◌, subst, arith}
+use Rattle.std.specs.Prelude.{MatchOption, MatchBool, is_some, slice_get, ◌≤◌, ℕ}
+use Rattle.constraint_net.specs.Networks.{Network}
 use Rattle.domain_core.specs.Domain.{Domain}
 use Rattle.model_core.specs.declared.decision.Decision.{Decision}
 use Rattle.model_core.specs.declared.model.Model.{Model}
 use Rattle.model_core.specs.History.{History, standing, accepted}
 use Rattle.eu_name.specs.declared.name.VarName.{VarName}
 use Rattle.eu_name.specs.declared.name.VarName.TheVariants.{Global}
-use Rattle.std.proofs.lemmas.Option.{slice_get_read}
 use Rattle.plan_defs.proofs.Members.{get_below}
 use Rattle.model_core.specs.State.{State, Gives}
 use Rattle.plan_defs.specs.Closure.{IsLeast, IsCollapsed}
@@ -32,18 +31,18 @@ first_history model [] is one = absurd is
 first_history model (decisions ∷ []) is one = ap (λ list. list ∷ []) is
 first_history model (decisions ∷ below ∷ former) is one = absurd (omega arith)
 
-module _ (model : Model) (history : History) (kept : Option (Vec Domain Global_allocator)) (is : IsKept model history kept) where
-  pub least_kept : (domains : Vec Domain Global_allocator) → kept ≡ Some domains → IsLeast model (standing history) (state_of domains.items)
-  least_kept domains e = subst (λ o. MatchOption o (IsCollapsed model (standing history)) (λ d. IsLeast model (standing history) (state_of d.items))) e is.state
+module _ (model : Model) (history : History) (kept : Option Network) (is : IsKept model history kept) where
+  pub least_kept : (net : Network) → kept ≡ Some net → IsLeast model (standing history) (state_of net.domains)
+  least_kept net e = subst (λ o. MatchOption o (IsCollapsed model (standing history)) (λ d. IsLeast model (standing history) (state_of d.domains))) e is.state
 
   pub collapsed_kept : kept ≡ None → IsCollapsed model (standing history)
-  collapsed_kept e = subst (λ o. MatchOption o (IsCollapsed model (standing history)) (λ d. IsLeast model (standing history) (state_of d.items))) e is.state
+  collapsed_kept e = subst (λ o. MatchOption o (IsCollapsed model (standing history)) (λ d. IsLeast model (standing history) (state_of d.domains))) e is.state
 
 -- the outcome that is answered is that of the decisions
-pub outcome_is : (database : Database) (kept : Option (Vec Domain Global_allocator))
-    → MatchOption kept (IsCollapsed database.model (standing database.history)) (λ domains. IsLeast database.model (standing database.history) (state_of domains.items)) → OutcomeIs database (outcome_where kept)
+pub outcome_is : (database : Database) (kept : Option Network)
+    → MatchOption kept (IsCollapsed database.model (standing database.history)) (λ net. IsLeast database.model (standing database.history) (state_of net.domains)) → OutcomeIs database (outcome_where kept)
 outcome_is database None collapsed = collapsed
-outcome_is database (Some domains) least = (state_of domains.items, least)
+outcome_is database (Some net) least = (state_of net.domains, least)
 
 -- a reason that the tests find in the least state is why the decision is refused
 pub refused : (database : Database) (decision : Decision) (state : State) (fault : DbFault) → HasLeast database state → Finds database.model (standing database.history) state decision (Err fault) → Applies database decision (Err fault) database
@@ -59,9 +58,9 @@ pub admissible : (database : Database) (decision : Decision) (state : State) →
 admissible database decision state least finds = record { state = state; least = least; free = finds }
 
 -- whether the kept state is there says whether the decisions leave something
-pub consistent_kept : (database : Database) (kept : Option (Vec Domain Global_allocator)) → IsKept database.model database.history kept → MatchBool (is_some kept) ((state : State) × HasLeast database state) (HasCollapsed database)
+pub consistent_kept : (database : Database) (kept : Option Network) → IsKept database.model database.history kept → MatchBool (is_some kept) ((state : State) × HasLeast database state) (HasCollapsed database)
 consistent_kept database None is = is.state
-consistent_kept database (Some domains) is = (state_of domains.items, is.state)
+consistent_kept database (Some net) is = (state_of net.domains, is.state)
 
 -- a variable that isn't a global is in no kept state
 pub ungiven_other : (domains : List Domain) (name : VarName) → ((number : ℕ) → name ≡ Global number → ⊥) → (domain : Domain) → Gives (state_of domains) name domain → ⊥
@@ -75,9 +74,8 @@ ungiven_past domains name number is past domain gives =
     omega (arith, get_below domains at.place domain at.at)
 
 -- the others are
-pub given_within : (domains : List Domain) (name : VarName) (number : ℕ) (domain : Domain) → name ≡ Global number → number < length domains → domain ≡ get_or domains number domain → Gives (state_of domains) name domain
-given_within domains name number domain is within read =
-    subst (λ n. Gives (state_of domains) n domain) (sym is) (gives_at domains number domain (slice_get_read domains (length domains) number domain refl within read))
+pub given_there : (domains : List Domain) (name : VarName) (number : ℕ) (domain : Domain) → name ≡ Global number → slice_get domains number ≡ Some domain → Gives (state_of domains) name domain
+given_there domains name number domain is at = subst (λ n. Gives (state_of domains) n domain) (sym is) (gives_at domains number domain at)
 
 -- the list that undo brings back is the one that was copied before
 pub standing_below : (old new : History) (former : List Decision) (below : History) → old ≡ standing old ∷ former ∷ below → old ≡ standing old ∷ new → standing new ≡ former

@@ -1,9 +1,11 @@
 pub mod Tokenless
 pub mod Positions
-pub mod Narrowed
-pub mod LeqSteps
-pub mod Passes
-pub mod LeastStates
+pub mod Zipped
 pub mod Granting
+pub mod Settling
+pub mod Posting
+pub mod Claiming
+pub mod ClosedStates
+pub mod LeastStates
 pub mod Checking
 pub mod Keeping

@@ -1,20 +1,16 @@
 -- The state that a list of domains is.
 use Rattle.std.proofs.Common.{◌≡◌, ℕ, suc, zero, ◌+◌, ◌<◌, List, [], ◌∷◌, length, set, get_or, Some, refl, sym, ap, ◌∙◌, subst, ⊎_elim, arith}
-use Rattle.std.specs.Prelude.{slice_get, sum_by, AllPairs}
-use Rattle.std.proofs.lemmas.Bool.{cases_eq, cases_lt}
-use Rattle.std.proofs.lemmas.List.Sums.{sum_by-set}
+use Rattle.std.specs.Prelude.{slice_get, AllPairs}
+use Rattle.std.proofs.lemmas.Bool.{cases_lt}
 use Rattle.std.proofs.lemmas.Option.{get_or_from_slice_get}
-use Rattle.domain_core.specs.Domain.{Domain, IsDomain, IsWithin, slack}
-use Rattle.domain_core.proofs.Words.{IsWithin-refl}
+use Rattle.domain_core.specs.Domain.{Domain, IsDomain}
 use Rattle.eu_name.specs.declared.name.VarName.{VarName}
 use Rattle.eu_name.specs.declared.name.VarName.TheVariants.{Global, Token, Local}
 use Rattle.eu_name.specs.NameOrder.{IsVarBefore}
 use Rattle.model_core.specs.declared.model.Model.{Model}
-use Rattle.model_core.specs.State.{Entry, Gives, IsAbout, IsState, IsBelow}
-use Rattle.plan_defs.specs.Steps.{slack_of}
+use Rattle.model_core.specs.State.{Entry, Gives, IsAbout, IsState}
 use Rattle.plan_defs.proofs.Members.{get_from_contains, get_below, contains_from_get, get_within, get_same, all_from_get}
 use Rattle.plan_defs.proofs.Ordered.{contains_none}
-use Rattle.plan_defs.proofs.States.{gives_domain}
 use Rattle.plan_db.specs.Kept.{entries_from, state_of}
 
 -- ---- reading after a write
@@ -30,12 +26,6 @@ get-set_other (z ∷ xs) zero zero y apart = absurd (apart refl)
 get-set_other (z ∷ xs) zero (suc j) y apart = refl
 get-set_other (z ∷ xs) (suc k) zero y apart = refl
 get-set_other (z ∷ xs) (suc k) (suc j) y apart = get-set_other xs k j y (λ same. apart (ap suc same))
-
--- writing what is there changes nothing
-pub set-same : {X : Type 0} (xs : List X) (k : ℕ) (x : X) → slice_get xs k ≡ Some x → set xs k x ≡ xs
-set-same [] k x e = refl
-set-same (z ∷ xs) zero x e = let same : z ≡ x = cc in ap (λ y. y ∷ xs) (sym same)
-set-same (z ∷ xs) (suc k) x e = ap (λ ys. z ∷ ys) (set-same xs k x e)
 
 -- ---- the entries
 
@@ -140,61 +130,3 @@ module _ (model : Model) (domains : List Domain) (ok : IsState model (state_of d
           let stands = given_at domains (Global k) given.0 given.1 in
           let same = number_same k stands.place stands.is_global in
           omega (arith, same, get_below domains stands.place given.0 stands.at)
-
--- ---- a write makes the state smaller
-
-pub length-set_domains : (domains : List Domain) (k : ℕ) (domain : Domain) → length (set domains k domain) ≡ length domains
-length-set_domains [] k domain = refl
-length-set_domains (first ∷ domains) zero domain = refl
-length-set_domains (first ∷ domains) (suc k) domain = ap suc (length-set_domains domains k domain)
-
-module _ (domains : List Domain) (k : ℕ) (before after : Domain) (at : slice_get domains k ≡ Some before) where
-  pub IsBelow-set : IsWithin after before → IsBelow (state_of domains) (state_of (set domains k after))
-  IsBelow-set within = record {
-    tokens = λ token there. there;
-    blocks = λ block there. there;
-    variables = λ name domain gives.
-        let stands = given_at domains name domain gives in
-        ⊎_elim
-        (λ same.
-        let here : before ≡ domain = get_same domains k before domain at (subst (λ n. slice_get domains n ≡ Some domain) same stands.at) in
-        let named : Global k ≡ name = sym (stands.is_global ∙ ap Global same) in
-        (after, subst (λ n. Gives (state_of (set domains k after)) n after) named (gives_at (set domains k after) k after (get-set_same domains k before after at)), subst (IsWithin after) here within))
-        (λ apart.
-        let there = get-set_other domains k stands.place after apart ∙ stands.at in
-        (domain, subst (λ n. Gives (state_of (set domains k after)) n domain) (sym stands.is_global) (gives_at (set domains k after) stands.place domain there), IsWithin-refl domain))
-        (cases_eq stands.place k);
-  }
-
-  pub IsState-set : (model : Model) → IsDomain after → IsState model (state_of domains) → IsState model (state_of (set domains k after))
-  IsState-set model is_domain ok =
-      are_state model (set domains k after) (length-set_domains domains k after ∙ count_of_state model domains ok) (λ j domain e.
-      ⊎_elim
-      (λ same.
-      let here : after ≡ domain = get_same (set domains k after) k _ _ (get-set_same domains k before after at) (subst (λ n. slice_get (set domains k after) n ≡ Some domain) same e) in
-      subst IsDomain here is_domain)
-      (λ apart.
-      let there : slice_get domains j ≡ Some domain = sym (get-set_other domains k j after apart) ∙ e in
-      gives_domain model (state_of domains) ok (Global j) domain (gives_at domains j domain there))
-      (cases_eq j k))
-
-entries_from-set : (number : ℕ) (domains : List Domain) (k : ℕ) (after : Domain) → entries_from number (set domains k after) ≡ set (entries_from number domains) k (record { name = Global (number + k); domain = after })
-entries_from-set number [] k after = refl
-entries_from-set number (first ∷ domains) zero after = ap (λ n. record { name = Global n; domain = after } ∷ entries_from (number + 1) domains) (let n : number ≡ number + 0 = omega arith in n)
-entries_from-set number (first ∷ domains) (suc k) after =
-    ap (λ entries. record { name = Global number; domain = first } ∷ entries)
-    (entries_from-set (number + 1) domains k after ∙ ap (λ n. set (entries_from (number + 1) domains) k (record { name = Global n; domain = after })) (let n : number + 1 + k ≡ number + suc k = omega arith in n))
-
--- a smaller domain leaves less slack
-pub slack_of-set : (domains : List Domain) (k : ℕ) (before after : Domain) → slice_get domains k ≡ Some before → slack after < slack before
-    → slack_of (state_of (set domains k after)) < slack_of (state_of domains)
-slack_of-set domains k before after e less =
-    let f = λ (entry : Entry). slack entry.domain in
-    let entries = entries_from 0 domains in
-    let new : Entry = record { name = Global (0 + k); domain = after } in
-    let old : Entry = record { name = Global (0 + k); domain = before } in
-    let there = get-entries_from 0 domains k before e in
-    let written = sum_by-set f entries k new old (get_below entries k old there) in
-    let read : slack (get_or entries k old).domain ≡ slack before = ap f (get_or_from_slice_get entries k old old there) in
-    let sum_new : sum_by f (entries_from 0 (set domains k after)) ≡ sum_by f (set entries k new) = ap (sum_by f) (entries_from-set 0 domains k after) in
-    omega (arith, written, read, sum_new, less)

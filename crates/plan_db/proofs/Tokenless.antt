@@ -1,18 +1,32 @@
 -- Where a model has no roots, its states have no tokens.
-use Rattle.std.proofs.Common.{◌≡◌, ℕ, List, [], ◌∷◌, Some, refl, subst, arith}
+use Rattle.std.proofs.Common.{◌≡◌, ℕ, ℤ, List, [], ◌∷◌, Some, inr, refl, sym, subst, arith}
 use Rattle.std.specs.Prelude.{slice_get, Contains}
+use Rattle.std.specs.List.{AllZip}
+use Rattle.std.proofs.lemmas.Int.{ints}
 use Rattle.std.proofs.lemmas.List.Elements.{All-contains}
 use Rattle.domain_core.specs.Domain.{Domain}
 use Rattle.eu_name.specs.declared.name.Part.{Part}
+use Rattle.eu_name.specs.declared.name.Part.TheVariants.{Start, End}
 use Rattle.eu_name.specs.declared.name.TokenName.{TokenName}
 use Rattle.eu_name.specs.declared.name.VarName.TheVariants.{Token, Local}
+use Rattle.model_core.specs.declared.class.Object as classes
+use Rattle.model_core.specs.declared.decision.Decision.{Decision}
 use Rattle.model_core.specs.declared.model.Model.{Model}
 use Rattle.model_core.specs.declared.model.Root.{Root}
 use Rattle.model_core.specs.declared.rule.Slot.{Slot}
 use Rattle.model_core.specs.Blocks.{TokenBlock, IsBlock}
 use Rattle.model_core.specs.Entries.{Entries}
+use Rattle.model_core.specs.Lawful.{IsLawful, IsBuilt, IsLawfulObject, IsLawfulKind}
 use Rattle.model_core.specs.State.{State, Gives, IsState}
 use Rattle.model_core.specs.Tokens.{IsRoot, HasToken}
+use Rattle.plan_defs.specs.Claims.{part_of, at_most}
+use Rattle.plan_defs.specs.Closure.{IsCollapsed}
+use Rattle.plan_defs.specs.Consistency.{IsObject}
+use Rattle.plan_defs.specs.Resources.{FitReusables, FitReservoirs}
+use Rattle.plan_defs.specs.Terms.{HasDomain}
+use Rattle.plan_defs.specs.Timelines.{FitTimelines}
+use Rattle.plan_defs.proofs.Members.{get_all}
+use Rattle.plan_db.specs.Kept.{HasOrder}
 
 -- a list without members is empty
 empty_list : {X : Type 0} (xs : List X) → ((x : X) → Contains xs x → ⊥) → xs ≡ []
@@ -47,3 +61,44 @@ module _ (model : Model) (no_roots : model.problem.roots ≡ []) where
     no_local token rule number domain gives =
         let about = (ok.variables (Local token rule number)).1 (domain, gives) in
         not_in_blocks about.0 about.1.0
+
+-- with no tokens no timeline has two that overlap, no reusable is used and no level changes
+module _ (model : Model) (decisions : List Decision) (lawful : IsLawful model) (no_roots : model.problem.roots ≡ []) (state : State) (ok : IsState model state) where
+  -- an object keeps the limits of its kind
+  object_kind : (value : ℤ) (object : classes.Object) → IsObject model value object → IsLawfulKind object.kind
+  object_kind value object is = (get_all (IsLawfulObject model) model.objects is.0 object lawful.objects is.2).kind
+
+  -- the empty list has an amount for each token
+  no_amounts : (Amount : TokenName → ℤ → Type 0) → AllZip Amount state.tokens []
+  no_amounts Amount = subst (λ tokens. AllZip Amount tokens []) (sym (no_tokens model no_roots state ok)) tt
+
+  pub timelines : FitTimelines model decisions state
+  timelines one other timeline apart one_active other_active is_timeline on_one on_other late = absurd (no_part model no_roots state ok one _ on_one.0 on_one.1)
+
+  pub reusables : FitReusables model decisions state
+  reusables value object capacity instant is kind is_instant =
+      let capacity_ok = subst IsLawfulKind kind (object_kind value object is) in
+      ([], no_amounts _, capacity_ok.1)
+
+  pub reservoirs : FitReservoirs model decisions state
+  reservoirs complete value object initial low high instant is kind is_instant =
+      let level = subst IsLawfulKind kind (object_kind value object is) in
+      record {
+        rises = [];
+        are_rises = no_amounts _;
+        high_enough = omega (arith, ints, level.2);
+        falls = [];
+        are_falls = no_amounts _;
+        low_enough = omega (arith, ints, level.3);
+      }
+
+-- an order is about two tokens, and no state has any
+pub collapsed_from_order : (model : Model) (decisions : List Decision) → IsBuilt model → HasOrder decisions → IsCollapsed model decisions
+collapsed_from_order model decisions built order state closed =
+    let claim = at_most (part_of order.0 End) (part_of order.1 Start) in
+    let consistent = closed.consistent claim (inr (inr (inr (inr (order.0, order.1, (order.2, refl)))))) in
+    not_given consistent.0 consistent.1
+  where
+    not_given : (domains : List Domain) → AllZip (HasDomain state) (part_of order.0 End ∷ part_of order.1 Start ∷ []) domains → ⊥
+    not_given [] zip = zip
+    not_given (domain ∷ domains) zip = no_part model built.roots state closed.is_state order.0 End domain zip.0

@@ -1,17 +1,17 @@
 //! Whether a decision may be taken.
 
-ghost use Rattle.std.specs.Prelude.{◌≡◌, ℕ, ℤ, ◌↔◌, IsTrue, Contains};
+ghost use Rattle.std.specs.Prelude.{◌≡◌, ℤ, ◌↔◌, IsTrue, Contains};
 ghost use Rattle.domain_core.specs.Domain.{Domain, Has};
 ghost use Rattle.eu_name.specs.declared.name.VarName.TheVariants as VarName;
-ghost use Rattle.model_core.specs.Lawful.{IsLawful, IsBuilt};
+ghost use Rattle.model_core.specs.Lawful.{IsBuilt};
 ghost use Rattle.model_core.specs.declared.decision.Decision.TheVariants.{Specify};
 ghost use Rattle.model_core.specs.declared.variable.Base.TheVariants.{Given};
 ghost use Rattle.model_core.specs.State.{State, IsState};
 ghost use Rattle.plan_db.specs.Kept.{IsGiven};
 ghost use Rattle.plan_db.specs.Database.{Finds};
 
-use super::domains::specified_global;
 use super::fault::DbFault;
+use super::least::specified_global;
 use model_core::decision::Decision;
 use model_core::model::Model;
 use model_core::variable::Base;

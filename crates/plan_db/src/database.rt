@@ -8,8 +8,9 @@ ghost use Rattle.plan_db.specs.Kept.{outcome_where};
 ghost use Rattle.plan_db.specs.Database.{IsSound, HasLeast, HasCollapsed, Applies, TakesBack, IsTold, IsUntold};
 
 use super::checks::check;
-use super::domains::least_domains;
 use super::fault::{DbFault, Outcome, QueryFault};
+use super::least::least_net;
+use constraint_net::net::Net;
 use decision_log::LogFault;
 use decision_log::log::Log;
 use domain_core::domain::Dom;
@@ -25,7 +26,7 @@ pub struct Db {
     model: Model,
     log: Log,
     // The least state of the standing decisions; None where they collapse.
-    domains: Option<Vec<Dom>>,
+    net: Option<Net>,
 }
 
 impl marker::Model for Db {
@@ -41,7 +42,7 @@ impl marker::Model for Db {
 
     ghost view = { λ db. record { model = db.model; history = db.log } };
 
-    ghost invariant = { λ db. IsKept db.model db.log db.domains };
+    ghost invariant = { λ db. IsKept db.model db.log db.net };
 }
 
 impl Db {
@@ -52,12 +53,8 @@ impl Db {
         ensures { IfOk result (λ db. (db ≡ record { model = model; history = [] ∷ [] }) × IsSound db) }
     {
         let log = Log::new(alloc);
-        let domains = least_domains(alloc, &model, log.standing())?;
-        Ok(Db {
-            model,
-            log,
-            domains,
-        })
+        let net = least_net(alloc, &model, log.standing())?;
+        Ok(Db { model, log, net })
     }
 
     /// Takes a decision, and answers whether the decisions then leave something possible.
@@ -65,15 +62,15 @@ impl Db {
         ensures applied { Applies self.old decision.now result self.new }
         ensures sound { IsSound self.new }
     {
-        let Some(_least) = &self.domains else {
+        let Some(_least) = &self.net else {
             return Err(DbFault::InInconsistent);
         };
         check(&self.model, self.log.standing(), decision)?;
         self.log.push(decision.copy()?)?;
-        match least_domains(self.log.allocator(), &self.model, self.log.standing()) {
-            Ok(domains) => {
-                let outcome = outcome_of(&domains);
-                self.domains = domains;
+        match least_net(self.log.allocator(), &self.model, self.log.standing()) {
+            Ok(net) => {
+                let outcome = outcome_of(&net);
+                self.net = net;
                 Ok(outcome)
             }
             Err(_none) => {
@@ -93,11 +90,11 @@ impl Db {
             Err(LogFault::Nothing) => return Err(DbFault::Nothing),
             Err(LogFault::Memory) => return Err(DbFault::Memory),
         };
-        let domains = least_domains(self.log.allocator(), &self.model, former.as_slice())?;
+        let net = least_net(self.log.allocator(), &self.model, former.as_slice())?;
         match self.log.undo() {
             Ok(()) => {
-                let outcome = outcome_of(&domains);
-                self.domains = domains;
+                let outcome = outcome_of(&net);
+                self.net = net;
                 return Ok(outcome);
             }
             Err(LogFault::Memory) => unreachable!(),
@@ -109,17 +106,16 @@ impl Db {
     pub fn domain(&self, variable: &VarName) -> Result<&Dom, QueryFault>
         ensures { MatchResult result (λ domain. IsTold self.now variable.now domain.now) (λ fault. IsUntold self.now variable.now fault) }
     {
-        let Some(domains) = &self.domains else {
+        let Some(net) = &self.net else {
             return Err(QueryFault::Inconsistent);
         };
         let VarName::Global(number) = variable else {
             return Err(QueryFault::Unknown);
         };
-        let place = *number as usize;
-        if place >= domains.len() {
-            return Err(QueryFault::Unknown);
+        match net.get(*number as usize) {
+            Some(domain) => Ok(domain),
+            None => Err(QueryFault::Unknown),
         }
-        Ok(&domains[place])
     }
 
     /// The decisions that stand.
@@ -134,7 +130,7 @@ impl Db {
         ensures state { MatchBool result ((state : State) × HasLeast self.now state) (HasCollapsed self.now) }
         ensures sound { IsSound self.now }
     {
-        self.domains.is_some()
+        self.net.is_some()
     }
 
     /// How many steps `undo` can take back.
@@ -154,10 +150,10 @@ impl Db {
 }
 
 // Whether there is a least state.
-fn outcome_of(domains: &Option<Vec<Dom>>) -> Outcome
-    ensures { result ≡ outcome_where domains.now }
+fn outcome_of(net: &Option<Net>) -> Outcome
+    ensures { result ≡ outcome_where net.now }
 {
-    match domains {
+    match net {
         Some(_) => Outcome::Consistent,
         None => Outcome::Inconsistent,
     }

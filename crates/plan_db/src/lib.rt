@@ -3,5 +3,6 @@
 
 mod checks;
 pub mod database;
-mod domains;
 pub mod fault;
+mod least;
+mod problem_net;

@@ -13,12 +13,12 @@ use Rattle.model_core.specs.declared.item.Item.{Item}
 use Rattle.model_core.specs.declared.item.Term.TheVariants.{Global}
 use Rattle.model_core.specs.declared.variable.ValueKind.TheVariants.{Int}
 use Rattle.model_core.specs.Kinds.{OfProblem, IsOfKind}
-use Rattle.model_core.specs.Lawful.{IsBase, IsRangeVariable, IsLeqOfGlobals, IsLawfulItem, IsLawfulVariable, IsLawful}
+use Rattle.model_core.specs.Lawful.{IsBase, IsRangeVariable, IsPlain, IsOfGlobals, IsLawfulItem, IsLawfulVariable, IsLawful}
 use Rattle.model_core.specs.Naming.{names_of, builtin_names, global_names, declared_names}
 use Rattle.model_core.proofs.Distinct.{pairs_front}
 use Rattle.model_core.proofs.Items.{item_within, item_is, item_at}
 use Rattle.range_problem.specs.Lexeme.{Lexeme, Lexes, Leads}
-use Rattle.range_problem.specs.Parts.{variable_of, IsDeclarable, AreGlobals, IsLeqAmong}
+use Rattle.range_problem.specs.Parts.{variable_of, leq_of, IsLeq, IsDeclarable, AreGlobals, IsLeqAmong}
 use Rattle.range_problem.specs.Readers.{DeclaresGlobals, DeclaresTooMuch, IsConstraints}
 use Rattle.range_problem.specs.Spelling.{declaration_of, constraint_of, lexemes_of, model_of, Spells}
 use Rattle.range_problem.proofs.Lists.{variable_is, lead_split, lexes_on, lexes_join, HasNoDeclaration, declarations_on, constraints_no_declaration}
@@ -106,14 +106,17 @@ spelled_globals text model spells = record {
 
 -- ---- constraints
 
-lawful_leq : (model : Model) (item : Item) → IsLeqOfGlobals item → IsLawfulItem model OfProblem item → IsLeqAmong (length model.problem.globals) item
+lawful_leq : (model : Model) (item : Item) → IsLeq item → IsLawfulItem model OfProblem item → IsLeqAmong (length model.problem.globals) item
 lawful_leq model item (first, second, same) lawful =
     let arguments : All (IsOfKind model OfProblem Int) (Global first ∷ Global second ∷ []) = (subst (IsLawfulItem model OfProblem) same lawful).1 in
     let each = recursion_from_All (IsOfKind model OfProblem Int) (Global first ∷ Global second ∷ []) arguments in
     (first, second, item_within model.problem.globals first each.0.0 each.0.1, item_within model.problem.globals second each.1.0.0 each.1.0.1, same)
 
 pub spelled_items : (text : List ℕ) (model : Model) → Spells text model → All (IsLeqAmong (length model.problem.globals)) model.problem.items
-spelled_items text model spells = λ k d in_items. lawful_leq model _ (spells.built.constraints k d in_items) (spells.lawful.items k d in_items)
+spelled_items text model spells = λ k d in_items. lawful_leq model _ (spells.constraints k d in_items) (spells.lawful.items k d in_items)
+
+leq_plain : (item : Item) (first second : ℕ) → item ≡ leq_of first second → IsOfGlobals item
+leq_plain item first second same = subst IsOfGlobals (sym same) (All-from_recursion IsPlain (Global first ∷ Global second ∷ []) (tt, (tt, tt)))
 
 global_int : (model : Model) (number : ℕ) → All IsRangeVariable model.problem.globals → number < length model.problem.globals → IsOfKind model OfProblem Int (Global number)
 global_int model number ranges within =
@@ -178,8 +181,9 @@ spells_from text rest globals items declares constraints few = record {
   built = record {
     roots = refl;
     variables = globals_ranges globals declares.together;
-    constraints = All-weaker (IsLeqAmong (length globals)) IsLeqOfGlobals (λ item among. (among.0, among.1, among.4)) items constraints.among;
+    constraints = All-weaker (IsLeqAmong (length globals)) IsOfGlobals (λ item among. leq_plain item among.0 among.1 among.4) items constraints.among;
   };
+  constraints = All-weaker (IsLeqAmong (length globals)) IsLeq (λ item among. (among.0, among.1, among.4)) items constraints.among;
 }
 
 -- a model's declarations go on with no further one

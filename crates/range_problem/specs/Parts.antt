@@ -20,6 +20,10 @@ variable_of name domain = record { name = name; kind = Int; base = Given domain 
 abbrev pub leq_of : ℕ → ℕ → Item
 leq_of first second = Constraint Leq (Global first ∷ Global second ∷ [])
 
+-- the item is such a constraint
+abbrev pub IsLeq : Item → Type 0
+IsLeq item = (first second : ℕ) × (item ≡ leq_of first second)
+
 -- a file may declare the name
 pub record IsFree (name : List ℕ) : Type 0 where
   pub word : IsName name

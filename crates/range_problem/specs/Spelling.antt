@@ -13,6 +13,7 @@ use Rattle.model_core.specs.declared.item.Term.TheVariants.{Global}
 use Rattle.model_core.specs.Lawful.{IsLawful, IsBuilt}
 use Rattle.model_core.specs.Naming.{global_names}
 use Rattle.range_problem.specs.Lexeme.{Lexeme, Word, Number, Mark, Lexes}
+use Rattle.range_problem.specs.Parts.{IsLeq}
 
 -- `[least greatest]`
 abbrev pub range_of : Base → List Lexeme
@@ -53,6 +54,7 @@ pub record Spells (text : List ℕ) (model : Model) : Type 0 where
   pub lexemes : Lexes text (lexemes_of model)
   pub lawful : IsLawful model
   pub built : IsBuilt model
+  pub constraints : All IsLeq model.problem.items
 
 -- a text spells at most one model
 abbrev pub SpellsAtMostOne : Type 0

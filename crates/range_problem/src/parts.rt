@@ -1,8 +1,7 @@
 //! The parts of a problem: declarations of variables, and constraints.
 
-ghost use Rattle.std.specs.Prelude.{◌≡◌, ◌<◌, ◌≤◌, ◌↔◌, ℕ, [], ◌∷◌, Contains, IfNone, IfSome, IsTrue, List, MatchOption, length, slice_index_or};
+ghost use Rattle.std.specs.Prelude.{◌≡◌, ◌<◌, ◌≤◌, ◌↔◌, ℕ, [], Contains, IfNone, IfSome, IsTrue, List, MatchOption, length, slice_index_or};
 ghost use Rattle.domain_core.specs.Domain.{Domain, IsDomain, IsRange};
-ghost use Rattle.model_core.specs.declared.variable.Base.{Base};
 ghost use Rattle.model_core.specs.declared.variable.Base.TheVariants.{Given};
 ghost use Rattle.model_core.specs.declared.variable.VarDecl.{VarDecl};
 ghost use Rattle.range_problem.specs.Lexeme.{Word, Begins, Leads};

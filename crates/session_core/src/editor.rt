@@ -1,6 +1,6 @@
 //! Editing a plan by the lines of a script.
 
-ghost use Rattle.std.specs.Prelude.{◌≡◌, [], ◌∷◌, IfOk};
+ghost use Rattle.std.specs.Prelude.{◌≡◌, IfOk};
 ghost use Rattle.script_lang.specs.Number.{IsNumber, number_of};
 ghost use Rattle.session_core.specs.Replies.{CommandReplies, SpecifyReplies, HasNumbers, StandsFor};
 

@@ -9,7 +9,7 @@ use Rattle.plan_db.specs.Database.{Database, Finds, Applies}
 use Rattle.plan_defs.specs.History.{IsHistory}
 use Rattle.plan_db.proofs.Keeping.{least_kept, collapsed_kept, refused, admissible, IsHistory-accepted, outcome_is, pop_after_push}
 use Rattle.plan_db.proofs.database.Db.apply.Goals as goal
-use Rattle.plan_db.proofs.database.Db.apply.Goals.{Joined-self-domains, Joined-pop}
+use Rattle.plan_db.proofs.database.Db.apply.Goals.{Joined-self-net, Joined-pop}
 
 pub returns-in_default-clause-applied : goal.returns-in_default-clause-applied
 returns-in_default-clause-applied c = rw (← c.self.view_is) (refl, collapsed_kept _ _ _ c.self.invariant c.in_default.is)
@@ -20,27 +20,27 @@ returns-in_err-check-clause-applied c =
     let database : Database = record { model = c.self.inside.model; history = c.self.inside.log } in
     let least = least_kept _ _ _ c.self.invariant c.in-Some._least c.in-Some.is in
     let fault = c.in_err-check.field-0.0 in
-    let finds = subst (λ list. Finds c.self.inside.model list (state_of c.in-Some._least.items) c.args.decision.now (Err fault)) c.standing.ensures (c.in_err-check.ensures (state_of c.in-Some._least.items) least.closed.is_state) in
-    rw (p.1, p.2) (subst (λ db. Applies db c.args.decision.now (Err fault) db) c.self.view_is (refused database c.args.decision.now (state_of c.in-Some._least.items) fault least finds))
+    let finds = subst (λ list. Finds c.self.inside.model list (state_of c.in-Some._least.domains) c.args.decision.now (Err fault)) c.standing.ensures (c.in_err-check.ensures (state_of c.in-Some._least.domains) least.closed.is_state) in
+    rw (p.1, p.2) (subst (λ db. Applies db c.args.decision.now (Err fault) db) c.self.view_is (refused database c.args.decision.now (state_of c.in-Some._least.domains) fault least finds))
 
 -- the decision is admissible, as the tests found nothing against it
-accepts : (c : Joined-self-domains) → IsAdmissible c.self.inside.model (standing c.self.inside.log) c.args.decision.now
+accepts : (c : Joined-self-net) → IsAdmissible c.self.inside.model (standing c.self.inside.log) c.args.decision.now
 accepts c =
     let database : Database = record { model = c.self.inside.model; history = c.self.inside.log } in
     let least = least_kept _ _ _ c.self.invariant c.in-Some._least c.in-Some.is in
-    let finds = subst (λ list. Finds c.self.inside.model list (state_of c.in-Some._least.items) c.args.decision.now (Ok tt)) c.standing.ensures (c.in_ok-check.ensures (state_of c.in-Some._least.items) least.closed.is_state) in
-    admissible database c.args.decision.now (state_of c.in-Some._least.items) least finds
+    let finds = subst (λ list. Finds c.self.inside.model list (state_of c.in-Some._least.domains) c.args.decision.now (Ok tt)) c.standing.ensures (c.in_ok-check.ensures (state_of c.in-Some._least.domains) least.closed.is_state) in
+    admissible database c.args.decision.now (state_of c.in-Some._least.domains) least finds
 
 -- the log has one decision more
-logged : (c : Joined-self-domains) → c.push.new.self ≡ accepted c.self.inside.log c.args.decision.now
+logged : (c : Joined-self-net) → c.push.new.self ≡ accepted c.self.inside.log c.args.decision.now
 logged c = c.in_ok-push.ensures.ok ∙ ap (accepted c.self.inside.log) c.in_ok-copy.ensures
 
-keeps : (c : Joined-self-domains) → IsKept c.self.inside.model c.push.new.self c.in-Ok.domains
+keeps : (c : Joined-self-net) → IsKept c.self.inside.model c.push.new.self c.in-Ok.net
 keeps c = record {
   lawful = c.self.invariant.lawful;
   built = c.self.invariant.built;
   history_is = subst (IsHistory c.self.inside.model) (sym (logged c)) (IsHistory-accepted c.self.inside.model c.self.inside.log c.args.decision.now c.self.invariant.history_is (accepts c));
-  state = subst (λ list. MatchOption c.in-Ok.domains (IsCollapsed c.self.inside.model list) (λ domains. IsLeast c.self.inside.model list (state_of domains.items))) c.standing-2.ensures c.in-Ok.ensures;
+  state = subst (λ list. MatchOption c.in-Ok.net (IsCollapsed c.self.inside.model list) (λ net. IsLeast c.self.inside.model list (state_of net.domains))) c.standing-2.ensures c.in-Ok.ensures;
 }
 
 pub invariant_of-self-in-Ok : goal.invariant_of-self-in-Ok
@@ -50,7 +50,7 @@ pub returns-in-Ok-clause-applied : goal.returns-in-Ok-clause-applied
 returns-in-Ok-clause-applied c =
     let database : Database = record { model = c.self.inside.model; history = c.push.new.self } in
     rw (← c.self.view_is, c.outcome_of-outcome.ensures)
-    (accepts c, ap (λ history. record { model = c.self.inside.model; history = history }) (logged c), outcome_is database c.in-Ok.domains (keeps c).state)
+    (accepts c, ap (λ history. record { model = c.self.inside.model; history = history }) (logged c), outcome_is database c.in-Ok.net (keeps c).state)
 
 pub returns-in-Ok-clause-sound : goal.returns-in-Ok-clause-sound
 returns-in-Ok-clause-sound c = record { lawful = (keeps c).lawful; built = (keeps c).built; history = (keeps c).history_is }
@@ -60,7 +60,7 @@ restored : (c : Joined-pop) → c.pop.new.self ≡ c.self.inside.log
 restored c = pop_after_push c.self.inside.log c.push.new.self c.pop.new.self c.args.decision.now c.pop.result (c.in_ok-push.ensures.ok ∙ ap (accepted c.self.inside.log) c.in_ok-copy.ensures) c.pop.ensures
 
 pub invariant_of-self-in-Err : goal.invariant_of-self-in-Err
-invariant_of-self-in-Err c = subst (λ history. IsKept c.self.inside.model history c.self.inside.domains) (sym (restored c)) c.self.invariant
+invariant_of-self-in-Err c = subst (λ history. IsKept c.self.inside.model history c.self.inside.net) (sym (restored c)) c.self.invariant
 
 pub returns-in-Err-clause-applied : goal.returns-in-Err-clause-applied
 returns-in-Err-clause-applied c = ap (λ history. record { model = c.self.inside.model; history = history }) (restored c) ∙ c.self.view_is

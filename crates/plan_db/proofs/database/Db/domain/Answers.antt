@@ -1,6 +1,5 @@
-use Rattle.std.proofs.Common.{◌<◌, ◌≤◌, length, arith}
 use Rattle.plan_db.specs.Kept.{state_of}
-use Rattle.plan_db.proofs.Keeping.{least_kept, collapsed_kept, ungiven_other, ungiven_past, given_within}
+use Rattle.plan_db.proofs.Keeping.{least_kept, collapsed_kept, ungiven_other, ungiven_past, given_there}
 use Rattle.plan_db.proofs.database.Db.domain.Goals as goal
 
 pub returns-in_default : goal.returns-in_default
@@ -9,25 +8,23 @@ returns-in_default c = rw (← c.self.view_is) (collapsed_kept _ _ _ c.self.inva
 pub returns-in_default-variable : goal.returns-in_default-variable
 returns-in_default-variable c =
     rw (← c.self.view_is) (
-      state_of c.in-Some.domains.items,
-      least_kept _ _ _ c.self.invariant c.in-Some.domains c.in-Some.is,
-      ungiven_other c.in-Some.domains.items c.args.variable.now c.in_default-variable.not-Global,
+      state_of c.in-Some.net.domains,
+      least_kept _ _ _ c.self.invariant c.in-Some.net c.in-Some.is,
+      ungiven_other c.in-Some.net.domains c.args.variable.now c.in_default-variable.not-Global,
     )
 
-pub returns-then-place-len : goal.returns-then-place-len
-returns-then-place-len c =
-    let past : length c.in-Some.domains.items ≤ c.in-Global.number = omega (arith, c.len.ensures, c.in-Some.domains.ok.0) in
+pub returns-in-None : goal.returns-in-None
+returns-in-None c =
     rw (← c.self.view_is) (
-      state_of c.in-Some.domains.items,
-      least_kept _ _ _ c.self.invariant c.in-Some.domains c.in-Some.is,
-      ungiven_past c.in-Some.domains.items c.args.variable.now c.in-Global.number c.in-Global.is past,
+      state_of c.in-Some.net.domains,
+      least_kept _ _ _ c.self.invariant c.in-Some.net c.in-Some.is,
+      ungiven_past c.in-Some.net.domains c.args.variable.now c.in-Global.number c.in-Global.is c.in-None.ensures,
     )
 
-pub returns : goal.returns
-returns c =
-    let within : c.in-Global.number < length c.in-Some.domains.items = omega (arith, c.len.ensures, c.in-Some.domains.ok.0) in
+pub returns-in-Some-get : goal.returns-in-Some-get
+returns-in-Some-get c =
     rw (← c.self.view_is) (
-      state_of c.in-Some.domains.items,
-      least_kept _ _ _ c.self.invariant c.in-Some.domains c.in-Some.is,
-      given_within c.in-Some.domains.items c.args.variable.now c.in-Global.number c.index.result.now c.in-Global.is within c.index.ensures,
+      state_of c.in-Some.net.domains,
+      least_kept _ _ _ c.self.invariant c.in-Some.net c.in-Some.is,
+      given_there c.in-Some.net.domains c.args.variable.now c.in-Global.number c.in-Some-get.domain.now c.in-Global.is c.in-Some-get.ensures,
     )

@@ -4,14 +4,14 @@ use Rattle.plan_defs.specs.Closure.{IsLeast, IsCollapsed}
 use Rattle.plan_defs.specs.History.{IsHistory}
 use Rattle.plan_db.specs.Kept.{IsKept, state_of}
 use Rattle.plan_db.proofs.database.Db.new.Goals as goal
-use Rattle.plan_db.proofs.database.Db.new.Goals.{In_ok-domains}
+use Rattle.plan_db.proofs.database.Db.new.Goals.{In_ok-net}
 
-keeps : (c : In_ok-domains) → IsKept c.args.model c.new-log.result c.in_ok-domains.domains
+keeps : (c : In_ok-net) → IsKept c.args.model c.new-log.result c.in_ok-net.net
 keeps c = record {
   lawful = c.requires.lawful;
   built = c.requires.built;
   history_is = subst (IsHistory c.args.model) (sym c.new-log.ensures) refl;
-  state = subst (λ list. MatchOption c.in_ok-domains.domains (IsCollapsed c.args.model list) (λ domains. IsLeast c.args.model list (state_of domains.items))) c.standing.ensures c.in_ok-domains.ensures;
+  state = subst (λ list. MatchOption c.in_ok-net.net (IsCollapsed c.args.model list) (λ net. IsLeast c.args.model list (state_of net.domains))) c.standing.ensures c.in_ok-net.ensures;
 }
 
 pub invariant_of-result : goal.invariant_of-result

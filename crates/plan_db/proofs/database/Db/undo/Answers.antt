@@ -13,7 +13,7 @@ returns-in-Err-Nothing-clause-undone c =
     (refl, subst (λ db. db.history ≡ [] ∷ []) c.self.view_is (first_history c.self.inside.model c.self.inside.log c.self.invariant.history_is one))
 
 -- the state that was computed before is that of the list that stands then
-keeps : (c : After-drop-former-inside-in-Ok-undo) → IsKept c.self.inside.model c.undo.new.self c.in_ok-domains.domains
+keeps : (c : After-drop-former-inside-in-Ok-undo) → IsKept c.self.inside.model c.undo.new.self c.in_ok-net.net
 keeps c =
     let model = c.self.inside.model in
     let old = c.self.inside.log in
@@ -26,7 +26,7 @@ keeps c =
       lawful = c.self.invariant.lawful;
       built = c.self.invariant.built;
       history_is = IsHistory-below model old new c.in-Ok.decisions copied.0 c.self.invariant.history_is copied.1 undone.3;
-      state = subst (λ decisions. MatchOption c.in_ok-domains.domains (IsCollapsed model decisions) (λ domains. IsLeast model decisions (state_of domains.items))) list c.in_ok-domains.ensures;
+      state = subst (λ decisions. MatchOption c.in_ok-net.net (IsCollapsed model decisions) (λ net. IsLeast model decisions (state_of net.domains))) list c.in_ok-net.ensures;
     }
 
 pub invariant_of-self : goal.invariant_of-self
@@ -36,4 +36,4 @@ pub returns-in-Ok-undo-clause-undone : goal.returns-in-Ok-undo-clause-undone
 returns-in-Ok-undo-clause-undone c =
     let database : Database = record { model = c.self.inside.model; history = c.undo.new.self } in
     rw (← c.self.view_is, c.outcome_of-outcome.ensures)
-    (refl, c.in-Ok-undo.ensures.3, outcome_is database c.in_ok-domains.domains (keeps c).state)
+    (refl, c.in-Ok-undo.ensures.3, outcome_is database c.in_ok-net.net (keeps c).state)

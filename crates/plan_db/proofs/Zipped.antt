@@ -1,0 +1,49 @@
+-- Two lists whose items at the same places are related.
+use Rattle.std.proofs.Common.{◌≡◌, ℕ, suc, zero, ◌<◌, List, [], ◌∷◌, ◌++◌, length, Some, refl, ap, subst, arith}
+use Rattle.std.specs.Prelude.{slice_get}
+use Rattle.std.specs.List.{AllZip}
+
+module _ {X Y : Type 0} (R : X → Y → Type 0) where
+  pub zip_left : (xs : List X) (ys : List Y) (k : ℕ) (x : X) → AllZip R xs ys → slice_get xs k ≡ Some x → (y : Y) × (slice_get ys k ≡ Some y) × R x y
+  zip_left [] ys k x all at = absurd (cc)
+  zip_left (first ∷ xs) [] k x all at = absurd all
+  zip_left (first ∷ xs) (other ∷ ys) zero x all at = let same : first ≡ x = cc in (other, refl, subst (λ z. R z other) same all.0)
+  zip_left (first ∷ xs) (other ∷ ys) (suc k) x all at = zip_left xs ys k x all.1 at
+
+  pub zip_right : (xs : List X) (ys : List Y) (k : ℕ) (y : Y) → AllZip R xs ys → slice_get ys k ≡ Some y → (x : X) × (slice_get xs k ≡ Some x) × R x y
+  zip_right xs [] k y all at = absurd (cc)
+  zip_right [] (other ∷ ys) k y all at = absurd all
+  zip_right (first ∷ xs) (other ∷ ys) zero y all at = let same : other ≡ y = cc in (first, refl, subst (R first) same all.0)
+  zip_right (first ∷ xs) (other ∷ ys) (suc k) y all at = zip_right xs ys k y all.1 at
+
+  pub zip_from : (xs : List X) (ys : List Y) → length xs ≡ length ys → ((k : ℕ) (x : X) (y : Y) → slice_get xs k ≡ Some x → slice_get ys k ≡ Some y → R x y) → AllZip R xs ys
+  zip_from [] [] long at = tt
+  zip_from [] (y ∷ ys) long at = absurd (omega arith)
+  zip_from (x ∷ xs) [] long at = absurd (omega arith)
+  zip_from (x ∷ xs) (y ∷ ys) long at = (at 0 x y refl refl, zip_from xs ys (omega arith) (λ k. at (suc k)))
+
+  pub zip_length : (xs : List X) (ys : List Y) → AllZip R xs ys → length xs ≡ length ys
+  zip_length [] [] all = refl
+  zip_length [] (y ∷ ys) all = absurd all
+  zip_length (x ∷ xs) [] all = absurd all
+  zip_length (x ∷ xs) (y ∷ ys) all = ap suc (zip_length xs ys all.1)
+
+  pub zip_push : (xs : List X) (ys : List Y) (x : X) (y : Y) → AllZip R xs ys → R x y → AllZip R (xs ++ x ∷ []) (ys ++ y ∷ [])
+  zip_push [] [] x y all last = (last, tt)
+  zip_push [] (other ∷ ys) x y all last = absurd all
+  zip_push (first ∷ xs) [] x y all last = absurd all
+  zip_push (first ∷ xs) (other ∷ ys) x y all last = (all.0, zip_push xs ys x y all.1 last)
+
+at_places : {X : Type 0} (P : ℕ → X → Type 0) (first : X) (rest : List X) → P 0 first → ((k : ℕ) (x : X) → slice_get rest k ≡ Some x → P (suc k) x)
+    → (k : ℕ) (x : X) → slice_get (first ∷ rest) k ≡ Some x → P k x
+at_places P first rest here later zero x e = let same : first ≡ x = cc in subst (P 0) same here
+at_places P first rest here later (suc k) x e = later k x e
+
+-- so many items, each found on its own, are a list
+pub collected : {X : Type 0} (P : ℕ → X → Type 0) (count : ℕ) → ((k : ℕ) → k < count → (x : X) × P k x)
+    → (xs : List X) × (length xs ≡ count) × ((k : ℕ) (x : X) → slice_get xs k ≡ Some x → P k x)
+collected P zero find = ([], refl, λ k x at. absurd (cc))
+collected P (suc count) find =
+    let first = find 0 (omega arith) in
+    let rest = collected (λ k. P (suc k)) count (λ k below. find (suc k) (omega arith)) in
+    (first.0 ∷ rest.0, ap suc rest.1, at_places P first.0 rest.0 first.1 rest.2)

@@ -1,0 +1,62 @@
+-- The network of a problem, and what the decisions leave of it.
+use Rattle.std.specs.Prelude.{◌≡◌, List, [], ◌∷◌, ◌++◌, length, All, Contains, ⊤, Result, Ok, Err}
+use Rattle.std.specs.List.{AllZip}
+use Rattle.domain_core.specs.Domain.{Domain, IsDomain}
+use Rattle.model_core.specs.declared.decision.Decision.{Decision}
+use Rattle.model_core.specs.declared.item.Item.{Item}
+use Rattle.model_core.specs.declared.item.Item.TheVariants as items
+use Rattle.model_core.specs.declared.item.Term.{Term}
+use Rattle.model_core.specs.declared.item.Term.TheVariants as terms
+use Rattle.model_core.specs.declared.model.Model.{Model}
+use Rattle.plan_defs.specs.Closure.{IsRespected, IsLeast, IsCollapsed}
+use Rattle.constraint_net.specs.Networks.{Network, CanPost}
+use Rattle.constraint_net.specs.declared.NetFault.{NetFault}
+use Rattle.constraint_net.specs.declared.NetFault.TheVariants.{Collapsed, Memory}
+use Rattle.constraint_net.specs.declared.constraint.Constraint.{Constraint}
+use Rattle.constraint_net.specs.declared.constraint.NetArg.{NetArg}
+use Rattle.constraint_net.specs.declared.constraint.NetArg.TheVariants.{Var, Lit}
+use Rattle.plan_db.specs.Kept.{state_of, AreBases}
+
+-- the argument is what the term means: a value, or the variable that has the global's number
+abbrev pub IsArgOf : Term → NetArg → Type 0
+IsArgOf (terms.Lit value) arg = arg ≡ Lit value
+IsArgOf (terms.Global number) arg = arg ≡ Var number
+IsArgOf term arg = ⊥
+
+-- the item can be posted in the network
+abbrev pub IsPostable : Network → Item → Type 0
+IsPostable net (items.Constraint kind terms) = (args : List NetArg) × AllZip IsArgOf terms args × CanPost net.tables (length net.domains) kind args
+IsPostable net (items.Relation relation slot) = ⊥
+
+-- the constraint is the one that the item says
+abbrev pub IsPosted : Item → Constraint → Type 0
+IsPosted (items.Constraint kind terms) constraint = (constraint.kind ≡ kind) × AllZip IsArgOf terms constraint.args
+IsPosted (items.Relation relation slot) constraint = ⊥
+
+-- the item's constraint stands behind those that were posted before
+abbrev pub PostsItem : Network → Item → Network → Type 0
+PostsItem old item new = (constraint : Constraint) × IsPosted item constraint × (new ≡ record old { constraints = old.constraints ++ constraint ∷ [] })
+
+-- so do the constraints of all items, in order
+abbrev pub PostsAll : Network → List Item → Network → Type 0
+PostsAll old items new = (posted : List Constraint) × AllZip IsPosted items posted × (new ≡ record old { constraints = old.constraints ++ posted })
+
+-- the network of a problem: a variable for each global, with its base, and the constraints in order
+pub record IsNetOf (model : Model) (net : Network) : Type 0 where
+  pub bases : AreBases model net.domains
+  pub domains : All IsDomain net.domains
+  pub posted : AllZip IsPosted model.problem.items net.constraints
+
+-- in these domains of the globals the decision is granted
+abbrev pub Grants : Decision → List Domain → Type 0
+Grants decision domains = IsRespected decision (state_of domains)
+
+-- all decisions are
+abbrev pub GrantsAll : List Decision → List Domain → Type 0
+GrantsAll decisions domains = (decision : Decision) → Contains decisions decision → Grants decision domains
+
+-- what the decisions leave: the network's domains are the least state, or there is none; want of memory says nothing
+abbrev pub Leaves : Model → List Decision → Result Network NetFault → Type 0
+Leaves model decisions (Ok net) = IsLeast model decisions (state_of net.domains)
+Leaves model decisions (Err Collapsed) = IsCollapsed model decisions
+Leaves model decisions (Err Memory) = ⊤
