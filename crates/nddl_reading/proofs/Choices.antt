@@ -49,9 +49,6 @@ pub either_begins : {X : Type 0} {P Q : X → List Symbol → Type 0} (test : So
 either_begins test one other x word (inl is) = one x word is
 either_begins test one other x word (inr is) = other x word is
 
-pub begins_less : {X : Type 0} (P : X → List Symbol → Type 0) (test wide : Sort → Bool) → ((sort : Sort) → test sort ≡ true → wide sort ≡ true) → BeginsWith P test → BeginsWith P wide
-begins_less P test wide less begin x word is = let head = begin x word is in (head.0, head.1, head.2, less head.0.sort head.3)
-
 -- ---- what may follow
 
 pub none_goes_on : (symbols : List Symbol) → begins no_more symbols ≡ false
@@ -67,19 +64,6 @@ pub follows_apart : {Y : Type 0} (Q : Y → List Symbol → Type 0) (more_x more
 follows_apart Q more_x more test begin apart y word after is out =
     let head = begin y word is in
     subst (λ (list : List Symbol). begins more_x (list ++ after) ≡ false) (sym head.2) (apart head.0.sort head.3)
-
--- the same, where the second part may be empty
-pub follows_or_none : {Y : Type 0} (Q : Y → List Symbol → Type 0) (more_x more test : Sort → Bool)
-    → ((y : Y) (word : List Symbol) → Q y word → (word ≡ []) ⊎ ((symbol : Symbol) × (after : List Symbol) × (word ≡ symbol ∷ after) × (test symbol.sort ≡ true)))
-    → ((sort : Sort) → test sort ≡ true → more_x sort ≡ false) → ((sort : Sort) → more sort ≡ false → more_x sort ≡ false) → Follows Q more_x more
-follows_or_none {Y = Y} Q more_x more test begin apart less y word after is out = by (begin y word is) where
-  goes : (list : List Symbol) → begins more list ≡ false → begins more_x list ≡ false
-  goes [] p = refl
-  goes (c ∷ list) p = less c.sort p
-
-  by : (word ≡ []) ⊎ ((symbol : Symbol) × (rest : List Symbol) × (word ≡ symbol ∷ rest) × (test symbol.sort ≡ true)) → begins more_x (word ++ after) ≡ false
-  by (inl none) = subst (λ (list : List Symbol). begins more_x (list ++ after) ≡ false) (sym none) (goes after out)
-  by (inr head) = subst (λ (list : List Symbol). begins more_x (list ++ after) ≡ false) (sym head.2) (apart head.0.sort head.3)
 
 -- ---- choices whose second language may begin as the first does
 
@@ -179,11 +163,6 @@ may_mark_exact sort = relabelled_exact (May sort) no_blocks
     (λ x word h. elim h as (λ f. MayMark sort word) [ inl m ↦ inl m | inr e ↦ inr e.1 ])
     (λ x word h. elim h as (λ f. IsMark sort word ⊎ EmptyFor tt x word) [ inl m ↦ inl m | inr e ↦ inr (refl, e) ])
     (λ x. refl)
-
--- a mark that may be there begins nothing else
-pub may_begins : (sort : Sort) (nil : Unit {0}) (word : List Symbol) → MayMark sort word → (word ≡ []) ⊎ ((symbol : Symbol) × (after : List Symbol) × (word ≡ symbol ∷ after) × (is sort symbol.sort ≡ true))
-may_begins sort nil word (inl there) = inr (mark_begins sort (is sort) (is_same sort) nil word there)
-may_begins sort nil word (inr none) = inl none
 
 pub after_exact : {X : Type 0} {P : X → List Symbol → Type 0} {dx : X → Option ℕ} {more : Sort → Bool} {one : List Symbol → Outcome X} (sort : Sort) → IsExact P dx more one
     → IsExact (λ x. IsMark sort · P x) dx more (after sort one)

@@ -56,6 +56,3 @@ earlier_some one other at p = subst (λ (first : Option ℕ). earlier first othe
 
 pub earlier_second : (one other : Option ℕ) → one ≡ None → earlier one other ≡ other
 earlier_second one other p = subst (λ (first : Option ℕ). earlier first other ≡ other) (sym p) refl
-
-pub if_at_some : (one : Option ℕ) (at : ℕ) → one ≡ Some at → IfAt one at
-if_at_some one at p = subst (λ (first : Option ℕ). IfAt first at) (sym p) refl
