@@ -23,12 +23,14 @@ use Rattle.nddl_ast.specs.declared.declaration.Set.{Set}
 use Rattle.nddl_ast.specs.declared.declaration.Set.TheVariants as sets
 use Rattle.nddl_ast.specs.declared.declaration.Member.{Member}
 use Rattle.nddl_ast.specs.declared.declaration.Member.TheVariants as members
-use Rattle.nddl_parser.specs.Grammar.{IsName, IsPath, IsInit, IsBase, IsBounds, IsType, IsTyped, IsCall, IsPart, IsSet, IsMember}
-use Rattle.nddl_parser.specs.Productions.{begins_type, part_after, part_named, part, field_set, super_set, set_item, begins_set, predicate, constructor_after, member_after, member_named, member}
-use Rattle.nddl_parser.proofs.Flat.{front_starts, flat, refuses, apart, ◌>>◌, closed}
-use Rattle.nddl_parser.proofs.ExactExpressions.{name_exact, name_begins, path_begins, more_path, init_exact}
-use Rattle.nddl_parser.proofs.ExactStatements.{to_left, to_right, in_front, typed_exact, typed_begins, IsField, field_exact, field_begins, FieldParts, field_with, field_after_exact, field_after_begins, IsCallEnd, call_end_exact, call_end_begins, DottedParts, dotted_with, dotted_after_exact, dotted_begins, call_with, call_after_exact, path_of_name, name_of_path, call_to, call_from}
-use Rattle.nddl_parser.proofs.ExactPlain.{any, starts_not}
+use Rattle.nddl_statements.specs.Grammar.{IsName, IsPath, IsInit, IsBase, IsBounds, IsType, IsTyped, IsCall}
+use Rattle.nddl_parser.specs.Grammar.{IsPart, IsSet, IsMember}
+use Rattle.nddl_statements.specs.Productions.{begins_type}
+use Rattle.nddl_parser.specs.Productions.{part_after, part_named, part, field_set, super_set, set_item, begins_set, predicate, constructor_after, member_after, member_named, member}
+use Rattle.nddl_statements.proofs.Flat.{front_starts, flat, refuses, apart, ◌>>◌, closed}
+use Rattle.nddl_statements.proofs.ExactExpressions.{name_exact, name_begins, path_begins, more_path, init_exact}
+use Rattle.nddl_statements.proofs.ExactStatements.{to_left, to_right, in_front, typed_exact, typed_begins, IsField, field_exact, field_begins, FieldParts, field_with, field_after_exact, field_after_begins, IsCallEnd, call_end_exact, call_end_begins, DottedParts, dotted_with, dotted_after_exact, dotted_begins, call_with, call_after_exact, path_of_name, name_of_path, call_to, call_from}
+use Rattle.nddl_statements.proofs.ExactPlain.{any, starts_not}
 
 -- ---- fields behind a name
 

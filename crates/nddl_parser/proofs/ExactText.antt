@@ -16,15 +16,16 @@ use Rattle.nddl_ast.specs.declared.declaration.Member.{Member}
 use Rattle.nddl_ast.specs.declared.declaration.Decl.{Decl}
 use Rattle.nddl_ast.specs.declared.declaration.Decl.TheVariants as decls
 use Rattle.nddl_ast.specs.Tree.{Braces}
-use Rattle.nddl_parser.specs.declared.statements.SimpleStmt.{SimpleStmt}
-use Rattle.nddl_parser.specs.declared.statements.SimpleStmt.TheVariants as plains
-use Rattle.nddl_parser.specs.Grammar.{IsName, IsType, IsVariable, IsBlock, IsMember, IsFile, IsParent, IsDecl, IsText, deep_decl, deep_text}
+use Rattle.nddl_statements.specs.declared.statements.SimpleStmt.{SimpleStmt}
+use Rattle.nddl_statements.specs.declared.statements.SimpleStmt.TheVariants as plains
+use Rattle.nddl_statements.specs.Grammar.{IsName, IsType, IsVariable, IsBlock}
+use Rattle.nddl_parser.specs.Grammar.{IsMember, IsFile, IsParent, IsDecl, IsText, deep_decl, deep_text}
 use Rattle.nddl_parser.specs.Productions.{begins_member, file, include, enumeration, typedef, parent, class_body, class_after, class, rule_after, decl_of, decl_after, decl_named, decl, begins_decl, text}
-use Rattle.nddl_parser.proofs.Flat.{Starts, front_starts, flat, refuses, apart, ◌>>◌, closed}
-use Rattle.nddl_parser.proofs.ExactExpressions.{name_exact, name_begins}
-use Rattle.nddl_parser.proofs.ExactStatements.{aside_empty, more_bounds, type_exact, variable_exact, variable_begins, PlainAfter, plain_after_exact, plain_after_begins, IsPlain}
-use Rattle.nddl_parser.proofs.ExactPlain.{any, plain_to, plain_from}
-use Rattle.nddl_parser.proofs.ExactNested.{nested_exact, not_that}
+use Rattle.nddl_statements.proofs.Flat.{Starts, front_starts, flat, refuses, apart, ◌>>◌, closed}
+use Rattle.nddl_statements.proofs.ExactExpressions.{name_exact, name_begins}
+use Rattle.nddl_statements.proofs.ExactStatements.{aside_empty, more_bounds, type_exact, variable_exact, variable_begins, PlainAfter, plain_after_exact, plain_after_begins, IsPlain}
+use Rattle.nddl_statements.proofs.ExactPlain.{any, plain_to, plain_from}
+use Rattle.nddl_statements.proofs.ExactNested.{nested_exact, not_that}
 use Rattle.nddl_parser.proofs.ExactDeclarations.{member_exact, member_begins}
 
 -- ---- includes, enums, typedefs

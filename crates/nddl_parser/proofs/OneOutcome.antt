@@ -15,7 +15,8 @@ use Rattle.nddl_ast.specs.Tree.{Statements, Nothing, Declares, Calls, Asks, Test
 use Rattle.nddl_parser.specs.declared.parse.ParseFault.{ParseFault}
 use Rattle.nddl_parser.specs.declared.parse.ParseFault.TheVariants.{Syntax, TooDeep, Memory}
 use Rattle.nddl_parser.specs.Symbols.{AreSymbols}
-use Rattle.nddl_parser.specs.Grammar.{IsText, most_nested, deep_statements, deep_decl, deep_text}
+use Rattle.nddl_statements.specs.Grammar.{deep_statements}
+use Rattle.nddl_parser.specs.Grammar.{IsText, most_nested, deep_decl, deep_text}
 use Rattle.nddl_parser.specs.Derives.{IsNotBefore, IsSyntax, IsTooDeep, IsOutcome, HasOneOutcome, HasOneTree}
 use Rattle.nddl_parser.specs.Productions.{text, begins_decl}
 use Rattle.nddl_parser.proofs.SymbolsOnce.{symbols_once}

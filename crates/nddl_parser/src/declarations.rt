@@ -5,18 +5,20 @@ ghost use Rattle.nddl_reading.specs.Readers.{Reads};
 ghost use Rattle.nddl_parser.specs.Grammar.{most_nested};
 ghost use Rattle.nddl_parser.specs.Productions.{part_after, part_named, part, field_set, super_set, set_item, begins_set, predicate, constructor_after, member_after, member_named, member, begins_member, file, include, enumeration, typedef, parent, class_body, class_after, class, rule_after, decl_of, decl_after, decl_named, decl, begins_decl, text};
 
-use super::blocks::block;
-use super::expressions::{init, name};
-use super::list;
-use super::list::Item;
-use super::statements::{SimpleStmt, call_after, call_end, dotted_after, plain_after, variable};
-use super::types::{begins_type, field, field_after, type_of};
 use eu_name::bytes::Bytes;
 use eu_name::sequence::Sequence;
-use nddl_ast::declaration::{Decl, Member, Part, Set, Typed};
+use nddl_ast::declaration::{Decl, Member, Part, Set};
 use nddl_ast::name::Name;
 use nddl_reading::cursor::{Cursor, Stop};
 use nddl_reading::sort::Sort;
+use nddl_statements::blocks::block;
+use nddl_statements::expressions::{Names, init, name};
+use nddl_statements::list;
+use nddl_statements::list::Item;
+use nddl_statements::statements::{
+    SimpleStmt, call_after, call_end, dotted_after, plain_after, variable,
+};
+use nddl_statements::types::{Formals, begins_type, field, field_after, type_of};
 
 /// How deep blocks may be nested.
 pub const MOST_NESTED: u8 = 16;
@@ -54,8 +56,14 @@ fn part(cursor: &mut Cursor<'_>) -> Result<Part, Stop>
     Ok(Part::Parameter(field(cursor)?))
 }
 
-impl Item for Part {
-    ghost use Rattle.nddl_parser.specs.Productions.{begins_type, part};
+// What stands in a predicate, one part after another.
+struct Parts;
+
+impl Item for Parts {
+    type Tree = Part;
+
+    ghost use Rattle.nddl_statements.specs.Productions.{begins_type};
+    ghost use Rattle.nddl_parser.specs.Productions.{part};
 
     ghost first = { begins_type };
 
@@ -103,7 +111,12 @@ fn set_item(cursor: &mut Cursor<'_>) -> Result<Set, Stop>
     field_set(cursor)
 }
 
-impl Item for Set {
+// What stands in a constructor, one setting after another.
+struct Sets;
+
+impl Item for Sets {
+    type Tree = Set;
+
     ghost use Rattle.nddl_parser.specs.Productions.{begins_set, set_item};
 
     ghost first = { begins_set };
@@ -130,7 +143,7 @@ fn predicate(cursor: &mut Cursor<'_>) -> Result<Member, Stop>
     let at = cursor.place_of(Sort::Predicate)?;
     let name = name(cursor)?;
     cursor.mark(Sort::BraceOpen)?;
-    let parts = list::many::<Part>(cursor)?;
+    let parts = list::many::<Parts>(cursor)?;
     cursor.mark(Sort::BraceClose)?;
     cursor.may_mark(Sort::Semicolon)?;
     Ok(Member::Predicate { at, name, parts })
@@ -142,10 +155,10 @@ fn constructor_after(cursor: &mut Cursor<'_>, first: Name) -> Result<Member, Sto
     ensures { Reads result cursor.new (constructor_after first cursor.old) }
 {
     cursor.mark(Sort::ParenOpen)?;
-    let formals = list::listed::<Typed>(cursor, Sort::Comma)?;
+    let formals = list::listed::<Formals>(cursor, Sort::Comma)?;
     cursor.mark(Sort::ParenClose)?;
     cursor.mark(Sort::BraceOpen)?;
-    let sets = list::many::<Set>(cursor)?;
+    let sets = list::many::<Sets>(cursor)?;
     cursor.mark(Sort::BraceClose)?;
     Ok(Member::Constructor {
         name: first,
@@ -187,7 +200,12 @@ fn member(cursor: &mut Cursor<'_>) -> Result<Member, Stop>
     Ok(Member::Field(field(cursor)?))
 }
 
-impl Item for Member {
+// What stands in a class, one member after another.
+struct Members;
+
+impl Item for Members {
+    type Tree = Member;
+
     ghost use Rattle.nddl_parser.specs.Productions.{begins_member, member};
 
     ghost first = { begins_member };
@@ -235,7 +253,7 @@ fn enumeration(cursor: &mut Cursor<'_>) -> Result<Decl, Stop>
     let at = cursor.place_of(Sort::Enum)?;
     let name = name(cursor)?;
     let members_at = cursor.place_of(Sort::BraceOpen)?;
-    let members = list::separated::<Name>(cursor, Sort::Comma)?;
+    let members = list::separated::<Names>(cursor, Sort::Comma)?;
     cursor.mark(Sort::BraceClose)?;
     cursor.may_mark(Sort::Semicolon)?;
     Ok(Decl::Enum {
@@ -277,7 +295,7 @@ fn class_body(cursor: &mut Cursor<'_>, at: u32, name: Name) -> Result<Decl, Stop
 {
     let parent = parent(cursor)?;
     cursor.mark(Sort::BraceOpen)?;
-    let members = list::many::<Member>(cursor)?;
+    let members = list::many::<Members>(cursor)?;
     cursor.mark(Sort::BraceClose)?;
     cursor.may_mark(Sort::Semicolon)?;
     Ok(Decl::Class {
@@ -377,7 +395,12 @@ fn decl(cursor: &mut Cursor<'_>) -> Result<Decl, Stop>
     Ok(Decl::Variable(variable(cursor)?))
 }
 
-impl Item for Decl {
+// Declarations, one after another.
+struct Declarations;
+
+impl Item for Declarations {
+    type Tree = Decl;
+
     ghost use Rattle.nddl_parser.specs.Grammar.{most_nested};
     ghost use Rattle.nddl_parser.specs.Productions.{begins_decl, decl};
 
@@ -402,5 +425,5 @@ impl Item for Decl {
 pub fn text(cursor: &mut Cursor<'_>) -> Result<Sequence<Decl>, Stop>
     ensures { Reads result cursor.new (text most_nested cursor.old) }
 {
-    list::many::<Decl>(cursor)
+    list::many::<Declarations>(cursor)
 }

@@ -18,7 +18,7 @@ use Rattle.nddl_ast.specs.declared.expression.Bounds.TheVariants as bounds
 use Rattle.nddl_ast.specs.declared.expression.Type as types
 use Rattle.nddl_ast.specs.declared.expression.Init.TheVariants as inits
 use Rattle.nddl_ast.specs.Same.{AllSame, SameName, SamePath, SameLiteral, SameExpr, SameValue, SameBase, SameBounds, SameType, SameCreation, SameInit, SameTyped}
-use Rattle.nddl_parser.specs.Grammar.{IsName, IsPath, Writes, IsLiteral, IsExpr, IsValue, AreArguments, IsCreation, IsInit, IsBase, IsBounds, IsType, IsTyped}
+use Rattle.nddl_statements.specs.Grammar.{IsName, IsPath, Writes, IsLiteral, IsExpr, IsValue, AreArguments, IsCreation, IsInit, IsBase, IsBounds, IsType, IsTyped}
 use Rattle.nddl_print.specs.Words.{Fixed, Named, Number, Decimal}
 use Rattle.nddl_print.specs.Canonical.{name_words, path_words, constant_words, literal_words, expr_words, value_words, argument_words, creation_words, init_words, base_words, bounds_words, type_words, typed_words}
 use Rattle.nddl_print.proofs.Saying.{AreSound, AreFine, Say, one_said}

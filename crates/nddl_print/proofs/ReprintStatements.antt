@@ -14,7 +14,7 @@ use Rattle.nddl_ast.specs.declared.statement.Guard.{Guard}
 use Rattle.nddl_ast.specs.declared.statement.Guard.TheVariants as guards
 use Rattle.nddl_ast.specs.Tree.{Statements, Nothing, Declares, Calls, Asks, Tests, Chooses, Repeats}
 use Rattle.nddl_ast.specs.Same.{BothSame, SameInit, SameGuard, SameVariable, SameCall, SameAsk, SameStatements, SameBlock}
-use Rattle.nddl_parser.specs.Grammar.{IsStart, IsVariable, IsCall, IsAsk, IsGuard, IsLoneIf, Encloses, AreStatements, IsBlock}
+use Rattle.nddl_statements.specs.Grammar.{IsStart, IsVariable, IsCall, IsAsk, IsGuard, IsLoneIf, Encloses, AreStatements, IsBlock}
 use Rattle.nddl_print.specs.Words.{Word, Fixed}
 use Rattle.nddl_print.specs.Canonical.{◌⌢◌, fixed, braced, start_words, variable_words, call_words, ask_words, guard_words, expr_words, listed_words, statements_words, block_words}
 use Rattle.nddl_print.proofs.Saying.{AreSound, then_assoc, three_first, sound_then, say_then, one_said}

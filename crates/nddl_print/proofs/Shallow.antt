@@ -6,7 +6,8 @@ use Rattle.nddl_ast.specs.declared.declaration.Decl.{Decl}
 use Rattle.nddl_ast.specs.declared.declaration.Decl.TheVariants as decls
 use Rattle.nddl_ast.specs.Tree.{Statements, Nothing, Declares, Calls, Asks, Tests, Chooses, Repeats}
 use Rattle.nddl_ast.specs.Same.{AllSame, SameStatements, SameDecl}
-use Rattle.nddl_parser.specs.Grammar.{deep_enclosed, deep_statements, deep_decl, deep_text}
+use Rattle.nddl_statements.specs.Grammar.{deep_enclosed, deep_statements}
+use Rattle.nddl_parser.specs.Grammar.{deep_decl, deep_text}
 
 earlier_parts : (one other : Option ℕ) → earlier one other ≡ None → (one ≡ None) × (other ≡ None)
 earlier_parts None other none = (refl, none)

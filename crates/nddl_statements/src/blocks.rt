@@ -1,0 +1,221 @@
+//! Statements with blocks in them.
+
+ghost use Rattle.std.specs.Prelude.{◌≡◌};
+ghost use Rattle.nddl_reading.specs.Readers.{begins, Reads};
+ghost use Rattle.nddl_statements.specs.Productions.{guard, guard_behind, begins_stmt, stmt_of, too_deep, braces, block, lone_if, else_block, otherwise, if_stmt, foreach, stmt, statements};
+
+use super::expressions::{expr, name};
+use super::statements::{SimpleStmt, plain};
+use super::types::begins_type;
+use eu_name::sequence::Sequence;
+use nddl_ast::expression::Expr;
+use nddl_ast::statement::{Block, Guard, Stmt};
+use nddl_reading::cursor::{Cursor, Stop};
+use nddl_reading::sort::Sort;
+
+// What a guard is behind its first expression.
+#[tactic(auto, unfolding(crate::specs::Productions::guard_behind))]
+fn guard_behind(cursor: &mut Cursor<'_>, one: Expr) -> Result<Guard, Stop>
+    ensures { Reads result cursor.new (guard_behind one cursor.old) }
+{
+    if cursor.is_at(Sort::Equal) {
+        cursor.mark(Sort::Equal)?;
+        return Ok(Guard::Equal(one, expr(cursor)?));
+    }
+    if cursor.is_at(Sort::NotEqual) {
+        cursor.mark(Sort::NotEqual)?;
+        return Ok(Guard::NotEqual(one, expr(cursor)?));
+    }
+    Ok(Guard::Truth(one))
+}
+
+/// `Expr [ ("==" | "!=") Expr ]`
+#[tactic(auto, unfolding(crate::specs::Productions::guard))]
+fn guard(cursor: &mut Cursor<'_>) -> Result<Guard, Stop>
+    ensures { Reads result cursor.new (guard cursor.old) }
+{
+    let one = expr(cursor)?;
+    guard_behind(cursor, one)
+}
+
+fn stmt_of(simple: SimpleStmt) -> Stmt
+    ensures { result ≡ stmt_of simple }
+{
+    match simple {
+        SimpleStmt::Variable(variable) => Stmt::Variable(variable),
+        SimpleStmt::Call(call) => Stmt::Call(call),
+        SimpleStmt::Ask(ask) => Stmt::Ask(ask),
+    }
+}
+
+// Whether a statement can begin with a symbol of the sort.
+fn begins_stmt(sort: Sort) -> bool
+    ensures { result ≡ begins_stmt sort }
+{
+    match sort {
+        Sort::If | Sort::Foreach => true,
+        _ => begins_type(sort),
+    }
+}
+
+// Whether a statement can begin with the next symbol.
+fn is_at_stmt(cursor: &Cursor<'_>) -> bool
+    ensures { result ≡ begins begins_stmt cursor.now }
+{
+    match cursor.sort() {
+        Some(sort) => begins_stmt(sort),
+        None => false,
+    }
+}
+
+// A block that begins with a symbol of the sort is nested too deep here.
+#[tactic(auto, unfolding(crate::specs::Productions::too_deep))]
+fn too_deep(cursor: &mut Cursor<'_>, sort: Sort) -> Result<Block, Stop>
+    ensures { Reads result cursor.new (too_deep sort cursor.old) }
+{
+    if cursor.is_at(sort) {
+        return Err(Stop::Deep);
+    }
+    Err(Stop::Stuck)
+}
+
+/// `"{" { Stmt } "}"`, where so many blocks may be nested in it.
+#[cycle(blocks)]
+#[tactic(auto, unfolding(crate::specs::Productions::braces))]
+fn braces(cursor: &mut Cursor<'_>, left: u8) -> Result<Block, Stop>
+    ensures { Reads result cursor.new (braces left cursor.old) }
+{
+    let at = cursor.place_of(Sort::BraceOpen)?;
+    let stmts = statements(cursor, left)?;
+    cursor.mark(Sort::BraceClose)?;
+    Ok(Block {
+        at,
+        stmts: stmts.into_vec(),
+    })
+}
+
+/// The same, where so many blocks may be nested, it among them.
+#[cycle(blocks)]
+pub fn block(cursor: &mut Cursor<'_>, left: u8) -> Result<Block, Stop>
+    ensures { Reads result cursor.new (block left cursor.old) }
+{
+    if left == 0 {
+        return too_deep(cursor, Sort::BraceOpen);
+    }
+    braces(cursor, left - 1)
+}
+
+/// An `if` behind an `else`, as a block.
+#[cycle(blocks)]
+#[tactic(auto, unfolding(crate::specs::Productions::lone_if))]
+fn lone_if(cursor: &mut Cursor<'_>, left: u8) -> Result<Block, Stop>
+    ensures { Reads result cursor.new (lone_if left cursor.old) }
+{
+    let stmt = if_stmt(cursor, left)?;
+    let at = stmt.place();
+    let mut stmts = Sequence::new(cursor.allocator());
+    stmts.push(stmt)?;
+    Ok(Block {
+        at,
+        stmts: stmts.into_vec(),
+    })
+}
+
+/// `Block | IfStmt`: what stands behind `else`.
+#[cycle(blocks)]
+fn else_block(cursor: &mut Cursor<'_>, left: u8) -> Result<Block, Stop>
+    ensures { Reads result cursor.new (else_block left cursor.old) }
+{
+    if !cursor.is_at(Sort::If) {
+        return block(cursor, left);
+    }
+    if left == 0 {
+        return too_deep(cursor, Sort::If);
+    }
+    lone_if(cursor, left - 1)
+}
+
+/// `[ "else" ( Block | IfStmt ) ]`
+#[cycle(blocks)]
+#[tactic(auto, unfolding(crate::specs::Productions::otherwise))]
+fn otherwise(cursor: &mut Cursor<'_>, left: u8) -> Result<Option<Block>, Stop>
+    ensures { Reads result cursor.new (otherwise left cursor.old) }
+{
+    if cursor.is_at(Sort::Else) {
+        cursor.mark(Sort::Else)?;
+        return Ok(Some(else_block(cursor, left)?));
+    }
+    Ok(None)
+}
+
+/// `"if" "(" Expr [ ("==" | "!=") Expr ] ")" Block [ "else" ( Block | IfStmt ) ]`
+#[cycle(blocks)]
+#[tactic(auto, unfolding(crate::specs::Productions::if_stmt, crate::specs::Productions::otherwise))]
+fn if_stmt(cursor: &mut Cursor<'_>, left: u8) -> Result<Stmt, Stop>
+    ensures { Reads result cursor.new (if_stmt left cursor.old) }
+{
+    let at = cursor.place_of(Sort::If)?;
+    cursor.mark(Sort::ParenOpen)?;
+    let guard = guard(cursor)?;
+    cursor.mark(Sort::ParenClose)?;
+    let then = block(cursor, left)?;
+    let otherwise = otherwise(cursor, left)?;
+    Ok(Stmt::If {
+        at,
+        guard,
+        then,
+        otherwise,
+    })
+}
+
+/// `"foreach" "(" Name "in" Name ")" Block`
+#[cycle(blocks)]
+#[tactic(auto, unfolding(crate::specs::Productions::foreach))]
+fn foreach(cursor: &mut Cursor<'_>, left: u8) -> Result<Stmt, Stop>
+    ensures { Reads result cursor.new (foreach left cursor.old) }
+{
+    let at = cursor.place_of(Sort::Foreach)?;
+    cursor.mark(Sort::ParenOpen)?;
+    let variable = name(cursor)?;
+    cursor.mark(Sort::In)?;
+    let class = name(cursor)?;
+    cursor.mark(Sort::ParenClose)?;
+    let body = block(cursor, left)?;
+    Ok(Stmt::Foreach {
+        at,
+        variable,
+        class,
+        body,
+    })
+}
+
+/// A statement, where so many blocks may be nested in it.
+#[cycle(blocks)]
+#[tactic(auto, unfolding(crate::specs::Productions::stmt, crate::specs::Productions::if_stmt, crate::specs::Productions::foreach))]
+fn stmt(cursor: &mut Cursor<'_>, left: u8) -> Result<Stmt, Stop>
+    ensures { Reads result cursor.new (stmt left cursor.old) }
+{
+    if cursor.is_at(Sort::If) {
+        return if_stmt(cursor, left);
+    }
+    if cursor.is_at(Sort::Foreach) {
+        return foreach(cursor, left);
+    }
+    Ok(stmt_of(plain(cursor)?))
+}
+
+/// `{ Stmt }`
+#[cycle(blocks)]
+fn statements(cursor: &mut Cursor<'_>, left: u8) -> Result<Sequence<Stmt>, Stop>
+    ensures { Reads result cursor.new (statements left cursor.old) }
+{
+    let mut stmts = Sequence::new(cursor.allocator());
+    for turn in 0..cursor.len() {
+        if !is_at_stmt(cursor) {
+            return Ok(stmts);
+        }
+        let stmt = stmt(cursor, left)?;
+        stmts.push(stmt)?;
+    }
+    Ok(stmts)
+}

@@ -1,0 +1,201 @@
+//! Names, values and expressions.
+
+ghost use Rattle.std.specs.Prelude.{◌≡◌};
+ghost use Rattle.nddl_reading.specs.Readers.{Reads};
+ghost use Rattle.nddl_statements.specs.Productions.{name, path, literal, expr, value, begins_value, arguments, creation, init};
+
+use super::list;
+use super::list::Item;
+use eu_name::sequence::Sequence;
+use nddl_ast::expression::{Constant, Creation, Expr, Init, Literal, Thousandths, Value};
+use nddl_ast::name::{Name, Path};
+use nddl_reading::cursor::{Cursor, Stop};
+use nddl_reading::sort::Sort;
+
+/// `Name`
+#[tactic(auto, unfolding(crate::specs::Productions::name))]
+pub fn name(cursor: &mut Cursor<'_>) -> Result<Name, Stop>
+    ensures { Reads result cursor.new (name cursor.old) }
+{
+    let symbol = cursor.take(Sort::Name)?;
+    Ok(Name {
+        text: symbol.text(cursor.allocator())?,
+        at: symbol.at(),
+    })
+}
+
+/// Names, one after another.
+pub struct Names;
+
+impl Item for Names {
+    type Tree = Name;
+
+    ghost use Rattle.nddl_reading.specs.Readers.{is};
+    ghost use Rattle.nddl_reading.specs.declared.sort.Sort.TheVariants as sorts;
+    ghost use Rattle.nddl_statements.specs.Productions.{name};
+
+    ghost first = { is sorts.Name };
+
+    ghost reader = { name };
+
+    fn is_first(sort: Sort) -> bool {
+        sort.is(Sort::Name)
+    }
+
+    fn read(cursor: &mut Cursor<'_>) -> Result<Name, Stop> {
+        name(cursor)
+    }
+}
+
+/// `Name { "." Name }`
+#[tactic(auto, unfolding(crate::specs::Productions::path))]
+pub fn path(cursor: &mut Cursor<'_>) -> Result<Path, Stop>
+    ensures { Reads result cursor.new (path cursor.old) }
+{
+    let first = name(cursor)?;
+    let rest = list::following::<Names>(cursor, Sort::Point)?;
+    Ok(Path { first, rest })
+}
+
+/// `Number | Decimal | "true" | "false"`
+#[tactic(auto, unfolding(crate::specs::Productions::literal))]
+fn literal(cursor: &mut Cursor<'_>) -> Result<Literal, Stop>
+    ensures { Reads result cursor.new (literal cursor.old) }
+{
+    if cursor.is_at(Sort::Number) {
+        let symbol = cursor.take(Sort::Number)?;
+        return Ok(Literal {
+            constant: Constant::Number(symbol.value()),
+            at: symbol.at(),
+        });
+    }
+    if cursor.is_at(Sort::Decimal) {
+        let symbol = cursor.take(Sort::Decimal)?;
+        return Ok(Literal {
+            constant: Constant::Decimal(Thousandths(symbol.value())),
+            at: symbol.at(),
+        });
+    }
+    if cursor.is_at(Sort::True) {
+        let at = cursor.place_of(Sort::True)?;
+        return Ok(Literal {
+            constant: Constant::Truth(true),
+            at,
+        });
+    }
+    let at = cursor.place_of(Sort::False)?;
+    Ok(Literal {
+        constant: Constant::Truth(false),
+        at,
+    })
+}
+
+/// `Path | Number | Decimal | "true" | "false"`
+#[tactic(auto, unfolding(crate::specs::Productions::expr))]
+pub fn expr(cursor: &mut Cursor<'_>) -> Result<Expr, Stop>
+    ensures { Reads result cursor.new (expr cursor.old) }
+{
+    if cursor.is_at(Sort::Name) {
+        return Ok(Expr::Path(path(cursor)?));
+    }
+    Ok(Expr::Literal(literal(cursor)?))
+}
+
+/// `Number | Decimal | "true" | "false" | Name`
+#[tactic(auto, unfolding(crate::specs::Productions::value))]
+pub fn value(cursor: &mut Cursor<'_>) -> Result<Value, Stop>
+    ensures { Reads result cursor.new (value cursor.old) }
+{
+    if cursor.is_at(Sort::Name) {
+        return Ok(Value::Name(name(cursor)?));
+    }
+    Ok(Value::Literal(literal(cursor)?))
+}
+
+// Whether an expression or a value can begin with a symbol of the sort.
+fn begins_value(sort: Sort) -> bool
+    ensures { result ≡ begins_value sort }
+{
+    match sort {
+        Sort::Name | Sort::Number | Sort::Decimal | Sort::True | Sort::False => true,
+        _ => false,
+    }
+}
+
+/// Expressions, one after another.
+pub struct Expressions;
+
+impl Item for Expressions {
+    type Tree = Expr;
+
+    ghost use Rattle.nddl_statements.specs.Productions.{begins_value, expr};
+
+    ghost first = { begins_value };
+
+    ghost reader = { expr };
+
+    fn is_first(sort: Sort) -> bool {
+        begins_value(sort)
+    }
+
+    fn read(cursor: &mut Cursor<'_>) -> Result<Expr, Stop> {
+        expr(cursor)
+    }
+}
+
+/// Values, one after another.
+pub struct Values;
+
+impl Item for Values {
+    type Tree = Value;
+
+    ghost use Rattle.nddl_statements.specs.Productions.{begins_value, value};
+
+    ghost first = { begins_value };
+
+    ghost reader = { value };
+
+    fn is_first(sort: Sort) -> bool {
+        begins_value(sort)
+    }
+
+    fn read(cursor: &mut Cursor<'_>) -> Result<Value, Stop> {
+        value(cursor)
+    }
+}
+
+/// `[ Expr { "," Expr } ]`
+#[tactic(auto, unfolding(crate::specs::Productions::arguments))]
+pub fn arguments(cursor: &mut Cursor<'_>) -> Result<Sequence<Expr>, Stop>
+    ensures { Reads result cursor.new (arguments cursor.old) }
+{
+    list::listed::<Expressions>(cursor, Sort::Comma)
+}
+
+/// `"new" Name "(" [ Args ] ")"`
+#[tactic(auto, unfolding(crate::specs::Productions::creation))]
+fn creation(cursor: &mut Cursor<'_>) -> Result<Creation, Stop>
+    ensures { Reads result cursor.new (creation cursor.old) }
+{
+    let at = cursor.place_of(Sort::New)?;
+    let class = name(cursor)?;
+    cursor.mark(Sort::ParenOpen)?;
+    let arguments = arguments(cursor)?;
+    cursor.mark(Sort::ParenClose)?;
+    Ok(Creation {
+        at,
+        class,
+        arguments,
+    })
+}
+
+/// `Expr | "new" Name "(" [ Args ] ")"`
+#[tactic(auto, unfolding(crate::specs::Productions::init))]
+pub fn init(cursor: &mut Cursor<'_>) -> Result<Init, Stop>
+    ensures { Reads result cursor.new (init cursor.old) }
+{
+    if cursor.is_at(Sort::New) {
+        return Ok(Init::New(creation(cursor)?));
+    }
+    Ok(Init::Expr(expr(cursor)?))
+}

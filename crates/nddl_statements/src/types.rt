@@ -1,0 +1,163 @@
+//! Types, and the names that are declared with them.
+
+ghost use Rattle.std.specs.Prelude.{◌≡◌};
+ghost use Rattle.nddl_reading.specs.Readers.{Reads};
+ghost use Rattle.nddl_statements.specs.Productions.{base, range, set, bounds, begins_type, type_of, type_named, typed, field, field_after};
+
+use super::expressions::{Values, name, value};
+use super::list;
+use super::list::Item;
+use nddl_ast::declaration::Typed;
+use nddl_ast::expression::{Base, Bounds, Type};
+use nddl_ast::name::Name;
+use nddl_reading::cursor::{Cursor, Stop};
+use nddl_reading::sort::Sort;
+
+/// `"int" | "float" | "bool" | "string" | Name`, at its place.
+#[tactic(auto, unfolding(crate::specs::Productions::base))]
+fn base(cursor: &mut Cursor<'_>) -> Result<(u32, Base), Stop>
+    ensures { Reads result cursor.new (base cursor.old) }
+{
+    if cursor.is_at(Sort::Int) {
+        return Ok((cursor.place_of(Sort::Int)?, Base::Int));
+    }
+    if cursor.is_at(Sort::Float) {
+        return Ok((cursor.place_of(Sort::Float)?, Base::Float));
+    }
+    if cursor.is_at(Sort::Bool) {
+        return Ok((cursor.place_of(Sort::Bool)?, Base::Bool));
+    }
+    if cursor.is_at(Sort::Text) {
+        return Ok((cursor.place_of(Sort::Text)?, Base::Str));
+    }
+    let name = name(cursor)?;
+    Ok((name.at, Base::Named(name)))
+}
+
+/// `"[" Lit [","] Lit "]"`
+#[tactic(auto, unfolding(crate::specs::Productions::range))]
+fn range(cursor: &mut Cursor<'_>) -> Result<Bounds, Stop>
+    ensures { Reads result cursor.new (range cursor.old) }
+{
+    let at = cursor.place_of(Sort::BracketOpen)?;
+    let least = value(cursor)?;
+    cursor.may_mark(Sort::Comma)?;
+    let greatest = value(cursor)?;
+    cursor.mark(Sort::BracketClose)?;
+    Ok(Bounds::Range {
+        at,
+        least,
+        greatest,
+    })
+}
+
+/// `"{" Lit { "," Lit } "}"`
+#[tactic(auto, unfolding(crate::specs::Productions::set))]
+fn set(cursor: &mut Cursor<'_>) -> Result<Bounds, Stop>
+    ensures { Reads result cursor.new (set cursor.old) }
+{
+    let at = cursor.place_of(Sort::BraceOpen)?;
+    let values = list::separated::<Values>(cursor, Sort::Comma)?;
+    cursor.mark(Sort::BraceClose)?;
+    Ok(Bounds::Set { at, values })
+}
+
+/// A range, a set, or nothing.
+#[tactic(auto, unfolding(crate::specs::Productions::bounds))]
+pub fn bounds(cursor: &mut Cursor<'_>) -> Result<Bounds, Stop>
+    ensures { Reads result cursor.new (bounds cursor.old) }
+{
+    if cursor.is_at(Sort::BracketOpen) {
+        return range(cursor);
+    }
+    if cursor.is_at(Sort::BraceOpen) {
+        return set(cursor);
+    }
+    Ok(Bounds::All)
+}
+
+/// `Base [ "[" Lit [","] Lit "]" | "{" Lit { "," Lit } "}" ]`
+#[tactic(auto, unfolding(crate::specs::Productions::type_of))]
+pub fn type_of(cursor: &mut Cursor<'_>) -> Result<Type, Stop>
+    ensures { Reads result cursor.new (type_of cursor.old) }
+{
+    let (at, base) = base(cursor)?;
+    let bounds = bounds(cursor)?;
+    Ok(Type { at, base, bounds })
+}
+
+/// The type that begins with the name.
+pub fn type_named(first: Name, bounds: Bounds) -> Type
+    ensures { result ≡ type_named first bounds }
+{
+    Type {
+        at: first.at,
+        base: Base::Named(first),
+        bounds,
+    }
+}
+
+/// Whether a type can begin with a symbol of the sort.
+pub fn begins_type(sort: Sort) -> bool
+    ensures { result ≡ begins_type sort }
+{
+    match sort {
+        Sort::Name | Sort::Int | Sort::Float | Sort::Bool | Sort::Text => true,
+        _ => false,
+    }
+}
+
+/// `Type Name`
+#[tactic(auto, unfolding(crate::specs::Productions::typed))]
+fn typed(cursor: &mut Cursor<'_>) -> Result<Typed, Stop>
+    ensures { Reads result cursor.new (typed cursor.old) }
+{
+    let declared = type_of(cursor)?;
+    let name = name(cursor)?;
+    Ok(Typed { declared, name })
+}
+
+/// Types with names, one after another.
+pub struct Formals;
+
+impl Item for Formals {
+    type Tree = Typed;
+
+    ghost use Rattle.nddl_statements.specs.Productions.{begins_type, typed};
+
+    ghost first = { begins_type };
+
+    ghost reader = { typed };
+
+    fn is_first(sort: Sort) -> bool {
+        begins_type(sort)
+    }
+
+    fn read(cursor: &mut Cursor<'_>) -> Result<Typed, Stop> {
+        typed(cursor)
+    }
+}
+
+/// `Type Name ";"`
+#[tactic(auto, unfolding(crate::specs::Productions::field))]
+pub fn field(cursor: &mut Cursor<'_>) -> Result<Typed, Stop>
+    ensures { Reads result cursor.new (field cursor.old) }
+{
+    let typed = typed(cursor)?;
+    cursor.mark(Sort::Semicolon)?;
+    Ok(typed)
+}
+
+/// The same behind the name with which the type begins.
+#[tactic(auto, unfolding(crate::specs::Productions::field_after))]
+pub fn field_after(cursor: &mut Cursor<'_>, first: Name) -> Result<Typed, Stop>
+    ensures { Reads result cursor.new (field_after first cursor.old) }
+{
+    let bounds = bounds(cursor)?;
+    let name = name(cursor)?;
+    cursor.mark(Sort::Semicolon)?;
+    Ok(Typed {
+        declared: type_named(first, bounds),
+        name,
+    })
+}
