@@ -1,5 +1,6 @@
 -- What stands at a place of a list.
-use Rattle.std.proofs.Common.{◌≡◌, ℕ, ◌<◌, ◌≤◌, List, [], ◌∷◌, length, get_or, Some, None, slice_get, zero, suc, refl, sym, ◌∙◌, arith}
+use Rattle.std.proofs.Common.{◌≡◌, ℕ, ◌<◌, ◌≤◌, List, [], ◌∷◌, length, get_or, Some, None, slice_get, zero, suc, refl, sym, ◌∙◌, subst, All, arith}
+use Rattle.std.proofs.lemmas.List.Elements.{All-get_or}
 
 pub item_within : {X : Type 0} (xs : List X) (k : ℕ) (x : X) → slice_get xs k ≡ Some x → k < length xs
 item_within [] k x at = cc
@@ -20,3 +21,7 @@ pub item_is : {X : Type 0} (xs : List X) (k : ℕ) (d x : X) → slice_get xs k 
 item_is xs k d x at =
     let here : Some (get_or xs k d) ≡ Some x = sym (item_at xs k d (item_within xs k x at)) ∙ at in
     cc
+
+-- what holds of all items holds of the one at this place
+pub item_all : {X : Type 0} (P : X → Type 0) (xs : List X) (k : ℕ) (x : X) → All P xs → slice_get xs k ≡ Some x → P x
+item_all P xs k x all at = subst P (item_is xs k x x at) (All-get_or P xs k x (item_within xs k x at) all)

@@ -85,6 +85,12 @@ leads_one model text one other slot slot' lawful first second =
 
 -- ---- from a token that the model has
 
+-- it is of one predicate, and on the objects of one slot
+pub token_once : (model : Model) (token : TokenName) (one other : Slot) → HasToken model token one → HasToken model token other → one ≡ other
+token_once model token one other first second =
+    let roots : second.root ≡ first.root = cc in
+    reaches_once model (slot_of first.root) one other token.steps first.reached (subst (λ (r : Root). Reaches model (slot_of r) token.steps other) roots second.reached)
+
 -- what the code finds at the token's root leads on to the token's predicate
 pub token_on : (model : Model) (token : TokenName) (slot : Slot) (items : List Root) (found : Root) (steps : List Step) → HasToken model token slot
     → items ≡ model.problem.roots → found ≡ get_or items token.root found → steps ≡ token.steps → LeadsOn model found.pred steps slot.pred

@@ -5,4 +5,7 @@ pub mod Leading
 pub mod Lookups
 pub mod Resolving
 pub mod Naming
+pub mod Words
+pub mod WellFormed
+pub mod OneText
 pub mod Sample

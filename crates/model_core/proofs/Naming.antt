@@ -27,7 +27,7 @@ use Rattle.model_core.proofs.Items.{item_within, item_is}
 use Rattle.model_core.proofs.Leading.{leads_one}
 
 -- every part of a token has a word
-part_has_word : (model : Model) (slot : Slot) (part : Part) (base : Base) → HasPartBase model slot part base → (word : List ℕ) × IsPartWord model slot.pred part word
+pub part_has_word : (model : Model) (slot : Slot) (part : Part) (base : Base) → HasPartBase model slot part base → (word : List ℕ) × IsPartWord model slot.pred part word
 part_has_word model slot parts.Start base has = (codes "start", refl)
 part_has_word model slot parts.End base has = (codes "end", refl)
 part_has_word model slot parts.Duration base has = (codes "duration", refl)
@@ -60,7 +60,7 @@ pub names_one_token : (model : Model) (text : NameText) (one other : TokenName) 
 names_one_token model text one other lawful (whole, (slot, leads)) (whole', (slot', leads')) = (leads_one model text one other slot slot' lawful leads leads').0
 
 -- a lawful parameter has a name that may be one
-parameter_name : (model : Model) (pred number : ℕ) (variable : VarDecl) → IsLawful model → HasParameter model pred number variable → IsParameterName variable.name
+pub parameter_name : (model : Model) (pred number : ℕ) (variable : VarDecl) → IsLawful model → HasParameter model pred number variable → IsParameterName variable.name
 parameter_name model pred number variable lawful has =
     let within = item_within has.predicate.params number variable has.declared in
     let name : get_or (names_of has.predicate.params) number variable.name ≡ variable.name =

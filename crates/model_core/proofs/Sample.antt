@@ -1,15 +1,12 @@
 -- The small model is lawful.
-use Rattle.std.proofs.Common.{◌≡◌, ℕ, ℤ, pos, ◌<◌, ◌≤◌, ◌^◌, Bool, true, false, List, [], ◌∷◌, ◌++◌, length, Some, Result, Ok, Err, slice_get, zero, suc, inl, inr, refl, sym, ◌∙◌, ap, subst, arith}
-use Rattle.std.specs.Prelude.{◌≢◌, ◌||◌, ◌&&◌, not, IfOk, IsTrue, AllPairs, Contains, bytes_eq, codes}
-use Rattle.std.specs.List.{AllByRecursion}
+use Rattle.std.proofs.Common.{◌≡◌, ℕ, ℤ, pos, ◌<◌, ◌≤◌, ◌^◌, List, [], ◌∷◌, ◌++◌, length, Some, Result, Ok, Err, slice_get, zero, suc, inl, inr, refl, sym, ◌∙◌, ap, subst, arith}
+use Rattle.std.specs.Prelude.{IfOk, Contains, codes}
 use Rattle.std.proofs.lemmas.Fmt.{decimal_digit}
 use Rattle.std.proofs.lemmas.Int.{ints}
-use Rattle.std.proofs.lemmas.Slice.Eq.{bytes_eq-Decides}
-use Rattle.std.proofs.lemmas.List.{get_or_default}
 use Rattle.std.proofs.lemmas.List.Elements.{All-from_recursion}
 use Rattle.domain_core.specs.Domain.{Domain, Set, IsDomain, IsValue, Has, AreAscending}
 use Rattle.domain_core.specs.Lists.{MakesSet}
-use Rattle.eu_name.specs.Word.{is_word_start, is_word_byte, IsName, reserved_words}
+use Rattle.eu_name.specs.Word.{IsName}
 use Rattle.model_core.specs.declared.class.Class.{Class}
 use Rattle.model_core.specs.declared.class.Pred.{Pred}
 use Rattle.model_core.specs.declared.item.Item.TheVariants.{Relation}
@@ -27,6 +24,7 @@ use Rattle.model_core.specs.Lawful.{IsLawfulVariable, IsLawfulClass, IsLawfulObj
 use Rattle.model_core.specs.Naming.{builtin_names, file_names, declared_names, IsGlobalName, IsParameterName}
 use Rattle.model_core.specs.Sample.{ranged, only, rover, spirit, at, coming, here, sample}
 use Rattle.model_core.specs.Standing.{StandsAt, StandsOnce, IsSeen, LeadsTo}
+use Rattle.model_core.proofs.Words.{not_contained, plain_name, differing}
 
 -- ---- the set of one object
 
@@ -45,73 +43,6 @@ only_is domain (members, is, are) = is ∙ ap Set (one_member members are.are.as
         let first : x ≡ pos 0 = among x (0, omega arith, refl) in
         let second : y ≡ pos 0 = among y (1, omega arith, refl) in
         absurd (omega (arith, ints, ascending 0 1 x (omega arith) (omega arith), first, second))
-
--- ---- names
-
-abbrev is_among : List (List ℕ) → List ℕ → Bool
-is_among [] word = false
-is_among (other ∷ words) word = bytes_eq other word || is_among words word
-
-both_false : (b c : Bool) → (b || c) ≡ false → (b ≡ false) × (c ≡ false)
-both_false false c h = (refl, h)
-both_false true c h = cc
-
-both_true : (b c : Bool) → (b && c) ≡ true → (b ≡ true) × (c ≡ true)
-both_true true c h = (refl, h)
-both_true false c h = cc
-
-not_contained : (words : List (List ℕ)) (word : List ℕ) → is_among words word ≡ false → Contains words word → ⊥
-not_contained [] word test (k, within, is) = omega (arith, within)
-not_contained (other ∷ words) word test (zero, within, is) =
-    let same : bytes_eq other word ≡ true = (bytes_eq-Decides other word).1 is in
-    let differs = (both_false (bytes_eq other word) (is_among words word) test).0 in
-    cc
-not_contained (other ∷ words) word test (suc k, within, is) =
-    not_contained words word (both_false (bytes_eq other word) (is_among words word) test).1 (k, omega (arith, within), is)
-
-abbrev are_word_bytes : List ℕ → Bool
-are_word_bytes [] = true
-are_word_bytes (byte ∷ bytes) = is_word_byte byte && are_word_bytes bytes
-
-word_bytes : (bytes : List ℕ) → are_word_bytes bytes ≡ true → AllByRecursion (λ byte. IsTrue (is_word_byte byte)) bytes
-word_bytes [] test = tt
-word_bytes (byte ∷ bytes) test =
-    let both = both_true (is_word_byte byte) (are_word_bytes bytes) test in
-    (both.0, word_bytes bytes both.1)
-
--- the test that a name passes
-abbrev is_plain : List ℕ → Bool
-is_plain [] = false
-is_plain (first ∷ rest) = is_word_start first && (are_word_bytes rest && not (is_among (codes "inf" ∷ reserved_words) (first ∷ rest)))
-
-not_true : (b : Bool) → not b ≡ true → b ≡ false
-not_true false h = refl
-not_true true h = cc
-
-plain_name : (word : List ℕ) → is_plain word ≡ true → IsName word
-plain_name [] test = cc
-plain_name (first ∷ rest) test =
-    let outer = both_true (is_word_start first) _ test in
-    let inner = both_true (are_word_bytes rest) _ outer.1 in
-    let others : Contains (codes "inf" ∷ reserved_words) (first ∷ rest) → ⊥ = not_contained (codes "inf" ∷ reserved_words) (first ∷ rest) (not_true _ inner.1) in (
-      (outer.0, All-from_recursion (λ byte. IsTrue (is_word_byte byte)) rest (word_bytes rest inner.0), λ is. others (0, omega arith, sym is)),
-      λ reserved. others (suc reserved.0, omega (arith, reserved.1), reserved.2),
-    )
-
--- the test that words pass of which none stands twice
-abbrev all_differ : List (List ℕ) → Bool
-all_differ [] = true
-all_differ (word ∷ words) = not (is_among words word) && all_differ words
-
-differing : (words : List (List ℕ)) → all_differ words ≡ true → AllPairs ◌≢◌ words
-differing [] test i j d below within = absurd (omega (arith, within))
-differing (word ∷ words) test zero zero d below within = absurd (omega (arith, below))
-differing (word ∷ words) test zero (suc j) d below within = λ same.
-    let here = (both_true (not (is_among words word)) (all_differ words) test).0 in
-    not_contained words word (not_true _ here) (j, omega (arith, within), get_or_default words j word d (omega (arith, within)) ∙ sym same)
-differing (word ∷ words) test (suc i) zero d below within = absurd (omega (arith, below))
-differing (word ∷ words) test (suc i) (suc j) d below within =
-    differing words (both_true (not (is_among words word)) (all_differ words) test).1 i j d (omega (arith, below)) (omega (arith, within))
 
 -- ---- variables and objects
 

@@ -8,6 +8,7 @@ use Rattle.eu_name.specs.declared.name.VarName.{VarName}
 use Rattle.eu_name.specs.declared.name.VarName.TheVariants.{Token, Local, Global}
 use Rattle.eu_name.specs.declared.name_text.NameText.{NameText}
 use Rattle.eu_name.specs.declared.name_text.Tail.TheVariants as tails
+use Rattle.eu_name.specs.Spelling.{IsWellFormed}
 use Rattle.model_core.specs.declared.model.Model.{Model}
 use Rattle.model_core.specs.declared.model.Root.{Root}
 use Rattle.model_core.specs.declared.rule.Slot.{Slot}
@@ -61,3 +62,21 @@ NamesOneVariable =
 -- what a text names, the model has
 abbrev pub NamesWhatThereIs : Type 0
 NamesWhatThereIs = (model : Model) (text : NameText) (variable : VarName) → NamesVariable model text variable → (base : Base) × HasBase model variable base
+
+-- what names a token or a variable of a lawful model is well-formed, so it has a spelling, from which it is read back
+abbrev pub TokenTextsAreWellFormed : Type 0
+TokenTextsAreWellFormed = (model : Model) (text : NameText) (token : TokenName) → IsLawful model → NamesToken model text token → IsWellFormed text
+
+abbrev pub VariableTextsAreWellFormed : Type 0
+VariableTextsAreWellFormed = (model : Model) (text : NameText) (variable : VarName) → IsLawful model → NamesVariable model text variable → IsWellFormed text
+
+-- one text names each token that the model has, and one text names each variable
+abbrev pub TokensHaveOneText : Type 0
+TokensHaveOneText =
+    (model : Model) (token : TokenName) (slot : Slot) → HasToken model token slot
+    → (text : NameText) × NamesToken model text token × ((other : NameText) → NamesToken model other token → other ≡ text)
+
+abbrev pub VariablesHaveOneText : Type 0
+VariablesHaveOneText =
+    (model : Model) (variable : VarName) (base : Base) → HasBase model variable base
+    → (text : NameText) × NamesVariable model text variable × ((other : NameText) → NamesVariable model other variable → other ≡ text)

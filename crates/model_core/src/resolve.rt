@@ -7,7 +7,7 @@ ghost use Rattle.eu_name.specs.declared.name.VarName.{VarName};
 ghost use Rattle.eu_name.specs.declared.name_text.Tail.TheVariants as tails;
 ghost use Rattle.model_core.specs.declared.rule.Slot.{Slot};
 ghost use Rattle.model_core.specs.Lawful.{IsLawful};
-ghost use Rattle.model_core.specs.Names.{LeadsToToken, NamesToken, NamesVariable, NamesOneToken, NamesOneVariable, NamesWhatThereIs, IsPartWord, token_at};
+ghost use Rattle.model_core.specs.Names.{LeadsToToken, NamesToken, NamesVariable, NamesOneToken, NamesOneVariable, NamesWhatThereIs, TokenTextsAreWellFormed, VariableTextsAreWellFormed, TokensHaveOneText, VariablesHaveOneText, IsPartWord, token_at};
 
 use super::model::Model;
 use eu_name::name::{Part, Step, TokenName, VarName};
@@ -182,4 +182,16 @@ pub fn texts_name_one()
 /// A law: what a text names, the model has.
 pub fn texts_name_what_there_is()
     ensures { NamesWhatThereIs }
+{}
+
+/// A law: what names a token or a variable of a lawful model is well-formed, so it has one spelling, from which it is read back.
+pub fn texts_are_well_formed()
+    ensures tokens { TokenTextsAreWellFormed }
+    ensures variables { VariableTextsAreWellFormed }
+{}
+
+/// A law: each token and each variable that a model has is named by one text.
+pub fn each_has_one_text()
+    ensures tokens { TokensHaveOneText }
+    ensures variables { VariablesHaveOneText }
 {}

@@ -18,7 +18,7 @@ use eu_name::text::Text;
 use std::alloc::AllocError;
 
 impl Model {
-    /// A text that names the variable.
+    /// The text that names the variable. As every text that names something in a lawful model it is well-formed there (`texts_are_well_formed`), so it can be written and read back.
     pub fn var_text(&self, variable: &VarName) -> Result<NameText, AllocError>
         requires { (base : Base) × HasBase self.now variable.now base }
         ensures { IfOk result (λ text. NamesVariable self.now text variable.now) }
