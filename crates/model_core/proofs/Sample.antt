@@ -23,7 +23,7 @@ use Rattle.model_core.specs.Kinds.{IsObjectOf, IsInKind, OfProblem}
 use Rattle.model_core.specs.Lawful.{IsLawfulVariable, IsLawfulClass, IsLawfulObject, IsLawfulSlot, IsLawfulItem, IsLawfulEntry, IsLawfulRule, IsLawfulPred, IsLawfulRoot, IsLawful}
 use Rattle.model_core.specs.Naming.{builtin_names, file_names, declared_names, IsGlobalName, IsParameterName}
 use Rattle.model_core.specs.Sample.{ranged, only, rover, spirit, at, coming, here, sample}
-use Rattle.model_core.specs.Standing.{StandsAt, StandsOnce, IsSeen, LeadsTo}
+use Rattle.model_core.specs.Standing.{StandsAt, StandsOnce, IsSeen, LeadsToBlock}
 use Rattle.model_core.proofs.Words.{not_contained, plain_name, differing}
 
 -- ---- the set of one object
@@ -148,7 +148,7 @@ local_stands zero within = record {
 local_stands (suc number) within = absurd (omega (arith, within))
 
 -- no way leads from the top block
-no_way : (path : List Turn) (block : Entries) → LeadsTo coming.top path block → path ≡ []
+no_way : (path : List Turn) (block : Entries) → LeadsToBlock coming.top path block → path ≡ []
 no_way [] block way = refl
 no_way (turn ∷ path) block way = absurd (no_branch turn.entry way.0 way.1.0 way.1.1 way.1.2.0)
 

@@ -21,7 +21,7 @@ use Rattle.model_core.specs.declared.variable.VarDecl.{VarDecl}
 use Rattle.model_core.specs.Lawful.{IsLawful, IsLawfulRoot}
 use Rattle.model_core.specs.Naming.{IsGlobalName}
 use Rattle.model_core.specs.Names.{LeadsToToken, NamesToken, NamesVariable, IsPartWord}
-use Rattle.model_core.specs.Tokens.{HasRule, LeadsTo, Reaches, slot_of}
+use Rattle.model_core.specs.Tokens.{HasRule, LeadsToSlot, Reaches, slot_of}
 use Rattle.model_core.proofs.Items.{item_within, item_is, item_all}
 use Rattle.model_core.proofs.Naming.{parameter_name}
 use Rattle.model_core.proofs.Words.{plain_name}
@@ -59,7 +59,7 @@ small_rule model pred number rule lawful has =
       locals = omega (arith, in_sum (λ (r : Rule). length r.locals) pred_lawful.rules number rule listed, pred_lawful.few.locals);
     }
 
-small_step : (model : Model) (pred : ℕ) (step : Step) (slot : Slot) → IsLawful model → LeadsTo model pred step slot → IsStep step
+small_step : (model : Model) (pred : ℕ) (step : Step) (slot : Slot) → IsLawful model → LeadsToSlot model pred step slot → IsStep step
 small_step model pred step slot lawful leads =
     let small = small_rule model pred step.rule leads.rule lawful leads.has_rule in
     (small.place, omega (arith, small.slots, item_within leads.rule.slots step.slot slot leads.is_slot))

@@ -38,7 +38,7 @@ use Rattle.model_core.specs.Constraints.{count_of}
 use Rattle.model_core.specs.Entries.{Entries, Nothing, Asks, Declares, Says, Branches}
 use Rattle.model_core.specs.Kinds.{IsUnder, AreObjectsOf, IsKind, IsValueOf, IsBaseOf, Scope, OfProblem, OfRule, AreComparable, AreArguments}
 use Rattle.model_core.specs.Naming.{builtin_names, names_of, declared_names, file_names, IsGlobalName, IsObjectName, IsParameterName}
-use Rattle.model_core.specs.Standing.{StandsAt, StandsOnce, LeadsTo, IsTermSeen, IsItemSeen}
+use Rattle.model_core.specs.Standing.{StandsAt, StandsOnce, LeadsToBlock, IsTermSeen, IsItemSeen}
 use Rattle.model_core.specs.Tokens.{HasToken}
 use Rattle.model_core.specs.Variables.{HasBase}
 
@@ -116,7 +116,7 @@ IsLawfulEntry model pred rule path (OfBranch guard then otherwise) = IsLawfulGua
 -- a rule of the predicate of this number: what stands in it is lawful, and each slot and local stands in it once
 pub record IsLawfulRule (model : Model) (pred : ℕ) (rule : Rule) : Type 0 where
   pub entries : (path : List Turn) (place : ℕ) (what : Direct) → StandsAt rule.top path place what → (place < 2 ^ 16) × IsLawfulEntry model pred rule path what
-  pub nested : (path : List Turn) (block : Entries) → LeadsTo rule.top path block → length path < 16
+  pub nested : (path : List Turn) (block : Entries) → LeadsToBlock rule.top path block → length path < 16
   pub slots : All (IsLawfulSlot model) rule.slots
   pub slots_stand : (number : ℕ) → number < length rule.slots → StandsOnce rule.top (OfSlot number)
   pub locals : All (IsLawfulVariable model) rule.locals

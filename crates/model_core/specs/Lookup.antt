@@ -4,7 +4,7 @@ use Rattle.eu_name.specs.declared.name.Step.{Step}
 use Rattle.model_core.specs.declared.model.Model.{Model}
 use Rattle.model_core.specs.declared.rule.Slot.{Slot}
 use Rattle.model_core.specs.declared.variable.VarDecl.{VarDecl}
-use Rattle.model_core.specs.Tokens.{LeadsTo}
+use Rattle.model_core.specs.Tokens.{LeadsToSlot}
 
 -- the number of the first variable of this name, counted from here on
 abbrev pub first_named : ℕ → List ℕ → List VarDecl → Option ℕ
@@ -18,4 +18,4 @@ global_named model name = first_named 0 name model.problem.globals
 -- the steps lead from a token of the one predicate to one of the other
 abbrev pub LeadsOn : Model → ℕ → List Step → ℕ → Type 0
 LeadsOn model pred [] reached = reached ≡ pred
-LeadsOn model pred (step ∷ steps) reached = (slot : Slot) × LeadsTo model pred step slot × LeadsOn model slot.pred steps reached
+LeadsOn model pred (step ∷ steps) reached = (slot : Slot) × LeadsToSlot model pred step slot × LeadsOn model slot.pred steps reached

@@ -9,13 +9,13 @@ use Rattle.model_core.specs.Blocks.{Direct, OfSlot, OfLocal, Follows, direct}
 use Rattle.model_core.specs.Entries.{Entries}
 
 -- the way leads from the top block to this one, whatever the guards on it are
-abbrev pub LeadsTo : Entries → List Turn → Entries → Type 0
-LeadsTo top path block = Follows (λ guard side. ⊤) top path block
+abbrev pub LeadsToBlock : Entries → List Turn → Entries → Type 0
+LeadsToBlock top path block = Follows (λ guard side. ⊤) top path block
 
 -- this stands at the place of the block to which the way leads
 pub record StandsAt (top : Entries) (path : List Turn) (place : ℕ) (what : Direct) : Type 0 where
   pub block : Entries
-  pub way : LeadsTo top path block
+  pub way : LeadsToBlock top path block
   pub stands : slice_get (direct block) place ≡ Some what
 
 -- this stands at one place of one block, and nowhere else

@@ -20,7 +20,7 @@ pub record HasRule (model : Model) (pred number : ℕ) (rule : Rule) : Type 0 wh
   pub is_rule : slice_get model.rules place ≡ Some rule
 
 -- the step is from a token of the predicate to this slot of one of its rules
-pub record LeadsTo (model : Model) (pred : ℕ) (step : Step) (slot : Slot) : Type 0 where
+pub record LeadsToSlot (model : Model) (pred : ℕ) (step : Step) (slot : Slot) : Type 0 where
   pub rule : Rule
   pub has_rule : HasRule model pred step.rule rule
   pub is_slot : slice_get rule.slots step.slot ≡ Some slot
@@ -28,7 +28,7 @@ pub record LeadsTo (model : Model) (pred : ℕ) (step : Step) (slot : Slot) : Ty
 -- the steps lead from what the one slot asks for to what the other asks for
 abbrev pub Reaches : Model → Slot → List Step → Slot → Type 0
 Reaches model slot [] reached = reached ≡ slot
-Reaches model slot (step ∷ steps) reached = (next : Slot) × LeadsTo model slot.pred step next × Reaches model next steps reached
+Reaches model slot (step ∷ steps) reached = (next : Slot) × LeadsToSlot model slot.pred step next × Reaches model next steps reached
 
 -- the problem posts this root
 abbrev pub IsRoot : Model → ℕ → Root → Type 0

@@ -7,7 +7,7 @@ ghost use Rattle.model_core.specs.declared.rule.Slot.{Slot};
 ghost use Rattle.model_core.specs.declared.variable.VarDecl.{VarDecl};
 ghost use Rattle.model_core.specs.Lawful.{IsLawful};
 ghost use Rattle.model_core.specs.Lookup.{LeadsOn};
-ghost use Rattle.model_core.specs.Tokens.{HasRule, LeadsTo, IsRoot};
+ghost use Rattle.model_core.specs.Tokens.{HasRule, LeadsToSlot, IsRoot};
 ghost use Rattle.model_core.specs.Variables.{HasParameter};
 
 use super::model::{Model, Root};
@@ -69,8 +69,8 @@ impl Model {
     // The predicate of the token to which the step leads from one of this predicate.
     fn next_pred(&self, pred: u32, step: Step) -> Option<u32>
         ensures { MatchOption result
-            ((slot : Slot) → LeadsTo self.now pred step slot → ⊥)
-            (λ next. (slot : Slot) × LeadsTo self.now pred step slot × (slot.pred ≡ next)) }
+            ((slot : Slot) → LeadsToSlot self.now pred step slot → ⊥)
+            (λ next. (slot : Slot) × LeadsToSlot self.now pred step slot × (slot.pred ≡ next)) }
     {
         let rule = self.rule_of(pred, step.rule)?;
         let slot = item_at(rule.slots.as_slice(), usize::from(step.slot))?;
