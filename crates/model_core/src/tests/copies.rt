@@ -4,6 +4,16 @@ use crate::decision::Decision;
 use eu_name::name::{TokenName, VarName};
 use eu_name::sequence::Sequence;
 use std::alloc::{AllocError, Global};
+use std::test::Fail;
+
+/// The kinds of decisions, each with the numbers in it: a variable and its value, or roots.
+const DECISIONS: [(&str, u32, i32); 5] = [
+    ("specify", 7, -5),
+    ("activate", 1, 0),
+    ("reject", 2, 0),
+    ("merge", 3, 4),
+    ("order", 5, 6),
+];
 
 fn root(alloc: Global, number: u32) -> TokenName {
     TokenName {
@@ -12,7 +22,19 @@ fn root(alloc: Global, number: u32) -> TokenName {
     }
 }
 
-/// The kind of a decision and the numbers in it: a variable and its value, or roots.
+fn decision(alloc: Global, kind: &str, number: u32, other: i32) -> Option<Decision> {
+    let first = root(alloc, number);
+    let second = root(alloc, other.unsigned_abs());
+    match kind {
+        "specify" => Some(Decision::Specify(VarName::Global(number), other)),
+        "activate" => Some(Decision::Activate(first)),
+        "reject" => Some(Decision::Reject(first)),
+        "merge" => Some(Decision::Merge(first, second)),
+        "order" => Some(Decision::Order(first, second)),
+        _ => None,
+    }
+}
+
 fn summary(decision: &Decision) -> Option<(&'static str, u32, i64)> {
     match decision {
         Decision::Specify(VarName::Global(number), value) => {
@@ -26,22 +48,29 @@ fn summary(decision: &Decision) -> Option<(&'static str, u32, i64)> {
     }
 }
 
-fn copied(decision: Decision) -> Result<Option<(&'static str, u32, i64)>, AllocError> {
+fn copy_of(decision: &Decision) -> Result<Option<(&'static str, u32, i64)>, AllocError> {
     let copy = decision.copy()?;
     Ok(summary(&copy))
 }
 
+fn copied(
+    alloc: Global,
+    kind: &str,
+    number: u32,
+    other: i32,
+) -> Result<Option<(&'static str, u32, i64)>, AllocError> {
+    let made = decision(alloc, kind, number, other);
+    match &made {
+        Some(decision) => copy_of(decision),
+        None => Ok(None),
+    }
+}
+
 #[test]
-fn decisions_are_copied(rt: HostRuntime) -> Result<(), AllocError> {
-    let specify = copied(Decision::Specify(VarName::Global(7), -5))?;
-    assert_eq!(rt; specify, Some(("specify", 7, -5)));
-    let activate = copied(Decision::Activate(root(rt.alloc(), 1)))?;
-    assert_eq!(rt; activate, Some(("activate", 1, 0)));
-    let reject = copied(Decision::Reject(root(rt.alloc(), 2)))?;
-    assert_eq!(rt; reject, Some(("reject", 2, 0)));
-    let merge = copied(Decision::Merge(root(rt.alloc(), 3), root(rt.alloc(), 4)))?;
-    assert_eq!(rt; merge, Some(("merge", 3, 4)));
-    let order = copied(Decision::Order(root(rt.alloc(), 5), root(rt.alloc(), 6)))?;
-    assert_eq!(rt; order, Some(("order", 5, 6)));
+fn decisions_are_copied(rt: HostRuntime) -> Result<(), Fail> {
+    for (kind, number, other) in &DECISIONS {
+        let copy = copied(rt.alloc(), kind, *number, *other)?;
+        assert_eq!(rt; copy, Some((*kind, *number, i64::from(*other))));
+    }
     Ok(())
 }

@@ -1,11 +1,11 @@
 //! A small problem, built by hand: `Sample.antt` has it as text.
 
-ghost use Rattle.std.specs.Prelude.{◌≡◌, ◌≤ℤ◌, IfOk, pos};
+ghost use Rattle.std.specs.Prelude.{◌≡◌, ◌≤ℤ◌, [], ◌∷◌, IfOk, pos};
 ghost use Rattle.domain_core.specs.Domain.{Range};
 ghost use Rattle.model_core.specs.declared.variable.Base.TheVariants.{Given};
 ghost use Rattle.model_core.specs.declared.variable.ValueKind.TheVariants.{Int};
 ghost use Rattle.model_core.specs.Lawful.{IsLawful};
-ghost use Rattle.model_core.specs.Sample.{only, rover, spirit, at, coming, here, sample};
+ghost use Rattle.model_core.specs.Sample.{only, coming, sample};
 
 use crate::class::{Class, Object, ObjectKind, Pred, PredKind};
 use crate::item::{Item, Rel};
@@ -42,79 +42,112 @@ fn only(alloc: Global) -> Result<Dom, AllocError>
     }
 }
 
-fn rover(alloc: Global) -> Result<Class, AllocError>
-    ensures { IfOk result (λ class. class ≡ rover) }
+// The items of a list with one.
+fn one<T: Drop>(alloc: Global, item: T) -> Result<Sequence<T>, AllocError>
+    ensures { IfOk result (λ items. items ≡ item ∷ []) }
 {
-    Ok(Class {
+    let mut items = Sequence::new(alloc);
+    items.push(item)?;
+    Ok(items)
+}
+
+fn classes(alloc: Global) -> Result<Sequence<Class>, AllocError>
+    ensures { IfOk result (λ classes. classes ≡ sample.classes) }
+{
+    let rover = Class {
         name: Text::from_str(alloc, "Rover")?,
         parent: None,
         fields: Sequence::new(alloc),
-    })
+    };
+    one(alloc, rover)
 }
 
-fn spirit(alloc: Global) -> Result<Object, AllocError>
-    ensures { IfOk result (λ object. object ≡ spirit) }
+fn objects(alloc: Global) -> Result<Sequence<Object>, AllocError>
+    ensures { IfOk result (λ objects. objects ≡ sample.objects) }
 {
-    Ok(Object {
+    let spirit = Object {
         name: Text::from_str(alloc, "spirit")?,
         class: 0,
         fields: Sequence::new(alloc),
         kind: ObjectKind::Plain,
-    })
+    };
+    one(alloc, spirit)
 }
 
-fn at(alloc: Global) -> Result<Pred, AllocError>
-    ensures { IfOk result (λ pred. pred ≡ at) }
+fn preds(alloc: Global) -> Result<Sequence<Pred>, AllocError>
+    ensures { IfOk result (λ preds. preds ≡ sample.preds) }
 {
     let place = ranged(alloc, "place", 3)?;
-    Ok(Pred {
+    let at = Pred {
         class: 0,
         name: Text::from_str(alloc, "At")?,
-        params: Sequence::from_vec(vec![in alloc; place]?),
+        params: one(alloc, place)?,
         kind: PredKind::Plain,
-        rules: Sequence::from_vec(vec![in alloc; 0]?),
-    })
+        rules: one(alloc, 0)?,
+    };
+    one(alloc, at)
 }
 
-fn coming(alloc: Global) -> Result<Rule, AllocError>
-    ensures { IfOk result (λ rule. rule ≡ coming) }
+// The token that the rule asks for.
+fn from(alloc: Global) -> Result<Sequence<Slot>, AllocError>
+    ensures { IfOk result (λ slots. slots ≡ coming.slots) }
 {
-    let item = Entry::Item(Item::Relation(Rel::Any, 0));
-    let entries = vec![in alloc; Entry::Slot(0), item, Entry::Local(0)]?;
     let from = Slot {
         pred: 0,
         object: Base::Given(only(alloc)?),
     };
-    let steps = ranged(alloc, "", 9)?;
-    Ok(Rule {
-        top: Block { entries },
-        slots: Sequence::from_vec(vec![in alloc; from]?),
-        locals: Sequence::from_vec(vec![in alloc; steps]?),
-    })
+    one(alloc, from)
 }
 
-fn here(alloc: Global) -> Result<Root, AllocError>
-    ensures { IfOk result (λ root. root ≡ here) }
+// The local of the rule.
+fn steps(alloc: Global) -> Result<Sequence<VarDecl>, AllocError>
+    ensures { IfOk result (λ locals. locals ≡ coming.locals) }
 {
-    Ok(Root {
+    one(alloc, ranged(alloc, "", 9)?)
+}
+
+fn rules(alloc: Global) -> Result<Sequence<Rule>, AllocError>
+    ensures { IfOk result (λ rules. rules ≡ sample.rules) }
+{
+    let item = Entry::Item(Item::Relation(Rel::Any, 0));
+    let entries = vec![in alloc; Entry::Slot(0), item, Entry::Local(0)]?;
+    let coming = Rule {
+        top: Block { entries },
+        slots: from(alloc)?,
+        locals: steps(alloc)?,
+    };
+    one(alloc, coming)
+}
+
+fn roots(alloc: Global) -> Result<Sequence<Root>, AllocError>
+    ensures { IfOk result (λ roots. roots ≡ sample.problem.roots) }
+{
+    let here = Root {
         label: Text::from_str(alloc, "here")?,
         kind: RootKind::Goal,
         pred: 0,
         object: only(alloc)?,
-    })
+    };
+    one(alloc, here)
+}
+
+fn globals(alloc: Global) -> Result<Sequence<VarDecl>, AllocError>
+    ensures { IfOk result (λ globals. globals ≡ sample.problem.globals) }
+{
+    let mut globals = one(alloc, ranged(alloc, "total", 10)?)?;
+    globals.push(ranged(alloc, "!1", 5)?)?;
+    Ok(globals)
 }
 
 fn problem(alloc: Global) -> Result<Problem, AllocError>
     ensures { IfOk result (λ problem. problem ≡ sample.problem) }
 {
-    let total = ranged(alloc, "total", 10)?;
-    let field = ranged(alloc, "!1", 5)?;
     Ok(Problem {
         start: 0,
         end: 1000,
         steps: 1000,
-        roots: Sequence::from_vec(vec![in alloc; here(alloc)?]?),
-        globals: Sequence::from_vec(vec![in alloc; total, field]?),
+        roots: roots(alloc)?,
+        globals: globals(alloc)?,
         items: Sequence::new(alloc),
         decisions: Sequence::new(alloc),
     })
@@ -126,10 +159,10 @@ fn built(alloc: Global) -> Result<Model, AllocError>
 {
     Ok(Model {
         enums: Sequence::new(alloc),
-        classes: Sequence::from_vec(vec![in alloc; rover(alloc)?]?),
-        objects: Sequence::from_vec(vec![in alloc; spirit(alloc)?]?),
-        preds: Sequence::from_vec(vec![in alloc; at(alloc)?]?),
-        rules: Sequence::from_vec(vec![in alloc; coming(alloc)?]?),
+        classes: classes(alloc)?,
+        objects: objects(alloc)?,
+        preds: preds(alloc)?,
+        rules: rules(alloc)?,
         problem: problem(alloc)?,
     })
 }
