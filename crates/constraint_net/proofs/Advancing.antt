@@ -1,5 +1,5 @@
 -- The one induction: steps that each keep what fits keep it together.
-use Rattle.std.proofs.Common.{◌≡◌, ℕ, ◌+◌, ◌<◌, ◌≤◌, List, length, ⊎_elim, refl, sym, ◌∙◌, subst, arith}
+use Rattle.std.proofs.Common.{◌≡◌, ℕ, ◌+◌, ◌<◌, List, length, ⊎_elim, refl, sym, ◌∙◌, subst, arith}
 use Rattle.std.specs.Prelude.{All, ◌↔◌, Result, Ok, Err, IsErr}
 use Rattle.std.specs.declared.alloc.AllocError.{AllocError}
 use Rattle.std.proofs.lemmas.Bool.{cases_eq}
@@ -122,7 +122,3 @@ module _ (fits : ℕ → List Domain → Type 0) where
   -- where the first ones leave nothing, all of them do
   pub stopped : (n count : ℕ) (old new : List Domain) (change : Change) → n < count → change ≡ Empty → AdvancesTo (FitBefore fits (n + 1)) old change new → AdvancesTo (FitBefore fits count) old Empty new
   stopped n count old new change below empty p = none_fit (FitBefore fits (n + 1)) (FitBefore fits count) old new change empty (λ domains fit k within. fit k (omega arith)) p
-
-  -- after the last one
-  pub all_steps : (n count : ℕ) (old new : List Domain) (change : Change) → count ≤ n → n ≤ count → AdvancesTo (FitBefore fits n) old change new → AdvancesTo (FitBefore fits count) old change new
-  all_steps n count old new change low high p = subst (λ k. AdvancesTo (FitBefore fits k) old change new) (let e : n ≡ count = omega arith in e) p

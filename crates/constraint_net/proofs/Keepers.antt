@@ -14,7 +14,6 @@ use Rattle.constraint_net.specs.declared.constraint.Constraint.{Constraint}
 use Rattle.constraint_net.specs.declared.domains.Domains.{Domains}
 use Rattle.constraint_net.specs.declared.NetFault.{NetFault}
 use Rattle.constraint_net.specs.declared.NetFault.TheVariants.{Collapsed, Memory}
-use Rattle.constraint_net.proofs.Within.{within_length}
 use Rattle.constraint_net.proofs.Passing.{still_posted}
 
 abbrev can_post : Domains → Vec Field Global → Constraint → Type 0
@@ -43,7 +42,3 @@ pub kept_settled : (fits : List Domain → Type 0) (old new : Domains) (tables :
 kept_settled fits old new tables constraints result settles kept =
     let down = went fits old.variables.items new.variables.items result settles in
     record { posted = still_posted tables.items constraints.items old.variables.items new.variables.items down.within kept.posted; are = down.are }
-
--- as many variables stay
-pub count_settled : (fits : List Domain → Type 0) (old new : List Domain) (result : Result (Unit {0}) NetFault) → SettlesTo fits old result new → length new ≡ length old
-count_settled fits old new result settles = within_length new old (went fits old new result settles).within

@@ -4,7 +4,6 @@ use Rattle.std.specs.Prelude.{IsTrue, ◌↔◌}
 use Rattle.domain_core.specs.Domain.{Domain, Has, HaveCommon}
 use Rattle.domain_core.specs.Narrowing.{Keeps}
 use Rattle.domain_core.specs.declared.Change.{Change}
-use Rattle.domain_core.proofs.Sharing.{common_back}
 
 pub keeps_same : (passes : ℤ → Type 0) (old new old_domain new_domain : Domain) (change answer : Change)
     → old ≡ old_domain → change ≡ answer → new ≡ new_domain → Keeps passes old change new → Keeps passes old_domain answer new_domain
@@ -27,7 +26,3 @@ common_same one other old new change p keeps = subst (λ d. Keeps (Has d) old ch
 -- and what it answers of one form it answers of the domain
 pub decided_same : (answer : Bool) (one other this that : Domain) → one ≡ this → other ≡ that → IsTrue answer ↔ HaveCommon one other → IsTrue answer ↔ HaveCommon this that
 decided_same answer one other this that p q decided = subst (λ d. IsTrue answer ↔ HaveCommon this d) q (subst (λ d. IsTrue answer ↔ HaveCommon d other) p decided)
-
--- the other way round it is the same
-pub decided_back : (answer : Bool) (one other : Domain) → IsTrue answer ↔ HaveCommon one other → IsTrue answer ↔ HaveCommon other one
-decided_back answer one other decided = (λ test. common_back one other (decided.0 test), λ both. decided.1 (common_back other one both))

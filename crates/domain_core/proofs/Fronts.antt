@@ -1,5 +1,5 @@
 -- What passes a test comes to the front of a list, and what the set keeps of it.
-use Rattle.std.proofs.Common.{◌≡◌, ℕ, ◌+◌, ◌<◌, ◌≤◌, List, [], ◌∷◌, ◌++◌, length, get_or, set, take, drop, ℤ, ◌<ℤ◌, ⊎_elim, inl, inr, refl, sym, ap, ◌∙◌, subst, arith}
+use Rattle.std.proofs.Common.{◌≡◌, ℕ, ◌+◌, ◌<◌, ◌≤◌, List, [], ◌∷◌, ◌++◌, length, get_or, set, take, drop, ℤ, ◌<ℤ◌, ⊎_elim, inl, inr, sym, ap, ◌∙◌, subst, arith}
 use Rattle.std.specs.Prelude.{Contains}
 use Rattle.std.proofs.lemmas.Int.{ints}
 use Rattle.std.proofs.lemmas.List.{get_or-drop, set-get_or, take_all, take_more, take_more_set, drop-set-lt, drop-drop, length-set, length-take-le, get_or-take, get_or_default}
@@ -55,21 +55,6 @@ pub record Sifted (passed failed : ℤ → Type 0) (old new : List ℤ) (kept re
   pub long : length new ≡ length old
   pub none : kept ≡ 0 → new ≡ old
   pub all : kept ≡ read → new ≡ old
-
-pub sifted_start : (passed failed : ℤ → Type 0) (old : List ℤ) → Sifted passed failed old old 0 0
-sifted_start passed failed old = record {
-  part = record {
-    ascending = λ i j d before within. absurd (omega (arith, within));
-    from = λ value has. absurd (omega (arith, has.1));
-    each = λ value has. absurd (omega (arith, has.1));
-  };
-  rest = refl;
-  behind = omega arith;
-  within = omega arith;
-  long = refl;
-  none = λ _. refl;
-  all = λ _. refl;
-}
 
 module _ (passed failed : ℤ → Type 0) (old new : List ℤ) (kept read : ℕ) (x : ℤ)
     (ascending : AreAscending old) (sifted : Sifted passed failed old new kept read) (inside : read < length new) (read_is : x ≡ get_or new read x) where

@@ -8,7 +8,7 @@ use Rattle.std.proofs.lemmas.List.{get_or_default}
 use Rattle.domain_core.specs.Domain.{AreAscending}
 use Rattle.domain_core.specs.Lists.{KeepsFront}
 use Rattle.domain_core.proofs.Ascending.{ascending_le, stands_at}
-use Rattle.domain_core.proofs.Fronts.{Sifted, was_there, sifted_start, sifted_take, sifted_leave, sifted_all}
+use Rattle.domain_core.proofs.Fronts.{Sifted, was_there, sifted_take, sifted_leave, sifted_all}
 
 -- the number is none of the others
 abbrev pub IsApart : List ℤ → ℤ → Type 0
@@ -54,13 +54,6 @@ pub record Merged (others old new : List ℤ) (kept read next : ℕ) : Type 0 wh
   pub bound : next ≤ length others
   pub passed : IsBehind others old read next
 
-pub merged_start : (others old : List ℤ) → Merged others old old 0 0 0
-merged_start others old = record {
-  sifted = sifted_start (Contains others) (IsApart others) old;
-  bound = omega arith;
-  passed = λ k j d none from within. absurd (omega arith);
-}
-
 module _ (others old new : List ℤ) (kept read next then_next : ℕ) (x : ℤ)
     (ascending : AreAscending old) (others_ascending : AreAscending others)
     (merged : Merged others old new kept read next) (within : read < length new) (read_is : x ≡ get_or new read x)
@@ -100,13 +93,6 @@ pub record AreApart (others old : List ℤ) (read next : ℕ) : Type 0 where
   pub bound : next ≤ length others
   pub passed : IsBehind others old read next
   pub none : (k : ℕ) → k < read → k < length old → Contains others (get_or old k (pos 0)) → ⊥
-
-pub apart_start : (others old : List ℤ) → AreApart others old 0 0
-apart_start others old = record {
-  bound = omega arith;
-  passed = λ k j d none from within. absurd (omega arith);
-  none = λ k before. absurd (omega arith);
-}
 
 pub apart_step : (others old : List ℤ) (read next then_next : ℕ) (x : ℤ)
     → AreAscending old → AreAscending others → AreApart others old read next → read < length old → ((d : ℤ) → get_or old read d ≡ x)

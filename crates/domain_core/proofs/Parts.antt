@@ -10,7 +10,7 @@ use Rattle.std.proofs.lemmas.List.{length-drop}
 use Rattle.std.proofs.lemmas.List.Elements.{All-contains, All-contains_itself}
 use Rattle.domain_core.specs.Domain.{Set, IsValue, AreAscending, AreMembers}
 use Rattle.domain_core.specs.Narrowing.{IsLeft, Keeps, IsPart}
-use Rattle.domain_core.specs.declared.Change.TheVariants.{Same, Smaller, Empty}
+use Rattle.domain_core.specs.declared.Change.TheVariants.{Same, Smaller}
 use Rattle.domain_core.proofs.Ascending.{fewer}
 
 module _ (passes : ℤ → Type 0) (old new : List ℤ) (part : IsPart passes old new) where
@@ -32,10 +32,6 @@ module _ (passes : ℤ → Type 0) (old new : List ℤ) (part : IsPart passes ol
 
   pub part_smaller : 0 < length new → length new < length old → Keeps passes (Set old) Smaller (Set new)
   part_smaller some less = (part_left, omega arith)
-
-  -- where nothing is left, nothing passes
-  pub part_empty : length new ≡ 0 → Keeps passes (Set old) Empty (Set old)
-  part_empty none = (refl, λ value has pass. let c = (part.items value).1 (has, pass) in omega (arith, c.1, none))
 
   -- where as many are left, each passes
   pub part_same : new ≡ old → Keeps passes (Set old) Same (Set old)

@@ -1,15 +1,12 @@
 -- Whether two domains have a value in common.
-use Rattle.std.proofs.Common.{◌≡◌, ℕ, ◌<◌, List, get_or, ℤ, pos, ◌≤ℤ◌, ◌<ℤ◌, ⊎_elim, arith}
+use Rattle.std.proofs.Common.{◌≡◌, ℕ, ◌<◌, List, get_or, ℤ, pos, ◌≤ℤ◌, ⊎_elim, arith}
 use Rattle.std.specs.Prelude.{IsTrue, ◌↔◌}
 use lib.Signed.{le_z}
 use Rattle.std.proofs.lemmas.Bool.{cases_lt}
 use Rattle.std.proofs.lemmas.Int.{ints, by_lt_z}
 use Rattle.std.proofs.lemmas.List.Elements.{Contains-get_or}
-use Rattle.domain_core.specs.Domain.{Domain, Range, Set, HaveCommon}
+use Rattle.domain_core.specs.Domain.{Range, Set, HaveCommon}
 use Rattle.domain_core.proofs.Parts.{Bounds}
-
-pub common_back : (one other : Domain) → HaveCommon one other → HaveCommon other one
-common_back one other both = (both.0, both.2, both.1)
 
 -- two ranges, by their ends
 pub ranges_common : (lo hi low high : ℤ) → lo ≤ℤ hi → low ≤ℤ high → lo ≤ℤ high → low ≤ℤ hi → HaveCommon (Range lo hi) (Range low high)
@@ -30,10 +27,6 @@ ranges_decided lo hi low high a b p q r a_is b_is = (
   λ test. let fact = at_most a b test in ranges_common lo hi low high p q r (omega (arith, ints, fact, a_is, b_is)),
   λ both. is_at_most a b (omega (arith, ints, a_is, b_is, both.1.1, both.2.0)),
 )
-
--- and where it does, there is none
-pub ranges_apart : (lo hi low high : ℤ) → high <ℤ lo → HaveCommon (Range lo hi) (Range low high) → ⊥
-ranges_apart lo hi low high before both = omega (arith, ints, before, both.1.0, both.2.1)
 
 -- a range and ascending numbers, by the places of those that lie between the range's ends
 module _ (members : List ℤ) (lo hi : ℤ) (from end : ℕ) (bounds : Bounds members lo hi from end) where

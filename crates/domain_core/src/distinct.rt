@@ -1,6 +1,6 @@
 //! Distinct values of a list, in order, in room of their own: they are counted before any memory is taken.
 
-ghost use Rattle.std.specs.Prelude.{◌≡◌, ◌≤◌, [], ◌∷◌, ℤ, List, ℕ, length, take, All, Contains, IsTrue, MatchBool, MatchOption};
+ghost use Rattle.std.specs.Prelude.{◌≡◌, ◌≤◌, [], ℤ, List, length, take, MatchBool, MatchOption};
 ghost use Rattle.domain_core.specs.Domain.{AreAscending};
 ghost use Rattle.domain_core.specs.Lists.{Inserts, IsFull, AreDistinct, HasTooMany};
 

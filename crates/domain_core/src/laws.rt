@@ -1,6 +1,6 @@
 //! Laws of domains, for whoever speaks of them without looking at how they are kept. Each holds of ranges and sets alike.
 
-ghost use Rattle.std.specs.Prelude.{◌≡◌, ◌↔◌, ℤ};
+ghost use Rattle.std.specs.Prelude.{◌≡◌, ◌↔◌};
 ghost use Rattle.domain_core.specs.Domain.{Domain, IsDomain, IsWithin, IsSingle, least, slack};
 ghost use Rattle.domain_core.specs.Narrowing.{Keeps};
 ghost use Rattle.domain_core.specs.Laws.{HasEnds, HasValues, HasPlaces, SlackFalls, KeepsGreatest, KeepsExactly, Kept, Passes, IsMonotone, MakesOne};

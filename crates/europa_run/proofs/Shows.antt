@@ -1,5 +1,5 @@
 -- What `show` writes is the output of the words, or a front of it.
-use Rattle.std.proofs.Common.{◌≡◌, ℕ, ◌<◌, ◌≤◌, List, [], length, Option, Some, None, Result, Ok, Err, inl, inr, refl, sym, ap, ◌∙◌, subst, append-nil, codes, arith}
+use Rattle.std.proofs.Common.{◌≡◌, ℕ, ◌<◌, ◌≤◌, List, [], length, Option, Some, None, Result, Ok, Err, inl, inr, sym, ◌∙◌, subst, codes, arith}
 use Rattle.eu_io.specs.Files.{Holds}
 use Rattle.eu_io.specs.declared.shelf.FileEntry.{FileEntry}
 use Rattle.nddl_ast.specs.declared.declaration.Decl.{Decl}
@@ -10,9 +10,9 @@ use Rattle.europa_run.specs.declared.command_line.Command.TheVariants.{Show}
 use Rattle.europa_run.specs.declared.status.Status.{Status}
 use Rattle.europa_run.specs.declared.status.Status.TheVariants.{Done, Usage, Text, LinesSpent, ReadFault, WriteFault, Memory}
 use Rattle.europa_run.specs.CommandLine.{Asks}
-use Rattle.europa_run.specs.Pieces.{RoseAtReadFault, PrintsFault, Writes, Shows}
+use Rattle.europa_run.specs.Pieces.{PrintsFault, Writes, Shows}
 use Rattle.europa_run.specs.Printed.{FaultOutput, file_limit}
-use Rattle.europa_run.specs.Runs.{Runs, StopsAtReadFault, CountsReads}
+use Rattle.europa_run.specs.Runs.{Runs}
 use Rattle.europa_run.specs.Showing.{kind_of, place_of, ReadingOutput, TextOutput, ShowOutput}
 use Rattle.europa_run.proofs.Written.{writes_as, writes_fault, written_runs, nothing_runs}
 
@@ -80,18 +80,3 @@ module _ (words : List (List ℕ)) (file : List ℕ) (asks : Asks words Show fil
   show_runs told left old new WriteFault w = of_content told left old new WriteFault w
   show_runs told left old new ReadFault w = (nothing_runs words told left old new w).1
   show_runs told left old new Memory w = (nothing_runs words told left old new w).0
-
-  pub show_stops : (told : Option (List FileEntry)) (left old new : Option (List ℕ)) (status : Status) → Shows told file old new status → StopsAtReadFault words told left left old new status
-  show_stops told left old new status shows = λ files input before told_files told_left told_written is.
-      let same : new ≡ old = subst (λ (s : Status). Shows told file old new s) is shows in
-      (input, [], told_left, same ∙ told_written ∙ ap Some (sym (append-nil before)), inl (refl, refl))
-
--- where only the file was read, its count of faults is all there is
-pub counts_file : (status : Status) (old new input : ℕ) → RoseAtReadFault status old new → CountsReads status old new input input
-counts_file ReadFault old new input rose = inl (rose, refl)
-counts_file Done old new input same = (same, refl)
-counts_file Usage old new input same = (same, refl)
-counts_file Text old new input same = (same, refl)
-counts_file LinesSpent old new input same = (same, refl)
-counts_file WriteFault old new input same = (same, refl)
-counts_file Memory old new input same = (same, refl)

@@ -1,16 +1,12 @@
 -- Tests, and what says of them whether they come true.
-use Rattle.std.proofs.Common.{◌≡◌, ℤ, pos, ◌≤ℤ◌, ◌<ℤ◌, ◌+ℤ◌, Bool, false, refl, sym, ◌∙◌, subst, arith}
+use Rattle.std.proofs.Common.{◌≡◌, ℤ, pos, ◌≤ℤ◌, ◌<ℤ◌, ◌+ℤ◌, Bool, refl, sym, subst, arith}
 use Rattle.std.specs.Prelude.{◌↔◌, IsTrue}
 use lib.Signed.{lt_z, le_z}
 use Rattle.std.proofs.lemmas.Int.{ints, by_lt_z}
 use Rattle.domain_core.specs.Domain.{Domain, IsDomain, Has, HaveCommon, IsSingle, IsBetweenEnds, least, greatest}
-use Rattle.domain_core.specs.Narrowing.{Keeps}
-use Rattle.domain_core.specs.declared.Change.{Change}
-use Rattle.domain_core.specs.declared.Change.TheVariants.{Same, Empty}
 use Rattle.domain_core.proofs.Words.{has_least, has_greatest, between_ends}
 use Rattle.narrow_core.specs.Truths.{HasBesideOne, PassesTest}
 use Rattle.narrow_core.proofs.Bounds.{ends_ordered}
-use Rattle.narrow_core.proofs.Supports.{keeps_along}
 use Rattle.narrow_core.proofs.Values.{same_or_not, IsApart}
 
 -- ---- what a comparison of the code says
@@ -38,9 +34,6 @@ at_most_test a b x y a_is b_is = (λ test. let fact = le_yes test in omega (arit
 abbrev pub Differ : Domain → Domain → Type 0
 Differ x y = (v w : ℤ) × Has x v × Has y w × (v ≡ w → ⊥)
 
-pub differ_up : (x y : Domain) → IsDomain x → IsDomain y → least x <ℤ greatest y → Differ x y
-differ_up x y ok y_ok less = (least x, greatest y, has_least x ok, has_greatest y y_ok, λ e. omega (arith, ints, less, e))
-
 pub differ_down : (x y : Domain) → IsDomain x → IsDomain y → greatest y ≤ℤ least x → (least y <ℤ greatest x) ↔ Differ x y
 differ_down x y ok y_ok le = (
   λ less. (greatest x, least y, has_greatest x ok, has_least y y_ok, λ e. omega (arith, ints, less, e)),
@@ -49,9 +42,6 @@ differ_down x y ok y_ok le = (
       let other = between_ends y some.1 y_ok some.3 in
       by_lt_z (least y) (greatest x) (λ less. less) (λ from. absurd (some.4 (omega (arith, ints, from, le, one.0, one.1, other.0, other.1)))),
 )
-
-pub beside_down : (domain : Domain) → IsDomain domain → least domain <ℤ pos 1 → HasBesideOne domain
-beside_down domain ok less = (least domain, has_least domain ok, λ e. omega (arith, ints, less, e))
 
 pub beside_up : (domain : Domain) → IsDomain domain → pos 1 ≤ℤ least domain → (pos 1 <ℤ greatest domain) ↔ HasBesideOne domain
 beside_up domain ok from = (
@@ -72,38 +62,6 @@ between_single domain value ok single between =
     let low = single.only (least domain) (has_least domain ok) in
     let high = single.only (greatest domain) (has_greatest domain ok) in
     omega (arith, ints, between.0, between.1, low, high)
-
--- ---- the outcomes that stay
-
-pub outcomes_same : (domain : Domain) (may_hold may_fail : Bool) → IsTrue may_hold → IsTrue may_fail → Keeps (PassesTest may_hold may_fail) domain Same domain
-outcomes_same domain may_hold may_fail hold fail = (refl, λ value tested. (λ one. hold, λ other. fail))
-
-pub outcomes_hold : (may_hold may_fail : Bool) (low high : ℤ) (old new : Domain) (change : Change) → IsTrue may_hold → may_fail ≡ false → low ≡ pos 1 → high ≡ pos 1
-    → Keeps (λ value. (low ≤ℤ value) × (value ≤ℤ high)) old change new → Keeps (PassesTest may_hold may_fail) old change new
-outcomes_hold may_hold may_fail low high old new change hold fail low_is high_is keeps =
-    keeps_along (λ value. (low ≤ℤ value) × (value ≤ℤ high)) (PassesTest may_hold may_fail) old new change
-    (λ value. (
-      λ between. (λ one. hold, λ other. absurd (other (omega (arith, ints, between.0, between.1, low_is, high_is)))),
-      λ pass.
-          same_or_not value (pos 1)
-          (λ same. (omega (arith, ints, same, low_is), omega (arith, ints, same, high_is)))
-          (λ apart. let failed = pass.1 apart in absurd (cc (failed, fail))),
-    )) keeps
-
-pub outcomes_fail : (may_hold may_fail : Bool) (one : ℤ) (old new : Domain) (change : Change) → may_hold ≡ false → IsTrue may_fail → one ≡ pos 1
-    → Keeps (λ other. other ≡ one → ⊥) old change new → Keeps (PassesTest may_hold may_fail) old change new
-outcomes_fail may_hold may_fail one old new change hold fail one_is keeps =
-    keeps_along (λ other. other ≡ one → ⊥) (PassesTest may_hold may_fail) old new change
-    (λ value. (
-      λ apart. (λ same. absurd (apart (same ∙ sym one_is)), λ other. fail),
-      λ pass same. let held = pass.0 (same ∙ one_is) in absurd (cc (held, hold)),
-    )) keeps
-
-pub outcomes_none : (domain : Domain) (may_hold may_fail : Bool) → may_hold ≡ false → may_fail ≡ false → Keeps (PassesTest may_hold may_fail) domain Empty domain
-outcomes_none domain may_hold may_fail hold fail = (
-  refl,
-  λ value has pass. same_or_not value (pos 1) (λ same. let held = pass.0 same in absurd (cc (held, hold))) (λ apart. let failed = pass.1 apart in absurd (cc (failed, fail))),
-)
 
 -- ---- the first argument of a test
 
@@ -141,12 +99,6 @@ order_outcomes x y may_hold may_fail value ok y_ok hold fail = (
 
 abbrev pub EqualSide : Domain → Domain → ℤ → Type 0
 EqualSide truth other value = (t w : ℤ) × Has truth t × Has other w × ((t ≡ pos 1) ↔ (value ≡ w))
-
-pub side_holds : (truth other : Domain) (value : ℤ) → IsSingle truth (pos 1) → Has other value ↔ EqualSide truth other value
-side_holds truth other value single = (
-  λ has. (pos 1, value, single.has, has, (λ _. refl, λ _. refl)),
-  λ some. subst (Has other) (sym (some.4.0 (single.only some.0 some.2))) some.3,
-)
 
 pub side_fails : (truth other : Domain) (value : ℤ) → IsDomain truth → (Has truth (pos 1) → ⊥) → IsApart other value ↔ EqualSide truth other value
 side_fails truth other value ok none =

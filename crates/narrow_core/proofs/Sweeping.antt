@@ -48,9 +48,6 @@ joined_some Smaller Smaller p q e = cc
 joined_some Smaller Empty p q e = q refl
 joined_some Empty next p q e = p refl
 
-next_some : (first next : Change) → (joined first next ≡ Empty → ⊥) → next ≡ Empty → ⊥
-next_some first next some e = some (ap (joined first) e ∙ joined_empty first)
-
 first_same : (first next : Change) → joined first next ≡ Same → first ≡ Same
 first_same Same next e = refl
 first_same Smaller Same e = cc

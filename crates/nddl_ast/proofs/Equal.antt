@@ -406,9 +406,6 @@ decl_from (decls.Ask a) (decls.Ask a') same =
     ask_equal.from a a' a_same
 decl_from one other same = absurd (cc)
 
-decl_equal : IsEqual SameDecl unplaced
-decl_equal = record { to = decl_to; from = decl_from }
-
 pub same_is_equal : SameIsEqual
 same_is_equal one other = (decl_to one other, decl_from one other)
 

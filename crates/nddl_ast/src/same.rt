@@ -1,7 +1,7 @@
 //! Comparing trees without regard to places.
 
-ghost use Rattle.std.specs.Prelude.{◌≡◌, ◌↔◌, IsTrue};
-ghost use Rattle.nddl_ast.specs.Same.{AllSame, BothSame, SameName, SamePath, SameLiteral, SameExpr, SameValue, SameBase, SameBounds, SameType, SameCreation, SameInit, SameVariable, SameCall, SameAsk, SameGuard, SameStatements, SameBlock, SameTyped, SamePart, SameSet, SameMember, SameDecl};
+ghost use Rattle.std.specs.Prelude.{◌↔◌, IsTrue};
+ghost use Rattle.nddl_ast.specs.Same.{AllSame, BothSame, SameName, SamePath, SameLiteral, SameExpr, SameValue, SameBase, SameBounds, SameType, SameCreation, SameInit, SameVariable, SameCall, SameAsk, SameGuard, SameBlock, SameTyped, SamePart, SameSet, SameMember, SameDecl};
 ghost use Rattle.nddl_ast.specs.Unplaced.{SameIsEqual, SameIsAnEquivalence};
 ghost use Rattle.nddl_ast.specs.SameStatement.{SameStmt};
 

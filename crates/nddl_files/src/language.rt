@@ -1,10 +1,7 @@
 //! Texts of the language.
 
-ghost use Rattle.std.specs.Prelude.{◌≡◌, ◌≢◌, Ok, Err, IfErr};
-ghost use Rattle.nddl_includes.specs.Outcomes.{ReadsText};
-ghost use Rattle.nddl_lexer.specs.Reading.{Lexes, IsFault};
+ghost use Rattle.std.specs.Prelude.{Ok, Err};
 ghost use Rattle.nddl_lexer.specs.declared.kinds.LexFault.TheVariants as lexing;
-ghost use Rattle.nddl_parser.specs.Derives.{Parses};
 ghost use Rattle.nddl_parser.specs.declared.parse.ParseFault.TheVariants as parsing;
 ghost use Rattle.nddl_files.specs.Language.{ReadsAs};
 

@@ -21,18 +21,6 @@ later_longer : (n : ℕ) (found : Option ℕ) → later n (longer found) ≡ lat
 later_longer n None = refl
 later_longer n (Some len) = ap Some (omega arith)
 
-later_none : (found : Option ℕ) → found ≡ later 0 found
-later_none None = refl
-later_none (Some len) = ap Some (omega arith)
-
-pub close_start : (text : List ℕ) → close_len text ≡ later (1 - 1) (close_len (drop (1 - 1) text))
-close_start text = later_none (close_len text)
-
-found_from : (text : List ℕ) (j : ℕ) → j < length text → close_len text ≡ later j (close_len (drop j text)) → get_or text j 0 ≡ 42 → get_or text (j + 1) 0 ≡ 47 → close_len text ≡ Some (2 + j)
-found_from text j within so_far star slash =
-    let both = and_from (eqb (get_or text j 0) 42) (eqb (get_or text (j + 1) 0) 47) (eq-eqb _ _ star) (eq-eqb _ _ slash) in
-    so_far ∙ ap (later j) (close_at text j within ∙ cond-true _ _ _ both)
-
 more_from : (text : List ℕ) (j : ℕ) → j < length text → close_len text ≡ later j (close_len (drop j text)) → ((get_or text j 0 ≡ 42) × (get_or text (j + 1) 0 ≡ 47) → ⊥) → close_len text ≡ later (j + 1) (close_len (drop (j + 1) text))
 more_from text j within so_far other = elim (cases_Bool ((eqb (get_or text j 0) 42) && (eqb (get_or text (j + 1) 0) 47))) [
   | inl both ↦
@@ -40,13 +28,6 @@ more_from text j within so_far other = elim (cases_Bool ((eqb (get_or text j 0) 
       absurd (other (eqb-true _ _ parts.0, eqb-true _ _ parts.1)))
   | inr none ↦ so_far ∙ (ap (later j) (close_at text j within ∙ cond-false _ _ _ none) ∙ later_longer j (close_len (drop (j + 1) text)))
 ]
-
-pub close_found : (text : List ℕ) (i : ℕ) → 1 ≤ i → i < length text → close_len text ≡ later (i - 1) (close_len (drop (i - 1) text))
-    → get_or text (i - 1) 0 ≡ 42 → get_or text i 0 ≡ 47 → Some (i + 1) ≡ close_len text
-close_found text i some within so_far star slash =
-    let at : i ≡ (i - 1) + 1 = omega arith in
-    let slash' : get_or text ((i - 1) + 1) 0 ≡ 47 = ap (λ (k : ℕ). get_or text k 0) (sym at) ∙ slash in
-    ap Some (omega arith) ∙ sym (found_from text (i - 1) (omega arith) so_far star slash')
 
 pub close_more : (text : List ℕ) (i : ℕ) → 1 ≤ i → i < length text → close_len text ≡ later (i - 1) (close_len (drop (i - 1) text))
     → ((get_or text (i - 1) 0 ≡ 42) × (get_or text i 0 ≡ 47) → ⊥) → close_len text ≡ later ((i + 1) - 1) (close_len (drop ((i + 1) - 1) text))

@@ -1,5 +1,5 @@
 -- The sizes that digits stand for, and which of them are in range.
-use Rattle.std.proofs.Common.{◌≡◌, ℕ, zero, suc, ◌+◌, ◌-◌, ◌*◌, ◌^◌, ◌<◌, ◌≤◌, ℤ, pos, neg_ℤ, Bool, true, eqb, ◌⊎◌, Option, Some, None, List, [], ◌∷◌, ◌++◌, length, get_or, take, drop, refl, sym, subst, ◌∙◌, ap, inl, inr, arith}
+use Rattle.std.proofs.Common.{◌≡◌, ℕ, ◌+◌, ◌-◌, ◌*◌, ◌^◌, ◌<◌, ◌≤◌, ℤ, pos, neg_ℤ, Bool, true, eqb, ◌⊎◌, Option, Some, None, List, [], ◌∷◌, ◌++◌, length, get_or, take, drop, refl, sym, subst, ◌∙◌, ap, inl, inr, arith}
 use Rattle.std.specs.Char.{is_ascii_digit, digit_value}
 use Rattle.std.specs.Str.Parse.{digits_value, AllDigits}
 use Rattle.std.proofs.Math.Nat.{pow-le-pow_right}
@@ -7,7 +7,7 @@ use Rattle.std.proofs.lemmas.Bool.{cases_Bool, cases_lt, cond-true, cond-false}
 use Rattle.std.proofs.lemmas.Bool.Decides.{nat_tests}
 use Rattle.std.proofs.lemmas.Int.{ints}
 use Rattle.std.proofs.lemmas.Int.Digits.{digits_value_more, digits_value-lt}
-use Rattle.std.proofs.lemmas.List.{take_all, take_at, take_more, drop_at}
+use Rattle.std.proofs.lemmas.List.{take_at, take_more, drop_at}
 use Rattle.std.proofs.lemmas.Str.Parse.{digits_value-take-le}
 use Rattle.nddl_lexer.specs.declared.kinds.LexKind.{LexKind}
 use Rattle.nddl_lexer.specs.declared.kinds.LexKind.TheVariants.{Word, Number, Decimal, Str, Include, BraceOpen, BraceClose, ParenOpen, ParenClose, BracketOpen, BracketClose, Semicolon, Comma, Point, Assign, Equal, NotEqual, DoubleColon}
@@ -18,11 +18,6 @@ use Rattle.nddl_lexer.proofs.Prefixes.{passing_is}
 use Rattle.nddl_lexer.proofs.Shapes.{infinity_no_amount}
 
 -- ---- digits
-
-passes_at : (p : ℕ → Bool) (xs : List ℕ) (i : ℕ) → AllPassing p xs → i < length xs → p (get_or xs i 0) ≡ true
-passes_at p [] i passes within = absurd (omega arith)
-passes_at p (x ∷ xs) zero passes within = passes.0
-passes_at p (x ∷ xs) (suc i) passes within = passes_at p xs i passes.1 (omega arith)
 
 digit_is : (byte : ℕ) → is_ascii_digit byte ≡ true → digit_value byte ≡ byte - 48
 digit_is byte digit = grind (arith, nat_tests)
@@ -41,9 +36,6 @@ passes_more p xs i passes within next = subst (AllPassing p) (sym (take_more xs 
     push : (front : List ℕ) → AllPassing p front → AllPassing p (front ++ get_or xs i 0 ∷ [])
     push [] front_passes = (next, tt)
     push (x ∷ front) front_passes = (front_passes.0, push front front_passes.1)
-
-pub passes_all : (p : ℕ → Bool) (xs : List ℕ) (i : ℕ) → AllPassing p (take i xs) → length xs ≤ i → AllPassing p xs
-passes_all p xs i passes past = subst (AllPassing p) (take_all i xs past) passes
 
 -- one digit more
 pub size_more : (digits : List ℕ) (i size digit : ℕ) → is_ascii_digit (get_or digits i 0) ≡ true → i < length digits → size ≡ digits_value 10 (take i digits) → digit ≡ get_or digits i 0 - 48
@@ -121,16 +113,6 @@ decimal_outside bytes whole fraction are above value spells is_value =
     ap (λ (xs : List ℕ). thousandths_of xs spells.fraction) once.0 ∙ ap (thousandths_of whole) once.1 in
     let too_much = above (subst AreDigits once.0 spells.parts.1) (subst AreDigits once.1 spells.parts.2) (omega (arith, spells.short, ap length once.1)) in
     omega (arith, too_much, range_size bytes (thousandths_of spells.whole spells.fraction) (subst IsValue spells.value is_value), same)
-
-pub decimal_found : (bytes whole fraction : List ℕ) (size : ℕ) → unsigned bytes ≡ whole ++ 46 ∷ fraction → AreDigits whole × AreDigits fraction × (length fraction ≤ 3) × (size ≡ thousandths_of whole fraction)
-    → SpellsDecimal bytes (with_sign bytes size)
-decimal_found bytes whole fraction size joined found = record {
-  whole = whole;
-  fraction = fraction;
-  parts = (joined, found.0, found.1);
-  short = found.2;
-  value = ap (with_sign bytes) found.3;
-}
 
 -- ---- a number is in range or not
 

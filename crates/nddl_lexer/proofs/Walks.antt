@@ -3,11 +3,10 @@ use Rattle.std.proofs.Common.{◌≡◌, ℕ, ◌+◌, ◌-◌, ◌≤◌, Optio
 use Rattle.std.proofs.lemmas.List.{length-append, length-take-le, length-drop, drop-drop, drop_all, take_rest}
 use Rattle.nddl_lexer.specs.declared.kinds.LexKind.{LexKind}
 use Rattle.nddl_lexer.specs.declared.kinds.Lexeme.{Lexeme}
-use Rattle.nddl_lexer.specs.declared.kinds.LexFault.{LexFault}
 use Rattle.nddl_lexer.specs.declared.fronts.Front.{Front}
 use Rattle.nddl_lexer.specs.declared.fronts.Stop.{Stop}
 use Rattle.nddl_lexer.specs.Spelling.{IsInRange}
-use Rattle.nddl_lexer.specs.Reading.{Piece, piece_of, Starts, Leads, with_lexeme, lexemes_of, Lexes, IsOutOfRange, IsFaultFrom, IsFault}
+use Rattle.nddl_lexer.specs.Reading.{Piece, piece_of, Starts, Leads, with_lexeme, lexemes_of, Lexes, IsOutOfRange}
 use Rattle.nddl_lexer.specs.Scan.{front_of}
 use Rattle.nddl_lexer.proofs.Outcomes.{FrontIs, front_is}
 
@@ -42,9 +41,6 @@ pub record HasRead (text : List ℕ) (lexemes : List Lexeme) (at : ℕ) : Type 0
   pub leads : Leads text pieces (drop at text)
   pub are : lexemes ≡ lexemes_of 0 pieces
 
-pub read_none : (text : List ℕ) → HasRead text [] 0
-read_none text = record { pieces = []; leads = refl; are = refl }
-
 pub read_more : (text : List ℕ) (lexemes : List Lexeme) (at : ℕ) (kind : Option LexKind) (len : ℕ) → HasRead text lexemes at → at + len ≤ length text
     → Starts (drop at text) (piece_of kind (take len (drop at text))) (drop (at + len) text) → IsInRange kind (take len (drop at text))
     → (new : List Lexeme) → new ≡ lexemes ++ with_lexeme kind at len [] → HasRead text new (at + len)
@@ -69,14 +65,6 @@ read_more text lexemes at kind len read within starts range new is = record {
 
 pub read_all : (text : List ℕ) (lexemes : List Lexeme) (at : ℕ) → HasRead text lexemes at → length text ≤ at → Lexes text lexemes
 read_all text lexemes at read past = (read.pieces, subst (Leads text read.pieces) (drop_all at text past) read.leads, read.are)
-
-pub read_fault : (text : List ℕ) (lexemes : List Lexeme) (at : ℕ) (fault : LexFault) → HasRead text lexemes at → at ≤ length text → IsFaultFrom (drop at text) at fault → IsFault text fault
-read_fault text lexemes at fault read within cause = record {
-  pieces = read.pieces;
-  rest = drop at text;
-  leads = read.leads;
-  cause = let place : at ≡ length text - length (drop at text) = omega (arith, length-drop at text, within) in subst (λ (n : ℕ). IsFaultFrom (drop at text) n fault) place cause;
-}
 
 -- ---- the front of the text from the place on, as the code takes it
 

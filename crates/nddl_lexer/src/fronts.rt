@@ -1,9 +1,9 @@
 //! What stands at the front of a text: a lexeme, a blank or a comment, told by the first byte.
 
-ghost use Rattle.std.specs.Prelude.{◌≡◌, ◌≤◌, ◌+◌, ◌<◌, ◌^◌, length, take, codes, IfOk, IfSome};
+ghost use Rattle.std.specs.Prelude.{◌≡◌, ◌≤◌, ◌+◌, ◌<◌, ◌^◌, length, take, IfOk, IfSome};
 ghost use Rattle.std.specs.List.{prefix_len};
 ghost use Rattle.nddl_lexer.specs.Bytes.{is_blank, is_sign, is_quotable, is_in_line};
-ghost use Rattle.nddl_lexer.specs.Scan.{gap_of, lexeme_of, class_of, kind_of_word, word_len, digits_len, begins_with_digit, fraction_len, amount_of, amount_at, longer_by_one, after_sign, after_quote, after_hash, close_len, after_slash, double_mark, single_mark, mark_at, front_of};
+ghost use Rattle.nddl_lexer.specs.Scan.{gap_of, lexeme_of, class_of, kind_of_word, word_len, digits_len, begins_with_digit, fraction_len, amount_of, amount_at, after_sign, after_quote, after_hash, close_len, after_slash, double_mark, single_mark, mark_at, front_of};
 
 use super::kinds::LexKind;
 use eu_name::word;

@@ -1,6 +1,6 @@
 //! A whole text as lexemes.
 
-ghost use Rattle.std.specs.Prelude.{◌≡◌, ◌≢◌, ◌+◌, ◌<◌, ◌≤◌, ◌^◌, ◌++◌, ◌∷◌, [], ◌↔◌, IsTrue, IfOk, IfErr, OnOk, OnErr, length, drop, take};
+ghost use Rattle.std.specs.Prelude.{◌≡◌, ◌≢◌, ◌+◌, ◌<◌, ◌≤◌, ◌^◌, ◌++◌, [], ◌↔◌, IsTrue, IfOk, IfErr, OnOk, length, drop, take};
 ghost use Rattle.nddl_lexer.specs.declared.kinds.LexFault.TheVariants.{Memory};
 ghost use Rattle.nddl_lexer.specs.Spelling.{IsInRange};
 ghost use Rattle.nddl_lexer.specs.Reading.{piece_of, with_lexeme, IsFault, IsFaultFrom, Lexes, Starts, HasOneOutcome, HasOneReading, LieInOrder, BlanksSeparate};

@@ -1,6 +1,6 @@
 //! Reading items one after another.
 
-ghost use Rattle.std.specs.Prelude.{◌≡◌, ◌++◌, ◌∷◌, []};
+ghost use Rattle.std.specs.Prelude.{◌≡◌, ◌++◌};
 ghost use Rattle.nddl_reading.specs.Readers.{Outcome, begins, is, mapped, many, after, following, separated, listed, Reads};
 
 use eu_name::sequence::Sequence;

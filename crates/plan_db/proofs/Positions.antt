@@ -1,7 +1,6 @@
 -- The state that a list of domains is.
-use Rattle.std.proofs.Common.{◌≡◌, ℕ, suc, zero, ◌+◌, ◌<◌, List, [], ◌∷◌, length, set, get_or, Some, refl, sym, ap, ◌∙◌, subst, ⊎_elim, arith}
+use Rattle.std.proofs.Common.{◌≡◌, ℕ, suc, zero, ◌+◌, ◌<◌, List, [], ◌∷◌, length, set, get_or, Some, refl, sym, ap, ◌∙◌, subst, arith}
 use Rattle.std.specs.Prelude.{slice_get, AllPairs}
-use Rattle.std.proofs.lemmas.Bool.{cases_lt}
 use Rattle.std.proofs.lemmas.Option.{get_or_from_slice_get}
 use Rattle.domain_core.specs.Domain.{Domain, IsDomain}
 use Rattle.eu_name.specs.declared.name.VarName.{VarName}
@@ -19,13 +18,6 @@ pub get-set_same : {X : Type 0} (xs : List X) (k : ℕ) (x y : X) → slice_get 
 get-set_same [] k x y e = absurd (cc)
 get-set_same (z ∷ xs) zero x y e = refl
 get-set_same (z ∷ xs) (suc k) x y e = get-set_same xs k x y e
-
-pub get-set_other : {X : Type 0} (xs : List X) (k j : ℕ) (y : X) → (j ≡ k → ⊥) → slice_get (set xs k y) j ≡ slice_get xs j
-get-set_other [] k j y apart = refl
-get-set_other (z ∷ xs) zero zero y apart = absurd (apart refl)
-get-set_other (z ∷ xs) zero (suc j) y apart = refl
-get-set_other (z ∷ xs) (suc k) zero y apart = refl
-get-set_other (z ∷ xs) (suc k) (suc j) y apart = get-set_other xs k j y (λ same. apart (ap suc same))
 
 -- ---- the entries
 
@@ -107,26 +99,3 @@ are_state model domains count each = record {
         omega (arith, same, count, get_below domains stands.place has.0 stands.at)
     about (Token token part) has = let stands = given_at domains (Token token part) has.0 has.1 in absurd (let e = stands.is_global in cc)
     about (Local token rule number) has = let stands = given_at domains (Local token rule number) has.0 has.1 in absurd (let e = stands.is_global in cc)
-
--- two numbers with the same smaller numbers are one
-same_bounds : (m n : ℕ) → ((k : ℕ) → k < m → k < n) → ((k : ℕ) → k < n → k < m) → m ≡ n
-same_bounds m n into back =
-    ⊎_elim
-    (λ less. absurd (omega (arith, back m less)))
-    (λ no_less. ⊎_elim (λ less. absurd (omega (arith, into n less))) (λ no_more. omega arith) (cases_lt n m))
-    (cases_lt m n)
-
-module _ (model : Model) (domains : List Domain) (ok : IsState model (state_of domains)) where
-  -- a state has as many domains as the model has globals
-  pub count_of_state : length domains ≡ length model.problem.globals
-  count_of_state = same_bounds (length domains) (length model.problem.globals) into back
-    where
-      into : (k : ℕ) → k < length domains → k < length model.problem.globals
-      into k within = let found = get_within domains k within in (ok.variables (Global k)).1 (found.0, gives_at domains k found.0 found.1)
-
-      back : (k : ℕ) → k < length model.problem.globals → k < length domains
-      back k within =
-          let given = (ok.variables (Global k)).0 within in
-          let stands = given_at domains (Global k) given.0 given.1 in
-          let same = number_same k stands.place stands.is_global in
-          omega (arith, same, get_below domains stands.place given.0 stands.at)

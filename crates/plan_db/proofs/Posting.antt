@@ -169,18 +169,6 @@ module _ (model : Model) (lawful : IsLawful model) where
 
 -- ---- one item after another
 
--- posting doesn't hinder what is posted later
-pub still_postable : (net : Network) (more : List constraints.Constraint) (item : Item) → IsPostable net item → IsPostable (record net { constraints = more }) item
-still_postable net more (Constraint kind terms) can = can
-still_postable net more (Relation relation slot) can = can
-
-pub posts_none : (net : Network) → PostsAll net [] net
-posts_none net = ([], tt, let same = append_nil net.constraints in ap (λ list. record net { constraints = list }) (sym same))
-  where
-    append_nil : {X : Type 0} (xs : List X) → xs ++ [] ≡ xs
-    append_nil [] = refl
-    append_nil (x ∷ xs) = ap (λ rest. x ∷ rest) (append_nil xs)
-
 pub posts_more : (old middle new : Network) (items : List Item) (item : Item) → PostsAll old items middle → PostsItem middle item new → PostsAll old (items ++ item ∷ []) new
 posts_more old middle new items item all one =
     let behind : middle.constraints ++ one.0 ∷ [] ≡ old.constraints ++ (all.0 ++ one.0 ∷ []) =
@@ -213,12 +201,6 @@ pub items_more : (items : List Item) (old middle new : Network) (count : ℕ) (i
     → PostsAll old (take (count + 1) items) new
 items_more items old middle new count item below is all one =
     rw (take_more items count item below, ← is) (posts_more old middle new (take count items) item all one)
-
--- an item that was postable at first is still
-pub item_postable : (items : List Item) (old middle : Network) (count : ℕ) (item : Item) → count < length items → item ≡ get_or items count item → All (IsPostable old) items → PostsAll old (take count items) middle → IsPostable middle item
-item_postable items old middle count item below is all posted =
-    subst (λ net. IsPostable net item) (sym posted.2)
-    (still_postable old (old.constraints ++ posted.0) item (subst (IsPostable old) (sym is) (all count item below)))
 
 -- ---- the bases
 

@@ -1,31 +1,15 @@
 -- One step towards the least state, and any number of them: nothing that fits is lost.
-use Rattle.std.specs.Prelude.{◌≡◌, ℕ, ◌<◌, List, [], ◌∷◌, Some, set, slice_get, sum_by, ⊤}
-use Rattle.domain_core.specs.Domain.{Domain, slack}
-use Rattle.domain_core.specs.declared.Change.{Change}
-use Rattle.domain_core.specs.declared.Change.TheVariants.{Same, Smaller, Empty}
+use Rattle.std.specs.Prelude.{◌≡◌, ℕ, List, [], ◌∷◌, Some, set, slice_get, ⊤}
+use Rattle.domain_core.specs.Domain.{Domain}
 use Rattle.model_core.specs.declared.model.Model.{Model}
 use Rattle.eu_name.specs.declared.name.VarName.{VarName}
 use Rattle.model_core.specs.State.{State, IsState, IsBelow}
-
--- how far the state is from single values; it falls whenever a value goes
-abbrev pub slack_of : State → ℕ
-slack_of state = sum_by (λ entry. slack entry.domain) state.entries
 
 -- the new state lies below the old one, and every state below the old one that fits is below the new one
 pub record Advances (model : Model) (fits : State → Type 0) (old new : State) : Type 0 where
   pub lower : IsBelow old new
   pub is_state : IsState model old → IsState model new
   pub keeps : (other : State) → IsState model other → IsBelow old other → fits other → IsBelow new other
-
--- what a step answers and leaves: it fits already, or it has advanced, or nothing below it fits
-abbrev pub AdvancesTo : Model → (State → Type 0) → State → Change → State → Type 0
-AdvancesTo model fits old Same new = (new ≡ old) × (IsState model old → fits old)
-AdvancesTo model fits old Smaller new = Advances model fits old new × (slack_of new < slack_of old)
-AdvancesTo model fits old Empty new = (other : State) → IsState model other → IsBelow old other → fits other → ⊥
-
--- each of the first n items fits the state
-abbrev pub FitsBefore : {X : Type 0} → (X → State → Type 0) → List X → ℕ → State → Type 0
-FitsBefore {X} fits items n state = (k : ℕ) (item : X) → k < n → slice_get items k ≡ Some item → fits item state
 
 -- each state comes of the one before it by a step
 abbrev pub AreSteps : Model → (State → Type 0) → State → List State → Type 0

@@ -1,5 +1,5 @@
 -- From the parts of a lawful model to the model and back.
-use Rattle.std.proofs.Common.{◌≡◌, ℕ, ◌<◌, ◌≤◌, ◌^◌, pos, List, [], ◌∷◌, ◌++◌, length, get_or, inl, ap, refl, sym, subst, ◌∙◌, All, AllPairs, Contains, arith}
+use Rattle.std.proofs.Common.{◌≡◌, ℕ, ◌<◌, ◌^◌, pos, List, [], ◌∷◌, ◌++◌, length, get_or, inl, ap, refl, sym, subst, ◌∙◌, All, AllPairs, Contains, arith}
 use Rattle.std.specs.List.{flat_map}
 use Rattle.std.proofs.lemmas.Int.{ints}
 use Rattle.std.proofs.lemmas.List.{append_assoc, append-nil, length-append, length-map, map-append, get_or-map, get_or_append_left, get_or_at, get_or_default, length_push, map_push}
@@ -41,13 +41,6 @@ All-middle P xs ys y all = subst P (get_or_at xs y ys y (length xs) refl) (all (
 
 -- ---- globals
 
-pub globals_none : AreGlobals []
-globals_none = record {
-  few = omega arith;
-  all = All-from_recursion IsDeclarable [] tt;
-  distinct = λ i j d below in_none. absurd (omega arith);
-}
-
 pub globals_push : (globals : List VarDecl) (variable : VarDecl) → AreGlobals globals → IsDeclarable variable → length globals < 4096 → (Contains (names_of globals) variable.name → ⊥) → AreGlobals (globals ++ variable ∷ [])
 globals_push globals variable are declarable room new = record {
   few = omega (arith, length_push globals variable);
@@ -70,9 +63,6 @@ globals_next globals more variable are = All-middle IsDeclarable globals more va
 pub globals_repeat : (globals : List VarDecl) (variable : VarDecl) → Contains (names_of globals) variable.name → AreGlobals (globals ++ variable ∷ []) → ⊥
 globals_repeat globals variable among are =
     no_repeat (names_of globals) [] variable.name among (rw (map_push name_of globals variable) at are.distinct)
-
-pub globals_full : (globals : List VarDecl) (variable : VarDecl) → 4096 ≤ length globals → AreGlobals (globals ++ variable ∷ []) → ⊥
-globals_full globals variable full are = omega (arith, are.few, length_push globals variable)
 
 pub globals_ranges : (globals : List VarDecl) → AreGlobals globals → All IsRangeVariable globals
 globals_ranges globals are = All-weaker IsDeclarable IsRangeVariable (λ variable declarable. declarable.range) globals are.all

@@ -11,10 +11,6 @@ use Rattle.eu_name.specs.Word.{is_word_start, is_word_byte}
 use Rattle.range_problem.specs.Lexeme.{is_blank, marks, IsInfinity}
 use Rattle.range_problem.proofs.Front.{Passes}
 
--- a byte that can stand first in a number: a sign, a digit or an `i`
-abbrev IsNumberStart : ℕ → Type 0
-IsNumberStart byte = (byte ≡ 43) ⊎ ((byte ≡ 45) ⊎ ((is_ascii_digit byte ≡ true) ⊎ (byte ≡ 105)))
-
 pub digit_test : (byte : ℕ) → digit_value byte < 10 → is_ascii_digit byte ≡ true
 digit_test byte small = let range = digit_from_value byte small in grind (arith, nat_tests)
 

@@ -8,11 +8,11 @@ use Rattle.model_core.specs.declared.variable.VarDecl.{VarDecl}
 use Rattle.model_core.specs.declared.variable.Base.TheVariants.{Given}
 use Rattle.range_problem.specs.Lexeme.{Lexeme, Word, Number, Mark, Begins, Leads}
 use Rattle.model_core.specs.Naming.{names_of}
-use Rattle.range_problem.specs.Parts.{variable_of, leq_of, IsFree, IsDeclarable}
+use Rattle.range_problem.specs.Parts.{leq_of, IsFree, IsDeclarable}
 use Rattle.range_problem.specs.Readers.{DeclaresNone}
 use Rattle.range_problem.specs.Spelling.{range_of, declaration_of, constraint_of}
 use Rattle.range_problem.proofs.Lexing.{begins_once}
-use Rattle.range_problem.proofs.Lists.{lead_next, lead_split, lead_append}
+use Rattle.range_problem.proofs.Lists.{lead_next, lead_split}
 use Rattle.range_problem.proofs.Lawfulness.{name_of}
 
 -- a text goes on with as many lexemes in one way
@@ -194,11 +194,6 @@ not_free text opened ranged named domain word keyword range begins none variable
     let same = named_once text opened ranged named domain word variable.name rest keyword range begins parts in
     none (subst IsFree same.0 declarable.free)
 
-pub declaration_leads : (text opened ranged named rest : List ℕ) (domain : Domain) (word : List ℕ) → Begins text (Word (codes "int")) opened → Leads opened (range_of (Given domain)) ranged → Begins ranged (Word word) named → Begins named (Mark (codes ";")) rest
-    → Leads text (declaration_of (variable_of word domain)) rest
-declaration_leads text opened ranged named rest domain word keyword range begins end =
-    (opened, keyword, lead_append opened (range_of (Given domain)) (from_name word) ranged rest range (named, begins, (rest, end, refl)))
-
 -- ---- names of globals
 
 pub no_place : (globals : List VarDecl) (name : List ℕ) → ((k : ℕ) → k < length globals → (get_or (names_of globals) k name ≡ name → ⊥)) → Contains (names_of globals) name → ⊥
@@ -213,9 +208,6 @@ no_global globals text word rest begins none number left in_globals begins' =
     let words : get_or (names_of globals) number [] ≡ word = cc in
     let in_names : number < length (names_of globals) = omega (arith, length-map globals name_of) in
     none (number, in_names, get_or_default (names_of globals) number word [] in_names ∙ words)
-
-pub global_begins : (globals : List VarDecl) (text word rest : List ℕ) (number : ℕ) → Begins text (Word word) rest → get_or (names_of globals) number [] ≡ word → Begins text (Word (get_or (names_of globals) number [])) rest
-global_begins globals text word rest number begins same = subst (λ (name : List ℕ). Begins text (Word name) rest) (sym same) begins
 
 pub global_found : (globals : List VarDecl) (number : ℕ) (variable : VarDecl) (bytes name : List ℕ) → number < length globals → variable ≡ get_or globals number variable → bytes ≡ variable.name → bytes ≡ name
     → (e : List ℕ) → get_or (names_of globals) number e ≡ name
@@ -300,6 +292,3 @@ module _ (globals : List VarDecl) (text r1 : List ℕ) (keyword : Begins text (W
               (r1, keyword, (r2, opens, (r3, firsts, (r4, comma, (r5, seconds, (r6, closes, refl)))))) leads in
               let next = on.1 in
               none next.0 next.1
-
-          pub leq_leads : (r6 rest : List ℕ) → Begins r5 (Mark (codes ")")) r6 → Begins r6 (Mark (codes ";")) rest → Leads text (constraint_of (names_of globals) (leq_of one other)) rest
-          leq_leads r6 rest closes ends = (r1, keyword, (r2, opens, (r3, firsts, (r4, comma, (r5, seconds, (r6, closes, (rest, ends, refl)))))))

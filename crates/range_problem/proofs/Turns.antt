@@ -1,5 +1,5 @@
 -- One turn of each loop, and its end.
-use Rattle.std.proofs.Common.{◌≡◌, ℕ, ◌<◌, ◌≤◌, List, [], ◌∷◌, ◌++◌, length, get_or, refl, sym, subst, ◌∙◌, ap, All, Contains, IsTrue, Bool, codes, arith}
+use Rattle.std.proofs.Common.{◌≡◌, ℕ, ◌<◌, List, [], ◌∷◌, ◌++◌, length, get_or, sym, subst, ◌∙◌, All, Contains, IsTrue, Bool, arith}
 use Rattle.std.specs.Prelude.{◌↔◌, Option, None, Some, is_some, not, IfNone, IfSome}
 use Rattle.std.proofs.lemmas.Bool.{both_ways, not-true, not-false}
 use Rattle.std.specs.List.{flat_map, AllByRecursion}
@@ -8,39 +8,13 @@ use Rattle.std.proofs.lemmas.List.Elements.{recursion_from_All, All-push}
 use Rattle.model_core.specs.declared.variable.VarDecl.{VarDecl}
 use Rattle.model_core.specs.declared.item.Item.{Item}
 use Rattle.model_core.specs.Lawful.{IsRangeVariable}
-use Rattle.range_problem.specs.Lexeme.{is_blank, Lexeme, Mark, IsSpelling, Begins, Starts, Leads, Lexes}
+use Rattle.range_problem.specs.Lexeme.{is_blank, Lexeme, Leads, Lexes}
 use Rattle.model_core.specs.Naming.{names_of}
 use Rattle.range_problem.specs.Parts.{leq_of, IsDeclarable, AreGlobals, IsLeqAmong}
-use Rattle.range_problem.specs.Readers.{DeclaresNone, DeclaresGlobals, DeclaresTooMuch, IsConstraints}
+use Rattle.range_problem.specs.Readers.{DeclaresTooMuch, IsConstraints}
 use Rattle.range_problem.specs.Spelling.{declaration_of, constraint_of}
-use Rattle.range_problem.proofs.Lexing.{no_empty}
 use Rattle.range_problem.proofs.Lists.{lead_append, lead_split, lexes_on, constraints_on, constraint_is}
-use Rattle.range_problem.proofs.Steps.{from_first}
-use Rattle.range_problem.proofs.Lawfulness.{name_of, globals_none, globals_push, globals_repeat, globals_ranges}
-
--- ---- what is left gets shorter
-
-starts_shorter : (text : List ℕ) (lexeme : Lexeme) (rest : List ℕ) → Starts text lexeme rest → length rest < length text
-starts_shorter text lexeme rest start = go start.spelling start.whole start.spelled
-  where
-    go : (spelling : List ℕ) → text ≡ spelling ++ rest → IsSpelling lexeme spelling → length rest < length text
-    go [] whole spelled = absurd (no_empty lexeme spelled)
-    go (byte ∷ bytes) whole spelled = omega (arith, ap length whole, length-append bytes rest)
-
-begins_shorter : (text : List ℕ) (lexeme : Lexeme) (rest : List ℕ) → Begins text lexeme rest → length rest < length text
-begins_shorter text lexeme rest begins =
-    omega (arith, starts_shorter begins.after lexeme rest begins.start, ap length begins.whole, length-append begins.blanks begins.after)
-
-leads_within : (text : List ℕ) (lexemes : List Lexeme) (rest : List ℕ) → Leads text lexemes rest → length rest ≤ length text
-leads_within text [] rest leads = omega (arith, ap length leads)
-leads_within text (lexeme ∷ more) rest (after, begins, tail) = omega (arith, leads_within after more rest tail, begins_shorter text lexeme after begins)
-
-pub declaration_shorter : (text : List ℕ) (variable : VarDecl) (rest : List ℕ) → Leads text (declaration_of variable) rest → length rest < length text
-declaration_shorter text variable rest (after, begins, tail) = omega (arith, leads_within after _ rest tail, begins_shorter text _ after begins)
-
-pub leq_shorter : (globals : List VarDecl) (text : List ℕ) (first second : ℕ) (rest : List ℕ) → Leads text (constraint_of (names_of globals) (leq_of first second)) rest → length rest < length text
-leq_shorter globals text first second rest (after, begins, tail) =
-    omega (arith, leads_within after (Mark (codes "(") ∷ from_first globals first second) rest tail, begins_shorter text _ after begins)
+use Rattle.range_problem.proofs.Lawfulness.{name_of, globals_push, globals_repeat, globals_ranges}
 
 -- ---- globals
 
@@ -48,9 +22,6 @@ leq_shorter globals text first second rest (after, begins, tail) =
 pub record HasDeclared (text : List ℕ) (globals : List VarDecl) (rest : List ℕ) : Type 0 where
   pub together : AreGlobals globals
   pub declared : Leads text (flat_map declaration_of globals) rest
-
-pub declared_none : (text : List ℕ) → HasDeclared text [] text
-declared_none text = record { together = globals_none; declared = refl }
 
 declared_more : (text rest after : List ℕ) (globals : List VarDecl) (variable : VarDecl) → Leads text (flat_map declaration_of globals) rest → Leads rest (declaration_of variable) after → Leads text (flat_map declaration_of (globals ++ variable ∷ [])) after
 declared_more text rest after globals variable declared next =
@@ -88,18 +59,12 @@ globals_refused text rest after globals variable has declarable next given is un
       (omega (arith, are.few, length-append globals (variable ∷ [])), λ among. globals_repeat globals variable among are));
 }
 
-pub globals_read : (text rest : List ℕ) (globals : List VarDecl) → HasDeclared text globals rest → DeclaresNone rest → DeclaresGlobals text globals rest
-globals_read text rest globals has none = record { together = has.together; declared = has.declared; all = none }
-
 -- ---- constraints
 
 -- what the loop over the constraints keeps
 pub record HasConstrained (globals : List VarDecl) (text : List ℕ) (items : List Item) (rest : List ℕ) : Type 0 where
   pub among : All (IsLeqAmong (length globals)) items
   pub constrained : Leads text (flat_map (constraint_of (names_of globals)) items) rest
-
-pub constrained_none : (globals : List VarDecl) (text : List ℕ) → HasConstrained globals text [] text
-constrained_none globals text = record { among = λ k d in_none. absurd (omega arith); constrained = refl }
 
 pub constraints_turn : (globals : List VarDecl) (text rest after : List ℕ) (items : List Item) (item : Item) (first second : ℕ) → HasConstrained globals text items rest → item ≡ leq_of first second
     → first < length globals → second < length globals → Leads rest (constraint_of (names_of globals) (leq_of first second)) after → HasConstrained globals text (items ++ item ∷ []) after

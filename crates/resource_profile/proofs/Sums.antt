@@ -1,7 +1,7 @@
 -- A sum over a list, a term at a time.
 use Rattle.std.proofs.Common.{◌≡◌, ℕ, ◌+◌, ◌<◌, ◌≤◌, ℤ, pos, negsuc, ◌+ℤ◌, ◌≤ℤ◌, true, false, cond, List, [], ◌∷◌, length, get_or, drop, refl, sym, ap, ◌∙◌, arith}
 use Rattle.std.proofs.lemmas.Int.{ints}
-use Rattle.std.proofs.lemmas.List.{at_drop_more, at_drop_all}
+use Rattle.std.proofs.lemmas.List.{at_drop_more}
 use Rattle.resource_profile.specs.Usage.{quantity_at, taken_at}
 use Rattle.std.specs.Prelude.{int_le}
 use Rattle.resource_profile.specs.Level.{added_at, level_at, IsSmall}
@@ -13,11 +13,6 @@ pub taken_more : (uses : List Use) (instant taken : ℤ) (i : ℕ) (d : Use) →
     → (taken +ℤ quantity_at (get_or uses i d) instant) +ℤ taken_at (drop (i + 1) uses) instant ≡ taken_at uses instant
 taken_more uses instant taken i d within so_far =
     let next : taken_at (drop i uses) instant ≡ quantity_at (get_or uses i d) instant +ℤ taken_at (drop (i + 1) uses) instant = at_drop_more (λ rest. taken_at rest instant) uses i d within in
-    omega (arith, ints)
-
-pub taken_all : (uses : List Use) (instant taken : ℤ) (i : ℕ) → length uses ≤ i → taken +ℤ taken_at (drop i uses) instant ≡ taken_at uses instant → taken ≡ taken_at uses instant
-taken_all uses instant taken i end so_far =
-    let nothing : taken_at (drop i uses) instant ≡ pos 0 = at_drop_all (λ rest. taken_at rest instant) uses i end in
     omega (arith, ints)
 
 -- what is added before is added all the same
@@ -34,9 +29,6 @@ level_more changes initial instant level i d within so_far =
     let next : level_at (drop i changes) level instant ≡ more +ℤ level_at rest level instant = at_drop_more (λ rest. level_at rest level instant) changes i d within in
     let turned : level +ℤ more ≡ more +ℤ level = omega (arith, ints) in
     ap (λ l. level_at rest l instant) turned ∙ level_at-add rest more level instant ∙ sym next ∙ so_far
-
-pub level_all : (changes : List LevelChange) (initial instant level : ℤ) (i : ℕ) → length changes ≤ i → level_at (drop i changes) level instant ≡ level_at changes initial instant → level ≡ level_at changes initial instant
-level_all changes initial instant level i end so_far = sym (at_drop_all (λ rest. level_at rest level instant) changes i end) ∙ so_far
 
 -- a change that adds little or nothing
 pub added_small : (change : LevelChange) (instant : ℤ) → IsSmall change → (negsuc 999999 ≤ℤ added_at change instant) × (added_at change instant ≤ℤ pos 1000000)

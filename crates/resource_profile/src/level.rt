@@ -1,6 +1,6 @@
 //! The level of a resource that is produced and consumed: fuel, charge, data in a store.
 
-ghost use Rattle.std.specs.Prelude.{◌≡◌, ◌↔◌, ◌≤ℤ◌, ◌<ℤ◌, ◌⊎◌, ℤ, All, IsTrue, IfSome, IfNone};
+ghost use Rattle.std.specs.Prelude.{◌≡◌, ◌↔◌, ◌<ℤ◌, ◌⊎◌, ℤ, All, IsTrue, IfSome, IfNone};
 ghost use Rattle.resource_profile.specs.Level.{added_at, level_at, IsSmall, IsOut, IsOutFrom};
 ghost use Rattle.resource_profile.specs.Instant.{IsFirst};
 

@@ -1,7 +1,7 @@
 // Profiles of resources: the first instant at which uses need more than there is, or a level leaves its limits.
 #![tactic(auto)]
 
-ghost use Rattle.std.specs.Prelude.{◌≡◌, ◌↔◌, IsTrue, MatchOption, ⊤};
+ghost use Rattle.std.specs.Prelude.{◌↔◌, IsTrue, MatchOption, ⊤};
 ghost use Rattle.std.specs.Prelude.{◌<ℤ◌};
 
 pub mod level;

@@ -1,6 +1,6 @@
 //! Profiles by hand.
 
-ghost use Rattle.std.specs.Prelude.{◌≡◌, ◌≤ℤ◌, pos};
+ghost use Rattle.std.specs.Prelude.{◌≤ℤ◌, pos};
 ghost use Rattle.resource_profile.specs.Level.{IsSmall};
 
 use super::level::{LevelChange, level_out};

@@ -1,6 +1,6 @@
 //! Uses of a resource that gives back what was taken: a crew, a line, an arm.
 
-ghost use Rattle.std.specs.Prelude.{◌≡◌, ◌↔◌, ◌≤ℤ◌, ◌<ℤ◌, ℤ, pos, All, IsTrue, IfSome, IfNone};
+ghost use Rattle.std.specs.Prelude.{◌≡◌, ◌↔◌, ◌≤ℤ◌, ℤ, pos, All, IsTrue, IfSome, IfNone};
 ghost use Rattle.resource_profile.specs.Usage.{quantity_at, taken_at, IsOverUsed};
 ghost use Rattle.resource_profile.specs.Instant.{IsFirst};
 

@@ -1,26 +1,15 @@
--- Names and numbers are ASCII.
+-- Numbers are ASCII.
 use Rattle.std.proofs.Common.{◌≡◌, ℕ, ◌<◌, List, [], ◌∷◌, true, false, Bool, eqb, refl, All, IsTrue, arith}
 use Rattle.std.proofs.lemmas.Bool.Decides.{nat_tests}
 use Rattle.std.proofs.lemmas.List.Elements.{All-cons}
 use Rattle.std.specs.Char.{is_ascii_digit}
-use Rattle.eu_name.specs.Word.{IsName, is_word_start, is_word_byte}
 use Rattle.script_lang.specs.Number.{IsNumber}
 
 abbrev IsLow : ℕ → Type 0
 IsLow byte = byte < 128
 
-start_is_low : (byte : ℕ) → IsTrue (is_word_start byte) → byte < 128
-start_is_low byte is = grind (arith, nat_tests)
-
-byte_is_low : (byte : ℕ) → IsTrue (is_word_byte byte) → byte < 128
-byte_is_low byte is = grind (arith, nat_tests)
-
 digit_is_low : (byte : ℕ) → IsTrue (is_ascii_digit byte) → byte < 128
 digit_is_low byte is = grind (arith, nat_tests)
-
-pub name_is_ascii : (word : List ℕ) → IsName word → All (λ byte. byte < 128) word
-name_is_ascii [] is = absurd is.0
-name_is_ascii (first ∷ rest) is = All-cons IsLow first rest (start_is_low first is.0.0) (λ k d in_rest. byte_is_low _ (is.0.1 k d in_rest))
 
 low_at : (first : ℕ) (rest : List ℕ) (v : Bool) → eqb first 45 ≡ v → IsNumber (first ∷ rest) → All (λ byte. byte < 128) (first ∷ rest)
 low_at first rest true e is = let digits = rw e at is in All-cons IsLow first rest (grind (arith, nat_tests)) (λ k d in_rest. digit_is_low _ (digits.1 k d in_rest))

@@ -1,6 +1,6 @@
 //! Lines of a script, and what they ask for.
 
-ghost use Rattle.std.specs.Prelude.{◌≡◌, ◌<◌, ◌↔◌, ◌∷◌, [], All, IsTrue, IfOk, IfErr, codes};
+ghost use Rattle.std.specs.Prelude.{◌≡◌, ◌<◌, ◌↔◌, ◌∷◌, All, IsTrue, IfOk, IfErr, codes};
 ghost use Rattle.script_lang.specs.Words.{words_of};
 ghost use Rattle.script_lang.specs.Line.{Answers, Reads};
 ghost use Rattle.script_lang.specs.declared.line.LineFault.TheVariants.{Memory};

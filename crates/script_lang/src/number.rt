@@ -1,6 +1,6 @@
 //! Numbers in decimal digits.
 
-ghost use Rattle.std.specs.Prelude.{◌≡◌, ◌↔◌, All, IsTrue, IfSome, IfNone, ℤ};
+ghost use Rattle.std.specs.Prelude.{◌≡◌, ◌↔◌, IsTrue, IfSome, IfNone};
 ghost use Rattle.std.specs.Char.{is_ascii_digit};
 ghost use Rattle.domain_core.specs.Domain.{IsValue};
 ghost use Rattle.script_lang.specs.Number.{IsNumber, number_of, without_minus};

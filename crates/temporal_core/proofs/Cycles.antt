@@ -1,9 +1,9 @@
 -- The edges at places, one place at a time.
-use Rattle.std.proofs.Common.{◌≡◌, ◌≢◌, ℕ, ◌+◌, ◌<◌, ◌≤◌, ℤ, ◌+ℤ◌, ◌↔◌, List, [], ◌∷◌, ◌++◌, length, get_or, drop, refl, sym, ap, ◌∙◌, subst, arith}
+use Rattle.std.proofs.Common.{◌≡◌, ◌≢◌, ℕ, ◌+◌, ◌<◌, ℤ, ◌+ℤ◌, ◌↔◌, List, [], ◌∷◌, ◌++◌, length, get_or, drop, refl, sym, ap, ◌∙◌, subst, arith}
 use Rattle.std.specs.Prelude.{All, option_to_list}
 use Rattle.std.proofs.lemmas.Int.{ints}
 use Rattle.std.proofs.lemmas.Option.{slice_get-get_or}
-use Rattle.std.proofs.lemmas.List.{drop_more, drop_all}
+use Rattle.std.proofs.lemmas.List.{drop_more}
 use Rattle.std.proofs.lemmas.List.Elements.{All-cons, All-head, All-tail}
 use Rattle.temporal_core.specs.declared.edges.Edge.{Edge}
 use Rattle.temporal_core.specs.Cycle.{edges_at, gap_sum, Leads, IsClosed, IsSimple}
@@ -53,10 +53,6 @@ module _ (edges : List Edge) (places : List ℕ) (within : All (λ place. place 
   simple_no_more Whole so_far not whole =
       let next = subst (λ list. IsSimple list ↔ Whole) edges_at-drop so_far in
       not (next.1 whole).0
-
--- at the end nothing is left
-pub edges_at-end : (edges : List Edge) (places : List ℕ) (i : ℕ) → length places ≤ i → edges_at edges (drop i places) ≡ []
-edges_at-end edges places i end = ap (edges_at edges) (drop_all i places end)
 
 -- a cycle leads from its first point back to it
 pub closed_at : (edges : List Edge) (places : List ℕ) (d : Edge) → All (λ place. place < length edges) places → 0 < length places

@@ -36,15 +36,6 @@ module _ (points : ℕ) (edges : List Edge) (settled : List ℤ) (some : 0 < poi
   pub low_past : (point : ℕ) → points ≤ point → value_at (map far_below settled) point ≡ pos 0
   low_past point past = get_or_past (map far_below settled) point (pos 0) (omega (arith, is_settled.count, length-map settled far_below))
 
-  -- the lowered values keep the edges too
-  pub low_keeps : All (Keeps (value_at (map far_below settled))) edges
-  low_keeps = all_from_contains (Keeps (value_at (map far_below settled))) edges (λ edge contained.
-      let joins = All-contains (IsEdge points) edges edge each contained in
-      let keeps = All-contains (Keeps (value_at settled)) edges edge is_settled.keeps contained in
-      let from = low_at edge.from joins.from in
-      let to = low_at edge.to joins.to in
-      omega (arith, ints))
-
   -- none of the lowered values is too far down, or far up
   pub low_modest : (point : ℕ) → (neg_ℤ (pos 2199023255552) ≤ℤ value_at (map far_below settled) point) × (value_at (map far_below settled) point ≤ℤ pos 2199023255552)
   low_modest point =

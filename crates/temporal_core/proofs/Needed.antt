@@ -1,8 +1,7 @@
 -- Putting edges in from the last one down.
 use Rattle.std.proofs.Common.{◌≡◌, ℕ, ◌+◌, ◌-◌, ◌<◌, ◌≤◌, ℤ, ◌⊎◌, inl, inr, ⊎_elim, List, [], ◌∷◌, ◌++◌, length, get_or, take, drop, Some, refl, sym, ap, ◌∙◌, subst, arith}
 use Rattle.std.specs.Prelude.{Contains, All, slice_get, option_to_list}
-use Rattle.std.specs.List.{range_with_len}
-use Rattle.std.proofs.lemmas.List.{append-nil, append_assoc, take_more, take-append-drop}
+use Rattle.std.proofs.lemmas.List.{append_assoc, take_more, take-append-drop}
 use Rattle.std.proofs.lemmas.Bool.{cases_eq}
 use Rattle.std.proofs.lemmas.Option.{slice_get-get_or}
 use Rattle.std.proofs.lemmas.List.Elements.{All-contains, Contains-append_left, Contains-append_right, Contains-append_cases, Contains-push_cases}
@@ -47,17 +46,6 @@ pub settled_own_edges : (points : ℕ) (edges : List Edge) (settled : Settled) �
 settled_own_edges points edges settled is = subst (λ list. IsSettled points list settled) (sym is.graph.list) is
 
 module _ (points : ℕ) (edges : List Edge) (kept : List ℕ) where
-  -- at first only the kept ones are in
-  pub with_kept : (settled : Settled) → IsSettled points (edges_at edges kept) settled → IsSettledWith points (edges_at edges (kept ++ places_from (length edges) (length edges))) settled
-  with_kept settled is =
-      let same : edges_at edges (kept ++ places_from (length edges) (length edges)) ≡ settled.graph.edges.items =
-      ap (λ n. edges_at edges (kept ++ range_with_len (length edges) n)) (let e : length edges - length edges ≡ 0 = omega arith in e) ∙ ap (edges_at edges) (append-nil kept) ∙ sym is.graph.list in
-      record {
-        settled_own = settled_own_edges points (edges_at edges kept) settled is;
-        all = λ edge among. subst (λ list. Contains list edge) same among;
-        only = λ edge among. subst (λ list. Contains list edge) (sym same) among;
-      }
-
   module _ (place : ℕ) (within : place < length edges) (d : Edge) where
     -- the edge at a place and those after it
     with_next : (edge : Edge) → Contains (edges_at edges (kept ++ places_from (place + 1) (length edges))) edge ⊎ (get_or edges place d ≡ edge) → Contains (edges_at edges (kept ++ places_from place (length edges))) edge

@@ -194,13 +194,6 @@ pub gap_sum-append : (one other : List Edge) → gap_sum (one ++ other) ≡ gap_
 gap_sum-append [] other = omega (arith, ints)
 gap_sum-append (edge ∷ one) other = let rest = gap_sum-append one other in omega (arith, ints)
 
-pub Walk-push : (edges : List Edge) (from via : ℕ) (edge : Edge) → Walk edges from via → Contains edges edge → edge.from ≡ via → Walk edges from edge.to
-Walk-push edges from via edge walk contained here = record {
-  steps = walk.steps ++ edge ∷ [];
-  leads = Leads-push from via walk.steps edge walk.leads here;
-  within = λ other among. elim (Contains-push_cases walk.steps edge other among) [ inl before ↦ walk.within other before | inr same ↦ subst (Contains edges) same contained ];
-}
-
 module _ (edges : List Edge) (start : ℕ) (value : ℤ) (fixed : ℕ) (old : List ℤ) (within : start < length old) (other : start ≢ fixed) (more : value_at old start <ℤ value) (kept : All (Keeps (value_at old)) edges) where
   pub IsRaising-start : IsRaising edges start value fixed old (set old start value) (start ∷ [])
   IsRaising-start =

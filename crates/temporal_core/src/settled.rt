@@ -1,8 +1,7 @@
 //! Schedules that grow with their edges. An edge that the values don't keep raises its second point, which may raise
 //! others: shortest distances by Bellman and Ford with a work list, where the work begins with one edge.
 
-ghost use Rattle.std.specs.Prelude.{◌≡◌, ◌≢◌, ℕ, ◌+◌, ◌<◌, ℤ, pos, neg_ℤ, ◌≤ℤ◌, ◌<ℤ◌, List, [], ◌∷◌, ◌++◌, length, All, IfOk, MatchBool, MatchOption, ⊤};
-ghost use Rattle.temporal_core.specs.declared.edges.Edge.{Edge as AnEdge};
+ghost use Rattle.std.specs.Prelude.{◌≢◌, ℕ, ◌+◌, ◌<◌, ℤ, pos, neg_ℤ, ◌≤ℤ◌, ◌<ℤ◌, [], ◌∷◌, ◌++◌, length, All, IfOk, MatchBool, MatchOption, ⊤};
 ghost use Rattle.temporal_core.specs.Network.{IsEdge};
 ghost use Rattle.temporal_core.specs.Schedule.{Keeps};
 ghost use Rattle.temporal_core.specs.Settled.{IsGraph, value_at, RaisesEnd, RaisesFrom, IsStopped, Raises, Exceeds, AreModest, AreSettled, IsSettled, HasPositiveCycle};

@@ -1,6 +1,6 @@
 //! A small problem, built by hand: `Sample.antt` has it as text.
 
-ghost use Rattle.std.specs.Prelude.{◌≡◌, ◌≤ℤ◌, [], ◌∷◌, IfOk, pos};
+ghost use Rattle.std.specs.Prelude.{◌≡◌, [], ◌∷◌, IfOk, pos};
 ghost use Rattle.domain_core.specs.Domain.{Range};
 ghost use Rattle.model_core.specs.declared.variable.Base.TheVariants.{Given};
 ghost use Rattle.model_core.specs.declared.variable.ValueKind.TheVariants.{Int};
