@@ -4,7 +4,8 @@ use Rattle.std.specs.Prelude.{All, slice_get, Result, IfOk}
 use Rattle.std.specs.declared.alloc.AllocError.{AllocError}
 use Rattle.std.specs.List.{AllZip}
 use Rattle.std.proofs.lemmas.Int.{ints}
-use Rattle.std.proofs.lemmas.List.{take_more}
+use Rattle.std.proofs.lemmas.List.{append_assoc, take_more}
+use Rattle.std.proofs.lemmas.Slice.Zip.{AllZip-long}
 use Rattle.std.proofs.lemmas.Option.{slice_get_read}
 use Rattle.std.proofs.lemmas.List.Elements.{All-head, All-tail, All-cons, All-nil}
 use Rattle.domain_core.specs.Domain.{Domain, IsValue}
@@ -32,7 +33,7 @@ use Rattle.constraint_net.specs.declared.constraint.Constraint as constraints
 use Rattle.constraint_net.specs.declared.constraint.NetArg.{NetArg}
 use Rattle.constraint_net.specs.declared.constraint.NetArg.TheVariants.{Var, Lit}
 use Rattle.plan_db.specs.Nets.{IsArgOf, IsPostable, IsPosted, PostsItem, PostsAll}
-use Rattle.plan_db.proofs.Zipped.{zip_length, zip_push}
+use Rattle.plan_db.proofs.Zipped.{zip_push}
 
 -- ---- terms and arguments
 
@@ -157,7 +158,7 @@ module _ (model : Model) (lawful : IsLawful model) where
         args.1,
         record {
           arguments = arguments_are (length net.domains) same terms args.0 args.1 (arguments_kinds kind terms plain is.1);
-          count = sym (zip_length IsArgOf terms args.0 args.1) ∙ is.0;
+          count = AllZip-long IsArgOf terms args.0 args.1 ∙ is.0;
           allowed = allowed net.tables kind terms args.0 args.1 plain is.1;
         },
       )
@@ -177,10 +178,6 @@ posts_more old middle new items item all one =
       zip_push IsPosted items all.0 item one.0 all.1 one.1,
       one.2 ∙ (ap (λ list. record middle { constraints = list }) behind ∙ ap (λ (net : Network). record net { constraints = old.constraints ++ (all.0 ++ one.0 ∷ []) }) all.2),
     )
-  where
-    append_assoc : {X : Type 0} (xs ys zs : List X) → (xs ++ ys) ++ zs ≡ xs ++ (ys ++ zs)
-    append_assoc [] ys zs = refl
-    append_assoc (x ∷ xs) ys zs = ap (λ rest. x ∷ rest) (append_assoc xs ys zs)
 
 -- what a call of `post` leaves is that the item's constraint stands there
 pub posts_item : (old new : Network) (item : Item) (kind : Kind) (terms : List Term) (args : List NetArg) (result : Result (Unit {0}) AllocError) → item ≡ Constraint kind terms → AllZip IsArgOf terms args

@@ -1,32 +1,27 @@
 -- Two lists whose items at the same places are related.
-use Rattle.std.proofs.Common.{◌≡◌, ℕ, suc, zero, ◌<◌, List, [], ◌∷◌, ◌++◌, length, Some, refl, ap, subst, arith}
-use Rattle.std.specs.Prelude.{slice_get}
+use Rattle.std.proofs.Common.{◌≡◌, ℕ, suc, zero, ◌<◌, List, [], ◌∷◌, ◌++◌, length, Option, Some, None, refl, ap, subst, arith}
+use Rattle.std.specs.Prelude.{slice_get, MatchOption, IsSomeAnd}
 use Rattle.std.specs.List.{AllZip}
+use Rattle.std.proofs.lemmas.Slice.Zip.{AllZip-left, AllZip-right}
+
+found_in : {X : Type 0} {P : X → Type 0} (found : Option X) → IsSomeAnd found P → (x : X) × (found ≡ Some x) × P x
+found_in None is = absurd is
+found_in (Some x) is = (x, refl, is)
 
 module _ {X Y : Type 0} (R : X → Y → Type 0) where
   pub zip_left : (xs : List X) (ys : List Y) (k : ℕ) (x : X) → AllZip R xs ys → slice_get xs k ≡ Some x → (y : Y) × (slice_get ys k ≡ Some y) × R x y
-  zip_left [] ys k x all at = absurd (cc)
-  zip_left (first ∷ xs) [] k x all at = absurd all
-  zip_left (first ∷ xs) (other ∷ ys) zero x all at = let same : first ≡ x = cc in (other, refl, subst (λ z. R z other) same all.0)
-  zip_left (first ∷ xs) (other ∷ ys) (suc k) x all at = zip_left xs ys k x all.1 at
+  zip_left xs ys k x all at =
+      found_in (slice_get ys k) (subst (λ o. MatchOption o (Unit {0}) (λ one. IsSomeAnd (slice_get ys k) (R one))) at (AllZip-left R xs ys all k))
 
   pub zip_right : (xs : List X) (ys : List Y) (k : ℕ) (y : Y) → AllZip R xs ys → slice_get ys k ≡ Some y → (x : X) × (slice_get xs k ≡ Some x) × R x y
-  zip_right xs [] k y all at = absurd (cc)
-  zip_right [] (other ∷ ys) k y all at = absurd all
-  zip_right (first ∷ xs) (other ∷ ys) zero y all at = let same : other ≡ y = cc in (first, refl, subst (R first) same all.0)
-  zip_right (first ∷ xs) (other ∷ ys) (suc k) y all at = zip_right xs ys k y all.1 at
+  zip_right xs ys k y all at =
+      found_in (slice_get xs k) (subst (λ o. MatchOption o (Unit {0}) (λ other. IsSomeAnd (slice_get xs k) (λ one. R one other))) at (AllZip-right R xs ys all k))
 
   pub zip_from : (xs : List X) (ys : List Y) → length xs ≡ length ys → ((k : ℕ) (x : X) (y : Y) → slice_get xs k ≡ Some x → slice_get ys k ≡ Some y → R x y) → AllZip R xs ys
   zip_from [] [] long at = tt
   zip_from [] (y ∷ ys) long at = absurd (omega arith)
   zip_from (x ∷ xs) [] long at = absurd (omega arith)
   zip_from (x ∷ xs) (y ∷ ys) long at = (at 0 x y refl refl, zip_from xs ys (omega arith) (λ k. at (suc k)))
-
-  pub zip_length : (xs : List X) (ys : List Y) → AllZip R xs ys → length xs ≡ length ys
-  zip_length [] [] all = refl
-  zip_length [] (y ∷ ys) all = absurd all
-  zip_length (x ∷ xs) [] all = absurd all
-  zip_length (x ∷ xs) (y ∷ ys) all = ap suc (zip_length xs ys all.1)
 
   pub zip_push : (xs : List X) (ys : List Y) (x : X) (y : Y) → AllZip R xs ys → R x y → AllZip R (xs ++ x ∷ []) (ys ++ y ∷ [])
   zip_push [] [] x y all last = (last, tt)
