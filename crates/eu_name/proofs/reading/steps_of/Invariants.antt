@@ -1,8 +1,8 @@
 use Rattle.std.proofs.Common.{length}
-use Rattle.eu_name.proofs.Endings.{HasRead}
-use Rattle.eu_name.proofs.reading.read_ending.Given as goal
+use Rattle.eu_name.specs.Readers.{HasRead}
+use Rattle.eu_name.proofs.reading.steps_of.Given as goal
 
--- the steps so far are read, and the rest is what any ending has left
+-- the steps so far are read, and the rest isn't yet
 abbrev pub invariant-loop-step : goal.invariant-loop-step
 invariant-loop-step l = HasRead l.text l.steps l.rest
 
