@@ -32,7 +32,8 @@ pub record IsEnding (text : List ℕ) (steps : List Step) (tail : Tail) : Type 0
   pub tailed : IsTail tail
   pub whole : text ≡ ending_text steps tail
 
--- these steps are read of the text, and the rest isn't yet: whatever ending the text is, the rest is one with fewer steps
+-- these steps are read of the text, and the rest isn't yet: whatever ending the text is, the rest is one with fewer
+-- steps
 pub record HasRead (text : List ℕ) (steps : List Step) (rest : List ℕ) : Type 0 where
   pub small : All IsStep steps
   pub whole : text ≡ flat_map step_text steps ++ rest

@@ -1,6 +1,7 @@
 //! Reads names from their front to their end: a label, steps and a tail, or `!` and a number.
 
-ghost use Rattle.std.specs.Prelude.{◌≡◌, ◌<◌, ◌≤◌, ◌↔◌, ℕ, List, [], All, IfOk, IfSome, IfNone, IsTrue, MatchOption, length, slice_index};
+ghost use Rattle.std.specs.Prelude.{◌≡◌, ◌<◌, ◌≤◌, ◌↔◌, ℕ, List, [], All, IfOk, IfSome, IfNone, IsTrue, MatchOption};
+ghost use Rattle.std.specs.Prelude.{length, slice_index};
 ghost use Rattle.std.specs.Char.{is_ascii_digit};
 ghost use Rattle.std.specs.Fmt.{decimal};
 ghost use Rattle.std.specs.List.{prefix_len};
@@ -171,7 +172,8 @@ fn read_ending(alloc: Global, text: &[u8]) -> Result<(Sequence<Step>, Tail), Nam
     Ok((steps, tail))
 }
 
-/// The name that the text spells, as a whole. Which names there are is for the model to say. A text that spells none takes no memory.
+/// The name that the text spells, as a whole. Which names there are is for the model to say. A text that spells
+/// none takes no memory.
 pub fn read_name(alloc: Global, text: &[u8]) -> Result<NameText, NameFault>
     ensures { Reads text.now result }
 {
