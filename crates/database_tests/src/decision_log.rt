@@ -1,10 +1,10 @@
-//! That there is memory for what is decided and for copies, which no clause says.
+//! The log of decisions: that there is memory for what is decided and for copies, which no clause says.
 
-use super::LogFault;
-use super::log::Log;
-use eu_name::name::VarName;
+use decision_log::LogFault;
+use decision_log::log::Log;
+use eu_name::VarName;
 use model_core::decision::Decision;
-use std::alloc::AllocError;
+use std::alloc::Global;
 
 /// The number and the value of the only decision.
 fn only(decisions: &[Decision]) -> Option<(u32, i32)> {
@@ -14,18 +14,42 @@ fn only(decisions: &[Decision]) -> Option<(u32, i32)> {
     Some((*number, *value))
 }
 
+/// The only decision of the former list.
+fn former(log: &Log) -> Option<(u32, i32)> {
+    match log.former() {
+        Ok(decisions) => only(decisions.as_slice()),
+        Err(_) => None,
+    }
+}
+
+/// Whether the variable of this number is decided.
+fn decided(log: &mut Log, number: u32, value: i32) -> bool {
+    log.push(Decision::Specify(VarName::Global(number), value)).is_ok()
+}
+
+/// Whether undo answers that nothing was decided.
+fn is_nothing(log: &mut Log) -> bool {
+    match log.undo() {
+        Ok(()) => false,
+        Err(fault) => matches!(fault, LogFault::Nothing),
+    }
+}
+
+/// What two decisions leave, and what taking them back does.
+fn run(alloc: Global) -> (bool, u64, Option<(u32, i32)>, bool, Option<(u32, i32)>, bool, bool) {
+    let mut log = Log::new(alloc);
+    let both = decided(&mut log, 1, 5) && decided(&mut log, 2, 6);
+    let count = log.len();
+    let before = former(&log);
+    let undone = log.undo().is_ok();
+    let left = only(log.standing());
+    let popped = log.pop().is_some();
+    let nothing = is_nothing(&mut log);
+    (both, count, before, undone, left, popped, nothing)
+}
+
 #[test]
-fn undo_brings_back_the_former_list(rt: HostRuntime) -> Result<(), AllocError> {
-    let mut log = Log::new(rt.alloc());
-    assert!(rt; log.former().is_err());
-    log.push(Decision::Specify(VarName::Global(1), 5))?;
-    log.push(Decision::Specify(VarName::Global(2), 6))?;
-    assert_eq!(rt; (log.len(), log.standing().len()), (2, 2));
-    let former = log.former();
-    assert!(rt; former.is_ok_and(|decisions| only(decisions.as_slice()) == Some((1, 5))));
-    assert_eq!(rt; log.undo(), Ok(()));
-    assert_eq!(rt; only(log.standing()), Some((1, 5)));
-    assert!(rt; log.pop().is_some());
-    assert_eq!(rt; log.undo(), Err(LogFault::Nothing));
-    Ok(())
+fn undo_brings_back_the_former_list(rt: HostRuntime) {
+    let wanted = (true, 2, Some((1, 5)), true, Some((1, 5)), true, true);
+    assert_eq!(rt; run(rt.alloc()), wanted);
 }

@@ -1,6 +1,6 @@
 use Rattle.std.proofs.Common.{◌∙◌}
 use Rattle.constraint_net.proofs.Keepers.{kept_posted}
-use Rattle.constraint_net.proofs.net.Net.post.Goals as goal
+use Rattle.constraint_net.proofs.network.Net.post.Goals as goal
 
 pub invariant_of-self-2 : goal.invariant_of-self-2
 invariant_of-self-2 c =

@@ -1,6 +1,6 @@
 use Rattle.constraint_net.specs.Networks.{AllConsistent}
 use Rattle.constraint_net.proofs.Keepers.{kept_settled}
-use Rattle.constraint_net.proofs.net.Net.settle_all.Goals as goal
+use Rattle.constraint_net.proofs.network.Net.settle_all.Goals as goal
 
 pub invariant_of-self : goal.invariant_of-self
 invariant_of-self c =

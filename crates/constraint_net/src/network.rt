@@ -1,10 +1,11 @@
 //! Networks.
 
-ghost use Rattle.std.specs.Prelude.{◌≡◌, ◌^◌, ◌<◌, ◌≤◌, [], ◌∷◌, ◌++◌, All, length, OnErr, IfOk, MatchOption, Some, slice_get};
+ghost use Rattle.std.specs.Prelude.{◌≡◌, ◌^◌, ◌<◌, ◌≤◌, [], ◌∷◌, ◌++◌, All, length, OnErr, IfOk, MatchOption, Some};
+ghost use Rattle.std.specs.Prelude.{slice_get};
 ghost use Rattle.domain_core.specs.Domain.{IsDomain};
 ghost use Rattle.constraint_net.specs.Networks.{CanPost, AllConsistent};
 ghost use Rattle.constraint_net.specs.Steps.{SettlesTo};
-ghost use Rattle.constraint_net.specs.Calls.{IsAscending, table_of, Limits, Posts};
+ghost use Rattle.constraint_net.specs.Calls.{IsAscending, given_by, table_of, Limits, Posts};
 
 use super::NetFault;
 use super::constraint::{Constraint, NetArg};
@@ -28,13 +29,13 @@ pub struct Net {
 
 impl Model for Net {
     ghost use Rattle.constraint_net.specs.Networks.{Network};
-    ghost use Rattle.constraint_net.specs.Kept.{network_of, IsKept};
+    ghost use Rattle.constraint_net.specs.Kept.{network_of, IsKeptNet};
 
     ghost Value = { Network };
 
     ghost view = { λ net. network_of net.domains net.tables net.constraints };
 
-    ghost invariant = { λ net. IsKept net.domains net.tables net.constraints };
+    ghost invariant = { λ net. IsKeptNet net.domains net.tables net.constraints };
 }
 
 impl Net {
@@ -53,7 +54,8 @@ impl Net {
     pub fn add_table(&mut self, pairs: &[(i32, i32)]) -> Result<u32, AllocError>
         requires ascending { IsAscending pairs.now }
         requires few { length self.old.tables < 2 ^ 32 }
-        ensures ok { IfOk result (λ number. (number ≡ length self.old.tables) × (self.new ≡ record self.old { tables = self.old.tables ++ table_of pairs.now ∷ [] })) }
+        ensures ok { IfOk result (λ number. (number ≡ length self.old.tables)
+            × (self.new ≡ record self.old { tables = self.old.tables ++ table_of pairs.now ∷ [] })) }
         ensures err { OnErr result (self.new ≡ self.old) }
     {
         let number = self.tables.len() as u32;
@@ -64,7 +66,8 @@ impl Net {
 
     /// Adds a variable with this domain, and answers its number.
     pub fn add_var(&mut self, domain: Dom) -> Result<usize, AllocError>
-        ensures ok { IfOk result (λ number. (number ≡ length self.old.domains) × (self.new ≡ record self.old { domains = self.old.domains ++ domain ∷ [] })) }
+        ensures ok { IfOk result (λ number. (number ≡ length self.old.domains)
+            × (self.new ≡ record self.old { domains = self.old.domains ++ domain ∷ [] })) }
         ensures err { OnErr result (self.new ≡ self.old) }
         ensures domain { IsDomain domain }
     {
@@ -94,14 +97,17 @@ impl Net {
 
     /// The domain of the variable. None where there is no such variable.
     pub fn get(&self, variable: usize) -> Option<&Dom>
-        ensures { MatchOption result (length self.now.domains ≤ variable) (λ domain. slice_get self.now.domains variable ≡ Some domain.now) }
+        ensures { MatchOption result (length self.now.domains ≤ variable)
+            (λ domain. slice_get self.now.domains variable ≡ Some domain.now) }
     {
         self.domains.variables.get(variable)
     }
 
-    /// Takes values away until all constraints are consistent. After Collapsed and Memory some values may be gone; after Memory the call may be made again.
+    /// Takes values away until all constraints are consistent. After Collapsed and Memory some values may be gone;
+    /// after Memory the call may be made again.
     pub fn settle_all(&mut self) -> Result<(), NetFault>
-        ensures settled { SettlesTo (AllConsistent self.old.tables self.old.constraints) self.old.domains result self.new.domains }
+        ensures settled { SettlesTo (AllConsistent self.old.tables self.old.constraints)
+            self.old.domains result self.new.domains }
         ensures domains { All IsDomain self.new.domains }
         ensures variables { length self.new.domains ≡ length self.old.domains }
         ensures others { self.new ≡ record self.old { domains = self.new.domains; work = self.new.work } }
@@ -122,16 +128,25 @@ impl Net {
     }
 }
 
-// The table of these pairs.
-fn table(alloc: Global, pairs: &[(i32, i32)]) -> Result<Field, AllocError>
-    ensures { IfOk result (λ table. table ≡ table_of pairs.now) }
+// What the pairs give the objects, in their order.
+fn entries(alloc: Global, pairs: &[(i32, i32)]) -> Result<Vec<FieldEntry>, AllocError>
+    ensures { IfOk result (λ entries. entries.items ≡ given_by pairs.now) }
 {
-    let mut entries = Sequence::new(alloc);
+    let mut entries = Vec::with_capacity(alloc, pairs.len())?;
     for (object, value) in pairs {
         entries.push(FieldEntry {
             object: *object,
             value: *value,
         })?;
     }
-    Ok(Field { entries })
+    Ok(entries)
+}
+
+// The table of these pairs.
+fn table(alloc: Global, pairs: &[(i32, i32)]) -> Result<Field, AllocError>
+    requires { IsAscending pairs.now }
+    ensures { IfOk result (λ table. table ≡ table_of pairs.now) }
+{
+    let entries = entries(alloc, pairs)?;
+    Field::new(entries)
 }
