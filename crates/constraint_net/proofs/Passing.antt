@@ -10,7 +10,7 @@ use Rattle.domain_core.specs.declared.Change.TheVariants.{Same, Smaller, Empty}
 use Rattle.narrow_core.specs.Laws.{LieWithin}
 use Rattle.narrow_core.specs.declared.field.Field.{Field}
 use Rattle.constraint_net.specs.Networks.{IsConsistent, AllConsistent}
-use Rattle.constraint_net.specs.Passes.{place_of, IsConsistentAt, WerePosted}
+use Rattle.constraint_net.specs.Passes.{place_in_pass, IsConsistentAt, WerePosted}
 use Rattle.constraint_net.specs.Steps.{FitWithin, Advances, AdvancesTo, StepsTo, SettlesTo, FitBefore}
 use Rattle.constraint_net.specs.declared.constraint.Constraint.{Constraint}
 use Rattle.constraint_net.specs.declared.NetFault.{NetFault}
@@ -22,12 +22,12 @@ use Rattle.constraint_net.proofs.Advancing.{advances_trans, advanced, advances_s
 
 -- ---- the places of a pass
 
-place_below : (direction : Direction) (step count : ℕ) → step < count → place_of direction step count < count
+place_below : (direction : Direction) (step count : ℕ) → step < count → place_in_pass direction step count < count
 place_below Forward step count below = below
 place_below Backward step count below = omega arith
 
 -- each place is visited
-step_to : (direction : Direction) (place count : ℕ) → place < count → (step : ℕ) × (step < count) × (place_of direction step count ≡ place)
+step_to : (direction : Direction) (place count : ℕ) → place < count → (step : ℕ) × (step < count) × (place_in_pass direction step count ≡ place)
 step_to Forward place count below = (place, below, refl)
 step_to Backward place count below = (count - 1 - place, omega arith, omega arith)
 
@@ -40,7 +40,7 @@ module _ (tables : List Field) (constraints : List Constraint) (direction : Dire
 
   all_at : (step : ℕ) (domains : List Domain) → all domains → at step domains
   all_at step domains each constraint found =
-      let place = place_of direction step (length constraints) in
+      let place = place_in_pass direction step (length constraints) in
       subst (λ x. IsConsistent tables x domains) (get_or_from_slice_get constraints place constraint constraint found) (each place constraint (slice_get_within constraints place constraint found))
 
   all_from_each : (domains : List Domain) → FitBefore at (length constraints) domains → all domains
@@ -48,14 +48,14 @@ module _ (tables : List Field) (constraints : List Constraint) (direction : Dire
       let step = step_to direction place (length constraints) below in
       each step.0 step.1 (get_or constraints place d) (ap (slice_get constraints) step.2 ∙ slice_get-get_or constraints place d below)
 
-  pub read : (step place : ℕ) (constraint : Constraint) → step < length constraints → place ≡ place_of direction step (length constraints) → constraint ≡ get_or constraints place constraint
-      → slice_get constraints (place_of direction step (length constraints)) ≡ Some constraint
+  pub read : (step place : ℕ) (constraint : Constraint) → step < length constraints → place ≡ place_in_pass direction step (length constraints) → constraint ≡ get_or constraints place constraint
+      → slice_get constraints (place_in_pass direction step (length constraints)) ≡ Some constraint
   read step place constraint below is at =
       let within = place_below direction step (length constraints) below in
       ap (slice_get constraints) (sym is) ∙ slice_get_read constraints (length constraints) place constraint refl (omega (arith, is, within)) at
 
   -- the step for one constraint, as that of its place
-  module _ (step : ℕ) (constraint : Constraint) (below : step < length constraints) (found : slice_get constraints (place_of direction step (length constraints)) ≡ Some constraint) where
+  module _ (step : ℕ) (constraint : Constraint) (below : step < length constraints) (found : slice_get constraints (place_in_pass direction step (length constraints)) ≡ Some constraint) where
     one_at : (old new : List Domain) (change : Change) → AdvancesTo (IsConsistent tables constraint) old change new → AdvancesTo (at step) old change new
     one_at old new change p =
         advances_same (IsConsistent tables constraint) (at step) old new change
@@ -66,7 +66,7 @@ module _ (tables : List Field) (constraints : List Constraint) (direction : Dire
         some_is : (one other : Constraint) → Some one ≡ Some other → one ≡ other
         some_is one other e = cc e
 
-        same_item : (other : Constraint) → slice_get constraints (place_of direction step (length constraints)) ≡ Some other → constraint ≡ other
+        same_item : (other : Constraint) → slice_get constraints (place_in_pass direction step (length constraints)) ≡ Some other → constraint ≡ other
         same_item other also = some_is constraint other (sym found ∙ also)
 
     pub next_step : (old middle new : List Domain) (one other both : Change) → All IsDomain old → both ≡ joined one other

@@ -16,20 +16,22 @@ abbrev pub IsAscending : List (ℤ × ℤ) → Type 0
 IsAscending pairs = AllPairs (λ one later. one.0 <ℤ later.0) pairs
 
 -- what each pair gives an object
-abbrev pub entries_of : List (ℤ × ℤ) → List FieldEntry
-entries_of pairs = map (λ pair. record { object = pair.0; value = pair.1 }) pairs
+abbrev pub given_by : List (ℤ × ℤ) → List FieldEntry
+given_by pairs = map (λ pair. record { object = pair.0; value = pair.1 }) pairs
 
 -- the table of the pairs
 abbrev pub table_of : List (ℤ × ℤ) → Field
-table_of pairs = record { entries = entries_of pairs }
+table_of pairs = record { entries = given_by pairs }
 
 -- the constraint stands behind those that were posted before; without memory nothing changes
 abbrev pub Posts : Network → Kind → List NetArg → Result (Unit {0}) AllocError → Network → Type 0
-Posts old kind args (Ok done) new = new ≡ record old { constraints = old.constraints ++ record { kind = kind; args = args } ∷ [] }
+Posts old kind args (Ok done) new =
+    new ≡ record old { constraints = old.constraints ++ record { kind = kind; args = args } ∷ [] }
 Posts old kind args (Err none) new = new ≡ old
 
 -- the variable keeps what the other domain has too; where that is nothing, and without memory, nothing changes
 abbrev pub Limits : Network → ℕ → Domain → Result Change AllocError → Network → Type 0
 Limits old variable to (Ok change) new =
-    LimitsAt old.domains variable to change new.domains × (new ≡ record old { domains = new.domains }) × (change ≡ Empty → new ≡ old)
+    LimitsAt old.domains variable to change new.domains × (new ≡ record old { domains = new.domains })
+        × (change ≡ Empty → new ≡ old)
 Limits old variable to (Err none) new = new ≡ old

@@ -10,9 +10,16 @@ use Rattle.constraint_net.specs.declared.domains.Domains.{Domains}
 
 -- the network that is kept so
 abbrev pub network_of : Domains → Vec Field Global → Vec Constraint Global → Network
-network_of domains tables constraints = record { domains = domains.variables.items; tables = tables.items; constraints = constraints.items; work = domains.work }
+network_of domains tables constraints =
+    record {
+      domains = domains.variables.items;
+      tables = tables.items;
+      constraints = constraints.items;
+      work = domains.work;
+    }
 
 -- each constraint could be posted, and the variables' domains are domains
-pub record IsKept (domains : Domains) (tables : Vec Field Global) (constraints : Vec Constraint Global) : Type 0 where
+pub record IsKeptNet (domains : Domains) (tables : Vec Field Global)
+    (constraints : Vec Constraint Global) : Type 0 where
   pub posted : WerePosted tables.items (length domains.variables.items) constraints.items
   pub are : All IsDomain domains.variables.items

@@ -11,7 +11,8 @@ use Rattle.constraint_net.specs.declared.constraint.NetArg.{NetArg}
 use Rattle.constraint_net.specs.declared.constraint.NetArg.TheVariants.{Lit}
 use Rattle.constraint_net.specs.declared.constraint.Constraint.{Constraint}
 
--- a network: the domains of its variables, the tables of fields, the constraints in the order in which they were posted, and how many narrowings it has made
+-- a network: the domains of its variables, the tables of fields, the constraints in the order in which they were
+-- posted, and how many narrowings it has made
 pub record Network : Type 0 where
   pub domains : List Domain
   pub tables : List Field
@@ -20,7 +21,8 @@ pub record Network : Type 0 where
 
 -- the table of this number gives the object this value
 abbrev pub field_of : List Field → ℕ → ℤ → ℤ → Type 0
-field_of tables number object value = IsSomeAnd (slice_get tables number) (λ table. IsInTable table.entries object value)
+field_of tables number object value =
+    IsSomeAnd (slice_get tables number) (λ table. IsInTable table.entries object value)
 
 -- the constraint is consistent in these domains of the variables
 abbrev pub IsConsistent : List Field → Constraint → List Domain → Type 0
@@ -35,7 +37,8 @@ abbrev pub HasFactor : List NetArg → Type 0
 HasFactor (x ∷ Lit factor ∷ z ∷ []) = factor ≢ pos 0
 HasFactor args = ⊥
 
--- what some kinds ask beside the count of their arguments: a product has a factor, and a field a table; that all differ is no constraint of a network
+-- what some kinds ask beside the count of their arguments: a product has a factor, and a field a table; that all
+-- differ is no constraint of a network
 abbrev pub IsAllowed : List Field → Kind → List NetArg → Type 0
 IsAllowed tables kind.MulEq args = HasFactor args
 IsAllowed tables (kind.Field number) args = number < length tables

@@ -45,9 +45,12 @@ LiesIn (Lit value) outer domains = ⊤
 
 -- so it is at this place of the arguments and the others
 abbrev pub LiesAt : List NetArg → List Domain → ℕ → List Domain → Type 0
-LiesAt args outers place domains = (arg : NetArg) (outer : Domain) → slice_get args place ≡ Some arg → slice_get outers place ≡ Some outer → LiesIn arg outer domains
+LiesAt args outers place domains =
+    (arg : NetArg) (outer : Domain) → slice_get args place ≡ Some arg → slice_get outers place ≡ Some outer
+    → LiesIn arg outer domains
 
--- what steps until nothing changes come to: the greatest domains that fit; or none fit; or memory has run out on the way
+-- what steps until nothing changes come to: the greatest domains that fit; or none fit; or memory has run out on
+-- the way
 abbrev pub SettlesTo : (List Domain → Type 0) → List Domain → Result (Unit {0}) NetFault → List Domain → Type 0
 SettlesTo fits old (Ok done) new = Advances fits old new × fits new
 SettlesTo fits old (Err Collapsed) new = Advances fits old new × ((below : List Domain) → FitWithin fits old below → ⊥)

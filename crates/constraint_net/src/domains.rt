@@ -38,7 +38,8 @@ impl Domains {
 
     /// Adds a variable, and answers its number.
     pub fn add(&mut self, domain: Dom) -> Result<usize, AllocError>
-        ensures ok { IfOk result (λ number. (number ≡ length self.old.variables.items) × (self.new.variables.items ≡ self.old.variables.items ++ domain ∷ [])) }
+        ensures ok { IfOk result (λ number. (number ≡ length self.old.variables.items)
+            × (self.new.variables.items ≡ self.old.variables.items ++ domain ∷ [])) }
         ensures err { OnErr result (self.new.variables.items ≡ self.old.variables.items) }
         ensures work { self.new.work ≡ self.old.work }
         ensures domain { IsDomain domain }
@@ -58,7 +59,8 @@ impl Domains {
         self.variables[variable].meet_set(to)
     }
 
-    /// Takes from the variables among the arguments what the constraint takes from the arguments. A variable that stands twice keeps what both its places have left.
+    /// Takes from the variables among the arguments what the constraint takes from the arguments. A variable that
+    /// stands twice keeps what both its places have left.
     pub fn narrow<C: Narrow>(
         &mut self,
         constraint: &C,
@@ -67,7 +69,8 @@ impl Domains {
         requires count { length args.now ≡ C.count constraint.now }
         requires domains { All IsDomain self.old.variables.items }
         requires arguments { All (IsArgument (length self.old.variables.items)) args.now }
-        ensures steps { StepsTo (AgreeAt (C.reach constraint.now) (C.holds constraint.now) args.now) self.old.variables.items result self.new.variables.items }
+        ensures steps { StepsTo (AgreeAt (C.reach constraint.now) (C.holds constraint.now) args.now)
+            self.old.variables.items result self.new.variables.items }
         ensures counted { self.old.work ≤ self.new.work }
     {
         gather(args, self.variables.as_slice(), &mut self.room)?;

@@ -29,7 +29,8 @@ pub fn narrow_constraint(
 ) -> Result<Change, AllocError>
     requires posted { CanPost tables.now (length domains.old.variables.items) constraint.now.kind constraint.now.args }
     requires domains { All IsDomain domains.old.variables.items }
-    ensures steps { StepsTo (IsConsistent tables.now constraint.now) domains.old.variables.items result domains.new.variables.items }
+    ensures steps { StepsTo (IsConsistent tables.now constraint.now)
+        domains.old.variables.items result domains.new.variables.items }
     ensures counted { domains.old.work ≤ domains.new.work }
 {
     let args = constraint.args.as_slice();
@@ -52,7 +53,8 @@ fn narrow_product(args: &[NetArg], domains: &mut Domains) -> Result<Change, Allo
     requires arguments { All (IsArgument (length domains.old.variables.items)) args.now }
     requires factor { HasFactor args.now }
     requires domains { All IsDomain domains.old.variables.items }
-    ensures steps { StepsTo (AgreeAt Ends (HoldsOf kind.MulEq) args.now) domains.old.variables.items result domains.new.variables.items }
+    ensures steps { StepsTo (AgreeAt Ends (HoldsOf kind.MulEq) args.now)
+        domains.old.variables.items result domains.new.variables.items }
     ensures counted { domains.old.work ≤ domains.new.work }
 {
     match args {
@@ -71,7 +73,8 @@ fn narrow_by_factor(
     requires arguments { All (IsArgument (length domains.old.variables.items)) (x ∷ factor ∷ z ∷ []) }
     requires factor { HasFactor (x ∷ factor ∷ z ∷ []) }
     requires domains { All IsDomain domains.old.variables.items }
-    ensures steps { StepsTo (AgreeAt Ends (HoldsOf kind.MulEq) (x ∷ factor ∷ z ∷ [])) domains.old.variables.items result domains.new.variables.items }
+    ensures steps { StepsTo (AgreeAt Ends (HoldsOf kind.MulEq) (x ∷ factor ∷ z ∷ []))
+        domains.old.variables.items result domains.new.variables.items }
     ensures counted { domains.old.work ≤ domains.new.work }
 {
     match factor {

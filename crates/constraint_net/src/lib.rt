@@ -1,14 +1,19 @@
-// Variables with their domains and constraints on them: what is left of the domains where all constraints are to be consistent.
+//! Variables with their domains and constraints on them: what is left of the domains where all constraints are to be
+//! consistent.
+//!
+//! `let x = net.add_var(domain)?` adds a variable, and `net.post(Kind::Leq, &[NetArg::Var(x), NetArg::Lit(5)])?` a
+//! constraint on it. After `net.settle_all()?` its domain is `net.get(x)`.
 #![tactic(auto)]
 
 pub mod constraint;
 mod domains;
 mod kinds;
 pub mod laws;
-pub mod net;
+pub mod network;
 mod rounds;
-#[cfg(test)]
-mod tests;
+
+pub use constraint::NetArg;
+pub use network::Net;
 
 use std::alloc::AllocError;
 

@@ -4,7 +4,7 @@ ghost use Rattle.std.specs.Prelude.{◌≡◌, ◌≢◌, ◌<◌, ◌≤◌, Al
 ghost use Rattle.domain_core.specs.Domain.{IsDomain};
 ghost use Rattle.constraint_net.specs.Steps.{StepsTo, SettlesTo};
 ghost use Rattle.constraint_net.specs.Networks.{AllConsistent};
-ghost use Rattle.constraint_net.specs.Passes.{place_of, WerePosted};
+ghost use Rattle.constraint_net.specs.Passes.{place_in_pass, WerePosted};
 
 use super::NetFault;
 use super::constraint::Constraint;
@@ -34,7 +34,7 @@ impl Direction {
     // The place that is visited in this step.
     fn place(self, step: usize, count: usize) -> usize
         requires { step < count }
-        ensures { result ≡ place_of self step count }
+        ensures { result ≡ place_in_pass self step count }
     {
         match self {
             Direction::Forward => step,
@@ -43,7 +43,8 @@ impl Direction {
     }
 }
 
-/// Takes values away until all constraints are consistent. Lower ends travel with the order of a chain and upper ends against it, so passes go forward and backward in turn.
+/// Takes values away until all constraints are consistent. Lower ends travel with the order of a chain and upper
+/// ends against it, so passes go forward and backward in turn.
 pub fn settle(
     constraints: &[Constraint],
     tables: &[Field],
@@ -51,7 +52,8 @@ pub fn settle(
 ) -> Result<(), NetFault>
     requires posted { WerePosted tables.now (length domains.old.variables.items) constraints.now }
     requires domains { All IsDomain domains.old.variables.items }
-    ensures settled { SettlesTo (AllConsistent tables.now constraints.now) domains.old.variables.items result domains.new.variables.items }
+    ensures settled { SettlesTo (AllConsistent tables.now constraints.now)
+        domains.old.variables.items result domains.new.variables.items }
     ensures counted { domains.old.work ≤ domains.new.work }
 {
     let mut direction = Direction::Forward;
@@ -73,7 +75,8 @@ fn pass(
 ) -> Result<Change, AllocError>
     requires posted { WerePosted tables.now (length domains.old.variables.items) constraints.now }
     requires domains { All IsDomain domains.old.variables.items }
-    ensures steps { StepsTo (AllConsistent tables.now constraints.now) domains.old.variables.items result domains.new.variables.items }
+    ensures steps { StepsTo (AllConsistent tables.now constraints.now)
+        domains.old.variables.items result domains.new.variables.items }
     ensures counted { domains.old.work ≤ domains.new.work }
 {
     let mut change = Change::Same;

@@ -1,4 +1,7 @@
-// The decisions that stand, and the lists of decisions that undo can bring back.
+//! The decisions that stand, and the lists of decisions that undo can bring back.
+//!
+//! After `log.push(decision)?` the decision stands last; `log.former()?` is a copy of the list before it, and
+//! `log.undo()?` brings that list back.
 #![tactic(auto)]
 
 pub mod log;
@@ -10,6 +13,3 @@ pub enum LogFault {
     Nothing,
     Memory,
 }
-
-#[cfg(test)]
-mod tests;

@@ -9,7 +9,7 @@ use Rattle.domain_core.specs.Domain.{Domain, Set, AreAscending, AreMembers}
 use Rattle.domain_core.specs.Narrowing.{Keeps, Sieves, IsPart, IsSievedPart}
 use Rattle.domain_core.specs.declared.Change.{Change}
 use Rattle.domain_core.specs.declared.Change.TheVariants.{Same, Smaller, Empty}
-use Rattle.domain_core.specs.Lists.{KeepsFront, Cuts}
+use Rattle.domain_core.specs.Lists.{KeepsFront, LeavesFront}
 use Rattle.domain_core.proofs.Parts.{part_members}
 
 -- ---- a part grows with the list
@@ -141,7 +141,7 @@ module _ (passed failed : ℤ → Type 0) (old moved : List ℤ) (kept : ℕ) (f
   part : IsPart (Contains (take kept moved)) old (take kept moved)
   part = record { ascending = front.part.ascending; items = λ value. (λ has. ((front.part.from value has).0, has), λ both. both.1) }
 
-  pub front_sieves : (change : Change) (new : List ℤ) → Cuts kept moved change new → Sieves passed failed (Set old) change (Set new)
+  pub front_sieves : (change : Change) (new : List ℤ) → LeavesFront kept moved change new → Sieves passed failed (Set old) change (Set new)
   front_sieves Same new cut =
       let same = front.all (omega (arith, cut.1, front.long)) in
       (ap Set (cut.0 ∙ same), λ value has. (front.part.from value (subst (λ list. Contains list value) (sym (take_all kept moved (omega (arith, cut.1)))) (subst (λ list. Contains list value) (sym same) has))).1)
@@ -159,7 +159,7 @@ module _ (passed failed : ℤ → Type 0) (old moved : List ℤ) (kept : ℕ) (f
     λ value has. ⊎_elim (λ c. absurd (omega (arith, c.1, length_kept, cut.1))) (λ fail. fail) (front.part.each value has),
   )
 
-  pub front_members : AreMembers old → (change : Change) (new : List ℤ) → Cuts kept moved change new → AreMembers new
+  pub front_members : AreMembers old → (change : Change) (new : List ℤ) → LeavesFront kept moved change new → AreMembers new
   front_members are Same new cut = subst AreMembers (sym (cut.0 ∙ front.all (omega (arith, cut.1, front.long)))) are
   front_members are Smaller new cut = subst AreMembers (sym cut.0) (part_members (Contains (take kept moved)) old (take kept moved) part are (omega (arith, cut.1, length_kept)))
   front_members are Empty new cut = subst AreMembers (sym (cut.0 ∙ front.none cut.1)) are

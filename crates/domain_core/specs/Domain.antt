@@ -1,5 +1,6 @@
 -- Values, and domains: what a variable may still be.
-use Rattle.std.specs.Prelude.{◌≡◌, ℕ, ◌+◌, ◌-◌, ◌<◌, ◌≤◌, ℤ, pos, negsuc, ◌≤ℤ◌, ◌<ℤ◌, ◌+ℤ◌, ◌⊎◌, ⊤, List, length, slice_index_or, All, AllPairs, Contains}
+use Rattle.std.specs.Prelude.{◌≡◌, ℕ, ◌+◌, ◌-◌, ◌<◌, ◌≤◌, ℤ, pos, negsuc, ◌≤ℤ◌, ◌<ℤ◌, ◌+ℤ◌, ◌⊎◌, ⊤, List, length}
+use Rattle.std.specs.Prelude.{slice_index_or, All, AllPairs, Contains}
 use borrow.Author.Differences.{up, down}
 
 -- a number that a variable may be
@@ -32,10 +33,12 @@ abbrev pub Has : Domain → ℤ → Type 0
 Has (Range lo hi) value = (lo ≤ℤ value) × (value ≤ℤ hi)
 Has (Set members) value = Contains members value
 
+-- its least value
 abbrev pub least : Domain → ℤ
 least (Range lo hi) = lo
 least (Set members) = slice_index_or members 0 (pos 0)
 
+-- its greatest value
 abbrev pub greatest : Domain → ℤ
 greatest (Range lo hi) = hi
 greatest (Set members) = slice_index_or members (length members - 1) (pos 0)

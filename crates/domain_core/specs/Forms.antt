@@ -4,6 +4,6 @@ use Rattle.domain_core.specs.declared.domain.Form.{Form}
 use Rattle.domain_core.specs.declared.domain.Form.TheVariants as form
 
 -- the domain that is kept so
-abbrev pub domain_of : Form → Domain
-domain_of (form.Range interval) = Range interval.lo interval.hi
-domain_of (form.Set members) = Set members.items
+abbrev pub domain_of_form : Form → Domain
+domain_of_form (form.Range interval) = Range interval.lo interval.hi
+domain_of_form (form.Set members) = Set members.items

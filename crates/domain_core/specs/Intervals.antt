@@ -2,5 +2,6 @@
 use Rattle.domain_core.specs.Domain.{Domain, Range}
 use Rattle.domain_core.specs.declared.interval.Interval.{Interval}
 
-abbrev pub range_of : Interval → Domain
-range_of interval = Range interval.lo interval.hi
+-- that range
+abbrev pub range_between : Interval → Domain
+range_between interval = Range interval.lo interval.hi

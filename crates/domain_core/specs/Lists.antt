@@ -41,10 +41,10 @@ pub record KeepsFront (passed failed : ℤ → Type 0) (old : List ℤ) (kept : 
   pub all : kept ≡ length old → new ≡ old
 
 -- what is left where only the front of a list is to stay: nothing changes where that is nothing or all of it
-abbrev pub Cuts : ℕ → List ℤ → Change → List ℤ → Type 0
-Cuts kept old change.Same new = (new ≡ old) × (kept ≡ length old)
-Cuts kept old change.Smaller new = (new ≡ take kept old) × (0 < kept) × (kept ≡ length old → ⊥)
-Cuts kept old change.Empty new = (new ≡ old) × (kept ≡ 0)
+abbrev pub LeavesFront : ℕ → List ℤ → Change → List ℤ → Type 0
+LeavesFront kept old change.Same new = (new ≡ old) × (kept ≡ length old)
+LeavesFront kept old change.Smaller new = (new ≡ take kept old) × (0 < kept) × (kept ≡ length old → ⊥)
+LeavesFront kept old change.Empty new = (new ≡ old) × (kept ≡ 0)
 
 -- the number stands among the others, in its place
 pub record Inserts (old : List ℤ) (number : ℤ) (new : List ℤ) : Type 0 where

@@ -10,7 +10,8 @@ pub record IsLeft (passes : ℤ → Type 0) (old new : Domain) : Type 0 where
   pub kept : (value : ℤ) → Has old value → passes value → Has new value
   pub tested : (value : ℤ) → IsTested new value → passes value
 
--- the values that pass are kept: nothing has to go, or something is left and less than before, or nothing passes, and then nothing changes
+-- the values that pass are kept: nothing has to go, or something is left and less than before, or nothing passes,
+-- and then nothing changes
 abbrev pub Keeps : (ℤ → Type 0) → Domain → Change → Domain → Type 0
 Keeps passes old Same new = (new ≡ old) × ((value : ℤ) → IsTested old value → passes value)
 Keeps passes old Smaller new = IsLeft passes old new × (slack new < slack old)
@@ -22,7 +23,8 @@ pub record IsSieved (passed failed : ℤ → Type 0) (old new : Domain) : Type 0
   pub each : (value : ℤ) → Has old value → Has new value ⊎ failed value
   pub tested : (value : ℤ) → IsTested new value → passed value
 
--- a test is asked of the values: nothing has to go, or something is left and less than before, or all has failed, and then nothing changes
+-- a test is asked of the values: nothing has to go, or something is left and less than before, or all has failed,
+-- and then nothing changes
 abbrev pub Sieves : (ℤ → Type 0) → (ℤ → Type 0) → Domain → Change → Domain → Type 0
 Sieves passed failed old Same new = (new ≡ old) × ((value : ℤ) → IsTested old value → passed value)
 Sieves passed failed old Smaller new = IsSieved passed failed old new × (slack new < slack old)

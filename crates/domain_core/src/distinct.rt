@@ -50,7 +50,8 @@ impl Distinct {
 
     // Puts the value in its place, where it isn't there yet. False where there is no room for it.
     fn insert(&mut self, value: i32) -> bool
-        ensures inserts { MatchBool result (Inserts self.old value self.new) (IsFull self.old value × (self.new ≡ self.old)) }
+        ensures inserts { MatchBool result
+            (Inserts self.old value self.new) (IsFull self.old value × (self.new ≡ self.old)) }
         ensures few { length self.new ≤ 4096 }
     {
         let Err(place) = self.room[..self.count].binary_search(&value) else {

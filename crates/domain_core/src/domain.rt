@@ -2,12 +2,14 @@
 
 ghost use Rattle.std.specs.Prelude.{◌≡◌, ◌≤◌, ◌≤ℤ◌, ◌↔◌, All, IsTrue, true, false, IfSome, IfNone, IfOk, MatchBool, ℤ};
 ghost use Rattle.std.specs.List.{Any};
-ghost use Rattle.domain_core.specs.Domain.{Range, IsDomain, IsRange, IsSingle, HaveCommon, IsNth, IsValue, Has, least, greatest, count_of};
+ghost use Rattle.domain_core.specs.Domain.{Range, IsDomain, IsRange, IsSingle, HaveCommon, IsNth, IsValue, Has};
+ghost use Rattle.domain_core.specs.Domain.{least, greatest, count_of};
 ghost use Rattle.domain_core.specs.Narrowing.{Keeps, Sieves};
 ghost use Rattle.domain_core.specs.Lists.{MakesSet};
 
 use super::distinct::Distinct;
 use super::interval::Interval;
+use super::number::is_value;
 use super::{Change, SetFault, members};
 use std::alloc::{AllocError, Global};
 use std::marker::Model;
@@ -39,17 +41,11 @@ impl Model for Dom {
 
     ghost Value = { Domain };
 
-    ghost use Rattle.domain_core.specs.Forms.{domain_of};
+    ghost use Rattle.domain_core.specs.Forms.{domain_of_form};
 
-    ghost view = { λ inside. domain_of inside.form };
+    ghost view = { λ inside. domain_of_form inside.form };
 
-    ghost invariant = { λ inside. IsDomain (domain_of inside.form) };
-}
-
-fn is_value(number: i32) -> bool
-    ensures { IsTrue result ↔ IsValue number }
-{
-    LEAST_VALUE <= number && number <= GREATEST_VALUE
+    ghost invariant = { λ inside. IsDomain (domain_of_form inside.form) };
 }
 
 // Whether the numbers are all values.
@@ -195,7 +191,8 @@ impl Dom {
         }
     }
 
-    /// Keeps the values that the other domain has too. A range that is met with a set becomes the least range around the common values.
+    /// Keeps the values that the other domain has too. A range that is met with a set becomes the least range
+    /// around the common values.
     pub fn meet_set(&mut self, other: &Dom) -> Change
         ensures kept { Keeps (Has other.now) self.old result self.new }
         ensures domain { IsDomain self.new }
@@ -224,7 +221,8 @@ impl Dom {
     pub fn keep_members<F: Fn(i32) -> bool>(&mut self, passes: F) -> Change
         requires set { IsRange self.old → ⊥ }
         requires callable { (value : ℤ) → IsValue value → F.pre passes value }
-        ensures sieved { Sieves (λ value. F.post passes value true) (λ value. F.post passes value false) self.old result self.new }
+        ensures sieved { Sieves (λ value. F.post passes value true) (λ value. F.post passes value false)
+            self.old result self.new }
         ensures domain { IsDomain self.new }
     {
         match &mut self.form {

@@ -1,4 +1,7 @@
-// Domains of variables: which values are left, and what taking values away leaves.
+//! Domains of variables: which values are left, and what taking values away leaves.
+//!
+//! `Dom::range(0, 10)` is the domain of the numbers from 0 to 10. `domain.meet_range(4, 20)` then keeps those from 4
+//! on, and answers `Change::Smaller`.
 #![tactic(auto)]
 
 ghost use Rattle.std.specs.Prelude.{◌≡◌};
@@ -8,9 +11,10 @@ pub mod domain;
 mod interval;
 pub mod laws;
 mod members;
-#[cfg(test)]
-mod tests;
+pub mod number;
 
+pub use domain::Dom;
+pub use number::is_value;
 use std::alloc::AllocError;
 
 /// What taking values away did.

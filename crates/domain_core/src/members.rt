@@ -1,11 +1,12 @@
 //! The members of a set, kept in order.
 
-ghost use Rattle.std.specs.Prelude.{◌≡◌, ◌≤◌, ◌≤ℤ◌, ◌<ℤ◌, ◌↔◌, IsTrue, true, false, Contains, ℤ, length, slice_index_or};
+ghost use Rattle.std.specs.Prelude.{◌≡◌, ◌≤◌, ◌≤ℤ◌, ◌<ℤ◌, ◌↔◌, IsTrue, true, false, Contains, ℤ, length};
+ghost use Rattle.std.specs.Prelude.{slice_index_or};
 ghost use Rattle.std.specs.List.{AllWithin};
 ghost use Rattle.domain_core.specs.Domain.{Set, HaveCommon, IsDomain, IsValue, AreAscending, AreMembers};
 ghost use Rattle.domain_core.specs.Narrowing.{Keeps, Sieves};
-ghost use Rattle.domain_core.specs.Intervals.{range_of};
-ghost use Rattle.domain_core.specs.Lists.{KeepsFront, Cuts};
+ghost use Rattle.domain_core.specs.Intervals.{range_between};
+ghost use Rattle.domain_core.specs.Lists.{KeepsFront, LeavesFront};
 
 use super::Change;
 use super::interval::Interval;
@@ -41,7 +42,8 @@ pub fn first_above(members: &[i32], value: i32) -> usize
 /// Keeps the members from `lo` to `hi`.
 pub fn meet_range(members: &mut Vec<i32>, lo: i32, hi: i32) -> Change
     requires { AreMembers members.old.items }
-    ensures kept { Keeps (λ value. (lo ≤ℤ value) × (value ≤ℤ hi)) (Set members.old.items) result (Set members.new.items) }
+    ensures kept { Keeps (λ value. (lo ≤ℤ value) × (value ≤ℤ hi))
+        (Set members.old.items) result (Set members.new.items) }
     ensures domain { IsDomain (Set members.new.items) }
 {
     let from = first_from(members.as_slice(), lo);
@@ -70,7 +72,7 @@ pub fn meet_set(members: &mut Vec<i32>, others: &[i32]) -> Change
 
 // Leaves the first `kept` numbers, unless these are none or all.
 fn cut(members: &mut Vec<i32>, kept: usize) -> Change
-    ensures { Cuts kept members.old.items result members.new.items }
+    ensures { LeavesFront kept members.old.items result members.new.items }
 {
     if kept == 0 {
         return Change::Empty;
@@ -82,11 +84,13 @@ fn cut(members: &mut Vec<i32>, kept: usize) -> Change
     Change::Smaller
 }
 
-// Moves what both lists have to the front of the first one, and answers how much that is. Both lists are gone through once.
+// Moves what both lists have to the front of the first one, and answers how much that is. Both lists are gone
+// through once.
 fn keep_common(members: &mut Vec<i32>, others: &[i32]) -> usize
     requires members { AreAscending members.old.items }
     requires others { AreAscending others.now }
-    ensures { KeepsFront (Contains others.now) (λ value. Contains others.now value → ⊥) members.old.items result members.new.items }
+    ensures { KeepsFront (Contains others.now) (λ value. Contains others.now value → ⊥)
+        members.old.items result members.new.items }
 {
     let mut kept = 0;
     let mut next = 0;
@@ -120,7 +124,8 @@ fn skip_below(numbers: &[i32], start: usize, value: i32) -> usize
 pub fn keep<F: Fn(i32) -> bool>(members: &mut Vec<i32>, passes: F) -> Change
     requires are { AreMembers members.old.items }
     requires callable { (value : ℤ) → IsValue value → F.pre passes value }
-    ensures sieved { Sieves (λ value. F.post passes value true) (λ value. F.post passes value false) (Set members.old.items) result (Set members.new.items) }
+    ensures sieved { Sieves (λ value. F.post passes value true) (λ value. F.post passes value false)
+        (Set members.old.items) result (Set members.new.items) }
     ensures domain { IsDomain (Set members.new.items) }
 {
     let kept = keep_passing(members, passes);
@@ -131,7 +136,8 @@ pub fn keep<F: Fn(i32) -> bool>(members: &mut Vec<i32>, passes: F) -> Change
 fn keep_passing<F: Fn(i32) -> bool>(members: &mut Vec<i32>, passes: F) -> usize
     requires are { AreMembers members.old.items }
     requires callable { (value : ℤ) → IsValue value → F.pre passes value }
-    ensures { KeepsFront (λ value. F.post passes value true) (λ value. F.post passes value false) members.old.items result members.new.items }
+    ensures { KeepsFront (λ value. F.post passes value true) (λ value. F.post passes value false)
+        members.old.items result members.new.items }
 {
     let mut kept = 0;
     for read in 0..members.len() {
@@ -162,19 +168,19 @@ pub fn have_common(members: &[i32], others: &[i32]) -> bool
 
 /// Whether a member lies between the ends of the interval.
 pub fn reach(members: &[i32], interval: &Interval) -> bool
-    requires domain { IsDomain (range_of interval.now) }
+    requires domain { IsDomain (range_between interval.now) }
     requires ascending { AreAscending members.now }
-    ensures { IsTrue result ↔ HaveCommon (range_of interval.now) (Set members.now) }
+    ensures { IsTrue result ↔ HaveCommon (range_between interval.now) (Set members.now) }
 {
     first_from(members, interval.lo) < first_above(members, interval.hi)
 }
 
 /// Keeps the least range around the values of the interval that are members.
 pub fn meet_around(interval: &mut Interval, members: &[i32]) -> Change
-    requires domain { IsDomain (range_of interval.old) }
+    requires domain { IsDomain (range_between interval.old) }
     requires ascending { AreAscending members.now }
-    ensures kept { Keeps (Contains members.now) (range_of interval.old) result (range_of interval.new) }
-    ensures domain { IsDomain (range_of interval.new) }
+    ensures kept { Keeps (Contains members.now) (range_between interval.old) result (range_between interval.new) }
+    ensures domain { IsDomain (range_between interval.new) }
 {
     let from = first_from(members, interval.lo);
     let end = first_above(members, interval.hi);

@@ -1,17 +1,18 @@
 -- What follows the label of a name, and how it is read.
-use Rattle.std.proofs.Common.{◌≡◌, ℕ, List, [], ◌∷◌, ◌++◌, length, get_or, All, refl, sym, ◌∙◌, ap, subst, arith, append_assoc}
+use Rattle.std.proofs.Common.{◌≡◌, ℕ, List, [], ◌∷◌, ◌++◌, length, get_or, refl, sym, ◌∙◌, ap, subst, arith, append_assoc}
 use Rattle.std.specs.Prelude.{Err}
 use Rattle.std.specs.Fmt.{decimal}
 use Rattle.std.specs.List.{flat_map}
 use Rattle.std.proofs.lemmas.List.{append-nil}
 use Rattle.std.proofs.lemmas.List.Concat.{flat_map-append}
-use Rattle.std.proofs.lemmas.List.Elements.{All-head, All-tail, All-push}
+use Rattle.std.proofs.lemmas.List.Elements.{All-nil, All-head, All-tail, All-push}
 use Rattle.eu_name.specs.declared.name.Step.{Step}
 use Rattle.eu_name.specs.declared.name_text.Tail.{Tail}
 use Rattle.eu_name.specs.declared.name_text.NameFault.{NameFault}
 use Rattle.eu_name.specs.declared.name_text.NameFault.TheVariants.{Syntax, Memory}
+use Rattle.eu_name.specs.Word.{IsName}
 use Rattle.eu_name.specs.Spelling.{step_text, tail_text, ending_text, IsStep, IsNumbered}
-use Rattle.eu_name.specs.Readers.{HasNoDigit, HasNumber, HasStep, IsEnding, ReadsEnding, ReadsTail}
+use Rattle.eu_name.specs.Readers.{HasNoDigit, HasNumber, HasStep, HasRead, HasSteps, IsEnding, ReadsEnding, ReadsTail}
 use Rattle.eu_name.proofs.Orders.{step_same}
 use Rattle.eu_name.proofs.Numbers.{same_marked}
 
@@ -95,6 +96,10 @@ long_local text between rest rule number front back more rule' number' is =
 
 -- ---- endings
 
+-- a mark and a name are a tail
+pub part_is : (text : List ℕ) (mark : ℕ) (part : List ℕ) → text ≡ mark ∷ part → mark ≡ 46 → IsName part → IsEnding text [] (Tail.Part part)
+part_is text mark part whole is named = record { small = All-nil IsStep; tailed = named; whole = whole ∙ ap (λ byte. byte ∷ part) is }
+
 -- no ending begins with a digit
 ending_no_digit : (steps : List Step) (tail : Tail) → HasNoDigit (ending_text steps tail)
 ending_no_digit [] Tail.None = tt
@@ -134,11 +139,9 @@ goes_on text step after has (first ∷ more) tail is =
     let firsts : first ≡ step = same.0 in
     record { more = more; same = cc; rest = subst (λ (bytes : List ℕ). IsEnding bytes more tail) same.1 (other_steps text first more tail is) }
 
--- what is known after some steps are read
-pub record HasRead (text : List ℕ) (steps : List Step) (rest : List ℕ) : Type 0 where
-  pub small : All IsStep steps
-  pub whole : text ≡ flat_map step_text steps ++ rest
-  pub follows : (others : List Step) (tail : Tail) → IsEnding text others tail → (more : List Step) × IsEnding rest more tail
+-- before any step is read
+pub none_read : (text : List ℕ) → HasRead text [] text
+none_read text = record { small = All-nil IsStep; whole = refl; follows = λ others tail is. (others, is) }
 
 -- one more step is read
 pub one_read : (text : List ℕ) (steps more : List Step) (rest : List ℕ) (step : Step) (after : List ℕ) → more ≡ steps ++ step ∷ [] → HasRead text steps rest → HasStep rest step after → HasRead text more after
@@ -148,18 +151,27 @@ one_read text steps more rest step after pushed read has = record {
   follows = λ others tail is. let left = read.follows others tail is in let on = goes_on rest step after has left.0 tail left.1 in (on.more, on.rest);
 }
 
--- the rest is no tail, and goes on with no step
-pub no_ending_read : (text : List ℕ) (steps : List Step) (rest : List ℕ) → HasRead text steps rest → ((step : Step) (after : List ℕ) → HasStep rest step after → ⊥) → ((tail : Tail) → IsEnding rest [] tail → ⊥) → (others : List Step) (tail : Tail) → IsEnding text others tail → ⊥
-no_ending_read text steps rest read no_step no_tail others tail is = let left = read.follows others tail is in at_end left.0 left.1
+-- all steps are read, so what follows them is a tail
+tail_is : (text : List ℕ) (steps : List Step) (rest : List ℕ) → HasSteps text steps rest → (others : List Step) (tail : Tail) → IsEnding text others tail → IsEnding rest [] tail
+tail_is text steps rest has others tail is = let left = has.read.follows others tail is in at_end left.0 left.1
   where
-    at_end : (more : List Step) → IsEnding rest more tail → ⊥
-    at_end [] ending = no_tail tail ending
-    at_end (step ∷ more) ending = no_step step (ending_text more tail) (first_step rest step more tail ending)
+    at_end : (more : List Step) → IsEnding rest more tail → IsEnding rest [] tail
+    at_end [] ending = ending
+    at_end (step ∷ more) ending = absurd (has.last step (ending_text more tail) (first_step rest step more tail ending))
+
+-- and with that tail they are the ending
+pub ending_is : (text : List ℕ) (steps : List Step) (rest : List ℕ) → HasSteps text steps rest → (tail : Tail) → IsEnding rest [] tail → IsEnding text steps tail
+ending_is text steps rest has tail is = record { small = has.read.small; tailed = is.tailed; whole = has.read.whole ∙ ap (λ bytes. flat_map step_text steps ++ bytes) is.whole }
+
+-- the tail was read behind the same steps
+pub steps_are : (text : List ℕ) (steps others : List Step) (rest left : List ℕ) → HasSteps text steps rest → HasSteps text others left → (tail : Tail) → IsEnding left [] tail → IsEnding text steps tail
+steps_are text steps others rest left has had tail is =
+    ending_is text steps rest has tail (tail_is text steps rest has others tail (ending_is text others left had tail is))
 
 -- the fault of a tail is that of the ending
-pub ending_fault : (text : List ℕ) (steps : List Step) (rest : List ℕ) → HasRead text steps rest → ((step : Step) (after : List ℕ) → HasStep rest step after → ⊥) → (fault : NameFault) → ReadsTail rest (Err fault) → ReadsEnding text (Err fault)
-ending_fault text steps rest read no_step Syntax none = no_ending_read text steps rest read no_step none
-ending_fault text steps rest read no_step Memory none = tt
+pub ending_fault : (text : List ℕ) (steps : List Step) (rest : List ℕ) → HasSteps text steps rest → (fault : NameFault) → ReadsTail rest (Err fault) → ReadsEnding text (Err fault)
+ending_fault text steps rest has Syntax none = λ others tail is. none tail (tail_is text steps rest has others tail is)
+ending_fault text steps rest has Memory found = (steps, (found.0, ending_is text steps rest has found.0 found.1))
 
 -- ---- one text, one ending
 

@@ -3,3 +3,4 @@ pub mod Fronts
 pub mod Numbers
 pub mod Endings
 pub mod Names
+pub mod Equality

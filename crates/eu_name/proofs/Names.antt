@@ -78,18 +78,29 @@ no_label text front len is cut other none name spells =
     let found = spelled text name other spells in
     none (subst IsName (sym (cut ∙ (ap (λ n. take n text) is ∙ found.front))) found.named)
 
--- the fault of an ending is that of the name
-pub name_fault : (text ending : List ℕ) (len : ℕ) → len ≡ prefix_len is_word_byte text → ending ≡ drop len text → (IsNumbered text → ⊥) → (fault : NameFault) → ReadsEnding ending (Err fault) → Reads text (Err fault)
-name_fault text ending len is cut other Syntax none = λ name spells.
-    let found = spelled text name other spells in
-    none name.steps name.tail (subst (λ (bytes : List ℕ). IsEnding bytes name.steps name.tail) (sym (cut ∙ ap (λ n. drop n text) is)) found.ending)
-name_fault text ending len is cut other Memory none = tt
-
 pub name_spells : (text front ending : List ℕ) (len : ℕ) (name : NameText) → front ≡ take len text → ending ≡ drop len text → IsName front → name.label ≡ front → IsEnding ending name.steps name.tail → Spells text name
 name_spells text front ending len name cut rest named label is = (
   inl (subst IsName (sym label) named, is.small, is.tailed),
   sym (take-append-drop len text) ∙ rw (← cut, ← rest, label, is.whole) refl,
 )
+
+-- a name and an ending are the spelling of some name
+pub found_name : (text front ending : List ℕ) (len : ℕ) → front ≡ take len text → ending ≡ drop len text → IsName front → (steps : List Step) (tail : Tail) → IsEnding ending steps tail → (name : NameText) × Spells text name
+found_name text front ending len cut rest named steps tail is =
+    let name : NameText = record { label = front; steps = steps; tail = tail } in
+    (name, name_spells text front ending len name cut rest named refl is)
+
+-- the fault of an ending is that of the name
+pub name_fault : (text front ending : List ℕ) (len : ℕ) → len ≡ prefix_len is_word_byte text → front ≡ take len text → ending ≡ drop len text → (IsNumbered text → ⊥) → IsName front → (fault : NameFault) → ReadsEnding ending (Err fault) → Reads text (Err fault)
+name_fault text front ending len is cut rest other named Syntax none = λ name spells.
+    let found = spelled text name other spells in
+    none name.steps name.tail (subst (λ (bytes : List ℕ). IsEnding bytes name.steps name.tail) (sym (rest ∙ ap (λ n. drop n text) is)) found.ending)
+name_fault text front ending len is cut rest other named Memory found =
+    found_name text front ending len cut rest named found.0 found.1.0 found.1.1
+
+-- `!` and a number are a name
+pub numbered_spells : (text : List ℕ) → IsNumbered text → (name : NameText) × Spells text name
+numbered_spells text is = (record { label = text; steps = []; tail = Tail.None }, (inr (is, refl, refl), sym (append-nil text)))
 
 -- ---- one text, one name
 

@@ -37,7 +37,8 @@ place_of End = 2
 place_of Duration = 3
 place_of (Param number) = 4 + number
 
--- globals come first, by number, and then the variables of tokens, by token; within a token come its parts by place, and then its locals by rule and number
+-- globals come first, by number, and then the variables of tokens, by token; within a token come its parts by
+-- place, and then its locals by rule and number
 abbrev pub IsVarBefore : VarName → VarName → Type 0
 IsVarBefore (Global m) (Global n) = m < n
 IsVarBefore (Global m) (Token b q) = ⊤
@@ -49,7 +50,8 @@ IsVarBefore (Local a r m) (Global n) = ⊥
 IsVarBefore (Local a r m) (Token b q) = ByToken a b ⊥
 IsVarBefore (Local a r m) (Local b s n) = ByToken a b (ByNumber r s (m < n))
 
--- nothing comes before itself; what comes before something comes before all that this comes before; and of two different things one comes first
+-- nothing comes before itself; what comes before something comes before all that this comes before; and of two
+-- different things one comes first
 pub record IsStrictTotalOrder {A : Type 0} (before : A → A → Type 0) : Type 0 where
   pub irreflexive : (a : A) → before a a → ⊥
   pub transitive : (a b c : A) → before a b → before b c → before a c

@@ -2,6 +2,7 @@
 use Rattle.std.specs.Prelude.{◌≡◌, ℕ, ◌<◌, List, [], ◌∷◌, ◌++◌, All, false, Result, Ok, Err, ⊤}
 use Rattle.std.specs.Char.{is_ascii_digit}
 use Rattle.std.specs.Fmt.{decimal}
+use Rattle.std.specs.List.{flat_map}
 use Rattle.eu_name.specs.declared.name.Step.{Step}
 use Rattle.eu_name.specs.declared.name_text.Tail.{Tail}
 use Rattle.eu_name.specs.declared.name_text.NameFault.{NameFault}
@@ -31,14 +32,27 @@ pub record IsEnding (text : List ℕ) (steps : List Step) (tail : Tail) : Type 0
   pub tailed : IsTail tail
   pub whole : text ≡ ending_text steps tail
 
+-- these steps are read of the text, and the rest isn't yet: whatever ending the text is, the rest is one with fewer
+-- steps
+pub record HasRead (text : List ℕ) (steps : List Step) (rest : List ℕ) : Type 0 where
+  pub small : All IsStep steps
+  pub whole : text ≡ flat_map step_text steps ++ rest
+  pub follows : (others : List Step) (tail : Tail) → IsEnding text others tail
+      → (more : List Step) × IsEnding rest more tail
+
+-- all steps are read that the text begins with
+pub record HasSteps (text : List ℕ) (steps : List Step) (rest : List ℕ) : Type 0 where
+  pub read : HasRead text steps rest
+  pub last : (step : Step) (after : List ℕ) → HasStep rest step after → ⊥
+
 -- the answer to what follows a label
 abbrev pub ReadsEnding : List ℕ → Result (List Step × Tail) NameFault → Type 0
 ReadsEnding text (Ok found) = IsEnding text found.0 found.1
 ReadsEnding text (Err Syntax) = (steps : List Step) (tail : Tail) → IsEnding text steps tail → ⊥
-ReadsEnding text (Err Memory) = ⊤
+ReadsEnding text (Err Memory) = (steps : List Step) × ((tail : Tail) × IsEnding text steps tail)
 
 -- the answer to what follows the steps
 abbrev pub ReadsTail : List ℕ → Result Tail NameFault → Type 0
 ReadsTail text (Ok tail) = IsEnding text [] tail
 ReadsTail text (Err Syntax) = (tail : Tail) → IsEnding text [] tail → ⊥
-ReadsTail text (Err Memory) = ⊤
+ReadsTail text (Err Memory) = (tail : Tail) × IsEnding text [] tail

@@ -52,8 +52,9 @@ IsWellFormed name =
 abbrev pub Spells : List ℕ → NameText → Type 0
 Spells text name = IsWellFormed name × (text ≡ spelling_of name)
 
--- the answer to a text: the name that it spells, or that it spells none; memory can run out for any text
+-- the answer to a text: the name that it spells, or that it spells none; memory can run out only for a text that
+-- spells one
 abbrev pub Reads : List ℕ → Result NameText NameFault → Type 0
 Reads text (Ok name) = Spells text name
 Reads text (Err Syntax) = (name : NameText) → Spells text name → ⊥
-Reads text (Err Memory) = ⊤
+Reads text (Err Memory) = (name : NameText) × Spells text name

@@ -1,4 +1,8 @@
-// Texts, bytes and lists as contracts see them, and the names of tokens and variables with their order and their spelling.
+//! Texts, bytes and lists as contracts see them, and the names of tokens and variables with their order and their
+//! spelling.
+//!
+//! `read_name(alloc, b"g/0:2.start")?` is the name of the start of the token in slot 2 of rule 0 of `g`, and
+//! `write_name(alloc, &name)?` gives these bytes back.
 #![tactic(auto)]
 
 pub mod bytes;
@@ -8,8 +12,13 @@ pub mod name_order;
 pub mod name_text;
 pub mod reading;
 pub mod sequence;
-#[cfg(test)]
-mod tests;
 pub mod text;
 pub mod word;
 pub mod writing;
+
+pub use name::{Part, Step, TokenName, VarName};
+pub use name_order::{order, var_order};
+pub use name_text::{NameFault, NameText, Tail};
+pub use reading::read_name;
+pub use word::{is_name, is_word};
+pub use writing::write_name;

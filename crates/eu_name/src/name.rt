@@ -6,21 +6,21 @@ use super::sequence::Sequence;
 use std::alloc::AllocError;
 
 /// One step from a token to a subgoal: the rule's number in the predicate's list, and the slot's number in the rule.
-#[derive(Clone, Copy, PartialEq, Eq, PartialOrd, Ord)]
+#[derive(Clone, Copy, PartialEq, Eq, PartialOrd, Ord, Hash)]
 pub struct Step {
     pub rule: u16,
     pub slot: u16,
 }
 
 /// A root token by its number in order of posting, or what the steps from it lead to.
-#[derive(Drop)]
+#[derive(PartialEq, Eq, Hash, Drop)]
 pub struct TokenName {
     pub root: u32,
     pub steps: Sequence<Step>,
 }
 
 /// A variable that every token of a predicate has.
-#[derive(Clone, Copy)]
+#[derive(Clone, Copy, PartialEq, Eq, Hash)]
 pub enum Part {
     Start,
     End,
@@ -31,7 +31,7 @@ pub enum Part {
 }
 
 /// A variable of the problem.
-#[derive(Drop)]
+#[derive(PartialEq, Eq, Hash, Drop)]
 pub enum VarName {
     Token(TokenName, Part),
     /// A local variable of a rule of the token, by its number in the rule.

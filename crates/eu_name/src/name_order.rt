@@ -7,7 +7,8 @@ ghost use Rattle.eu_name.specs.NameOrder.{IsTokenBefore, IsVarBefore, place_of};
 use super::name::{Part, TokenName, VarName};
 use std::cmp::Ordering;
 
-/// The order of tokens: by the number of steps, then by the root, then step by step, where a step goes by its rule and then by its slot.
+/// The order of tokens: by the number of steps, then by the root, then step by step, where a step goes by its rule
+/// and then by its slot.
 pub fn order(a: &TokenName, b: &TokenName) -> Ordering
     ensures less { (result ≡ Less) ↔ IsTokenBefore a.now b.now }
     ensures equal { (result ≡ Equal) ↔ (a.now ≡ b.now) }
@@ -32,7 +33,8 @@ fn place(part: Part) -> u32
     }
 }
 
-/// The order of variables: globals by number, and then by token; within a token object, start, end, duration and the parameters, and then the locals by rule and number.
+/// The order of variables: globals by number, and then by token; within a token object, start, end, duration and
+/// the parameters, and then the locals by rule and number.
 pub fn var_order(a: &VarName, b: &VarName) -> Ordering
     ensures less { (result ≡ Less) ↔ IsVarBefore a.now b.now }
     ensures equal { (result ≡ Equal) ↔ (a.now ≡ b.now) }

@@ -5,10 +5,12 @@ use super::sequence::Sequence;
 use super::text::Text;
 use std::alloc::AllocError;
 
-/// A name as a text spells it: `g` and `g/0:2` name tokens, `g.start` and `g/0:2/1!3` variables of tokens, and `x` and `!4` global variables. Whether there is something by that name depends on the model.
+/// A name as a text spells it: `g` and `g/0:2` name tokens, `g.start` and `g/0:2/1!3` variables of tokens, and `x`
+/// and `!4` global variables. Whether there is something by that name depends on the model.
 #[derive(Drop)]
 pub struct NameText {
-    /// The label of a root token, the name of a global variable, or `!` and the number of a global variable without a name of its own.
+    /// The label of a root token, the name of a global variable, or `!` and the number of a global variable without
+    /// a name of its own.
     pub label: Text,
     /// The steps from the root token.
     pub steps: Sequence<Step>,

@@ -1,12 +1,13 @@
 //! Reads names from their front to their end: a label, steps and a tail, or `!` and a number.
 
-ghost use Rattle.std.specs.Prelude.{◌≡◌, ◌<◌, ◌≤◌, ◌↔◌, ℕ, List, [], All, IfOk, IfSome, IfNone, IsTrue, MatchOption, length, slice_index};
+ghost use Rattle.std.specs.Prelude.{◌≡◌, ◌<◌, ◌≤◌, ◌↔◌, ℕ, List, [], All, IfOk, IfSome, IfNone, IsTrue, MatchOption};
+ghost use Rattle.std.specs.Prelude.{length, slice_index};
 ghost use Rattle.std.specs.Char.{is_ascii_digit};
 ghost use Rattle.std.specs.Fmt.{decimal};
 ghost use Rattle.std.specs.List.{prefix_len};
 ghost use Rattle.eu_name.specs.Word.{is_word_byte};
 ghost use Rattle.eu_name.specs.Spelling.{IsNumbered, Reads};
-ghost use Rattle.eu_name.specs.Readers.{ReadsEnding, ReadsTail, HasNumber, HasStep, IsEnding};
+ghost use Rattle.eu_name.specs.Readers.{ReadsEnding, ReadsTail, HasNumber, HasStep, HasSteps, IsEnding};
 ghost use Rattle.eu_name.specs.declared.name_text.Tail.TheVariants.{Local};
 
 use super::name::Step;
@@ -138,9 +139,20 @@ fn read_tail(alloc: Global, text: &[u8]) -> Result<Tail, NameFault>
     Ok(Tail::Part(text_of(alloc, part)?))
 }
 
-/// The steps and the tail that the text is.
-fn read_ending(alloc: Global, text: &[u8]) -> Result<(Sequence<Step>, Tail), NameFault>
-    ensures { ReadsEnding text.now result }
+/// What follows the steps that the text begins with.
+fn after_steps(text: &[u8]) -> &[u8]
+    ensures { (steps : List Step) × HasSteps text.now steps result.now }
+{
+    let mut rest = text;
+    while let Some((_, after)) = next_step(rest) {
+        rest = after;
+    }
+    rest
+}
+
+/// The steps that the text begins with.
+fn steps_of(alloc: Global, text: &[u8]) -> Result<Sequence<Step>, AllocError>
+    ensures { IfOk result (λ steps. (rest : List ℕ) × HasSteps text.now steps rest) }
 {
     let mut steps = Sequence::new(alloc);
     let mut rest = text;
@@ -148,11 +160,20 @@ fn read_ending(alloc: Global, text: &[u8]) -> Result<(Sequence<Step>, Tail), Nam
         steps.push(step)?;
         rest = after;
     }
-    let tail = read_tail(alloc, rest)?;
+    Ok(steps)
+}
+
+/// The steps and the tail that the text is. The tail comes first, so that what ends with none takes no memory.
+fn read_ending(alloc: Global, text: &[u8]) -> Result<(Sequence<Step>, Tail), NameFault>
+    ensures { ReadsEnding text.now result }
+{
+    let tail = read_tail(alloc, after_steps(text))?;
+    let steps = steps_of(alloc, text)?;
     Ok((steps, tail))
 }
 
-/// The name that the text spells, as a whole. Which names there are is for the model to say.
+/// The name that the text spells, as a whole. Which names there are is for the model to say. A text that spells
+/// none takes no memory.
 pub fn read_name(alloc: Global, text: &[u8]) -> Result<NameText, NameFault>
     ensures { Reads text.now result }
 {
@@ -167,7 +188,7 @@ pub fn read_name(alloc: Global, text: &[u8]) -> Result<NameText, NameFault>
     if !is_name(label) {
         return Err(NameFault::Syntax);
     }
-    let label = text_of(alloc, label)?;
     let (steps, tail) = read_ending(alloc, ending)?;
+    let label = text_of(alloc, label)?;
     Ok(NameText { label, steps, tail })
 }

@@ -26,7 +26,8 @@ fn write_tail(text: &mut String, tail: &Tail) -> Result<(), AllocError>
     }
 }
 
-/// The one spelling of a name, where it is well-formed, as every name that was read is. Any other is written alike, and then the text spells another name or none.
+/// The one spelling of a name, where it is well-formed, as every name that was read is. Any other is written alike,
+/// and then the text spells another name or none.
 pub fn write_name(alloc: Global, name: &NameText) -> Result<Bytes, AllocError>
     ensures { IfOk result (λ bytes. bytes ≡ spelling_of name.now) }
 {

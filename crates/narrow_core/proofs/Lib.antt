@@ -9,3 +9,4 @@ pub mod Sweeping
 pub mod Three
 pub mod Times
 pub mod Values
+pub mod Ordered

@@ -4,3 +4,4 @@ pub mod Products
 pub mod Sides
 pub mod Sweeps
 pub mod Truths
+pub mod Tables

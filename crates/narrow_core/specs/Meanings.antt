@@ -1,5 +1,5 @@
 -- What the constraints hold of that know something of their own.
-use Rattle.std.specs.Prelude.{◌≡◌, ℤ, ◌*ℤ◌, List, [], ◌∷◌, Contains}
+use Rattle.std.specs.Prelude.{◌≡◌, ℤ, ◌*ℤ◌, ◌≤ℤ◌, List, [], ◌∷◌, AllPairs, Contains}
 use Rattle.narrow_core.specs.declared.field.FieldEntry.{FieldEntry}
 
 -- the second value is the first times the factor
@@ -9,4 +9,9 @@ IsProduct factor values = ⊥
 
 -- the table has an entry that gives this object this value
 abbrev pub IsInTable : List FieldEntry → ℤ → ℤ → Type 0
-IsInTable entries object value = (entry : FieldEntry) × Contains entries entry × (entry.object ≡ object) × (entry.value ≡ value)
+IsInTable entries object value =
+    (entry : FieldEntry) × Contains entries entry × (entry.object ≡ object) × (entry.value ≡ value)
+
+-- the entries are in the order of their objects
+abbrev pub IsByObject : List FieldEntry → Type 0
+IsByObject entries = AllPairs (λ one later. one.object ≤ℤ later.object) entries

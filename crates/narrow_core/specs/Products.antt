@@ -6,7 +6,8 @@ use Rattle.model_core.specs.Constraints.{HoldsOf}
 use Rattle.model_core.specs.declared.item.Kind.TheVariants.{MulEq}
 use Rattle.narrow_core.specs.Meanings.{IsProduct}
 
--- where the second of three arguments is the factor alone, the other two are consistent by themselves exactly where all three are
+-- where the second of three arguments is the factor alone, the other two are consistent by themselves exactly where
+-- all three are
 abbrev pub IsLikeThree : ℤ → Type 0
 IsLikeThree factor =
     (x middle z : Domain) → IsDomain x → IsDomain middle → IsDomain z → IsSingle middle factor

@@ -6,17 +6,20 @@ use Rattle.domain_core.specs.declared.Change.{Change}
 use Rattle.domain_core.specs.declared.Change.TheVariants.{Same, Empty}
 use Rattle.model_core.specs.Consistency.{Reach, IsSupported}
 
--- from the first argument on, each keeps the values that have a tuple with the arguments before it, as they are left, and those after it, as they still are; where one has none, the pass ends there
+-- from the first argument on, each keeps the values that have a tuple with the arguments before it, as they are
+-- left, and those after it, as they still are; where one has none, the pass ends there
 abbrev pub Sweeps : Reach → (List ℤ → Type 0) → List Domain → List Domain → Change → List Domain → Type 0
 Sweeps reach holds left [] change new = (change ≡ Same) × (new ≡ [])
 Sweeps reach holds left (old ∷ later) change [] = ⊥
 Sweeps reach holds left (old ∷ later) change (new ∷ rest) =
     (first : Change) × Keeps (λ value. IsSupported reach holds left value later) old first new
     × (first ≡ Empty → (change ≡ Empty) × (rest ≡ later))
-    × ((first ≡ Empty → ⊥) → (next : Change) × (change ≡ joined first next) × Sweeps reach holds (left ++ new ∷ []) later next rest)
+    × ((first ≡ Empty → ⊥)
+        → (next : Change) × (change ≡ joined first next) × Sweeps reach holds (left ++ new ∷ []) later next rest)
 
 -- one argument keeps the values that the others support, and the others stay as they are
-pub record NarrowsAt (reach : Reach) (holds : List ℤ → Type 0) (place : ℕ) (old : List Domain) (change : Change) (new : List Domain) : Type 0 where
+pub record NarrowsAt (reach : Reach) (holds : List ℤ → Type 0) (place : ℕ)
+    (old : List Domain) (change : Change) (new : List Domain) : Type 0 where
   pub before : List Domain
   pub was : Domain
   pub is : Domain

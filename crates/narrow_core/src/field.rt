@@ -1,16 +1,20 @@
 //! The field of an object, by a table of what each object has in it.
 
-ghost use Rattle.std.specs.Prelude.{◌≡◌, ◌↔◌, List, [], ◌∷◌, ◌++◌, IsTrue};
+ghost use Rattle.std.specs.Prelude.{◌≡◌, ◌≤◌, ◌<ℤ◌, ◌≤ℤ◌, ◌↔◌, List, [], ◌∷◌, ◌++◌, Contains, IfOk, IsTrue, length};
+ghost use Rattle.std.specs.List.{AllWithin};
 ghost use Rattle.domain_core.specs.Domain.{IsDomain, IsRange};
 ghost use Rattle.domain_core.specs.Narrowing.{Keeps};
 ghost use Rattle.narrow_core.specs.declared.field.FieldEntry.{FieldEntry};
 ghost use Rattle.narrow_core.specs.Sides.{side_of, opposite, Pairs, IsPaired, Spans, IsWidened};
+ghost use Rattle.narrow_core.specs.Tables.{IsInOrderOf};
+ghost use Rattle.narrow_core.specs.Meanings.{IsByObject};
 
-use super::limits::{greater, less};
 use super::narrow::Narrow;
 use domain_core::Change;
 use domain_core::domain::Dom;
-use eu_name::sequence::Sequence;
+use domain_core::number::{greater, less};
+use std::alloc::AllocError;
+use std::marker::Model;
 
 /// What an object has in a field.
 #[derive(Clone, Copy)]
@@ -67,22 +71,55 @@ struct Span {
 }
 
 /// The second argument is what the object that is the first has in the field.
+///
+/// The table is kept in the order of the objects and in that of the values, so that the entries with a value are
+/// together on either side.
 #[derive(Drop)]
 pub struct Field {
-    pub entries: Sequence<FieldEntry>,
+    by_object: Vec<FieldEntry>,
+    by_value: Vec<FieldEntry>,
+}
+
+impl Model for Field {
+    ghost use Rattle.narrow_core.specs.Tables.{Table, AreOrders};
+
+    ghost Value = { Table };
+
+    ghost view = { λ inside. record { entries = inside.by_object.items } };
+
+    ghost invariant = { λ inside. AreOrders inside.by_object.items inside.by_value.items };
 }
 
 impl Field {
+    /// The field with these entries, which are in the order of the objects.
+    pub fn new(by_object: Vec<FieldEntry>) -> Result<Field, AllocError>
+        requires { IsByObject by_object.items }
+        ensures { IfOk result (λ field. field.entries ≡ by_object.items) }
+    {
+        let mut by_value = Vec::from_slice(*by_object.allocator(), by_object.as_slice())?;
+        by_value.sort_by_key(|entry| entry.value)?;
+        Ok(Field {
+            by_object,
+            by_value,
+        })
+    }
+
+    // The entries in the order of this side.
+    fn along(&self, side: Side) -> &[FieldEntry]
+        ensures ordered { IsInOrderOf side result.now }
+        ensures same { (entry : FieldEntry) → Contains result.now entry ↔ Contains self.now.entries entry }
+    {
+        match side {
+            Side::Object => self.by_object.as_slice(),
+            Side::Value => self.by_value.as_slice(),
+        }
+    }
+
     // Whether an entry has the value on this side, and on the other one a value of the other domain.
     fn is_paired(&self, side: Side, other: &Dom, value: i32) -> bool
         ensures { IsTrue result ↔ IsPaired self.now.entries side other.now value }
     {
-        for entry in self.entries.as_slice() {
-            if entry.pairs(side, other, value) {
-                return true;
-            }
-        }
-        false
+        is_paired_along(self.along(side), side, other, value)
     }
 
     // The first and the last value of the domain that are paired.
@@ -90,7 +127,7 @@ impl Field {
         ensures { Spans self.now.entries side own.now other.now result }
     {
         let mut span = None;
-        for entry in self.entries.as_slice() {
+        for entry in self.by_object.as_slice() {
             span = spread(span, entry, side, own, other);
         }
         span
@@ -120,6 +157,34 @@ impl Field {
     }
 }
 
+// The place of the first entry that has the value on this side or more, or the length where each has less.
+fn first_with(entries: &[FieldEntry], side: Side, value: i32) -> usize
+    requires { IsInOrderOf side entries.now }
+    ensures bound { result ≤ length entries.now }
+    ensures below { AllWithin (λ entry. side_of entry side <ℤ value) entries.now 0 result }
+{
+    entries.partition_point(|entry| entry.at(side) < value)
+}
+
+// Whether an entry has the value on this side, and on the other one a value of the other domain. The first one with
+// the value is found by bisection, and the others are the next ones.
+fn is_paired_along(entries: &[FieldEntry], side: Side, other: &Dom, value: i32) -> bool
+    requires { IsInOrderOf side entries.now }
+    ensures { IsTrue result ↔ IsPaired entries.now side other.now value }
+{
+    let first = first_with(entries, side, value);
+    for place in first..entries.len() {
+        let entry = entries[place];
+        if value < entry.at(side) {
+            return false;
+        }
+        if entry.pairs(side, other, value) {
+            return true;
+        }
+    }
+    false
+}
+
 // The span with one value more.
 fn widened(span: Option<Span>, value: i32) -> Span
     ensures { IsWidened span value result }
@@ -144,7 +209,8 @@ fn spread(
     own: &Dom,
     other: &Dom,
 ) -> Option<Span>
-    ensures { (before : List FieldEntry) → Spans before side own.now other.now span → Spans (before ++ entry.now ∷ []) side own.now other.now result }
+    ensures { (before : List FieldEntry) → Spans before side own.now other.now span
+        → Spans (before ++ entry.now ∷ []) side own.now other.now result }
 {
     let value = entry.at(side);
     if !own.has(value) {

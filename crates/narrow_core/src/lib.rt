@@ -1,4 +1,7 @@
-// Constraints: what each takes from the domains of its arguments, and what one pass over them leaves.
+//! Constraints: what each takes from the domains of its arguments, and what one pass over them leaves.
+//!
+//! `Leq.narrow(&mut [x, y])` takes from `x` what is above the greatest value of `y`, and from `y` what is below the
+//! least of `x`, and answers whether values went.
 #![tactic(auto)]
 
 pub mod equal;
@@ -10,5 +13,10 @@ pub mod order;
 pub mod product;
 pub mod sum;
 pub mod tested;
-#[cfg(test)]
-mod tests;
+
+pub use equal::{Eq, Neq};
+pub use field::FieldEntry;
+pub use order::{Leq, Lt};
+pub use product::MulEq;
+pub use sum::AddEq;
+pub use tested::{TestEq, TestLeq};

@@ -1,6 +1,6 @@
 //! Domains that are cut at one end.
 
-ghost use Rattle.std.specs.Prelude.{◌≡◌, ◌≤ℤ◌, ◌⊎◌};
+ghost use Rattle.std.specs.Prelude.{◌≤ℤ◌};
 ghost use Rattle.domain_core.specs.Domain.{IsDomain};
 ghost use Rattle.domain_core.specs.Narrowing.{Keeps};
 
@@ -23,22 +23,4 @@ pub fn keep_from(domain: &mut Dom, least: i32) -> Change
 {
     let most = domain.hi();
     domain.meet_range(least, most)
-}
-
-/// The greater of two numbers.
-pub fn greater(a: i32, b: i32) -> i32
-    ensures is_one { (result ≡ a) ⊎ (result ≡ b) }
-    ensures a { a ≤ℤ result }
-    ensures b { b ≤ℤ result }
-{
-    if a < b { b } else { a }
-}
-
-/// The less of two numbers.
-pub fn less(a: i32, b: i32) -> i32
-    ensures is_one { (result ≡ a) ⊎ (result ≡ b) }
-    ensures a { result ≤ℤ a }
-    ensures b { result ≤ℤ b }
-{
-    if a < b { a } else { b }
 }

@@ -23,10 +23,12 @@ pub trait Narrow {
     /// Keeps the values of one argument that are supported by those before it and those after it.
     fn keep_supported(&self, before: &[Dom], own: &mut Dom, after: &[Dom]) -> Change
         requires { length before.now + 1 + length after.now ≡ count self.now }
-        ensures kept { Keeps (λ value. IsSupported (reach self.now) (holds self.now) before.now value after.now) own.old result own.new }
+        ensures kept { Keeps (λ value. IsSupported (reach self.now) (holds self.now) before.now value after.now)
+            own.old result own.new }
         ensures domain { IsDomain own.old → IsDomain own.new };
 
-    /// Goes over the arguments once, in their order. What it leaves may be narrowed further by one more call. After Empty some of the arguments may be narrowed and others not.
+    /// Goes over the arguments once, in their order. What it leaves may be narrowed further by one more call. After
+    /// Empty some of the arguments may be narrowed and others not.
     final fn narrow(&self, args: &mut [Dom]) -> Change
         requires { length args.old ≡ count self.now }
         ensures swept { Sweeps (reach self.now) (holds self.now) [] args.old result args.new }

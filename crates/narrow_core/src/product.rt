@@ -1,13 +1,14 @@
-//! Products by a factor. They are reached through the numbers that the factor multiplies, so no product is formed that doesn't lie between the ends of a domain.
+//! Products by a factor. They are reached through the numbers that the factor multiplies, so no product is formed
+//! that doesn't lie between the ends of a domain.
 
 ghost use Rattle.std.specs.Prelude.{◌≡◌, ◌↔◌, ℤ, pos, ◌≤ℤ◌, ◌<ℤ◌, ◌*ℤ◌, IsTrue};
 ghost use Rattle.domain_core.specs.Domain.{IsDomain, IsRange, IsValue, IsBetweenEnds};
 ghost use Rattle.domain_core.specs.Narrowing.{Keeps};
 
-use super::limits::{greater, less};
 use super::narrow::Narrow;
 use domain_core::Change;
 use domain_core::domain::Dom;
+use domain_core::number::{greater, less};
 
 // The greatest number whose product with the factor is at most this one.
 fn quotient(number: i32, factor: i32) -> i32
@@ -53,7 +54,8 @@ impl MulEq {
     fn multiplied(&self, x: &Dom, low: i32, high: i32) -> (i32, i32)
         requires low { IsValue low }
         requires high { IsValue high }
-        ensures { (value : ℤ) → ((result.0 ≤ℤ value) × (value ≤ℤ result.1)) ↔ (IsBetweenEnds x.now value × (low ≤ℤ (value *ℤ self.now.factor)) × ((value *ℤ self.now.factor) ≤ℤ high)) }
+        ensures { (value : ℤ) → ((result.0 ≤ℤ value) × (value ≤ℤ result.1))
+            ↔ (IsBetweenEnds x.now value × (low ≤ℤ (value *ℤ self.now.factor)) × ((value *ℤ self.now.factor) ≤ℤ high)) }
     {
         let (first, last) = quotients(self.factor, low, high);
         (greater(first, x.lo()), less(last, x.hi()))
@@ -70,7 +72,8 @@ impl MulEq {
 
     // Keeps the products of the numbers between the ends of x.
     fn keep_products(&self, products: &mut Dom, x: &Dom) -> Change
-        ensures kept { Keeps (λ value. (w : ℤ) × IsBetweenEnds x.now w × ((w *ℤ self.now.factor) ≡ value)) products.old result products.new }
+        ensures kept { Keeps (λ value. (w : ℤ) × IsBetweenEnds x.now w × ((w *ℤ self.now.factor) ≡ value))
+            products.old result products.new }
         ensures domain { IsDomain products.old → IsDomain products.new }
     {
         if products.is_range() {
@@ -83,7 +86,8 @@ impl MulEq {
     // The same where the products are a range: its ends move to the next product.
     fn cut_to_products(&self, products: &mut Dom, x: &Dom) -> Change
         requires { IsRange products.old }
-        ensures kept { Keeps (λ value. (w : ℤ) × IsBetweenEnds x.now w × ((w *ℤ self.now.factor) ≡ value)) products.old result products.new }
+        ensures kept { Keeps (λ value. (w : ℤ) × IsBetweenEnds x.now w × ((w *ℤ self.now.factor) ≡ value))
+            products.old result products.new }
         ensures domain { IsDomain products.old → IsDomain products.new }
     {
         let (first, last) = self.multiplied(x, products.lo(), products.hi());

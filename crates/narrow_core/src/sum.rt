@@ -10,7 +10,9 @@ use domain_core::domain::Dom;
 
 // Keeps the values to which something can be added that gives the sum.
 fn keep_differences(own: &mut Dom, added: &Dom, sum: &Dom) -> Change
-    ensures kept { Keeps (λ value. (w u : ℤ) × IsBetweenEnds added.now w × IsBetweenEnds sum.now u × ((value +ℤ w) ≡ u)) own.old result own.new }
+    ensures kept { Keeps (λ value. (w u : ℤ)
+            × IsBetweenEnds added.now w × IsBetweenEnds sum.now u × ((value +ℤ w) ≡ u))
+        own.old result own.new }
     ensures domain { IsDomain own.new }
 {
     own.meet_range(sum.lo() - added.hi(), sum.hi() - added.lo())

@@ -1,4 +1,5 @@
-//! Constraints that say of others whether they hold: the first argument is 1 exactly where the test of the two others comes true.
+//! Constraints that say of others whether they hold: the first argument is 1 exactly where the test of the two
+//! others comes true.
 
 ghost use Rattle.std.specs.Prelude.{◌≡◌, ◌↔◌, ℤ, pos, ◌≤ℤ◌, IsTrue};
 ghost use Rattle.domain_core.specs.Domain.{IsDomain, IsBetweenEnds, Has};
@@ -71,7 +72,8 @@ fn may_differ(x: &Dom, y: &Dom) -> bool
 
 // Keeps the values of a side of the equality that the truth and the other side support.
 fn keep_side(truth: &Dom, own: &mut Dom, other: &Dom) -> Change
-    ensures kept { Keeps (λ value. (t w : ℤ) × Has truth.now t × Has other.now w × ((t ≡ pos 1) ↔ (value ≡ w))) own.old result own.new }
+    ensures kept { Keeps (λ value. (t w : ℤ) × Has truth.now t × Has other.now w × ((t ≡ pos 1) ↔ (value ≡ w)))
+        own.old result own.new }
     ensures domain { IsDomain own.old → IsDomain own.new }
 {
     // Where the test is open, any value serves: it agrees with the other's least value or differs from it.
@@ -92,7 +94,9 @@ fn reaches_one(domain: &Dom) -> bool
 
 // Keeps the values of the lower side of the order that the truth and the upper side support.
 fn keep_lower(truth: &Dom, own: &mut Dom, upper: &Dom) -> Change
-    ensures kept { Keeps (λ value. (t w : ℤ) × IsBetweenEnds truth.now t × IsBetweenEnds upper.now w × ((t ≡ pos 1) ↔ (value ≤ℤ w))) own.old result own.new }
+    ensures kept { Keeps (λ value. (t w : ℤ)
+            × IsBetweenEnds truth.now t × IsBetweenEnds upper.now w × ((t ≡ pos 1) ↔ (value ≤ℤ w)))
+        own.old result own.new }
     ensures domain { IsDomain own.old → IsDomain own.new }
 {
     let least = upper.lo();
@@ -105,7 +109,9 @@ fn keep_lower(truth: &Dom, own: &mut Dom, upper: &Dom) -> Change
 
 // Keeps the values of the upper side of the order that the truth and the lower side support.
 fn keep_upper(truth: &Dom, own: &mut Dom, lower: &Dom) -> Change
-    ensures kept { Keeps (λ value. (t w : ℤ) × IsBetweenEnds truth.now t × IsBetweenEnds lower.now w × ((t ≡ pos 1) ↔ (w ≤ℤ value))) own.old result own.new }
+    ensures kept { Keeps (λ value. (t w : ℤ)
+            × IsBetweenEnds truth.now t × IsBetweenEnds lower.now w × ((t ≡ pos 1) ↔ (w ≤ℤ value)))
+        own.old result own.new }
     ensures domain { IsDomain own.old → IsDomain own.new }
 {
     let least = lower.lo();

@@ -10,7 +10,7 @@ ghost use Rattle.plan_db.specs.Database.{IsSound, HasLeast, HasCollapsed, Applie
 use super::checks::check;
 use super::fault::{DbFault, Outcome, QueryFault};
 use super::least::least_net;
-use constraint_net::net::Net;
+use constraint_net::Net;
 use decision_log::LogFault;
 use decision_log::log::Log;
 use domain_core::domain::Dom;

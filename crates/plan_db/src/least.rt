@@ -11,8 +11,7 @@ ghost use Rattle.plan_db.specs.Kept.{state_of, HasOrder};
 ghost use Rattle.plan_db.specs.Nets.{Grants, GrantsAll, Leaves};
 
 use super::problem_net::problem_net;
-use constraint_net::NetFault;
-use constraint_net::net::Net;
+use constraint_net::{Net, NetFault};
 use domain_core::Change;
 use domain_core::domain::Dom;
 use eu_name::name::VarName;

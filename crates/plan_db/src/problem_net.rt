@@ -8,8 +8,7 @@ ghost use Rattle.model_core.specs.declared.variable.Base.TheVariants.{Given};
 ghost use Rattle.plan_db.specs.Kept.{IsGiven, AreBases};
 ghost use Rattle.plan_db.specs.Nets.{IsArgOf, IsPostable, PostsItem, PostsAll, IsNetOf};
 
-use constraint_net::constraint::NetArg;
-use constraint_net::net::Net;
+use constraint_net::{Net, NetArg};
 use domain_core::domain::Dom;
 use model_core::item::{Item, Term};
 use model_core::model::Model;

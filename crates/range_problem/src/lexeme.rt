@@ -156,13 +156,6 @@ fn parsed(bytes: &[u8]) -> Option<i32>
     }
 }
 
-// Whether a variable may have the value.
-fn is_value(value: i32) -> bool
-    ensures { IsTrue result ↔ IsValue value }
-{
-    LEAST_VALUE <= value && value <= GREATEST_VALUE
-}
-
 // The value in decimal digits that the text starts with at once, and the rest.
 fn numeral(text: &[u8]) -> Option<(i32, &[u8])>
     ensures some { IfSome result

@@ -17,7 +17,8 @@ level_at (change ∷ changes) initial instant = added_at change instant +ℤ lev
 
 -- the level at the instant is outside of the limits
 abbrev pub IsOut : List LevelChange → ℤ → ℤ → ℤ → ℤ → Type 0
-IsOut changes initial low high instant = (level_at changes initial instant <ℤ low) ⊎ (high <ℤ level_at changes initial instant)
+IsOut changes initial low high instant =
+    (level_at changes initial instant <ℤ low) ⊎ (high <ℤ level_at changes initial instant)
 
 -- the instant isn't before `from`, and the level at it is outside of the limits
 abbrev pub IsOutFrom : List LevelChange → ℤ → ℤ → ℤ → ℤ → ℤ → Type 0

@@ -53,7 +53,8 @@ fn is_out(changes: &[LevelChange], initial: i32, low: i32, high: i32, instant: i
 /// The first instant from `from` on at which the level is below `low` or above `high`.
 ///
 /// The level at an instant is the initial one with all changes at or before it, in whatever order they are listed.
-/// Only `from` and the instants of changes after it are looked at. The time is that of the square of the number of changes.
+/// Only `from` and the instants of changes after it are looked at. The time is that of the square of the number of
+/// changes.
 pub fn level_out(
     changes: &[LevelChange],
     initial: i32,

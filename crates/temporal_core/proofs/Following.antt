@@ -7,7 +7,7 @@ use Rattle.std.proofs.lemmas.Bool.{cases_lt}
 use Rattle.std.proofs.lemmas.List.Elements.{All-head, All-tail, All-contains, Contains-get_or}
 use Rattle.temporal_core.specs.declared.edges.Edge.{Edge}
 use Rattle.temporal_core.specs.Network.{IsEdge}
-use Rattle.temporal_core.specs.Cycle.{edges_at, Leads, IsClosed, IsSimple, BeginsLeast}
+use Rattle.temporal_core.specs.Cycle.{edges_at, LeadsFrom, LeadsBack, IsSimple, BeginsLeast}
 use Rattle.temporal_core.specs.Canonical.{edge_at, IsCycleOf}
 use Rattle.temporal_core.proofs.Members.{all_from_contains, contains_from_get}
 use Rattle.temporal_core.proofs.Walks.{Contains-cons_cases, simple_is_short}
@@ -22,7 +22,7 @@ edges_at-map edges (place ∷ places) within =
 
 module _ (edges : List Edge) where
   -- each edge begins where the one before it ends
-  follows : (from to : ℕ) (places : List ℕ) → Leads from (map (edge_at edges) places) to → (i : ℕ) → i + 1 < length places → (edge_at edges (get_or places (i + 1) 0)).from ≡ (edge_at edges (get_or places i 0)).to
+  follows : (from to : ℕ) (places : List ℕ) → LeadsFrom from (map (edge_at edges) places) to → (i : ℕ) → i + 1 < length places → (edge_at edges (get_or places (i + 1) 0)).from ≡ (edge_at edges (get_or places i 0)).to
   follows from to [] leads i within = absurd (omega arith)
   follows from to (place ∷ []) leads i within = absurd (omega arith)
   follows from to (place ∷ next ∷ places) leads zero within = leads.1.0
@@ -31,7 +31,7 @@ module _ (edges : List Edge) where
       ap (λ k. (edge_at edges (get_or (place ∷ next ∷ places) k 0)).from) shift ∙ follows (edge_at edges place).to to (next ∷ places) leads.1 i (omega arith)
 
   -- and the last leads to the end
-  comes_back : (from to : ℕ) (places : List ℕ) → Leads from (map (edge_at edges) places) to → (i : ℕ) → i + 1 ≡ length places → (edge_at edges (get_or places i 0)).to ≡ to
+  comes_back : (from to : ℕ) (places : List ℕ) → LeadsFrom from (map (edge_at edges) places) to → (i : ℕ) → i + 1 ≡ length places → (edge_at edges (get_or places i 0)).to ≡ to
   comes_back from to [] leads i last = absurd (omega arith)
   comes_back from to (place ∷ []) leads zero last = leads.1
   comes_back from to (place ∷ []) leads (suc i) last = absurd (omega arith)
@@ -65,13 +65,13 @@ module _ (edges : List Edge) (places cycle : List ℕ) (is : IsCycleOf edges pla
   simple_cycle : IsSimple (map (edge_at edges) cycle)
   simple_cycle = subst IsSimple are_edges is.cycle.simple
 
-  closed_cycle : IsClosed (map (edge_at edges) cycle)
-  closed_cycle = subst IsClosed are_edges is.cycle.closed
+  closed_cycle : LeadsBack (map (edge_at edges) cycle)
+  closed_cycle = subst LeadsBack are_edges is.cycle.closed
 
   pub cycle_some : 0 < length cycle
   cycle_some = some cycle closed_cycle
     where
-      some : (list : List ℕ) → IsClosed (map (edge_at edges) list) → 0 < length list
+      some : (list : List ℕ) → LeadsBack (map (edge_at edges) list) → 0 < length list
       some [] closed = absurd closed
       some (place ∷ list) closed = omega arith
 
@@ -95,10 +95,10 @@ module _ (edges : List Edge) (places cycle : List ℕ) (is : IsCycleOf edges pla
       let index = one_of edges cycle simple_cycle found.0 i found.1 within (ap (λ p. (edge_at edges p).from) at ∙ same) in
       sym at ∙ ap (λ k. get_or cycle k 0) index
 
-  leads_round : Leads (edge_at edges (get_or cycle 0 0)).from (map (edge_at edges) cycle) (edge_at edges (get_or cycle 0 0)).from
+  leads_round : LeadsFrom (edge_at edges (get_or cycle 0 0)).from (map (edge_at edges) cycle) (edge_at edges (get_or cycle 0 0)).from
   leads_round = round cycle closed_cycle
     where
-      round : (list : List ℕ) → IsClosed (map (edge_at edges) list) → Leads (edge_at edges (get_or list 0 0)).from (map (edge_at edges) list) (edge_at edges (get_or list 0 0)).from
+      round : (list : List ℕ) → LeadsBack (map (edge_at edges) list) → LeadsFrom (edge_at edges (get_or list 0 0)).from (map (edge_at edges) list) (edge_at edges (get_or list 0 0)).from
       round [] closed = absurd closed
       round (place ∷ list) closed = (refl, closed)
 

@@ -7,16 +7,16 @@ use Rattle.std.proofs.lemmas.Bool.{cases_lt}
 use Rattle.std.proofs.lemmas.List.Elements.{All-contains}
 use Rattle.temporal_core.specs.declared.edges.Edge.{Edge}
 use Rattle.temporal_core.specs.Network.{IsEdge}
-use Rattle.temporal_core.specs.Schedule.{Keeps, IsSchedule, IsLeastValue, AreLeastValues}
-use Rattle.temporal_core.specs.Cycle.{Leads, gap_sum}
+use Rattle.temporal_core.specs.Schedule.{KeepsEdge, IsSchedule, IsLeastValue, AreLeastValues}
+use Rattle.temporal_core.specs.Cycle.{LeadsFrom, gap_sum}
 use Rattle.temporal_core.specs.Settled.{value_at, Raises, Exceeds, AreSettled}
-use Rattle.temporal_core.specs.Bounds.{far_below, Tells, AreNear}
+use Rattle.temporal_core.specs.Bounds.{far_below, TellsPoint, AreNear}
 use Rattle.temporal_core.proofs.Members.{all_from_contains}
 use Rattle.temporal_core.proofs.Walks.{Contains-head, Contains-tail, path_or_cycle, rises_along, none_keeps}
 use Rattle.temporal_core.proofs.Settling.{path_modest, settled_modest}
 
 -- a walk of edges among the points ends at one of them
-ends_within : (points from to : ℕ) (steps : List Edge) → ((edge : Edge) → Contains steps edge → edge.to < points) → from < points → Leads from steps to → to < points
+ends_within : (points from to : ℕ) (steps : List Edge) → ((edge : Edge) → Contains steps edge → edge.to < points) → from < points → LeadsFrom from steps to → to < points
 ends_within points from to [] each within leads = subst (λ x. x < points) leads within
 ends_within points from to (edge ∷ steps) each within leads =
     ends_within points edge.to to steps (λ other among. each other (Contains-tail edge steps other among)) (each edge (Contains-head edge steps)) leads.1
@@ -29,7 +29,7 @@ natural_above (negsuc n) = (0, omega (arith, ints))
 below : (a b : ℤ) → ((int_lt a b ≡ true) × (a <ℤ b)) ⊎ ((int_lt a b ≡ false) × (b ≤ℤ a))
 below a b = by_lt_z a b (λ under. inl (grind (arith, ints), under)) (λ above. inr (grind (arith, ints), above))
 
-module _ (points : ℕ) (edges : List Edge) (settled : List ℤ) (some : 0 < points) (few : points < 65536) (each : All (IsEdge points) edges) (is_settled : AreSettled points edges settled) where
+module _ (points : ℕ) (edges : List Edge) (settled : List ℤ) (some : 0 < points) (few : points ≤ 65536) (each : All (IsEdge points) edges) (is_settled : AreSettled points edges settled) where
   pub low_at : (point : ℕ) → point < points → value_at (map far_below settled) point ≡ far_below (value_at settled point)
   low_at point within = get_or-map far_below settled point (pos 0) (pos 0) (omega (arith, is_settled.count))
 
@@ -78,7 +78,7 @@ module _ (points : ℕ) (edges : List Edge) (settled : List ℤ) (some : 0 < poi
     unfolding from_origin
     is_schedule = record {
       origin = let stays = origin_stays in omega (arith, ints);
-      keeps = all_from_contains (Keeps from_origin) edges (λ edge contained. let keeps = All-contains (Keeps (value_at new)) edges edge raises.keeps contained in omega (arith, ints));
+      keeps = all_from_contains (KeepsEdge from_origin) edges (λ edge contained. let keeps = All-contains (KeepsEdge (value_at new)) edges edge raises.keeps contained in omega (arith, ints));
     }
 
     -- a point that was raised is no lower than a path from the origin can make it
@@ -108,10 +108,10 @@ module _ (points : ℕ) (edges : List Edge) (settled : List ℤ) (some : 0 < poi
     unfolding dropped
     dropped_unraised more point unraised = rw unraised
 
-    dropped_keeps : (more : ℕ) (edge : Edge) → Contains edges edge → Keeps (dropped more) edge
+    dropped_keeps : (more : ℕ) (edge : Edge) → Contains edges edge → KeepsEdge (dropped more) edge
     unfolding from_origin
     dropped_keeps more edge contained =
-        let keeps = All-contains (Keeps (value_at new)) edges edge raises.keeps contained in
+        let keeps = All-contains (KeepsEdge (value_at new)) edges edge raises.keeps contained in
         let joins = All-contains (IsEdge points) edges edge each contained in
         ⊎_elim
         (λ from_raised.
@@ -143,10 +143,10 @@ module _ (points : ℕ) (edges : List Edge) (settled : List ℤ) (some : 0 < poi
           ⊎_elim (λ raised. dropped_raised more 0 raised.0 ∙ (let zero : value_at new 0 -ℤ value_at settled 0 ≡ pos 0 = omega (arith, ints) in zero))
           (λ unraised. let still = unraised.1 in absurd (omega (arith, ints)))
           (below (value_at (map far_below settled) 0) (value_at new 0));
-      keeps = all_from_contains (Keeps (dropped more)) edges (λ edge contained. dropped_keeps more edge contained);
+      keeps = all_from_contains (KeepsEdge (dropped more)) edges (λ edge contained. dropped_keeps more edge contained);
     }
 
-    pub least_told : (point : ℕ) (told : Option ℤ) → point < points → Tells (value_at new point) (value_at settled point) (value_at settled 0) told → IsLeastValue edges point told
+    pub least_told : (point : ℕ) (told : Option ℤ) → point < points → TellsPoint (value_at new point) (value_at settled point) (value_at settled 0) told → IsLeastValue edges point told
     unfolding from_origin
     least_told point (Some told) within tells = (
       (λ value schedule.
@@ -169,11 +169,11 @@ module _ (points : ℕ) (edges : List Edge) (settled : List ℤ) (some : 0 < poi
         )
 
     -- what is told of all points
-    module _ (told : List (Option ℤ)) (count : length told ≡ points) (tells : (point : ℕ) → point < points → Tells (value_at new point) (value_at settled point) (value_at settled 0) (get_or told point None)) where
+    module _ (told : List (Option ℤ)) (count : length told ≡ points) (tells : (point : ℕ) → point < points → TellsPoint (value_at new point) (value_at settled point) (value_at settled 0) (get_or told point None)) where
       pub least_told_all : AreLeastValues points edges told
       least_told_all = record { count = count; each = λ point within. least_told point (get_or told point None) within (tells point within) }
 
-      near_one : (value first origin : ℤ) (one : Option ℤ) → pos 0 ≤ℤ first → pos 0 ≤ℤ origin → origin ≤ℤ pos 131072000000 → value ≤ℤ pos 2199023255552 → Tells value first origin one
+      near_one : (value first origin : ℤ) (one : Option ℤ) → pos 0 ≤ℤ first → pos 0 ≤ℤ origin → origin ≤ℤ pos 131072000000 → value ≤ℤ pos 2199023255552 → TellsPoint value first origin one
           → MatchOption one ⊤ (λ number. (neg_ℤ (pos 2199023255552) ≤ℤ number) × (number ≤ℤ pos 2199023255552))
       near_one value first origin None low origin_low origin_high high says = tt
       near_one value first origin (Some number) low origin_low origin_high high says = (omega (arith, ints, says.0, says.1), omega (arith, ints, says.0, says.1))

@@ -7,7 +7,7 @@ use Rattle.std.proofs.lemmas.List.{append-nil, append_assoc}
 use Rattle.std.proofs.lemmas.Bool.{cases_eq}
 use Rattle.std.proofs.lemmas.List.Elements.{All-contains, All-weaker, Contains-append_left, Contains-append_right, Contains-append_cases, Contains-push_cases}
 use Rattle.temporal_core.specs.declared.edges.Edge.{Edge}
-use Rattle.temporal_core.specs.Schedule.{Keeps, IsSchedule, HasNoSchedule}
+use Rattle.temporal_core.specs.Schedule.{KeepsEdge, IsSchedule, HasNoSchedule}
 use Rattle.temporal_core.specs.Cycle.{edges_at, LeavesAfter}
 use Rattle.temporal_core.specs.Settled.{value_at, AreSettled}
 use Rattle.temporal_core.specs.Canonical.{places_from}
@@ -20,7 +20,7 @@ schedule_from_settled points edges values settled = (
   (λ point. value_at values point -ℤ value_at values 0),
   record {
     origin = omega (arith, ints);
-    keeps = All-weaker (Keeps (value_at values)) (Keeps (λ point. value_at values point -ℤ value_at values 0)) (λ edge keeps. omega (arith, ints)) edges settled.keeps;
+    keeps = All-weaker (KeepsEdge (value_at values)) (KeepsEdge (λ point. value_at values point -ℤ value_at values 0)) (λ edge keeps. omega (arith, ints)) edges settled.keeps;
   },
 )
 
@@ -28,7 +28,7 @@ schedule_from_settled points edges values settled = (
 pub HasNoSchedule-within : (edges more : List Edge) → ((edge : Edge) → Contains edges edge → Contains more edge) → HasNoSchedule edges → HasNoSchedule more
 HasNoSchedule-within edges more within none = λ value schedule. none value (record {
   origin = schedule.origin;
-  keeps = all_from_contains (Keeps value) edges (λ edge among. All-contains (Keeps value) more edge schedule.keeps (within edge among));
+  keeps = all_from_contains (KeepsEdge value) edges (λ edge among. All-contains (KeepsEdge value) more edge schedule.keeps (within edge among));
 })
 
 -- the edge at one of the places

@@ -7,9 +7,9 @@ use Rattle.std.proofs.lemmas.Option.{slice_get-get_or}
 use Rattle.std.proofs.lemmas.List.Elements.{All-contains, Contains-append_left, Contains-append_right, Contains-append_cases, Contains-push_cases}
 use Rattle.temporal_core.specs.declared.edges.Edge.{Edge}
 use Rattle.temporal_core.specs.declared.settled.Settled.{Settled}
-use Rattle.temporal_core.specs.Schedule.{Keeps, HasNoSchedule, IsSchedule}
+use Rattle.temporal_core.specs.Schedule.{KeepsEdge, HasNoSchedule, IsSchedule}
 use Rattle.temporal_core.specs.Cycle.{edges_at}
-use Rattle.temporal_core.specs.Settled.{IsSettled, HasPositiveCycle}
+use Rattle.temporal_core.specs.Settled.{IsSettledGraph, HasPositiveCycle}
 use Rattle.temporal_core.specs.Canonical.{places_from, IsNextNeeded}
 use Rattle.temporal_core.proofs.Members.{get_same, all_from_contains}
 use Rattle.temporal_core.proofs.Walks.{no_schedule, Contains-head}
@@ -31,7 +31,7 @@ edges_at-take edges places i d inside within = ap (edges_at edges) (take_more pl
 
 -- the values keep these edges, in some order
 pub record IsSettledWith (points : ℕ) (edges : List Edge) (settled : Settled) : Type 0 where
-  pub settled_own : IsSettled points settled.graph.edges.items settled
+  pub settled_own : IsSettledGraph points settled.graph.edges.items settled
   pub all : (edge : Edge) → Contains edges edge → Contains settled.graph.edges.items edge
   pub only : (edge : Edge) → Contains settled.graph.edges.items edge → Contains edges edge
 
@@ -39,11 +39,11 @@ pub record IsSettledWith (points : ℕ) (edges : List Edge) (settled : Settled) 
 pub schedule_for : (edges fewer : List Edge) (value : ℕ → ℤ) → ((edge : Edge) → Contains fewer edge → Contains edges edge) → IsSchedule edges value → IsSchedule fewer value
 schedule_for edges fewer value within schedule = record {
   origin = schedule.origin;
-  keeps = all_from_contains (Keeps value) fewer (λ edge among. All-contains (Keeps value) edges edge schedule.keeps (within edge among));
+  keeps = all_from_contains (KeepsEdge value) fewer (λ edge among. All-contains (KeepsEdge value) edges edge schedule.keeps (within edge among));
 }
 
-pub settled_own_edges : (points : ℕ) (edges : List Edge) (settled : Settled) → IsSettled points edges settled → IsSettled points settled.graph.edges.items settled
-settled_own_edges points edges settled is = subst (λ list. IsSettled points list settled) (sym is.graph.list) is
+pub settled_own_edges : (points : ℕ) (edges : List Edge) (settled : Settled) → IsSettledGraph points edges settled → IsSettledGraph points settled.graph.edges.items settled
+settled_own_edges points edges settled is = subst (λ list. IsSettledGraph points list settled) (sym is.graph.list) is
 
 module _ (points : ℕ) (edges : List Edge) (kept : List ℕ) where
   module _ (place : ℕ) (within : place < length edges) (d : Edge) where
@@ -73,7 +73,7 @@ module _ (points : ℕ) (edges : List Edge) (kept : List ℕ) where
 
     module _ (old : Settled) (before : IsSettledWith points (edges_at edges (kept ++ places_from (place + 1) (length edges))) old) where
       -- the edge at the place was put in
-      pub with_more : (new : Settled) → IsSettled points (old.graph.edges.items ++ get_or edges place d ∷ []) new → IsSettledWith points (edges_at edges (kept ++ places_from place (length edges))) new
+      pub with_more : (new : Settled) → IsSettledGraph points (old.graph.edges.items ++ get_or edges place d ∷ []) new → IsSettledWith points (edges_at edges (kept ++ places_from place (length edges))) new
       with_more new is = record {
         settled_own = settled_own_edges points (old.graph.edges.items ++ get_or edges place d ∷ []) new is;
         all = λ edge among. subst (λ list. Contains list edge) (sym is.graph.list)
@@ -102,12 +102,12 @@ Contains-take : {X : Type 0} (n : ℕ) (xs : List X) (x : X) → Contains (take 
 Contains-take n xs x among = subst (λ list. Contains list x) (take-append-drop n xs) (Contains-append_left (take n xs) (drop n xs) x among)
 
 -- the next of the kept edges is put in, or can't be
-module _ (points : ℕ) (edges : List Edge) (kept : List ℕ) (i : ℕ) (d : Edge) (inside : i < length kept) (within : All (λ place. place < length edges) kept) (old : Settled) (before : IsSettled points (edges_at edges (take i kept)) old) where
+module _ (points : ℕ) (edges : List Edge) (kept : List ℕ) (i : ℕ) (d : Edge) (inside : i < length kept) (within : All (λ place. place < length edges) kept) (old : Settled) (before : IsSettledGraph points (edges_at edges (take i kept)) old) where
   same_front : old.graph.edges.items ++ get_or edges (get_or kept i 0) d ∷ [] ≡ edges_at edges (take (i + 1) kept)
   same_front = ap (λ list. list ++ get_or edges (get_or kept i 0) d ∷ []) before.graph.list ∙ sym (edges_at-take edges kept i d inside (within i 0 inside))
 
-  pub kept_more : (new : Settled) → IsSettled (length old.values.items) (old.graph.edges.items ++ get_or edges (get_or kept i 0) d ∷ []) new → IsSettled points (edges_at edges (take (i + 1) kept)) new
-  kept_more new is = subst (λ list. IsSettled points list new) same_front (subst (λ n. IsSettled n (old.graph.edges.items ++ get_or edges (get_or kept i 0) d ∷ []) new) before.values.count is)
+  pub kept_more : (new : Settled) → IsSettledGraph (length old.values.items) (old.graph.edges.items ++ get_or edges (get_or kept i 0) d ∷ []) new → IsSettledGraph points (edges_at edges (take (i + 1) kept)) new
+  kept_more new is = subst (λ list. IsSettledGraph points list new) same_front (subst (λ n. IsSettledGraph n (old.graph.edges.items ++ get_or edges (get_or kept i 0) d ∷ []) new) before.values.count is)
 
   pub kept_cycle : HasPositiveCycle (old.graph.edges.items ++ get_or edges (get_or kept i 0) d ∷ []) → HasPositiveCycle (edges_at edges kept)
   kept_cycle found = HasPositiveCycle-within (edges_at edges (take (i + 1) kept)) (edges_at edges kept)

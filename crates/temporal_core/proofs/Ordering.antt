@@ -8,11 +8,11 @@ use Rattle.std.proofs.lemmas.Bool.{cases_eq, cases_lt}
 use Rattle.std.proofs.lemmas.List.Elements.{All-nil, All-cons, All-append, All-weaker, All-contains, Contains-append_left, Contains-append_right, Contains-append_cases}
 use Rattle.temporal_core.specs.declared.edges.Edge.{Edge}
 use Rattle.temporal_core.specs.Schedule.{HasNoSchedule}
-use Rattle.temporal_core.specs.Cycle.{edges_at, gap_sum, Leads, IsClosed, IsSimple, BeginsLeast}
+use Rattle.temporal_core.specs.Cycle.{edges_at, gap_sum, LeadsFrom, LeadsBack, IsSimple, BeginsLeast}
 use Rattle.temporal_core.specs.Canonical.{edge_at, AreNeeded, IsCycleOf}
 use Rattle.temporal_core.proofs.Members.{all_from_contains}
 use Rattle.temporal_core.proofs.Raising.{gap_sum-append}
-use Rattle.temporal_core.proofs.Walks.{Contains-head, Contains-tail, Contains-cons_cases, Leads-append, closed_leads, no_schedule}
+use Rattle.temporal_core.proofs.Walks.{Contains-head, Contains-tail, Contains-cons_cases, LeadsFrom-append, closed_leads, no_schedule}
 use Rattle.temporal_core.proofs.Needed.{edges_at-append}
 use Rattle.temporal_core.proofs.Leaving.{edges_at-stands, each_needed}
 
@@ -69,16 +69,16 @@ join_simple (edge ∷ one) other apart = (
   join_simple one other (record { left = apart.left.1; right = apart.right; across = λ a b in_one in_other. apart.across a b (Contains-tail edge one a in_one) in_other }),
 )
 
-split_leads : (from to : ℕ) (one other : List Edge) → Leads from (one ++ other) to → (via : ℕ) × (Leads from one via × Leads via other to)
+split_leads : (from to : ℕ) (one other : List Edge) → LeadsFrom from (one ++ other) to → (via : ℕ) × (LeadsFrom from one via × LeadsFrom via other to)
 split_leads from to [] other leads = (from, (refl, leads))
 split_leads from to (edge ∷ one) other leads = let rest = split_leads edge.to to one other leads.1 in (rest.0, ((leads.0, rest.1.0), rest.1.1))
 
 -- a cycle may be begun at any of its edges
-turn_closed : (one : List Edge) (edge : Edge) (other : List Edge) → IsClosed (one ++ edge ∷ other) → IsClosed (edge ∷ other ++ one)
+turn_closed : (one : List Edge) (edge : Edge) (other : List Edge) → LeadsBack (one ++ edge ∷ other) → LeadsBack (edge ∷ other ++ one)
 turn_closed one edge other closed =
     let round = closed_leads (one ++ edge ∷ other) closed in
     let parts = split_leads round.0 round.0 one (edge ∷ other) round.1 in
-    subst (Leads edge.to (other ++ one)) (sym parts.1.1.0) (Leads-append edge.to round.0 parts.0 other one parts.1.1.1 parts.1.0)
+    subst (LeadsFrom edge.to (other ++ one)) (sym parts.1.1.0) (LeadsFrom-append edge.to round.0 parts.0 other one parts.1.1.1 parts.1.0)
 
 turn_simple : (one other : List Edge) → IsSimple (one ++ other) → IsSimple (other ++ one)
 turn_simple one other simple =
@@ -153,7 +153,7 @@ module _ (edges : List Edge) (kept : List ℕ) (needed : AreNeeded edges kept) w
       (decide_contains chosen.places place)
 
   ordered_from : (places : List ℕ) → edges_at edges places ≡ needed.cycle.cycle → ((place : ℕ) → Contains places place ↔ Contains kept place) → (ordered : List ℕ) × IsCycleOf edges kept ordered
-  ordered_from [] are same = absurd (subst IsClosed (sym are) needed.cycle.closed)
+  ordered_from [] are same = absurd (subst LeadsBack (sym are) needed.cycle.closed)
   ordered_from (first ∷ rest) are same =
       let parts = least_split (λ place. (edge_at edges place).from) first rest in
       let front = parts.least ∷ parts.after in
@@ -177,7 +177,7 @@ module _ (edges : List Edge) (kept : List ℕ) (needed : AreNeeded edges kept) w
             within = all_from_contains (λ place. place < length edges) (front ++ parts.before) (λ place among. All-contains (λ place. place < length edges) (first ∷ rest) place in_edges
                 (subst (λ list. Contains list place) (sym parts.parts)
                 (⊎_elim (λ in_front. Contains-append_right parts.before front place in_front) (λ in_before. Contains-append_left parts.before front place in_before) (Contains-append_cases front parts.before place among))));
-            closed = subst IsClosed (sym turned) (turn_closed (edges_at edges parts.before) (edge_at edges parts.least) (edges_at edges parts.after) (subst IsClosed whole needed.cycle.closed));
+            closed = subst LeadsBack (sym turned) (turn_closed (edges_at edges parts.before) (edge_at edges parts.least) (edges_at edges parts.after) (subst LeadsBack whole needed.cycle.closed));
             simple = subst IsSimple (sym turned) (turn_simple (edges_at edges parts.before) (edge_at edges parts.least ∷ edges_at edges parts.after) (subst IsSimple whole needed.cycle.simple));
             positive =
                 let sum = ap gap_sum whole ∙ gap_sum-append (edges_at edges parts.before) (edge_at edges parts.least ∷ edges_at edges parts.after) in

@@ -6,8 +6,8 @@ use Rattle.std.proofs.lemmas.List.{append-nil, append_assoc, length-append}
 use Rattle.std.proofs.lemmas.List.Elements.{All-push, All-nil, All-append, All-tail, All-contains, Contains-append_left, Contains-push, Contains-push_cases}
 use Rattle.std.proofs.lemmas.Bool.{cases_eq, cases_lt}
 use Rattle.temporal_core.specs.declared.edges.Edge.{Edge}
-use Rattle.temporal_core.specs.Schedule.{Keeps}
-use Rattle.temporal_core.specs.Cycle.{Leads, gap_sum}
+use Rattle.temporal_core.specs.Schedule.{KeepsEdge}
+use Rattle.temporal_core.specs.Cycle.{LeadsFrom, gap_sum}
 use Rattle.temporal_core.specs.Settled.{IsLastFrom, value_at, Walk, RaisesEnd, RaisesFrom, IsStopped, Raises, Exceeds}
 use Rattle.temporal_core.proofs.Members.{get_from_contains, get_below, contains_from_get, get_same, all_from_contains}
 use Rattle.temporal_core.proofs.Values.{value_at-set_same, value_at-set_other, total-set}
@@ -178,7 +178,7 @@ RaisesFrom-all edges point fixed old queue new later (Some next) none raised = a
 -- while the values rise from the start: the edges that may not be kept begin at points of the queue
 pub record IsRaising (edges : List Edge) (start : ℕ) (value : ℤ) (fixed : ℕ) (old cur : List ℤ) (queue : List ℕ) : Type 0 where
   pub waits : All (λ point. point < length old) queue
-  pub pending : (edge : Edge) → Contains edges edge → Keeps (value_at cur) edge ⊎ Contains queue edge.from
+  pub pending : (edge : Edge) → Contains edges edge → KeepsEdge (value_at cur) edge ⊎ Contains queue edge.from
   pub started : value ≤ℤ value_at cur start
   pub fixed_stays : value_at cur fixed ≡ value_at old fixed
   pub each : (point : ℕ) → (value_at cur point ≡ value_at old point) ⊎ ((walk : Walk edges start point) × (value_at cur point ≡ value +ℤ gap_sum walk.steps))
@@ -186,15 +186,15 @@ pub record IsRaising (edges : List Edge) (start : ℕ) (value : ℤ) (fixed : �
   pub high : (point : ℕ) → value_at cur point ≤ℤ (value_at old point +ℤ (value -ℤ value_at old start))
 
 -- a walk goes on along an edge
-Leads-push : (from via : ℕ) (steps : List Edge) (edge : Edge) → Leads from steps via → edge.from ≡ via → Leads from (steps ++ edge ∷ []) edge.to
-Leads-push from via [] edge leads here = (here ∙ sym leads, refl)
-Leads-push from via (step ∷ steps) edge leads here = (leads.0, Leads-push step.to via steps edge leads.1 here)
+LeadsFrom-push : (from via : ℕ) (steps : List Edge) (edge : Edge) → LeadsFrom from steps via → edge.from ≡ via → LeadsFrom from (steps ++ edge ∷ []) edge.to
+LeadsFrom-push from via [] edge leads here = (here ∙ sym leads, refl)
+LeadsFrom-push from via (step ∷ steps) edge leads here = (leads.0, LeadsFrom-push step.to via steps edge leads.1 here)
 
 pub gap_sum-append : (one other : List Edge) → gap_sum (one ++ other) ≡ gap_sum one +ℤ gap_sum other
 gap_sum-append [] other = omega (arith, ints)
 gap_sum-append (edge ∷ one) other = let rest = gap_sum-append one other in omega (arith, ints)
 
-module _ (edges : List Edge) (start : ℕ) (value : ℤ) (fixed : ℕ) (old : List ℤ) (within : start < length old) (other : start ≢ fixed) (more : value_at old start <ℤ value) (kept : All (Keeps (value_at old)) edges) where
+module _ (edges : List Edge) (start : ℕ) (value : ℤ) (fixed : ℕ) (old : List ℤ) (within : start < length old) (other : start ≢ fixed) (more : value_at old start <ℤ value) (kept : All (KeepsEdge (value_at old)) edges) where
   pub IsRaising-start : IsRaising edges start value fixed old (set old start value) (start ∷ [])
   IsRaising-start =
       let written = value_at-set_same old start value within in
@@ -202,7 +202,7 @@ module _ (edges : List Edge) (start : ℕ) (value : ℤ) (fixed : ℕ) (old : Li
         waits = All-push (λ point. point < length old) [] start (All-nil (λ point. point < length old)) within;
         pending = λ edge contained. elim (cases_eq edge.from start) [
           | inl same ↦ inr (0, omega arith, sym same)
-          | inr apart ↦ inl (let from = value_at-set_other old start edge.from value apart in let was = All-contains (Keeps (value_at old)) edges edge kept contained in
+          | inr apart ↦ inl (let from = value_at-set_other old start edge.from value apart in let was = All-contains (KeepsEdge (value_at old)) edges edge kept contained in
               elim (cases_eq edge.to start) [
                 | inl same ↦ let here = ap (value_at (set old start value)) same in let before = ap (value_at old) same in omega (arith, ints)
                 | inr to_other ↦ let to = value_at-set_other old start edge.to value to_other in omega (arith, ints)
@@ -229,7 +229,7 @@ module _ (edges : List Edge) (start : ℕ) (value : ℤ) (fixed : ℕ) (old : Li
     walked : (edge : Edge) → Contains edges edge → edge.from ≡ point → value_at cur edge.to <ℤ (value_at cur point +ℤ edge.gap) → (walk : Walk edges start point) × (value_at cur point ≡ value +ℤ gap_sum walk.steps)
     walked edge contained from broken = ⊎_elim
         (λ same.
-        let was = All-contains (Keeps (value_at old)) edges edge kept contained in
+        let was = All-contains (KeepsEdge (value_at old)) edges edge kept contained in
         let begins = ap (value_at old) from in
         let rose = raising.low edge.to in
         absurd (omega (arith, ints)))
@@ -247,7 +247,7 @@ module _ (edges : List Edge) (start : ℕ) (value : ℤ) (fixed : ℕ) (old : Li
         let far : value_at old fixed <ℤ (value +ℤ gap_sum (walk.0.steps ++ edge ∷ [])) = let is = walk.1 in omega (arith, ints) in (
           record {
             steps = walk.0.steps ++ edge ∷ [];
-            leads = subst (Leads start (walk.0.steps ++ edge ∷ [])) stopped.to (Leads-push start point walk.0.steps edge walk.0.leads stopped.from);
+            leads = subst (LeadsFrom start (walk.0.steps ++ edge ∷ [])) stopped.to (LeadsFrom-push start point walk.0.steps edge walk.0.leads stopped.from);
             within = λ other among. elim (Contains-push_cases walk.0.steps edge other among) [ inl before ↦ walk.0.within other before | inr same ↦ subst (Contains edges) same stopped.contained ];
           },
           far,
@@ -265,7 +265,7 @@ module _ (edges : List Edge) (start : ℕ) (value : ℤ) (fixed : ℕ) (old : Li
       stays_or_waits : (other : ℕ) → (value_at new other ≡ value_at cur other) ⊎ Contains later other
       stays_or_waits other = elim (raised.each other) [ inl same ↦ inl same | inr along ↦ inr along.1 ]
 
-      pending_next : (edge : Edge) → Contains edges edge → ((edge.from ≡ point) ⊎ (edge.from ≡ point → ⊥)) → ((value_at new edge.from ≡ value_at cur edge.from) ⊎ Contains later edge.from) → Keeps (value_at new) edge ⊎ Contains later edge.from
+      pending_next : (edge : Edge) → Contains edges edge → ((edge.from ≡ point) ⊎ (edge.from ≡ point → ⊥)) → ((value_at new edge.from ≡ value_at cur edge.from) ⊎ Contains later edge.from) → KeepsEdge (value_at new) edge ⊎ Contains later edge.from
       pending_next edge contained of_point (inr waits) = inr waits
       pending_next edge contained (inl from) (inl same) =
           let place = get_from_contains edges edge contained in
@@ -299,7 +299,7 @@ module _ (edges : List Edge) (start : ℕ) (value : ℤ) (fixed : ℕ) (old : Li
               inr (
                 record {
                   steps = walk.0.steps ++ edge ∷ [];
-                  leads = subst (Leads start (walk.0.steps ++ edge ∷ [])) along.0.to (Leads-push start point walk.0.steps edge walk.0.leads along.0.from);
+                  leads = subst (LeadsFrom start (walk.0.steps ++ edge ∷ [])) along.0.to (LeadsFrom-push start point walk.0.steps edge walk.0.leads along.0.from);
                   within = λ other among. elim (Contains-push_cases walk.0.steps edge other among) [ inl first ↦ walk.0.within other first | inr same ↦ subst (Contains edges) same along.0.contained ];
                 },
                 omega (arith, ints),
@@ -312,7 +312,7 @@ module _ (edges : List Edge) (start : ℕ) (value : ℤ) (fixed : ℕ) (old : Li
               let edge = along.0.edge in
               let is = along.0.raised in
               let top_of = raising.high point in
-              let keeps = All-contains (Keeps (value_at old)) edges edge kept along.0.contained in
+              let keeps = All-contains (KeepsEdge (value_at old)) edges edge kept along.0.contained in
               let begins = ap (value_at old) along.0.from in
               let ends = ap (value_at old) along.0.to in
               omega (arith, ints)
@@ -321,7 +321,7 @@ module _ (edges : List Edge) (start : ℕ) (value : ℤ) (fixed : ℕ) (old : Li
 
   pub IsRaising-end : (new : List ℤ) → IsRaising edges start value fixed old new [] → Raises edges start value fixed old new
   IsRaising-end new raising = record {
-    keeps = all_from_contains (Keeps (value_at new)) edges (λ edge contained. elim (raising.pending edge contained) [ inl keeps ↦ keeps | inr waits ↦ absurd (omega (arith, waits.1)) ]);
+    keeps = all_from_contains (KeepsEdge (value_at new)) edges (λ edge contained. elim (raising.pending edge contained) [ inl keeps ↦ keeps | inr waits ↦ absurd (omega (arith, waits.1)) ]);
     started = raising.started;
     fixed_stays = raising.fixed_stays;
     each = raising.each;

@@ -1,5 +1,5 @@
 -- Values that keep the edges, before and after a further edge.
-use Rattle.std.proofs.Common.{◌≡◌, ℕ, ◌<◌, ℤ, pos, neg_ℤ, ◌+ℤ◌, ◌≤ℤ◌, ◌<ℤ◌, ⊎_elim, Bool, true, false, MatchBool, List, [], ◌∷◌, ◌++◌, length, replicate, refl, sym, ap, ◌∙◌, subst, arith}
+use Rattle.std.proofs.Common.{◌≡◌, ℕ, ◌<◌, ◌≤◌, ℤ, pos, neg_ℤ, ◌+ℤ◌, ◌≤ℤ◌, ◌<ℤ◌, ⊎_elim, Bool, true, false, MatchBool, List, [], ◌∷◌, ◌++◌, length, replicate, refl, sym, ap, ◌∙◌, subst, arith}
 use Rattle.std.specs.Prelude.{Contains, All}
 use Rattle.std.proofs.lemmas.Int.{ints}
 use Rattle.std.proofs.lemmas.List.{get_or_past, get_or-replicate, length-replicate}
@@ -7,15 +7,15 @@ use Rattle.std.proofs.lemmas.Bool.{cases_lt}
 use Rattle.std.proofs.lemmas.List.Elements.{All-push, All-contains, Contains-append_left, Contains-append_cases, Contains-push}
 use Rattle.temporal_core.specs.declared.edges.Edge.{Edge}
 use Rattle.temporal_core.specs.Network.{IsEdge}
-use Rattle.temporal_core.specs.Schedule.{Keeps}
+use Rattle.temporal_core.specs.Schedule.{KeepsEdge}
 use Rattle.temporal_core.specs.Cycle.{gap_sum}
 use Rattle.temporal_core.specs.Settled.{value_at, Walk, HasPositiveCycle, Raises, Exceeds, AreSettled}
 use Rattle.temporal_core.proofs.Members.{all_from_contains}
 use Rattle.temporal_core.proofs.Raising.{gap_sum-append}
-use Rattle.temporal_core.proofs.Walks.{Contains-cons_cases, Leads-append, Path, path_or_cycle, cycle_from_walk, none_keeps, IsSimple-path, simple_is_short, gap_sum_modest}
+use Rattle.temporal_core.proofs.Walks.{Contains-cons_cases, LeadsFrom-append, Path, path_or_cycle, cycle_from_walk, none_keeps, IsSimple-path, simple_is_short, gap_sum_modest}
 
 -- a path is short, so its gaps sum to no more than that, up or down
-pub path_modest : (points : ℕ) (edges : List Edge) (from to : ℕ) (least : ℤ) → points < 65536 → All (IsEdge points) edges → (path : Path edges from to least)
+pub path_modest : (points : ℕ) (edges : List Edge) (from to : ℕ) (least : ℤ) → points ≤ 65536 → All (IsEdge points) edges → (path : Path edges from to least)
     → (neg_ℤ (pos 131072000000) ≤ℤ gap_sum path.steps) × (gap_sum path.steps ≤ℤ pos 131072000000)
 path_modest points edges from to least few each path =
     let joins : All (IsEdge points) path.steps = all_from_contains (IsEdge points) path.steps (λ edge among. All-contains (IsEdge points) edges edge each (path.within edge among)) in
@@ -25,7 +25,7 @@ path_modest points edges from to least few each path =
     (omega (arith, ints, modest.0), omega (arith, ints, modest.1))
 
 -- no value is far up
-pub settled_modest : (points : ℕ) (edges : List Edge) (values : List ℤ) → points < 65536 → All (IsEdge points) edges → AreSettled points edges values → (point : ℕ) → value_at values point ≤ℤ pos 131072000000
+pub settled_modest : (points : ℕ) (edges : List Edge) (values : List ℤ) → points ≤ 65536 → All (IsEdge points) edges → AreSettled points edges values → (point : ℕ) → value_at values point ≤ℤ pos 131072000000
 settled_modest points edges values few each settled point =
     ⊎_elim
     (λ within.
@@ -43,11 +43,11 @@ Walk-more edges edge from to walk = record { steps = walk.steps; leads = walk.le
 
 module _ (points : ℕ) (edges : List Edge) (edge : Edge) (old : List ℤ) (settled : AreSettled points edges old) where
   -- the values keep the further edge already
-  pub settled_already : Keeps (value_at old) edge → AreSettled points (edges ++ edge ∷ []) old
+  pub settled_already : KeepsEdge (value_at old) edge → AreSettled points (edges ++ edge ∷ []) old
   unfolding Walk-more
   settled_already keeps = record {
     count = settled.count;
-    keeps = All-push (Keeps (value_at old)) edges edge settled.keeps keeps;
+    keeps = All-push (KeepsEdge (value_at old)) edges edge settled.keeps keeps;
     low = settled.low;
     walked = λ point within. let walked = settled.walked point within in (walked.0, Walk-more edges edge walked.0 point walked.1, walked.2);
   }
@@ -73,7 +73,7 @@ module _ (points : ℕ) (edges : List Edge) (edge : Edge) (old : List ℤ) (sett
           walked.0,
           record {
             steps = before.steps ++ edge ∷ walk.steps;
-            leads = Leads-append walked.0 edge.from to before.steps (edge ∷ walk.steps) before.leads (refl, walk.leads);
+            leads = LeadsFrom-append walked.0 edge.from to before.steps (edge ∷ walk.steps) before.leads (refl, walk.leads);
             within = λ other among. ⊎_elim
                 (λ first. Contains-append_left edges (edge ∷ []) other (before.within other first))
                 (λ later. ⊎_elim (λ is. subst (Contains (edges ++ edge ∷ [])) is (Contains-push edges edge)) (λ rest. Contains-append_left edges (edge ∷ []) other (walk.within other rest)) (Contains-cons_cases edge walk.steps other later))
@@ -86,7 +86,7 @@ module _ (points : ℕ) (edges : List Edge) (edge : Edge) (old : List ℤ) (sett
     unfolding Walk-more
     settled_raised new count raises = record {
       count = count ∙ settled.count;
-      keeps = All-push (Keeps (value_at new)) edges edge raises.keeps (let stays = raises.fixed_stays in let enough = raises.started in omega (arith, ints));
+      keeps = All-push (KeepsEdge (value_at new)) edges edge raises.keeps (let stays = raises.fixed_stays in let enough = raises.started in omega (arith, ints));
       low = λ point. let was = settled.low point in let rose = raises.low point in omega (arith, ints);
       walked = λ point within.
           ⊎_elim

@@ -6,7 +6,7 @@ use Rattle.std.proofs.lemmas.List.{get_or-map, length-map}
 use Rattle.std.proofs.lemmas.List.Elements.{All-map, All-weaker}
 use Rattle.temporal_core.specs.declared.edges.Edge.{Edge}
 use Rattle.temporal_core.specs.Network.{IsEdge}
-use Rattle.temporal_core.specs.Schedule.{Keeps, IsSchedule, IsLeastValue, IsGreatestValue, AreLeastValues, AreGreatestValues}
+use Rattle.temporal_core.specs.Schedule.{KeepsEdge, IsSchedule, IsLeastValue, IsGreatestValue, AreLeastValues, AreGreatestValues}
 use Rattle.temporal_core.specs.Settled.{HasPositiveCycle}
 use Rattle.temporal_core.specs.Bounds.{reversed_edge, negative_of}
 use Rattle.temporal_core.proofs.Walks.{none_keeps}
@@ -24,8 +24,8 @@ turned_schedule : (edges : List Edge) (value : ℕ → ℤ) → IsSchedule edges
 unfolding turned
 turned_schedule edges value schedule = record {
   origin = ap neg_ℤ schedule.origin;
-  keeps = All-map (Keeps (turned value)) reversed_edge edges
-      (All-weaker (Keeps value) (λ edge. Keeps (turned value) (reversed_edge edge)) (λ edge keeps. omega (arith, ints)) edges schedule.keeps);
+  keeps = All-map (KeepsEdge (turned value)) reversed_edge edges
+      (All-weaker (KeepsEdge value) (λ edge. KeepsEdge (turned value) (reversed_edge edge)) (λ edge keeps. omega (arith, ints)) edges schedule.keeps);
 }
 
 all_unmapped : (P : Edge → Type 0) (edges : List Edge) → All P (map reversed_edge edges) → All (λ edge. P (reversed_edge edge)) edges
@@ -35,7 +35,7 @@ turned_back : (edges : List Edge) (value : ℕ → ℤ) → IsSchedule (map reve
 unfolding turned
 turned_back edges value schedule = record {
   origin = ap neg_ℤ schedule.origin;
-  keeps = All-weaker (λ edge. Keeps value (reversed_edge edge)) (Keeps (turned value)) (λ edge keeps. omega (arith, ints)) edges (all_unmapped (Keeps value) edges schedule.keeps);
+  keeps = All-weaker (λ edge. KeepsEdge value (reversed_edge edge)) (KeepsEdge (turned value)) (λ edge keeps. omega (arith, ints)) edges (all_unmapped (KeepsEdge value) edges schedule.keeps);
 }
 
 pub no_cycle_turned : (edges : List Edge) (value : ℕ → ℤ) → IsSchedule edges value → HasPositiveCycle (map reversed_edge edges) → ⊥

@@ -6,8 +6,8 @@ use Rattle.std.proofs.lemmas.List.Elements.{All-nil, All-cons, All-head, All-tai
 use Rattle.std.proofs.lemmas.Bool.{cases_eq}
 use Rattle.temporal_core.specs.declared.edges.Edge.{Edge}
 use Rattle.temporal_core.specs.Network.{IsEdge}
-use Rattle.temporal_core.specs.Schedule.{Keeps, HasNoSchedule}
-use Rattle.temporal_core.specs.Cycle.{Leads, gap_sum, IsClosed, IsSimple}
+use Rattle.temporal_core.specs.Schedule.{KeepsEdge, HasNoSchedule}
+use Rattle.temporal_core.specs.Cycle.{LeadsFrom, gap_sum, LeadsBack, IsSimple}
 use Rattle.temporal_core.specs.Settled.{Walk, HasPositiveCycle}
 use Rattle.temporal_core.proofs.Raising.{gap_sum-append}
 
@@ -21,9 +21,9 @@ pub Contains-cons_cases : {X : Type 0} (y : X) (ys : List X) (x : X) → Contain
 Contains-cons_cases y ys x (zero, below, is) = inl is
 Contains-cons_cases y ys x (suc k, below, is) = inr (k, omega (arith, below), is)
 
-pub Leads-append : (from via to : ℕ) (one other : List Edge) → Leads from one via → Leads via other to → Leads from (one ++ other) to
-Leads-append from via to [] other p q = subst (λ x. Leads x other to) (sym p) q
-Leads-append from via to (edge ∷ one) other p q = (p.0, Leads-append edge.to via to one other p.1 q)
+pub LeadsFrom-append : (from via to : ℕ) (one other : List Edge) → LeadsFrom from one via → LeadsFrom via other to → LeadsFrom from (one ++ other) to
+LeadsFrom-append from via to [] other p q = subst (λ x. LeadsFrom x other to) (sym p) q
+LeadsFrom-append from via to (edge ∷ one) other p q = (p.0, LeadsFrom-append edge.to via to one other p.1 q)
 
 -- the point is none at which an edge begins, and not the end
 abbrev pub IsApart : ℕ → List Edge → ℕ → Type 0
@@ -60,8 +60,8 @@ record Split (point from to : ℕ) (steps : List Edge) : Type 0 where
   before : List Edge
   after : List Edge
   parts : steps ≡ before ++ after
-  first : Leads from before point
-  second : Leads point after to
+  first : LeadsFrom from before point
+  second : LeadsFrom point after to
   before_path : IsPath before point
   after_path : IsPath after to
 
@@ -80,7 +80,7 @@ split_on point from to edge steps here apart not (inr parts) = inr (record {
 })
 
 -- a path comes to the point or doesn't
-split : (point from to : ℕ) (steps : List Edge) → Leads from steps to → IsPath steps to → IsApart point steps to ⊎ Split point from to steps
+split : (point from to : ℕ) (steps : List Edge) → LeadsFrom from steps to → IsPath steps to → IsApart point steps to ⊎ Split point from to steps
 split point from to [] leads path =
     ⊎_elim (λ same. inr (record { before = []; after = []; parts = refl; first = leads ∙ sym same; second = same; before_path = tt; after_path = tt })) (λ apart. inl apart) (cases_eq point to)
 split point from to (edge ∷ steps) leads path =
@@ -92,7 +92,7 @@ split point from to (edge ∷ steps) leads path =
 -- a path whose gaps sum to that much at least
 pub record Path (edges : List Edge) (from to : ℕ) (least : ℤ) : Type 0 where
   pub steps : List Edge
-  pub leads : Leads from steps to
+  pub leads : LeadsFrom from steps to
   pub within : (edge : Edge) → Contains steps edge → Contains edges edge
   pub path : IsPath steps to
   pub sum : least ≤ℤ gap_sum steps
@@ -119,7 +119,7 @@ module _ (edges : List Edge) (from to : ℕ) (edge : Edge) (here : edge.from ≡
     cycle positive = record {
       cycle = edge ∷ parts.before;
       within = λ other among. ⊎_elim (λ same. subst (Contains edges) same contained) (λ later. in_before other later) (Contains-cons_cases edge parts.before other among);
-      closed = subst (Leads edge.to parts.before) (sym here) parts.first;
+      closed = subst (LeadsFrom edge.to parts.before) (sym here) parts.first;
       simple = (subst (λ x. All (λ other. other.from ≢ x) parts.before) (sym here) (All-not_end from parts.before parts.before_path), IsSimple-path from parts.before parts.before_path);
       positive = positive;
     }
@@ -143,7 +143,7 @@ module _ (edges : List Edge) (from to : ℕ) (edge : Edge) (here : edge.from ≡
       (split from edge.to to rest.steps rest.leads rest.path)
 
 -- as far as a walk leads a path leads, unless there is a positive cycle
-pub path_or_cycle : (edges steps : List Edge) (from to : ℕ) → Leads from steps to → ((edge : Edge) → Contains steps edge → Contains edges edge) → HasPositiveCycle edges ⊎ Path edges from to (gap_sum steps)
+pub path_or_cycle : (edges steps : List Edge) (from to : ℕ) → LeadsFrom from steps to → ((edge : Edge) → Contains steps edge → Contains edges edge) → HasPositiveCycle edges ⊎ Path edges from to (gap_sum steps)
 path_or_cycle edges [] from to leads within = inr (record {
   steps = [];
   leads = leads;
@@ -161,26 +161,26 @@ cycle_from_walk edges point walk positive =
     ⊎_elim (λ cycle. cycle) (λ path. absurd (nothing path.steps path.leads path.path (let enough = path.sum in omega (arith, ints))))
     (path_or_cycle edges walk.steps point point walk.leads walk.within)
   where
-    nothing : (steps : List Edge) → Leads point steps point → IsPath steps point → pos 0 <ℤ gap_sum steps → ⊥
+    nothing : (steps : List Edge) → LeadsFrom point steps point → IsPath steps point → pos 0 <ℤ gap_sum steps → ⊥
     nothing [] leads path more = omega (arith, ints)
     nothing (edge ∷ steps) leads path more = IsApart-end edge.from point steps path.0 leads.0
 
 -- values that keep the edges rise along a walk by the sum of its gaps
-pub rises_along : (value : ℕ → ℤ) (edges steps : List Edge) (from to : ℕ) → All (Keeps value) edges → Leads from steps to → ((edge : Edge) → Contains steps edge → Contains edges edge)
+pub rises_along : (value : ℕ → ℤ) (edges steps : List Edge) (from to : ℕ) → All (KeepsEdge value) edges → LeadsFrom from steps to → ((edge : Edge) → Contains steps edge → Contains edges edge)
     → (value from +ℤ gap_sum steps) ≤ℤ value to
 rises_along value edges [] from to keeps leads within = let same = ap value leads in omega (arith, ints)
 rises_along value edges (edge ∷ steps) from to keeps leads within =
-    let here = All-contains (Keeps value) edges edge keeps (within edge (Contains-head edge steps)) in
+    let here = All-contains (KeepsEdge value) edges edge keeps (within edge (Contains-head edge steps)) in
     let begins = ap value leads.0 in
     let rest = rises_along value edges steps edge.to to keeps leads.1 (λ other among. within other (Contains-tail edge steps other among)) in
     omega (arith, ints)
 
-pub closed_leads : (cycle : List Edge) → IsClosed cycle → (point : ℕ) × Leads point cycle point
+pub closed_leads : (cycle : List Edge) → LeadsBack cycle → (point : ℕ) × LeadsFrom point cycle point
 closed_leads [] closed = absurd closed
 closed_leads (edge ∷ edges) closed = (edge.from, (refl, closed))
 
 -- no values keep the edges of a positive cycle
-pub none_keeps : (value : ℕ → ℤ) (edges : List Edge) → All (Keeps value) edges → HasPositiveCycle edges → ⊥
+pub none_keeps : (value : ℕ → ℤ) (edges : List Edge) → All (KeepsEdge value) edges → HasPositiveCycle edges → ⊥
 none_keeps value edges keeps found =
     let round = closed_leads found.cycle found.closed in
     let rises = rises_along value edges found.cycle round.0 round.0 keeps round.1 found.within in

@@ -1,6 +1,8 @@
 -- What the search for the least and the greatest values goes through.
-use Rattle.std.specs.Prelude.{◌≡◌, ℕ, ℤ, pos, neg_ℤ, ◌-ℤ◌, ◌≤ℤ◌, ◌<ℤ◌, List, Option, Some, None, MatchOption, ⊤, slice_index_or}
+use Rattle.std.specs.Prelude.{◌≡◌, ℕ, ℤ, pos, neg_ℤ, ◌-ℤ◌, ◌≤ℤ◌, ◌<ℤ◌, List, Option, Some, None, MatchOption, ⊤}
+use Rattle.std.specs.Prelude.{slice_index_or}
 use Rattle.temporal_core.specs.declared.edges.Edge.{Edge}
+use Rattle.temporal_core.specs.Settled.{IsNear}
 
 -- the edge with the flow of time turned round
 abbrev pub reversed_edge : Edge → Edge
@@ -15,10 +17,10 @@ abbrev pub far_below : ℤ → ℤ
 far_below value = value -ℤ pos 1099511627776
 
 -- the value was raised, and is told as it lies from the origin; or it wasn't
-abbrev pub Tells : ℤ → ℤ → ℤ → Option ℤ → Type 0
-Tells value settled origin None = value ≤ℤ far_below settled
-Tells value settled origin (Some told) = (far_below settled <ℤ value) × (told ≡ value -ℤ origin)
+abbrev pub TellsPoint : ℤ → ℤ → ℤ → Option ℤ → Type 0
+TellsPoint value settled origin None = value ≤ℤ far_below settled
+TellsPoint value settled origin (Some told) = (far_below settled <ℤ value) × (told ≡ value -ℤ origin)
 
--- the numbers that there are are far from where 64 bits end
+-- the numbers that there are are near to 0
 abbrev pub AreNear : List (Option ℤ) → Type 0
-AreNear values = (point : ℕ) → MatchOption (slice_index_or values point None) ⊤ (λ number. (neg_ℤ (pos 2199023255552) ≤ℤ number) × (number ≤ℤ pos 2199023255552))
+AreNear values = (point : ℕ) → MatchOption (slice_index_or values point None) ⊤ IsNear

@@ -3,7 +3,7 @@ use Rattle.std.specs.Prelude.{ℕ, ◌+◌, ◌-◌, ◌<◌, ◌≤◌, ℤ, po
 use Rattle.std.specs.List.{range_with_len}
 use Rattle.temporal_core.specs.declared.edges.Edge.{Edge}
 use Rattle.temporal_core.specs.Schedule.{IsSchedule, HasNoSchedule}
-use Rattle.temporal_core.specs.Cycle.{edges_at, Leaves, IsPositiveCycle, BeginsLeast}
+use Rattle.temporal_core.specs.Cycle.{edges_at, LeavesNeeded, IsPositiveCycle, BeginsLeast}
 use Rattle.temporal_core.specs.Settled.{HasPositiveCycle}
 
 abbrev pub edge_at : List Edge → ℕ → Edge
@@ -13,7 +13,8 @@ edge_at edges place = slice_index_or edges place (record { from = 0; to = 0; gap
 abbrev pub places_from : ℕ → ℕ → List ℕ
 places_from first count = range_with_len first (count - first)
 
--- the place is the last one, not before the first, from which on the edges have no schedule together with those that stay
+-- the place is the last one, not before the first, from which on the edges have no schedule together with those
+-- that stay
 pub record IsNextNeeded (edges : List Edge) (kept : List ℕ) (first place : ℕ) : Type 0 where
   pub after : first ≤ place
   pub within : place < length edges
@@ -23,7 +24,7 @@ pub record IsNextNeeded (edges : List Edge) (kept : List ℕ) (first place : ℕ
 -- the places that are left when each is left out that isn't needed; their edges have a positive cycle
 pub record AreNeeded (edges : List Edge) (kept : List ℕ) : Type 0 where
   pub within : All (λ place. place < length edges) kept
-  pub leaves : Leaves edges kept
+  pub leaves : LeavesNeeded edges kept
   pub cycle : HasPositiveCycle (edges_at edges kept)
 
 -- the same places in the order of a positive cycle, from its least point on

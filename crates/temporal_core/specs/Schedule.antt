@@ -3,26 +3,28 @@ use Rattle.std.specs.Prelude.{◌≡◌, ℕ, ◌<◌, ℤ, pos, ◌+ℤ◌, ◌
 use Rattle.temporal_core.specs.declared.edges.Edge.{Edge}
 
 -- the edge's second point comes no sooner than the gap after the first
-abbrev pub Keeps : (ℕ → ℤ) → Edge → Type 0
-Keeps value edge = (value edge.from +ℤ edge.gap) ≤ℤ value edge.to
+abbrev pub KeepsEdge : (ℕ → ℤ) → Edge → Type 0
+KeepsEdge value edge = (value edge.from +ℤ edge.gap) ≤ℤ value edge.to
 
 -- a schedule gives each point a whole number, the origin 0, and keeps each edge
 pub record IsSchedule (edges : List Edge) (value : ℕ → ℤ) : Type 0 where
   pub origin : value 0 ≡ pos 0
-  pub keeps : All (Keeps value) edges
+  pub keeps : All (KeepsEdge value) edges
 
 -- no values are a schedule of the edges
 abbrev pub HasNoSchedule : List Edge → Type 0
 HasNoSchedule edges = (value : ℕ → ℤ) → IsSchedule edges value → ⊥
 
--- the least value that a schedule gives the point; or there is none, since for each number a schedule gives it that or less
+-- the least value that a schedule gives the point; or there is none, since for each number a schedule gives it that
+-- or less
 abbrev pub IsLeastValue : List Edge → ℕ → Option ℤ → Type 0
 IsLeastValue edges point (Some least) =
     ((value : ℕ → ℤ) → IsSchedule edges value → least ≤ℤ value point)
     × ((value : ℕ → ℤ) × IsSchedule edges value × (value point ≡ least))
 IsLeastValue edges point None = (limit : ℤ) → (value : ℕ → ℤ) × IsSchedule edges value × (value point ≤ℤ limit)
 
--- the greatest value that a schedule gives the point; or there is none, since for each number a schedule gives it that or more
+-- the greatest value that a schedule gives the point; or there is none, since for each number a schedule gives it
+-- that or more
 abbrev pub IsGreatestValue : List Edge → ℕ → Option ℤ → Type 0
 IsGreatestValue edges point (Some greatest) =
     ((value : ℕ → ℤ) → IsSchedule edges value → value point ≤ℤ greatest)

@@ -1,11 +1,13 @@
 //! The least and the greatest value of each point over all schedules.
 
-ghost use Rattle.std.specs.Prelude.{◌≡◌, ℕ, ◌<◌, ℤ, pos, neg_ℤ, ◌≤ℤ◌, length, map, slice_index_or, All, None, IfOk, IfErr, MatchOption, ⊤};
+ghost use Rattle.std.specs.Prelude.{◌≡◌, ℕ, ◌<◌, ◌≤◌, ℤ, pos, neg_ℤ, ◌≤ℤ◌, length, map, slice_index_or, All, None};
+ghost use Rattle.std.specs.Prelude.{IfOk};
+ghost use Rattle.std.specs.Prelude.{IfErr, MatchOption, ⊤};
 ghost use Rattle.temporal_core.specs.Network.{IsEdge};
 ghost use Rattle.temporal_core.specs.Schedule.{IsSchedule, AreLeastValues, AreGreatestValues};
-ghost use Rattle.temporal_core.specs.Settled.{value_at, IsSettled};
+ghost use Rattle.temporal_core.specs.Settled.{value_at, IsNear, far, IsSettledGraph};
 ghost use Rattle.temporal_core.specs.TimeBounds.{AreBounds, IsNoBounds};
-ghost use Rattle.temporal_core.specs.Bounds.{far_below, reversed_edge, negative_of, Tells, AreNear};
+ghost use Rattle.temporal_core.specs.Bounds.{far_below, reversed_edge, negative_of, TellsPoint, AreNear};
 
 use super::canonical::canonical_cycle;
 use super::edges::{Edge, Edges};
@@ -13,7 +15,8 @@ use super::settled::{Settled, raise, settle};
 use eu_name::sequence::Sequence;
 use std::alloc::{AllocError, Global};
 
-/// For each point, by its number, the least and the greatest value that a schedule gives it; None where there is no bound.
+/// For each point, by its number, the least and the greatest value that a schedule gives it; None where there is no
+/// bound.
 #[derive(Drop)]
 pub struct TimeBounds {
     pub lo: Sequence<Option<i64>>,
@@ -57,10 +60,10 @@ fn lowered(alloc: Global, values: &[i64]) -> Result<Vec<i64>, AllocError>
 
 // What the value of a point says that was raised from far below, if it was.
 fn told(value: i64, settled: i64, origin: i64) -> Option<i64>
-    requires value { (neg_ℤ (pos 2199023255552) ≤ℤ value) × (value ≤ℤ pos 2199023255552) }
-    requires settled { (pos 0 ≤ℤ settled) × (settled ≤ℤ pos 2199023255552) }
-    requires origin { (pos 0 ≤ℤ origin) × (origin ≤ℤ pos 2199023255552) }
-    ensures { Tells value settled origin result }
+    requires value { IsNear value }
+    requires settled { (pos 0 ≤ℤ settled) × (settled ≤ℤ far) }
+    requires origin { (pos 0 ≤ℤ origin) × (origin ≤ℤ far) }
+    ensures { TellsPoint value settled origin result }
 {
     if value > settled - FAR {
         Some(value - origin)
@@ -77,11 +80,13 @@ fn told_all(
     origin: i64,
 ) -> Result<Vec<Option<i64>>, AllocError>
     requires count { length values.now ≡ length settled.now }
-    requires values { (point : ℕ) → (neg_ℤ (pos 2199023255552) ≤ℤ value_at values.now point) × (value_at values.now point ≤ℤ pos 2199023255552) }
-    requires settled { (point : ℕ) → (pos 0 ≤ℤ value_at settled.now point) × (value_at settled.now point ≤ℤ pos 2199023255552) }
-    requires origin { (pos 0 ≤ℤ origin) × (origin ≤ℤ pos 2199023255552) }
+    requires values { (point : ℕ) → IsNear (value_at values.now point) }
+    requires settled { (point : ℕ) → (pos 0 ≤ℤ value_at settled.now point) × (value_at settled.now point ≤ℤ far) }
+    requires origin { (pos 0 ≤ℤ origin) × (origin ≤ℤ far) }
     ensures count { IfOk result (λ all. length all.items ≡ length settled.now) }
-    ensures each { IfOk result (λ all. (point : ℕ) → point < length settled.now → Tells (value_at values.now point) (value_at settled.now point) origin (slice_index_or all.items point None)) }
+    ensures each { IfOk result (λ all. (point : ℕ) → point < length settled.now
+        → TellsPoint (value_at values.now point) (value_at settled.now point) origin
+            (slice_index_or all.items point None)) }
 {
     let mut all = Vec::with_capacity(alloc, settled.len())?;
     for point in 0..settled.len() {
@@ -94,8 +99,9 @@ fn told_all(
 // low then as they can be, and the others can be as low as one likes.
 fn least_values(alloc: Global, settled: &Settled) -> Result<Vec<Option<i64>>, AllocError>
     requires some { 0 < length settled.now.values.items }
-    requires settled { IsSettled (length settled.now.values.items) settled.now.graph.edges.items settled.now }
-    ensures values { IfOk result (λ least. AreLeastValues (length settled.now.values.items) settled.now.graph.edges.items least.items) }
+    requires settled { IsSettledGraph (length settled.now.values.items) settled.now.graph.edges.items settled.now }
+    ensures values { IfOk result (λ least.
+        AreLeastValues (length settled.now.values.items) settled.now.graph.edges.items least.items) }
     ensures near { IfOk result (λ least. AreNear least.items) }
 {
     let first = settled.values.as_slice();
@@ -125,7 +131,7 @@ fn reversed(alloc: Global, edges: &[Edge]) -> Result<Vec<Edge>, AllocError>
 
 // The negative of the number, if it is one.
 fn negative(value: Option<i64>) -> Option<i64>
-    requires { MatchOption value ⊤ (λ number. (neg_ℤ (pos 2199023255552) ≤ℤ number) × (number ≤ℤ pos 2199023255552)) }
+    requires { MatchOption value ⊤ IsNear }
     ensures { result ≡ negative_of value }
 {
     match value {
@@ -153,7 +159,7 @@ fn greatest_values(
     edges: &[Edge],
 ) -> Result<Vec<Option<i64>>, AllocError>
     requires some { 0 < points }
-    requires few { points < 65536 }
+    requires few { points ≤ 65536 }
     requires edges { All (IsEdge points) edges.now }
     requires schedule { (value : ℕ → ℤ) × IsSchedule edges.now value }
     ensures { IfOk result (λ greatest. AreGreatestValues points edges.now greatest.items) }

@@ -8,7 +8,7 @@ ghost use Rattle.std.specs.Prelude.{◌≡◌, ℕ, ◌+◌, ◌<◌, ◌≤◌,
 ghost use Rattle.temporal_core.specs.Network.{IsEdge};
 ghost use Rattle.temporal_core.specs.Schedule.{HasNoSchedule};
 ghost use Rattle.temporal_core.specs.Cycle.{edges_at, IsCanonicalCycle};
-ghost use Rattle.temporal_core.specs.Settled.{IsSettled, HasPositiveCycle};
+ghost use Rattle.temporal_core.specs.Settled.{IsSettledGraph, HasPositiveCycle};
 ghost use Rattle.temporal_core.specs.Canonical.{edge_at, places_from, IsNextNeeded, AreNeeded, IsCycleOf};
 
 use super::edges::Edge;
@@ -22,10 +22,11 @@ fn settle_kept(
     edges: &[Edge],
     kept: &[u32],
 ) -> Result<Option<Settled>, AllocError>
-    requires few { points < 65536 }
+    requires few { points ≤ 65536 }
     requires edges { All (IsEdge points) edges.now }
     requires kept { All (λ place. place < length edges.now) kept.now }
-    ensures { IfOk result (λ answer. MatchOption answer (HasPositiveCycle (edges_at edges.now kept.now)) (IsSettled points (edges_at edges.now kept.now))) }
+    ensures { IfOk result (λ answer. MatchOption answer
+        (HasPositiveCycle (edges_at edges.now kept.now)) (IsSettledGraph points (edges_at edges.now kept.now))) }
 {
     let mut settled = Settled::new(alloc, points)?;
     for place in kept {
@@ -36,7 +37,8 @@ fn settle_kept(
     Ok(Some(settled))
 }
 
-// The last place from which on the edges have no schedule together with those that stay; None where those that stay have none alone.
+// The last place from which on the edges have no schedule together with those that stay; None where those that stay
+// have none alone.
 fn next_needed(
     alloc: Global,
     points: usize,
@@ -44,13 +46,14 @@ fn next_needed(
     kept: &[u32],
     first: usize,
 ) -> Result<Option<u32>, AllocError>
-    requires few { points < 65536 }
+    requires few { points ≤ 65536 }
     requires edges { All (IsEdge points) edges.now }
     requires count { length edges.now < 4294967296 }
     requires kept { All (λ place. place < length edges.now) kept.now }
     requires first { first ≤ length edges.now }
     requires none { HasNoSchedule (edges_at edges.now (kept.now ++ places_from first (length edges.now))) }
-    ensures { IfOk result (λ answer. MatchOption answer (HasPositiveCycle (edges_at edges.now kept.now)) (IsNextNeeded edges.now kept.now first)) }
+    ensures { IfOk result (λ answer. MatchOption answer
+        (HasPositiveCycle (edges_at edges.now kept.now)) (IsNextNeeded edges.now kept.now first)) }
 {
     let Some(mut settled) = settle_kept(alloc, points, edges, kept)? else {
         return Ok(None);
@@ -65,7 +68,7 @@ fn next_needed(
 
 // The places that are left where from first to last each is left out if the others have no schedule.
 fn needed(alloc: Global, points: usize, edges: &[Edge]) -> Result<Vec<u32>, AllocError>
-    requires few { points < 65536 }
+    requires few { points ≤ 65536 }
     requires edges { All (IsEdge points) edges.now }
     requires count { length edges.now < 4294967296 }
     requires none { HasNoSchedule edges.now }
@@ -138,7 +141,7 @@ fn in_order(
 
 /// The canonical cycle of edges that have no schedule.
 pub fn canonical_cycle(alloc: Global, points: usize, edges: &[Edge]) -> Result<Vec<u32>, AllocError>
-    requires few { points < 65536 }
+    requires few { points ≤ 65536 }
     requires edges { All (IsEdge points) edges.now }
     requires count { length edges.now < 4294967296 }
     requires none { HasNoSchedule edges.now }

@@ -2,7 +2,7 @@
 
 ghost use Rattle.std.specs.Prelude.{◌≡◌, ◌≢◌, ℕ, ◌<◌, ◌↔◌, List, length, All, IsTrue};
 ghost use Rattle.temporal_core.specs.declared.edges.Edge.{Edge as AnEdge};
-ghost use Rattle.temporal_core.specs.Cycle.{edges_at, gap_sum, IsClosed, IsSimple, IsPositiveCycle, IsCanonicalCycle};
+ghost use Rattle.temporal_core.specs.Cycle.{edges_at, gap_sum, LeadsBack, IsSimple, IsPositiveCycle, IsCanonicalCycle};
 ghost use Rattle.temporal_core.specs.Schedule.{HasNoSchedule};
 
 use super::edges::{Edge, Edges};
@@ -17,7 +17,7 @@ fn are_places(edges: &[Edge], places: &[u32]) -> bool
 // Whether each edge begins where the one before it ends, and the first where the last ends.
 fn is_closed(edges: &[Edge], places: &[u32]) -> bool
     requires { All (λ place. place < length edges.now) places.now }
-    ensures { IsTrue result ↔ IsClosed (edges_at edges.now places.now) }
+    ensures { IsTrue result ↔ LeadsBack (edges_at edges.now places.now) }
 {
     if places.is_empty() {
         return false;
@@ -74,7 +74,8 @@ fn gaps(edges: &[Edge], places: &[u32]) -> i128
 
 /// Whether the edges at these places, in this order, are a simple cycle whose gaps sum to more than 0.
 ///
-/// Each edge has to begin where the one before it ends, and the first where the last one ends. It may begin at any of its points.
+/// Each edge has to begin where the one before it ends, and the first where the last one ends. It may begin at any
+/// of its points.
 pub fn check_cycle(edges: &Edges, places: &[u32]) -> bool
     ensures { IsTrue result ↔ IsPositiveCycle edges.now.edges places.now }
 {
@@ -87,10 +88,12 @@ pub fn check_cycle(edges: &Edges, places: &[u32]) -> bool
 
 /// A law: the edges of a positive cycle have no schedule.
 pub fn positive_cycle_has_no_schedule()
-    ensures { (edges : List AnEdge) (places : List ℕ) → IsPositiveCycle edges places → HasNoSchedule (edges_at edges places) }
+    ensures { (edges : List AnEdge) (places : List ℕ) → IsPositiveCycle edges places
+        → HasNoSchedule (edges_at edges places) }
 {}
 
 /// A law: there is one canonical cycle at most.
 pub fn canonical_cycle_is_one()
-    ensures { (edges : List AnEdge) (one other : List ℕ) → IsCanonicalCycle edges one → IsCanonicalCycle edges other → one ≡ other }
+    ensures { (edges : List AnEdge) (one other : List ℕ) → IsCanonicalCycle edges one
+        → IsCanonicalCycle edges other → one ≡ other }
 {}

@@ -1,6 +1,6 @@
 //! Edges between points in time, as in the simple temporal problems of Dechter, Meiri and Pearl.
 
-ghost use Rattle.std.specs.Prelude.{◌≡◌, ◌+◌, ◌<◌, [], ◌∷◌, ◌++◌, length, OnOk, OnErr};
+ghost use Rattle.std.specs.Prelude.{◌≡◌, ◌+◌, ◌<◌, ◌≤◌, [], ◌∷◌, ◌++◌, length, OnOk, OnErr};
 ghost use Rattle.temporal_core.specs.Network.{IsEdge, IsNetwork};
 
 use std::alloc::{AllocError, Global};
@@ -23,9 +23,9 @@ pub struct Edges {
 }
 
 impl Model for Edges {
-    ghost use Rattle.temporal_core.specs.Network.{Network, IsNetwork};
+    ghost use Rattle.temporal_core.specs.Network.{TimeNetwork, IsNetwork};
 
-    ghost Value = { Network };
+    ghost Value = { TimeNetwork };
 
     ghost view = { λ inside. record { points = inside.points; edges = inside.edges.items } };
 
@@ -36,7 +36,7 @@ impl Edges {
     /// So many points without an edge. This takes no memory.
     pub fn new(alloc: Global, points: u32) -> Edges
         requires some { 0 < points }
-        requires few { points < 65536 }
+        requires few { points ≤ 65536 }
         ensures { result ≡ record { points = points; edges = [] } }
     {
         Edges {

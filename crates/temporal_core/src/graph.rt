@@ -32,7 +32,8 @@ impl Graph {
     /// Puts an edge at the end. Without memory for it the graph is no longer one.
     pub fn link(&mut self, edge: Edge) -> Result<(), AllocError>
         requires { IsEdge (length self.old.latest.items) edge }
-        ensures { OnOk result ((points : ℕ) (edges : List AnEdge) → IsGraph points edges self.old → IsGraph points (edges ++ edge ∷ []) self.new) }
+        ensures { OnOk result ((points : ℕ) (edges : List AnEdge) → IsGraph points edges self.old
+            → IsGraph points (edges ++ edge ∷ []) self.new) }
     {
         let place = self.edges.len();
         let from = edge.from as usize;

@@ -1,10 +1,13 @@
 //! Schedules that grow with their edges. An edge that the values don't keep raises its second point, which may raise
 //! others: shortest distances by Bellman and Ford with a work list, where the work begins with one edge.
 
-ghost use Rattle.std.specs.Prelude.{◌≢◌, ℕ, ◌+◌, ◌<◌, ℤ, pos, neg_ℤ, ◌≤ℤ◌, ◌<ℤ◌, [], ◌∷◌, ◌++◌, length, All, IfOk, MatchBool, MatchOption, ⊤};
+ghost use Rattle.std.specs.Prelude.{◌≢◌, ℕ, ◌+◌, ◌<◌, ◌≤◌, ℤ, pos, neg_ℤ, ◌≤ℤ◌, ◌<ℤ◌, [], ◌∷◌, ◌++◌, length, All, IfOk};
+ghost use Rattle.std.specs.Prelude.{MatchBool, MatchOption, ⊤};
 ghost use Rattle.temporal_core.specs.Network.{IsEdge};
-ghost use Rattle.temporal_core.specs.Schedule.{Keeps};
-ghost use Rattle.temporal_core.specs.Settled.{IsGraph, value_at, RaisesEnd, RaisesFrom, IsStopped, Raises, Exceeds, AreModest, AreSettled, IsSettled, HasPositiveCycle};
+ghost use Rattle.temporal_core.specs.Schedule.{KeepsEdge};
+ghost use Rattle.temporal_core.specs.Settled.{IsGraph, value_at, far, RaisesEnd, RaisesFrom, IsStopped, Raises};
+ghost use Rattle.temporal_core.specs.Settled.{Exceeds};
+ghost use Rattle.temporal_core.specs.Settled.{AreModest, AreSettled, IsSettledGraph, HasPositiveCycle};
 
 use super::edges::Edge;
 use super::graph::Graph;
@@ -27,7 +30,8 @@ fn raise_end(
     queue: &mut VecDeque<usize>,
 ) -> Result<bool, AllocError>
     requires { point < length values.old }
-    ensures { IfOk result (λ done. RaisesEnd point raised fixed values.old queue.old.items done values.new queue.new.items) }
+    ensures { IfOk result (λ done.
+        RaisesEnd point raised fixed values.old queue.old.items done values.new queue.new.items) }
 {
     if raised <= values[point] {
         return Ok(true);
@@ -52,7 +56,8 @@ fn raise_from(
     requires point { point < length values.old }
     requires modest { AreModest values.old }
     ensures { IfOk result (λ done. MatchBool done
-        (RaisesFrom graph.now.edges.items (λ place. ⊤) point fixed values.old queue.old.items values.new queue.new.items)
+        (RaisesFrom graph.now.edges.items (λ place. ⊤) point fixed
+            values.old queue.old.items values.new queue.new.items)
         (IsStopped graph.now.edges.items point fixed values.old)) }
 {
     let base = values[point];
@@ -68,7 +73,8 @@ fn raise_from(
     Ok(true)
 }
 
-// Raises the start to the value, and then other points until the edges are kept again; false where one may not be raised.
+// Raises the start to the value, and then other points until the edges are kept again; false where one may not be
+// raised.
 pub fn raise(
     alloc: Global,
     graph: &Graph,
@@ -81,10 +87,10 @@ pub fn raise(
     requires start { start < length values.old }
     requires others { start ≢ fixed }
     requires more { value_at values.old start <ℤ value }
-    requires keeps { All (Keeps (value_at values.old)) graph.now.edges.items }
-    requires low { (point : ℕ) → neg_ℤ (pos 2199023255552) ≤ℤ value_at values.old point }
-    requires high { (point : ℕ) → value_at values.old point ≤ℤ pos 2199023255552 }
-    requires modest { value ≤ℤ pos 2199023255552 }
+    requires keeps { All (KeepsEdge (value_at values.old)) graph.now.edges.items }
+    requires low { (point : ℕ) → neg_ℤ far ≤ℤ value_at values.old point }
+    requires high { (point : ℕ) → value_at values.old point ≤ℤ far }
+    requires modest { value ≤ℤ far }
     ensures { IfOk result (λ done. MatchBool done
         (Raises graph.now.edges.items start value fixed values.old values.new)
         (Exceeds graph.now.edges.items start value fixed values.old)) }
@@ -107,7 +113,7 @@ fn keep_too(
     values: &mut [i64],
     edge: Edge,
 ) -> Result<bool, AllocError>
-    requires few { length values.old < 65536 }
+    requires few { length values.old ≤ 65536 }
     requires graph { IsGraph (length values.old) graph.now.edges.items graph.now }
     requires settled { AreSettled (length values.old) graph.now.edges.items values.old }
     requires edge { IsEdge (length values.old) edge }
@@ -131,8 +137,8 @@ fn keep_too(
 impl Settled {
     /// So many points, all of them at 0, without an edge.
     pub fn new(alloc: Global, points: usize) -> Result<Settled, AllocError>
-        requires { points < 65536 }
-        ensures { IfOk result (IsSettled points []) }
+        requires { points ≤ 65536 }
+        ensures { IfOk result (IsSettledGraph points []) }
     {
         Ok(Settled {
             graph: Graph::new(alloc, points)?,
@@ -142,10 +148,10 @@ impl Settled {
 
     /// Puts an edge at the end; false where there is no schedule with it. The values are of no use then.
     pub fn insert(&mut self, edge: Edge) -> Result<bool, AllocError>
-        requires settled { IsSettled (length self.old.values.items) self.old.graph.edges.items self.old }
+        requires settled { IsSettledGraph (length self.old.values.items) self.old.graph.edges.items self.old }
         requires edge { IsEdge (length self.old.values.items) edge }
         ensures { IfOk result (λ done. MatchBool done
-            (IsSettled (length self.old.values.items) (self.old.graph.edges.items ++ edge ∷ []) self.new)
+            (IsSettledGraph (length self.old.values.items) (self.old.graph.edges.items ++ edge ∷ []) self.new)
             (HasPositiveCycle (self.old.graph.edges.items ++ edge ∷ []))) }
     {
         let alloc = *self.values.allocator();
@@ -159,9 +165,10 @@ impl Settled {
 
 /// Values that keep the edges, or None where there is no schedule.
 pub fn settle(alloc: Global, points: usize, edges: &[Edge]) -> Result<Option<Settled>, AllocError>
-    requires few { points < 65536 }
+    requires few { points ≤ 65536 }
     requires edges { All (IsEdge points) edges.now }
-    ensures { IfOk result (λ answer. MatchOption answer (HasPositiveCycle edges.now) (IsSettled points edges.now)) }
+    ensures { IfOk result (λ answer.
+        MatchOption answer (HasPositiveCycle edges.now) (IsSettledGraph points edges.now)) }
 {
     let mut settled = Settled::new(alloc, points)?;
     for edge in edges {

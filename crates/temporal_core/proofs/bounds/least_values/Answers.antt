@@ -2,7 +2,7 @@ use Rattle.std.proofs.Common.{◌≡◌, ℕ, ◌<◌, ℤ, pos, neg_ℤ, ◌≤
 use Rattle.std.proofs.lemmas.Int.{ints}
 use lib.Seq.{take-append_seam}
 use Rattle.temporal_core.specs.Settled.{value_at, Raises, Exceeds}
-use Rattle.temporal_core.specs.Bounds.{far_below, Tells}
+use Rattle.temporal_core.specs.Bounds.{far_below, TellsPoint}
 use Rattle.temporal_core.proofs.Settling.{settled_modest}
 use Rattle.temporal_core.proofs.Least.{low_modest, nothing_beyond, new_modest, least_told_all, near_told_all}
 use Rattle.temporal_core.proofs.bounds.least_values.Goals as goal
@@ -150,7 +150,7 @@ returns-clause-values c =
     let written : c.deref.result.now ≡ c.raise.new.values = c.deref.ensures.value ∙ ap (λ n. take n (c.raise.new.values ++ rest)) kept ∙ take-append_seam c.raise.new.values rest in
     let told = c.in_ok-least.least.items in
     let count : length told ≡ points = c.in_ok-least.ensures.count ∙ ap length first in
-    let Each = λ (news firsts : List ℤ) (o : ℤ). (point : ℕ) → point < length firsts → Tells (value_at news point) (value_at firsts point) o (get_or told point None) in
+    let Each = λ (news firsts : List ℤ) (o : ℤ). (point : ℕ) → point < length firsts → TellsPoint (value_at news point) (value_at firsts point) o (get_or told point None) in
     let tells = subst (λ o. Each c.raise.new.values values o) origin
     (subst (λ xs. Each c.raise.new.values xs (to_z w64 (of_z w64 (value_at c.as_slice-first.result.now 0)))) first
     (subst (λ xs. Each xs c.as_slice-first.result.now (to_z w64 (of_z w64 (value_at c.as_slice-first.result.now 0)))) written c.in_ok-least.ensures.each)) in
@@ -180,7 +180,7 @@ returns-clause-near c =
     let written : c.deref.result.now ≡ c.raise.new.values = c.deref.ensures.value ∙ ap (λ n. take n (c.raise.new.values ++ rest)) kept ∙ take-append_seam c.raise.new.values rest in
     let told = c.in_ok-least.least.items in
     let count : length told ≡ points = c.in_ok-least.ensures.count ∙ ap length first in
-    let Each = λ (news firsts : List ℤ) (o : ℤ). (point : ℕ) → point < length firsts → Tells (value_at news point) (value_at firsts point) o (get_or told point None) in
+    let Each = λ (news firsts : List ℤ) (o : ℤ). (point : ℕ) → point < length firsts → TellsPoint (value_at news point) (value_at firsts point) o (get_or told point None) in
     let tells = subst (λ o. Each c.raise.new.values values o) origin
     (subst (λ xs. Each c.raise.new.values xs (to_z w64 (of_z w64 (value_at c.as_slice-first.result.now 0)))) first
     (subst (λ xs. Each xs c.as_slice-first.result.now (to_z w64 (of_z w64 (value_at c.as_slice-first.result.now 0)))) written c.in_ok-least.ensures.each)) in

@@ -1,7 +1,7 @@
 use Rattle.std.proofs.Common.{◌≡◌, ◌+◌, ◌-◌, ◌<◌, ◌∷◌, ◌++◌, [], pos, MatchBool, length, get_or, subst, arith}
 use Rattle.temporal_core.specs.declared.edges.Edge.{Edge}
 use Rattle.temporal_core.specs.Cycle.{edges_at}
-use Rattle.temporal_core.specs.Settled.{IsSettled, HasPositiveCycle}
+use Rattle.temporal_core.specs.Settled.{IsSettledGraph, HasPositiveCycle}
 use Rattle.temporal_core.specs.Canonical.{places_from}
 use Rattle.temporal_core.proofs.Needed.{IsSettledWith, with_more, needs_place, with_all}
 use Rattle.temporal_core.proofs.canonical.next_needed.Goals as goal
@@ -17,7 +17,7 @@ returns-then-not-branch c =
     let within : place < length edges = omega arith in
     let next : c.loop-place.place ≡ place + 1 = omega arith in
     let before = subst (λ n. IsSettledWith c.args.points (edges_at edges (kept ++ places_from n (length edges))) old) next c.loop-place.invariant in
-    let found = subst (λ done. MatchBool done (IsSettled (length old.values.items) more c.insert.new.self) (HasPositiveCycle more)) c.if-not-branch.true c.in_ok-insert.ensures in
+    let found = subst (λ done. MatchBool done (IsSettledGraph (length old.values.items) more c.insert.new.self) (HasPositiveCycle more)) c.if-not-branch.true c.in_ok-insert.ensures in
     needs_place c.args.points edges kept place within none old before c.args.first (omega arith) found
 
 pub loop-place-preserved : goal.loop-place-preserved
@@ -31,8 +31,8 @@ loop-place-preserved c =
     let within : place < length edges = omega arith in
     let next : c.loop-place.place ≡ place + 1 = omega arith in
     let before = subst (λ n. IsSettledWith c.args.points (edges_at edges (kept ++ places_from n (length edges))) old) next c.loop-place.invariant in
-    let is = subst (λ done. MatchBool done (IsSettled (length old.values.items) more c.insert.new.self) (HasPositiveCycle more)) c.if-not-branch.false c.in_ok-insert.ensures in
-    with_more c.args.points edges kept place within none old before c.insert.new.self (subst (λ n. IsSettled n more c.insert.new.self) before.settled_own.values.count is)
+    let is = subst (λ done. MatchBool done (IsSettledGraph (length old.values.items) more c.insert.new.self) (HasPositiveCycle more)) c.if-not-branch.false c.in_ok-insert.ensures in
+    with_more c.args.points edges kept place within none old before c.insert.new.self (subst (λ n. IsSettledGraph n more c.insert.new.self) before.settled_own.values.count is)
 
 pub unreachable-requires : goal.unreachable-requires
 unreachable-requires c =

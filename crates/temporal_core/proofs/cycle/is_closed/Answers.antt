@@ -1,7 +1,7 @@
 use Rattle.std.proofs.Common.{pos, length, sym, ◌∙◌, arith}
 use Rattle.std.proofs.lemmas.Bool.{false≢true, eqb-false}
 use Rattle.temporal_core.specs.declared.edges.Edge.{Edge}
-use Rattle.temporal_core.specs.Cycle.{edges_at, IsClosed}
+use Rattle.temporal_core.specs.Cycle.{edges_at, LeadsBack}
 use Rattle.temporal_core.proofs.Cycles.{closed_at, leads_more, leads_no_more}
 use Rattle.temporal_core.proofs.cycle.is_closed.Goals as goal
 
@@ -15,10 +15,10 @@ pub returns-then-edge-at : goal.returns-then-edge-at
 returns-then-edge-at c =
     let none : Edge = record { from = 0; to = 0; gap = pos 0 } in (
       λ never. absurd (false≢true never),
-      λ closed. absurd (leads_no_more c.args.edges.now c.args.places.now c.requires c.loop-place.place-index none c.loop-place-test.true c.loop-place.at _ (IsClosed (edges_at c.args.edges.now c.args.places.now)) c.loop-place.invariant c.if-edge-at.true closed),
+      λ closed. absurd (leads_no_more c.args.edges.now c.args.places.now c.requires c.loop-place.place-index none c.loop-place-test.true c.loop-place.at _ (LeadsBack (edges_at c.args.edges.now c.args.places.now)) c.loop-place.invariant c.if-edge-at.true closed),
     )
 
 pub loop-place-preserved : goal.loop-place-preserved
 loop-place-preserved c =
     let none : Edge = record { from = 0; to = 0; gap = pos 0 } in
-    leads_more c.args.edges.now c.args.places.now c.requires c.loop-place.place-index none c.loop-place-test.true c.loop-place.at _ (IsClosed (edges_at c.args.edges.now c.args.places.now)) c.loop-place.invariant c.if-edge-at.false
+    leads_more c.args.edges.now c.args.places.now c.requires c.loop-place.place-index none c.loop-place-test.true c.loop-place.at _ (LeadsBack (edges_at c.args.edges.now c.args.places.now)) c.loop-place.invariant c.if-edge-at.false

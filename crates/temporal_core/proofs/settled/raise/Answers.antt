@@ -2,8 +2,8 @@ use Rattle.std.proofs.Common.{◌≡◌, ℕ, ◌+◌, ◌-ℤ◌, ◌<ℤ◌, w
 use Rattle.std.specs.Prelude.{⊤}
 use Rattle.std.proofs.lemmas.Int.{ints}
 use Rattle.std.proofs.lemmas.List.{length-set}
-use Rattle.temporal_core.specs.Settled.{value_at, total, RaisesFrom, IsStopped, Raises, Exceeds}
-use Rattle.temporal_core.proofs.Values.{top, total-le-top, less_left}
+use Rattle.temporal_core.specs.Settled.{value_at, value_sum, RaisesFrom, IsStopped, Raises, Exceeds}
+use Rattle.temporal_core.proofs.Values.{top, value_sum-le-top, less_left}
 use Rattle.temporal_core.proofs.Raising.{IsRaising, IsRaising-start, IsRaising-stopped, IsRaising-next, IsRaising-end}
 use Rattle.temporal_core.proofs.settled.raise.Goals as goal
 
@@ -58,8 +58,8 @@ loop-point-smaller c =
     c.raise_from.new.values c.raise_from.new.queue.items raised same_count in
     let delta = to_z w64 (of_z w64 c.args.value) -ℤ value_at old c.args.start in
     let count : length c.raise_from.new.values ≡ length old = omega arith in
-    let below = total-le-top delta old c.raise_from.new.values count next.high in
-    let less = less_left (top delta old) (total cur) (total c.raise_from.new.values) (length c.pop_front.new.self.items) (length raised.pushed) below raised.gain in
+    let below = value_sum-le-top delta old c.raise_from.new.values count next.high in
+    let less = less_left (top delta old) (value_sum cur) (value_sum c.raise_from.new.values) (length c.pop_front.new.self.items) (length raised.pushed) below raised.gain in
     let waiting : length c.raise_from.new.queue.items ≡ length c.pop_front.new.self.items + length raised.pushed = ap length raised.queued ∙ length-append c.pop_front.new.self.items raised.pushed in
     let before = ap length c.in-Some.ensures.items in
     omega (arith, less)

@@ -1,6 +1,6 @@
 use Rattle.std.proofs.Common.{◌+◌, ◌-◌, ◌-ℤ◌, length}
 use borrow.Author.Differences.{up, down}
-use Rattle.temporal_core.specs.Settled.{value_at, total}
+use Rattle.temporal_core.specs.Settled.{value_at, value_sum}
 use Rattle.temporal_core.proofs.Values.{top}
 use Rattle.temporal_core.proofs.Raising.{IsRaising}
 use Rattle.temporal_core.proofs.settled.raise.Given as goal
@@ -12,4 +12,4 @@ invariant-loop-point l = IsRaising l.graph.edges.items l.start l.value l.fixed l
 abbrev pub decreases-loop-point : goal.decreases-loop-point
 decreases-loop-point l =
     let most = top (l.value -ℤ value_at l.fn.values l.start) l.fn.values in
-    ((up most + down (total l.values)) - (up (total l.values) + down most)) + length l.queue.items
+    ((up most + down (value_sum l.values)) - (up (value_sum l.values) + down most)) + length l.queue.items

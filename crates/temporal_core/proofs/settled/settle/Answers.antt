@@ -3,7 +3,7 @@ use Rattle.std.specs.Prelude.{Contains}
 use Rattle.std.proofs.lemmas.List.{take_more, take-append-drop}
 use Rattle.std.proofs.lemmas.List.Elements.{Contains-append_left}
 use Rattle.temporal_core.specs.declared.edges.Edge.{Edge}
-use Rattle.temporal_core.specs.Settled.{IsSettled, HasPositiveCycle}
+use Rattle.temporal_core.specs.Settled.{IsSettledGraph, HasPositiveCycle}
 use Rattle.temporal_core.proofs.Settling.{HasPositiveCycle-within}
 use Rattle.temporal_core.proofs.settled.settle.Goals as goal
 
@@ -14,6 +14,6 @@ returns-then-not-branch c =
     let none : Edge = record { from = 0; to = 0; gap = pos 0 } in
     let before = c.loop-edge.settled.graph.edges.items in
     let edge = get_or edges i none in
-    let found = subst (λ done. MatchBool done (IsSettled (length c.loop-edge.settled.values.items) (before ++ edge ∷ []) c.insert.new.self) (HasPositiveCycle (before ++ edge ∷ []))) c.if-not-branch.true c.in_ok-insert.ensures in
+    let found = subst (λ done. MatchBool done (IsSettledGraph (length c.loop-edge.settled.values.items) (before ++ edge ∷ []) c.insert.new.self) (HasPositiveCycle (before ++ edge ∷ []))) c.if-not-branch.true c.in_ok-insert.ensures in
     let front = subst HasPositiveCycle (ap (λ list. list ++ edge ∷ []) c.loop-edge.invariant.graph.list ∙ sym (take_more edges i none c.loop-edge-test.true)) found in
     HasPositiveCycle-within (take (i + 1) edges) edges (λ other among. subst (λ list. Contains list other) (take-append-drop (i + 1) edges) (Contains-append_left (take (i + 1) edges) (drop (i + 1) edges) other among)) front

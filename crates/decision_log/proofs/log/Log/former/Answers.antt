@@ -4,6 +4,14 @@ use Rattle.model_core.specs.History.{standing}
 use Rattle.decision_log.specs.Pushes.{history_of}
 use Rattle.decision_log.proofs.log.Log.former.Goals as goal
 
+pub returns-in-Err : goal.returns-in-Err
+returns-in-Err c =
+    let items = c.self.inside.decisions.items in
+    let count : c.len-count.result ≡ length items = c.len-count.ensures ∙ c.self.inside.decisions.ok.0 in
+    let some : 0 < length items = omega (arith, c.if-count-eq0.false) in
+    let former = former_of items some in
+    rw (← c.self.view_is) (take (length items - 1) items, former)
+
 pub returns-in-Ok : goal.returns-in-Ok
 returns-in-Ok c =
     let items = c.self.inside.decisions.items in

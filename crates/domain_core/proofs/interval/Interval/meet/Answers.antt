@@ -8,11 +8,11 @@ pub returns-clause-kept : goal.returns-clause-kept
 returns-clause-kept c =
     let lo = c.args.self.now.lo in
     let hi = c.args.self.now.hi in
-    let met : AreMet lo hi c.args.lo c.args.hi (to_z w32 (of_z w32 c.later-new_lo.result)) (to_z w32 (of_z w32 c.earlier-new_hi.result)) = record {
-      lower = elim c.later-new_lo.ensures.is_one [ inl same ↦ inl (omega (arith, ints)) | inr same ↦ inr (omega (arith, ints)) ];
+    let met : AreMet lo hi c.args.lo c.args.hi (to_z w32 (of_z w32 c.greater-new_lo.result)) (to_z w32 (of_z w32 c.less-new_hi.result)) = record {
+      lower = elim c.greater-new_lo.ensures.is_one [ inl same ↦ inl (omega (arith, ints)) | inr same ↦ inr (omega (arith, ints)) ];
       from_lo = omega (arith, ints);
       from_low = omega (arith, ints);
-      upper = elim c.earlier-new_hi.ensures.is_one [ inl same ↦ inl (omega (arith, ints)) | inr same ↦ inr (omega (arith, ints)) ];
+      upper = elim c.less-new_hi.ensures.is_one [ inl same ↦ inl (omega (arith, ints)) | inr same ↦ inr (omega (arith, ints)) ];
       to_hi = omega (arith, ints);
       to_high = omega (arith, ints);
     } in

@@ -1,0 +1,152 @@
+//! Networks.
+
+ghost use Rattle.std.specs.Prelude.{◌≡◌, ◌^◌, ◌<◌, ◌≤◌, [], ◌∷◌, ◌++◌, All, length, OnErr, IfOk, MatchOption, Some};
+ghost use Rattle.std.specs.Prelude.{slice_get};
+ghost use Rattle.domain_core.specs.Domain.{IsDomain};
+ghost use Rattle.constraint_net.specs.Networks.{CanPost, AllConsistent};
+ghost use Rattle.constraint_net.specs.Steps.{SettlesTo};
+ghost use Rattle.constraint_net.specs.Calls.{IsAscending, given_by, table_of, Limits, Posts};
+
+use super::NetFault;
+use super::constraint::{Constraint, NetArg};
+use super::domains::Domains;
+use super::rounds::settle;
+use domain_core::Change;
+use domain_core::domain::Dom;
+use eu_name::sequence::Sequence;
+use model_core::item::Kind;
+use narrow_core::field::{Field, FieldEntry};
+use std::alloc::{AllocError, Global};
+use std::marker::Model;
+
+/// Variables, numbered as they were added, and constraints on them.
+#[derive(Drop)]
+pub struct Net {
+    domains: Domains,
+    tables: Vec<Field>,
+    constraints: Vec<Constraint>,
+}
+
+impl Model for Net {
+    ghost use Rattle.constraint_net.specs.Networks.{Network};
+    ghost use Rattle.constraint_net.specs.Kept.{network_of, IsKeptNet};
+
+    ghost Value = { Network };
+
+    ghost view = { λ net. network_of net.domains net.tables net.constraints };
+
+    ghost invariant = { λ net. IsKeptNet net.domains net.tables net.constraints };
+}
+
+impl Net {
+    /// A network without variables, which takes no memory.
+    pub fn new(alloc: Global) -> Net
+        ensures { result ≡ record { domains = []; tables = []; constraints = []; work = 0 } }
+    {
+        Net {
+            domains: Domains::new(alloc),
+            tables: Vec::new(alloc),
+            constraints: Vec::new(alloc),
+        }
+    }
+
+    /// Adds a table of objects, each with its value in a field, and answers its number.
+    pub fn add_table(&mut self, pairs: &[(i32, i32)]) -> Result<u32, AllocError>
+        requires ascending { IsAscending pairs.now }
+        requires few { length self.old.tables < 2 ^ 32 }
+        ensures ok { IfOk result (λ number. (number ≡ length self.old.tables)
+            × (self.new ≡ record self.old { tables = self.old.tables ++ table_of pairs.now ∷ [] })) }
+        ensures err { OnErr result (self.new ≡ self.old) }
+    {
+        let number = self.tables.len() as u32;
+        let table = table(*self.tables.allocator(), pairs)?;
+        self.tables.push(table)?;
+        Ok(number)
+    }
+
+    /// Adds a variable with this domain, and answers its number.
+    pub fn add_var(&mut self, domain: Dom) -> Result<usize, AllocError>
+        ensures ok { IfOk result (λ number. (number ≡ length self.old.domains)
+            × (self.new ≡ record self.old { domains = self.old.domains ++ domain ∷ [] })) }
+        ensures err { OnErr result (self.new ≡ self.old) }
+        ensures domain { IsDomain domain }
+    {
+        self.domains.add(domain)
+    }
+
+    /// Asks from now on that the constraint holds. No domain changes before `settle_all`.
+    pub fn post(&mut self, kind: Kind, args: &[NetArg]) -> Result<(), AllocError>
+        requires { CanPost self.old.tables (length self.old.domains) kind args.now }
+        ensures { Posts self.old kind args.now result self.new }
+    {
+        let args = Vec::from_slice(*self.constraints.allocator(), args)?;
+        self.constraints.push(Constraint {
+            kind,
+            args: Sequence::from_vec(args),
+        })?;
+        Ok(())
+    }
+
+    /// Keeps the values of the variable that the other domain has too.
+    pub fn limit(&mut self, variable: usize, to: &Dom) -> Result<Change, AllocError>
+        requires { variable < length self.old.domains }
+        ensures { Limits self.old variable to.now result self.new }
+    {
+        Ok(self.domains.limit(variable, to))
+    }
+
+    /// The domain of the variable. None where there is no such variable.
+    pub fn get(&self, variable: usize) -> Option<&Dom>
+        ensures { MatchOption result (length self.now.domains ≤ variable)
+            (λ domain. slice_get self.now.domains variable ≡ Some domain.now) }
+    {
+        self.domains.variables.get(variable)
+    }
+
+    /// Takes values away until all constraints are consistent. After Collapsed and Memory some values may be gone;
+    /// after Memory the call may be made again.
+    pub fn settle_all(&mut self) -> Result<(), NetFault>
+        ensures settled { SettlesTo (AllConsistent self.old.tables self.old.constraints)
+            self.old.domains result self.new.domains }
+        ensures domains { All IsDomain self.new.domains }
+        ensures variables { length self.new.domains ≡ length self.old.domains }
+        ensures others { self.new ≡ record self.old { domains = self.new.domains; work = self.new.work } }
+        ensures counted { self.old.work ≤ self.new.work }
+    {
+        settle(
+            self.constraints.as_slice(),
+            self.tables.as_slice(),
+            &mut self.domains,
+        )
+    }
+
+    /// How many narrowings the network has made. It stays at the greatest number.
+    pub fn work(&self) -> u64
+        ensures { result ≡ self.now.work }
+    {
+        self.domains.work
+    }
+}
+
+// What the pairs give the objects, in their order.
+fn entries(alloc: Global, pairs: &[(i32, i32)]) -> Result<Vec<FieldEntry>, AllocError>
+    ensures { IfOk result (λ entries. entries.items ≡ given_by pairs.now) }
+{
+    let mut entries = Vec::with_capacity(alloc, pairs.len())?;
+    for (object, value) in pairs {
+        entries.push(FieldEntry {
+            object: *object,
+            value: *value,
+        })?;
+    }
+    Ok(entries)
+}
+
+// The table of these pairs.
+fn table(alloc: Global, pairs: &[(i32, i32)]) -> Result<Field, AllocError>
+    requires { IsAscending pairs.now }
+    ensures { IfOk result (λ table. table ≡ table_of pairs.now) }
+{
+    let entries = entries(alloc, pairs)?;
+    Field::new(entries)
+}

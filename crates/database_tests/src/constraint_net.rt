@@ -1,0 +1,211 @@
+//! Networks: that there is memory for each call, which no clause says, what settling leaves in rows worked out by
+//! hand, and how many narrowings it takes.
+
+ghost use Rattle.std.specs.Prelude.{◌≡◌, length};
+
+use super::shapes::Written::{Ends, Members};
+use super::shapes::{Shape, Written, made, shape};
+use constraint_net::NetArg::{Lit, Var};
+use constraint_net::{Net, NetFault};
+use domain_core::domain::{GREATEST_VALUE, LEAST_VALUE};
+use domain_core::{Change, Dom};
+use model_core::item::Kind;
+use std::alloc::Global;
+
+/// The number of a new variable with this domain.
+fn add(net: &mut Net, alloc: Global, written: Written) -> Option<usize> {
+    match made(alloc, written) {
+        Some(domain) => net.add_var(domain).ok(),
+        None => None,
+    }
+}
+
+/// What limiting the variable to a range answers.
+fn limit(net: &mut Net, variable: usize, lo: i32, hi: i32) -> Option<Change> {
+    if net.get(variable).is_none() {
+        return None;
+    }
+    match Dom::range(lo, hi) {
+        Some(range) => net.limit(variable, &range).ok(),
+        None => None,
+    }
+}
+
+/// What the variable may still be.
+fn left(net: &Net, variable: usize) -> Option<Shape> {
+    match net.get(variable) {
+        Some(domain) => Some(shape(domain)),
+        None => None,
+    }
+}
+
+fn post_eq(net: &mut Net, x: usize, y: usize) -> bool {
+    if net.get(x).is_none() || net.get(y).is_none() {
+        return false;
+    }
+    net.post(Kind::Eq, &[Var(x), Var(y)]).is_ok()
+}
+
+fn post_lt(net: &mut Net, x: usize, y: usize) -> bool {
+    if net.get(x).is_none() || net.get(y).is_none() {
+        return false;
+    }
+    net.post(Kind::Lt, &[Var(x), Var(y)]).is_ok()
+}
+
+fn post_leq(net: &mut Net, x: usize, y: usize) -> bool {
+    if net.get(x).is_none() || net.get(y).is_none() {
+        return false;
+    }
+    net.post(Kind::Leq, &[Var(x), Var(y)]).is_ok()
+}
+
+/// That z is three times x.
+fn post_thrice(net: &mut Net, x: usize, z: usize) -> bool {
+    if net.get(x).is_none() || net.get(z).is_none() {
+        return false;
+    }
+    net.post(Kind::MulEq, &[Var(x), Lit(3), Var(z)]).is_ok()
+}
+
+/// That b says whether x is at most 2.
+fn post_at_most_two(net: &mut Net, b: usize, x: usize) -> bool {
+    if net.get(b).is_none() || net.get(x).is_none() {
+        return false;
+    }
+    net.post(Kind::TestLeq, &[Var(b), Var(x), Lit(2)]).is_ok()
+}
+
+/// A range and a set that are equal.
+fn make_equal(net: &mut Net, alloc: Global) -> bool {
+    let added = add(net, alloc, Ends(0, 10)) == Some(0) && add(net, alloc, Members([2, 5, 9])) == Some(1);
+    added && post_eq(net, 0, 1)
+}
+
+/// What is left of the range and the set, and again after the range has become a single value.
+fn equal_run(alloc: Global) -> (bool, [Option<Shape>; 2], Option<Change>, [Option<Shape>; 2]) {
+    let mut net = Net::new(alloc);
+    let made = make_equal(&mut net, alloc) && net.settle_all().is_ok();
+    let before = [left(&net, 0), left(&net, 1)];
+    let change = limit(&mut net, 0, 5, 5);
+    let settled = net.settle_all().is_ok();
+    let after = [left(&net, 0), left(&net, 1)];
+    (made && settled, before, change, after)
+}
+
+#[test]
+fn a_range_and_a_set_are_equal(rt: HostRuntime) {
+    let (settled, before, change, after) = equal_run(rt.alloc());
+    assert!(rt; settled);
+    assert_eq!(rt; before, [Some((true, 2, 9, 8)), Some((false, 2, 9, 3))]);
+    assert_eq!(rt; change, Some(Change::Smaller));
+    assert_eq!(rt; after, [Some((true, 5, 5, 1)), Some((false, 5, 5, 1))]);
+}
+
+/// z is three times x, and b says whether x is at most 2.
+fn make_product(net: &mut Net, alloc: Global) -> bool {
+    let added = add(net, alloc, Ends(0, 10)) == Some(0)
+        && add(net, alloc, Ends(0, 10)) == Some(1)
+        && add(net, alloc, Members([0, 1, 1])) == Some(2);
+    added && post_thrice(net, 0, 1) && post_at_most_two(net, 2, 0)
+}
+
+/// What is left of x, z and b, and again after b has become false.
+fn product_run(alloc: Global) -> (bool, [Option<Shape>; 3], [Option<Shape>; 3]) {
+    let mut net = Net::new(alloc);
+    let made = make_product(&mut net, alloc) && net.settle_all().is_ok();
+    let before = [left(&net, 0), left(&net, 1), left(&net, 2)];
+    let settled = limit(&mut net, 2, 0, 0).is_some() && net.settle_all().is_ok();
+    let after = [left(&net, 0), left(&net, 1), left(&net, 2)];
+    (made && settled, before, after)
+}
+
+#[test]
+fn a_product_is_settled_before_and_after_a_test_is_false(rt: HostRuntime) {
+    let (settled, before, after) = product_run(rt.alloc());
+    assert!(rt; settled);
+    let open = [(true, 0, 3, 4), (true, 0, 9, 10), (false, 0, 1, 2)];
+    assert_eq!(rt; before, [Some(open[0]), Some(open[1]), Some(open[2])]);
+    let decided = [(true, 3, 3, 1), (true, 9, 9, 1), (false, 0, 0, 1)];
+    assert_eq!(rt; after, [Some(decided[0]), Some(decided[1]), Some(decided[2])]);
+}
+
+/// Each of two variables is less than the other.
+fn make_contradiction(net: &mut Net, alloc: Global) -> bool {
+    let added = add(net, alloc, Ends(LEAST_VALUE, GREATEST_VALUE)) == Some(0)
+        && add(net, alloc, Ends(LEAST_VALUE, GREATEST_VALUE)) == Some(1);
+    added && post_lt(net, 0, 1) && post_lt(net, 1, 0)
+}
+
+/// Why the two can't be settled.
+fn contradiction_run(alloc: Global) -> (bool, Option<NetFault>) {
+    let mut net = Net::new(alloc);
+    let made = make_contradiction(&mut net, alloc);
+    (made, net.settle_all().err())
+}
+
+#[test]
+fn orders_that_contradict_each_other_collapse(rt: HostRuntime) {
+    assert_eq!(rt; contradiction_run(rt.alloc()), (true, Some(NetFault::Collapsed)));
+}
+
+/// Objects with 5 in a field.
+fn post_field(net: &mut Net, objects: Dom) -> bool
+    requires { length net.old.tables ≡ 0 }
+{
+    let Ok(capacity) = net.add_table(&[(0, 5), (1, 7), (2, 5)]) else {
+        return false;
+    };
+    let Ok(object) = net.add_var(objects) else {
+        return false;
+    };
+    net.post(Kind::Field(capacity), &[Var(object), Lit(5)]).is_ok()
+}
+
+/// What is left of the objects.
+fn field_run(alloc: Global) -> (bool, Option<Shape>) {
+    let mut net = Net::new(alloc);
+    let posted = match made(alloc, Members([0, 1, 2])) {
+        Some(objects) => post_field(&mut net, objects),
+        None => false,
+    };
+    let settled = net.settle_all().is_ok();
+    (posted && settled, left(&net, 0))
+}
+
+#[test]
+fn a_field_is_read_from_its_table(rt: HostRuntime) {
+    assert_eq!(rt; field_run(rt.alloc()), (true, Some((false, 0, 2, 2))));
+}
+
+/// Each of so many variables is at most the next one.
+fn make_chain(net: &mut Net, alloc: Global, count: usize) -> bool {
+    for number in 0..count {
+        if add(net, alloc, Ends(0, 1000)) != Some(number) {
+            return false;
+        }
+        if number > 0 && !post_leq(net, number - 1, number) {
+            return false;
+        }
+    }
+    true
+}
+
+/// How many narrowings settling takes after the first of so many variables has become less, and what is left of the
+/// last one.
+fn chain_run(alloc: Global, count: usize) -> (bool, u64, Option<Shape>) {
+    let mut net = Net::new(alloc);
+    let made = make_chain(&mut net, alloc, count) && net.settle_all().is_ok();
+    let before = net.work();
+    let settled = limit(&mut net, 0, 7, 9).is_some() && net.settle_all().is_ok();
+    let spent = net.work().saturating_sub(before);
+    (made && settled, spent, left(&net, count.saturating_sub(1)))
+}
+
+#[test]
+fn a_chain_takes_three_narrowings_a_variable(rt: HostRuntime) {
+    let (settled, spent, last) = chain_run(rt.alloc(), 100);
+    assert!(rt; settled);
+    assert!(rt; spent <= 300, "{spent}");
+    assert_eq!(rt; last, Some((true, 7, 1000, 994)));
+}

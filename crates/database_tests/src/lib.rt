@@ -1,0 +1,12 @@
+//! Tests of the crates of the plan database: what no clause says of them, as that a call succeeds where memory
+//! suffices, and what the answers are for cases that were worked out by hand.
+#![tactic(auto)]
+
+#[cfg(test)]
+mod constraint_net;
+#[cfg(test)]
+mod decision_log;
+#[cfg(test)]
+mod narrow_core;
+#[cfg(test)]
+mod shapes;
