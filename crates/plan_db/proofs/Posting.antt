@@ -22,7 +22,8 @@ use Rattle.model_core.specs.declared.variable.VarDecl.{VarDecl}
 use Rattle.model_core.specs.declared.variable.ValueKind.{ValueKind}
 use Rattle.model_core.specs.declared.variable.ValueKind.TheVariants as kinds
 use Rattle.model_core.specs.Kinds.{OfProblem, IsValueOf, IsOfKind, AreOfKind, AreArguments}
-use Rattle.model_core.specs.Lawful.{IsLawful, IsBuilt, IsPlain, IsOfGlobals, IsLawfulItem, IsLawfulEnum}
+use Rattle.model_core.specs.Lawful.{IsLawful, IsLawfulItem, IsLawfulEnum}
+use Rattle.plan_db.specs.Built.{IsBuilt, IsPlain, IsOfGlobals}
 use Rattle.model_core.specs.Variables.{HasBase}
 use Rattle.narrow_core.specs.declared.field.Field as tables
 use Rattle.plan_defs.proofs.Members.{get_all, get_below, all_from_get}

@@ -9,8 +9,9 @@ use Rattle.model_core.specs.declared.model.Model.{Model}
 use Rattle.model_core.specs.declared.variable.Base.{Base}
 use Rattle.model_core.specs.declared.variable.Base.TheVariants.{Given}
 use Rattle.model_core.specs.History.{History, standing}
-use Rattle.model_core.specs.Lawful.{IsLawful, IsBuilt}
-use Rattle.model_core.specs.State.{State, Entry}
+use Rattle.model_core.specs.Lawful.{IsLawful}
+use Rattle.plan_db.specs.Built.{IsBuilt}
+use Rattle.model_core.specs.State.{State, VarDomain}
 use Rattle.model_core.specs.Variables.{HasBase}
 use Rattle.plan_defs.specs.Closure.{IsLeast, IsCollapsed}
 use Rattle.plan_defs.specs.History.{IsHistory}
@@ -19,17 +20,13 @@ use Rattle.plan_db.specs.declared.fault.Outcome.{Outcome}
 use Rattle.plan_db.specs.declared.fault.Outcome.TheVariants.{Consistent, Inconsistent}
 
 -- the globals from this number on, with these domains
-abbrev pub entries_from : ℕ → List Domain → List Entry
+abbrev pub entries_from : ℕ → List Domain → List VarDomain
 entries_from number [] = []
 entries_from number (domain ∷ domains) = record { name = Global number; domain = domain } ∷ entries_from (number + 1) domains
 
 -- the state that these domains are: the globals, and no tokens
-abbrev pub state_of : List Domain → State
-state_of domains = record { tokens = []; blocks = []; entries = entries_from 0 domains }
-
--- the base gives a domain
-abbrev pub IsGiven : Base → Type 0
-IsGiven base = (domain : Domain) × (base ≡ Given domain)
+abbrev pub global_state : List Domain → State
+global_state domains = record { tokens = []; blocks = []; entries = entries_from 0 domains }
 
 -- each global has its base
 pub record AreBases (model : Model) (domains : List Domain) : Type 0 where
@@ -45,7 +42,7 @@ pub record IsKept (model : Model) (history : History) (kept : Option Network) : 
   pub lawful : IsLawful model
   pub built : IsBuilt model
   pub history_is : IsHistory model history
-  pub state : MatchOption kept (IsCollapsed model (standing history)) (λ net. IsLeast model (standing history) (state_of net.domains))
+  pub state : MatchOption kept (IsCollapsed model (standing history)) (λ net. IsLeast model (standing history) (global_state net.domains))
 
 -- whether there is a least state
 abbrev pub outcome_where : Option Network → Outcome

@@ -15,7 +15,7 @@ use Rattle.constraint_net.specs.declared.NetFault.TheVariants.{Collapsed, Memory
 use Rattle.constraint_net.specs.declared.constraint.Constraint.{Constraint}
 use Rattle.constraint_net.specs.declared.constraint.NetArg.{NetArg}
 use Rattle.constraint_net.specs.declared.constraint.NetArg.TheVariants.{Var, Lit}
-use Rattle.plan_db.specs.Kept.{state_of, AreBases}
+use Rattle.plan_db.specs.Kept.{global_state, AreBases}
 
 -- the argument is what the term means: a value, or the variable that has the global's number
 abbrev pub IsArgOf : Term → NetArg → Type 0
@@ -49,14 +49,14 @@ pub record IsNetOf (model : Model) (net : Network) : Type 0 where
 
 -- in these domains of the globals the decision is granted
 abbrev pub Grants : Decision → List Domain → Type 0
-Grants decision domains = IsRespected decision (state_of domains)
+Grants decision domains = IsRespected decision (global_state domains)
 
 -- all decisions are
 abbrev pub GrantsAll : List Decision → List Domain → Type 0
 GrantsAll decisions domains = (decision : Decision) → Contains decisions decision → Grants decision domains
 
 -- what the decisions leave: the network's domains are the least state, or there is none; want of memory says nothing
-abbrev pub Leaves : Model → List Decision → Result Network NetFault → Type 0
-Leaves model decisions (Ok net) = IsLeast model decisions (state_of net.domains)
-Leaves model decisions (Err Collapsed) = IsCollapsed model decisions
-Leaves model decisions (Err Memory) = ⊤
+abbrev pub LeavesNet : Model → List Decision → Result Network NetFault → Type 0
+LeavesNet model decisions (Ok net) = IsLeast model decisions (global_state net.domains)
+LeavesNet model decisions (Err Collapsed) = IsCollapsed model decisions
+LeavesNet model decisions (Err Memory) = ⊤

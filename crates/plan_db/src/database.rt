@@ -2,7 +2,8 @@
 
 ghost use Rattle.std.specs.Prelude.{◌≡◌, ◌+◌, [], ◌∷◌, length, IfOk, MatchBool, MatchResult};
 ghost use Rattle.model_core.specs.History.{standing};
-ghost use Rattle.model_core.specs.Lawful.{IsLawful, IsBuilt};
+ghost use Rattle.model_core.specs.Lawful.{IsLawful};
+ghost use Rattle.plan_db.specs.Built.{IsBuilt};
 ghost use Rattle.model_core.specs.State.{State};
 ghost use Rattle.plan_db.specs.Kept.{outcome_where};
 ghost use Rattle.plan_db.specs.Database.{IsSound, HasLeast, HasCollapsed, Applies, TakesBack, IsTold, IsUntold};

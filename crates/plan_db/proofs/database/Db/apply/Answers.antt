@@ -4,7 +4,7 @@ use Rattle.std.proofs.lemmas.Result.{err_from_is_err_and}
 use Rattle.model_core.specs.History.{standing, accepted}
 use Rattle.plan_defs.specs.Closure.{IsLeast, IsCollapsed}
 use Rattle.plan_defs.specs.Refusals.{IsAdmissible}
-use Rattle.plan_db.specs.Kept.{IsKept, state_of}
+use Rattle.plan_db.specs.Kept.{IsKept, global_state}
 use Rattle.plan_db.specs.Database.{Database, Finds, Applies}
 use Rattle.plan_defs.specs.History.{IsHistory}
 use Rattle.plan_db.proofs.Keeping.{least_kept, collapsed_kept, refused, admissible, IsHistory-accepted, outcome_is, pop_after_push}
@@ -20,16 +20,16 @@ returns-in_err-check-clause-applied c =
     let database : Database = record { model = c.self.inside.model; history = c.self.inside.log } in
     let least = least_kept _ _ _ c.self.invariant c.in-Some._least c.in-Some.is in
     let fault = c.in_err-check.field-0.0 in
-    let finds = subst (λ list. Finds c.self.inside.model list (state_of c.in-Some._least.domains) c.args.decision.now (Err fault)) c.standing.ensures (c.in_err-check.ensures (state_of c.in-Some._least.domains) least.closed.is_state) in
-    rw (p.1, p.2) (subst (λ db. Applies db c.args.decision.now (Err fault) db) c.self.view_is (refused database c.args.decision.now (state_of c.in-Some._least.domains) fault least finds))
+    let finds = subst (λ list. Finds c.self.inside.model list (global_state c.in-Some._least.domains) c.args.decision.now (Err fault)) c.standing.ensures (c.in_err-check.ensures (global_state c.in-Some._least.domains) least.closed.is_state) in
+    rw (p.1, p.2) (subst (λ db. Applies db c.args.decision.now (Err fault) db) c.self.view_is (refused database c.args.decision.now (global_state c.in-Some._least.domains) fault least finds))
 
 -- the decision is admissible, as the tests found nothing against it
 accepts : (c : Joined-self-net) → IsAdmissible c.self.inside.model (standing c.self.inside.log) c.args.decision.now
 accepts c =
     let database : Database = record { model = c.self.inside.model; history = c.self.inside.log } in
     let least = least_kept _ _ _ c.self.invariant c.in-Some._least c.in-Some.is in
-    let finds = subst (λ list. Finds c.self.inside.model list (state_of c.in-Some._least.domains) c.args.decision.now (Ok tt)) c.standing.ensures (c.in_ok-check.ensures (state_of c.in-Some._least.domains) least.closed.is_state) in
-    admissible database c.args.decision.now (state_of c.in-Some._least.domains) least finds
+    let finds = subst (λ list. Finds c.self.inside.model list (global_state c.in-Some._least.domains) c.args.decision.now (Ok tt)) c.standing.ensures (c.in_ok-check.ensures (global_state c.in-Some._least.domains) least.closed.is_state) in
+    admissible database c.args.decision.now (global_state c.in-Some._least.domains) least finds
 
 -- the log has one decision more
 logged : (c : Joined-self-net) → c.push.new.self ≡ accepted c.self.inside.log c.args.decision.now
@@ -40,7 +40,7 @@ keeps c = record {
   lawful = c.self.invariant.lawful;
   built = c.self.invariant.built;
   history_is = subst (IsHistory c.self.inside.model) (sym (logged c)) (IsHistory-accepted c.self.inside.model c.self.inside.log c.args.decision.now c.self.invariant.history_is (accepts c));
-  state = subst (λ list. MatchOption c.in-Ok.net (IsCollapsed c.self.inside.model list) (λ net. IsLeast c.self.inside.model list (state_of net.domains))) c.standing-2.ensures c.in-Ok.ensures;
+  state = subst (λ list. MatchOption c.in-Ok.net (IsCollapsed c.self.inside.model list) (λ net. IsLeast c.self.inside.model list (global_state net.domains))) c.standing-2.ensures c.in-Ok.ensures;
 }
 
 pub invariant_of-self-in-Ok : goal.invariant_of-self-in-Ok

@@ -1,7 +1,7 @@
 use Rattle.std.proofs.Common.{◌≡◌, [], ◌∷◌, length, refl, sym, ◌∙◌, subst}
 use Rattle.std.specs.Prelude.{MatchOption}
 use Rattle.plan_defs.specs.Closure.{IsLeast, IsCollapsed}
-use Rattle.plan_db.specs.Kept.{IsKept, state_of}
+use Rattle.plan_db.specs.Kept.{IsKept, global_state}
 use Rattle.plan_db.specs.Database.{Database}
 use Rattle.plan_db.proofs.Keeping.{first_history, outcome_is, standing_below, IsHistory-below}
 use Rattle.plan_db.proofs.database.Db.undo.Goals as goal
@@ -26,7 +26,7 @@ keeps c =
       lawful = c.self.invariant.lawful;
       built = c.self.invariant.built;
       history_is = IsHistory-below model old new c.in-Ok.decisions copied.0 c.self.invariant.history_is copied.1 undone.3;
-      state = subst (λ decisions. MatchOption c.in_ok-net.net (IsCollapsed model decisions) (λ net. IsLeast model decisions (state_of net.domains))) list c.in_ok-net.ensures;
+      state = subst (λ decisions. MatchOption c.in_ok-net.net (IsCollapsed model decisions) (λ net. IsLeast model decisions (global_state net.domains))) list c.in_ok-net.ensures;
     }
 
 pub invariant_of-self : goal.invariant_of-self
