@@ -1,5 +1,5 @@
 -- What the database keeps, through its calls.
-use Rattle.std.proofs.Common.{◌≡◌, List, [], ◌∷◌, ◌++◌, length, Option, Some, None, Ok, Err, inl, refl, sym, ap, ◌∙◌, subst, arith}
+use Rattle.std.proofs.Common.{◌≡◌, ◌<◌, true, false, List, [], ◌∷◌, ◌++◌, length, Option, Some, None, Ok, Err, inl, refl, sym, ap, ◌∙◌, subst, arith}
 use Rattle.std.specs.Prelude.{MatchOption, MatchBool, is_some, slice_get, ◌≤◌, ℕ}
 use Rattle.constraint_net.specs.Networks.{Network}
 use Rattle.domain_core.specs.Domain.{Domain}
@@ -15,8 +15,8 @@ use Rattle.plan_defs.specs.Refusals.{IsAdmissible}
 use Rattle.plan_defs.specs.History.{IsHistory}
 use Rattle.plan_db.specs.declared.fault.DbFault.{DbFault}
 use Rattle.plan_db.specs.declared.fault.DbFault.TheVariants.{InInconsistent, Unknown, Decided, NotInDomain, Nothing, Memory}
-use Rattle.plan_db.specs.Kept.{IsKept, global_state, outcome_where}
-use Rattle.plan_db.specs.Database.{Database, OutcomeIs, Applies, Finds, HasLeast, HasCollapsed}
+use Rattle.plan_db.specs.Kept.{IsLeastNet, IsKept, global_state, outcome_where}
+use Rattle.plan_db.specs.Database.{Database, OutcomeIs, Applies, Finds, HasLeast, HasCollapsed, HasFormer}
 use Rattle.decision_log.specs.Undoing.{Pops}
 use Rattle.plan_db.proofs.Positions.{gives_at, given_at, number_same}
 
@@ -33,14 +33,30 @@ first_history model (decisions ∷ below ∷ former) is one = absurd (omega arit
 
 module _ (model : Model) (history : History) (kept : Option Network) (is : IsKept model history kept) where
   pub least_kept : (net : Network) → kept ≡ Some net → IsLeast model (standing history) (global_state net.domains)
-  least_kept net e = subst (λ o. MatchOption o (IsCollapsed model (standing history)) (λ d. IsLeast model (standing history) (global_state d.domains))) e is.state
+  least_kept net e = subst (IsLeastNet model (standing history)) e is.state
 
   pub collapsed_kept : kept ≡ None → IsCollapsed model (standing history)
-  collapsed_kept e = subst (λ o. MatchOption o (IsCollapsed model (standing history)) (λ d. IsLeast model (standing history) (global_state d.domains))) e is.state
+  collapsed_kept e = subst (IsLeastNet model (standing history)) e is.state
+
+-- where no network is kept the decisions collapse
+pub collapsed_where : (model : Model) (decisions : List Decision) (kept : Option Network) → IsLeastNet model decisions kept → is_some kept ≡ false → IsCollapsed model decisions
+collapsed_where model decisions None is none = is
+collapsed_where model decisions (Some net) is none = absurd (cc)
+
+-- and where one is kept they leave a least state
+pub least_where : (model : Model) (decisions : List Decision) (kept : Option Network) → IsLeastNet model decisions kept → is_some kept ≡ true → (state : State) × IsLeast model decisions state
+least_where model decisions None is some = absurd (cc)
+least_where model decisions (Some net) is some = (global_state net.domains, is)
+
+-- below the standing list of a history of two and more there is one
+pub has_former : (history : History) → 1 < length history → HasFormer history
+has_former [] long = absurd (omega (arith, long))
+has_former (decisions ∷ []) long = absurd (omega (arith, long))
+has_former (decisions ∷ below ∷ former) long = (below, (former, refl))
 
 -- the outcome that is answered is that of the decisions
 pub outcome_is : (database : Database) (kept : Option Network)
-    → MatchOption kept (IsCollapsed database.model (standing database.history)) (λ net. IsLeast database.model (standing database.history) (global_state net.domains)) → OutcomeIs database (outcome_where kept)
+    → IsLeastNet database.model (standing database.history) kept → OutcomeIs database (outcome_where kept)
 outcome_is database None collapsed = collapsed
 outcome_is database (Some net) least = (global_state net.domains, least)
 

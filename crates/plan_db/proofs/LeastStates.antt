@@ -91,15 +91,15 @@ module _ (model : Model) (decisions : List Decision) (net : Network) (lawful : I
     least_from_settled : IsLeast model decisions (global_state new)
     least_from_settled = record {
       closed = record {
-       consistent = record {
-        is_state = state_is;
-        tokens = λ token supported. absurd (no_root model built.roots token.root supported.root supported.is_root);
-        blocks = λ block entries supported. absurd (no_root model built.roots block.token.root supported.supported.root supported.supported.is_root);
-        in_base = in_base;
-        respected = settled.1.0;
-        claims = consistent;
-        timelines = timelines model decisions lawful built.roots (global_state new) state_is;
-       };
+        consistent = record {
+          is_state = state_is;
+          tokens = λ token supported. absurd (no_root model built.roots token.root supported.root supported.is_root);
+          blocks = λ block entries supported. absurd (no_root model built.roots block.token.root supported.supported.root supported.supported.is_root);
+          in_base = in_base;
+          respected = settled.1.0;
+          claims = consistent;
+          timelines = timelines model decisions lawful built.roots (global_state new) state_is;
+        };
         reusables = reusables model decisions lawful built.roots (global_state new) state_is;
         reservoirs = reservoirs model decisions lawful built.roots (global_state new) state_is;
       };

@@ -86,12 +86,13 @@ module _ (model : Model) (lawful : IsLawful model) where
   value_of_kind kinds.Bool value (inl is) = (omega (arith, ints, is), omega (arith, ints, is))
   value_of_kind kinds.Bool value (inr is) = (omega (arith, ints, is), omega (arith, ints, is))
   value_of_kind (kinds.Enum number) value is =
-      let few = (get_all IsLawfulEnum model.enums number is.0 lawful.enums is.3).few in
-      let below = get_below is.0.members is.1 is.2 is.5 in
-      (omega (arith, ints, is.4, few, below), omega (arith, ints, is.4, few, below))
+      let few = (get_all IsLawfulEnum model.enums number is.found lawful.enums is.is_enum).few in
+      let below = get_below is.found.members is.place is.member is.is_member in
+      let place = is.is_place in
+      (omega (arith, ints, place, few, below), omega (arith, ints, place, few, below))
   value_of_kind kinds.Object value is =
-      let below = get_below model.objects is.0 is.1 is.3 in
-      (omega (arith, ints, is.2, lawful.few_objects, below), omega (arith, ints, is.2, lawful.few_objects, below))
+      let below = get_below model.objects is.1.0 is.0 is.1.2 in
+      (omega (arith, ints, is.1.1, lawful.few_objects, below), omega (arith, ints, is.1.1, lawful.few_objects, below))
 
   -- the term is of some kind
   abbrev HasKind : Term → Type 0

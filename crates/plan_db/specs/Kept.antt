@@ -16,13 +16,15 @@ use Rattle.model_core.specs.Variables.{HasBase}
 use Rattle.plan_defs.specs.Closure.{IsLeast, IsCollapsed}
 use Rattle.plan_defs.specs.History.{IsHistory}
 use Rattle.constraint_net.specs.Networks.{Network}
+use Rattle.decision_log.specs.Undoing.{IsFormer}
 use Rattle.plan_db.specs.declared.fault.Outcome.{Outcome}
 use Rattle.plan_db.specs.declared.fault.Outcome.TheVariants.{Consistent, Inconsistent}
 
 -- the globals from this number on, with these domains
 abbrev pub entries_from : ℕ → List Domain → List VarDomain
 entries_from number [] = []
-entries_from number (domain ∷ domains) = record { name = Global number; domain = domain } ∷ entries_from (number + 1) domains
+entries_from number (domain ∷ domains) =
+    record { name = Global number; domain = domain } ∷ entries_from (number + 1) domains
 
 -- the state that these domains are: the globals, and no tokens
 abbrev pub global_state : List Domain → State
@@ -37,12 +39,21 @@ pub record AreBases (model : Model) (domains : List Domain) : Type 0 where
 abbrev pub HasOrder : List Decision → Type 0
 HasOrder decisions = (one other : TokenName) × Contains decisions (Order one other)
 
+-- the network's domains are the least state of the decisions, or there is no network and the decisions collapse
+abbrev pub IsLeastNet : Model → List Decision → Option Network → Type 0
+IsLeastNet model decisions kept =
+    MatchOption kept (IsCollapsed model decisions) (λ net. IsLeast model decisions (global_state net.domains))
+
+-- so it is of the list before the standing one
+abbrev pub HasLeastOfFormer : Model → History → Option Network → Type 0
+HasLeastOfFormer model history kept = (former : List Decision) × IsFormer history former × IsLeastNet model former kept
+
 -- what the database keeps beside the model and the history: the least state, or that there is none
 pub record IsKept (model : Model) (history : History) (kept : Option Network) : Type 0 where
   pub lawful : IsLawful model
   pub built : IsBuilt model
   pub history_is : IsHistory model history
-  pub state : MatchOption kept (IsCollapsed model (standing history)) (λ net. IsLeast model (standing history) (global_state net.domains))
+  pub state : IsLeastNet model (standing history) kept
 
 -- whether there is a least state
 abbrev pub outcome_where : Option Network → Outcome

@@ -25,7 +25,8 @@ IsArgOf term arg = ⊥
 
 -- the item can be posted in the network
 abbrev pub IsPostable : Network → Item → Type 0
-IsPostable net (items.Constraint kind terms) = (args : List NetArg) × AllZip IsArgOf terms args × CanPost net.tables (length net.domains) kind args
+IsPostable net (items.Constraint kind terms) =
+    (args : List NetArg) × AllZip IsArgOf terms args × CanPost net.tables (length net.domains) kind args
 IsPostable net (items.Relation relation slot) = ⊥
 
 -- the constraint is the one that the item says
@@ -35,11 +36,13 @@ IsPosted (items.Relation relation slot) constraint = ⊥
 
 -- the item's constraint stands behind those that were posted before
 abbrev pub PostsItem : Network → Item → Network → Type 0
-PostsItem old item new = (constraint : Constraint) × IsPosted item constraint × (new ≡ record old { constraints = old.constraints ++ constraint ∷ [] })
+PostsItem old item new =
+    (constraint : Constraint) × IsPosted item constraint × (new ≡ record old { constraints = old.constraints ++ constraint ∷ [] })
 
 -- so do the constraints of all items, in order
 abbrev pub PostsAll : Network → List Item → Network → Type 0
-PostsAll old items new = (posted : List Constraint) × AllZip IsPosted items posted × (new ≡ record old { constraints = old.constraints ++ posted })
+PostsAll old items new =
+    (posted : List Constraint) × AllZip IsPosted items posted × (new ≡ record old { constraints = old.constraints ++ posted })
 
 -- the network of a problem: a variable for each global, with its base, and the constraints in order
 pub record IsNetOf (model : Model) (net : Network) : Type 0 where
