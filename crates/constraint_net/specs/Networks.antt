@@ -1,7 +1,7 @@
 -- Networks: variables with their domains, and the constraints on them.
 use Rattle.std.specs.Prelude.{◌≡◌, ◌≢◌, ℕ, ◌<◌, ℤ, pos, List, [], ◌∷◌, All, length, ⊤, slice_get, IsSomeAnd}
 use Rattle.domain_core.specs.Domain.{Domain}
-use Rattle.model_core.specs.Constraints.{AgreeOn, count_of}
+use Rattle.model_core.specs.Constraints.{AgreeOn, arity_of}
 use Rattle.model_core.specs.declared.item.Kind.{Kind}
 use Rattle.model_core.specs.declared.item.Kind.TheVariants as kind
 use Rattle.narrow_core.specs.Meanings.{IsInTable}
@@ -48,5 +48,5 @@ IsAllowed tables kind args = ⊤
 -- a constraint of this kind may be posted on these arguments
 pub record CanPost (tables : List Field) (variables : ℕ) (kind : Kind) (args : List NetArg) : Type 0 where
   pub arguments : All (IsArgument variables) args
-  pub count : length args ≡ count_of kind
+  pub count : length args ≡ arity_of kind
   pub allowed : IsAllowed tables kind args

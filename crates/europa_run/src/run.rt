@@ -1,7 +1,8 @@
 //! A run of the program.
 
 ghost use Rattle.std.specs.Prelude.{◌≡◌};
-ghost use Rattle.model_core.specs.Lawful.{IsLawful, IsBuilt};
+ghost use Rattle.model_core.specs.Lawful.{IsLawful};
+ghost use Rattle.plan_db.specs.Built.{IsBuilt};
 ghost use Rattle.europa_run.specs.CommandLine.{AreNoScript, AreNoCommand};
 ghost use Rattle.europa_run.specs.Pieces.{ScriptTells, RoseAtReadFault, status_of};
 ghost use Rattle.europa_run.specs.Runs.{Runs, StopsAtReadFault, CountsReads, CountsWrites};

@@ -82,10 +82,10 @@ parameter_small model number pred params name found lawful is_pred are some =
 -- no global, where no variable has the label
 pub no_global : (model : Model) (text : NameText) (label : List ℕ) → None ≡ global_named model label → label ≡ text.label → text.tail ≡ tails.None
     → (variable : VarName) → NamesVariable model text variable → ⊥
-no_global model text label none same tail (Global number) (steps, whole, (variable, stands, named)) =
-    none_named 0 label model.problem.globals number variable none stands (named ∙ sym same)
-no_global model text label none same tail (Token token part) (slot, leads, (word, is, named)) = cc
-no_global model text label none same tail (Local token rule number) (slot, leads, is, declared) = cc
+no_global model text label none same tail (Global number) names =
+    none_named 0 label model.problem.globals number names.variable none names.is_global (names.label ∙ sym same)
+no_global model text label none same tail (Token token part) names = let is = names.tail in cc
+no_global model text label none same tail (Local token rule number) names = let is = names.tail in cc
 
 pub global_found : (model : Model) (label : List ℕ) (number : ℕ) → Some number ≡ global_named model label
     → (variable : VarDecl) × (slice_get model.problem.globals number ≡ Some variable) × (variable.name ≡ label)

@@ -45,7 +45,7 @@ part_text : (model : Model) (token : TokenName) (part : Part) (pred : ℕ) (word
     → ((slot : Slot) → HasToken model token slot → slot.pred ≡ pred) → IsPartWord model pred part word → ((slot : Slot) → HasToken model token slot → LeadsToToken model text token slot)
     → text.tail ≡ tails.Part word → NamesVariable model text (Token token part)
 part_text model token part pred word text (base, (slot, has, has_part)) preds named leads tail =
-    (slot, leads slot has, (word, tail, subst (λ (n : ℕ). IsPartWord model n part word) (sym (preds slot has)) named))
+    record { slot = slot; leads = leads slot has; word = word; tail = tail; is_word = subst (λ (n : ℕ). IsPartWord model n part word) (sym (preds slot has)) named }
 
 pub part_texts : {E : Type 0} (model : Model) (token : TokenName) (part : Part) (pred : ℕ) (word : List ℕ) (result : Result NameText E) → (base : Base) × HasBase model (Token token part) base
     → ((slot : Slot) → HasToken model token slot → slot.pred ≡ pred) → IsPartWord model pred part word
@@ -101,25 +101,29 @@ part_once model pred parts.Object (parts.Param n) word lawful first second = abs
 part_once model pred one other word lawful first second = absurd (omega (arith, ap (λ (letters : List ℕ). get_or letters 0 0) (sym first ∙ second)))
 
 pub names_one_variable : (model : Model) (text : NameText) (one other : VarName) → IsLawful model → NamesVariable model text one → NamesVariable model text other → one ≡ other
-names_one_variable model text (Global m) (Global n) lawful (steps, whole, (variable, stands, named)) (steps', whole', (variable', stands', named')) =
-    ap Global (global_once model m n variable variable' lawful stands stands' (named ∙ sym named'))
-names_one_variable model text (Token one part) (Token other part') lawful (slot, leads, (word, tail, named)) (slot', leads', (word', tail', named')) =
-    let same = leads_one model text one other slot slot' lawful leads leads' in
-    let words : word' ≡ word = cc in
-    let back = subst (λ (s : Slot). IsPartWord model s.pred part' word') (sym same.1) named' in
-    let parts : part ≡ part' = part_once model slot.pred part part' word lawful named (subst (λ (w : List ℕ). IsPartWord model slot.pred part' w) words back) in
+names_one_variable model text (Global m) (Global n) lawful p q =
+    ap Global (global_once model m n p.variable q.variable lawful p.is_global q.is_global (p.label ∙ sym q.label))
+names_one_variable model text (Token one part) (Token other part') lawful p q =
+    let same = leads_one model text one other p.slot q.slot lawful p.leads q.leads in
+    let tail = p.tail in
+    let tail' = q.tail in
+    let words : q.word ≡ p.word = cc in
+    let back = subst (λ (s : Slot). IsPartWord model s.pred part' q.word) (sym same.1) q.is_word in
+    let parts : part ≡ part' = part_once model p.slot.pred part part' p.word lawful p.is_word (subst (λ (w : List ℕ). IsPartWord model p.slot.pred part' w) words back) in
     λ i. Token (same.0 i) (parts i)
-names_one_variable model text (Local one rule number) (Local other rule' number') lawful (slot, leads, tail, declared) (slot', leads', tail', declared') =
-    let same = leads_one model text one other slot slot' lawful leads leads' in
+names_one_variable model text (Local one rule number) (Local other rule' number') lawful p q =
+    let same = leads_one model text one other p.slot q.slot lawful p.leads q.leads in
+    let tail = p.tail in
+    let tail' = q.tail in
     let rules : rule ≡ rule' = cc in
     let numbers : number ≡ number' = cc in
     λ i. Local (same.0 i) (rules i) (numbers i)
-names_one_variable model text (Global m) (Token other part) lawful (steps, whole, found) (slot, leads, (word, tail, named)) = cc
-names_one_variable model text (Global m) (Local other rule number) lawful (steps, whole, found) (slot, leads, tail, declared) = cc
-names_one_variable model text (Token one part) (Global n) lawful (slot, leads, (word, tail, named)) (steps, whole, found) = cc
-names_one_variable model text (Token one part) (Local other rule number) lawful (slot, leads, (word, tail, named)) (slot', leads', tail', declared) = cc
-names_one_variable model text (Local one rule number) (Global n) lawful (slot, leads, tail, declared) (steps, whole, found) = cc
-names_one_variable model text (Local one rule number) (Token other part) lawful (slot, leads, tail, declared) (slot', leads', (word, tail', named)) = cc
+names_one_variable model text (Global m) (Token other part) lawful p q = let tail = p.tail in let tail' = q.tail in cc
+names_one_variable model text (Global m) (Local other rule number) lawful p q = let tail = p.tail in let tail' = q.tail in cc
+names_one_variable model text (Token one part) (Global n) lawful p q = let tail = p.tail in let tail' = q.tail in cc
+names_one_variable model text (Token one part) (Local other rule number) lawful p q = let tail = p.tail in let tail' = q.tail in cc
+names_one_variable model text (Local one rule number) (Global n) lawful p q = let tail = p.tail in let tail' = q.tail in cc
+names_one_variable model text (Local one rule number) (Token other part) lawful p q = let tail = p.tail in let tail' = q.tail in cc
 
 -- ---- what there is
 
@@ -131,8 +135,11 @@ part_has_base model slot parts.Object word is = (slot.object, refl)
 part_has_base model slot (parts.Param number) word (variable, has, named) = (variable.base, (variable, has, refl))
 
 pub names_what_there_is : (model : Model) (text : NameText) (variable : VarName) → NamesVariable model text variable → (base : Base) × HasBase model variable base
-names_what_there_is model text (Global number) (steps, whole, (variable, stands, named)) = (variable.base, (variable, stands, refl))
-names_what_there_is model text (Token token part) (slot, leads, (word, tail, named)) =
-    let part = part_has_base model slot part word named in
-    (part.0, (slot, leads.has_token, part.1))
-names_what_there_is model text (Local token rule number) (slot, leads, tail, (variable, has)) = (variable.base, (slot, leads.has_token, (variable, has, refl)))
+names_what_there_is model text (Global number) names = (names.variable.base, (names.variable, names.is_global, refl))
+names_what_there_is model text (Token token part) names =
+    let part = part_has_base model names.slot part names.word names.is_word in
+    (part.0, (names.slot, names.leads.has_token, part.1))
+names_what_there_is model text (Local token rule number) names = (
+  names.variable.base,
+  record { slot = names.slot; has_token = names.leads.has_token; variable = names.variable; has_local = names.has_local; is_base = refl },
+)

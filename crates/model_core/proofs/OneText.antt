@@ -14,7 +14,7 @@ use Rattle.model_core.specs.declared.model.Root.{Root}
 use Rattle.model_core.specs.declared.rule.Slot.{Slot}
 use Rattle.model_core.specs.declared.variable.Base.{Base}
 use Rattle.model_core.specs.declared.variable.VarDecl.{VarDecl}
-use Rattle.model_core.specs.Names.{LeadsToToken, NamesToken, NamesVariable, IsPartWord}
+use Rattle.model_core.specs.Names.{IsOnly, LeadsToToken, NamesToken, NamesVariable, IsPartWord}
 use Rattle.model_core.specs.Tokens.{HasToken}
 use Rattle.model_core.specs.Variables.{HasBase}
 use Rattle.model_core.proofs.Leading.{token_once}
@@ -38,11 +38,11 @@ leading_once model one other token slot slot' first second tail =
     same_text one other (sym first.label ∙ (ap (λ (r : Root). r.label) roots ∙ second.label)) (sym first.steps ∙ second.steps) tail
 
 pub one_token_text : (model : Model) (token : TokenName) (slot : Slot) → HasToken model token slot
-    → (text : NameText) × NamesToken model text token × ((other : NameText) → NamesToken model other token → other ≡ text)
+    → (text : NameText) × IsOnly (λ named. NamesToken model named token) text
 one_token_text model token slot has =
     let text = text_of has.root.label token.steps tails.None in
     let leads = leading model token slot tails.None has in
-    (text, (refl, (slot, leads)), λ other names. leading_once model other text token names.1.0 slot names.1.1 leads names.0)
+    (text, record { names = (refl, (slot, leads)); only = λ other names. leading_once model other text token names.1.0 slot names.1.1 leads names.0 })
 
 -- a part has one word
 one_word : (model : Model) (pred : ℕ) (part : Part) (one other : List ℕ) → IsPartWord model pred part one → IsPartWord model pred part other → one ≡ other
@@ -56,30 +56,40 @@ one_word model pred (parts.Param number) one other (variable, has, named) (varia
     sym named ∙ (ap (λ (v : VarDecl). v.name) variables ∙ named')
 
 global_text : (model : Model) (number : ℕ) (variable : VarDecl) → slice_get model.problem.globals number ≡ Some variable
-    → (text : NameText) × NamesVariable model text (Global number) × ((other : NameText) → NamesVariable model other (Global number) → other ≡ text)
+    → (text : NameText) × IsOnly (λ named. NamesVariable model named (Global number)) text
 global_text model number variable stands = (
   text_of variable.name [] tails.None,
-  (refl, refl, (variable, stands, refl)),
-  λ other (steps, whole, (variable', stands', named)).
-      let variables : variable' ≡ variable = cc in
-      same_text other (text_of variable.name [] tails.None) (sym named ∙ ap (λ (v : VarDecl). v.name) variables) steps whole,
+  record {
+    names = record { steps = refl; tail = refl; variable = variable; is_global = stands; label = refl };
+    only = λ other p.
+        let stands' = p.is_global in
+        let variables : p.variable ≡ variable = cc in
+        same_text other (text_of variable.name [] tails.None) (sym p.label ∙ ap (λ (v : VarDecl). v.name) variables) p.steps p.tail;
+  },
 )
 
 pub one_variable_text : (model : Model) (variable : VarName) (base : Base) → HasBase model variable base
-    → (text : NameText) × NamesVariable model text variable × ((other : NameText) → NamesVariable model other variable → other ≡ text)
+    → (text : NameText) × IsOnly (λ named. NamesVariable model named variable) text
 one_variable_text model (Global number) base (variable, stands, is) = global_text model number variable stands
 one_variable_text model (Token token part) base (slot, has, has_part) =
     let word = part_has_word model slot part base has_part in
     let text = text_of has.root.label token.steps (tails.Part word.0) in
     let leads = leading model token slot (tails.Part word.0) has in (
       text,
-      (slot, leads, (word.0, refl, word.1)),
-      λ other (slot', leads', (word', tail, named)).
-          let slots : slot' ≡ slot = token_once model token slot' slot leads'.has_token has in
-          let words : word' ≡ word.0 = one_word model slot.pred part word' word.0 (subst (λ (s : Slot). IsPartWord model s.pred part word') slots named) word.1 in
-          leading_once model other text token slot' slot leads' leads (tail ∙ ap tails.Part words),
+      record {
+        names = record { slot = slot; leads = leads; word = word.0; tail = refl; is_word = word.1 };
+        only = λ other p.
+            let slots : p.slot ≡ slot = token_once model token p.slot slot p.leads.has_token has in
+            let words : p.word ≡ word.0 = one_word model slot.pred part p.word word.0 (subst (λ (s : Slot). IsPartWord model s.pred part p.word) slots p.is_word) word.1 in
+            leading_once model other text token p.slot slot p.leads leads (p.tail ∙ ap tails.Part words);
+      },
     )
-one_variable_text model (Local token rule number) base (slot, has, (variable, declared, is)) =
-    let text = text_of has.root.label token.steps (tails.Local rule number) in
-    let leads = leading model token slot (tails.Local rule number) has in
-    (text, (slot, leads, refl, (variable, declared)), λ other (slot', leads', tail, found). leading_once model other text token slot' slot leads' leads tail)
+one_variable_text model (Local token rule number) base has =
+    let text = text_of has.has_token.root.label token.steps (tails.Local rule number) in
+    let leads = leading model token has.slot (tails.Local rule number) has.has_token in (
+      text,
+      record {
+        names = record { slot = has.slot; leads = leads; tail = refl; variable = has.variable; has_local = has.has_local };
+        only = λ other p. leading_once model other text token p.slot has.slot p.leads leads p.tail;
+      },
+    )

@@ -4,7 +4,7 @@ use Rattle.std.specs.Prelude.{IfOk, Contains, codes}
 use Rattle.std.proofs.lemmas.Fmt.{decimal_digit}
 use Rattle.std.proofs.lemmas.Int.{ints}
 use Rattle.std.proofs.lemmas.List.Elements.{All-from_recursion}
-use Rattle.domain_core.specs.Domain.{Domain, Set, IsDomain, IsValue, Has, AreAscending}
+use Rattle.domain_core.specs.Domain.{Domain, Range, Set, IsDomain, IsValue, Has, AreAscending}
 use Rattle.domain_core.specs.Lists.{MakesSet}
 use Rattle.eu_name.specs.Word.{IsName}
 use Rattle.model_core.specs.declared.class.Class.{Class}
@@ -22,7 +22,8 @@ use Rattle.model_core.specs.Entries.{Entries}
 use Rattle.model_core.specs.Kinds.{IsObjectOf, IsInKind, OfProblem}
 use Rattle.model_core.specs.Lawful.{IsLawfulVariable, IsLawfulClass, IsLawfulObject, IsLawfulSlot, IsLawfulItem, IsLawfulEntry, IsLawfulRule, IsLawfulPred, IsLawfulRoot, IsLawful}
 use Rattle.model_core.specs.Naming.{builtin_names, file_names, declared_names, IsGlobalName, IsParameterName}
-use Rattle.model_core.specs.Sample.{ranged, only, rover, spirit, at, coming, here, sample}
+use Rattle.model_core.specs.Sample.{ranged, spirit_alone, rover, spirit, at, coming, here, sample}
+use Rattle.model_core.specs.Variables.{IsGiven}
 use Rattle.model_core.specs.Standing.{StandsAt, StandsOnce, IsSeen, LeadsToBlock}
 use Rattle.model_core.proofs.Words.{not_contained, plain_name, differing}
 
@@ -33,7 +34,7 @@ contains_one x y (zero, within, is) = sym is
 contains_one x y (suc k, within, is) = absurd (omega (arith, within))
 
 -- a domain made of the one number is the set of it
-pub only_is : (domain : Domain) → MakesSet (pos 0 ∷ []) (Ok domain) → domain ≡ only
+pub only_is : (domain : Domain) → MakesSet (pos 0 ∷ []) (Ok domain) → domain ≡ spirit_alone
 only_is domain (members, is, are) = is ∙ ap Set (one_member members are.are.ascending are.are.some (λ value has. contains_one (pos 0) value ((are.same value).0 has)))
   where
     one_member : (members : List ℤ) → AreAscending members → 0 < length members → ((value : ℤ) → Contains members value → value ≡ pos 0) → members ≡ pos 0 ∷ []
@@ -53,7 +54,7 @@ lawful_ranged name greatest small = record {
   inside = record { values = λ value has. (omega (arith, ints, has), omega (arith, ints, small, has)); range = λ is_range. refl };
 }
 
-only_domain : IsDomain only
+only_domain : IsDomain spirit_alone
 only_domain = record {
   ascending = λ i j d below within. absurd (omega (arith, below, within));
   values = All-from_recursion IsValue (pos 0 ∷ []) ((omega (arith, ints), omega (arith, ints)), tt);
@@ -61,11 +62,11 @@ only_domain = record {
   few = omega arith;
 }
 
-only_object : (value : ℤ) → Has only value → IsObjectOf sample 0 value
-only_object value has = (0, spirit, contains_one (pos 0) value has, refl, ([], refl))
+only_object : (value : ℤ) → Has spirit_alone value → IsObjectOf sample 0 value
+only_object value has = (spirit, (0, contains_one (pos 0) value has, refl), ([], refl))
 
-only_inside : IsInKind sample kinds.Object only
-only_inside = record { values = λ value has. (0, spirit, contains_one (pos 0) value has, refl); range = λ is_range. absurd is_range }
+only_inside : IsInKind sample kinds.Object spirit_alone
+only_inside = record { values = λ value has. (spirit, (0, contains_one (pos 0) value has, refl)); range = λ is_range. absurd is_range }
 
 lawful_rover : (number : ℕ) (class : Class) → slice_get (rover ∷ []) number ≡ Some class → IsLawfulClass sample number class
 lawful_rover zero class stands =
@@ -120,10 +121,10 @@ slot_seen path = record { outer = []; inner = path; within = refl; place = 0; st
 lawful_entry : (path : List Turn) (place : ℕ) (what : Direct) → slice_get (direct coming.top) place ≡ Some what → (place < 2 ^ 16) × IsLawfulEntry sample 0 coming path what
 lawful_entry path zero what stands =
     let is : OfSlot 0 ≡ what = cc in
-    (omega arith, subst (IsLawfulEntry sample 0 coming path) is (record { pred = 0; object = Given only }, refl))
+    (omega arith, subst (IsLawfulEntry sample 0 coming path) is (record { pred = 0; object = Given spirit_alone }, refl))
 lawful_entry path (suc zero) what stands =
     let is : OfItem (Relation Any 0) ≡ what = cc in
-    (omega arith, subst (IsLawfulEntry sample 0 coming path) is ((record { pred = 0; object = Given only }, refl), slot_seen path))
+    (omega arith, subst (IsLawfulEntry sample 0 coming path) is ((record { pred = 0; object = Given spirit_alone }, refl), slot_seen path))
 lawful_entry path (suc (suc zero)) what stands =
     let is : OfLocal 0 ≡ what = cc in
     (omega arith, subst (IsLawfulEntry sample 0 coming path) is (ranged [] 9, refl))
@@ -186,7 +187,7 @@ lawful_at zero pred stands =
 lawful_at (suc number) pred stands = cc
 
 lawful_here : IsLawfulRoot sample here
-lawful_here = record { label = plain_name (codes "here") refl; pred = at; is_pred = refl; object = only_domain; inside = only_inside; objects = only_object }
+lawful_here = record { label = plain_name (codes "here") refl; pred = at; is_pred = refl; given = All-from_recursion (λ variable. IsGiven variable.base) at.params ((Range (pos 0) (pos 3), refl), tt); object = only_domain; inside = only_inside; objects = only_object }
 
 global_name : (number : ℕ) (variable : VarDecl) → slice_get sample.problem.globals number ≡ Some variable → IsGlobalName number variable.name
 global_name zero variable stands =

@@ -98,9 +98,11 @@ global_well model text number variable lawful steps whole stands named =
     ]
 
 pub variable_text_well_formed : (model : Model) (text : NameText) (variable : VarName) → IsLawful model → NamesVariable model text variable → IsWellFormed text
-variable_text_well_formed model text (Global number) lawful (steps, whole, (variable, stands, named)) = global_well model text number variable lawful steps whole stands named
-variable_text_well_formed model text (Token token part) lawful (slot, leads, (word, tail, named)) =
-    leads_well model text token slot lawful leads (subst IsTail (sym tail) (part_name model slot.pred part word lawful named))
-variable_text_well_formed model text (Local token rule number) lawful (slot, leads, tail, (variable, has)) =
-    let small = small_rule model slot.pred rule has.found lawful has.has_rule in
-    leads_well model text token slot lawful leads (subst IsTail (sym tail) (small.place, omega (arith, small.locals, item_within has.found.locals number variable has.declared)))
+variable_text_well_formed model text (Global number) lawful names = global_well model text number names.variable lawful names.steps names.tail names.is_global names.label
+variable_text_well_formed model text (Token token part) lawful names =
+    leads_well model text token names.slot lawful names.leads (subst IsTail (sym names.tail) (part_name model names.slot.pred part names.word lawful names.is_word))
+variable_text_well_formed model text (Local token rule number) lawful names =
+    let has = names.has_local in
+    let small = small_rule model names.slot.pred rule has.found lawful has.has_rule in
+    leads_well model text token names.slot lawful names.leads
+    (subst IsTail (sym names.tail) (small.place, omega (arith, small.locals, item_within has.found.locals number names.variable has.declared)))

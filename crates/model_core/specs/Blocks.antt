@@ -10,7 +10,7 @@ use Rattle.model_core.specs.declared.rule.Side.{Side}
 use Rattle.model_core.specs.declared.rule.Side.TheVariants.{Then, Otherwise}
 use Rattle.model_core.specs.declared.rule.Slot.{Slot}
 use Rattle.model_core.specs.declared.rule.Turn.{Turn}
-use Rattle.model_core.specs.Entries.{Entries, Nothing, Asks, Declares, Says, Branches}
+use Rattle.model_core.specs.Entries.{Entries, NoEntry, WithSlot, WithLocal, WithItem, WithBranch}
 use Rattle.model_core.specs.Tokens.{HasToken, HasRule}
 
 -- what stands directly in a block: a slot or a local by its number, an item, or a guard with its two blocks
@@ -22,11 +22,11 @@ pub data Direct : Type 0 where
 
 -- what stands directly in the block, in order
 abbrev pub direct : Entries → List Direct
-direct Nothing = []
-direct (Asks slot more) = OfSlot slot ∷ direct more
-direct (Declares local more) = OfLocal local ∷ direct more
-direct (Says item more) = OfItem item ∷ direct more
-direct (Branches guard then otherwise more) = OfBranch guard then otherwise ∷ direct more
+direct NoEntry = []
+direct (WithSlot slot more) = OfSlot slot ∷ direct more
+direct (WithLocal local more) = OfLocal local ∷ direct more
+direct (WithItem item more) = OfItem item ∷ direct more
+direct (WithBranch guard then otherwise more) = OfBranch guard then otherwise ∷ direct more
 
 -- the block of a branch on this side
 abbrev pub chosen : Side → Entries → Entries → Entries
@@ -37,8 +37,9 @@ chosen Otherwise then otherwise = otherwise
 abbrev pub Follows : (Guard → Side → Type 0) → Entries → List Turn → Entries → Type 0
 Follows Allows top [] block = block ≡ top
 Follows Allows top (turn ∷ path) block =
-    (guard : Guard) × ((then otherwise : Entries) × ((slice_get (direct top) turn.entry ≡ Some (OfBranch guard then otherwise)) × (Allows guard turn.side
-    × Follows Allows (chosen turn.side then otherwise) path block)))
+    (guard : Guard) × ((then otherwise : Entries)
+    × ((slice_get (direct top) turn.entry ≡ Some (OfBranch guard then otherwise))
+    × (Allows guard turn.side × Follows Allows (chosen turn.side then otherwise) path block)))
 
 -- a block of a token: of its rule of this number, the block to which the way leads
 pub record TokenBlock : Type 0 where

@@ -13,13 +13,15 @@ abbrev pub Admits : Reach → Domain → ℤ → Type 0
 Admits Values domain value = Has domain value
 Admits Ends domain value = IsBetweenEnds domain value
 
--- the value of the domain that stands between these others is part of a tuple that the constraint holds of and the others admit
+-- the value of the domain that stands between these others is part of a tuple that the constraint holds of and that the
+-- others admit
 abbrev pub IsSupported : Reach → (List ℤ → Type 0) → List Domain → ℤ → List Domain → Type 0
 IsSupported reach holds before value after =
-    (left right : List ℤ) × AllZip (Admits reach) before left × AllZip (Admits reach) after right × holds (left ++ value ∷ right)
+    (left right : List ℤ)
+    × AllZip (Admits reach) before left × AllZip (Admits reach) after right × holds (left ++ value ∷ right)
 
 -- each tested value of each domain has such a tuple
 abbrev pub AreConsistent : Reach → (List ℤ → Type 0) → List Domain → Type 0
 AreConsistent reach holds domains =
-    (before : List Domain) (domain : Domain) (after : List Domain) (value : ℤ) → domains ≡ before ++ domain ∷ after → IsTested domain value
-    → IsSupported reach holds before value after
+    (before : List Domain) (domain : Domain) (after : List Domain) (value : ℤ)
+    → domains ≡ before ++ domain ∷ after → IsTested domain value → IsSupported reach holds before value after

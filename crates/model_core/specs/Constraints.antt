@@ -37,13 +37,13 @@ reach_of TestLeq = Ends
 reach_of kind = Values
 
 -- how many arguments the constraint has; inequality of all is none that is posted, since its inequalities are
-abbrev pub count_of : Kind → ℕ
-count_of AddEq = 3
-count_of MulEq = 3
-count_of TestEq = 3
-count_of TestLeq = 3
-count_of AllDiff = 0
-count_of kind = 2
+abbrev pub arity_of : Kind → ℕ
+arity_of AddEq = 3
+arity_of MulEq = 3
+arity_of TestEq = 3
+arity_of TestLeq = 3
+arity_of AllDiff = 0
+arity_of kind = 2
 
 -- the arguments' domains support each other
 abbrev pub AgreeOn : (ℕ → ℤ → ℤ → Type 0) → Kind → List Domain → Type 0

@@ -6,20 +6,20 @@ use Rattle.model_core.specs.declared.rule.Guard.{Guard}
 -- the entries of a block in order: the first, and then those that follow
 pub data Entries : Type 0 where
   -- there is none
-  Nothing : Entries
+  NoEntry : Entries
   -- a slot of this number
-  Asks : ℕ → Entries → Entries
+  WithSlot : ℕ → Entries → Entries
   -- a local of this number
-  Declares : ℕ → Entries → Entries
+  WithLocal : ℕ → Entries → Entries
   -- what has to hold
-  Says : Item → Entries → Entries
+  WithItem : Item → Entries → Entries
   -- a guard, the entries of the block that opens where it is true, and those of the block that opens where it is false
-  Branches : Guard → Entries → Entries → Entries → Entries
+  WithBranch : Guard → Entries → Entries → Entries → Entries
 
 -- how many entries there are, those of the blocks in them too, and one more
-abbrev pub count : Entries → ℕ
-count Nothing = 1
-count (Asks slot more) = count more + 1
-count (Declares local more) = count more + 1
-count (Says item more) = count more + 1
-count (Branches guard then otherwise more) = count then + (count otherwise + count more) + 1
+abbrev pub size_of : Entries → ℕ
+size_of NoEntry = 1
+size_of (WithSlot slot more) = size_of more + 1
+size_of (WithLocal local more) = size_of more + 1
+size_of (WithItem item more) = size_of more + 1
+size_of (WithBranch guard then otherwise more) = size_of then + (size_of otherwise + size_of more) + 1

@@ -5,19 +5,19 @@ use denote.Param.Weighed.{most}
 use Rattle.model_core.specs.declared.rule.Entry.{Entry}
 use Rattle.model_core.specs.declared.rule.Entry.TheVariants.{Slot, Local, Item, Branch}
 use Rattle.model_core.specs.declared.rule.Block.TheDeep.{deep-Entry}
-use Rattle.model_core.specs.Entries.{Entries, Nothing, Asks, Declares, Says, Branches, count}
-use Rattle.model_core.specs.Block.{entries_of}
+use Rattle.model_core.specs.Entries.{Entries, NoEntry, WithSlot, WithLocal, WithItem, WithBranch, size_of}
+use Rattle.model_core.specs.Block.{plain_entries}
 
-some : (entries : Entries) → 1 ≤ count entries
-some Nothing = omega arith
-some (Asks slot more) = omega arith
-some (Declares local more) = omega arith
-some (Says item more) = omega arith
-some (Branches guard then otherwise more) = omega arith
+some : (entries : Entries) → 1 ≤ size_of entries
+some NoEntry = omega arith
+some (WithSlot slot more) = omega arith
+some (WithLocal local more) = omega arith
+some (WithItem item more) = omega arith
+some (WithBranch guard then otherwise more) = omega arith
 
-pub most_deep : (entries : List Entry) → most deep-Entry entries ≤ count (entries_of entries)
+pub most_deep : (entries : List Entry) → most deep-Entry entries ≤ size_of (plain_entries entries)
 most_deep [] = omega arith
-most_deep (Slot number ∷ more) = omega (arith, most_deep more, some (entries_of more))
-most_deep (Local number ∷ more) = omega (arith, most_deep more, some (entries_of more))
-most_deep (Item item ∷ more) = omega (arith, most_deep more, some (entries_of more))
-most_deep (Branch guard then otherwise ∷ more) = omega (arith, most_deep more, some (entries_of more))
+most_deep (Slot number ∷ more) = omega (arith, most_deep more, some (plain_entries more))
+most_deep (Local number ∷ more) = omega (arith, most_deep more, some (plain_entries more))
+most_deep (Item item ∷ more) = omega (arith, most_deep more, some (plain_entries more))
+most_deep (Branch guard then otherwise ∷ more) = omega (arith, most_deep more, some (plain_entries more))

@@ -21,11 +21,12 @@ use Rattle.model_core.specs.declared.variable.ValueKind.{ValueKind}
 use Rattle.model_core.specs.declared.variable.ValueKind.TheVariants as kinds
 use Rattle.model_core.specs.declared.variable.VarDecl.{VarDecl}
 use Rattle.model_core.specs.Tokens.{IsRoot}
-use Rattle.model_core.specs.Variables.{HasParameter}
+use Rattle.model_core.specs.Variables.{IsGlobal, HasParameter}
 
 -- the class of the first number extends that of the second
 abbrev pub IsParent : Model → ℕ → ℕ → Type 0
-IsParent model class parent = (found : Class) × (slice_get model.classes class ≡ Some found) × (found.parent ≡ Some parent)
+IsParent model class parent =
+    (found : Class) × (slice_get model.classes class ≡ Some found) × (found.parent ≡ Some parent)
 
 -- the classes lead up to the ancestor, each extending the next
 abbrev pub Climbs : Model → ℕ → List ℕ → ℕ → Type 0
@@ -36,10 +37,13 @@ Climbs model class (parent ∷ path) ancestor = IsParent model class parent × C
 abbrev pub IsUnder : Model → ℕ → ℕ → Type 0
 IsUnder model class ancestor = (path : List ℕ) × Climbs model class path ancestor
 
+-- the value is the number of this object
+abbrev pub IsObject : Model → ℤ → Object → Type 0
+IsObject model value object = (number : ℕ) × (value ≡ pos number) × (slice_get model.objects number ≡ Some object)
+
 -- the value is an object of the class, or of one under it
 abbrev pub IsObjectOf : Model → ℕ → ℤ → Type 0
-IsObjectOf model class value =
-    (number : ℕ) × (object : Object) × (value ≡ pos number) × (slice_get model.objects number ≡ Some object) × IsUnder model object.class class
+IsObjectOf model class value = (object : Object) × IsObject model value object × IsUnder model object.class class
 
 -- all that the base has are objects of the class
 abbrev pub AreObjectsOf : Model → ℕ → Base → Type 0
@@ -51,13 +55,21 @@ abbrev pub IsKind : Model → ValueKind → Type 0
 IsKind model (kinds.Enum number) = (found : Enum) × (slice_get model.enums number ≡ Some found)
 IsKind model kind = ⊤
 
+-- the value is the place of a member of the enum
+pub record IsMemberOf (model : Model) (number : ℕ) (value : ℤ) : Type 0 where
+  pub found : Enum
+  pub is_enum : slice_get model.enums number ≡ Some found
+  pub place : ℕ
+  pub is_place : value ≡ pos place
+  pub member : List ℕ
+  pub is_member : slice_get found.members place ≡ Some member
+
 -- the value is of the kind: any value, a truth, the place of a member, or the number of an object
 abbrev pub IsValueOf : Model → ValueKind → ℤ → Type 0
 IsValueOf model kinds.Int value = IsValue value
 IsValueOf model kinds.Bool value = (value ≡ pos 0) ⊎ (value ≡ pos 1)
-IsValueOf model (kinds.Enum number) value =
-    (found : Enum) × (place : ℕ) × (member : List ℕ) × (slice_get model.enums number ≡ Some found) × (value ≡ pos place) × (slice_get found.members place ≡ Some member)
-IsValueOf model kinds.Object value = (number : ℕ) × (object : Object) × (value ≡ pos number) × (slice_get model.objects number ≡ Some object)
+IsValueOf model (kinds.Enum number) value = IsMemberOf model number value
+IsValueOf model kinds.Object value = (object : Object) × IsObject model value object
 
 -- the domain lies in the kind: its values are of it, and only whole numbers have ranges
 pub record IsInKind (model : Model) (kind : ValueKind) (domain : Domain) : Type 0 where
@@ -72,7 +84,8 @@ IsBaseOf model kind Void = kind ≡ kinds.Object
 -- the part of a token of this predicate is of the kind
 abbrev pub IsPartOfKind : Model → ℕ → ValueKind → Part → Type 0
 IsPartOfKind model pred kind parts.Object = kind ≡ kinds.Object
-IsPartOfKind model pred kind (parts.Param number) = (variable : VarDecl) × HasParameter model pred number variable × (kind ≡ variable.kind)
+IsPartOfKind model pred kind (parts.Param number) =
+    (variable : VarDecl) × HasParameter model pred number variable × (kind ≡ variable.kind)
 IsPartOfKind model pred kind part = kind ≡ kinds.Int
 
 -- where a constraint stands: in the problem, or in a rule of the predicate of this number
@@ -83,11 +96,14 @@ pub data Scope : Type 0 where
 -- the term may be named there, and is of the kind; in the problem only values, globals and parts of roots may
 abbrev pub IsOfKind : Model → Scope → ValueKind → Term → Type 0
 IsOfKind model scope kind (terms.Lit value) = IsValueOf model kind value
-IsOfKind model scope kind (terms.Global number) = (variable : VarDecl) × (slice_get model.problem.globals number ≡ Some variable) × (kind ≡ variable.kind)
-IsOfKind model scope kind (terms.Root number part) = (root : Root) × IsRoot model number root × IsPartOfKind model root.pred kind part
+IsOfKind model scope kind (terms.Global number) = (variable : VarDecl) × IsGlobal model number variable × (kind ≡ variable.kind)
+IsOfKind model scope kind (terms.Root number part) =
+    (root : Root) × IsRoot model number root × IsPartOfKind model root.pred kind part
 IsOfKind model (OfRule pred rule) kind (terms.Here part) = IsPartOfKind model pred kind part
-IsOfKind model (OfRule pred rule) kind (terms.Slot number part) = (slot : Slot) × (slice_get rule.slots number ≡ Some slot) × IsPartOfKind model slot.pred kind part
-IsOfKind model (OfRule pred rule) kind (terms.Local number) = (variable : VarDecl) × (slice_get rule.locals number ≡ Some variable) × (kind ≡ variable.kind)
+IsOfKind model (OfRule pred rule) kind (terms.Slot number part) =
+    (slot : Slot) × (slice_get rule.slots number ≡ Some slot) × IsPartOfKind model slot.pred kind part
+IsOfKind model (OfRule pred rule) kind (terms.Local number) =
+    (variable : VarDecl) × (slice_get rule.locals number ≡ Some variable) × (kind ≡ variable.kind)
 IsOfKind model OfProblem kind term = ⊥
 
 -- all of them are of this kind
@@ -100,16 +116,19 @@ AreComparable model scope compared = (kind : ValueKind) × AreOfKind model scope
 
 -- whatever the part of a token of the predicate is, it is an object of the class
 abbrev pub IsPartOfClass : Model → ℕ → ℕ → Part → Type 0
-IsPartOfClass model pred class parts.Object = (found : Pred) × (slice_get model.preds pred ≡ Some found) × IsUnder model found.class class
-IsPartOfClass model pred class (parts.Param number) = (variable : VarDecl) × HasParameter model pred number variable × AreObjectsOf model class variable.base
+IsPartOfClass model pred class parts.Object =
+    (found : Pred) × (slice_get model.preds pred ≡ Some found) × IsUnder model found.class class
+IsPartOfClass model pred class (parts.Param number) =
+    (variable : VarDecl) × HasParameter model pred number variable × AreObjectsOf model class variable.base
 IsPartOfClass model pred class part = ⊥
 
 -- whatever the term stands for there, it is an object of the class
 abbrev pub IsOfClass : Model → Scope → ℕ → Term → Type 0
 IsOfClass model scope class (terms.Lit value) = IsObjectOf model class value
 IsOfClass model scope class (terms.Global number) =
-    (variable : VarDecl) × (slice_get model.problem.globals number ≡ Some variable) × AreObjectsOf model class variable.base
-IsOfClass model scope class (terms.Root number part) = (root : Root) × IsRoot model number root × IsPartOfClass model root.pred class part
+    (variable : VarDecl) × IsGlobal model number variable × AreObjectsOf model class variable.base
+IsOfClass model scope class (terms.Root number part) =
+    (root : Root) × IsRoot model number root × IsPartOfClass model root.pred class part
 IsOfClass model (OfRule pred rule) class (terms.Here part) = IsPartOfClass model pred class part
 IsOfClass model (OfRule pred rule) class (terms.Slot number part) =
     (slot : Slot) × (slice_get rule.slots number ≡ Some slot) × IsPartOfClass model slot.pred class part
@@ -128,7 +147,8 @@ pub record AccessesField (model : Model) (scope : Scope) (number : ℕ) (object 
   pub of_class : IsOfClass model scope class object
   pub value_kind : IsOfKind model scope variable.kind value
 
--- the terms may be the arguments of the constraint: of one kind where they are compared, whole numbers where they are added or ordered
+-- the terms may be the arguments of the constraint: of one kind where they are compared, whole numbers where they are added
+-- or ordered
 abbrev pub AreArguments : Model → Scope → Kind → List Term → Type 0
 AreArguments model scope Eq arguments = AreComparable model scope arguments
 AreArguments model scope Neq arguments = AreComparable model scope arguments
@@ -137,7 +157,9 @@ AreArguments model scope Leq arguments = AreOfKind model scope kinds.Int argumen
 AreArguments model scope AddEq arguments = AreOfKind model scope kinds.Int arguments
 AreArguments model scope MulEq (first ∷ terms.Lit factor ∷ product ∷ []) =
     AreOfKind model scope kinds.Int (first ∷ terms.Lit factor ∷ product ∷ []) × (factor ≡ pos 0 → ⊥)
-AreArguments model scope TestEq (truth ∷ compared) = IsOfKind model scope kinds.Bool truth × AreComparable model scope compared
-AreArguments model scope TestLeq (truth ∷ compared) = IsOfKind model scope kinds.Bool truth × AreOfKind model scope kinds.Int compared
+AreArguments model scope TestEq (truth ∷ compared) =
+    IsOfKind model scope kinds.Bool truth × AreComparable model scope compared
+AreArguments model scope TestLeq (truth ∷ compared) =
+    IsOfKind model scope kinds.Bool truth × AreOfKind model scope kinds.Int compared
 AreArguments model scope (Field number) (object ∷ value ∷ []) = AccessesField model scope number object value
 AreArguments model scope kind arguments = ⊥

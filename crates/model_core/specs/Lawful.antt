@@ -1,4 +1,4 @@
--- Which models can come from a text, and which of them the plan database serves so far.
+-- Which models are lawful: all that come from a text are, and perhaps others.
 use Rattle.std.specs.Prelude.{◌≡◌, ◌≢◌, ℕ, ◌+◌, ◌<◌, ◌≤◌, ◌^◌, pos, ◌≤ℤ◌, ◌<ℤ◌, Bool, true, false, ⊤, List, [], ◌∷◌, ◌++◌, Some, length, slice_get, All, AllPairs, Contains, codes, sum_by, count_by}
 use Rattle.std.specs.List.{AllZip}
 use Rattle.domain_core.specs.Domain.{Range, IsDomain, IsValue}
@@ -34,13 +34,13 @@ use Rattle.model_core.specs.declared.variable.Base.TheVariants.{Given, Void}
 use Rattle.model_core.specs.declared.variable.ValueKind.TheVariants as kinds
 use Rattle.model_core.specs.declared.variable.VarDecl.{VarDecl}
 use Rattle.model_core.specs.Blocks.{Direct, OfSlot, OfLocal, OfItem, OfBranch}
-use Rattle.model_core.specs.Constraints.{count_of}
-use Rattle.model_core.specs.Entries.{Entries, Nothing, Asks, Declares, Says, Branches}
+use Rattle.model_core.specs.Constraints.{arity_of}
+use Rattle.model_core.specs.Entries.{Entries, NoEntry, WithSlot, WithLocal, WithItem, WithBranch}
 use Rattle.model_core.specs.Kinds.{IsUnder, AreObjectsOf, IsKind, IsValueOf, IsBaseOf, Scope, OfProblem, OfRule, AreComparable, AreArguments}
 use Rattle.model_core.specs.Naming.{builtin_names, names_of, declared_names, file_names, IsGlobalName, IsObjectName, IsParameterName}
 use Rattle.model_core.specs.Standing.{StandsAt, StandsOnce, LeadsToBlock, IsTermSeen, IsItemSeen}
 use Rattle.model_core.specs.Tokens.{HasToken}
-use Rattle.model_core.specs.Variables.{HasBase}
+use Rattle.model_core.specs.Variables.{IsGlobal, HasBase, IsGiven}
 
 -- a base is void or a domain
 abbrev pub IsBase : Base → Type 0
@@ -60,11 +60,17 @@ pub record IsLawfulEnum (found : Enum) : Type 0 where
   pub some : 0 < length found.members
   pub few : length found.members ≤ 4096
 
+-- the class has first the fields of the one that it extends, and then its own
+pub record ExtendsFields (model : Model) (class : Class) (parent : ℕ) : Type 0 where
+  pub above : Class
+  pub own : List VarDecl
+  pub is_above : slice_get model.classes parent ≡ Some above
+  pub fields : class.fields ≡ above.fields ++ own
+
 -- the class of this number has the fields of the class that it extends and then its own, and extends no class that is under it
 pub record IsLawfulClass (model : Model) (number : ℕ) (class : Class) : Type 0 where
   pub name : IsName class.name
-  pub extends : (parent : ℕ) → class.parent ≡ Some parent →
-      (above : Class) × (own : List VarDecl) × (slice_get model.classes parent ≡ Some above) × (class.fields ≡ above.fields ++ own)
+  pub extends : (parent : ℕ) → class.parent ≡ Some parent → ExtendsFields model class parent
   pub no_circle : (parent : ℕ) → class.parent ≡ Some parent → IsUnder model parent number → ⊥
   pub fields : All (IsLawfulVariable model) class.fields
   pub names : All IsName (names_of class.fields)
@@ -75,7 +81,8 @@ abbrev pub IsLawfulKind : ObjectKind → Type 0
 IsLawfulKind object_kinds.Plain = ⊤
 IsLawfulKind object_kinds.Timeline = ⊤
 IsLawfulKind (object_kinds.Reusable capacity) = IsValue capacity × (pos 0 ≤ℤ capacity)
-IsLawfulKind (object_kinds.Reservoir initial low high) = IsValue low × IsValue high × (low ≤ℤ initial) × (initial ≤ℤ high)
+IsLawfulKind (object_kinds.Reservoir initial low high) =
+    IsValue low × IsValue high × (low ≤ℤ initial) × (initial ≤ℤ high)
 
 -- an object has one value for each field of its class, of the field's kind
 pub record IsLawfulObject (model : Model) (object : Object) : Type 0 where
@@ -95,8 +102,10 @@ pub record IsLawfulSlot (model : Model) (slot : Slot) : Type 0 where
 
 -- a constraint has as many arguments as its kind takes, and of the kinds that it takes; relations stand in rules only
 abbrev pub IsLawfulItem : Model → Scope → Item → Type 0
-IsLawfulItem model scope (Constraint kind arguments) = (length arguments ≡ count_of kind) × AreArguments model scope kind arguments
-IsLawfulItem model (OfRule pred rule) (Relation relation number) = (slot : Slot) × (slice_get rule.slots number ≡ Some slot)
+IsLawfulItem model scope (Constraint kind arguments) =
+    (length arguments ≡ arity_of kind) × AreArguments model scope kind arguments
+IsLawfulItem model (OfRule pred rule) (Relation relation number) =
+    (slot : Slot) × (slice_get rule.slots number ≡ Some slot)
 IsLawfulItem model OfProblem (Relation relation number) = ⊥
 
 -- the two sides of a guard are of one kind, and are seen from the block in which it stands
@@ -106,16 +115,20 @@ IsLawfulGuard model pred rule path (Equal left right) =
 IsLawfulGuard model pred rule path (Differ left right) =
     AreComparable model (OfRule pred rule) (left ∷ right ∷ []) × All (IsTermSeen rule.top path) (left ∷ right ∷ [])
 
--- what stands in the block to which the way leads: slots and locals that the rule has, lawful items that name what is seen from there, and lawful guards
+-- what stands in the block to which the way leads: slots and locals that the rule has, lawful items that name what is seen
+-- from there, and lawful guards
 abbrev pub IsLawfulEntry : Model → ℕ → Rule → List Turn → Direct → Type 0
 IsLawfulEntry model pred rule path (OfSlot number) = (slot : Slot) × (slice_get rule.slots number ≡ Some slot)
-IsLawfulEntry model pred rule path (OfLocal number) = (variable : VarDecl) × (slice_get rule.locals number ≡ Some variable)
-IsLawfulEntry model pred rule path (OfItem item) = IsLawfulItem model (OfRule pred rule) item × IsItemSeen rule.top path item
+IsLawfulEntry model pred rule path (OfLocal number) =
+    (variable : VarDecl) × (slice_get rule.locals number ≡ Some variable)
+IsLawfulEntry model pred rule path (OfItem item) =
+    IsLawfulItem model (OfRule pred rule) item × IsItemSeen rule.top path item
 IsLawfulEntry model pred rule path (OfBranch guard then otherwise) = IsLawfulGuard model pred rule path guard
 
 -- a rule of the predicate of this number: what stands in it is lawful, and each slot and local stands in it once
 pub record IsLawfulRule (model : Model) (pred : ℕ) (rule : Rule) : Type 0 where
-  pub entries : (path : List Turn) (place : ℕ) (what : Direct) → StandsAt rule.top path place what → (place < 2 ^ 16) × IsLawfulEntry model pred rule path what
+  pub entries : (path : List Turn) (place : ℕ) (what : Direct)
+      → StandsAt rule.top path place what → (place < 2 ^ 16) × IsLawfulEntry model pred rule path what
   pub nested : (path : List Turn) (block : Entries) → LeadsToBlock rule.top path block → length path < 16
   pub slots : All (IsLawfulSlot model) rule.slots
   pub slots_stand : (number : ℕ) → number < length rule.slots → StandsOnce rule.top (OfSlot number)
@@ -125,19 +138,19 @@ pub record IsLawfulRule (model : Model) (pred : ℕ) (rule : Rule) : Type 0 wher
 
 -- how many items stand in the blocks
 abbrev pub item_count : Entries → ℕ
-item_count Nothing = 0
-item_count (Asks slot more) = item_count more
-item_count (Declares local more) = item_count more
-item_count (Says item more) = item_count more + 1
-item_count (Branches guard then otherwise more) = item_count then + (item_count otherwise + item_count more)
+item_count NoEntry = 0
+item_count (WithSlot slot more) = item_count more
+item_count (WithLocal local more) = item_count more
+item_count (WithItem item more) = item_count more + 1
+item_count (WithBranch guard then otherwise more) = item_count then + (item_count otherwise + item_count more)
 
 -- how many guards stand in the blocks
 abbrev pub guard_count : Entries → ℕ
-guard_count Nothing = 0
-guard_count (Asks slot more) = guard_count more
-guard_count (Declares local more) = guard_count more
-guard_count (Says item more) = guard_count more
-guard_count (Branches guard then otherwise more) = guard_count then + (guard_count otherwise + guard_count more) + 1
+guard_count NoEntry = 0
+guard_count (WithSlot slot more) = guard_count more
+guard_count (WithLocal local more) = guard_count more
+guard_count (WithItem item more) = guard_count more
+guard_count (WithBranch guard then otherwise more) = guard_count then + (guard_count otherwise + guard_count more) + 1
 
 -- the rules of one predicate are few, and there is little in them together
 pub record AreFew (listed : List Rule) : Type 0 where
@@ -150,7 +163,8 @@ pub record AreFew (listed : List Rule) : Type 0 where
 -- what uses, produces or consumes has a quantity from 0 to 1,000,000 as its one parameter
 abbrev pub HasQuantity : PredKind → List VarDecl → Type 0
 HasQuantity Plain params = ⊤
-HasQuantity kind params = params ≡ record { name = codes "quantity"; kind = kinds.Int; base = Given (Range (pos 0) (pos 1000000)) } ∷ []
+HasQuantity kind params =
+    params ≡ record { name = codes "quantity"; kind = kinds.Int; base = Given (Range (pos 0) (pos 1000000)) } ∷ []
 
 -- the predicate of this number
 pub record IsLawfulPred (model : Model) (number : ℕ) (pred : Pred) : Type 0 where
@@ -168,11 +182,12 @@ pub record IsLawfulPred (model : Model) (number : ℕ) (pred : Pred) : Type 0 wh
   pub few : AreFew rules
   pub lawful : All (IsLawfulRule model number) rules
 
--- a root is of a predicate that there is, on one or more objects of the predicate's class
+-- a root is of a predicate that there is, none of whose parameters is void, on one or more objects of the predicate's class
 pub record IsLawfulRoot (model : Model) (root : Root) : Type 0 where
   pub label : IsName root.label
   pub pred : Pred
   pub is_pred : slice_get model.preds root.pred ≡ Some pred
+  pub given : All (λ variable. IsGiven variable.base) pred.params
   pub object : IsDomain root.object
   pub inside : IsBaseOf model kinds.Object (Given root.object)
   pub objects : AreObjectsOf model pred.class (Given root.object)
@@ -197,6 +212,7 @@ pub record IsHorizon (problem : Problem) : Type 0 where
   pub some_steps : 0 < problem.steps
   pub few_steps : problem.steps ≤ 1000000
 
+-- whether roots of this kind are facts
 abbrev pub is_fact : RootKind → Bool
 is_fact Fact = true
 is_fact kind = false
@@ -214,36 +230,16 @@ pub record IsLawful (model : Model) : Type 0 where
   pub few_globals : length model.problem.globals ≤ 4096
   pub few_items : length model.problem.items < 2 ^ 32
   pub enums : All IsLawfulEnum model.enums
-  pub classes : (number : ℕ) (class : Class) → slice_get model.classes number ≡ Some class → IsLawfulClass model number class
+  pub classes : (number : ℕ) (class : Class)
+      → slice_get model.classes number ≡ Some class → IsLawfulClass model number class
   pub objects : All (IsLawfulObject model) model.objects
-  pub preds : (number : ℕ) (pred : Pred) → slice_get model.preds number ≡ Some pred → IsLawfulPred model number pred
+  pub preds : (number : ℕ) (pred : Pred)
+      → slice_get model.preds number ≡ Some pred → IsLawfulPred model number pred
   pub pred_names : AllPairs (λ one other. one.class ≡ other.class → one.name ≢ other.name) model.preds
   pub roots : All (IsLawfulRoot model) model.problem.roots
   pub globals : All (IsLawfulVariable model) model.problem.globals
   pub items : All (IsLawfulItem model OfProblem) model.problem.items
   pub decisions : All (λ placed. IsLawfulDecision model placed.decision) model.problem.decisions
-  pub names : (number : ℕ) (variable : VarDecl) → slice_get model.problem.globals number ≡ Some variable → IsGlobalName number variable.name
+  pub names : (number : ℕ) (variable : VarDecl) → IsGlobal model number variable → IsGlobalName number variable.name
   pub not_builtin : All (λ name. Contains builtin_names name → ⊥) (declared_names model)
   pub distinct : AllPairs ◌≢◌ (file_names model)
-
--- a variable with a range of whole numbers
-abbrev pub IsRangeVariable : VarDecl → Type 0
-IsRangeVariable variable = (variable.kind ≡ kinds.Int) × ((lo hi : _) × (variable.base ≡ Given (Range lo hi)))
-
--- the term is a value or a global
-abbrev pub IsPlain : Term → Type 0
-IsPlain (Lit value) = ⊤
-IsPlain (Global number) = ⊤
-IsPlain term = ⊥
-
--- a constraint on globals and values, other than that of a field
-abbrev pub IsOfGlobals : Item → Type 0
-IsOfGlobals (Constraint (Field number) terms) = ⊥
-IsOfGlobals (Constraint kind terms) = All IsPlain terms
-IsOfGlobals (Relation relation slot) = ⊥
-
--- what the plan database is built for so far: no roots, globals with ranges, and constraints on these and on values
-pub record IsBuilt (model : Model) : Type 0 where
-  pub roots : model.problem.roots ≡ []
-  pub variables : All IsRangeVariable model.problem.globals
-  pub constraints : All IsOfGlobals model.problem.items

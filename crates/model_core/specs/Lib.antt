@@ -15,6 +15,7 @@ pub mod Standing
 pub mod Lawful
 pub mod Lookup
 pub mod Names
+pub mod Decided
 pub mod TokenStates
 pub mod Views
 pub mod Sample

@@ -9,7 +9,8 @@ use Rattle.model_core.specs.Tokens.{LeadsToSlot}
 -- the number of the first variable of this name, counted from here on
 abbrev pub first_named : ℕ → List ℕ → List VarDecl → Option ℕ
 first_named number name [] = None
-first_named number name (variable ∷ variables) = if bytes_eq variable.name name then Some number else first_named (number + 1) name variables
+first_named number name (variable ∷ variables) =
+    if bytes_eq variable.name name then Some number else first_named (number + 1) name variables
 
 -- the number of the global of this name
 abbrev pub global_named : Model → List ℕ → Option ℕ
@@ -18,4 +19,5 @@ global_named model name = first_named 0 name model.problem.globals
 -- the steps lead from a token of the one predicate to one of the other
 abbrev pub LeadsOn : Model → ℕ → List Step → ℕ → Type 0
 LeadsOn model pred [] reached = reached ≡ pred
-LeadsOn model pred (step ∷ steps) reached = (slot : Slot) × LeadsToSlot model pred step slot × LeadsOn model slot.pred steps reached
+LeadsOn model pred (step ∷ steps) reached =
+    (slot : Slot) × LeadsToSlot model pred step slot × LeadsOn model slot.pred steps reached

@@ -16,7 +16,7 @@ use Rattle.model_core.specs.declared.variable.Base.{Base}
 use Rattle.model_core.specs.declared.variable.VarDecl.{VarDecl}
 use Rattle.model_core.specs.Lawful.{IsLawful}
 use Rattle.model_core.specs.Tokens.{IsRoot, HasToken}
-use Rattle.model_core.specs.Variables.{HasBase, HasParameter, HasLocal}
+use Rattle.model_core.specs.Variables.{IsGlobal, HasBase, HasParameter, HasLocal}
 
 -- the token to which the steps lead from the root of this number
 abbrev pub token_at : ℕ → List Step → TokenName
@@ -40,43 +40,80 @@ IsPartWord model pred Start word = word ≡ codes "start"
 IsPartWord model pred End word = word ≡ codes "end"
 IsPartWord model pred Duration word = word ≡ codes "duration"
 IsPartWord model pred Object word = word ≡ codes "object"
-IsPartWord model pred (Param number) word = (variable : VarDecl) × HasParameter model pred number variable × (variable.name ≡ word)
+IsPartWord model pred (Param number) word =
+    (variable : VarDecl) × HasParameter model pred number variable × (variable.name ≡ word)
 
--- the text names the variable: a global by its name alone, and any other by its token with the word for the part, or with the numbers of the rule and the local
+-- the text names the global: by its name alone
+pub record NamesGlobal (model : Model) (text : NameText) (number : ℕ) : Type 0 where
+  pub steps : text.steps ≡ []
+  pub tail : text.tail ≡ tails.None
+  pub variable : VarDecl
+  pub is_global : IsGlobal model number variable
+  pub label : variable.name ≡ text.label
+
+-- the text names the part of the token: by the token with the word for the part
+pub record NamesPart (model : Model) (text : NameText) (token : TokenName) (part : Part) : Type 0 where
+  pub slot : Slot
+  pub leads : LeadsToToken model text token slot
+  pub word : List ℕ
+  pub tail : text.tail ≡ tails.Part word
+  pub is_word : IsPartWord model slot.pred part word
+
+-- the text names the local of the token: by the token with the numbers of the rule and the local
+pub record NamesLocal (model : Model) (text : NameText) (token : TokenName) (rule number : ℕ) : Type 0 where
+  pub slot : Slot
+  pub leads : LeadsToToken model text token slot
+  pub tail : text.tail ≡ tails.Local rule number
+  pub variable : VarDecl
+  pub has_local : HasLocal model slot rule number variable
+
+-- the text names the variable
 abbrev pub NamesVariable : Model → NameText → VarName → Type 0
-NamesVariable model text (Global number) =
-    (text.steps ≡ []) × (text.tail ≡ tails.None) × ((variable : VarDecl) × (slice_get model.problem.globals number ≡ Some variable) × (variable.name ≡ text.label))
-NamesVariable model text (Token token part) =
-    (slot : Slot) × LeadsToToken model text token slot × ((word : List ℕ) × (text.tail ≡ tails.Part word) × IsPartWord model slot.pred part word)
-NamesVariable model text (Local token rule number) =
-    (slot : Slot) × LeadsToToken model text token slot × (text.tail ≡ tails.Local rule number) × ((variable : VarDecl) × HasLocal model slot rule number variable)
+NamesVariable model text (Global number) = NamesGlobal model text number
+NamesVariable model text (Token token part) = NamesPart model text token part
+NamesVariable model text (Local token rule number) = NamesLocal model text token rule number
 
--- a text names at most one token of a lawful model, and at most one variable
+-- a text names at most one token of a lawful model
 abbrev pub NamesOneToken : Type 0
-NamesOneToken = (model : Model) (text : NameText) (one other : TokenName) → IsLawful model → NamesToken model text one → NamesToken model text other → one ≡ other
+NamesOneToken =
+    (model : Model) (text : NameText) (one other : TokenName)
+    → IsLawful model → NamesToken model text one → NamesToken model text other → one ≡ other
 
+-- and at most one variable
 abbrev pub NamesOneVariable : Type 0
 NamesOneVariable =
-    (model : Model) (text : NameText) (one other : VarName) → IsLawful model → NamesVariable model text one → NamesVariable model text other → one ≡ other
+    (model : Model) (text : NameText) (one other : VarName)
+    → IsLawful model → NamesVariable model text one → NamesVariable model text other → one ≡ other
 
 -- what a text names, the model has
 abbrev pub NamesWhatThereIs : Type 0
-NamesWhatThereIs = (model : Model) (text : NameText) (variable : VarName) → NamesVariable model text variable → (base : Base) × HasBase model variable base
+NamesWhatThereIs =
+    (model : Model) (text : NameText) (variable : VarName)
+    → NamesVariable model text variable → (base : Base) × HasBase model variable base
 
--- what names a token or a variable of a lawful model is well-formed, so it has a spelling, from which it is read back
+-- what names a token of a lawful model is well-formed, so it has a spelling, from which it is read back
 abbrev pub TokenTextsAreWellFormed : Type 0
-TokenTextsAreWellFormed = (model : Model) (text : NameText) (token : TokenName) → IsLawful model → NamesToken model text token → IsWellFormed text
+TokenTextsAreWellFormed =
+    (model : Model) (text : NameText) (token : TokenName) → IsLawful model → NamesToken model text token → IsWellFormed text
 
+-- so is what names a variable
 abbrev pub VariableTextsAreWellFormed : Type 0
-VariableTextsAreWellFormed = (model : Model) (text : NameText) (variable : VarName) → IsLawful model → NamesVariable model text variable → IsWellFormed text
+VariableTextsAreWellFormed =
+    (model : Model) (text : NameText) (variable : VarName) → IsLawful model → NamesVariable model text variable → IsWellFormed text
 
--- one text names each token that the model has, and one text names each variable
+-- the text is the one of which this holds
+pub record IsOnly (Names : NameText → Type 0) (text : NameText) : Type 0 where
+  pub names : Names text
+  pub only : (other : NameText) → Names other → other ≡ text
+
+-- one text names each token that the model has
 abbrev pub TokensHaveOneText : Type 0
 TokensHaveOneText =
-    (model : Model) (token : TokenName) (slot : Slot) → HasToken model token slot
-    → (text : NameText) × NamesToken model text token × ((other : NameText) → NamesToken model other token → other ≡ text)
+    (model : Model) (token : TokenName) (slot : Slot)
+    → HasToken model token slot → (text : NameText) × IsOnly (λ named. NamesToken model named token) text
 
+-- and one text names each variable
 abbrev pub VariablesHaveOneText : Type 0
 VariablesHaveOneText =
-    (model : Model) (variable : VarName) (base : Base) → HasBase model variable base
-    → (text : NameText) × NamesVariable model text variable × ((other : NameText) → NamesVariable model other variable → other ≡ text)
+    (model : Model) (variable : VarName) (base : Base)
+    → HasBase model variable base → (text : NameText) × IsOnly (λ named. NamesVariable model named variable) text

@@ -8,7 +8,8 @@ use Rattle.model_core.specs.declared.variable.VarDecl.{VarDecl}
 
 -- the names that the language gives to classes of its own; no file may declare them
 abbrev pub builtin_names : List (List ℕ)
-builtin_names = codes "Object" ∷ codes "Timeline" ∷ codes "Reusable" ∷ codes "Reservoir" ∷ codes "PlannerConfig" ∷ []
+builtin_names =
+    codes "Object" ∷ codes "Timeline" ∷ codes "Reusable" ∷ codes "Reservoir" ∷ codes "PlannerConfig" ∷ []
 
 -- the names of variables, in order
 abbrev pub names_of : List VarDecl → List (List ℕ)
@@ -40,6 +41,10 @@ IsGlobalName number name = IsName name ⊎ (name ≡ codes "!" ++ decimal number
 abbrev pub IsObjectName : List ℕ → Type 0
 IsObjectName name = (names : List (List ℕ)) × (0 < length names) × All IsName names × (name ≡ join_with_byte 46 names)
 
+-- the words for the parts that every token has
+abbrev pub part_words : List (List ℕ)
+part_words = codes "start" ∷ codes "end" ∷ codes "duration" ∷ codes "object" ∷ []
+
 -- a predicate's parameter isn't called like a part that every token has
 abbrev pub IsParameterName : List ℕ → Type 0
-IsParameterName name = IsName name × (Contains (codes "start" ∷ codes "end" ∷ codes "duration" ∷ codes "object" ∷ []) name → ⊥)
+IsParameterName name = IsName name × (Contains part_words name → ⊥)

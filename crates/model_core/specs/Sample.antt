@@ -17,15 +17,15 @@ use Rattle.model_core.specs.declared.rule.Rule.{Rule}
 use Rattle.model_core.specs.declared.variable.Base.TheVariants.{Given}
 use Rattle.model_core.specs.declared.variable.ValueKind.TheVariants.{Int}
 use Rattle.model_core.specs.declared.variable.VarDecl.{VarDecl}
-use Rattle.model_core.specs.Entries.{Nothing, Asks, Declares, Says}
+use Rattle.model_core.specs.Entries.{NoEntry, WithSlot, WithLocal, WithItem}
 
 -- a variable with a range from 0
 abbrev pub ranged : List ℕ → ℕ → VarDecl
 ranged name greatest = record { name = name; kind = Int; base = Given (Range (pos 0) (pos greatest)) }
 
 -- the one object
-abbrev pub only : Domain
-only = Set (pos 0 ∷ [])
+abbrev pub spirit_alone : Domain
+spirit_alone = Set (pos 0 ∷ [])
 
 abbrev pub rover : Class
 rover = record { name = codes "Rover"; parent = None; fields = [] }
@@ -38,13 +38,13 @@ at = record { class = 0; name = codes "At"; params = ranged (codes "place") 3 �
 
 abbrev pub coming : Rule
 coming = record {
-  top = Asks 0 (Says (Relation Any 0) (Declares 0 Nothing));
-  slots = record { pred = 0; object = Given only } ∷ [];
+  top = WithSlot 0 (WithItem (Relation Any 0) (WithLocal 0 NoEntry));
+  slots = record { pred = 0; object = Given spirit_alone } ∷ [];
   locals = ranged [] 9 ∷ [];
 }
 
 abbrev pub here : Root
-here = record { label = codes "here"; kind = Goal; pred = 0; object = only }
+here = record { label = codes "here"; kind = Goal; pred = 0; object = spirit_alone }
 
 abbrev pub sample : Model
 sample = record {

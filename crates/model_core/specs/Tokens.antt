@@ -28,7 +28,8 @@ pub record LeadsToSlot (model : Model) (pred : ℕ) (step : Step) (slot : Slot) 
 -- the steps lead from what the one slot asks for to what the other asks for
 abbrev pub Reaches : Model → Slot → List Step → Slot → Type 0
 Reaches model slot [] reached = reached ≡ slot
-Reaches model slot (step ∷ steps) reached = (next : Slot) × LeadsToSlot model slot.pred step next × Reaches model next steps reached
+Reaches model slot (step ∷ steps) reached =
+    (next : Slot) × LeadsToSlot model slot.pred step next × Reaches model next steps reached
 
 -- the problem posts this root
 abbrev pub IsRoot : Model → ℕ → Root → Type 0
@@ -38,7 +39,8 @@ IsRoot model number root = slice_get model.problem.roots number ≡ Some root
 abbrev pub slot_of : Root → Slot
 slot_of root = record { pred = root.pred; object = Given root.object }
 
--- the model has the token: it is a root, or the steps lead from the root to it; and the slot says of which predicate it is, and on which objects it may be
+-- the model has the token: it is a root, or the steps lead from the root to it; and the slot says of which predicate it is,
+-- and on which objects it may be
 pub record HasToken (model : Model) (token : TokenName) (slot : Slot) : Type 0 where
   pub root : Root
   pub is_root : IsRoot model token.root root
@@ -53,13 +55,13 @@ abbrev pub slot_token : TokenName → ℕ → ℕ → TokenName
 slot_token token rule slot = record { root = token.root; steps = token.steps ++ record { rule = rule; slot = slot } ∷ [] }
 
 -- the token is a root of this kind
-abbrev pub IsOfKind : Model → RootKind → TokenName → Type 0
-IsOfKind model kind token = (token.steps ≡ []) × ((root : Root) × IsRoot model token.root root × (root.kind ≡ kind))
+abbrev pub IsRootOfKind : Model → RootKind → TokenName → Type 0
+IsRootOfKind model kind token = (token.steps ≡ []) × ((root : Root) × IsRoot model token.root root × (root.kind ≡ kind))
 
 -- the token takes place whatever is decided
 abbrev pub IsFact : Model → TokenName → Type 0
-IsFact model token = IsOfKind model Fact token
+IsFact model token = IsRootOfKind model Fact token
 
 -- the token may be rejected
 abbrev pub IsRejectable : Model → TokenName → Type 0
-IsRejectable model token = IsOfKind model Rejectable token
+IsRejectable model token = IsRootOfKind model Rejectable token

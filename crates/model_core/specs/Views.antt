@@ -24,4 +24,5 @@ IsDomainAt state place variable_of found = MatchOption found
 -- the decisions put the token at the one place before the token at the other
 abbrev pub IsOrderedAt : State → List Decision → ℕ → ℕ → Type 0
 IsOrderedAt state decisions one other =
-    (first second : TokenName) × (IsTokenAt state one first × IsTokenAt state other second × Contains decisions (Order first second))
+    (first second : TokenName)
+    × (IsTokenAt state one first × IsTokenAt state other second × Contains decisions (Order first second))

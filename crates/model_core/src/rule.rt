@@ -80,12 +80,12 @@ impl Model for Block {
 
     ghost coded = { entries_code };
 
-    ghost use Rattle.model_core.specs.Entries.{count};
-    ghost use Rattle.model_core.specs.Block.{entries_of};
+    ghost use Rattle.model_core.specs.Entries.{size_of};
+    ghost use Rattle.model_core.specs.Block.{plain_entries};
 
-    ghost view = { λ inside. entries_of inside.entries.items };
+    ghost view = { λ inside. plain_entries inside.entries.items };
 
-    ghost size = { λ block. count block };
+    ghost size = { λ block. size_of block };
 
     ghost use Rattle.std.proofs.Common.{arith};
     ghost use Rattle.model_core.specs.Falls.{most_deep};

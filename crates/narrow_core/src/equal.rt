@@ -26,10 +26,10 @@ pub fn keep_apart(own: &mut Dom, other: &Dom) -> Change
 pub struct Eq;
 
 impl Narrow for Eq {
-    ghost use Rattle.model_core.specs.Constraints.{HoldsOf, count_of, reach_of};
+    ghost use Rattle.model_core.specs.Constraints.{HoldsOf, arity_of, reach_of};
     ghost use Rattle.model_core.specs.declared.item.Kind.TheVariants as kind;
 
-    ghost count = { λ _. count_of kind.Eq };
+    ghost count = { λ _. arity_of kind.Eq };
 
     ghost reach = { λ _. reach_of kind.Eq };
 
@@ -49,10 +49,10 @@ impl Narrow for Eq {
 pub struct Neq;
 
 impl Narrow for Neq {
-    ghost use Rattle.model_core.specs.Constraints.{HoldsOf, count_of, reach_of};
+    ghost use Rattle.model_core.specs.Constraints.{HoldsOf, arity_of, reach_of};
     ghost use Rattle.model_core.specs.declared.item.Kind.TheVariants as kind;
 
-    ghost count = { λ _. count_of kind.Neq };
+    ghost count = { λ _. arity_of kind.Neq };
 
     ghost reach = { λ _. reach_of kind.Neq };
 

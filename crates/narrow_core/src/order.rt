@@ -10,10 +10,10 @@ use domain_core::domain::Dom;
 pub struct Lt;
 
 impl Narrow for Lt {
-    ghost use Rattle.model_core.specs.Constraints.{HoldsOf, count_of, reach_of};
+    ghost use Rattle.model_core.specs.Constraints.{HoldsOf, arity_of, reach_of};
     ghost use Rattle.model_core.specs.declared.item.Kind.TheVariants as kind;
 
-    ghost count = { λ _. count_of kind.Lt };
+    ghost count = { λ _. arity_of kind.Lt };
 
     ghost reach = { λ _. reach_of kind.Lt };
 
@@ -33,10 +33,10 @@ impl Narrow for Lt {
 pub struct Leq;
 
 impl Narrow for Leq {
-    ghost use Rattle.model_core.specs.Constraints.{HoldsOf, count_of, reach_of};
+    ghost use Rattle.model_core.specs.Constraints.{HoldsOf, arity_of, reach_of};
     ghost use Rattle.model_core.specs.declared.item.Kind.TheVariants as kind;
 
-    ghost count = { λ _. count_of kind.Leq };
+    ghost count = { λ _. arity_of kind.Leq };
 
     ghost reach = { λ _. reach_of kind.Leq };
 

@@ -23,10 +23,10 @@ fn keep_differences(own: &mut Dom, added: &Dom, sum: &Dom) -> Change
 pub struct AddEq;
 
 impl Narrow for AddEq {
-    ghost use Rattle.model_core.specs.Constraints.{HoldsOf, count_of, reach_of};
+    ghost use Rattle.model_core.specs.Constraints.{HoldsOf, arity_of, reach_of};
     ghost use Rattle.model_core.specs.declared.item.Kind.TheVariants as kind;
 
-    ghost count = { λ _. count_of kind.AddEq };
+    ghost count = { λ _. arity_of kind.AddEq };
 
     ghost reach = { λ _. reach_of kind.AddEq };
 

@@ -127,10 +127,10 @@ fn keep_upper(truth: &Dom, own: &mut Dom, lower: &Dom) -> Change
 pub struct TestEq;
 
 impl Narrow for TestEq {
-    ghost use Rattle.model_core.specs.Constraints.{HoldsOf, count_of, reach_of};
+    ghost use Rattle.model_core.specs.Constraints.{HoldsOf, arity_of, reach_of};
     ghost use Rattle.model_core.specs.declared.item.Kind.TheVariants as kind;
 
-    ghost count = { λ _. count_of kind.TestEq };
+    ghost count = { λ _. arity_of kind.TestEq };
 
     ghost reach = { λ _. reach_of kind.TestEq };
 
@@ -151,10 +151,10 @@ impl Narrow for TestEq {
 pub struct TestLeq;
 
 impl Narrow for TestLeq {
-    ghost use Rattle.model_core.specs.Constraints.{HoldsOf, count_of, reach_of};
+    ghost use Rattle.model_core.specs.Constraints.{HoldsOf, arity_of, reach_of};
     ghost use Rattle.model_core.specs.declared.item.Kind.TheVariants as kind;
 
-    ghost count = { λ _. count_of kind.TestLeq };
+    ghost count = { λ _. arity_of kind.TestLeq };
 
     ghost reach = { λ _. reach_of kind.TestLeq };
 

@@ -9,7 +9,7 @@ use Rattle.model_core.specs.declared.model.Model.{Model}
 use Rattle.model_core.specs.declared.variable.Base.TheVariants.{Given}
 use Rattle.model_core.specs.declared.variable.VarDecl.{VarDecl}
 use Rattle.model_core.specs.State.{State, IsState}
-use Rattle.plan_defs.specs.Refusals.{Refusal, Unknown, Decided, NotInDomain, NotActive, NotSamePredicate, NotRejectable, SameToken, ActiveFull, place_of, IsKnown, IsDecided, IsDeclared, NeedsActive, Hinders, IsFirstRefusal}
+use Rattle.plan_defs.specs.Refusals.{Refusal, Unknown, Decided, NotInDomain, NotActive, NotSamePredicate, NotRejectable, SameToken, ActiveFull, rank_of, IsKnown, IsAlreadyDecided, IsDeclared, NeedsActive, Hinders, IsFirstRefusal}
 use Rattle.plan_defs.proofs.Members.{get_same}
 use Rattle.plan_db.proofs.Tokenless.{not_in_tokens, no_part, no_local}
 
@@ -40,39 +40,39 @@ module _ (model : Model) (decisions : List Decision) (state : State) (decision :
   pub first_unknown : (IsKnown state decision → ⊥) → IsFirstRefusal model decisions state decision Unknown
   first_unknown unknown = record { hinders = unknown; first = λ earlier before. absurd (omega arith) }
 
-  pub first_decided : IsKnown state decision → IsDecided model decisions decision → IsFirstRefusal model decisions state decision Decided
+  pub first_decided : IsKnown state decision → IsAlreadyDecided model decisions decision → IsFirstRefusal model decisions state decision Decided
   first_decided known decided = record { hinders = decided; first = first }
     where
-      first : (earlier : Refusal) → place_of earlier < 1 → Hinders model decisions state earlier decision → ⊥
+      first : (earlier : Refusal) → rank_of earlier < 1 → Hinders model decisions state earlier decision → ⊥
       first Unknown before unknown = unknown known
       first reason before hinders = absurd (omega arith)
 
-  pub first_not_in_domain : IsKnown state decision → (IsDecided model decisions decision → ⊥) → Hinders model decisions state NotInDomain decision → IsFirstRefusal model decisions state decision NotInDomain
+  pub first_not_in_domain : IsKnown state decision → (IsAlreadyDecided model decisions decision → ⊥) → Hinders model decisions state NotInDomain decision → IsFirstRefusal model decisions state decision NotInDomain
   first_not_in_domain known undecided hinders = record { hinders = hinders; first = first }
     where
-      first : (earlier : Refusal) → place_of earlier < 2 → Hinders model decisions state earlier decision → ⊥
+      first : (earlier : Refusal) → rank_of earlier < 2 → Hinders model decisions state earlier decision → ⊥
       first Unknown before unknown = unknown known
       first Decided before decided = undecided decided
       first reason before hinders = absurd (omega arith)
 
   -- against a decision on a global there are no other reasons
-  pub free_global : (number : ℕ) (value : ℤ) → decision ≡ Specify (Global number) value → IsKnown state decision → (IsDecided model decisions decision → ⊥) → IsDeclared model (Global number) value
+  pub free_global : (number : ℕ) (value : ℤ) → decision ≡ Specify (Global number) value → IsKnown state decision → (IsAlreadyDecided model decisions decision → ⊥) → IsDeclared model (Global number) value
       → (reason : Refusal) → Hinders model decisions state reason decision → ⊥
   free_global number value is known undecided declared Unknown unknown = unknown known
   free_global number value is known undecided declared Decided decided = undecided decided
   free_global number value is known undecided declared NotInDomain outside = subst (Hinders model decisions state NotInDomain) is outside declared
-  free_global number value is known undecided declared NotActive of_token = (subst (NeedsActive model decisions) is of_token).1
+  free_global number value is known undecided declared NotActive uncounted = subst (NeedsActive model decisions) is uncounted (λ token belongs rejectable. absurd belongs)
   free_global number value is known undecided declared NotSamePredicate hinders = subst (Hinders model decisions state NotSamePredicate) is hinders
   free_global number value is known undecided declared NotRejectable hinders = subst (Hinders model decisions state NotRejectable) is hinders
   free_global number value is known undecided declared SameToken hinders = subst (Hinders model decisions state SameToken) is hinders
   free_global number value is known undecided declared ActiveFull hinders = subst (Hinders model decisions state ActiveFull) is hinders
 
 module _ (model : Model) (decisions : List Decision) (decision : Decision) (number : ℕ) (value : ℤ) (is : decision ≡ Specify (Global number) value) where
-  pub decided : (other : ℤ) × Contains decisions (Specify (Global number) other) → IsDecided model decisions decision
-  decided found = subst (IsDecided model decisions) (sym is) found
+  pub decided : (other : ℤ) × Contains decisions (Specify (Global number) other) → IsAlreadyDecided model decisions decision
+  decided found = subst (IsAlreadyDecided model decisions) (sym is) found
 
-  pub undecided : ((other : ℤ) × Contains decisions (Specify (Global number) other) → ⊥) → IsDecided model decisions decision → ⊥
-  undecided none found = none (subst (IsDecided model decisions) is found)
+  pub undecided : ((other : ℤ) × Contains decisions (Specify (Global number) other) → ⊥) → IsAlreadyDecided model decisions decision → ⊥
+  undecided none found = none (subst (IsAlreadyDecided model decisions) is found)
 
 module _ (model : Model) (number : ℕ) (value : ℤ) (variable : VarDecl) (at : slice_get model.problem.globals number ≡ Some variable) where
   pub declared : (domain : Domain) × (variable.base ≡ Given domain) × Has domain value → IsDeclared model (Global number) value

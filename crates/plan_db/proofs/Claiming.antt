@@ -5,6 +5,7 @@ use Rattle.std.specs.List.{AllZip}
 use Rattle.std.proofs.lemmas.List.Elements.{All-head, All-tail, All-cons, All-nil}
 use Rattle.std.proofs.lemmas.Option.{slice_get-get_or}
 use Rattle.domain_core.specs.Domain.{Domain, Range}
+use Rattle.eu_name.specs.declared.name.TokenName.{TokenName}
 use Rattle.eu_name.specs.declared.name.VarName.TheVariants.{Global}
 use Rattle.model_core.specs.declared.decision.Decision.{Decision}
 use Rattle.model_core.specs.declared.item.Item.{Item}
@@ -15,11 +16,12 @@ use Rattle.model_core.specs.declared.item.Term.{Term}
 use Rattle.model_core.specs.declared.item.Term.TheVariants as terms
 use Rattle.model_core.specs.declared.model.Model.{Model}
 use Rattle.model_core.specs.Constraints.{AgreeOn}
-use Rattle.model_core.specs.Lawful.{IsOfGlobals}
+use Rattle.plan_db.specs.Built.{IsOfGlobals}
+use Rattle.model_core.specs.Decided.{IsTaken}
 use Rattle.model_core.specs.State.{State, Gives, AreInOrder}
-use Rattle.plan_defs.specs.Claims.{Claim, Says}
-use Rattle.plan_defs.specs.Consistency.{HasField, IsConsistent}
-use Rattle.plan_defs.specs.Terms.{OfProblem, Argument, Value, Variable, Means, HasDomain, Counts}
+use Rattle.plan_defs.specs.Claims.{Claim, ItemSays}
+use Rattle.plan_defs.specs.Consistency.{HasField, IsClaimConsistent}
+use Rattle.plan_defs.specs.Terms.{InProblem, Argument, Value, Variable, Means, HasDomain, ArgumentCounts}
 use Rattle.plan_defs.proofs.States.{gives_same}
 use Rattle.narrow_core.specs.declared.field.Field as tables
 use Rattle.constraint_net.specs.Arguments.{IsArgument, domain_of, domains_of}
@@ -36,35 +38,34 @@ abbrev meaning_of : NetArg → Argument
 meaning_of (Var variable) = Variable (Global variable)
 meaning_of (Lit value) = Value value
 
-term_means : (term : Term) (arg : NetArg) → IsArgOf term arg → Means OfProblem term (meaning_of arg)
+term_means : (term : Term) (arg : NetArg) → IsArgOf term arg → Means InProblem term (meaning_of arg)
 term_means (terms.Lit value) arg is = ap meaning_of is
 term_means (terms.Global number) arg is = ap meaning_of is
 term_means term arg is = absurd is
 
-terms_mean : (terms : List Term) (args : List NetArg) → AllZip IsArgOf terms args → AllZip (Means OfProblem) terms (map meaning_of args)
+terms_mean : (terms : List Term) (args : List NetArg) → AllZip IsArgOf terms args → AllZip (Means InProblem) terms (map meaning_of args)
 terms_mean [] [] zip = tt
 terms_mean [] (arg ∷ args) zip = absurd zip
 terms_mean (term ∷ terms) [] zip = absurd zip
 terms_mean (term ∷ terms) (arg ∷ args) zip = (term_means term arg zip.0, terms_mean terms args zip.1)
 
-term_counts : (model : Model) (decisions : List Decision) (term : Term) (arg : NetArg) → IsArgOf term arg → Counts model decisions term
-term_counts model decisions (terms.Lit value) arg is = tt
-term_counts model decisions (terms.Global number) arg is = tt
-term_counts model decisions term arg is = absurd is
+-- what is said of values and globals counts, whatever is taken
+arg_counts : (model : Model) (Taken : TokenName → Type 0) (arg : NetArg) → ArgumentCounts model Taken (meaning_of arg)
+arg_counts model Taken (Var variable) = λ token belongs rejectable. absurd belongs
+arg_counts model Taken (Lit value) = tt
 
-terms_count : (model : Model) (decisions : List Decision) (terms : List Term) (args : List NetArg) → AllZip IsArgOf terms args → All (Counts model decisions) terms
-terms_count model decisions [] args zip = All-nil (Counts model decisions)
-terms_count model decisions (term ∷ terms) [] zip = absurd zip
-terms_count model decisions (term ∷ terms) (arg ∷ args) zip =
-    All-cons (Counts model decisions) term terms (term_counts model decisions term arg zip.0) (terms_count model decisions terms args zip.1)
+args_count : (model : Model) (Taken : TokenName → Type 0) (args : List NetArg) → All (ArgumentCounts model Taken) (map meaning_of args)
+args_count model Taken [] = All-nil (ArgumentCounts model Taken)
+args_count model Taken (arg ∷ args) =
+    All-cons (ArgumentCounts model Taken) (meaning_of arg) (map meaning_of args) (arg_counts model Taken arg) (args_count model Taken args)
 
 -- a term has one meaning
-one_meaning : (term : Term) (arg : NetArg) (argument : Argument) → IsArgOf term arg → Means OfProblem term argument → argument ≡ meaning_of arg
+one_meaning : (term : Term) (arg : NetArg) (argument : Argument) → IsArgOf term arg → Means InProblem term argument → argument ≡ meaning_of arg
 one_meaning (terms.Lit value) arg argument is means = means ∙ sym (ap meaning_of is)
 one_meaning (terms.Global number) arg argument is means = means ∙ sym (ap meaning_of is)
 one_meaning term arg argument is means = absurd is
 
-one_meanings : (terms : List Term) (args : List NetArg) (arguments : List Argument) → AllZip IsArgOf terms args → AllZip (Means OfProblem) terms arguments → arguments ≡ map meaning_of args
+one_meanings : (terms : List Term) (args : List NetArg) (arguments : List Argument) → AllZip IsArgOf terms args → AllZip (Means InProblem) terms arguments → arguments ≡ map meaning_of args
 one_meanings [] [] [] zip means = refl
 one_meanings [] [] (argument ∷ arguments) zip means = absurd means
 one_meanings [] (arg ∷ args) arguments zip means = absurd zip
@@ -83,19 +84,19 @@ agree_as one other kind terms domains plain agree = agree
 -- ---- in a state that gives the globals these domains
 
 module _ (state : State) (order : AreInOrder state) (domains : List Domain) (given : (k : ℕ) (domain : Domain) → slice_get domains k ≡ Some domain → Gives state (Global k) domain) where
-  has_domain : (arg : NetArg) → IsArgument (length domains) arg → HasDomain state (meaning_of arg) (domain_of domains arg)
+  has_domain : (arg : NetArg) → IsArgument (length domains) arg → HasDomain (Gives state) (meaning_of arg) (domain_of domains arg)
   has_domain (Var variable) is = given variable _ (slice_get-get_or domains variable (Range (pos 0) (pos 0)) is)
   has_domain (Lit value) is = refl
 
-  have_domains : (args : List NetArg) → All (IsArgument (length domains)) args → AllZip (HasDomain state) (map meaning_of args) (domains_of domains args)
+  have_domains : (args : List NetArg) → All (IsArgument (length domains)) args → AllZip (HasDomain (Gives state)) (map meaning_of args) (domains_of domains args)
   have_domains [] are = tt
   have_domains (arg ∷ args) are = (has_domain arg (All-head (IsArgument (length domains)) arg args are), have_domains args (All-tail (IsArgument (length domains)) arg args are))
 
-  one_domain : (arg : NetArg) (domain : Domain) → IsArgument (length domains) arg → HasDomain state (meaning_of arg) domain → domain ≡ domain_of domains arg
+  one_domain : (arg : NetArg) (domain : Domain) → IsArgument (length domains) arg → HasDomain (Gives state) (meaning_of arg) domain → domain ≡ domain_of domains arg
   one_domain (Var variable) domain is has = gives_same state order (Global variable) domain _ has (has_domain (Var variable) is)
   one_domain (Lit value) domain is has = has
 
-  one_domains : (args : List NetArg) (others : List Domain) → All (IsArgument (length domains)) args → AllZip (HasDomain state) (map meaning_of args) others → others ≡ domains_of domains args
+  one_domains : (args : List NetArg) (others : List Domain) → All (IsArgument (length domains)) args → AllZip (HasDomain (Gives state)) (map meaning_of args) others → others ≡ domains_of domains args
   one_domains [] [] are zip = refl
   one_domains [] (other ∷ others) are zip = absurd zip
   one_domains (arg ∷ args) [] are zip = absurd zip
@@ -107,24 +108,28 @@ module _ (state : State) (order : AreInOrder state) (domains : List Domain) (giv
   module _ (model : Model) (decisions : List Decision) (tables : List tables.Field) (constraint : constraints.Constraint) (are : All (IsArgument (length domains)) constraint.args) where
     -- what the item says is consistent if its constraint is
     pub claim_consistent : (item : Item) → IsOfGlobals item → IsPosted item constraint → IsConsistentIn tables constraint domains
-        → (claim : Claim) → Says model decisions OfProblem item claim → IsConsistent model state claim
+        → (claim : Claim) → ItemSays model (IsTaken decisions) InProblem item claim → IsClaimConsistent model state claim
     claim_consistent (Relation relation slot) plain posted agree claim says = absurd plain
     claim_consistent (Constraint kind terms) plain posted agree claim says =
-        let arguments = one_meanings terms constraint.args claim.arguments posted.1 says.2 in
-        let kinds : constraint.kind ≡ claim.kind = posted.0 ∙ sym says.1 in
-        let of_claim : IsOfGlobals (Constraint claim.kind terms) = subst (λ k. IsOfGlobals (Constraint k terms)) (sym says.1) plain in (
-          domains_of domains constraint.args,
-          subst (λ list. AllZip (HasDomain state) list (domains_of domains constraint.args)) (sym arguments) (have_domains constraint.args are),
-          agree_as (field_of tables) (HasField model) claim.kind terms (domains_of domains constraint.args) of_claim (subst (λ k. AgreeOn (field_of tables) k (domains_of domains constraint.args)) kinds agree),
-        )
+        let arguments = one_meanings terms constraint.args claim.arguments posted.1 says.means in
+        let kinds : constraint.kind ≡ claim.kind = posted.0 ∙ sym says.is_kind in
+        let of_claim : IsOfGlobals (Constraint claim.kind terms) = subst (λ k. IsOfGlobals (Constraint k terms)) (sym says.is_kind) plain in record {
+          domains = domains_of domains constraint.args;
+          have = subst (λ list. AllZip (HasDomain (Gives state)) list (domains_of domains constraint.args)) (sym arguments) (have_domains constraint.args are);
+          agree = agree_as (field_of tables) (HasField model) claim.kind terms (domains_of domains constraint.args) of_claim (subst (λ k. AgreeOn (field_of tables) k (domains_of domains constraint.args)) kinds agree);
+        }
 
     -- and only then
     pub constraint_consistent : (item : Item) → IsOfGlobals item → IsPosted item constraint
-        → ((claim : Claim) → Says model decisions OfProblem item claim → IsConsistent model state claim) → IsConsistentIn tables constraint domains
+        → ((claim : Claim) → ItemSays model (IsTaken decisions) InProblem item claim → IsClaimConsistent model state claim) → IsConsistentIn tables constraint domains
     constraint_consistent (Relation relation slot) plain posted all = absurd plain
     constraint_consistent (Constraint kind terms) plain posted all =
         let claim : Claim = record { kind = kind; arguments = map meaning_of constraint.args } in
-        let consistent = all claim (terms_count model decisions terms constraint.args posted.1, refl, terms_mean terms constraint.args posted.1) in
-        let same = one_domains constraint.args consistent.0 are consistent.1 in
-        let agree : AgreeOn (HasField model) kind (domains_of domains constraint.args) = subst (AgreeOn (HasField model) kind) same consistent.2 in
+        let consistent = all claim (record {
+          is_kind = refl;
+          means = terms_mean terms constraint.args posted.1;
+          counts = args_count model (IsTaken decisions) constraint.args;
+        }) in
+        let same = one_domains constraint.args consistent.domains are consistent.have in
+        let agree : AgreeOn (HasField model) kind (domains_of domains constraint.args) = subst (AgreeOn (HasField model) kind) same consistent.agree in
         subst (λ k. AgreeOn (field_of tables) k (domains_of domains constraint.args)) (sym posted.0) (agree_as (HasField model) (field_of tables) kind terms (domains_of domains constraint.args) plain agree)

@@ -11,7 +11,8 @@ use Rattle.model_core.specs.declared.model.Model.{Model}
 use Rattle.model_core.specs.declared.variable.Base.{Base}
 use Rattle.model_core.specs.declared.variable.Base.TheVariants.{Given, Void}
 use Rattle.model_core.specs.declared.variable.VarDecl.{VarDecl}
-use Rattle.model_core.specs.Lawful.{IsLawful, IsBuilt, IsOfGlobals}
+use Rattle.model_core.specs.Lawful.{IsLawful}
+use Rattle.plan_db.specs.Built.{IsBuilt, IsOfGlobals}
 use Rattle.model_core.specs.State.{State, Gives, IsState}
 use Rattle.model_core.specs.Variables.{HasBase, IsInBase}
 use Rattle.plan_defs.specs.Closure.{IsRespected, IsClosed}
@@ -84,17 +85,17 @@ module _ (model : Model) (decisions : List Decision) (net : Network) (lawful : I
   -- those of a closed state lie within the bases and fit
   pub fit_closed : (state : State) → IsClosed model decisions state → (list : Found state) → FitWithin fits net.domains list.domains
   fit_closed state closed list = record {
-    are = all_from_get IsDomain list.domains (λ k domain at. gives_domain model state closed.is_state (Global k) domain (list.given k domain at));
+    are = all_from_get IsDomain list.domains (λ k domain at. gives_domain model state closed.consistent.is_state (Global k) domain (list.given k domain at));
     within = zip_from IsWithin list.domains net.domains list.long (λ k inner outer at_inner at_outer.
-        let in_base = closed.in_base (Global k) inner (list.given k inner at_inner) in
+        let in_base = closed.consistent.in_base (Global k) inner (list.given k inner at_inner) in
         lies_in model k outer (is.bases.each k outer at_outer) inner in_base.0 in_base.1 in_base.2);
-    fit = (λ decision member. granted_from state list.domains list.given decision (closed.respected decision member), all_from_get (λ constraint. IsConsistentIn net.tables constraint list.domains) net.constraints consistent_at);
+    fit = (λ decision member. granted_from state list.domains list.given decision (closed.consistent.respected decision member), all_from_get (λ constraint. IsConsistentIn net.tables constraint list.domains) net.constraints consistent_at);
   }
     where
       consistent_at : (k : ℕ) (constraint : constraints.Constraint) → slice_get net.constraints k ≡ Some constraint → IsConsistentIn net.tables constraint list.domains
       consistent_at k constraint at =
           let item = zip_right IsPosted model.problem.items net.constraints k constraint is.posted at in
-          constraint_consistent state closed.is_state.order list.domains list.given model decisions net.tables constraint
+          constraint_consistent state closed.consistent.is_state.order list.domains list.given model decisions net.tables constraint
           (are_there list.domains list.long k item.0 constraint item.1 item.2)
           item.0 (get_all IsOfGlobals model.problem.items k item.0 built.constraints item.1) item.2
-          (λ claim says. closed.consistent claim (inl (item.0, contains_from_get model.problem.items k item.0 item.1, says)))
+          (λ claim says. closed.consistent.claims claim (inl (record { item = item.0; stands = contains_from_get model.problem.items k item.0 item.1; says = says })))

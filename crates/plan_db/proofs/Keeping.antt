@@ -1,5 +1,5 @@
 -- What the database keeps, through its calls.
-use Rattle.std.proofs.Common.{◌≡◌, List, [], ◌∷◌, ◌++◌, length, Option, Some, None, Ok, Err, inl, refl, sym, ap, ◌∙◌, subst, arith}
+use Rattle.std.proofs.Common.{◌≡◌, ◌<◌, true, false, List, [], ◌∷◌, ◌++◌, length, Option, Some, None, Ok, Err, inl, refl, sym, ap, ◌∙◌, subst, arith}
 use Rattle.std.specs.Prelude.{MatchOption, MatchBool, is_some, slice_get, ◌≤◌, ℕ}
 use Rattle.constraint_net.specs.Networks.{Network}
 use Rattle.domain_core.specs.Domain.{Domain}
@@ -15,8 +15,8 @@ use Rattle.plan_defs.specs.Refusals.{IsAdmissible}
 use Rattle.plan_defs.specs.History.{IsHistory}
 use Rattle.plan_db.specs.declared.fault.DbFault.{DbFault}
 use Rattle.plan_db.specs.declared.fault.DbFault.TheVariants.{InInconsistent, Unknown, Decided, NotInDomain, Nothing, Memory}
-use Rattle.plan_db.specs.Kept.{IsKept, state_of, outcome_where}
-use Rattle.plan_db.specs.Database.{Database, OutcomeIs, Applies, Finds, HasLeast, HasCollapsed}
+use Rattle.plan_db.specs.Kept.{IsLeastNet, IsKept, global_state, outcome_where}
+use Rattle.plan_db.specs.Database.{Database, OutcomeIs, Applies, Finds, HasLeast, HasCollapsed, HasFormer}
 use Rattle.decision_log.specs.Undoing.{Pops}
 use Rattle.plan_db.proofs.Positions.{gives_at, given_at, number_same}
 
@@ -32,17 +32,33 @@ first_history model (decisions ∷ []) is one = ap (λ list. list ∷ []) is
 first_history model (decisions ∷ below ∷ former) is one = absurd (omega arith)
 
 module _ (model : Model) (history : History) (kept : Option Network) (is : IsKept model history kept) where
-  pub least_kept : (net : Network) → kept ≡ Some net → IsLeast model (standing history) (state_of net.domains)
-  least_kept net e = subst (λ o. MatchOption o (IsCollapsed model (standing history)) (λ d. IsLeast model (standing history) (state_of d.domains))) e is.state
+  pub least_kept : (net : Network) → kept ≡ Some net → IsLeast model (standing history) (global_state net.domains)
+  least_kept net e = subst (IsLeastNet model (standing history)) e is.state
 
   pub collapsed_kept : kept ≡ None → IsCollapsed model (standing history)
-  collapsed_kept e = subst (λ o. MatchOption o (IsCollapsed model (standing history)) (λ d. IsLeast model (standing history) (state_of d.domains))) e is.state
+  collapsed_kept e = subst (IsLeastNet model (standing history)) e is.state
+
+-- where no network is kept the decisions collapse
+pub collapsed_where : (model : Model) (decisions : List Decision) (kept : Option Network) → IsLeastNet model decisions kept → is_some kept ≡ false → IsCollapsed model decisions
+collapsed_where model decisions None is none = is
+collapsed_where model decisions (Some net) is none = absurd (cc)
+
+-- and where one is kept they leave a least state
+pub least_where : (model : Model) (decisions : List Decision) (kept : Option Network) → IsLeastNet model decisions kept → is_some kept ≡ true → (state : State) × IsLeast model decisions state
+least_where model decisions None is some = absurd (cc)
+least_where model decisions (Some net) is some = (global_state net.domains, is)
+
+-- below the standing list of a history of two and more there is one
+pub has_former : (history : History) → 1 < length history → HasFormer history
+has_former [] long = absurd (omega (arith, long))
+has_former (decisions ∷ []) long = absurd (omega (arith, long))
+has_former (decisions ∷ below ∷ former) long = (below, (former, refl))
 
 -- the outcome that is answered is that of the decisions
 pub outcome_is : (database : Database) (kept : Option Network)
-    → MatchOption kept (IsCollapsed database.model (standing database.history)) (λ net. IsLeast database.model (standing database.history) (state_of net.domains)) → OutcomeIs database (outcome_where kept)
+    → IsLeastNet database.model (standing database.history) kept → OutcomeIs database (outcome_where kept)
 outcome_is database None collapsed = collapsed
-outcome_is database (Some net) least = (state_of net.domains, least)
+outcome_is database (Some net) least = (global_state net.domains, least)
 
 -- a reason that the tests find in the least state is why the decision is refused
 pub refused : (database : Database) (decision : Decision) (state : State) (fault : DbFault) → HasLeast database state → Finds database.model (standing database.history) state decision (Err fault) → Applies database decision (Err fault) database
@@ -60,22 +76,22 @@ admissible database decision state least finds = record { state = state; least =
 -- whether the kept state is there says whether the decisions leave something
 pub consistent_kept : (database : Database) (kept : Option Network) → IsKept database.model database.history kept → MatchBool (is_some kept) ((state : State) × HasLeast database state) (HasCollapsed database)
 consistent_kept database None is = is.state
-consistent_kept database (Some net) is = (state_of net.domains, is.state)
+consistent_kept database (Some net) is = (global_state net.domains, is.state)
 
 -- a variable that isn't a global is in no kept state
-pub ungiven_other : (domains : List Domain) (name : VarName) → ((number : ℕ) → name ≡ Global number → ⊥) → (domain : Domain) → Gives (state_of domains) name domain → ⊥
+pub ungiven_other : (domains : List Domain) (name : VarName) → ((number : ℕ) → name ≡ Global number → ⊥) → (domain : Domain) → Gives (global_state domains) name domain → ⊥
 ungiven_other domains name other domain gives = let at = given_at domains name domain gives in other at.place at.is_global
 
 -- nor is a global past the last
-pub ungiven_past : (domains : List Domain) (name : VarName) (number : ℕ) → name ≡ Global number → length domains ≤ number → (domain : Domain) → Gives (state_of domains) name domain → ⊥
+pub ungiven_past : (domains : List Domain) (name : VarName) (number : ℕ) → name ≡ Global number → length domains ≤ number → (domain : Domain) → Gives (global_state domains) name domain → ⊥
 ungiven_past domains name number is past domain gives =
     let at = given_at domains name domain gives in
     let same = number_same number at.place (sym is ∙ at.is_global) in
     omega (arith, get_below domains at.place domain at.at)
 
 -- the others are
-pub given_there : (domains : List Domain) (name : VarName) (number : ℕ) (domain : Domain) → name ≡ Global number → slice_get domains number ≡ Some domain → Gives (state_of domains) name domain
-given_there domains name number domain is at = subst (λ n. Gives (state_of domains) n domain) (sym is) (gives_at domains number domain at)
+pub given_there : (domains : List Domain) (name : VarName) (number : ℕ) (domain : Domain) → name ≡ Global number → slice_get domains number ≡ Some domain → Gives (global_state domains) name domain
+given_there domains name number domain is at = subst (λ n. Gives (global_state domains) n domain) (sym is) (gives_at domains number domain at)
 
 -- the list that undo brings back is the one that was copied before
 pub standing_below : (old new : History) (former : List Decision) (below : History) → old ≡ standing old ∷ former ∷ below → old ≡ standing old ∷ new → standing new ≡ former

@@ -22,7 +22,8 @@ use Rattle.model_core.specs.declared.variable.VarDecl.{VarDecl}
 use Rattle.model_core.specs.declared.variable.ValueKind.{ValueKind}
 use Rattle.model_core.specs.declared.variable.ValueKind.TheVariants as kinds
 use Rattle.model_core.specs.Kinds.{OfProblem, IsValueOf, IsOfKind, AreOfKind, AreArguments}
-use Rattle.model_core.specs.Lawful.{IsLawful, IsBuilt, IsPlain, IsOfGlobals, IsLawfulItem, IsLawfulEnum}
+use Rattle.model_core.specs.Lawful.{IsLawful, IsLawfulItem, IsLawfulEnum}
+use Rattle.plan_db.specs.Built.{IsBuilt, IsPlain, IsOfGlobals}
 use Rattle.model_core.specs.Variables.{HasBase}
 use Rattle.narrow_core.specs.declared.field.Field as tables
 use Rattle.plan_defs.proofs.Members.{get_all, get_below, all_from_get}
@@ -85,12 +86,13 @@ module _ (model : Model) (lawful : IsLawful model) where
   value_of_kind kinds.Bool value (inl is) = (omega (arith, ints, is), omega (arith, ints, is))
   value_of_kind kinds.Bool value (inr is) = (omega (arith, ints, is), omega (arith, ints, is))
   value_of_kind (kinds.Enum number) value is =
-      let few = (get_all IsLawfulEnum model.enums number is.0 lawful.enums is.3).few in
-      let below = get_below is.0.members is.1 is.2 is.5 in
-      (omega (arith, ints, is.4, few, below), omega (arith, ints, is.4, few, below))
+      let few = (get_all IsLawfulEnum model.enums number is.found lawful.enums is.is_enum).few in
+      let below = get_below is.found.members is.place is.member is.is_member in
+      let place = is.is_place in
+      (omega (arith, ints, place, few, below), omega (arith, ints, place, few, below))
   value_of_kind kinds.Object value is =
-      let below = get_below model.objects is.0 is.1 is.3 in
-      (omega (arith, ints, is.2, lawful.few_objects, below), omega (arith, ints, is.2, lawful.few_objects, below))
+      let below = get_below model.objects is.1.0 is.0 is.1.2 in
+      (omega (arith, ints, is.1.1, lawful.few_objects, below), omega (arith, ints, is.1.1, lawful.few_objects, below))
 
   -- the term is of some kind
   abbrev HasKind : Term → Type 0

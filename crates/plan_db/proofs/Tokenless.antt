@@ -16,12 +16,13 @@ use Rattle.model_core.specs.declared.model.Root.{Root}
 use Rattle.model_core.specs.declared.rule.Slot.{Slot}
 use Rattle.model_core.specs.Blocks.{TokenBlock, IsBlock}
 use Rattle.model_core.specs.Entries.{Entries}
-use Rattle.model_core.specs.Lawful.{IsLawful, IsBuilt, IsLawfulObject, IsLawfulKind}
+use Rattle.model_core.specs.Kinds.{IsObject}
+use Rattle.model_core.specs.Lawful.{IsLawful, IsLawfulObject, IsLawfulKind}
+use Rattle.plan_db.specs.Built.{IsBuilt}
 use Rattle.model_core.specs.State.{State, Gives, IsState}
 use Rattle.model_core.specs.Tokens.{IsRoot, HasToken}
 use Rattle.plan_defs.specs.Claims.{part_of, at_most}
 use Rattle.plan_defs.specs.Closure.{IsCollapsed}
-use Rattle.plan_defs.specs.Consistency.{IsObject}
 use Rattle.plan_defs.specs.Resources.{FitReusables, FitReservoirs}
 use Rattle.plan_defs.specs.Terms.{HasDomain}
 use Rattle.plan_defs.specs.Timelines.{FitTimelines}
@@ -60,7 +61,7 @@ module _ (model : Model) (no_roots : model.problem.roots ≡ []) where
     pub no_local : (token : TokenName) (rule number : ℕ) (domain : Domain) → Gives state (Local token rule number) domain → ⊥
     no_local token rule number domain gives =
         let about = (ok.variables (Local token rule number)).1 (domain, gives) in
-        not_in_blocks about.0 about.1.0
+        not_in_blocks about.block about.is_open
 
 -- with no tokens no timeline has two that overlap, no reusable is used and no level changes
 module _ (model : Model) (decisions : List Decision) (lawful : IsLawful model) (no_roots : model.problem.roots ≡ []) (state : State) (ok : IsState model state) where
@@ -73,12 +74,12 @@ module _ (model : Model) (decisions : List Decision) (lawful : IsLawful model) (
   no_amounts Amount = subst (λ tokens. AllZip Amount tokens []) (sym (no_tokens model no_roots state ok)) tt
 
   pub timelines : FitTimelines model decisions state
-  timelines one other timeline apart one_active other_active is_timeline on_one on_other late = absurd (no_part model no_roots state ok one _ on_one.0 on_one.1)
+  timelines one other share late = absurd (no_part model no_roots state ok one _ share.one_on.0 share.one_on.1)
 
   pub reusables : FitReusables model decisions state
   reusables value object capacity instant is kind is_instant =
       let capacity_ok = subst IsLawfulKind kind (object_kind value object is) in
-      ([], no_amounts _, capacity_ok.1)
+      record { shares = []; are_shares = no_amounts _; enough = capacity_ok.1 }
 
   pub reservoirs : FitReservoirs model decisions state
   reservoirs complete value object initial low high instant is kind is_instant =
@@ -96,9 +97,9 @@ module _ (model : Model) (decisions : List Decision) (lawful : IsLawful model) (
 pub collapsed_from_order : (model : Model) (decisions : List Decision) → IsBuilt model → HasOrder decisions → IsCollapsed model decisions
 collapsed_from_order model decisions built order state closed =
     let claim = at_most (part_of order.0 End) (part_of order.1 Start) in
-    let consistent = closed.consistent claim (inr (inr (inr (inr (order.0, order.1, (order.2, refl)))))) in
-    not_given consistent.0 consistent.1
+    let consistent = closed.consistent.claims claim (inr (inr (inr (inr (record { one = order.0; other = order.1; ordered = order.2; says = refl }))))) in
+    not_given consistent.domains consistent.have
   where
-    not_given : (domains : List Domain) → AllZip (HasDomain state) (part_of order.0 End ∷ part_of order.1 Start ∷ []) domains → ⊥
+    not_given : (domains : List Domain) → AllZip (HasDomain (Gives state)) (part_of order.0 End ∷ part_of order.1 Start ∷ []) domains → ⊥
     not_given [] zip = zip
-    not_given (domain ∷ domains) zip = no_part model built.roots state closed.is_state order.0 End domain zip.0
+    not_given (domain ∷ domains) zip = no_part model built.roots state closed.consistent.is_state order.0 End domain zip.0

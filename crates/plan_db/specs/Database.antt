@@ -5,11 +5,13 @@ use Rattle.eu_name.specs.declared.name.VarName.{VarName}
 use Rattle.model_core.specs.declared.decision.Decision.{Decision}
 use Rattle.model_core.specs.declared.model.Model.{Model}
 use Rattle.model_core.specs.History.{History, standing, accepted}
-use Rattle.model_core.specs.Lawful.{IsLawful, IsBuilt}
+use Rattle.model_core.specs.Lawful.{IsLawful}
+use Rattle.plan_db.specs.Built.{IsBuilt}
 use Rattle.model_core.specs.State.{State, Gives}
 use Rattle.plan_defs.specs.Closure.{IsLeast, IsCollapsed}
 use Rattle.plan_defs.specs.Refusals.{Refusal, Unknown, Decided, NotInDomain, Hinders, IsFirstRefusal, IsRefused, IsAdmissible}
 use Rattle.plan_defs.specs.History.{IsHistory}
+use Rattle.decision_log.specs.Undoing.{IsFormer}
 use Rattle.plan_db.specs.declared.fault.Outcome.{Outcome}
 use Rattle.plan_db.specs.declared.fault.Outcome.TheVariants.{Consistent, Inconsistent}
 use Rattle.plan_db.specs.declared.fault.DbFault.{DbFault}
@@ -45,7 +47,7 @@ OutcomeIs database Inconsistent = HasCollapsed database
 abbrev pub RefusesFor : Database → Decision → Refusal → Type 0
 RefusesFor database decision reason = IsRefused database.model (standing database.history) decision reason
 
--- what taking a decision answers and leaves
+-- what taking a decision answers and leaves; memory can be wanting only where the decision may be taken
 abbrev pub Applies : Database → Decision → Result Outcome DbFault → Database → Type 0
 Applies old decision (Ok outcome) new =
     IsAdmissible old.model (standing old.history) decision
@@ -56,13 +58,18 @@ Applies old decision (Err fault.Unknown) new = (new ≡ old) × RefusesFor old d
 Applies old decision (Err fault.Decided) new = (new ≡ old) × RefusesFor old decision Decided
 Applies old decision (Err fault.NotInDomain) new = (new ≡ old) × RefusesFor old decision NotInDomain
 Applies old decision (Err fault.Nothing) new = ⊥
-Applies old decision (Err fault.Memory) new = new ≡ old
+Applies old decision (Err fault.Memory) new = (new ≡ old) × IsAdmissible old.model (standing old.history) decision
 
--- what undoing the last step answers and leaves
+-- a former list stands below the standing one
+abbrev pub HasFormer : History → Type 0
+HasFormer history = (former : List Decision) × IsFormer history former
+
+-- what undoing the last step answers and leaves; memory can be wanting only where there is a step to undo
 abbrev pub TakesBack : Database → Result Outcome DbFault → Database → Type 0
-TakesBack old (Ok outcome) new = (new.model ≡ old.model) × (old.history ≡ standing old.history ∷ new.history) × OutcomeIs new outcome
+TakesBack old (Ok outcome) new =
+    (new.model ≡ old.model) × (old.history ≡ standing old.history ∷ new.history) × OutcomeIs new outcome
 TakesBack old (Err fault.Nothing) new = (new ≡ old) × (old.history ≡ [] ∷ [])
-TakesBack old (Err fault.Memory) new = new ≡ old
+TakesBack old (Err fault.Memory) new = (new ≡ old) × HasFormer old.history
 TakesBack old (Err _) new = ⊥
 
 -- what is told of a variable that the least state has
@@ -72,7 +79,8 @@ IsTold database name domain = (state : State) × HasLeast database state × Give
 -- why nothing is told of a variable
 abbrev pub IsUntold : Database → VarName → QueryFault → Type 0
 IsUntold database name query.Inconsistent = HasCollapsed database
-IsUntold database name query.Unknown = (state : State) × HasLeast database state × ((domain : Domain) → Gives state name domain → ⊥)
+IsUntold database name query.Unknown =
+    (state : State) × HasLeast database state × ((domain : Domain) → Gives state name domain → ⊥)
 
 -- what the tests of a decision in the least state find
 abbrev pub Finds : Model → List Decision → State → Decision → Result (Unit {0}) DbFault → Type 0

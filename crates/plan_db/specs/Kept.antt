@@ -9,27 +9,26 @@ use Rattle.model_core.specs.declared.model.Model.{Model}
 use Rattle.model_core.specs.declared.variable.Base.{Base}
 use Rattle.model_core.specs.declared.variable.Base.TheVariants.{Given}
 use Rattle.model_core.specs.History.{History, standing}
-use Rattle.model_core.specs.Lawful.{IsLawful, IsBuilt}
-use Rattle.model_core.specs.State.{State, Entry}
+use Rattle.model_core.specs.Lawful.{IsLawful}
+use Rattle.plan_db.specs.Built.{IsBuilt}
+use Rattle.model_core.specs.State.{State, VarDomain}
 use Rattle.model_core.specs.Variables.{HasBase}
 use Rattle.plan_defs.specs.Closure.{IsLeast, IsCollapsed}
 use Rattle.plan_defs.specs.History.{IsHistory}
 use Rattle.constraint_net.specs.Networks.{Network}
+use Rattle.decision_log.specs.Undoing.{IsFormer}
 use Rattle.plan_db.specs.declared.fault.Outcome.{Outcome}
 use Rattle.plan_db.specs.declared.fault.Outcome.TheVariants.{Consistent, Inconsistent}
 
 -- the globals from this number on, with these domains
-abbrev pub entries_from : ℕ → List Domain → List Entry
+abbrev pub entries_from : ℕ → List Domain → List VarDomain
 entries_from number [] = []
-entries_from number (domain ∷ domains) = record { name = Global number; domain = domain } ∷ entries_from (number + 1) domains
+entries_from number (domain ∷ domains) =
+    record { name = Global number; domain = domain } ∷ entries_from (number + 1) domains
 
 -- the state that these domains are: the globals, and no tokens
-abbrev pub state_of : List Domain → State
-state_of domains = record { tokens = []; blocks = []; entries = entries_from 0 domains }
-
--- the base gives a domain
-abbrev pub IsGiven : Base → Type 0
-IsGiven base = (domain : Domain) × (base ≡ Given domain)
+abbrev pub global_state : List Domain → State
+global_state domains = record { tokens = []; blocks = []; entries = entries_from 0 domains }
 
 -- each global has its base
 pub record AreBases (model : Model) (domains : List Domain) : Type 0 where
@@ -40,12 +39,21 @@ pub record AreBases (model : Model) (domains : List Domain) : Type 0 where
 abbrev pub HasOrder : List Decision → Type 0
 HasOrder decisions = (one other : TokenName) × Contains decisions (Order one other)
 
+-- the network's domains are the least state of the decisions, or there is no network and the decisions collapse
+abbrev pub IsLeastNet : Model → List Decision → Option Network → Type 0
+IsLeastNet model decisions kept =
+    MatchOption kept (IsCollapsed model decisions) (λ net. IsLeast model decisions (global_state net.domains))
+
+-- so it is of the list before the standing one
+abbrev pub HasLeastOfFormer : Model → History → Option Network → Type 0
+HasLeastOfFormer model history kept = (former : List Decision) × IsFormer history former × IsLeastNet model former kept
+
 -- what the database keeps beside the model and the history: the least state, or that there is none
 pub record IsKept (model : Model) (history : History) (kept : Option Network) : Type 0 where
   pub lawful : IsLawful model
   pub built : IsBuilt model
   pub history_is : IsHistory model history
-  pub state : MatchOption kept (IsCollapsed model (standing history)) (λ net. IsLeast model (standing history) (state_of net.domains))
+  pub state : IsLeastNet model (standing history) kept
 
 -- whether there is a least state
 abbrev pub outcome_where : Option Network → Outcome

@@ -1,3 +1,4 @@
+pub mod Built
 pub mod Kept
 pub mod Nets
 pub mod Database

@@ -15,7 +15,7 @@ use Rattle.constraint_net.specs.declared.NetFault.TheVariants.{Collapsed, Memory
 use Rattle.constraint_net.specs.declared.constraint.Constraint.{Constraint}
 use Rattle.constraint_net.specs.declared.constraint.NetArg.{NetArg}
 use Rattle.constraint_net.specs.declared.constraint.NetArg.TheVariants.{Var, Lit}
-use Rattle.plan_db.specs.Kept.{state_of, AreBases}
+use Rattle.plan_db.specs.Kept.{global_state, AreBases}
 
 -- the argument is what the term means: a value, or the variable that has the global's number
 abbrev pub IsArgOf : Term → NetArg → Type 0
@@ -25,7 +25,8 @@ IsArgOf term arg = ⊥
 
 -- the item can be posted in the network
 abbrev pub IsPostable : Network → Item → Type 0
-IsPostable net (items.Constraint kind terms) = (args : List NetArg) × AllZip IsArgOf terms args × CanPost net.tables (length net.domains) kind args
+IsPostable net (items.Constraint kind terms) =
+    (args : List NetArg) × AllZip IsArgOf terms args × CanPost net.tables (length net.domains) kind args
 IsPostable net (items.Relation relation slot) = ⊥
 
 -- the constraint is the one that the item says
@@ -35,11 +36,13 @@ IsPosted (items.Relation relation slot) constraint = ⊥
 
 -- the item's constraint stands behind those that were posted before
 abbrev pub PostsItem : Network → Item → Network → Type 0
-PostsItem old item new = (constraint : Constraint) × IsPosted item constraint × (new ≡ record old { constraints = old.constraints ++ constraint ∷ [] })
+PostsItem old item new =
+    (constraint : Constraint) × IsPosted item constraint × (new ≡ record old { constraints = old.constraints ++ constraint ∷ [] })
 
 -- so do the constraints of all items, in order
 abbrev pub PostsAll : Network → List Item → Network → Type 0
-PostsAll old items new = (posted : List Constraint) × AllZip IsPosted items posted × (new ≡ record old { constraints = old.constraints ++ posted })
+PostsAll old items new =
+    (posted : List Constraint) × AllZip IsPosted items posted × (new ≡ record old { constraints = old.constraints ++ posted })
 
 -- the network of a problem: a variable for each global, with its base, and the constraints in order
 pub record IsNetOf (model : Model) (net : Network) : Type 0 where
@@ -49,14 +52,14 @@ pub record IsNetOf (model : Model) (net : Network) : Type 0 where
 
 -- in these domains of the globals the decision is granted
 abbrev pub Grants : Decision → List Domain → Type 0
-Grants decision domains = IsRespected decision (state_of domains)
+Grants decision domains = IsRespected decision (global_state domains)
 
 -- all decisions are
 abbrev pub GrantsAll : List Decision → List Domain → Type 0
 GrantsAll decisions domains = (decision : Decision) → Contains decisions decision → Grants decision domains
 
 -- what the decisions leave: the network's domains are the least state, or there is none; want of memory says nothing
-abbrev pub Leaves : Model → List Decision → Result Network NetFault → Type 0
-Leaves model decisions (Ok net) = IsLeast model decisions (state_of net.domains)
-Leaves model decisions (Err Collapsed) = IsCollapsed model decisions
-Leaves model decisions (Err Memory) = ⊤
+abbrev pub LeavesNet : Model → List Decision → Result Network NetFault → Type 0
+LeavesNet model decisions (Ok net) = IsLeast model decisions (global_state net.domains)
+LeavesNet model decisions (Err Collapsed) = IsCollapsed model decisions
+LeavesNet model decisions (Err Memory) = ⊤

@@ -3,11 +3,11 @@
 ghost use Rattle.std.specs.Prelude.{◌≡◌, ℤ, ◌↔◌, IsTrue, Contains};
 ghost use Rattle.domain_core.specs.Domain.{Domain, Has};
 ghost use Rattle.eu_name.specs.declared.name.VarName.TheVariants as VarName;
-ghost use Rattle.model_core.specs.Lawful.{IsBuilt};
+ghost use Rattle.plan_db.specs.Built.{IsBuilt};
 ghost use Rattle.model_core.specs.declared.decision.Decision.TheVariants.{Specify};
 ghost use Rattle.model_core.specs.declared.variable.Base.TheVariants.{Given};
 ghost use Rattle.model_core.specs.State.{State, IsState};
-ghost use Rattle.plan_db.specs.Kept.{IsGiven};
+ghost use Rattle.model_core.specs.Variables.{IsGiven};
 ghost use Rattle.plan_db.specs.Database.{Finds};
 
 use super::fault::DbFault;

@@ -1,17 +1,17 @@
 //! The database.
 
-ghost use Rattle.std.specs.Prelude.{◌≡◌, ◌+◌, [], ◌∷◌, length, IfOk, MatchBool, MatchResult};
-ghost use Rattle.model_core.specs.History.{standing};
-ghost use Rattle.model_core.specs.Lawful.{IsLawful, IsBuilt};
+ghost use Rattle.std.specs.Prelude.{◌≡◌, ◌+◌, ◌<◌, [], ◌∷◌, length, IfOk, OnOk, OnErr, MatchBool, MatchResult};
+ghost use Rattle.model_core.specs.History.{standing, accepted};
+ghost use Rattle.model_core.specs.Lawful.{IsLawful};
+ghost use Rattle.plan_db.specs.Built.{IsBuilt};
 ghost use Rattle.model_core.specs.State.{State};
-ghost use Rattle.plan_db.specs.Kept.{outcome_where};
+ghost use Rattle.plan_db.specs.Kept.{IsLeastNet, HasLeastOfFormer, outcome_where};
 ghost use Rattle.plan_db.specs.Database.{IsSound, HasLeast, HasCollapsed, Applies, TakesBack, IsTold, IsUntold};
 
 use super::checks::check;
 use super::fault::{DbFault, Outcome, QueryFault};
 use super::least::least_net;
 use constraint_net::Net;
-use decision_log::LogFault;
 use decision_log::log::Log;
 use domain_core::domain::Dom;
 use eu_name::name::VarName;
@@ -62,22 +62,12 @@ impl Db {
         ensures applied { Applies self.old decision.now result self.new }
         ensures sound { IsSound self.new }
     {
-        let Some(_least) = &self.net else {
+        if self.net.is_none() {
             return Err(DbFault::InInconsistent);
-        };
-        check(&self.model, self.log.standing(), decision)?;
-        self.log.push(decision.copy()?)?;
-        match least_net(self.log.allocator(), &self.model, self.log.standing()) {
-            Ok(net) => {
-                let outcome = outcome_of(&net);
-                self.net = net;
-                Ok(outcome)
-            }
-            Err(_none) => {
-                let _ = self.log.pop();
-                Err(DbFault::Memory)
-            }
         }
+        check(&self.model, self.log.standing(), decision)?;
+        let outcome = accept(&mut self.log, &mut self.net, &self.model, decision)?;
+        Ok(outcome)
     }
 
     /// Takes the last step back, and answers whether the decisions then leave something possible.
@@ -85,21 +75,12 @@ impl Db {
         ensures undone { TakesBack self.old result self.new }
         ensures sound { IsSound self.new }
     {
-        let former = match self.log.former() {
-            Ok(decisions) => decisions,
-            Err(LogFault::Nothing) => return Err(DbFault::Nothing),
-            Err(LogFault::Memory) => return Err(DbFault::Memory),
-        };
-        let net = least_net(self.log.allocator(), &self.model, former.as_slice())?;
-        match self.log.undo() {
-            Ok(()) => {
-                let outcome = outcome_of(&net);
-                self.net = net;
-                return Ok(outcome);
-            }
-            Err(LogFault::Memory) => unreachable!(),
-            Err(LogFault::Nothing) => unreachable!(),
+        if self.log.len() == 0 {
+            return Err(DbFault::Nothing);
         }
+        let outcome = restore(&mut self.net, &self.model, &self.log)?;
+        take_off(&mut self.log);
+        Ok(outcome)
     }
 
     /// What the variable may still be.
@@ -156,5 +137,85 @@ fn outcome_of(net: &Option<Net>) -> Outcome
     match net {
         Some(_) => Outcome::Consistent,
         None => Outcome::Inconsistent,
+    }
+}
+
+// Puts a copy of the decision at the end of the standing list.
+fn push_copy(log: &mut Log, decision: &Decision) -> Result<(), AllocError>
+    ensures ok { OnOk result (log.new ≡ accepted log.old decision.now) }
+    ensures err { OnErr result (log.new ≡ log.old) }
+{
+    let copy = decision.copy()?;
+    log.push(copy)
+}
+
+// Puts the decision at the end of the standing list and keeps the least state that is left; nothing changes where there is no
+// memory for it.
+fn accept(
+    log: &mut Log,
+    net: &mut Option<Net>,
+    model: &Model,
+    decision: &Decision,
+) -> Result<Outcome, AllocError>
+    requires lawful { IsLawful model.now }
+    requires built { IsBuilt model.now }
+    ensures list { OnOk result (log.new ≡ accepted log.old decision.now) }
+    ensures state { IfOk result (λ outcome. (outcome ≡ outcome_where net.new)
+        × IsLeastNet model.now (standing log.new) net.new) }
+    ensures err { OnErr result ((log.new ≡ log.old) × (net.new ≡ net.old)) }
+{
+    push_copy(log, decision)?;
+    match renew(net, model, log) {
+        Ok(outcome) => Ok(outcome),
+        Err(none) => {
+            let _ = log.pop();
+            Err(none)
+        }
+    }
+}
+
+// Keeps the least state of the standing list in place of the former one.
+fn renew(net: &mut Option<Net>, model: &Model, log: &Log) -> Result<Outcome, AllocError>
+    requires lawful { IsLawful model.now }
+    requires built { IsBuilt model.now }
+    ensures ok { IfOk result (λ outcome. (outcome ≡ outcome_where net.new) × IsLeastNet model.now (standing log.now) net.new) }
+    ensures err { OnErr result (net.new ≡ net.old) }
+{
+    *net = least_net(log.allocator(), model, log.standing())?;
+    Ok(outcome_of(net))
+}
+
+// Keeps the least state of the list before the standing one.
+fn restore(net: &mut Option<Net>, model: &Model, log: &Log) -> Result<Outcome, AllocError>
+    requires lawful { IsLawful model.now }
+    requires built { IsBuilt model.now }
+    requires some { 1 < length log.now }
+    ensures ok { IfOk result (λ outcome. (outcome ≡ outcome_where net.new) × HasLeastOfFormer model.now log.now net.new) }
+    ensures err { OnErr result (net.new ≡ net.old) }
+{
+    *net = former_net(model, log)?;
+    Ok(outcome_of(net))
+}
+
+// The network whose domains are the least state of the list before the standing one.
+fn former_net(model: &Model, log: &Log) -> Result<Option<Net>, AllocError>
+    requires lawful { IsLawful model.now }
+    requires built { IsBuilt model.now }
+    ensures { IfOk result (λ net. HasLeastOfFormer model.now log.now net) }
+{
+    match log.former() {
+        Ok(decisions) => least_net(log.allocator(), model, decisions.as_slice()),
+        Err(_none) => Err(AllocError),
+    }
+}
+
+// Brings back the list before the standing one.
+fn take_off(log: &mut Log)
+    requires { 1 < length log.old }
+    ensures { log.old ≡ standing log.old ∷ log.new }
+{
+    match log.undo() {
+        Ok(()) => {}
+        Err(_nothing) => unreachable!(),
     }
 }

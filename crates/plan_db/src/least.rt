@@ -1,14 +1,14 @@
 //! The least state of a list of decisions, as a network whose variables are the globals by number.
 
-ghost use Rattle.std.specs.Prelude.{◌≡◌, ◌↔◌, ℕ, ℤ, All, IfOk, IfSome, IfNone, IsTrue, MatchOption};
+ghost use Rattle.std.specs.Prelude.{◌≡◌, ◌↔◌, ℕ, ℤ, All, IfOk, IfSome, IfNone, IsTrue};
 ghost use Rattle.domain_core.specs.Domain.{IsDomain};
 ghost use Rattle.eu_name.specs.declared.name.VarName.TheVariants as VarName;
 ghost use Rattle.model_core.specs.declared.decision.Decision.TheVariants.{Specify};
-ghost use Rattle.model_core.specs.Lawful.{IsLawful, IsBuilt};
-ghost use Rattle.plan_defs.specs.Closure.{IsLeast, IsCollapsed};
+ghost use Rattle.model_core.specs.Lawful.{IsLawful};
+ghost use Rattle.plan_db.specs.Built.{IsBuilt};
 ghost use Rattle.constraint_net.specs.Steps.{SettlesTo};
-ghost use Rattle.plan_db.specs.Kept.{state_of, HasOrder};
-ghost use Rattle.plan_db.specs.Nets.{Grants, GrantsAll, Leaves};
+ghost use Rattle.plan_db.specs.Kept.{IsLeastNet, HasOrder};
+ghost use Rattle.plan_db.specs.Nets.{Grants, GrantsAll, LeavesNet};
 
 use super::problem_net::problem_net;
 use constraint_net::{Net, NetFault};
@@ -27,7 +27,7 @@ pub fn least_net(
 ) -> Result<Option<Net>, AllocError>
     requires lawful { IsLawful model.now }
     requires built { IsBuilt model.now }
-    ensures { IfOk result (λ answer. MatchOption answer (IsCollapsed model.now decisions.now) (λ net. IsLeast model.now decisions.now (state_of net.domains))) }
+    ensures { IfOk result (IsLeastNet model.now decisions.now) }
 {
     match settled_net(alloc, model, decisions) {
         Ok(net) => Ok(Some(net)),
@@ -40,7 +40,7 @@ pub fn least_net(
 fn settled_net(alloc: Global, model: &Model, decisions: &[Decision]) -> Result<Net, NetFault>
     requires lawful { IsLawful model.now }
     requires built { IsBuilt model.now }
-    ensures { Leaves model.now decisions.now result }
+    ensures { LeavesNet model.now decisions.now result }
 {
     // An order is about tokens, and there are none.
     if has_order(decisions) {

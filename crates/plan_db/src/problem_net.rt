@@ -3,9 +3,11 @@
 ghost use Rattle.std.specs.Prelude.{◌≡◌, [], All, IfOk};
 ghost use Rattle.std.specs.List.{AllZip};
 ghost use Rattle.domain_core.specs.Domain.{IsDomain};
-ghost use Rattle.model_core.specs.Lawful.{IsLawful, IsBuilt, IsPlain};
+ghost use Rattle.model_core.specs.Lawful.{IsLawful};
+ghost use Rattle.plan_db.specs.Built.{IsBuilt, IsPlain};
 ghost use Rattle.model_core.specs.declared.variable.Base.TheVariants.{Given};
-ghost use Rattle.plan_db.specs.Kept.{IsGiven, AreBases};
+ghost use Rattle.model_core.specs.Variables.{IsGiven};
+ghost use Rattle.plan_db.specs.Kept.{AreBases};
 ghost use Rattle.plan_db.specs.Nets.{IsArgOf, IsPostable, PostsItem, PostsAll, IsNetOf};
 
 use constraint_net::{Net, NetArg};

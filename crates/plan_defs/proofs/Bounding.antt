@@ -12,7 +12,8 @@ use Rattle.model_core.specs.Consistency.{Ends, Admits, AreConsistent}
 use Rattle.model_core.specs.Constraints.{HoldsOf}
 use Rattle.model_core.specs.State.{State, Gives, IsState, IsBelow}
 use Rattle.plan_defs.specs.Claims.{IsClaim, at_most}
-use Rattle.plan_defs.specs.Closure.{IsClosed}
+use Rattle.plan_defs.specs.Closure.{IsConsistentState}
+use Rattle.plan_defs.specs.Laws.{Lowered, EndsBounded}
 use Rattle.plan_defs.specs.Terms.{Variable, HasDomain}
 use Rattle.plan_defs.proofs.Lower.{least_rises, greatest_falls}
 use Rattle.plan_defs.proofs.States.{gives_same, gives_domain}
@@ -40,7 +41,7 @@ ends_in_order one other one_ok other_ok consistent =
     (above other (greatest one) high.0 high.1 high.2 high.3 high.4, below one (least other) low.0 low.1 low.2 low.3 low.4)
 
 module _ (model : Model) (state : State) (ok : IsState model state) (one other : VarName) (one_is other_is : Domain) (gives_one : Gives state one one_is) (gives_other : Gives state other other_is) where
-  claimed : (domains : List Domain) → AllZip (HasDomain state) (Variable one ∷ Variable other ∷ []) domains → AreConsistent Ends (HoldsOf Leq) domains → EndsInOrder one_is other_is
+  claimed : (domains : List Domain) → AllZip (HasDomain (Gives state)) (Variable one ∷ Variable other ∷ []) domains → AreConsistent Ends (HoldsOf Leq) domains → EndsInOrder one_is other_is
   claimed [] have consistent = absurd have
   claimed (a ∷ []) have consistent = absurd have.1
   claimed (a ∷ b ∷ c ∷ domains) have consistent = absurd have.1.1
@@ -50,19 +51,19 @@ module _ (model : Model) (state : State) (ok : IsState model state) (one other :
       let ends = ends_in_order a b (gives_domain model state ok one a have.0) (gives_domain model state ok other b have.1.0) consistent in
       subst (λ d. EndsInOrder d other_is) first (subst (EndsInOrder a) second ends)
 
-pub bounds_both : (model : Model) (decisions : List Decision) (high low : State) (one other : VarName) (one_high other_high one_low other_low : Domain)
-    → IsState model high → IsClosed model decisions low → IsBelow high low → IsClaim model decisions low (at_most (Variable one) (Variable other))
-    → Gives high one one_high → Gives high other other_high → Gives low one one_low → Gives low other other_low → (greatest one_low ≤ℤ greatest other_high) × (least one_high ≤ℤ least other_low)
-bounds_both model decisions high low one other one_high other_high one_low other_low high_ok closed lower claim gives_one gives_other one_there other_there =
-    let low_ok = closed.is_state in
-    let consistent = closed.consistent (at_most (Variable one) (Variable other)) claim in
-    let ends = claimed model low low_ok one other one_low other_low one_there other_there consistent.0 consistent.1 consistent.2 in
-    let one_below = lower.variables one one_high gives_one in
-    let other_below = lower.variables other other_high gives_other in
-    let one_same = gives_same low low_ok.order one one_below.0 one_low one_below.1 one_there in
-    let other_same = gives_same low low_ok.order other other_below.0 other_low other_below.1 other_there in
-    let one_low_ok = gives_domain model low low_ok one one_low one_there in
-    let other_low_ok = gives_domain model low low_ok other other_low other_there in
-    let rises = least_rises one_low one_high one_low_ok (gives_domain model high high_ok one one_high gives_one) (subst (λ d. IsWithin d one_high) one_same one_below.2) in
-    let falls = greatest_falls other_low other_high other_low_ok (gives_domain model high high_ok other other_high gives_other) (subst (λ d. IsWithin d other_high) other_same other_below.2) in
-    (omega (arith, ints, ends.0, falls), omega (arith, ints, ends.1, rises))
+pub bounds_both : (model : Model) (decisions : List Decision) (high low : State) (one other : VarName)
+    → IsState model high → IsConsistentState model decisions low → IsBelow high low → IsClaim model decisions low (at_most (Variable one) (Variable other))
+    → (first : Lowered high low one) (second : Lowered high low other) → EndsBounded first.above first.below second.above second.below
+bounds_both model decisions high low one other high_ok fit lower claim first second =
+    let low_ok = fit.is_state in
+    let consistent = fit.claims (at_most (Variable one) (Variable other)) claim in
+    let ends = claimed model low low_ok one other first.below second.below first.gives_below second.gives_below consistent.domains consistent.have consistent.agree in
+    let one_below = lower.variables one first.above first.gives_above in
+    let other_below = lower.variables other second.above second.gives_above in
+    let one_same = gives_same low low_ok.order one one_below.0 first.below one_below.1 first.gives_below in
+    let other_same = gives_same low low_ok.order other other_below.0 second.below other_below.1 second.gives_below in
+    let one_low_ok = gives_domain model low low_ok one first.below first.gives_below in
+    let other_low_ok = gives_domain model low low_ok other second.below second.gives_below in
+    let rises = least_rises first.below first.above one_low_ok (gives_domain model high high_ok one first.above first.gives_above) (subst (λ d. IsWithin d first.above) one_same one_below.2) in
+    let falls = greatest_falls second.below second.above other_low_ok (gives_domain model high high_ok other second.above second.gives_above) (subst (λ d. IsWithin d second.above) other_same other_below.2) in
+    record { greatest_falls = omega (arith, ints, ends.0, falls); least_rises = omega (arith, ints, ends.1, rises) }

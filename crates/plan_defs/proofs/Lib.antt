@@ -2,9 +2,10 @@ pub mod Members
 pub mod Ordered
 pub mod BlockOrder
 pub mod States
-pub mod Advancing
+pub mod Approaching
 pub mod Settling
 pub mod Setting
 pub mod Lower
+pub mod Sharing
 pub mod Bounding
 pub mod Reasons

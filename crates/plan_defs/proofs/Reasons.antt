@@ -4,9 +4,9 @@ use Rattle.std.proofs.lemmas.Bool.{cases_lt}
 use Rattle.model_core.specs.declared.decision.Decision.{Decision}
 use Rattle.model_core.specs.declared.model.Model.{Model}
 use Rattle.model_core.specs.State.{State}
-use Rattle.plan_defs.specs.Refusals.{Refusal, Unknown, Decided, NotInDomain, NotActive, NotSamePredicate, NotRejectable, SameToken, ActiveFull, place_of, IsFirstRefusal}
+use Rattle.plan_defs.specs.Refusals.{Refusal, Unknown, Decided, NotInDomain, NotActive, NotSamePredicate, NotRejectable, SameToken, ActiveFull, rank_of, IsFirstRefusal}
 
-place_same : (one other : Refusal) → place_of one ≡ place_of other → one ≡ other
+place_same : (one other : Refusal) → rank_of one ≡ rank_of other → one ≡ other
 place_same Unknown Unknown e = refl
 place_same Decided Decided e = refl
 place_same NotInDomain NotInDomain e = refl
@@ -21,9 +21,9 @@ pub refusal_same : (model : Model) (decisions : List Decision) (state : State) (
     → IsFirstRefusal model decisions state decision one → IsFirstRefusal model decisions state decision other → one ≡ other
 refusal_same model decisions state decision one other p q =
     ⊎_elim
-    (λ (before : place_of one < place_of other). absurd (q.first one before p.hinders))
+    (λ (before : rank_of one < rank_of other). absurd (q.first one before p.hinders))
     (λ not_before. ⊎_elim
-    (λ (after : place_of other < place_of one). absurd (p.first other after q.hinders))
+    (λ (after : rank_of other < rank_of one). absurd (p.first other after q.hinders))
     (λ not_after. place_same one other (omega arith))
-    (cases_lt (place_of other) (place_of one)))
-    (cases_lt (place_of one) (place_of other))
+    (cases_lt (rank_of other) (rank_of one)))
+    (cases_lt (rank_of one) (rank_of other))

@@ -12,9 +12,9 @@ use Rattle.model_core.specs.declared.model.Model.{Model}
 use Rattle.model_core.specs.declared.rule.Slot.{Slot}
 use Rattle.model_core.specs.Blocks.{TokenBlock, IsBlock, IsBlockBefore}
 use Rattle.model_core.specs.Entries.{Entries}
-use Rattle.model_core.specs.State.{State, Entry, Gives, IsAbout, IsState, IsBelow}
+use Rattle.model_core.specs.State.{State, VarDomain, Gives, IsAbout, IsState, IsBelow}
 use Rattle.model_core.specs.Tokens.{HasToken}
-use Rattle.plan_defs.specs.Steps.{Advances, SetsDomain}
+use Rattle.plan_defs.specs.Steps.{Approaches, SetsDomain}
 use Rattle.plan_defs.proofs.Members.{contains_from_get}
 use Rattle.plan_defs.proofs.Ordered.{contains_head, contains_later, contains_cases, ordered_head, ordered_tail, ordered_cons}
 
@@ -59,26 +59,26 @@ module _ {X K : Type 0} (key : X → K) (before : K → K → Type 0) where
         | inr there ↦ ordered_head by_key y xs ordered z there
       ]) (set_ordered xs place old new at same (ordered_tail by_key y xs ordered))
 
-module _ (old new : State) (place : ℕ) (name : VarName) (before after : Domain) (sets : SetsDomain old place name before after new) where
-  abbrev was : Entry
-  was = record { name = name; domain = before }
+module _ (old new : State) (name : VarName) (after : Domain) (sets : SetsDomain old name after new) where
+  abbrev was : VarDomain
+  was = record { name = name; domain = sets.before }
 
-  abbrev is : Entry
+  abbrev is : VarDomain
   is = record { name = name; domain = after }
 
   gives_after : Gives new name after
-  gives_after = subst (λ entries. Contains entries is) (sym sets.entries) (set_there old.entries place was is sets.at)
+  gives_after = subst (λ entries. Contains entries is) (sym sets.entries) (set_there old.entries sets.place was is sets.at)
 
-  gives_before : Gives old name before
-  gives_before = contains_from_get old.entries place was sets.at
+  gives_before : Gives old name sets.before
+  gives_before = contains_from_get old.entries sets.place was sets.at
 
   -- what the new state gives is the new domain, or was given before
   given : (other : VarName) (domain : Domain) → Gives new other domain → (is ≡ record { name = other; domain = domain }) ⊎ Gives old other domain
-  given other domain gives = set_cases old.entries place is (record { name = other; domain = domain }) (subst (λ entries. Contains entries (record { name = other; domain = domain })) sets.entries gives)
+  given other domain gives = set_cases old.entries sets.place is (record { name = other; domain = domain }) (subst (λ entries. Contains entries (record { name = other; domain = domain })) sets.entries gives)
 
   -- what was given before is replaced, or is given still
   still : (other : VarName) (domain : Domain) → Gives old other domain → (was ≡ record { name = other; domain = domain }) ⊎ Gives new other domain
-  still other domain gives = elim (set_keeps old.entries place was is (record { name = other; domain = domain }) sets.at gives) [
+  still other domain gives = elim (set_keeps old.entries sets.place was is (record { name = other; domain = domain }) sets.at gives) [
     | inl replaced ↦ inl replaced
     | inr there ↦ inr (subst (λ entries. Contains entries (record { name = other; domain = domain })) (sym sets.entries) there)
   ]
@@ -86,22 +86,22 @@ module _ (old new : State) (place : ℕ) (name : VarName) (before after : Domain
   -- the same variables have domains
   to_new : (other : VarName) → (domain : Domain) × Gives old other domain → (domain : Domain) × Gives new other domain
   to_new other found = elim (still other found.0 found.1) [
-    | inl replaced ↦ (after, subst (λ n. Gives new n after) (ap (λ (e : Entry). e.name) replaced) gives_after)
+    | inl replaced ↦ (after, subst (λ n. Gives new n after) (ap (λ (e : VarDomain). e.name) replaced) gives_after)
     | inr there ↦ (found.0, there)
   ]
 
   to_old : (other : VarName) → (domain : Domain) × Gives new other domain → (domain : Domain) × Gives old other domain
   to_old other found = elim (given other found.0 found.1) [
-    | inl changed ↦ (before, subst (λ n. Gives old n before) (ap (λ (e : Entry). e.name) changed) gives_before)
+    | inl changed ↦ (sets.before, subst (λ n. Gives old n sets.before) (ap (λ (e : VarDomain). e.name) changed) gives_before)
     | inr there ↦ (found.0, there)
   ]
 
-  lower : IsWithin after before → IsBelow old new
+  lower : IsWithin after sets.before → IsBelow old new
   lower within = record {
     tokens = λ token c. subst (λ tokens. Contains tokens token) (sym sets.tokens) c;
     blocks = λ block c. subst (λ blocks. Contains blocks block) (sym sets.blocks) c;
     variables = λ other domain gives. elim (still other domain gives) [
-      | inl replaced ↦ (after, subst (λ n. Gives new n after) (ap (λ (e : Entry). e.name) replaced) gives_after, subst (IsWithin after) (ap (λ (e : Entry). e.domain) replaced) within)
+      | inl replaced ↦ (after, subst (λ n. Gives new n after) (ap (λ (e : VarDomain). e.name) replaced) gives_after, subst (IsWithin after) (ap (λ (e : VarDomain). e.domain) replaced) within)
       | inr there ↦ (domain, there, IsWithin-refl domain)
     ];
   }
@@ -110,8 +110,26 @@ module _ (old new : State) (place : ℕ) (name : VarName) (before after : Domain
   about : (model : Model) (other : VarName) → IsAbout model old other ↔ IsAbout model new other
   about model (Global number) = (λ p. p, λ p. p)
   about model (Token token part) = (λ p. (subst (λ tokens. Contains tokens token) (sym sets.tokens) p.0, p.1), λ p. (subst (λ tokens. Contains tokens token) sets.tokens p.0, p.1))
-  about model (Local token rule number) =
-      (λ p. (p.0, (subst (λ blocks. Contains blocks p.0) (sym sets.blocks) p.1.0, p.1.1)), λ p. (p.0, (subst (λ blocks. Contains blocks p.0) sets.blocks p.1.0, p.1.1)))
+  about model (Local token rule number) = (
+    λ p. record {
+      block = p.block;
+      is_open = subst (λ blocks. Contains blocks p.block) (sym sets.blocks) p.is_open;
+      of_token = p.of_token;
+      of_rule = p.of_rule;
+      entries = p.entries;
+      is_block = p.is_block;
+      stands = p.stands;
+    },
+    λ p. record {
+      block = p.block;
+      is_open = subst (λ blocks. Contains blocks p.block) sets.blocks p.is_open;
+      of_token = p.of_token;
+      of_rule = p.of_rule;
+      entries = p.entries;
+      is_block = p.is_block;
+      stands = p.stands;
+    },
+  )
 
   abbrev HasItsBlock : Model → List TokenName → TokenBlock → Type 0
   HasItsBlock model tokens block = Contains tokens block.token × ((entries : Entries) × IsBlock model block entries)
@@ -121,26 +139,26 @@ module _ (old new : State) (place : ℕ) (name : VarName) (before after : Domain
     order = record {
       tokens = subst (AllPairs IsTokenBefore) (sym sets.tokens) ok.order.tokens;
       blocks = subst (AllPairs IsBlockBefore) (sym sets.blocks) ok.order.blocks;
-      entries = subst (AllPairs (λ (one later : Entry). IsVarBefore one.name later.name)) (sym sets.entries) (set_ordered (λ (e : Entry). e.name) IsVarBefore old.entries place was is sets.at refl ok.order.entries);
+      entries = subst (AllPairs (λ (one later : VarDomain). IsVarBefore one.name later.name)) (sym sets.entries) (set_ordered (λ (e : VarDomain). e.name) IsVarBefore old.entries sets.place was is sets.at refl ok.order.entries);
     };
     tokens = subst (All (λ token. (slot : Slot) × HasToken model token slot)) (sym sets.tokens) ok.tokens;
     blocks = subst (λ tokens. All (HasItsBlock model tokens) new.blocks) (sym sets.tokens) (subst (All (HasItsBlock model old.tokens)) (sym sets.blocks) ok.blocks);
     variables = λ other. (λ p. to_new other ((ok.variables other).0 ((about model other).1 p)), λ found. (about model other).0 ((ok.variables other).1 (to_old other found)));
-    domains = subst (All (λ (e : Entry). IsDomain e.domain)) (sym sets.entries) (All-set (λ (e : Entry). IsDomain e.domain) old.entries place is domain ok.domains);
+    domains = subst (All (λ (e : VarDomain). IsDomain e.domain)) (sym sets.entries) (All-set (λ (e : VarDomain). IsDomain e.domain) old.entries sets.place is domain ok.domains);
   }
 
   -- a smaller domain in which all fitting states below have theirs is a step
-  pub setting_advances : (model : Model) (fits : State → Type 0) → IsDomain after → IsWithin after before
-      → ((low : State) (domain : Domain) → fits low → IsBelow old low → Gives low name domain → IsWithin domain after) → Advances model fits old new
-  setting_advances model fits domain within keeps = record {
+  pub setting_approaches : (model : Model) (fits : State → Type 0) → IsDomain after → IsWithin after sets.before
+      → ((low : State) (domain : Domain) → fits low → IsBelow old low → Gives low name domain → IsWithin domain after) → Approaches model fits old new
+  setting_approaches model fits domain within keeps = record {
     lower = lower within;
     is_state = is_state model domain;
     keeps = λ low ok below fit. record {
       tokens = λ token c. below.tokens token (subst (λ tokens. Contains tokens token) sets.tokens c);
       blocks = λ block c. below.blocks block (subst (λ blocks. Contains blocks block) sets.blocks c);
       variables = λ other domain gives. elim (given other domain gives) [
-        | inl changed ↦ (let found = below.variables name before gives_before in
-            (found.0, subst (λ n. Gives low n found.0) (ap (λ (e : Entry). e.name) changed) found.1, subst (IsWithin found.0) (ap (λ (e : Entry). e.domain) changed) (keeps low found.0 fit below found.1)))
+        | inl changed ↦ (let found = below.variables name sets.before gives_before in
+            (found.0, subst (λ n. Gives low n found.0) (ap (λ (e : VarDomain). e.name) changed) found.1, subst (IsWithin found.0) (ap (λ (e : VarDomain). e.domain) changed) (keeps low found.0 fit below found.1)))
         | inr there ↦ below.variables other domain there
       ];
     };

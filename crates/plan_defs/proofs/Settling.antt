@@ -16,7 +16,7 @@ use Rattle.plan_defs.proofs.States.{IsBelow-antisym}
 -- decisions leave one least state at most
 pub least_same : (model : Model) (decisions : List Decision) (one other : State) → IsLeast model decisions one → IsLeast model decisions other → one ≡ other
 least_same model decisions one other p q =
-    IsBelow-antisym model one other p.closed.is_state q.closed.is_state (p.below other q.closed) (q.below one p.closed)
+    IsBelow-antisym model one other p.closed.consistent.is_state q.closed.consistent.is_state (p.below other q.closed) (q.below one p.closed)
 
 -- a list with a least state doesn't collapse
 pub least_not_collapsed : (model : Model) (decisions : List Decision) (state : State) → IsLeast model decisions state → IsCollapsed model decisions → ⊥
@@ -78,7 +78,7 @@ front_has_least model front decision back settled =
 -- a list that follows from a settled one is settled
 next_settled : (model : Model) (below list : List Decision) → IsSettled model below → Accepts model below list ⊎ TakesOut model below list → IsSettled model list
 next_settled model below list settled (inl accepts) = subst (IsSettled model) (sym accepts.2) (IsSettled-push model below accepts.0 settled accepts.1)
-next_settled model below list settled (inr out) = Settles-idempotent model (out.0 ++ out.1.1.0) list out.1.1.1.1
+next_settled model below list settled (inr out) = Settles-idempotent model (out.front ++ out.back) list out.settles
 
 -- the lists of a history are settled
 pub history_settled : (model : Model) (history : History) (decisions : List Decision) → IsHistory model history → Contains history decisions → IsSettled model decisions

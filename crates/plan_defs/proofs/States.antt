@@ -9,25 +9,25 @@ use Rattle.eu_name.specs.NameOrder.{IsTokenBefore, IsVarBefore}
 use Rattle.eu_name.proofs.Orders.{token_order, var_order}
 use Rattle.model_core.specs.declared.model.Model.{Model}
 use Rattle.model_core.specs.Blocks.{IsBlockBefore}
-use Rattle.model_core.specs.State.{State, Entry, Gives, AreInOrder, IsState, IsBelow}
+use Rattle.model_core.specs.State.{State, VarDomain, Gives, AreInOrder, IsState, IsBelow}
 use Rattle.plan_defs.proofs.BlockOrder.{block_irreflexive, block_transitive}
 use Rattle.plan_defs.proofs.Ordered.{same_members, one_of_key}
 
-entry_irreflexive : (entry : Entry) → IsVarBefore entry.name entry.name → ⊥
+entry_irreflexive : (entry : VarDomain) → IsVarBefore entry.name entry.name → ⊥
 entry_irreflexive entry = var_order.irreflexive entry.name
 
-entry_transitive : (a b c : Entry) → IsVarBefore a.name b.name → IsVarBefore b.name c.name → IsVarBefore a.name c.name
+entry_transitive : (a b c : VarDomain) → IsVarBefore a.name b.name → IsVarBefore b.name c.name → IsVarBefore a.name c.name
 entry_transitive a b c = var_order.transitive a.name b.name c.name
 
 -- a variable has one domain
 pub gives_same : (state : State) → AreInOrder state → (name : VarName) (one other : Domain) → Gives state name one → Gives state name other → one ≡ other
 gives_same state ok name one other p q =
-    ap (λ (entry : Entry). entry.domain)
-    (one_of_key (λ (entry : Entry). entry.name) IsVarBefore var_order.irreflexive state.entries ok.entries (record { name = name; domain = one }) (record { name = name; domain = other }) p q refl)
+    ap (λ (entry : VarDomain). entry.domain)
+    (one_of_key (λ (entry : VarDomain). entry.name) IsVarBefore var_order.irreflexive state.entries ok.entries (record { name = name; domain = one }) (record { name = name; domain = other }) p q refl)
 
 module _ (model : Model) (state : State) (ok : IsState model state) where
   pub gives_domain : (name : VarName) (domain : Domain) → Gives state name domain → IsDomain domain
-  gives_domain name domain gives = All-contains (λ (entry : Entry). IsDomain entry.domain) state.entries (record { name = name; domain = domain }) ok.domains gives
+  gives_domain name domain gives = All-contains (λ (entry : VarDomain). IsDomain entry.domain) state.entries (record { name = name; domain = domain }) ok.domains gives
 
 pub IsBelow-refl : (state : State) → IsBelow state state
 IsBelow-refl state = record {
@@ -47,7 +47,7 @@ IsBelow-trans high middle low p q = record {
 }
 
 -- where two states are below each other, what the one gives the other gives
-gives_both : (model : Model) (a b : State) → IsState model a → IsState model b → IsBelow a b → IsBelow b a → (entry : Entry) → Contains a.entries entry → Contains b.entries entry
+gives_both : (model : Model) (a b : State) → IsState model a → IsState model b → IsBelow a b → IsBelow b a → (entry : VarDomain) → Contains a.entries entry → Contains b.entries entry
 gives_both model a b a_ok b_ok p q entry there =
     let lower = p.variables entry.name entry.domain there in
     let upper = q.variables entry.name lower.0 lower.1 in
@@ -61,6 +61,6 @@ pub IsBelow-antisym : (model : Model) (a b : State) → IsState model a → IsSt
 IsBelow-antisym model a b a_ok b_ok p q =
     let tokens = same_members IsTokenBefore token_order.irreflexive token_order.transitive a.tokens b.tokens a_ok.order.tokens b_ok.order.tokens p.tokens q.tokens in
     let blocks = same_members IsBlockBefore block_irreflexive block_transitive a.blocks b.blocks a_ok.order.blocks b_ok.order.blocks p.blocks q.blocks in
-    let entries = same_members (λ (one later : Entry). IsVarBefore one.name later.name) entry_irreflexive entry_transitive a.entries b.entries a_ok.order.entries b_ok.order.entries
+    let entries = same_members (λ (one later : VarDomain). IsVarBefore one.name later.name) entry_irreflexive entry_transitive a.entries b.entries a_ok.order.entries b_ok.order.entries
     (gives_both model a b a_ok b_ok p q) (gives_both model b a b_ok a_ok q p) in
     (λ i. record { tokens = tokens i; blocks = blocks i; entries = entries i })

@@ -12,8 +12,9 @@ use Rattle.model_core.specs.Entries.{Entries}
 use Rattle.model_core.specs.State.{State, Gives, IsState, IsBelow}
 use Rattle.model_core.specs.Variables.{HasBase, IsInBase}
 use Rattle.plan_defs.specs.Claims.{Claim, IsClaim}
-use Rattle.plan_defs.specs.Consistency.{IsConsistent}
+use Rattle.plan_defs.specs.Consistency.{IsClaimConsistent}
 use Rattle.plan_defs.specs.Resources.{FitReusables, FitReservoirs}
+use Rattle.plan_defs.specs.Situations.{situation_of}
 use Rattle.plan_defs.specs.Support.{IsSupportedToken, IsSupportedBlock}
 use Rattle.plan_defs.specs.Timelines.{FitTimelines}
 
@@ -24,17 +25,26 @@ IsRespected decision state = ⊤
 
 -- each variable is within the domain that it is declared with
 abbrev pub AreInBase : Model → State → Type 0
-AreInBase model state = (name : VarName) (domain : Domain) → Gives state name domain → (base : Base) × HasBase model name base × IsInBase domain base
+AreInBase model state =
+    (name : VarName) (domain : Domain)
+    → Gives state name domain → (base : Base) × HasBase model name base × IsInBase domain base
 
--- the state has all that is supported, within its bases, grants the decisions, all that is claimed is consistent in it, and timelines and resources fit
-pub record IsClosed (model : Model) (decisions : List Decision) (state : State) : Type 0 where
+-- the state has all that is supported, within its bases, grants the decisions, all that is claimed is consistent in it, and
+-- timelines fit; resources are left aside
+pub record IsConsistentState (model : Model) (decisions : List Decision) (state : State) : Type 0 where
   pub is_state : IsState model state
-  pub tokens : (token : TokenName) → IsSupportedToken model decisions state token → Contains state.tokens token
-  pub blocks : (block : TokenBlock) (entries : Entries) → IsSupportedBlock model decisions state block entries → Contains state.blocks block
+  pub tokens : (token : TokenName)
+      → IsSupportedToken model (situation_of decisions state) token → Contains state.tokens token
+  pub blocks : (block : TokenBlock) (entries : Entries)
+      → IsSupportedBlock model (situation_of decisions state) block entries → Contains state.blocks block
   pub in_base : AreInBase model state
   pub respected : (decision : Decision) → Contains decisions decision → IsRespected decision state
-  pub consistent : (claim : Claim) → IsClaim model decisions state claim → IsConsistent model state claim
+  pub claims : (claim : Claim) → IsClaim model decisions state claim → IsClaimConsistent model state claim
   pub timelines : FitTimelines model decisions state
+
+-- the state is consistent, and resources fit too
+pub record IsClosed (model : Model) (decisions : List Decision) (state : State) : Type 0 where
+  pub consistent : IsConsistentState model decisions state
   pub reusables : FitReusables model decisions state
   pub reservoirs : FitReservoirs model decisions state
 

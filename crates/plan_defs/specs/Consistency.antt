@@ -5,18 +5,18 @@ use Rattle.domain_core.specs.Domain.{Domain}
 use Rattle.model_core.specs.declared.class.Object.{Object}
 use Rattle.model_core.specs.declared.model.Model.{Model}
 use Rattle.model_core.specs.Constraints.{AgreeOn}
-use Rattle.model_core.specs.State.{State}
+use Rattle.model_core.specs.Kinds.{IsObject}
+use Rattle.model_core.specs.State.{State, Gives}
 use Rattle.plan_defs.specs.Claims.{Claim}
 use Rattle.plan_defs.specs.Terms.{HasDomain}
 
--- the value is the number of an object
-abbrev pub IsObject : Model → ℤ → Object → Type 0
-IsObject model value object = (number : ℕ) × (value ≡ pos number) × (slice_get model.objects number ≡ Some object)
-
 -- the object has this value in this field
 abbrev pub HasField : Model → ℕ → ℤ → ℤ → Type 0
-HasField model field value content = (object : Object) × IsObject model value object × (slice_get object.fields field ≡ Some content)
+HasField model field value content =
+    (object : Object) × IsObject model value object × (slice_get object.fields field ≡ Some content)
 
 -- the state has the claim's variables, and the domains of the arguments support each other
-abbrev pub IsConsistent : Model → State → Claim → Type 0
-IsConsistent model state claim = (domains : List Domain) × AllZip (HasDomain state) claim.arguments domains × AgreeOn (HasField model) claim.kind domains
+pub record IsClaimConsistent (model : Model) (state : State) (claim : Claim) : Type 0 where
+  pub domains : List Domain
+  pub have : AllZip (HasDomain (Gives state)) claim.arguments domains
+  pub agree : AgreeOn (HasField model) claim.kind domains

@@ -11,11 +11,16 @@ abbrev pub Accepts : Model → List Decision → List Decision → Type 0
 Accepts model below list = (decision : Decision) × IsAdmissible model below decision × (list ≡ below ++ decision ∷ [])
 
 -- one decision was taken out, and the rest settled
-abbrev pub TakesOut : Model → List Decision → List Decision → Type 0
-TakesOut model below list = (front : List Decision) × ((decision : Decision) × ((back : List Decision) × ((below ≡ front ++ decision ∷ back) × Settles model (front ++ back) list)))
+pub record TakesOut (model : Model) (below list : List Decision) : Type 0 where
+  pub front : List Decision
+  pub decision : Decision
+  pub back : List Decision
+  pub parts : below ≡ front ++ decision ∷ back
+  pub settles : Settles model (front ++ back) list
 
 -- at the bottom nothing is decided, and each list comes of the one below it by a decision or by taking one out
 abbrev pub IsHistory : Model → History → Type 0
 IsHistory model [] = ⊥
 IsHistory model (decisions ∷ []) = decisions ≡ []
-IsHistory model (decisions ∷ below ∷ former) = (Accepts model below decisions ⊎ TakesOut model below decisions) × IsHistory model (below ∷ former)
+IsHistory model (decisions ∷ below ∷ former) =
+    (Accepts model below decisions ⊎ TakesOut model below decisions) × IsHistory model (below ∷ former)

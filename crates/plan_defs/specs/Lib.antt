@@ -1,12 +1,14 @@
-pub mod Decided
+pub mod Situations
 pub mod Terms
 pub mod Support
 pub mod Claims
 pub mod Consistency
 pub mod Timelines
+pub mod Sums
 pub mod Resources
 pub mod Closure
 pub mod Refusals
 pub mod Settling
 pub mod History
 pub mod Steps
+pub mod Laws

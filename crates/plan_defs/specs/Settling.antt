@@ -27,7 +27,8 @@ SettlesToCollapse model decisions = (settled : List Decision) × Settles model d
 
 -- what is left of the list has a least state
 abbrev pub SettlesToLeast : Model → List Decision → Type 0
-SettlesToLeast model decisions = (settled : List Decision) × Settles model decisions settled × ((state : State) × IsLeast model settled state)
+SettlesToLeast model decisions =
+    (settled : List Decision) × Settles model decisions settled × ((state : State) × IsLeast model settled state)
 
 -- from the first decision on, each goes without which the rest still collapses, and then the rest is settled
 abbrev pub ReducesTo : Model → List Decision → List Decision → List Decision → Type 0

@@ -16,21 +16,22 @@ use Rattle.model_core.specs.declared.model.RootKind.{RootKind}
 use Rattle.model_core.specs.declared.rule.Rule.{Rule}
 use Rattle.model_core.specs.Blocks.{TokenBlock}
 use Rattle.model_core.specs.Entries.{Entries}
+use Rattle.model_core.specs.Kinds.{IsObject}
 use Rattle.model_core.specs.State.{State}
 use Rattle.model_core.specs.Tokens.{HasRule, root_token}
-use Rattle.plan_defs.specs.Consistency.{IsObject}
 use Rattle.plan_defs.specs.Resources.{FitReusables, FitReservoirs}
+use Rattle.plan_defs.specs.Situations.{situation_of}
 use Rattle.plan_defs.specs.Support.{IsSupportedToken, IsSupportedBlock}
 use Rattle.plan_defs.specs.Timelines.{FitTimelines}
 use Rattle.plan_defs.proofs.Ordered.{contains_none}
-use Rattle.plan_examples.specs.Scenes.{predicate_of, root_of, scene, Moment, only, guarded}
+use Rattle.plan_examples.specs.Scenes.{predicate_of, root_of, scene, Moment, exactly, guarded}
 use Rattle.plan_examples.specs.Globals.{up_to}
 use Rattle.plan_examples.proofs.Closed.{IsMoment, IsPlain}
 use Rattle.plan_examples.proofs.Lists.{only_member, same_some}
 
 -- ---- moments
 
-pub only_moment : (start duration quantity : ℕ) → 1 ≤ duration → start + duration ≤ 10 → quantity ≤ 10 → IsMoment (record { start = start; duration = duration; quantity = only quantity })
+pub only_moment : (start duration quantity : ℕ) → 1 ≤ duration → start + duration ≤ 10 → quantity ≤ 10 → IsMoment (record { start = start; duration = duration; quantity = exactly quantity })
 only_moment start duration quantity some ends few = record {
   some = some;
   ends = ends;
@@ -74,7 +75,8 @@ module _ (object_kind : ObjectKind) (pred_kind : PredKind) (numbers : List ℕ) 
   kind_of value object (suc number, is, at) = absurd (cc)
 
   pub fit_no_timelines : (decisions : List Decision) (state : State) → (object_kind ≡ kind.Timeline → ⊥) → FitTimelines model decisions state
-  fit_no_timelines decisions state none one other timeline apart active active' is on on' late = absurd (none (sym (kind_of timeline is.0 is.1) ∙ is.2))
+  fit_no_timelines decisions state none one other share late =
+      let is = share.is_timeline in absurd (none (sym (kind_of share.timeline is.0 is.1) ∙ is.2))
 
   pub fit_no_reusables : (decisions : List Decision) (state : State) → ((capacity : ℤ) → object_kind ≡ kind.Reusable capacity → ⊥) → FitReusables model decisions state
   fit_no_reusables decisions state none value object capacity instant is kind_is inside = absurd (none capacity (sym (kind_of value object is) ∙ kind_is))
@@ -84,11 +86,11 @@ module _ (object_kind : ObjectKind) (pred_kind : PredKind) (numbers : List ℕ) 
 
   -- where nothing is activated no block opens
   pub no_block : (state : State) (decisions : List Decision) (blocks : List TokenBlock) → ((token : TokenName) → Contains decisions (Activate token) → ⊥)
-      → (block : TokenBlock) (entries : Entries) → IsSupportedBlock model decisions state block entries → Contains blocks block
+      → (block : TokenBlock) (entries : Entries) → IsSupportedBlock model (situation_of decisions state) block entries → Contains blocks block
   no_block state decisions blocks none block entries p = absurd (none block.token p.is_open.activated)
 
   -- roots are supported
-  pub root_supported : (decisions : List Decision) (state : State) (number : ℕ) (root_kind : RootKind) → slice_get (map root_of kinds) number ≡ Some (root_of root_kind) → IsSupportedToken model decisions state (root_token number)
+  pub root_supported : (decisions : List Decision) (state : State) (number : ℕ) (root_kind : RootKind) → slice_get (map root_of kinds) number ≡ Some (root_of root_kind) → IsSupportedToken model (situation_of decisions state) (root_token number)
   root_supported decisions state number root_kind at = record {
     root = root_of root_kind;
     is_root = at;

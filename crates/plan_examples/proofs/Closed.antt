@@ -30,19 +30,20 @@ use Rattle.model_core.specs.declared.variable.Base.TheVariants.{Given}
 use Rattle.model_core.specs.Blocks.{TokenBlock, Follows, HasBlock, IsBlock, IsBlockBefore, Direct, OfSlot, OfLocal, OfItem, OfBranch, direct, chosen}
 use Rattle.model_core.specs.Consistency.{Ends}
 use Rattle.model_core.specs.Constraints.{HoldsOf}
-use Rattle.model_core.specs.Entries.{Entries, Nothing}
-use Rattle.model_core.specs.State.{State, Entry, Gives, IsAbout, IsState}
+use Rattle.model_core.specs.Entries.{Entries, NoEntry}
+use Rattle.model_core.specs.State.{State, VarDomain, Gives, IsAbout, IsState}
 use Rattle.model_core.specs.Tokens.{HasToken, HasRule, root_token, slot_of}
 use Rattle.model_core.specs.Variables.{HasBase, HasPartBase, IsInBase}
 use Rattle.plan_defs.specs.Claims.{Claim, IsClaim, lasts}
 use Rattle.plan_defs.specs.Closure.{IsClosed, AreInBase, IsRespected}
-use Rattle.plan_defs.specs.Consistency.{IsConsistent}
+use Rattle.plan_defs.specs.Consistency.{IsClaimConsistent}
 use Rattle.plan_defs.specs.Resources.{FitReusables, FitReservoirs}
+use Rattle.plan_defs.specs.Situations.{situation_of}
 use Rattle.plan_defs.specs.Support.{Opens, IsSupportedToken, IsSupportedBlock}
-use Rattle.plan_defs.specs.Terms.{OfRule}
+use Rattle.plan_defs.specs.Terms.{InRule}
 use Rattle.plan_defs.specs.Timelines.{FitTimelines}
 use Rattle.plan_defs.proofs.Ordered.{contains_none}
-use Rattle.plan_examples.specs.Scenes.{the_object, predicate_of, root_of, scene, Moment, only, tokens_of, entries_of, state_of, guarded}
+use Rattle.plan_examples.specs.Scenes.{the_object, predicate_of, root_of, scene, Moment, exactly, tokens_of, scene_entries, scene_state, guarded}
 use Rattle.plan_examples.proofs.Lists.{all_members, only_member, same_some, get_map, map_get, get_alike}
 use Rattle.plan_examples.proofs.Scenes.{tokens_in_order, entries_in_order, HasPartDomain, entry_of, entry_there, token_of, token_there}
 use Rattle.plan_examples.proofs.Tuples.{three_consistent}
@@ -62,26 +63,26 @@ IsPlain decision = ⊥
 
 -- ---- what stands in the one rule
 
-pub nothing_follows : (Allows : Guard → Side → Type 0) (path : List Turn) (entries : Entries) → Follows Allows Nothing path entries → entries ≡ Nothing
+pub nothing_follows : (Allows : Guard → Side → Type 0) (path : List Turn) (entries : Entries) → Follows Allows NoEntry path entries → entries ≡ NoEntry
 nothing_follows Allows [] entries way = way
 nothing_follows Allows (turn ∷ path) entries way = let at = way.1.2.0 in absurd (cc)
 
 -- the ways through the rule lead to its own block, or to one without entries
-pub guarded_follows : (Allows : Guard → Side → Type 0) (path : List Turn) (entries : Entries) → Follows Allows guarded.top path entries → (entries ≡ guarded.top) ⊎ (entries ≡ Nothing)
+pub guarded_follows : (Allows : Guard → Side → Type 0) (path : List Turn) (entries : Entries) → Follows Allows guarded.top path entries → (entries ≡ guarded.top) ⊎ (entries ≡ NoEntry)
 guarded_follows Allows [] entries way = inl way
 guarded_follows Allows (turn ∷ path) entries way = inr (behind turn.entry turn.side way.0 way.1.0 way.1.1 way.1.2.0 way.1.2.1.1)
   where
     behind : (place : ℕ) (side : Side) (guard : Guard) (then otherwise : Entries) → slice_get (direct guarded.top) place ≡ Some (OfBranch guard then otherwise)
-        → Follows Allows (chosen side then otherwise) path entries → entries ≡ Nothing
+        → Follows Allows (chosen side then otherwise) path entries → entries ≡ NoEntry
     behind (suc place) side guard then otherwise at way = absurd (cc)
-    behind zero Then guard then otherwise at way = let is : then ≡ Nothing = cc in nothing_follows Allows path entries (subst (λ e. Follows Allows e path entries) is way)
-    behind zero Otherwise guard then otherwise at way = let is : otherwise ≡ Nothing = cc in nothing_follows Allows path entries (subst (λ e. Follows Allows e path entries) is way)
+    behind zero Then guard then otherwise at way = let is : then ≡ NoEntry = cc in nothing_follows Allows path entries (subst (λ e. Follows Allows e path entries) is way)
+    behind zero Otherwise guard then otherwise at way = let is : otherwise ≡ NoEntry = cc in nothing_follows Allows path entries (subst (λ e. Follows Allows e path entries) is way)
 
 -- so nothing but a guard stands anywhere in it
-only_guards : (entries : Entries) (item : Direct) → (entries ≡ guarded.top) ⊎ (entries ≡ Nothing) → Contains (direct entries) item → (guard : Guard) × ((then otherwise : Entries) × (item ≡ OfBranch guard then otherwise))
+only_guards : (entries : Entries) (item : Direct) → (entries ≡ guarded.top) ⊎ (entries ≡ NoEntry) → Contains (direct entries) item → (guard : Guard) × ((then otherwise : Entries) × (item ≡ OfBranch guard then otherwise))
 only_guards entries item (inl top) c =
-    let same = only_member (OfBranch _ Nothing Nothing) item (subst (λ e. Contains (direct e) item) top c) in
-    (_, (Nothing, Nothing, sym same))
+    let same = only_member (OfBranch _ NoEntry NoEntry) item (subst (λ e. Contains (direct e) item) top c) in
+    (_, (NoEntry, NoEntry, sym same))
 only_guards entries item (inr none) c = absurd (contains_none item (subst (λ e. Contains (direct e) item) none c))
 
 module _ (object_kind : ObjectKind) (pred_kind : PredKind) (numbers : List ℕ) (rules : List Rule) (kinds : List RootKind) where
@@ -119,16 +120,16 @@ module _ (object_kind : ObjectKind) (pred_kind : PredKind) (numbers : List ℕ) 
   -- a part that has a base has a domain at each moment
   part_domain : (moment : Moment) (part : Part) (base : Base) → HasPartBase model the_slot part base → (domain : Domain) × HasPartDomain moment part domain
   part_domain moment Object base is = (the_object, refl)
-  part_domain moment Start base is = (only moment.start, refl)
-  part_domain moment End base is = (only (moment.start + moment.duration), refl)
-  part_domain moment Duration base is = (only moment.duration, refl)
+  part_domain moment Start base is = (exactly moment.start, refl)
+  part_domain moment End base is = (exactly (moment.start + moment.duration), refl)
+  part_domain moment Duration base is = (exactly moment.duration, refl)
   part_domain moment (Param zero) base is = (moment.quantity, refl)
   part_domain moment (Param (suc number)) base (variable, has, e) =
       let predicate : predicate_of pred_kind numbers ≡ has.predicate = same_some (predicate_of pred_kind numbers) has.predicate has.is_predicate in
       let declared : slice_get (predicate_of pred_kind numbers).params (suc number) ≡ Some variable = subst (λ (p : Pred). slice_get p.params (suc number) ≡ Some variable) (sym predicate) has.declared in
       absurd (cc)
 
-  only_within : (value lo hi : ℕ) → lo ≤ value → value ≤ hi → IsWithin (only value) (Range (pos lo) (pos hi))
+  only_within : (value lo hi : ℕ) → lo ≤ value → value ≤ hi → IsWithin (exactly value) (Range (pos lo) (pos hi))
   only_within value lo hi low high = record { kind = tt; values = λ v has. (omega (arith, ints, has.0), omega (arith, ints, has.1)) }
 
   part_within : (moment : Moment) (part : Part) (domain : Domain) → IsMoment moment → HasPartDomain moment part domain → IsInBase domain (part_base part)
@@ -139,7 +140,7 @@ module _ (object_kind : ObjectKind) (pred_kind : PredKind) (numbers : List ℕ) 
   part_within moment (Param zero) domain ok is = subst (λ d. IsWithin d (Range (pos 0) (pos 1000000))) (sym is) ok.within
   part_within moment (Param (suc number)) domain ok is = absurd is
 
-  only_domain : (value : ℕ) → value ≤ 10 → IsDomain (only value)
+  only_domain : (value : ℕ) → value ≤ 10 → IsDomain (exactly value)
   only_domain value low = ((omega (arith, ints), omega (arith, ints)), (omega (arith, ints), omega (arith, ints)), omega (arith, ints))
 
   object_domain : IsDomain the_object
@@ -167,9 +168,9 @@ module _ (object_kind : ObjectKind) (pred_kind : PredKind) (numbers : List ℕ) 
   module _ (blocks : List TokenBlock) (moments : List Moment) (lengths : length moments ≡ length kinds) (are : (place : ℕ) (moment : Moment) → slice_get moments place ≡ Some moment → IsMoment moment)
       (plain : (number : ℕ) (rule : Rule) → HasRule model 0 number rule → rule ≡ guarded) where
     abbrev state : State
-    state = state_of blocks moments
+    state = scene_state blocks moments
 
-    stands_in : (Allows : Guard → Side → Type 0) (block : TokenBlock) (entries : Entries) (number : ℕ) → block.token ≡ root_token number → HasBlock model Allows block entries → (entries ≡ guarded.top) ⊎ (entries ≡ Nothing)
+    stands_in : (Allows : Guard → Side → Type 0) (block : TokenBlock) (entries : Entries) (number : ℕ) → block.token ≡ root_token number → HasBlock model Allows block entries → (entries ≡ guarded.top) ⊎ (entries ≡ NoEntry)
     stands_in Allows block entries number named p =
         let slot = slot_same number p.slot (subst (λ t. HasToken model t p.slot) named p.has_token) in
         let rule = plain block.rule p.rule (subst (λ (s : Slot). HasRule model s.pred block.rule p.rule) slot p.has_rule) in
@@ -199,11 +200,11 @@ module _ (object_kind : ObjectKind) (pred_kind : PredKind) (numbers : List ℕ) 
 
     no_locals : (token : TokenName) (rule number : ℕ) → All (HasItsBlock moments) blocks → IsAbout model state (Local token rule number) → ⊥
     no_locals token rule number blocks_ok about =
-        let block : TokenBlock = about.0 in
-        let entries : Entries = about.1.1.1.1.0 in
-        let place : HasItsBlock moments block = All-contains (HasItsBlock moments) blocks block blocks_ok about.1.0 in
+        let block : TokenBlock = about.block in
+        let entries : Entries = about.entries in
+        let place : HasItsBlock moments block = All-contains (HasItsBlock moments) blocks block blocks_ok about.is_open in
         let is = token_of 0 moments block.token place.0 in
-        let none = only_guards entries (OfLocal number) (stands_in (λ guard side. ⊤) block entries is.place (is.named ∙ ap root_token (no_shift is.place)) about.1.1.1.1.1.0) about.1.1.1.1.1.1 in
+        let none = only_guards entries (OfLocal number) (stands_in (λ guard side. ⊤) block entries is.place (is.named ∙ ap root_token (no_shift is.place)) about.is_block) about.stands in
         let e = none.1.2 in absurd (cc)
 
     variables_of : All (HasItsBlock moments) blocks → (name : VarName) → IsAbout model state name ↔ ((domain : Domain) × Gives state name domain)
@@ -220,7 +221,7 @@ module _ (object_kind : ObjectKind) (pred_kind : PredKind) (numbers : List ℕ) 
           (the_slot, subst (λ t. HasToken model t the_slot) (sym (is.named ∙ ap root_token (no_shift is.place))) (has_token is.place kind.0 kind.1)));
       blocks = blocks_ok;
       variables = variables_of blocks_ok;
-      domains = all_members (λ (entry : Entry). IsDomain entry.domain) (entries_of 0 moments) (λ entry c.
+      domains = all_members (λ (entry : VarDomain). IsDomain entry.domain) (scene_entries 0 moments) (λ entry c.
           let is = entry_of 0 moments entry.name entry.domain c in
           part_is_domain is.moment is.part entry.domain (are is.place is.moment is.at) is.is);
     }
@@ -237,55 +238,55 @@ module _ (object_kind : ObjectKind) (pred_kind : PredKind) (numbers : List ℕ) 
         )
 
     -- a supported token is a root
-    supported_at : (decisions : List Decision) (number : ℕ) (steps : List Step) → IsSupportedToken model decisions state (record { root = number; steps = steps }) → Contains (tokens_of 0 moments) (record { root = number; steps = steps })
+    supported_at : (decisions : List Decision) (number : ℕ) (steps : List Step) → IsSupportedToken model (situation_of decisions state) (record { root = number; steps = steps }) → Contains (tokens_of 0 moments) (record { root = number; steps = steps })
     supported_at decisions number [] p =
         let kind = get_map root_of kinds number p.root p.is_root in
         let moment = get_alike kinds moments number kind.0 (sym lengths) kind.1.0 in
         subst (λ n. Contains (tokens_of 0 moments) (root_token n)) (no_shift number) (token_there 0 moments number moment.0 moment.1)
     supported_at decisions number (step ∷ steps) p =
         let asks = p.asked [] step steps refl in
-        let none = only_guards asks.entries (OfSlot step.slot) (stands_in (Opens model decisions state (OfRule (root_token number) step.rule)) (record { token = root_token number; rule = step.rule; path = asks.path }) asks.entries number refl asks.is_open.has_block) asks.stands in
+        let none = only_guards asks.entries (OfSlot step.slot) (stands_in (Opens model (situation_of decisions state) (InRule (root_token number) step.rule)) (record { token = root_token number; rule = step.rule; path = asks.path }) asks.entries number refl asks.is_open.has_block) asks.stands in
         let e = none.1.2 in absurd (cc)
 
-    pub supported : (decisions : List Decision) (token : TokenName) → IsSupportedToken model decisions state token → Contains (tokens_of 0 moments) token
+    pub supported : (decisions : List Decision) (token : TokenName) → IsSupportedToken model (situation_of decisions state) token → Contains (tokens_of 0 moments) token
     supported decisions token p = supported_at decisions token.root token.steps p
 
     -- a token ends its duration after its start
-    lasts_at : (number : ℕ) (moment : Moment) → slice_get moments number ≡ Some moment → IsConsistent model state (lasts (root_token number))
+    lasts_at : (number : ℕ) (moment : Moment) → slice_get moments number ≡ Some moment → IsClaimConsistent model state (lasts (root_token number))
     lasts_at number moment at =
         let gives : (part : Part) (domain : Domain) → HasPartDomain moment part domain → Gives state (Token (root_token number) part) domain
         = λ part domain is. subst (λ n. Gives state (Token (root_token n) part) domain) (no_shift number) (entry_there 0 moments number moment part domain at is) in
-        let start = only moment.start in
-        let duration = only moment.duration in
-        let end = only (moment.start + moment.duration) in
+        let start = exactly moment.start in
+        let duration = exactly moment.duration in
+        let end = exactly (moment.start + moment.duration) in
         let sum : (pos moment.start +ℤ pos moment.duration) ≡ pos (moment.start + moment.duration) = omega (arith, ints) in
         let in_start = (let b : IsBetweenEnds start (pos moment.start) = (omega (arith, ints), omega (arith, ints)) in b) in
         let in_duration = (let b : IsBetweenEnds duration (pos moment.duration) = (omega (arith, ints), omega (arith, ints)) in b) in
-        let in_end = (let b : IsBetweenEnds end (pos (moment.start + moment.duration)) = (omega (arith, ints), omega (arith, ints)) in b) in (
-          start ∷ duration ∷ end ∷ [],
-          (gives Start start refl, (gives Duration duration refl, (gives End end refl, tt))),
-          three_consistent Ends (HoldsOf AddEq) start duration end
+        let in_end = (let b : IsBetweenEnds end (pos (moment.start + moment.duration)) = (omega (arith, ints), omega (arith, ints)) in b) in record {
+          domains = start ∷ duration ∷ end ∷ [];
+          have = (gives Start start refl, (gives Duration duration refl, (gives End end refl, tt)));
+          agree = three_consistent Ends (HoldsOf AddEq) start duration end
               (λ v tested. ([], pos moment.duration ∷ pos (moment.start + moment.duration) ∷ [], tt, (in_duration, (in_end, tt)), one_value moment.start v tested (λ w. (w +ℤ pos moment.duration) ≡ pos (moment.start + moment.duration)) sum))
               (λ v tested. (pos moment.start ∷ [], pos (moment.start + moment.duration) ∷ [], (in_start, tt), (in_end, tt), one_value moment.duration v tested (λ w. (pos moment.start +ℤ w) ≡ pos (moment.start + moment.duration)) sum))
-              (λ v tested. (pos moment.start ∷ pos moment.duration ∷ [], [], (in_start, (in_duration, tt)), tt, one_value (moment.start + moment.duration) v tested (λ w. (pos moment.start +ℤ pos moment.duration) ≡ w) sum)),
-        )
+              (λ v tested. (pos moment.start ∷ pos moment.duration ∷ [], [], (in_start, (in_duration, tt)), tt, one_value (moment.start + moment.duration) v tested (λ w. (pos moment.start +ℤ pos moment.duration) ≡ w) sum));
+        }
       where
-        one_value : (number : ℕ) (v : ℤ) → IsTested (only number) v → (P : ℤ → Type 0) → P (pos number) → P v
+        one_value : (number : ℕ) (v : ℤ) → IsTested (exactly number) v → (P : ℤ → Type 0) → P (pos number) → P v
         one_value number v (inl e) P p = subst P (sym e) p
         one_value number v (inr e) P p = subst P (sym e) p
 
-    claims : (decisions : List Decision) → ((decision : Decision) → Contains decisions decision → IsPlain decision) → All (HasItsBlock moments) blocks → (claim : Claim) → IsClaim model decisions state claim → IsConsistent model state claim
-    claims decisions quiet blocks_ok claim (inl p) = absurd (contains_none p.0 p.1)
+    claims : (decisions : List Decision) → ((decision : Decision) → Contains decisions decision → IsPlain decision) → All (HasItsBlock moments) blocks → (claim : Claim) → IsClaim model decisions state claim → IsClaimConsistent model state claim
+    claims decisions quiet blocks_ok claim (inl p) = absurd (contains_none p.item p.stands)
     claims decisions quiet blocks_ok claim (inr (inl p)) =
         let place : HasItsBlock moments p.block = All-contains (HasItsBlock moments) blocks p.block blocks_ok p.is_open in
         let is = token_of 0 moments p.block.token place.0 in
         let none = only_guards p.entries (OfItem p.item) (stands_in (λ guard side. ⊤) p.block p.entries is.place (is.named ∙ ap root_token (no_shift is.place)) p.has_block) p.stands in
         let e = none.1.2 in absurd (cc)
-    claims decisions quiet blocks_ok claim (inr (inr (inl (token, there, says)))) =
-        let is = token_of 0 moments token there in
-        subst (IsConsistent model state) (sym (says ∙ ap lasts (is.named ∙ ap root_token (no_shift is.place)))) (lasts_at is.place is.moment is.at)
-    claims decisions quiet blocks_ok claim (inr (inr (inr (inl p)))) = absurd (quiet (Merge p.0 p.1) p.2.1.0)
-    claims decisions quiet blocks_ok claim (inr (inr (inr (inr p)))) = absurd (quiet (Order p.0 p.1) p.2.0)
+    claims decisions quiet blocks_ok claim (inr (inr (inl p))) =
+        let is = token_of 0 moments p.token p.there in
+        subst (IsClaimConsistent model state) (sym (p.says ∙ ap lasts (is.named ∙ ap root_token (no_shift is.place)))) (lasts_at is.place is.moment is.at)
+    claims decisions quiet blocks_ok claim (inr (inr (inr (inl p)))) = absurd (quiet (Merge p.token p.target) p.merged)
+    claims decisions quiet blocks_ok claim (inr (inr (inr (inr p)))) = absurd (quiet (Order p.one p.other) p.ordered)
 
     respected_of : (state' : State) (decision : Decision) → IsPlain decision → IsRespected decision state'
     respected_of state' (Activate token) plain = tt
@@ -296,16 +297,18 @@ module _ (object_kind : ObjectKind) (pred_kind : PredKind) (numbers : List ℕ) 
 
     -- so the state is closed where timelines and resources fit, and no block is missing
     pub closed : (decisions : List Decision) → ((decision : Decision) → Contains decisions decision → IsPlain decision) → AllPairs IsBlockBefore blocks → All (HasItsBlock moments) blocks
-        → ((block : TokenBlock) (entries : Entries) → IsSupportedBlock model decisions state block entries → Contains blocks block)
+        → ((block : TokenBlock) (entries : Entries) → IsSupportedBlock model (situation_of decisions state) block entries → Contains blocks block)
         → FitTimelines model decisions state → FitReusables model decisions state → FitReservoirs model decisions state → IsClosed model decisions state
     closed decisions quiet ordered blocks_ok complete timelines reusables reservoirs = record {
-      is_state = is_state ordered blocks_ok;
-      tokens = supported decisions;
-      blocks = complete;
-      in_base = in_base;
-      respected = λ decision there. respected_of state decision (quiet decision there);
-      consistent = claims decisions quiet blocks_ok;
-      timelines = timelines;
+      consistent = record {
+        is_state = is_state ordered blocks_ok;
+        tokens = supported decisions;
+        blocks = complete;
+        in_base = in_base;
+        respected = λ decision there. respected_of state decision (quiet decision there);
+        claims = claims decisions quiet blocks_ok;
+        timelines = timelines;
+      };
       reusables = reusables;
       reservoirs = reservoirs;
     }

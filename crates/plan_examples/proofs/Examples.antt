@@ -30,24 +30,26 @@ use Rattle.model_core.specs.declared.variable.Base.TheVariants.{Given}
 use Rattle.model_core.specs.Blocks.{TokenBlock, IsBlock, IsBlockBefore, Follows, OfBranch, direct, chosen}
 use Rattle.model_core.specs.Consistency.{Ends, Admits}
 use Rattle.model_core.specs.Constraints.{HoldsOf, AgreeOn}
-use Rattle.model_core.specs.Entries.{Entries, Nothing}
+use Rattle.model_core.specs.Decided.{IsActivated, IsDecided}
+use Rattle.model_core.specs.Entries.{Entries, NoEntry}
 use Rattle.model_core.specs.State.{State, Gives, AreInOrder}
 use Rattle.model_core.specs.Tokens.{HasToken, HasRule, IsFact, root_token}
 use Rattle.plan_defs.specs.Claims.{part_of}
 use Rattle.plan_defs.specs.Closure.{IsClosed}
-use Rattle.plan_defs.specs.Decided.{IsResolved}
 use Rattle.plan_defs.specs.Consistency.{HasField}
 use Rattle.plan_defs.specs.Timelines.{FitTimelines}
-use Rattle.plan_defs.specs.Resources.{FitReusables, FitReservoirs, IsActor, SurelyUses, IsShare, SurelyChanges, IsHighChange, IsTokenComplete, total}
-use Rattle.plan_defs.specs.Support.{Chooses, Opens, IsSupportedToken, IsSupportedBlock}
-use Rattle.plan_defs.specs.Terms.{OfRule, Value, Variable, HasDomain}
+use Rattle.plan_defs.specs.Resources.{FitReusables, FitReservoirs, IsActor, SurelyUses, IsShare, SurelyChanges, IsHighChange, IsTokenComplete}
+use Rattle.plan_defs.specs.Situations.{Situation, situation_of}
+use Rattle.plan_defs.specs.Sums.{sum_of}
+use Rattle.plan_defs.specs.Support.{Selects, Opens, IsSupportedToken, IsSupportedBlock}
+use Rattle.plan_defs.specs.Terms.{InRule, Value, Variable, HasDomain}
 use Rattle.plan_defs.specs.Timelines.{IsOn}
 use Rattle.plan_defs.proofs.BlockOrder.{block_transitive}
 use Rattle.plan_defs.proofs.Ordered.{contains_head, contains_cases, contains_none, ordered_none, ordered_one, ordered_link}
 use Rattle.plan_defs.proofs.States.{gives_same}
-use Rattle.plan_examples.specs.Globals.{nothing, up_to}
+use Rattle.plan_examples.specs.Globals.{empty_state, up_to}
 use Rattle.plan_examples.specs.Cases.{short, early, late, using, taking, ruled, tool, battery, drained, activated, rejected}
-use Rattle.plan_examples.specs.Scenes.{the_object, predicate_of, root_of, scene, Moment, only, tokens_of, state_of, guarded, top_block, then_block}
+use Rattle.plan_examples.specs.Scenes.{the_object, predicate_of, root_of, scene, Moment, exactly, tokens_of, scene_state, guarded, top_block, then_block}
 use Rattle.plan_examples.proofs.Casts.{only_moment, open_moment, one_moment, two_moments, nothing_decided, one_decided, kind_of, fit_no_timelines, fit_no_reusables, fit_no_reservoirs, no_block, root_supported, no_rule, one_rule, none_activated}
 use Rattle.plan_examples.proofs.Closed.{IsMoment, closed, supported, slot_same, HasItsBlock}
 use Rattle.plan_examples.proofs.Lists.{all_members, only_member, same_some}
@@ -57,37 +59,37 @@ use Rattle.plan_examples.proofs.Scenes.{tokens_in_order, entries_in_order, HasPa
 undecided_closed : (object_kind : ObjectKind) (pred_kind : PredKind) (numbers : List ℕ) (rules : List Rule) (kinds : List RootKind) (moments : List Moment) → length moments ≡ length kinds
     → ((place : ℕ) (moment : Moment) → slice_get moments place ≡ Some moment → IsMoment moment)
     → ((number : ℕ) (rule : Rule) → HasRule (scene object_kind pred_kind numbers rules kinds) 0 number rule → rule ≡ guarded)
-    → FitTimelines (scene object_kind pred_kind numbers rules kinds) [] (state_of [] moments) → FitReusables (scene object_kind pred_kind numbers rules kinds) [] (state_of [] moments)
-    → FitReservoirs (scene object_kind pred_kind numbers rules kinds) [] (state_of [] moments) → IsClosed (scene object_kind pred_kind numbers rules kinds) [] (state_of [] moments)
+    → FitTimelines (scene object_kind pred_kind numbers rules kinds) [] (scene_state [] moments) → FitReusables (scene object_kind pred_kind numbers rules kinds) [] (scene_state [] moments)
+    → FitReservoirs (scene object_kind pred_kind numbers rules kinds) [] (scene_state [] moments) → IsClosed (scene object_kind pred_kind numbers rules kinds) [] (scene_state [] moments)
 undecided_closed object_kind pred_kind numbers rules kinds moments lengths are plain timelines reusables reservoirs =
     closed object_kind pred_kind numbers rules kinds [] moments lengths are plain [] nothing_decided (ordered_none IsBlockBefore)
     (all_members (HasItsBlock object_kind pred_kind numbers rules kinds moments) [] (λ block c. absurd (contains_none block c)))
-    (no_block object_kind pred_kind numbers rules kinds (state_of [] moments) [] [] none_activated) timelines reusables reservoirs
+    (no_block object_kind pred_kind numbers rules kinds (scene_state [] moments) [] [] none_activated) timelines reusables reservoirs
 
 plain_closed : (numbers : List ℕ) (rules : List Rule) (kinds : List RootKind) (moments : List Moment) → length moments ≡ length kinds
     → ((place : ℕ) (moment : Moment) → slice_get moments place ≡ Some moment → IsMoment moment)
     → ((number : ℕ) (rule : Rule) → HasRule (scene kind.Plain pred.Plain numbers rules kinds) 0 number rule → rule ≡ guarded)
-    → IsClosed (scene kind.Plain pred.Plain numbers rules kinds) [] (state_of [] moments)
+    → IsClosed (scene kind.Plain pred.Plain numbers rules kinds) [] (scene_state [] moments)
 plain_closed numbers rules kinds moments lengths are plain =
     undecided_closed kind.Plain pred.Plain numbers rules kinds moments lengths are plain
-    (fit_no_timelines kind.Plain pred.Plain numbers rules kinds [] (state_of [] moments) (λ e. absurd (cc)))
-    (fit_no_reusables kind.Plain pred.Plain numbers rules kinds [] (state_of [] moments) (λ capacity e. absurd (cc)))
-    (fit_no_reservoirs kind.Plain pred.Plain numbers rules kinds [] (state_of [] moments) (λ initial low high e. absurd (cc)))
+    (fit_no_timelines kind.Plain pred.Plain numbers rules kinds [] (scene_state [] moments) (λ e. absurd (cc)))
+    (fit_no_reusables kind.Plain pred.Plain numbers rules kinds [] (scene_state [] moments) (λ capacity e. absurd (cc)))
+    (fit_no_reservoirs kind.Plain pred.Plain numbers rules kinds [] (scene_state [] moments) (λ initial low high e. absurd (cc)))
 
-pub goal_closed : IsClosed (scene kind.Plain pred.Plain [] [] (Goal ∷ [])) [] (state_of [] (short (only 1) ∷ []))
+pub goal_closed : IsClosed (scene kind.Plain pred.Plain [] [] (Goal ∷ [])) [] (scene_state [] (short (exactly 1) ∷ []))
 goal_closed =
-    plain_closed [] [] (Goal ∷ []) (short (only 1) ∷ []) refl (one_moment (short (only 1)) (only_moment 0 1 1 (omega arith) (omega arith) (omega arith)))
+    plain_closed [] [] (Goal ∷ []) (short (exactly 1) ∷ []) refl (one_moment (short (exactly 1)) (only_moment 0 1 1 (omega arith) (omega arith) (omega arith)))
     (no_rule kind.Plain pred.Plain [] (Goal ∷ []))
 
-pub goal_is_missing : IsClosed (scene kind.Plain pred.Plain [] [] (Goal ∷ [])) [] nothing → ⊥
-goal_is_missing p = contains_none (root_token 0) (p.tokens (root_token 0) (root_supported kind.Plain pred.Plain [] [] (Goal ∷ []) [] nothing 0 Goal refl))
+pub goal_is_missing : IsClosed (scene kind.Plain pred.Plain [] [] (Goal ∷ [])) [] empty_state → ⊥
+goal_is_missing p = contains_none (root_token 0) (p.consistent.tokens (root_token 0) (root_supported kind.Plain pred.Plain [] [] (Goal ∷ []) [] empty_state 0 Goal refl))
 
 -- ---- blocks
 
 ruled_rule : (number : ℕ) (rule : Rule) → HasRule ruled 0 number rule → rule ≡ guarded
 ruled_rule number rule p = (one_rule kind.Plain pred.Plain (Goal ∷ []) number rule p).0
 
-pub inactive_closed : IsClosed ruled [] (state_of [] (short (up_to 1) ∷ []))
+pub inactive_closed : IsClosed ruled [] (scene_state [] (short (up_to 1) ∷ []))
 inactive_closed = plain_closed (0 ∷ []) (guarded ∷ []) (Goal ∷ []) (short (up_to 1) ∷ []) refl (one_moment (short (up_to 1)) open_moment) ruled_rule
 
 -- `quantity == 1`
@@ -96,14 +98,18 @@ the_guard = Equal (term.Here (Param 0)) (term.Lit (pos 1))
 
 module _ (blocks : List TokenBlock) (quantity : Domain) where
   abbrev ruled_state : State
-  ruled_state = state_of blocks (short quantity ∷ [])
+  ruled_state = scene_state blocks (short quantity ∷ [])
+
+  -- what is so there
+  abbrev ruled_situation : Situation
+  ruled_situation = situation_of activated ruled_state
 
   gives_quantity : Gives ruled_state (Token (root_token 0) (Param 0)) quantity
   gives_quantity = entry_there 0 (short quantity ∷ []) 0 (short quantity) (Param 0) quantity refl refl
 
   -- the block to which this way leads
-  at_way : (path : List Turn) (entries : Entries) → Follows (Opens ruled activated ruled_state (OfRule (root_token 0) 0)) guarded.top path entries
-      → IsSupportedBlock ruled activated ruled_state (record { token = root_token 0; rule = 0; path = path }) entries
+  at_way : (path : List Turn) (entries : Entries) → Follows (Opens ruled ruled_situation (InRule (root_token 0) 0)) guarded.top path entries
+      → IsSupportedBlock ruled ruled_situation (record { token = root_token 0; rule = 0; path = path }) entries
   at_way path entries way = record {
     supported = root_supported kind.Plain pred.Plain (0 ∷ []) (guarded ∷ []) (Goal ∷ []) activated ruled_state 0 Goal refl;
     is_open = record {
@@ -128,33 +134,33 @@ module _ (blocks : List TokenBlock) (quantity : Domain) where
   }
 
 -- the rule's own block is open as soon as the token is activated
-pub rule_is_missing : IsClosed ruled activated (state_of [] (short (up_to 1) ∷ [])) → ⊥
-rule_is_missing p = contains_none top_block (p.blocks top_block guarded.top (at_way [] (up_to 1) [] guarded.top refl))
+pub rule_is_missing : IsClosed ruled activated (scene_state [] (short (up_to 1) ∷ [])) → ⊥
+rule_is_missing p = contains_none top_block (p.consistent.blocks top_block guarded.top (at_way [] (up_to 1) [] guarded.top refl))
 
 -- what is known of the guard of the rule
 guard_terms : (blocks : List TokenBlock) (quantity : Domain) (ordered : AreInOrder (ruled_state blocks quantity)) (place : ℕ) (side : Side) (guard : Guard) (then otherwise : Entries)
-    → slice_get (direct guarded.top) place ≡ Some (OfBranch guard then otherwise) → Opens ruled activated (ruled_state blocks quantity) (OfRule (root_token 0) 0) guard side
-    → (place ≡ 0) × ((then ≡ Nothing) × ((otherwise ≡ Nothing) × ((v w : ℤ) → Has quantity v → Has (only 1) w → Chooses the_guard side v w)))
+    → slice_get (direct guarded.top) place ≡ Some (OfBranch guard then otherwise) → Opens ruled (ruled_situation blocks quantity) (InRule (root_token 0) 0) guard side
+    → (place ≡ 0) × ((then ≡ NoEntry) × ((otherwise ≡ NoEntry) × ((v w : ℤ) → Has quantity v → Has (exactly 1) w → Selects the_guard side v w)))
 guard_terms blocks quantity ordered (suc place) side guard then otherwise at opens = absurd (cc)
 guard_terms blocks quantity ordered zero side guard then otherwise at opens =
     let same : the_guard ≡ guard = cc in
-    let thens : then ≡ Nothing = cc in
-    let otherwises : otherwise ≡ Nothing = cc in
-    (refl, (thens, (otherwises, known (subst (λ g. Opens ruled activated (ruled_state blocks quantity) (OfRule (root_token 0) 0) g side) (sym same) opens))))
+    let thens : then ≡ NoEntry = cc in
+    let otherwises : otherwise ≡ NoEntry = cc in
+    (refl, (thens, (otherwises, known (subst (λ g. Opens ruled (ruled_situation blocks quantity) (InRule (root_token 0) 0) g side) (sym same) opens))))
   where
-    known : Opens ruled activated (ruled_state blocks quantity) (OfRule (root_token 0) 0) the_guard side → (v w : ℤ) → Has quantity v → Has (only 1) w → Chooses the_guard side v w
+    known : Opens ruled (ruled_situation blocks quantity) (InRule (root_token 0) 0) the_guard side → (v w : ℤ) → Has quantity v → Has (exactly 1) w → Selects the_guard side v w
     known opens v w has_v has_w =
-        let one : Gives (ruled_state blocks quantity) (Token (root_token 0) (Param 0)) opens.one = subst (λ a. HasDomain (ruled_state blocks quantity) a opens.one) opens.is_one.1 opens.is_one.2 in
-        let other : opens.other ≡ only 1 = subst (λ a. HasDomain (ruled_state blocks quantity) a opens.other) opens.is_other.1 opens.is_other.2 in
+        let one : Gives (ruled_state blocks quantity) (Token (root_token 0) (Param 0)) opens.one = subst (λ a. HasDomain (Gives (ruled_state blocks quantity)) a opens.one) opens.is_one.means opens.is_one.has in
+        let other : opens.other ≡ exactly 1 = subst (λ a. HasDomain (Gives (ruled_state blocks quantity)) a opens.other) opens.is_other.means opens.is_other.has in
         let first : quantity ≡ opens.one = gives_same (ruled_state blocks quantity) ordered (Token (root_token 0) (Param 0)) quantity opens.one (gives_quantity blocks quantity) one in
         opens.always v w (subst (λ d. Has d v) first has_v) (subst (λ d. Has d w) (sym other) has_w)
 
 module _ (blocks : List TokenBlock) (quantity : Domain) where
   abbrev opens_here : Guard → Side → Type 0
-  opens_here guard side = Opens ruled activated (ruled_state blocks quantity) (OfRule (root_token 0) 0) guard side
+  opens_here guard side = Opens ruled (ruled_situation blocks quantity) (InRule (root_token 0) 0) guard side
 
   -- an open block is one of the rule of the goal, and the guards on the way to it open it
-  block_way : (block : TokenBlock) (entries : Entries) → IsSupportedBlock ruled activated (ruled_state blocks quantity) block entries
+  block_way : (block : TokenBlock) (entries : Entries) → IsSupportedBlock ruled (ruled_situation blocks quantity) block entries
       → (block ≡ record { token = root_token 0; rule = 0; path = block.path }) × Follows opens_here guarded.top block.path entries
   block_way block entries p =
       let has = p.is_open.has_block in
@@ -162,15 +168,15 @@ module _ (blocks : List TokenBlock) (quantity : Domain) where
       let token : root_token 0 ≡ block.token = cc in
       let slot = slot_same kind.Plain pred.Plain (0 ∷ []) (guarded ∷ []) (Goal ∷ []) 0 has.slot (subst (λ t. HasToken ruled t has.slot) (sym token) has.has_token) in
       let found = one_rule kind.Plain pred.Plain (Goal ∷ []) block.rule has.rule (subst (λ (s : Slot). HasRule ruled s.pred block.rule has.rule) slot has.has_rule) in
-      let by_rule = subst (λ (r : Rule). Follows (Opens ruled activated (ruled_state blocks quantity) (OfRule block.token block.rule)) r.top block.path entries) found.0 has.way in
-      let by_number = subst (λ n. Follows (Opens ruled activated (ruled_state blocks quantity) (OfRule block.token n)) guarded.top block.path entries) found.1 by_rule in (
+      let by_rule = subst (λ (r : Rule). Follows (Opens ruled (ruled_situation blocks quantity) (InRule block.token block.rule)) r.top block.path entries) found.0 has.way in
+      let by_number = subst (λ n. Follows (Opens ruled (ruled_situation blocks quantity) (InRule block.token n)) guarded.top block.path entries) found.1 by_rule in (
         (λ i. record { token = sym token i; rule = found.1 i; path = block.path }),
-        subst (λ t. Follows (Opens ruled activated (ruled_state blocks quantity) (OfRule t 0)) guarded.top block.path entries) (sym token) by_number,
+        subst (λ t. Follows (Opens ruled (ruled_situation blocks quantity) (InRule t 0)) guarded.top block.path entries) (sym token) by_number,
       )
 
   -- the way ends at once, or goes to a side that the guard chooses
   abbrev GoesTo : List Turn → Type 0
-  GoesTo path = (path ≡ []) ⊎ ((side : Side) × ((path ≡ record { entry = 0; side = side } ∷ []) × ((v w : ℤ) → Has quantity v → Has (only 1) w → Chooses the_guard side v w)))
+  GoesTo path = (path ≡ []) ⊎ ((side : Side) × ((path ≡ record { entry = 0; side = side } ∷ []) × ((v w : ℤ) → Has quantity v → Has (exactly 1) w → Selects the_guard side v w)))
 
   goes_to : AreInOrder (ruled_state blocks quantity) → (path : List Turn) (entries : Entries) → Follows opens_here guarded.top path entries → GoesTo path
   goes_to ordered [] entries way = inl refl
@@ -179,11 +185,11 @@ module _ (blocks : List TokenBlock) (quantity : Domain) where
       let none = ends_there turn.side way.1.0 way.1.1 path entries known.1.0 known.1.1.0 way.1.2.1.1 in
       inr (turn.side, ((λ i. record { entry = known.0 i; side = turn.side } ∷ none i), known.1.1.1))
     where
-      no_turn : (path : List Turn) (entries : Entries) → Follows opens_here Nothing path entries → path ≡ []
+      no_turn : (path : List Turn) (entries : Entries) → Follows opens_here NoEntry path entries → path ≡ []
       no_turn [] entries way = refl
       no_turn (turn ∷ path) entries way = let at = way.1.2.0 in absurd (cc)
 
-      ends_there : (side : Side) (then otherwise : Entries) (path : List Turn) (entries : Entries) → then ≡ Nothing → otherwise ≡ Nothing → Follows opens_here (chosen side then otherwise) path entries → path ≡ []
+      ends_there : (side : Side) (then otherwise : Entries) (path : List Turn) (entries : Entries) → then ≡ NoEntry → otherwise ≡ NoEntry → Follows opens_here (chosen side then otherwise) path entries → path ≡ []
       ends_there Then then otherwise path entries p q way = no_turn path entries (subst (λ e. Follows opens_here e path entries) p way)
       ends_there Otherwise then otherwise path entries p q way = no_turn path entries (subst (λ e. Follows opens_here e path entries) q way)
 
@@ -199,17 +205,17 @@ module _ (blocks : List TokenBlock) (quantity : Domain) where
       (fit_no_reusables kind.Plain pred.Plain (0 ∷ []) (guarded ∷ []) (Goal ∷ []) activated (ruled_state blocks quantity) (λ capacity e. absurd (cc)))
       (fit_no_reservoirs kind.Plain pred.Plain (0 ∷ []) (guarded ∷ []) (Goal ∷ []) activated (ruled_state blocks quantity) (λ initial low high e. absurd (cc)))
 
-in_order : (blocks : List TokenBlock) (moments : List Moment) → AllPairs IsBlockBefore blocks → AreInOrder (state_of blocks moments)
+in_order : (blocks : List TokenBlock) (moments : List Moment) → AllPairs IsBlockBefore blocks → AreInOrder (scene_state blocks moments)
 in_order blocks moments ordered = record { tokens = tokens_in_order 0 moments; blocks = ordered; entries = entries_in_order 0 moments }
 
 has_top : (quantity : Domain) → HasItsBlock kind.Plain pred.Plain (0 ∷ []) (guarded ∷ []) (Goal ∷ []) (short quantity ∷ []) top_block
 has_top quantity = (contains_head (root_token 0) [], (guarded.top, has_block [] quantity [] guarded.top refl))
 
 has_then : (quantity : Domain) → HasItsBlock kind.Plain pred.Plain (0 ∷ []) (guarded ∷ []) (Goal ∷ []) (short quantity ∷ []) then_block
-has_then quantity = (contains_head (root_token 0) [], (Nothing, has_block [] quantity then_block.path Nothing (the_guard, (Nothing, Nothing, (refl, (tt, refl))))))
+has_then quantity = (contains_head (root_token 0) [], (NoEntry, has_block [] quantity then_block.path NoEntry (the_guard, (NoEntry, NoEntry, (refl, (tt, refl))))))
 
 -- as long as the quantity may be 0 or 1 neither block of the guard is open
-pub guard_undecided : IsClosed ruled activated (state_of (top_block ∷ []) (short (up_to 1) ∷ []))
+pub guard_undecided : IsClosed ruled activated (scene_state (top_block ∷ []) (short (up_to 1) ∷ []))
 guard_undecided =
     let ordered = ordered_one IsBlockBefore top_block in
     ruled_closed (top_block ∷ []) (up_to 1) open_moment ordered
@@ -217,7 +223,7 @@ guard_undecided =
     (λ block c. subst (HasItsBlock kind.Plain pred.Plain (0 ∷ []) (guarded ∷ []) (Goal ∷ []) (short (up_to 1) ∷ [])) (only_member top_block block c) (has_top (up_to 1))))
     complete (in_order (top_block ∷ []) (short (up_to 1) ∷ []) ordered)
   where
-    neither : (side : Side) → ((v w : ℤ) → Has (up_to 1) v → Has (only 1) w → Chooses the_guard side v w) → ⊥
+    neither : (side : Side) → ((v w : ℤ) → Has (up_to 1) v → Has (exactly 1) w → Selects the_guard side v w) → ⊥
     neither Then chooses = let e = chooses (pos 0) (pos 1) (omega (arith, ints), omega (arith, ints)) (omega (arith, ints), omega (arith, ints)) in omega (arith, ints, e)
     neither Otherwise chooses = chooses (pos 1) (pos 1) (omega (arith, ints), omega (arith, ints)) (omega (arith, ints), omega (arith, ints)) refl
 
@@ -225,44 +231,47 @@ guard_undecided =
     complete path (inl e) = (0, omega arith, ap (λ p. record { token = root_token 0; rule = 0; path = p }) (sym e))
     complete path (inr goes) = absurd (neither goes.0 goes.1.1)
 
-opens_then : (blocks : List TokenBlock) → opens_here blocks (only 1) the_guard Then
+opens_then : (blocks : List TokenBlock) → opens_here blocks (exactly 1) the_guard Then
 opens_then blocks = record {
-  one_counts = tt;
-  other_counts = tt;
-  one = only 1;
-  other = only 1;
-  is_one = (Variable (Token (root_token 0) (Param 0)), refl, gives_quantity blocks (only 1));
-  is_other = (Value (pos 1), refl, refl);
+  one = exactly 1;
+  other = exactly 1;
+  is_one = record {
+    argument = Variable (Token (root_token 0) (Param 0));
+    means = refl;
+    counts = λ token belongs rejectable. inl (subst (IsActivated activated) belongs (contains_head (Activate (root_token 0)) []));
+    has = gives_quantity blocks (exactly 1);
+  };
+  is_other = record { argument = Value (pos 1); means = refl; counts = tt; has = refl };
   always = λ v w has_v has_w. omega (arith, ints, has_v.0, has_v.1, has_w.0, has_w.1);
 }
 
 -- once it is 1 the block of the guard is asked for
-pub then_is_missing : IsClosed ruled activated (state_of (top_block ∷ []) (short (only 1) ∷ [])) → ⊥
+pub then_is_missing : IsClosed ruled activated (scene_state (top_block ∷ []) (short (exactly 1) ∷ [])) → ⊥
 then_is_missing p =
-    let there = p.blocks then_block Nothing (at_way (top_block ∷ []) (only 1) then_block.path Nothing (the_guard, (Nothing, Nothing, (refl, (opens_then (top_block ∷ []), refl))))) in
+    let there = p.consistent.blocks then_block NoEntry (at_way (top_block ∷ []) (exactly 1) then_block.path NoEntry (the_guard, (NoEntry, NoEntry, (refl, (opens_then (top_block ∷ []), refl))))) in
     let same = only_member top_block then_block there in
     let paths = ap (λ (block : TokenBlock). length block.path) same in
     omega (arith, paths)
 
-pub then_opened : IsClosed ruled activated (state_of (top_block ∷ then_block ∷ []) (short (only 1) ∷ []))
+pub then_opened : IsClosed ruled activated (scene_state (top_block ∷ then_block ∷ []) (short (exactly 1) ∷ []))
 then_opened =
     let ordered = ordered_link IsBlockBefore block_transitive top_block then_block [] (inr (refl, inr (refl, tt))) (ordered_one IsBlockBefore then_block) in
-    ruled_closed (top_block ∷ then_block ∷ []) (only 1) (only_moment 0 1 1 (omega arith) (omega arith) (omega arith)) ordered
-    (all_members (HasItsBlock kind.Plain pred.Plain (0 ∷ []) (guarded ∷ []) (Goal ∷ []) (short (only 1) ∷ [])) (top_block ∷ then_block ∷ []) have)
-    complete (in_order (top_block ∷ then_block ∷ []) (short (only 1) ∷ []) ordered)
+    ruled_closed (top_block ∷ then_block ∷ []) (exactly 1) (only_moment 0 1 1 (omega arith) (omega arith) (omega arith)) ordered
+    (all_members (HasItsBlock kind.Plain pred.Plain (0 ∷ []) (guarded ∷ []) (Goal ∷ []) (short (exactly 1) ∷ [])) (top_block ∷ then_block ∷ []) have)
+    complete (in_order (top_block ∷ then_block ∷ []) (short (exactly 1) ∷ []) ordered)
   where
-    have : (block : TokenBlock) → Contains (top_block ∷ then_block ∷ []) block → HasItsBlock kind.Plain pred.Plain (0 ∷ []) (guarded ∷ []) (Goal ∷ []) (short (only 1) ∷ []) block
+    have : (block : TokenBlock) → Contains (top_block ∷ then_block ∷ []) block → HasItsBlock kind.Plain pred.Plain (0 ∷ []) (guarded ∷ []) (Goal ∷ []) (short (exactly 1) ∷ []) block
     have block c = elim (contains_cases top_block block (then_block ∷ []) c) [
-      | inl same ↦ subst (HasItsBlock kind.Plain pred.Plain (0 ∷ []) (guarded ∷ []) (Goal ∷ []) (short (only 1) ∷ [])) same (has_top (only 1))
-      | inr later ↦ subst (HasItsBlock kind.Plain pred.Plain (0 ∷ []) (guarded ∷ []) (Goal ∷ []) (short (only 1) ∷ [])) (only_member then_block block later) (has_then (only 1))
+      | inl same ↦ subst (HasItsBlock kind.Plain pred.Plain (0 ∷ []) (guarded ∷ []) (Goal ∷ []) (short (exactly 1) ∷ [])) same (has_top (exactly 1))
+      | inr later ↦ subst (HasItsBlock kind.Plain pred.Plain (0 ∷ []) (guarded ∷ []) (Goal ∷ []) (short (exactly 1) ∷ [])) (only_member then_block block later) (has_then (exactly 1))
     ]
 
-    at_side : (side : Side) (path : List Turn) → path ≡ record { entry = 0; side = side } ∷ [] → ((v w : ℤ) → Has (only 1) v → Has (only 1) w → Chooses the_guard side v w)
+    at_side : (side : Side) (path : List Turn) → path ≡ record { entry = 0; side = side } ∷ [] → ((v w : ℤ) → Has (exactly 1) v → Has (exactly 1) w → Selects the_guard side v w)
         → Contains (top_block ∷ then_block ∷ []) (record { token = root_token 0; rule = 0; path = path })
     at_side Then path e chooses = (1, omega arith, ap (λ p. record { token = root_token 0; rule = 0; path = p }) (sym e))
     at_side Otherwise path e chooses = absurd (chooses (pos 1) (pos 1) (omega (arith, ints), omega (arith, ints)) (omega (arith, ints), omega (arith, ints)) refl)
 
-    complete : (path : List Turn) → GoesTo (top_block ∷ then_block ∷ []) (only 1) path → Contains (top_block ∷ then_block ∷ []) (record { token = root_token 0; rule = 0; path = path })
+    complete : (path : List Turn) → GoesTo (top_block ∷ then_block ∷ []) (exactly 1) path → Contains (top_block ∷ then_block ∷ []) (record { token = root_token 0; rule = 0; path = path })
     complete path (inl e) = (0, omega arith, ap (λ p. record { token = root_token 0; rule = 0; path = p }) (sym e))
     complete path (inr goes) = at_side goes.0 path goes.1.0 goes.1.1
 
@@ -271,13 +280,13 @@ then_opened =
 two_are : (place : ℕ) (moment : Moment) → slice_get (early ∷ late ∷ []) place ≡ Some moment → IsMoment moment
 two_are = two_moments early late (only_moment 0 5 0 (omega arith) (omega arith) (omega arith)) (only_moment 4 3 0 (omega arith) (omega arith) (omega arith))
 
-pub overlap_closed : IsClosed (scene kind.Plain pred.Plain [] [] (Fact ∷ Fact ∷ [])) [] (state_of [] (early ∷ late ∷ []))
+pub overlap_closed : IsClosed (scene kind.Plain pred.Plain [] [] (Fact ∷ Fact ∷ [])) [] (scene_state [] (early ∷ late ∷ []))
 overlap_closed = plain_closed [] [] (Fact ∷ Fact ∷ []) (early ∷ late ∷ []) refl two_are (no_rule kind.Plain pred.Plain [] (Fact ∷ Fact ∷ []))
 
 -- a token of a state has one domain for each part
 module _ (moments : List Moment) where
   abbrev calm : State
-  calm = state_of [] moments
+  calm = scene_state [] moments
 
   part_there : (place : ℕ) (moment : Moment) (part : Part) (domain : Domain) → slice_get moments place ≡ Some moment → HasPartDomain moment part domain → Gives calm (Token (root_token place) part) domain
   part_there place moment part domain at is =
@@ -290,65 +299,77 @@ module _ (moments : List Moment) where
   is_on place moment at = (the_object, part_there place moment Object the_object at refl, record { has = contains_head (pos 0) []; only = λ v c. sym (only_member (pos 0) v c) })
 
 -- what ends at 7 doesn't end by 0
-seven_is_late : (domains : List Domain) → AllZip (HasDomain (state_of [] (early ∷ late ∷ []))) (part_of (root_token 1) End ∷ part_of (root_token 0) Start ∷ []) domains
+seven_is_late : (domains : List Domain) → AllZip (HasDomain (Gives (scene_state [] (early ∷ late ∷ [])))) (part_of (root_token 1) End ∷ part_of (root_token 0) Start ∷ []) domains
     → AgreeOn (HasField (scene kind.Timeline pred.Plain [] [] (Fact ∷ Fact ∷ []))) Leq domains → ⊥
 seven_is_late [] have agree = have
 seven_is_late (one ∷ []) have agree = have.1
 seven_is_late (one ∷ other ∷ more ∷ rest) have agree = have.1.1
 seven_is_late (one ∷ other ∷ []) have agree =
-    let end = part_is (early ∷ late ∷ []) 1 late End (only 7) one refl refl have.0 in
-    let start = part_is (early ∷ late ∷ []) 0 early Start (only 0) other refl refl have.1.0 in
+    let end = part_is (early ∷ late ∷ []) 1 late End (exactly 7) one refl refl have.0 in
+    let start = part_is (early ∷ late ∷ []) 0 early Start (exactly 0) other refl refl have.1.0 in
     let supported = agree [] one (other ∷ []) (pos 7) refl (subst (λ d. IsTested d (pos 7)) end (inl refl)) in
     no_tuple supported.0 supported.1 supported.2 (subst (λ d. AllZip (Admits Ends) (d ∷ []) supported.1) (sym start) supported.3) supported.4
   where
-    no_tuple : (left right : List ℤ) → AllZip (Admits Ends) [] left → AllZip (Admits Ends) (only 0 ∷ []) right → HoldsOf Leq (left ++ pos 7 ∷ right) → ⊥
+    no_tuple : (left right : List ℤ) → AllZip (Admits Ends) [] left → AllZip (Admits Ends) (exactly 0 ∷ []) right → HoldsOf Leq (left ++ pos 7 ∷ right) → ⊥
     no_tuple (v ∷ left) right before after holds = before
     no_tuple [] [] before after holds = after
     no_tuple [] (w ∷ more ∷ right) before after holds = after.1
     no_tuple [] (w ∷ []) before after holds = omega (arith, ints, after.0.1, holds)
 
-pub overlap_collides : IsClosed (scene kind.Timeline pred.Plain [] [] (Fact ∷ Fact ∷ [])) [] (state_of [] (early ∷ late ∷ [])) → ⊥
+pub overlap_collides : IsClosed (scene kind.Timeline pred.Plain [] [] (Fact ∷ Fact ∷ [])) [] (scene_state [] (early ∷ late ∷ [])) → ⊥
 overlap_collides p =
     let moments = early ∷ late ∷ [] in
-    let consistent = p.timelines (root_token 0) (root_token 1) (pos 0) (λ same. let roots = ap (λ (t : TokenName). t.root) same in omega (arith, roots))
-    (inl (refl, (root_of Fact, refl, refl))) (inl (refl, (root_of Fact, refl, refl))) (_, (0, refl, refl), refl)
-    (is_on moments 0 early refl) (is_on moments 1 late refl)
-    (only 5, only 4, (part_there moments 0 early End (only 5) refl refl, (part_there moments 1 late Start (only 4) refl refl, omega (arith, ints)))) in
-    seven_is_late consistent.0 consistent.1 consistent.2
+    let consistent = p.consistent.timelines (root_token 0) (root_token 1) (record {
+      apart = λ same. let roots = ap (λ (t : TokenName). t.root) same in omega (arith, roots);
+      one_active = inl (refl, (root_of Fact, refl, refl));
+      other_active = inl (refl, (root_of Fact, refl, refl));
+      timeline = pos 0;
+      is_timeline = (_, (0, refl, refl), refl);
+      one_on = is_on moments 0 early refl;
+      other_on = is_on moments 1 late refl;
+    })
+    (record {
+      end = exactly 5;
+      start = exactly 4;
+      gives_end = part_there moments 0 early End (exactly 5) refl refl;
+      gives_start = part_there moments 1 late Start (exactly 4) refl refl;
+      late = omega (arith, ints);
+    }) in
+    seven_is_late consistent.domains consistent.have consistent.agree
 
 -- ---- reusables
 
 using_are : (place : ℕ) (moment : Moment) → slice_get (using ∷ []) place ≡ Some moment → IsMoment moment
 using_are = one_moment using (only_moment 0 5 2 (omega arith) (omega arith) (omega arith))
 
-pub enough_closed : IsClosed (tool 2) [] (state_of [] (using ∷ []))
+pub enough_closed : IsClosed (tool 2) [] (scene_state [] (using ∷ []))
 enough_closed =
     undecided_closed (kind.Reusable (pos 2)) pred.Uses [] [] (Fact ∷ []) (using ∷ []) refl using_are (no_rule (kind.Reusable (pos 2)) pred.Uses [] (Fact ∷ []))
-    (fit_no_timelines (kind.Reusable (pos 2)) pred.Uses [] [] (Fact ∷ []) [] (state_of [] (using ∷ [])) (λ e. absurd (cc)))
+    (fit_no_timelines (kind.Reusable (pos 2)) pred.Uses [] [] (Fact ∷ []) [] (scene_state [] (using ∷ [])) (λ e. absurd (cc)))
     fits
-    (fit_no_reservoirs (kind.Reusable (pos 2)) pred.Uses [] [] (Fact ∷ []) [] (state_of [] (using ∷ [])) (λ initial low high e. absurd (cc)))
+    (fit_no_reservoirs (kind.Reusable (pos 2)) pred.Uses [] [] (Fact ∷ []) [] (scene_state [] (using ∷ [])) (λ initial low high e. absurd (cc)))
   where
-    fits : FitReusables (tool 2) [] (state_of [] (using ∷ []))
+    fits : FitReusables (tool 2) [] (scene_state [] (using ∷ []))
     fits value object capacity instant is kind_is inside =
         let same : kind.Reusable (pos 2) ≡ kind.Reusable capacity = sym (kind_of (kind.Reusable (pos 2)) pred.Uses [] [] (Fact ∷ []) value object is) ∙ kind_is in
-        let two : pos 2 ≡ capacity = cc in (
-          pos 2 ∷ [],
-          (
+        let two : pos 2 ≡ capacity = cc in record {
+          shares = pos 2 ∷ [];
+          are_shares = (
             record {
               none = omega (arith, ints);
               enough = λ quantity uses.
-                  let domain = part_is (using ∷ []) 0 using (Param 0) (only 2) uses.least.0 refl refl uses.least.1 in
-                  let least_is : uses.least.0 ≡ only 2 = sym domain in
+                  let domain = part_is (using ∷ []) 0 using (Param 0) (exactly 2) uses.least.0 refl refl uses.least.1 in
+                  let least_is : uses.least.0 ≡ exactly 2 = sym domain in
                   let quantity_is : quantity ≡ pos 2 = uses.least.2 ∙ ap least least_is in
                   omega (arith, ints, quantity_is);
             },
             tt,
-          ),
-          omega (arith, ints, two),
-        )
+          );
+          enough = omega (arith, ints, two);
+        }
 
 -- the fact surely uses 2 at once
-surely_uses : (capacity : ℕ) → SurelyUses (tool capacity) [] (state_of [] (using ∷ [])) (pos 0) (pos 0) (root_token 0) (pos 2)
+surely_uses : (capacity : ℕ) → SurelyUses (tool capacity) [] (scene_state [] (using ∷ [])) (pos 0) (pos 0) (root_token 0) (pos 2)
 surely_uses capacity = record {
   actor = record {
     active = inl (refl, (root_of Fact, refl, refl));
@@ -359,20 +380,20 @@ surely_uses capacity = record {
     is_kind = refl;
   };
   on = is_on (using ∷ []) 0 using refl;
-  started = (only 0, part_there (using ∷ []) 0 using Start (only 0) refl refl, omega (arith, ints));
-  not_ended = (only 5, part_there (using ∷ []) 0 using End (only 5) refl refl, omega (arith, ints));
-  least = (only 2, part_there (using ∷ []) 0 using (Param 0) (only 2) refl refl, refl);
+  started = (exactly 0, part_there (using ∷ []) 0 using Start (exactly 0) refl refl, omega (arith, ints));
+  not_ended = (exactly 5, part_there (using ∷ []) 0 using End (exactly 5) refl refl, omega (arith, ints));
+  least = (exactly 2, part_there (using ∷ []) 0 using (Param 0) (exactly 2) refl refl, refl);
 }
 
-two_is_more : (shares : List ℤ) → AllZip (IsShare (tool 1) [] (state_of [] (using ∷ [])) (pos 0) (pos 0)) (root_token 0 ∷ []) shares → total shares ≤ℤ pos 1 → ⊥
+two_is_more : (shares : List ℤ) → AllZip (IsShare (tool 1) [] (scene_state [] (using ∷ [])) (pos 0) (pos 0)) (root_token 0 ∷ []) shares → sum_of shares ≤ℤ pos 1 → ⊥
 two_is_more [] are sum = are
 two_is_more (share ∷ more ∷ shares) are sum = are.1
 two_is_more (share ∷ []) are sum = let enough = are.0.enough (pos 2) (surely_uses 1) in omega (arith, ints, enough, sum)
 
-pub too_little : IsClosed (tool 1) [] (state_of [] (using ∷ [])) → ⊥
+pub too_little : IsClosed (tool 1) [] (scene_state [] (using ∷ [])) → ⊥
 too_little p =
     let found = p.reusables (pos 0) _ (pos 1) (pos 0) (0, refl, refl) refl (omega (arith, ints), omega (arith, ints)) in
-    two_is_more found.0 found.1 found.2
+    two_is_more found.shares found.are_shares found.enough
 
 -- ---- reservoirs
 
@@ -386,36 +407,36 @@ undecided_drained_closed =
     (fit_no_timelines (kind.Reservoir (pos 5) (pos 0) (pos 10)) pred.Consume [] [] (Fact ∷ Rejectable ∷ []) [] drained (λ e. absurd (cc)))
     (fit_no_reusables (kind.Reservoir (pos 5) (pos 0) (pos 10)) pred.Consume [] [] (Fact ∷ Rejectable ∷ []) [] drained (λ capacity e. absurd (cc)))
     (λ complete value object initial low high instant is kind_is inside.
-    absurd (not_resolved (complete.tokens (root_token 1) (root_supported (kind.Reservoir (pos 5) (pos 0) (pos 10)) pred.Consume [] [] (Fact ∷ Rejectable ∷ []) [] drained 1 Rejectable refl))))
+    absurd (undecided (complete.tokens (root_token 1) (root_supported (kind.Reservoir (pos 5) (pos 0) (pos 10)) pred.Consume [] [] (Fact ∷ Rejectable ∷ []) [] drained 1 Rejectable refl))))
   where
-    not_resolved : IsFact battery (root_token 1) ⊎ IsResolved [] (root_token 1) → ⊥
-    not_resolved (inl fact) =
+    undecided : IsDecided battery [] (root_token 1) → ⊥
+    undecided (inl fact) =
         let root = same_some (root_of Rejectable) fact.1.0 fact.1.1 in
         let same : Rejectable ≡ Fact = ap (λ (r : Root). r.kind) root ∙ fact.1.2 in
         absurd (cc)
-    not_resolved (inr (inl (inl activated))) = contains_none (Activate (root_token 1)) activated
-    not_resolved (inr (inl (inr merged))) = contains_none (Merge (root_token 1) merged.0) merged.1
-    not_resolved (inr (inr rejected)) = contains_none (Reject (root_token 1)) rejected
+    undecided (inr (inl (inl activated))) = contains_none (Activate (root_token 1)) activated
+    undecided (inr (inl (inr merged))) = contains_none (Merge (root_token 1) merged.0) merged.1
+    undecided (inr (inr rejected)) = contains_none (Reject (root_token 1)) rejected
 
 -- once the second token is rejected no further one can come
 drained_complete : IsTokenComplete battery rejected drained
 drained_complete = record {
-  tokens = λ token p. resolved token (token_of 0 (taking ∷ late ∷ []) token (supported_root token p));
+  tokens = λ token p. decided token (token_of 0 (taking ∷ late ∷ []) token (supported_root token p));
   guards = λ block entries guard then otherwise p stands. let same = only_member (Reject (root_token 1)) (Activate block.token) p.is_open.activated in absurd (cc);
 }
   where
-    supported_root : (token : TokenName) → IsSupportedToken battery rejected drained token → Contains (tokens_of 0 (taking ∷ late ∷ [])) token
+    supported_root : (token : TokenName) → IsSupportedToken battery (situation_of rejected drained) token → Contains (tokens_of 0 (taking ∷ late ∷ [])) token
     supported_root token p =
         supported (kind.Reservoir (pos 5) (pos 0) (pos 10)) pred.Consume [] [] (Fact ∷ Rejectable ∷ []) [] (taking ∷ late ∷ []) refl drained_are
         (no_rule (kind.Reservoir (pos 5) (pos 0) (pos 10)) pred.Consume [] (Fact ∷ Rejectable ∷ [])) rejected token p
 
-    at_place : (place : ℕ) (moment : Moment) → slice_get (taking ∷ late ∷ []) place ≡ Some moment → IsFact battery (root_token (0 + place)) ⊎ IsResolved rejected (root_token (0 + place))
+    at_place : (place : ℕ) (moment : Moment) → slice_get (taking ∷ late ∷ []) place ≡ Some moment → IsDecided battery rejected (root_token (0 + place))
     at_place zero moment at = inl (refl, (root_of Fact, refl, refl))
     at_place (suc zero) moment at = inr (inr (contains_head (Reject (root_token 1)) []))
     at_place (suc (suc place)) moment at = absurd (cc)
 
-    resolved : (token : TokenName) → IsTokenOf 0 (taking ∷ late ∷ []) token → IsFact battery token ⊎ IsResolved rejected token
-    resolved token is = subst (λ t. IsFact battery t ⊎ IsResolved rejected t) (sym is.named) (at_place is.place is.moment is.at)
+    decided : (token : TokenName) → IsTokenOf 0 (taking ∷ late ∷ []) token → IsDecided battery rejected token
+    decided token is = subst (IsDecided battery rejected) (sym is.named) (at_place is.place is.moment is.at)
 
 surely_takes : SurelyChanges battery rejected drained (pos 0) (pos 0) pred.Consume (root_token 0) (pos 6)
 surely_takes = record {
@@ -428,8 +449,8 @@ surely_takes = record {
     is_kind = refl;
   };
   on = is_on (taking ∷ late ∷ []) 0 taking refl;
-  started = (only 0, part_there (taking ∷ late ∷ []) 0 taking Start (only 0) refl refl, omega (arith, ints));
-  least = (only 6, part_there (taking ∷ late ∷ []) 0 taking (Param 0) (only 6) refl refl, refl);
+  started = (exactly 0, part_there (taking ∷ late ∷ []) 0 taking Start (exactly 0) refl refl, omega (arith, ints));
+  least = (exactly 6, part_there (taking ∷ late ∷ []) 0 taking (Param 0) (exactly 6) refl refl, refl);
 }
 
 -- nothing is produced
@@ -446,7 +467,7 @@ adds_nothing token change high = elim high.adds [
     no_producer : IsActor battery rejected pred.Produce token → ⊥
     no_producer actor = let found = one_predicate actor.slot.pred actor.predicate actor.is_predicate in let same : pred.Consume ≡ pred.Produce = ap (λ (p : Pred). p.kind) found ∙ actor.is_kind in absurd (cc)
 
-level_is_low : (rises : List ℤ) → AllZip (IsHighChange battery rejected drained (pos 0) (pos 0)) (root_token 0 ∷ root_token 1 ∷ []) rises → pos 0 ≤ℤ (pos 5 +ℤ total rises) → ⊥
+level_is_low : (rises : List ℤ) → AllZip (IsHighChange battery rejected drained (pos 0) (pos 0)) (root_token 0 ∷ root_token 1 ∷ []) rises → pos 0 ≤ℤ (pos 5 +ℤ sum_of rises) → ⊥
 level_is_low [] are high = are
 level_is_low (one ∷ []) are high = are.1
 level_is_low (one ∷ other ∷ more ∷ rises) are high = are.1.1

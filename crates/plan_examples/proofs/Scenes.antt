@@ -9,10 +9,10 @@ use Rattle.eu_name.specs.declared.name.VarName.{VarName}
 use Rattle.eu_name.specs.declared.name.VarName.TheVariants.{Token}
 use Rattle.eu_name.specs.NameOrder.{IsTokenBefore, IsVarBefore, place_of}
 use Rattle.eu_name.proofs.Orders.{token_order, var_order}
-use Rattle.model_core.specs.State.{Entry}
+use Rattle.model_core.specs.State.{VarDomain}
 use Rattle.model_core.specs.Tokens.{root_token}
 use Rattle.plan_defs.proofs.Ordered.{contains_head, contains_later, contains_cases, contains_none, ordered_none, ordered_one, ordered_link}
-use Rattle.plan_examples.specs.Scenes.{the_object, Moment, only, tokens_of, entries_of}
+use Rattle.plan_examples.specs.Scenes.{the_object, Moment, exactly, tokens_of, scene_entries}
 use Rattle.plan_examples.proofs.Lists.{same_some}
 
 -- ---- in order
@@ -20,7 +20,7 @@ use Rattle.plan_examples.proofs.Lists.{same_some}
 root_before : (number : ℕ) → IsTokenBefore (root_token number) (root_token (number + 1))
 root_before number = inr (refl, inl (omega arith))
 
-entry_transitive : (a b c : Entry) → IsVarBefore a.name b.name → IsVarBefore b.name c.name → IsVarBefore a.name c.name
+entry_transitive : (a b c : VarDomain) → IsVarBefore a.name b.name → IsVarBefore b.name c.name → IsVarBefore a.name c.name
 entry_transitive a b c = var_order.transitive a.name b.name c.name
 
 pub tokens_in_order : (number : ℕ) (moments : List Moment) → AllPairs IsTokenBefore (tokens_of number moments)
@@ -29,13 +29,13 @@ tokens_in_order number (moment ∷ []) = ordered_one IsTokenBefore (root_token n
 tokens_in_order number (moment ∷ next ∷ moments) =
     ordered_link IsTokenBefore token_order.transitive (root_token number) (root_token (number + 1)) (tokens_of (number + 1 + 1) moments) (root_before number) (tokens_in_order (number + 1) (next ∷ moments))
 
-abbrev entry : ℕ → Part → Domain → Entry
+abbrev entry : ℕ → Part → Domain → VarDomain
 entry number part domain = record { name = Token (root_token number) part; domain = domain }
 
-abbrev by_name : Entry → Entry → Type 0
+abbrev by_name : VarDomain → VarDomain → Type 0
 by_name one later = IsVarBefore one.name later.name
 
-link : (x y : Entry) (ys : List Entry) → IsVarBefore x.name y.name → AllPairs by_name (y ∷ ys) → AllPairs by_name (x ∷ y ∷ ys)
+link : (x y : VarDomain) (ys : List VarDomain) → IsVarBefore x.name y.name → AllPairs by_name (y ∷ ys) → AllPairs by_name (x ∷ y ∷ ys)
 link x y ys first rest = ordered_link by_name entry_transitive x y ys first rest
 
 -- parts of one token in the order of their places
@@ -46,52 +46,52 @@ of_next : (number : ℕ) (part later : Part) → IsVarBefore (Token (root_token 
 of_next number part later = inl (root_before number)
 
 -- the variables of one token, and others behind them
-module _ (number : ℕ) (moment : Moment) (rest : List Entry) where
-  abbrev from_param : List Entry
+module _ (number : ℕ) (moment : Moment) (rest : List VarDomain) where
+  abbrev from_param : List VarDomain
   from_param = entry number (Param 0) moment.quantity ∷ rest
 
-  abbrev from_duration : List Entry
-  from_duration = entry number Duration (only moment.duration) ∷ from_param
+  abbrev from_duration : List VarDomain
+  from_duration = entry number Duration (exactly moment.duration) ∷ from_param
 
-  abbrev from_end : List Entry
-  from_end = entry number End (only (moment.start + moment.duration)) ∷ from_duration
+  abbrev from_end : List VarDomain
+  from_end = entry number End (exactly (moment.start + moment.duration)) ∷ from_duration
 
-  abbrev from_start : List Entry
-  from_start = entry number Start (only moment.start) ∷ from_end
+  abbrev from_start : List VarDomain
+  from_start = entry number Start (exactly moment.start) ∷ from_end
 
-  abbrev from_object : List Entry
+  abbrev from_object : List VarDomain
   from_object = entry number Object the_object ∷ from_start
 
   five : AllPairs by_name from_param → AllPairs by_name from_object
   five last =
-      link (entry number Object the_object) (entry number Start (only moment.start)) from_end (of_one number Object Start (omega arith))
-      (link (entry number Start (only moment.start)) (entry number End (only (moment.start + moment.duration))) from_duration (of_one number Start End (omega arith))
-      (link (entry number End (only (moment.start + moment.duration))) (entry number Duration (only moment.duration)) from_param (of_one number End Duration (omega arith))
-      (link (entry number Duration (only moment.duration)) (entry number (Param 0) moment.quantity) rest (of_one number Duration (Param 0) (omega arith)) last)))
+      link (entry number Object the_object) (entry number Start (exactly moment.start)) from_end (of_one number Object Start (omega arith))
+      (link (entry number Start (exactly moment.start)) (entry number End (exactly (moment.start + moment.duration))) from_duration (of_one number Start End (omega arith))
+      (link (entry number End (exactly (moment.start + moment.duration))) (entry number Duration (exactly moment.duration)) from_param (of_one number End Duration (omega arith))
+      (link (entry number Duration (exactly moment.duration)) (entry number (Param 0) moment.quantity) rest (of_one number Duration (Param 0) (omega arith)) last)))
 
-  past_five : (x : Entry) → Contains rest x → Contains from_object x
+  past_five : (x : VarDomain) → Contains rest x → Contains from_object x
   past_five x c =
       contains_later (entry number Object the_object) x from_start
-      (contains_later (entry number Start (only moment.start)) x from_end
-      (contains_later (entry number End (only (moment.start + moment.duration))) x from_duration
-      (contains_later (entry number Duration (only moment.duration)) x from_param
+      (contains_later (entry number Start (exactly moment.start)) x from_end
+      (contains_later (entry number End (exactly (moment.start + moment.duration))) x from_duration
+      (contains_later (entry number Duration (exactly moment.duration)) x from_param
       (contains_later (entry number (Param 0) moment.quantity) x rest c))))
 
-pub entries_in_order : (number : ℕ) (moments : List Moment) → AllPairs (λ (one later : Entry). IsVarBefore one.name later.name) (entries_of number moments)
+pub entries_in_order : (number : ℕ) (moments : List Moment) → AllPairs (λ (one later : VarDomain). IsVarBefore one.name later.name) (scene_entries number moments)
 entries_in_order number [] = ordered_none by_name
 entries_in_order number (moment ∷ []) = five number moment [] (ordered_one by_name (entry number (Param 0) moment.quantity))
 entries_in_order number (moment ∷ next ∷ moments) =
-    five number moment (entries_of (number + 1) (next ∷ moments))
-    (link (entry number (Param 0) moment.quantity) (entry (number + 1) Object the_object) (from_start (number + 1) next (entries_of (number + 1 + 1) moments)) (of_next number (Param 0) Object)
+    five number moment (scene_entries (number + 1) (next ∷ moments))
+    (link (entry number (Param 0) moment.quantity) (entry (number + 1) Object the_object) (from_start (number + 1) next (scene_entries (number + 1 + 1) moments)) (of_next number (Param 0) Object)
     (entries_in_order (number + 1) (next ∷ moments)))
 
 -- ---- what is in a state
 
 abbrev pub HasPartDomain : Moment → Part → Domain → Type 0
 HasPartDomain moment Object domain = domain ≡ the_object
-HasPartDomain moment Start domain = domain ≡ only moment.start
-HasPartDomain moment End domain = domain ≡ only (moment.start + moment.duration)
-HasPartDomain moment Duration domain = domain ≡ only moment.duration
+HasPartDomain moment Start domain = domain ≡ exactly moment.start
+HasPartDomain moment End domain = domain ≡ exactly (moment.start + moment.duration)
+HasPartDomain moment Duration domain = domain ≡ exactly moment.duration
 HasPartDomain moment (Param zero) domain = domain ≡ moment.quantity
 HasPartDomain moment (Param (suc number)) domain = ⊥
 
@@ -121,23 +121,23 @@ here number moment moments part is_domain name domain is e = record {
   moment = moment;
   part = part;
   at = refl;
-  named = sym (ap (λ (x : Entry). x.name) e) ∙ ap (λ n. Token (root_token n) part) (let e : number ≡ number + 0 = omega arith in e);
-  is = subst (HasPartDomain moment part) (ap (λ (x : Entry). x.domain) e) is;
+  named = sym (ap (λ (x : VarDomain). x.name) e) ∙ ap (λ n. Token (root_token n) part) (let e : number ≡ number + 0 = omega arith in e);
+  is = subst (HasPartDomain moment part) (ap (λ (x : VarDomain). x.domain) e) is;
 }
 
-pub entry_of : (number : ℕ) (moments : List Moment) (name : VarName) (domain : Domain) → Contains (entries_of number moments) (record { name = name; domain = domain }) → IsEntryOf number moments name domain
+pub entry_of : (number : ℕ) (moments : List Moment) (name : VarName) (domain : Domain) → Contains (scene_entries number moments) (record { name = name; domain = domain }) → IsEntryOf number moments name domain
 entry_of number [] name domain c = absurd (contains_none (record { name = name; domain = domain }) c)
 entry_of number (moment ∷ moments) name domain c =
-    let x : Entry = record { name = name; domain = domain } in
-    let rest = entries_of (number + 1) moments in
+    let x : VarDomain = record { name = name; domain = domain } in
+    let rest = scene_entries (number + 1) moments in
     elim (contains_cases (entry number Object the_object) x (from_start number moment rest) c) [
       | inl same ↦ here number moment moments Object the_object name domain refl same
-      | inr c ↦ elim (contains_cases (entry number Start (only moment.start)) x (from_end number moment rest) c) [
-        | inl same ↦ here number moment moments Start (only moment.start) name domain refl same
-        | inr c ↦ elim (contains_cases (entry number End (only (moment.start + moment.duration))) x (from_duration number moment rest) c) [
-          | inl same ↦ here number moment moments End (only (moment.start + moment.duration)) name domain refl same
-          | inr c ↦ elim (contains_cases (entry number Duration (only moment.duration)) x (from_param number moment rest) c) [
-            | inl same ↦ here number moment moments Duration (only moment.duration) name domain refl same
+      | inr c ↦ elim (contains_cases (entry number Start (exactly moment.start)) x (from_end number moment rest) c) [
+        | inl same ↦ here number moment moments Start (exactly moment.start) name domain refl same
+        | inr c ↦ elim (contains_cases (entry number End (exactly (moment.start + moment.duration))) x (from_duration number moment rest) c) [
+          | inl same ↦ here number moment moments End (exactly (moment.start + moment.duration)) name domain refl same
+          | inr c ↦ elim (contains_cases (entry number Duration (exactly moment.duration)) x (from_param number moment rest) c) [
+            | inl same ↦ here number moment moments Duration (exactly moment.duration) name domain refl same
             | inr c ↦ elim (contains_cases (entry number (Param 0) moment.quantity) x rest c) [
               | inl same ↦ here number moment moments (Param 0) moment.quantity name domain refl same
               | inr c ↦ shifted number moment moments name domain (entry_of (number + 1) moments name domain c)
@@ -147,7 +147,7 @@ entry_of number (moment ∷ moments) name domain c =
       ]
     ]
 
-at_part : (number : ℕ) (moment : Moment) (moments : List Moment) (part : Part) (domain : Domain) → HasPartDomain moment part domain → Contains (entries_of number (moment ∷ moments)) (entry number part domain)
+at_part : (number : ℕ) (moment : Moment) (moments : List Moment) (part : Part) (domain : Domain) → HasPartDomain moment part domain → Contains (scene_entries number (moment ∷ moments)) (entry number part domain)
 at_part number moment moments Object domain is = (0, omega arith, ap (entry number Object) (sym is))
 at_part number moment moments Start domain is = (1, omega arith, ap (entry number Start) (sym is))
 at_part number moment moments End domain is = (2, omega arith, ap (entry number End) (sym is))
@@ -156,14 +156,14 @@ at_part number moment moments (Param zero) domain is = (4, omega arith, ap (entr
 at_part number moment moments (Param (suc n)) domain is = absurd is
 
 pub entry_there : (number : ℕ) (moments : List Moment) (place : ℕ) (moment : Moment) (part : Part) (domain : Domain) → slice_get moments place ≡ Some moment → HasPartDomain moment part domain
-    → Contains (entries_of number moments) (entry (number + place) part domain)
+    → Contains (scene_entries number moments) (entry (number + place) part domain)
 entry_there number [] place moment part domain at is = absurd (cc)
 entry_there number (first ∷ moments) zero moment part domain at is =
-    subst (λ n. Contains (entries_of number (first ∷ moments)) (entry n part domain)) (let e : number ≡ number + 0 = omega arith in e)
+    subst (λ n. Contains (scene_entries number (first ∷ moments)) (entry n part domain)) (let e : number ≡ number + 0 = omega arith in e)
     (at_part number first moments part domain (subst (λ m. HasPartDomain m part domain) (sym (same_some first moment at)) is))
 entry_there number (first ∷ moments) (suc place) moment part domain at is =
-    past_five number first (entries_of (number + 1) moments) (entry (number + suc place) part domain)
-    (subst (λ n. Contains (entries_of (number + 1) moments) (entry n part domain)) (let e : number + 1 + place ≡ number + suc place = omega arith in e)
+    past_five number first (scene_entries (number + 1) moments) (entry (number + suc place) part domain)
+    (subst (λ n. Contains (scene_entries (number + 1) moments) (entry n part domain)) (let e : number + 1 + place ≡ number + suc place = omega arith in e)
     (entry_there (number + 1) moments place moment part domain at is))
 
 -- a token is one of the roots

@@ -19,14 +19,15 @@ use Rattle.model_core.specs.declared.variable.VarDecl.{VarDecl}
 use Rattle.model_core.specs.Blocks.{IsBlockBefore}
 use Rattle.model_core.specs.Consistency.{Ends, Admits}
 use Rattle.model_core.specs.Constraints.{HoldsOf, AgreeOn}
-use Rattle.model_core.specs.State.{State, Entry, Gives, IsAbout}
+use Rattle.model_core.specs.Decided.{IsTaken}
+use Rattle.model_core.specs.State.{State, VarDomain, Gives, IsAbout}
 use Rattle.model_core.specs.Variables.{HasBase, IsInBase}
-use Rattle.plan_defs.specs.Claims.{Claim, IsClaim, IsOfProblem, Says}
+use Rattle.plan_defs.specs.Claims.{Claim, IsClaim, IsOfProblem, ItemSays}
 use Rattle.plan_defs.specs.Closure.{IsClosed, AreInBase, IsRespected}
-use Rattle.plan_defs.specs.Consistency.{IsConsistent, HasField}
-use Rattle.plan_defs.specs.Terms.{Value, Variable, Argument, Means, OfProblem, HasDomain, Counts}
-use Rattle.plan_defs.proofs.Ordered.{contains_head, contains_none, ordered_none, ordered_one}
-use Rattle.plan_examples.specs.Globals.{declared_x, problem_of, free_x, low_x, at_most_1, nothing, with_x, up_to}
+use Rattle.plan_defs.specs.Consistency.{IsClaimConsistent, HasField}
+use Rattle.plan_defs.specs.Terms.{Value, Variable, Argument, Means, InProblem, HasDomain, ArgumentCounts}
+use Rattle.plan_defs.proofs.Ordered.{contains_cases, contains_head, contains_none, ordered_none, ordered_one}
+use Rattle.plan_examples.specs.Globals.{declared_x, problem_of, free_x, low_x, at_most_1, empty_state, with_x, up_to}
 use Rattle.plan_examples.proofs.Lists.{all_members, only_member, same_some}
 use Rattle.plan_examples.proofs.Tuples.{two_consistent}
 
@@ -35,12 +36,12 @@ abbrev IsSpecify : Decision → Type 0
 IsSpecify (Specify name value) = ⊤
 IsSpecify decision = ⊥
 
-abbrev by_name : Entry → Entry → Type 0
+abbrev by_name : VarDomain → VarDomain → Type 0
 by_name one later = IsVarBefore one.name later.name
 
 -- ---- problems without roots and objects
 
-module _ (globals : List VarDecl) (items : List Item) (decisions : List Decision) (entries : List Entry) where
+module _ (globals : List VarDecl) (items : List Item) (decisions : List Decision) (entries : List VarDomain) where
   abbrev model : Model
   model = problem_of globals items
 
@@ -51,23 +52,25 @@ module _ (globals : List VarDecl) (items : List Item) (decisions : List Decision
   closed : AllPairs by_name entries
       → ((number : ℕ) → number < length globals → (domain : Domain) × Gives state (Global number) domain)
       → ((name : VarName) (domain : Domain) → Gives state name domain → (number : ℕ) × (name ≡ Global number) × (number < length globals))
-      → All (λ (entry : Entry). IsDomain entry.domain) entries
+      → All (λ (entry : VarDomain). IsDomain entry.domain) entries
       → AreInBase model state → ((decision : Decision) → Contains decisions decision → IsSpecify decision × IsRespected decision state)
-      → ((claim : Claim) → IsOfProblem model decisions claim → IsConsistent model state claim) → IsClosed model decisions state
+      → ((claim : Claim) → IsOfProblem model (IsTaken decisions) claim → IsClaimConsistent model state claim) → IsClosed model decisions state
   closed ordered there named domains in_base granted consistent = record {
-    is_state = record {
-      order = record { tokens = ordered_none IsTokenBefore; blocks = ordered_none IsBlockBefore; entries = ordered };
-      tokens = all_members _ [] (λ token c. absurd (contains_none token c));
-      blocks = all_members _ [] (λ block c. absurd (contains_none block c));
-      variables = variables;
-      domains = domains;
+    consistent = record {
+      is_state = record {
+        order = record { tokens = ordered_none IsTokenBefore; blocks = ordered_none IsBlockBefore; entries = ordered };
+        tokens = all_members _ [] (λ token c. absurd (contains_none token c));
+        blocks = all_members _ [] (λ block c. absurd (contains_none block c));
+        variables = variables;
+        domains = domains;
+      };
+      tokens = λ token p. let none = p.is_root in absurd (cc);
+      blocks = λ block entries p. let none = p.supported.is_root in absurd (cc);
+      in_base = in_base;
+      respected = λ decision c. (granted decision c).1;
+      claims = claims;
+      timelines = λ one other share late. let none = share.is_timeline.1.2 in absurd (cc);
     };
-    tokens = λ token p. let none = p.is_root in absurd (cc);
-    blocks = λ block entries p. let none = p.supported.is_root in absurd (cc);
-    in_base = in_base;
-    respected = λ decision c. (granted decision c).1;
-    consistent = claims;
-    timelines = λ one other timeline apart active active' is on on' late. let none = is.1.2 in absurd (cc);
     reusables = λ value object capacity instant is kind inside. let none = is.2 in absurd (cc);
     reservoirs = λ complete value object initial low high instant is kind inside. let none = is.2 in absurd (cc);
   }
@@ -75,14 +78,14 @@ module _ (globals : List VarDecl) (items : List Item) (decisions : List Decision
       variables : (name : VarName) → IsAbout model state name ↔ ((domain : Domain) × Gives state name domain)
       variables (Global number) = (there number, λ found. let at = named (Global number) found.0 found.1 in let same : number ≡ at.0 = (let e = at.1 in cc) in subst (λ n. n < length globals) (sym same) at.2)
       variables (Token token part) = (λ about. absurd (contains_none token about.0), λ found. let at = named (Token token part) found.0 found.1 in let e = at.1 in absurd (cc))
-      variables (Local token rule number) = (λ about. absurd (contains_none about.0 about.1.0), λ found. let at = named (Local token rule number) found.0 found.1 in let e = at.1 in absurd (cc))
+      variables (Local token rule number) = (λ about. absurd (contains_none about.block about.is_open), λ found. let at = named (Local token rule number) found.0 found.1 in let e = at.1 in absurd (cc))
 
-      claims : (claim : Claim) → IsClaim model decisions state claim → IsConsistent model state claim
+      claims : (claim : Claim) → IsClaim model decisions state claim → IsClaimConsistent model state claim
       claims claim (inl p) = consistent claim p
       claims claim (inr (inl p)) = absurd (contains_none p.block p.is_open)
-      claims claim (inr (inr (inl p))) = absurd (contains_none p.0 p.1)
-      claims claim (inr (inr (inr (inl p)))) = absurd (granted (Merge p.0 p.1) p.2.1.0).0
-      claims claim (inr (inr (inr (inr p)))) = absurd (granted (Order p.0 p.1) p.2.0).0
+      claims claim (inr (inr (inl p))) = absurd (contains_none p.token p.there)
+      claims claim (inr (inr (inr (inl p)))) = absurd (granted (Merge p.token p.target) p.merged).0
+      claims claim (inr (inr (inr (inr p)))) = absurd (granted (Order p.one p.other) p.ordered).0
 
 -- ---- the variable x
 
@@ -92,7 +95,7 @@ gives_x domain = contains_head _ []
 is_x : (domain : Domain) (name : VarName) (other : Domain) → Gives (with_x domain) name other → (name ≡ Global 0) × (domain ≡ other)
 is_x domain name other gives =
     let same = only_member (record { name = Global 0; domain = domain }) (record { name = name; domain = other }) gives in
-    (sym (ap (λ (e : Entry). e.name) same), ap (λ (e : Entry). e.domain) same)
+    (sym (ap (λ (e : VarDomain). e.name) same), ap (λ (e : VarDomain). e.domain) same)
 
 x_base : (items : List Item) → HasBase (problem_of (declared_x ∷ []) items) (Global 0) (Given (up_to 2))
 x_base items = (declared_x, refl, refl)
@@ -103,13 +106,13 @@ up_to_domain number few = ((omega (arith, ints), omega (arith, ints)), (omega (a
 -- a state of x within its base is closed where the decisions are granted and the constraints consistent
 x_closed : (items : List Item) (decisions : List Decision) (number : ℕ) → number < 3
     → ((decision : Decision) → Contains decisions decision → IsSpecify decision × IsRespected decision (with_x (up_to number)))
-    → ((claim : Claim) → IsOfProblem (problem_of (declared_x ∷ []) items) decisions claim → IsConsistent (problem_of (declared_x ∷ []) items) (with_x (up_to number)) claim)
+    → ((claim : Claim) → IsOfProblem (problem_of (declared_x ∷ []) items) (IsTaken decisions) claim → IsClaimConsistent (problem_of (declared_x ∷ []) items) (with_x (up_to number)) claim)
     → IsClosed (problem_of (declared_x ∷ []) items) decisions (with_x (up_to number))
 x_closed items decisions number few granted consistent =
     closed (declared_x ∷ []) items decisions (with_x (up_to number)).entries (ordered_one by_name (record { name = Global 0; domain = up_to number }))
     (λ n within. let zero_is : 0 ≡ n = omega (arith, within) in (up_to number, subst (λ k. Gives (with_x (up_to number)) (Global k) (up_to number)) zero_is (gives_x (up_to number))))
     (λ name domain gives. (0, (is_x (up_to number) name domain gives).0, omega arith))
-    (all_members (λ (entry : Entry). IsDomain entry.domain) (with_x (up_to number)).entries (λ entry c. subst (λ (e : Entry). IsDomain e.domain) (only_member (record { name = Global 0; domain = up_to number }) entry c) (up_to_domain number (omega (arith, few)))))
+    (all_members (λ (entry : VarDomain). IsDomain entry.domain) (with_x (up_to number)).entries (λ entry c. subst (λ (e : VarDomain). IsDomain e.domain) (only_member (record { name = Global 0; domain = up_to number }) entry c) (up_to_domain number (omega (arith, few)))))
     (λ name domain gives. let is = is_x (up_to number) name domain gives in (
       Given (up_to 2),
       subst (λ n. HasBase (problem_of (declared_x ∷ []) items) n (Given (up_to 2))) (sym is.0) (x_base items),
@@ -120,26 +123,26 @@ x_closed items decisions number few granted consistent =
 no_decision : (state : State) (decision : Decision) → Contains [] decision → IsSpecify decision × IsRespected decision state
 no_decision state decision c = absurd (contains_none decision c)
 
-no_item : (model : Model) (decisions : List Decision) (state : State) → model.problem.items ≡ [] → (claim : Claim) → IsOfProblem model decisions claim → IsConsistent model state claim
-no_item model decisions state none claim p = absurd (contains_none p.0 (subst (λ list. Contains list p.0) none p.1))
+no_item : (model : Model) (decisions : List Decision) (state : State) → model.problem.items ≡ [] → (claim : Claim) → IsOfProblem model (IsTaken decisions) claim → IsClaimConsistent model state claim
+no_item model decisions state none claim p = absurd (contains_none p.item (subst (λ list. Contains list p.item) none p.stands))
 
 -- ---- the examples
 
-pub empty_closed : IsClosed (problem_of [] []) [] nothing
+pub empty_closed : IsClosed (problem_of [] []) [] empty_state
 empty_closed =
     closed [] [] [] [] (ordered_none by_name) (λ number within. absurd (omega (arith, within))) (λ name domain gives. absurd (contains_none (record { name = name; domain = domain }) gives))
     (all_members _ [] (λ entry c. absurd (contains_none entry c))) (λ name domain gives. absurd (contains_none (record { name = name; domain = domain }) gives))
-    (no_decision nothing) (no_item (problem_of [] []) [] nothing refl)
+    (no_decision empty_state) (no_item (problem_of [] []) [] empty_state refl)
 
-pub x_is_missing : IsClosed free_x [] nothing → ⊥
-x_is_missing p = let found = (p.is_state.variables (Global 0)).0 (omega arith) in contains_none (record { name = Global 0; domain = found.0 }) found.1
+pub x_is_missing : IsClosed free_x [] empty_state → ⊥
+x_is_missing p = let found = (p.consistent.is_state.variables (Global 0)).0 (omega arith) in contains_none (record { name = Global 0; domain = found.0 }) found.1
 
 pub whole_closed : IsClosed free_x [] (with_x (up_to 2))
 whole_closed = x_closed [] [] 2 (omega arith) (no_decision (with_x (up_to 2))) (no_item free_x [] (with_x (up_to 2)) refl)
 
 pub x_is_outside : IsClosed free_x [] (with_x (up_to 3)) → ⊥
 x_is_outside p =
-    let found = p.in_base (Global 0) (up_to 3) (gives_x (up_to 3)) in
+    let found = p.consistent.in_base (Global 0) (up_to 3) (gives_x (up_to 3)) in
     let variable : declared_x ≡ found.1.0 = same_some declared_x found.1.0 found.1.1 in
     let base : found.0 ≡ Given (up_to 2) = found.1.2 ∙ ap (λ (v : VarDecl). v.base) (sym variable) in
     let within : IsWithin (up_to 3) (up_to 2) = subst (IsInBase (up_to 3)) base found.2 in
@@ -155,7 +158,7 @@ granted_closed =
 
 pub x_is_not_granted : IsClosed free_x (Specify (Global 0) (pos 0) ∷ []) (with_x (up_to 2)) → ⊥
 x_is_not_granted p =
-    let single = p.respected (Specify (Global 0) (pos 0)) (contains_head _ []) (up_to 2) (gives_x (up_to 2)) in
+    let single = p.consistent.respected (Specify (Global 0) (pos 0)) (contains_head _ []) (up_to 2) (gives_x (up_to 2)) in
     let same = single.only (pos 2) (omega (arith, ints), omega (arith, ints)) in
     omega (arith, ints, same)
 
@@ -163,27 +166,28 @@ abbrev low_claim : Claim
 low_claim = record { kind = Leq; arguments = Variable (Global 0) ∷ Value (pos 1) ∷ [] }
 
 -- the constraint says one thing
-arguments_same : (arguments : List Argument) → AllZip (Means OfProblem) (term.Global 0 ∷ term.Lit (pos 1) ∷ []) arguments → arguments ≡ Variable (Global 0) ∷ Value (pos 1) ∷ []
+arguments_same : (arguments : List Argument) → AllZip (Means InProblem) (term.Global 0 ∷ term.Lit (pos 1) ∷ []) arguments → arguments ≡ Variable (Global 0) ∷ Value (pos 1) ∷ []
 arguments_same [] means = absurd means
 arguments_same (one ∷ []) means = absurd means.1
 arguments_same (one ∷ other ∷ []) means = (λ i. means.0 i ∷ means.1.0 i ∷ [])
 arguments_same (one ∷ other ∷ more ∷ rest) means = absurd means.1.1
 
-claim_same : (decisions : List Decision) (claim : Claim) → IsOfProblem low_x decisions claim → claim ≡ low_claim
+claim_same : (decisions : List Decision) (claim : Claim) → IsOfProblem low_x (IsTaken decisions) claim → claim ≡ low_claim
 claim_same decisions claim p =
-    let item = only_member at_most_1 p.0 p.1 in
-    let says = subst (λ i. Says low_x decisions OfProblem i claim) (sym item) p.2 in
-    let arguments = arguments_same claim.arguments says.2 in
-    (λ i. record { kind = says.1 i; arguments = arguments i })
+    let item = only_member at_most_1 p.item p.stands in
+    let says = subst (λ i. ItemSays low_x (IsTaken decisions) InProblem i claim) (sym item) p.says in
+    let arguments = arguments_same claim.arguments says.means in
+    let kinds = says.is_kind in
+    (λ i. record { kind = kinds i; arguments = arguments i })
 
-low_consistent : IsConsistent low_x (with_x (up_to 1)) low_claim
-low_consistent = (
-  up_to 1 ∷ Range (pos 1) (pos 1) ∷ [],
-  (gives_x (up_to 1), (refl, tt)),
-  two_consistent Ends (HoldsOf Leq) (up_to 1) (Range (pos 1) (pos 1))
+low_consistent : IsClaimConsistent low_x (with_x (up_to 1)) low_claim
+low_consistent = record {
+  domains = up_to 1 ∷ Range (pos 1) (pos 1) ∷ [];
+  have = (gives_x (up_to 1), (refl, tt));
+  agree = two_consistent Ends (HoldsOf Leq) (up_to 1) (Range (pos 1) (pos 1))
       (λ v tested. ([], pos 1 ∷ [], tt, ((omega (arith, ints), omega (arith, ints)), tt), below_1 v tested))
-      (λ v tested. (pos 0 ∷ [], [], ((omega (arith, ints), omega (arith, ints)), tt), tt, above_0 v tested)),
-)
+      (λ v tested. (pos 0 ∷ [], [], ((omega (arith, ints), omega (arith, ints)), tt), tt, above_0 v tested));
+}
   where
     below_1 : (v : ℤ) → IsTested (up_to 1) v → v ≤ℤ pos 1
     below_1 v (inl e) = omega (arith, ints, e)
@@ -196,10 +200,10 @@ low_consistent = (
 pub low_closed : IsClosed low_x [] (with_x (up_to 1))
 low_closed =
     x_closed (at_most_1 ∷ []) [] 1 (omega arith) (no_decision (with_x (up_to 1)))
-    (λ claim p. subst (IsConsistent low_x (with_x (up_to 1))) (sym (claim_same [] claim p)) low_consistent)
+    (λ claim p. subst (IsClaimConsistent low_x (with_x (up_to 1))) (sym (claim_same [] claim p)) low_consistent)
 
 -- 2 isn't at most any number from 1 to 1
-two_is_high : (domains : List Domain) → AllZip (HasDomain (with_x (up_to 2))) low_claim.arguments domains → AgreeOn (HasField low_x) Leq domains → ⊥
+two_is_high : (domains : List Domain) → AllZip (HasDomain (Gives (with_x (up_to 2)))) low_claim.arguments domains → AgreeOn (HasField low_x) Leq domains → ⊥
 two_is_high [] have agree = have
 two_is_high (one ∷ []) have agree = have.1
 two_is_high (one ∷ other ∷ more ∷ rest) have agree = have.1.1
@@ -216,13 +220,15 @@ two_is_high (one ∷ other ∷ []) have agree =
 
 pub x_is_inconsistent : IsClosed low_x [] (with_x (up_to 2)) → ⊥
 x_is_inconsistent p =
-    let found = p.consistent low_claim (inl (at_most_1, contains_head at_most_1 [], (all_members (Counts low_x []) (term.Global 0 ∷ term.Lit (pos 1) ∷ []) counts, refl, (refl, (refl, tt))))) in
-    two_is_high found.0 found.1 found.2
+    let found = p.consistent.claims low_claim (inl (record {
+      item = at_most_1;
+      stands = contains_head at_most_1 [];
+      says = record { is_kind = refl; means = (refl, (refl, tt)); counts = all_members (ArgumentCounts low_x (IsTaken [])) low_claim.arguments counts };
+    })) in
+    two_is_high found.domains found.have found.agree
   where
-    counts : (t : Term) → Contains (term.Global 0 ∷ term.Lit (pos 1) ∷ []) t → Counts low_x [] t
-    counts (term.Root number part) c = λ rejectable. let none = rejectable.1.1 in absurd (cc)
-    counts (term.Lit v) c = tt
-    counts (term.Here part) c = tt
-    counts (term.Slot number part) c = tt
-    counts (term.Local number) c = tt
-    counts (term.Global number) c = tt
+    counts : (a : Argument) → Contains low_claim.arguments a → ArgumentCounts low_x (IsTaken []) a
+    counts a c = elim (contains_cases (Variable (Global 0)) a (Value (pos 1) ∷ []) c) [
+      | inl same ↦ subst (ArgumentCounts low_x (IsTaken [])) same (λ token belongs rejectable. absurd belongs)
+      | inr later ↦ subst (ArgumentCounts low_x (IsTaken [])) (only_member (Value (pos 1)) a later) tt
+    ]

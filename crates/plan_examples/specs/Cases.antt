@@ -10,7 +10,7 @@ use Rattle.model_core.specs.declared.model.Model.{Model}
 use Rattle.model_core.specs.declared.model.RootKind.TheVariants.{Goal, Rejectable, Fact}
 use Rattle.model_core.specs.State.{State}
 use Rattle.model_core.specs.Tokens.{root_token}
-use Rattle.plan_examples.specs.Scenes.{scene, Moment, only, state_of, guarded}
+use Rattle.plan_examples.specs.Scenes.{scene, Moment, exactly, scene_state, guarded}
 
 -- from 0 to 1, with a quantity in this domain
 abbrev pub short : Domain → Moment
@@ -18,17 +18,17 @@ short quantity = record { start = 0; duration = 1; quantity = quantity }
 
 -- from 0 to 5, and from 4 to 7
 abbrev pub early : Moment
-early = record { start = 0; duration = 5; quantity = only 0 }
+early = record { start = 0; duration = 5; quantity = exactly 0 }
 
 abbrev pub late : Moment
-late = record { start = 4; duration = 3; quantity = only 0 }
+late = record { start = 4; duration = 3; quantity = exactly 0 }
 
 -- from 0 to 5, with a quantity of 2 or 6
 abbrev pub using : Moment
-using = record { start = 0; duration = 5; quantity = only 2 }
+using = record { start = 0; duration = 5; quantity = exactly 2 }
 
 abbrev pub taking : Moment
-taking = record { start = 0; duration = 5; quantity = only 6 }
+taking = record { start = 0; duration = 5; quantity = exactly 6 }
 
 -- one goal, on an object that is nothing special
 abbrev pub lone_goal : Model
@@ -52,7 +52,7 @@ battery = scene (kind.Reservoir (pos 5) (pos 0) (pos 10)) pred.Consume [] [] (Fa
 
 -- the fact takes 6
 abbrev pub drained : State
-drained = state_of [] (taking ∷ late ∷ [])
+drained = scene_state [] (taking ∷ late ∷ [])
 
 -- the goal is activated
 abbrev pub activated : List Decision

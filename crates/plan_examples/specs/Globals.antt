@@ -38,8 +38,8 @@ at_most_1 = Constraint Leq (term.Global 0 ∷ term.Lit (pos 1) ∷ [])
 abbrev pub low_x : Model
 low_x = problem_of (declared_x ∷ []) (at_most_1 ∷ [])
 
-abbrev pub nothing : State
-nothing = record { tokens = []; blocks = []; entries = [] }
+abbrev pub empty_state : State
+empty_state = record { tokens = []; blocks = []; entries = [] }
 
 -- x may be what is in this domain
 abbrev pub with_x : Domain → State

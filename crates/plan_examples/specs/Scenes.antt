@@ -17,8 +17,8 @@ use Rattle.model_core.specs.declared.rule.Side.TheVariants.{Then}
 use Rattle.model_core.specs.declared.variable.Base.TheVariants.{Given}
 use Rattle.model_core.specs.declared.variable.ValueKind.TheVariants.{Int}
 use Rattle.model_core.specs.Blocks.{TokenBlock}
-use Rattle.model_core.specs.Entries.{Nothing, Branches}
-use Rattle.model_core.specs.State.{State, Entry}
+use Rattle.model_core.specs.Entries.{NoEntry, WithBranch}
+use Rattle.model_core.specs.State.{State, VarDomain}
 use Rattle.model_core.specs.Tokens.{root_token}
 
 -- the object, which has the number 0, alone
@@ -55,8 +55,8 @@ pub record Moment : Type 0 where
   pub duration : ℕ
   pub quantity : Domain
 
-abbrev pub only : ℕ → Domain
-only number = Range (pos number) (pos number)
+abbrev pub exactly : ℕ → Domain
+exactly number = Range (pos number) (pos number)
 
 -- the roots from this number on
 abbrev pub tokens_of : ℕ → List Moment → List TokenName
@@ -64,25 +64,25 @@ tokens_of number [] = []
 tokens_of number (moment ∷ moments) = root_token number ∷ tokens_of (number + 1) moments
 
 -- their variables
-abbrev pub entries_of : ℕ → List Moment → List Entry
-entries_of number [] = []
-entries_of number (moment ∷ moments) =
+abbrev pub scene_entries : ℕ → List Moment → List VarDomain
+scene_entries number [] = []
+scene_entries number (moment ∷ moments) =
     record { name = Token (root_token number) Object; domain = the_object }
-    ∷ record { name = Token (root_token number) Start; domain = only moment.start }
-    ∷ record { name = Token (root_token number) End; domain = only (moment.start + moment.duration) }
-    ∷ record { name = Token (root_token number) Duration; domain = only moment.duration }
+    ∷ record { name = Token (root_token number) Start; domain = exactly moment.start }
+    ∷ record { name = Token (root_token number) End; domain = exactly (moment.start + moment.duration) }
+    ∷ record { name = Token (root_token number) Duration; domain = exactly moment.duration }
     ∷ record { name = Token (root_token number) (Param 0); domain = moment.quantity }
-    ∷ entries_of (number + 1) moments
+    ∷ scene_entries (number + 1) moments
 
 -- the state in which the roots take place so, with these open blocks
-abbrev pub state_of : List TokenBlock → List Moment → State
-state_of blocks moments = record { tokens = tokens_of 0 moments; blocks = blocks; entries = entries_of 0 moments }
+abbrev pub scene_state : List TokenBlock → List Moment → State
+scene_state blocks moments = record { tokens = tokens_of 0 moments; blocks = blocks; entries = scene_entries 0 moments }
 
 -- ---- a rule with a guard
 
 -- `if (quantity == 1) { } else { }`
 abbrev pub guarded : Rule
-guarded = record { top = Branches (Equal (term.Here (Param 0)) (term.Lit (pos 1))) Nothing Nothing Nothing; slots = []; locals = [] }
+guarded = record { top = WithBranch (Equal (term.Here (Param 0)) (term.Lit (pos 1))) NoEntry NoEntry NoEntry; slots = []; locals = [] }
 
 -- the rule's own block, and that of the guard
 abbrev pub top_block : TokenBlock

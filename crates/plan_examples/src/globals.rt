@@ -4,12 +4,12 @@ ghost use Rattle.std.specs.Prelude.{[], ◌∷◌, pos};
 ghost use Rattle.eu_name.specs.declared.name.VarName.TheVariants.{Global};
 ghost use Rattle.model_core.specs.declared.decision.Decision.TheVariants.{Specify};
 ghost use Rattle.plan_defs.specs.Closure.{IsClosed};
-ghost use Rattle.plan_examples.specs.Globals.{problem_of, free_x, low_x, nothing, with_x, up_to};
+ghost use Rattle.plan_examples.specs.Globals.{problem_of, free_x, low_x, empty_state, with_x, up_to};
 
 /// A state has each variable of the problem.
 pub fn a_state_has_all_variables()
-    ensures without { IsClosed (problem_of [] []) [] nothing }
-    ensures with { IsClosed free_x [] nothing → ⊥ }
+    ensures without { IsClosed (problem_of [] []) [] empty_state }
+    ensures with { IsClosed free_x [] empty_state → ⊥ }
 {}
 
 /// No variable leaves the domain that it is declared with.

@@ -13,7 +13,8 @@ use Rattle.model_core.specs.declared.item.Item.{Item}
 use Rattle.model_core.specs.declared.item.Term.TheVariants.{Global}
 use Rattle.model_core.specs.declared.variable.ValueKind.TheVariants.{Int}
 use Rattle.model_core.specs.Kinds.{OfProblem, IsOfKind}
-use Rattle.model_core.specs.Lawful.{IsBase, IsRangeVariable, IsPlain, IsOfGlobals, IsLawfulItem, IsLawfulVariable, IsLawful}
+use Rattle.model_core.specs.Lawful.{IsBase, IsLawfulItem, IsLawfulVariable, IsLawful}
+use Rattle.plan_db.specs.Built.{IsRangeVariable, IsPlain, IsOfGlobals}
 use Rattle.model_core.specs.Naming.{names_of, builtin_names, global_names, declared_names}
 use Rattle.model_core.proofs.Distinct.{pairs_front}
 use Rattle.model_core.proofs.Items.{item_within, item_is, item_at}

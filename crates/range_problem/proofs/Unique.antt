@@ -7,7 +7,7 @@ use Rattle.std.proofs.lemmas.List.Elements.{recursion_from_All}
 use Rattle.model_core.specs.declared.model.Model.{Model}
 use Rattle.model_core.specs.declared.variable.VarDecl.{VarDecl}
 use Rattle.model_core.specs.declared.item.Item.{Item}
-use Rattle.model_core.specs.Lawful.{IsRangeVariable}
+use Rattle.plan_db.specs.Built.{IsRangeVariable}
 use Rattle.model_core.specs.Naming.{global_names}
 use Rattle.range_problem.specs.Lexeme.{Lexeme}
 use Rattle.model_core.specs.Naming.{names_of}

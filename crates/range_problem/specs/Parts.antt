@@ -9,7 +9,8 @@ use Rattle.model_core.specs.declared.item.Item.{Item}
 use Rattle.model_core.specs.declared.item.Item.TheVariants.{Constraint}
 use Rattle.model_core.specs.declared.item.Kind.TheVariants.{Leq}
 use Rattle.model_core.specs.declared.item.Term.TheVariants.{Global}
-use Rattle.model_core.specs.Lawful.{IsBase, IsRangeVariable}
+use Rattle.model_core.specs.Lawful.{IsBase}
+use Rattle.plan_db.specs.Built.{IsRangeVariable}
 use Rattle.model_core.specs.Naming.{builtin_names, names_of}
 
 -- a variable with a range

@@ -10,7 +10,8 @@ use Rattle.model_core.specs.declared.variable.Base.TheVariants.{Given, Void}
 use Rattle.model_core.specs.declared.item.Item.{Item}
 use Rattle.model_core.specs.declared.item.Item.TheVariants.{Constraint}
 use Rattle.model_core.specs.declared.item.Term.TheVariants.{Global}
-use Rattle.model_core.specs.Lawful.{IsLawful, IsBuilt}
+use Rattle.model_core.specs.Lawful.{IsLawful}
+use Rattle.plan_db.specs.Built.{IsBuilt}
 use Rattle.model_core.specs.Naming.{global_names}
 use Rattle.range_problem.specs.Lexeme.{Lexeme, Word, Number, Mark, Lexes}
 use Rattle.range_problem.specs.Parts.{IsLeq}

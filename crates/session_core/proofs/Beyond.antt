@@ -11,7 +11,7 @@ use Rattle.model_core.specs.History.{History, standing}
 use Rattle.model_core.specs.Lookup.{global_named}
 use Rattle.model_core.specs.Lawful.{IsLawful, IsLawfulVariable, IsBase}
 use Rattle.model_core.specs.State.{State}
-use Rattle.plan_defs.specs.Refusals.{Refusal, Unknown, Decided, NotInDomain, place_of, IsDeclared, Hinders}
+use Rattle.plan_defs.specs.Refusals.{Refusal, Unknown, Decided, NotInDomain, rank_of, IsDeclared, Hinders}
 use Rattle.plan_defs.proofs.Members.{get_all}
 use Rattle.session_core.specs.Replies.{Refuses, SpecifiesGlobal, SpecifyReplies, StandsFor}
 
@@ -23,7 +23,7 @@ declared_value model number value lawful is =
     has_value is.0 value ok is.2
 
 -- reasons that are looked for before the value matters
-same_hindrance : (model : Model) (decisions : List Decision) (state : State) (number : ℕ) (value other : ℤ) (reason : Refusal) → place_of reason < 2
+same_hindrance : (model : Model) (decisions : List Decision) (state : State) (number : ℕ) (value other : ℤ) (reason : Refusal) → rank_of reason < 2
     → Hinders model decisions state reason (Specify (Global number) other) → Hinders model decisions state reason (Specify (Global number) value)
 same_hindrance model decisions state number value other Unknown before hinders = hinders
 same_hindrance model decisions state number value other Decided before hinders = hinders

@@ -5,7 +5,7 @@ ghost use Rattle.domain_core.specs.Domain.{Range};
 ghost use Rattle.model_core.specs.declared.variable.Base.TheVariants.{Given};
 ghost use Rattle.model_core.specs.declared.variable.ValueKind.TheVariants.{Int};
 ghost use Rattle.model_core.specs.Lawful.{IsLawful};
-ghost use Rattle.model_core.specs.Sample.{only, coming, sample};
+ghost use Rattle.model_core.specs.Sample.{spirit_alone, coming, sample};
 
 use crate::class::{Class, Object, ObjectKind, Pred, PredKind};
 use crate::item::{Item, Rel};
@@ -34,7 +34,7 @@ fn ranged(alloc: Global, name: &str, greatest: i32) -> Result<VarDecl, AllocErro
 
 // The one object.
 fn only(alloc: Global) -> Result<Dom, AllocError>
-    ensures { IfOk result (λ domain. domain ≡ only) }
+    ensures { IfOk result (λ domain. domain ≡ spirit_alone) }
 {
     match Dom::set_of(alloc, &[0]) {
         Ok(domain) => Ok(domain),

@@ -9,4 +9,4 @@ returns-in_err-global_named c =
 pub returns : goal.returns
 returns c =
     let found = global_found c.args.self.now c.as_bytes.result.now c.in_ok-global_named.field-0 c.in_ok-global_named.ensures in
-    (c.if-not-is_empty.ensures.0 (search rules), c.requires.whole, (found.0, found.1, cc))
+    record { steps = c.if-not-is_empty.ensures.0 (search rules); tail = c.requires.whole; variable = found.0; is_global = found.1; label = cc }

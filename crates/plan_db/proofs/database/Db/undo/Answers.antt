@@ -1,39 +1,31 @@
-use Rattle.std.proofs.Common.{◌≡◌, [], ◌∷◌, length, refl, sym, ◌∙◌, subst}
-use Rattle.std.specs.Prelude.{MatchOption}
-use Rattle.plan_defs.specs.Closure.{IsLeast, IsCollapsed}
-use Rattle.plan_db.specs.Kept.{IsKept, state_of}
-use Rattle.plan_db.specs.Database.{Database}
-use Rattle.plan_db.proofs.Keeping.{first_history, outcome_is, standing_below, IsHistory-below}
+use Rattle.std.proofs.Common.{◌≡◌, ◌∷◌, refl, sym, subst}
+use Rattle.model_core.specs.History.{standing}
+use Rattle.plan_db.specs.Database.{Database, OutcomeIs}
+use Rattle.plan_db.specs.Kept.{IsKept, IsLeastNet}
+use Rattle.plan_db.proofs.Keeping.{outcome_is, standing_below, IsHistory-below}
 use Rattle.plan_db.proofs.database.Db.undo.Goals as goal
-use Rattle.plan_db.proofs.database.Db.undo.Goals.{After-drop-former-inside-in-Ok-undo}
+use Rattle.plan_db.proofs.database.Db.undo.Goals.{After-take_off}
 
-pub returns-in-Err-Nothing-clause-undone : goal.returns-in-Err-Nothing-clause-undone
-returns-in-Err-Nothing-clause-undone c =
-    let one : length c.self.inside.log ≡ 1 = rw c.in-Err-Nothing.field-0-is at c.in-Err-Nothing.ensures in
-    (refl, subst (λ db. db.history ≡ [] ∷ []) c.self.view_is (first_history c.self.inside.model c.self.inside.log c.self.invariant.history_is one))
-
--- the state that was computed before is that of the list that stands then
-keeps : (c : After-drop-former-inside-in-Ok-undo) → IsKept c.self.inside.model c.undo.new.self c.in_ok-net.net
+-- the state that was kept before is that of the list that stands then
+keeps : (c : After-take_off) → IsKept c.self.inside.model c.take_off.new.log c.restore.new.net
 keeps c =
     let model = c.self.inside.model in
     let old = c.self.inside.log in
-    let new = c.undo.new.self in
-    let copied = c.in-Ok.ensures in
-    let undone = c.in-Ok-undo.ensures in
-    let stood = standing_below old new c.in-Ok.decisions copied.0 copied.1 undone.3 in
-    let list = c.as_slice.ensures ∙ sym stood in
+    let new = c.take_off.new.log in
+    let kept = c.in_ok-outcome.ensures.ok.1 in
+    let stood = standing_below old new kept.0 kept.1.0 kept.1.1 c.take_off.ensures in
     record {
       lawful = c.self.invariant.lawful;
       built = c.self.invariant.built;
-      history_is = IsHistory-below model old new c.in-Ok.decisions copied.0 c.self.invariant.history_is copied.1 undone.3;
-      state = subst (λ decisions. MatchOption c.in_ok-net.net (IsCollapsed model decisions) (λ net. IsLeast model decisions (state_of net.domains))) list c.in_ok-net.ensures;
+      history_is = IsHistory-below model old new kept.0 kept.1.0 c.self.invariant.history_is kept.1.1 c.take_off.ensures;
+      state = subst (λ decisions. IsLeastNet model decisions c.restore.new.net) (sym stood) kept.2;
     }
 
-pub invariant_of-self : goal.invariant_of-self
-invariant_of-self c = keeps c
+pub invariant_of-self-2 : goal.invariant_of-self-2
+invariant_of-self-2 c = keeps c
 
-pub returns-in-Ok-undo-clause-undone : goal.returns-in-Ok-undo-clause-undone
-returns-in-Ok-undo-clause-undone c =
-    let database : Database = record { model = c.self.inside.model; history = c.undo.new.self } in
-    rw (← c.self.view_is, c.outcome_of-outcome.ensures)
-    (refl, c.in-Ok-undo.ensures.3, outcome_is database c.in_ok-net.net (keeps c).state)
+pub returns-clause-undone : goal.returns-clause-undone
+returns-clause-undone c =
+    let database : Database = record { model = c.self.inside.model; history = c.take_off.new.log } in
+    rw (← c.self.view_is)
+    (refl, c.take_off.ensures, subst (OutcomeIs database) (sym c.in_ok-outcome.ensures.ok.0) (outcome_is database c.restore.new.net (keeps c).state))

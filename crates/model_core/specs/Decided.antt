@@ -6,7 +6,7 @@ use Rattle.model_core.specs.declared.decision.Decision.TheVariants.{Activate, Me
 use Rattle.model_core.specs.declared.model.Model.{Model}
 use Rattle.model_core.specs.Tokens.{IsFact}
 
--- the token takes place
+-- the decisions say that the token takes place
 abbrev pub IsActivated : List Decision → TokenName → Type 0
 IsActivated decisions token = Contains decisions (Activate token)
 
@@ -18,14 +18,14 @@ IsMerged decisions token = (target : TokenName) × Contains decisions (Merge tok
 abbrev pub IsRejected : List Decision → TokenName → Type 0
 IsRejected decisions token = Contains decisions (Reject token)
 
--- the token takes place, by itself or as another one
+-- the token is taken: it takes place by itself or as another one
 abbrev pub IsTaken : List Decision → TokenName → Type 0
 IsTaken decisions token = IsActivated decisions token ⊎ IsMerged decisions token
 
--- what becomes of the token is decided
-abbrev pub IsResolved : List Decision → TokenName → Type 0
-IsResolved decisions token = IsTaken decisions token ⊎ IsRejected decisions token
-
--- the token takes place by itself: it is a fact, or it is activated
+-- the token is active: it takes place by itself, as a fact or since it is activated
 abbrev pub IsActive : Model → List Decision → TokenName → Type 0
 IsActive model decisions token = IsFact model token ⊎ IsActivated decisions token
+
+-- what becomes of the token is decided: it is a fact, or taken, or rejected
+abbrev pub IsDecided : Model → List Decision → TokenName → Type 0
+IsDecided model decisions token = IsFact model token ⊎ (IsTaken decisions token ⊎ IsRejected decisions token)
