@@ -1,5 +1,5 @@
 -- What the pieces of the work do. The public calls promise none of it.
-use Rattle.std.specs.Prelude.{◌≡◌, ℕ, ◌≤◌, List, length, Option, Result, Ok, Err, ⊤}
+use Rattle.std.specs.Prelude.{◌≡◌, ℕ, List, length, Option, Result, Ok, Err, ⊤}
 use Rattle.eu_io.specs.Faults.{raised}
 use Rattle.eu_io.specs.declared.shelf.FileEntry.{FileEntry}
 use Rattle.eu_io.specs.declared.shelf.ShelfFail.{ShelfFail}

@@ -1,9 +1,9 @@
-use Rattle.std.proofs.Common.{[], refl}
+use Rattle.std.proofs.Common.{[], refl, inl}
 use Rattle.std.proofs.lemmas.Result.{err_from_is_err_and}
 use Rattle.std.proofs.KnownBytes.{Consumes-nil, Appends-nil}
 use Rattle.line_session.specs.Lines.{lines_of}
 use Rattle.line_session.specs.Pieces.{known_rest}
-use Rattle.line_session.proofs.session.start.Goals as goal
+use Rattle.line_session.proofs.talk.start.Goals as goal
 
 pub returns-in_err-inflow-clause-talks : goal.returns-in_err-inflow-clause-talks
 returns-in_err-inflow-clause-talks g c =
@@ -12,7 +12,12 @@ returns-in_err-inflow-clause-talks g c =
     rw (p.1, p.2) (
       [],
       [],
+      record { responder = c.args.responder.now; count = 0 },
       Consumes-nil left,
       Appends-nil (g.O.Sink.written c.args.out.now),
-      ([], lines_of (known_rest left), [], c.args.responder.now, refl, (refl, refl)),
+      refl,
+      inl (record { answered = []; later = lines_of (known_rest left); split = refl; session = refl }),
     )
+
+pub returns-clause-talks : goal.returns-clause-talks
+returns-clause-talks g c = rw c.in_ok-inflow.ensures at c.answer_lines.ensures.talks
