@@ -1,10 +1,7 @@
 -- What sources and sinks in memory hold, and which calls of an object in memory fail.
-use Rattle.std.specs.Prelude.{ℕ, ◌+◌, ◌-◌, ◌^◌, min, Bool, ◌&&◌, if◌then◌else◌, List, length, nat_eq, nat_lt, nat_le}
+use Rattle.std.specs.Prelude.{ℕ, ◌-◌, min, Bool, ◌&&◌, List, length, nat_eq, nat_lt, nat_le}
 use Rattle.std.specs.List.{list_any}
-
--- a count of one more, where a counter stays at its type's end
-abbrev pub raised : ℕ → ℕ
-raised count = min (count + 1) (2 ^ 64 - 1)
+use Rattle.eu_io.specs.Faults.{raised, counted}
 
 -- the numbers of the calls that fail, how many calls there were, and how many of them failed
 pub record CallState : Type 0 where
@@ -46,7 +43,7 @@ fails_next calls = list_any (λ call. nat_eq call (raised calls.made)) calls.fai
 -- the calls after one more, which failed or not
 abbrev pub after_call : CallState → Bool → CallState
 after_call calls failed =
-    record { fails = calls.fails; made = raised calls.made; faults = if failed then raised calls.faults else calls.faults }
+    record { fails = calls.fails; made = raised calls.made; faults = counted failed calls.faults }
 
 -- how many bytes of a piece of this length a call takes
 abbrev pub taken_count : StoreState → ℕ → ℕ

@@ -1,8 +1,7 @@
 //! How often calls have failed.
 
-ghost use Rattle.std.specs.Prelude.{◌≡◌, ◌≤◌};
-ghost use Rattle.eu_io.specs.Faults.{Rose};
-ghost use Rattle.eu_io.specs.Memory.{raised};
+ghost use Rattle.std.specs.Prelude.{◌≡◌};
+ghost use Rattle.eu_io.specs.Faults.{raised};
 
 use std::marker::Model;
 
@@ -36,9 +35,7 @@ impl FaultCount {
 
     /// Counts one more failed call.
     pub fn raise(&mut self)
-        ensures exact { self.new ≡ raised self.old }
-        ensures rose { Rose self.old self.new }
-        ensures no_less { self.old ≤ self.new }
+        ensures { self.new ≡ raised self.old }
     {
         self.count = self.count.saturating_add(1);
     }

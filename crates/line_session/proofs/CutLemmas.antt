@@ -6,13 +6,13 @@ use Rattle.std.proofs.KnownBytes.{Consumes-trans}
 use Rattle.line_session.specs.declared.fault.SessionFault.TheVariants.{LinesSpent}
 use Rattle.line_session.specs.declared.cutting.Cut.TheVariants.{Feed}
 use Rattle.line_session.specs.declared.line.Line.{Line}
-use Rattle.line_session.specs.Pieces.{MovesLine, Cuts, Reads}
+use Rattle.line_session.specs.Pieces.{MovesLine, CutsLine, ReadsPart}
 use Rattle.line_session.proofs.Streams.{IsOneLine-append}
 
 -- more bytes were taken
-pub Reads-refill : (a b c : Option (List ℕ)) (held_old held held_new : List ℕ) (line : Line) → Reads a b held_old held line
-    → ((taken : List ℕ) × Consumes b c taken × (held_new ≡ held ++ taken) × (held_new ≢ [])) → Reads a c held_old held_new line
-Reads-refill a b c held_old held held_new line r f = (
+pub ReadsPart-refill : (a b c : Option (List ℕ)) (held_old held held_new : List ℕ) (line : Line) → ReadsPart (record { left = a; held = held_old }) (record { left = b; held = held }) line
+    → ((taken : List ℕ) × Consumes b c taken × (held_new ≡ held ++ taken) × (held_new ≢ [])) → ReadsPart (record { left = a; held = held_old }) (record { left = c; held = held_new }) line
+ReadsPart-refill a b c held_old held held_new line r f = (
   r.0 ++ f.0,
   r.1,
   Consumes-trans a b c r.0 f.0 r.2 f.1,
@@ -22,9 +22,9 @@ Reads-refill a b c held_old held held_new line r f = (
 )
 
 -- the bytes held were moved to the line, which a line feed ended
-pub Reads-feed : (a b : Option (List ℕ)) (held_old held held_new : List ℕ) (line line' : Line) (longest : ℕ) → Reads a b held_old held line
-    → MovesLine held held_new line line' true → Cuts a b held_old held_new line' longest (Ok Feed)
-Reads-feed a b held_old held held_new line line' longest r m = (
+pub ReadsPart-feed : (a b : Option (List ℕ)) (held_old held held_new : List ℕ) (line line' : Line) (longest : ℕ) → ReadsPart (record { left = a; held = held_old }) (record { left = b; held = held }) line
+    → MovesLine held held_new line line' true → CutsLine (record { left = a; held = held_old }) (record { left = b; held = held_new }) line' longest (Ok Feed)
+ReadsPart-feed a b held_old held held_new line line' longest r m = (
   r.0,
   r.1 ++ m.0,
   r.2,
@@ -34,9 +34,9 @@ Reads-feed a b held_old held held_new line line' longest r m = (
 )
 
 -- the bytes held were moved to the line, which goes on
-pub Reads-more : (a b : Option (List ℕ)) (held_old held held_new : List ℕ) (line line' : Line) → Reads a b held_old held line
-    → MovesLine held held_new line line' false → Reads a b held_old held_new line'
-Reads-more a b held_old held held_new line line' r m = (
+pub ReadsPart-more : (a b : Option (List ℕ)) (held_old held held_new : List ℕ) (line line' : Line) → ReadsPart (record { left = a; held = held_old }) (record { left = b; held = held }) line
+    → MovesLine held held_new line line' false → ReadsPart (record { left = a; held = held_old }) (record { left = b; held = held_new }) line'
+ReadsPart-more a b held_old held held_new line line' r m = (
   r.0,
   r.1 ++ m.0,
   r.2,
@@ -46,14 +46,14 @@ Reads-more a b held_old held held_new line line' r m = (
 )
 
 -- a line that is longer than the longest
-pub Reads-over : (a b : Option (List ℕ)) (held_old held : List ℕ) (line : Line) (longest : ℕ) → Reads a b held_old held line
-    → longest < line.length → Cuts a b held_old held line longest (Err LinesSpent)
-Reads-over a b held_old held line longest r over = (r.0, r.1, r.2, r.3, r.5, subst (λ n. longest < n) r.4.1 over)
+pub ReadsPart-over : (a b : Option (List ℕ)) (held_old held : List ℕ) (line : Line) (longest : ℕ) → ReadsPart (record { left = a; held = held_old }) (record { left = b; held = held }) line
+    → longest < line.length → CutsLine (record { left = a; held = held_old }) (record { left = b; held = held }) line longest (Err LinesSpent)
+ReadsPart-over a b held_old held line longest r over = (r.0, r.1, r.2, r.3, r.5, subst (λ n. longest < n) r.4.1 over)
 
 -- a line grows by the bytes that there are
-pub Reads-grows : (a b : Option (List ℕ)) (held_old held held_new : List ℕ) (line line' : Line) → Reads a b held_old held line
+pub ReadsPart-grows : (a b : Option (List ℕ)) (held_old held held_new : List ℕ) (line line' : Line) → ReadsPart (record { left = a; held = held_old }) (record { left = b; held = held }) line
     → MovesLine held held_new line line' false → held ≢ [] → line.length < line'.length
-Reads-grows a b held_old held held_new line line' r m some =
+ReadsPart-grows a b held_old held held_new line line' r m some =
     let grown = (m.2 r.1 r.4).1 in
     omega (arith, grown, r.4.1, length-append r.1 m.0, positive m.0 (λ e. some (m.3 ∙ e)))
   where

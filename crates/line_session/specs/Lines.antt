@@ -1,6 +1,5 @@
 -- How a text is cut into lines, and what a line counts.
-use Rattle.std.specs.Prelude.{ℕ, ◌+◌, ◌/◌, max, List, [], ◌∷◌, ◌++◌, length, if◌then◌else◌, ◌==◌}
-use Rattle.std.specs.List.{flat_map}
+use Rattle.std.specs.Prelude.{ℕ, ◌+◌, ◌/◌, max, List, [], ◌∷◌, length, if◌then◌else◌, ◌==◌}
 
 -- the byte goes onto the first of these lines; where there is none it is a line
 abbrev pub onto_first : ℕ → List (List ℕ) → List (List ℕ)
@@ -23,13 +22,9 @@ ended_lines [] = []
 ended_lines (byte ∷ bytes) = if byte == 10 then [] ∷ ended_lines bytes else onto_ended byte (ended_lines bytes)
 
 -- a line counts once for each 4,096 bytes begun, and an empty one once
-abbrev pub count_of : List ℕ → ℕ
-count_of line = max 1 ((length line + 4095) / 4096)
+abbrev pub cost_of : List ℕ → ℕ
+cost_of line = max 1 ((length line + 4095) / 4096)
 
 -- the most that the lines of a session may count
 abbrev pub most : ℕ
 most = 1000000
-
--- each line with its line feed
-abbrev pub text_of : List (List ℕ) → List ℕ
-text_of lines = flat_map (λ line. line ++ 10 ∷ []) lines

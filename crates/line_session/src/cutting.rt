@@ -1,8 +1,9 @@
 //! Lines cut from the bytes of a source.
 
 ghost use Rattle.std.specs.Prelude.{◌≡◌, ◌<◌, ◌≤◌, ℕ, ◌+◌, ◌*◌, ◌^◌, length, take, slice_index, IfOk, OnOk};
-ghost use Rattle.line_session.specs.Pieces.{IsOneLine, MovesLine, Cuts, AtEndCuts};
-ghost use Rattle.line_session.specs.Sessions.{CountsReads};
+ghost use Rattle.eu_io.specs.Faults.{counted};
+ghost use Rattle.line_session.specs.Ends.{is_read_fault};
+ghost use Rattle.line_session.specs.Pieces.{IsOneLine, MovesLine, CutsLine, AtEndCuts};
 
 use super::fault::SessionFault;
 use super::inflow::Inflow;
@@ -69,10 +70,10 @@ pub fn next_line<S: Source>(
     longest: usize,
 ) -> Result<Cut, SessionFault>
     requires { longest < 2 ^ 62 }
-    ensures cut { Cuts (S.left input.old) (S.left input.new) inflow.old inflow.new
-        line.new longest result }
+    ensures cut { CutsLine (record { left = S.left input.old; held = inflow.old })
+        (record { left = S.left input.new; held = inflow.new }) line.new longest result }
     ensures bound { OnOk result (line.new.length < 2 ^ 63) }
-    ensures reads { CountsReads result (S.faults input.old) (S.faults input.new) }
+    ensures reads { S.faults input.new ≡ counted (is_read_fault result) (S.faults input.old) }
 {
     line.clear();
     loop {

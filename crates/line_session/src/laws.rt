@@ -1,12 +1,17 @@
 //! Laws of sessions.
 
-ghost use Rattle.line_session.specs.Laws.{HasOneSession, WritesFront, TellsFront};
+ghost use Rattle.line_session.specs.Laws.{HasOneSession, HasSomeSession, WritesFront, TellsFront};
 
-use super::responder::Responder;
+use super::reply::Responder;
 
 /// Where each line has one reply, the session of the same lines is one.
 pub fn session_is_one<T: Responder>()
     ensures { HasOneSession T.answers }
+{}
+
+/// Where each line has some reply, lines have a session, and so an output.
+pub fn lines_have_a_session<T: Responder>()
+    ensures { HasSomeSession T.answers }
 {}
 
 /// Where each line has one reply, what a session wrote before a fault comes first in its whole output.

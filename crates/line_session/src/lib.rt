@@ -1,4 +1,8 @@
-// The loop of a session: lines from a source, each answered, and the replies to a sink.
+//! A session: lines are cut from a source, each is answered by a `Responder`, and each reply is written whole to a sink,
+//! until the input ends, an answer ends it, or a fault does. After a failed call nothing more is read or written.
+//!
+//! `let end = session(alloc, &mut responder, &mut input, &mut out);` answers all the lines of `input`. Afterwards `responder`
+//! is as its last answer left it, and `end` says how the session ended.
 #![tactic(auto)]
 
 mod answering;
@@ -7,8 +11,11 @@ pub mod fault;
 mod inflow;
 pub mod laws;
 mod line;
-pub mod responder;
-pub mod session;
-#[cfg(test)]
-mod tests;
+pub mod reply;
+pub mod talk;
 pub mod whole;
+
+pub use fault::SessionFault;
+pub use reply::{Answer, Responder};
+pub use talk::{SessionEnd, session};
+pub use whole::write_whole;

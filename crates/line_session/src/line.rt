@@ -1,7 +1,7 @@
 //! A line while it is read.
 
 ghost use Rattle.std.specs.Prelude.{◌≡◌, ◌<◌, ◌≤◌, ℕ, List, [], ◌+◌, ◌*◌, ◌-◌, ◌/◌, ◌^◌, ◌++◌, length, take, max, OnOk, IsTrue, ◌↔◌};
-ghost use Rattle.line_session.specs.Held.{Holds};
+ghost use Rattle.line_session.specs.Held.{HoldsLine};
 
 use std::alloc::{AllocError, Global};
 
@@ -18,7 +18,7 @@ pub struct Line {
 impl Line {
     /// The empty line.
     pub fn new(alloc: Global) -> Line
-        ensures { Holds result [] }
+        ensures { HoldsLine result [] }
     {
         Line {
             front: Vec::new(alloc),
@@ -28,7 +28,7 @@ impl Line {
 
     /// Makes it the empty line, and keeps the room.
     pub fn clear(&mut self)
-        ensures { Holds self.new [] }
+        ensures { HoldsLine self.new [] }
     {
         self.front.clear();
         self.length = 0;
@@ -37,8 +37,8 @@ impl Line {
     /// Goes on by the piece.
     pub fn add(&mut self, piece: &[u8]) -> Result<(), AllocError>
         requires { self.old.length + length piece.now < 2 ^ 64 }
-        ensures line { OnOk result ((line : List ℕ) → Holds self.old line
-            → Holds self.new (line ++ piece.now)) }
+        ensures line { OnOk result ((line : List ℕ) → HoldsLine self.old line
+            → HoldsLine self.new (line ++ piece.now)) }
         ensures length { OnOk result (self.new.length ≡ self.old.length + length piece.now) }
     {
         keep_front(&mut self.front, piece)?;
@@ -48,7 +48,7 @@ impl Line {
 
     /// The front of the line.
     pub fn front(&self) -> &[u8]
-        ensures { (line : List ℕ) → Holds self.now line → result.now ≡ take 4097 line }
+        ensures { (line : List ℕ) → HoldsLine self.now line → result.now ≡ take 4097 line }
     {
         &self.front
     }

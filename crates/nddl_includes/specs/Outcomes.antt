@@ -1,6 +1,6 @@
 -- What answers say that may also come for want of memory or from a shelf that failed.
-use Rattle.std.specs.Prelude.{◌≡◌, ℕ, ◌≤◌, List, Result, Ok, Err, ⊤}
-use Rattle.eu_io.specs.Faults.{Rose}
+use Rattle.std.specs.Prelude.{◌≡◌, ℕ, List, Result, Ok, Err, ⊤}
+use Rattle.eu_io.specs.Faults.{raised}
 use Rattle.nddl_ast.specs.declared.declaration.Decl.{Decl}
 use Rattle.nddl_ast.specs.declared.declaration.FileDecls.{FileDecls}
 use Rattle.nddl_includes.specs.declared.fault.TextFault.{TextFault}
@@ -34,7 +34,7 @@ Says Is (Err (all.Faulty file fault)) = Is (Err (all.Faulty file fault))
 Says Is (Err all.ReadFault) = ⊤
 Says Is (Err all.Memory) = ⊤
 
--- the count of faults rose where a call of the shelf failed, and otherwise is what it was
+-- the count of faults is one more where a call of the shelf failed, and otherwise is what it was
 abbrev pub CountsReads : {T : Type 0} → Result T ReadAllFault → ℕ → ℕ → Type 0
-CountsReads (Err all.ReadFault) old new = Rose old new × (old ≤ new)
+CountsReads (Err all.ReadFault) old new = new ≡ raised old
 CountsReads other old new = new ≡ old

@@ -1,6 +1,6 @@
 -- What the pieces of the work do. The public calls promise none of it.
-use Rattle.std.specs.Prelude.{◌≡◌, ℕ, ◌≤◌, List, length, Option, Result, Ok, Err, ⊤}
-use Rattle.eu_io.specs.Faults.{Rose}
+use Rattle.std.specs.Prelude.{◌≡◌, ℕ, List, length, Option, Result, Ok, Err, ⊤}
+use Rattle.eu_io.specs.Faults.{raised}
 use Rattle.eu_io.specs.declared.shelf.FileEntry.{FileEntry}
 use Rattle.eu_io.specs.declared.shelf.ShelfFail.{ShelfFail}
 use Rattle.eu_io.specs.declared.shelf.ShelfFail.TheVariants as shelf
@@ -26,7 +26,7 @@ fail_of shelf.Memory = fetch.Memory
 
 -- the count of faults rose where the call of the shelf failed, and otherwise is what it was
 abbrev pub CountsFetch : {T : Type 0} → Result T FetchFail → ℕ → ℕ → Type 0
-CountsFetch (Err fetch.ReadFault) old new = Rose old new × (old ≤ new)
+CountsFetch (Err fetch.ReadFault) old new = new ≡ raised old
 CountsFetch other old new = new ≡ old
 
 -- the text of the file or why it isn't read, unless there was no memory or the call of the shelf failed

@@ -1,6 +1,6 @@
 -- What a file is read as with those that it includes.
 use Rattle.std.specs.Prelude.{◌≡◌, ℕ, ◌+◌, ◌<◌, ◌≤◌, zero, suc, List, [], ◌∷◌, ◌++◌, ◌⊎◌, length, Option, Some, None, Result, Ok, Err, MatchResult, MatchBool, IsUtf8}
-use Rattle.eu_io.specs.Files.{Holds}
+use Rattle.eu_io.specs.Files.{HasContent}
 use Rattle.eu_io.specs.declared.shelf.FileEntry.{FileEntry}
 use Rattle.nddl_ast.specs.declared.declaration.Decl.{Decl}
 use Rattle.nddl_ast.specs.declared.declaration.FileDecls.{FileDecls}
@@ -19,15 +19,15 @@ use Rattle.nddl_includes.specs.Outcomes.{Reading, Outcome}
 -- The text of a file, or the first cause for which it isn't read: there is no such file, it is too long, as many were read
 -- before as there may be, or no level of includes is left for it.
 abbrev pub Loads : Option (List FileEntry) → ℕ → ℕ → List ℕ → Result (List ℕ) Refusal → Type 0
-Loads files count levels name (Err refused.Absent) = Holds files name None
+Loads files count levels name (Err refused.Absent) = HasContent files name None
 Loads files count levels name (Err refused.TooLong) =
-    (text : List ℕ) × Holds files name (Some text) × (most_bytes < length text)
+    (text : List ℕ) × HasContent files name (Some text) × (most_bytes < length text)
 Loads files count levels name (Err refused.TooManyFiles) =
-    (text : List ℕ) × Holds files name (Some text) × (length text ≤ most_bytes) × (most_files ≤ count)
+    (text : List ℕ) × HasContent files name (Some text) × (length text ≤ most_bytes) × (most_files ≤ count)
 Loads files count levels name (Err refused.TooDeep) =
-    (text : List ℕ) × Holds files name (Some text) × (length text ≤ most_bytes) × (count < most_files) × (levels ≡ 0)
+    (text : List ℕ) × HasContent files name (Some text) × (length text ≤ most_bytes) × (count < most_files) × (levels ≡ 0)
 Loads files count levels name (Ok text) =
-    Holds files name (Some text) × (length text ≤ most_bytes) × (count < most_files) × (0 < levels)
+    HasContent files name (Some text) × (length text ≤ most_bytes) × (count < most_files) × (0 < levels)
 
 -- the file isn't read, or there is this fault in its text
 abbrev pub Stops : Reading → Option (List FileEntry) → ℕ → ℕ → Ask → ReadAllFault → Type 0

@@ -7,7 +7,7 @@ use Rattle.script_lang.specs.declared.line.Command.{Command}
 use Rattle.script_lang.specs.declared.line.Command.TheVariants.{Empty, Specify, Undo, Domain}
 use Rattle.script_lang.specs.declared.line.LineFault.{LineFault}
 use Rattle.script_lang.specs.declared.line.LineFault.TheVariants.{TooLong, Syntax, Memory}
-use Rattle.script_lang.specs.Line.{Reads}
+use Rattle.script_lang.specs.Line.{ReadsLine}
 use Rattle.script_lang.specs.Words.{words_of}
 use Rattle.script_lang.specs.Laws.{WordsAskOnce, LinesAskOnce, LinesHaveOneAnswer, FrontDecides}
 
@@ -59,8 +59,8 @@ lines_have_one_answer line (Err Syntax) (Err Syntax) is_one is_other safe safe' 
 lines_have_one_answer line (Err Syntax) (Err Memory) is_one is_other safe safe' = absurd (safe' refl)
 lines_have_one_answer line (Err Memory) other is_one is_other safe safe' = absurd (safe refl)
 
-front_at : (line : List ℕ) (result : Result Command LineFault) → (4096 < length line) ⊎ (length line ≤ 4096) → Reads (take 4097 line) result → Reads line result
-front_at line result (inr short) reads = let P : List ℕ → Type 0 = λ bytes. Reads bytes result in subst P (take_all 4097 line (omega arith)) reads
+front_at : (line : List ℕ) (result : Result Command LineFault) → (4096 < length line) ⊎ (length line ≤ 4096) → ReadsLine (take 4097 line) result → ReadsLine line result
+front_at line result (inr short) reads = let P : List ℕ → Type 0 = λ bytes. ReadsLine bytes result in subst P (take_all 4097 line (omega arith)) reads
 front_at line (Ok command) (inl long) reads = absurd (omega (arith, reads.0, length-take-le 4097 line long))
 front_at line (Err TooLong) (inl long) reads = long
 front_at line (Err Syntax) (inl long) reads = absurd (omega (arith, reads.0, length-take-le 4097 line long))

@@ -6,8 +6,8 @@ use Rattle.std.proofs.lemmas.List.{get_or-drop}
 use Rattle.std.proofs.lemmas.List.Elements.{filter-append}
 use Rattle.std.proofs.lemmas.List.Splits.{slice_split_none}
 use Rattle.std.proofs.lemmas.List.Sums.{prefix_len_stops}
-use Rattle.script_lang.specs.Words.{is_some_word, is_blank}
-use Rattle.script_lang.specs.Laws.{RunsAreWords, BlanksSeparate}
+use Rattle.script_lang.specs.Words.{is_some_word, is_separator}
+use Rattle.script_lang.specs.Laws.{RunsAreWords, SeparatorsSplit}
 
 -- the parts that aren't empty
 abbrev pub parts : (ℕ → Bool) → List ℕ → List (List ℕ)
@@ -92,7 +92,7 @@ pub part_of_run : (p : ℕ → Bool) (first : ℕ) (rest : List ℕ) → All (λ
 part_of_run p first rest none = ap (filter is_some_word) (slice_split_none p (first ∷ rest) none)
 
 pub runs_are_words : RunsAreWords
-runs_are_words = part_of_run is_blank
+runs_are_words = part_of_run is_separator
 
-pub blanks_separate : BlanksSeparate
-blanks_separate = parts_round is_blank
+pub blanks_separate : SeparatorsSplit
+blanks_separate = parts_round is_separator

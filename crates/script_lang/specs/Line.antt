@@ -6,12 +6,12 @@ use Rattle.script_lang.specs.declared.line.Command.TheVariants.{Empty, Specify, 
 use Rattle.script_lang.specs.declared.line.LineFault.{LineFault}
 use Rattle.script_lang.specs.declared.line.LineFault.TheVariants.{TooLong, Syntax, Memory}
 use Rattle.script_lang.specs.Words.{words_of}
-use Rattle.script_lang.specs.Number.{IsNumber}
+use Rattle.script_lang.specs.Number.{IsSignedNumber}
 
 -- the words ask for this
 abbrev pub IsCommand : List (List ℕ) → Command → Type 0
 IsCommand words Empty = words ≡ []
-IsCommand words (Specify variable value) = (words ≡ codes "specify" ∷ variable ∷ value ∷ []) × IsName variable × IsNumber value
+IsCommand words (Specify variable value) = (words ≡ codes "specify" ∷ variable ∷ value ∷ []) × IsName variable × IsSignedNumber value
 IsCommand words Undo = words ≡ codes "undo" ∷ []
 IsCommand words (Domain variable) = (words ≡ codes "domain" ∷ variable ∷ []) × IsName variable
 
@@ -23,15 +23,15 @@ KeepsWord Undo = ⊥
 KeepsWord (Domain variable) = ⊤
 
 -- the answer to words: what they ask for, that they ask for nothing, or that memory ran out for a word that they ask to keep
-abbrev pub Answers : List (List ℕ) → Result Command LineFault → Type 0
-Answers words (Ok command) = IsCommand words command
-Answers words (Err TooLong) = ⊥
-Answers words (Err Syntax) = (command : Command) → IsCommand words command → ⊥
-Answers words (Err Memory) = (command : Command) × IsCommand words command × KeepsWord command
+abbrev pub AnswersWords : List (List ℕ) → Result Command LineFault → Type 0
+AnswersWords words (Ok command) = IsCommand words command
+AnswersWords words (Err TooLong) = ⊥
+AnswersWords words (Err Syntax) = (command : Command) → IsCommand words command → ⊥
+AnswersWords words (Err Memory) = (command : Command) × IsCommand words command × KeepsWord command
 
 -- the answer to a line: a line of more than 4,096 bytes is too long, whatever it has
-abbrev pub Reads : List ℕ → Result Command LineFault → Type 0
-Reads line (Ok command) = (length line ≤ 4096) × IsCommand (words_of line) command
-Reads line (Err TooLong) = 4096 < length line
-Reads line (Err Syntax) = (length line ≤ 4096) × Answers (words_of line) (Err Syntax)
-Reads line (Err Memory) = (length line ≤ 4096) × Answers (words_of line) (Err Memory)
+abbrev pub ReadsLine : List ℕ → Result Command LineFault → Type 0
+ReadsLine line (Ok command) = (length line ≤ 4096) × IsCommand (words_of line) command
+ReadsLine line (Err TooLong) = 4096 < length line
+ReadsLine line (Err Syntax) = (length line ≤ 4096) × AnswersWords (words_of line) (Err Syntax)
+ReadsLine line (Err Memory) = (length line ≤ 4096) × AnswersWords (words_of line) (Err Memory)

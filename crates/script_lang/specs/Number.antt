@@ -9,10 +9,10 @@ without_minus [] = []
 without_minus (first ∷ rest) = cond (first == 45) rest (first ∷ rest)
 
 -- decimal digits, one or more, with a minus sign before them or nothing
-abbrev pub IsNumber : List ℕ → Type 0
-IsNumber word = (0 < length (without_minus word)) × All (λ byte. IsTrue (is_ascii_digit byte)) (without_minus word)
+abbrev pub IsSignedNumber : List ℕ → Type 0
+IsSignedNumber word = (0 < length (without_minus word)) × All (λ byte. IsTrue (is_ascii_digit byte)) (without_minus word)
 
 -- what the digits say in base ten, negative after a minus sign; `-0` is 0
-abbrev pub number_of : List ℕ → ℤ
-number_of [] = pos 0
-number_of (first ∷ rest) = cond (first == 45) (neg_ℤ (pos (digits_value 10 rest))) (pos (digits_value 10 (first ∷ rest)))
+abbrev pub signed_value : List ℕ → ℤ
+signed_value [] = pos 0
+signed_value (first ∷ rest) = cond (first == 45) (neg_ℤ (pos (digits_value 10 rest))) (pos (digits_value 10 (first ∷ rest)))

@@ -2,7 +2,7 @@
 
 ghost use Rattle.std.specs.Prelude.{◌≡◌, ◌<◌, ◌↔◌, ◌∷◌, All, IsTrue, IfOk, IfErr, codes};
 ghost use Rattle.script_lang.specs.Words.{words_of};
-ghost use Rattle.script_lang.specs.Line.{Answers, Reads};
+ghost use Rattle.script_lang.specs.Line.{AnswersWords, ReadsLine};
 ghost use Rattle.script_lang.specs.declared.line.LineFault.TheVariants.{Memory};
 
 use super::number::is_number;
@@ -70,7 +70,7 @@ fn is_domain(word: &[u8]) -> bool
 
 /// What `specify` asks for before these words.
 fn read_specify(alloc: Global, rest: &[u8]) -> Result<Command, LineFault>
-    ensures { Answers (codes "specify" ∷ words_of rest.now) result }
+    ensures { AnswersWords (codes "specify" ∷ words_of rest.now) result }
 {
     let Some((variable, value)) = two_words(rest) else {
         return Err(LineFault::Syntax);
@@ -85,7 +85,7 @@ fn read_specify(alloc: Global, rest: &[u8]) -> Result<Command, LineFault>
 
 /// What `undo` asks for before these words.
 fn read_undo(rest: &[u8]) -> Result<Command, LineFault>
-    ensures { Answers (codes "undo" ∷ words_of rest.now) result }
+    ensures { AnswersWords (codes "undo" ∷ words_of rest.now) result }
 {
     match next_word(rest) {
         Some(_) => Err(LineFault::Syntax),
@@ -95,7 +95,7 @@ fn read_undo(rest: &[u8]) -> Result<Command, LineFault>
 
 /// What `domain` asks for before these words.
 fn read_domain(alloc: Global, rest: &[u8]) -> Result<Command, LineFault>
-    ensures { Answers (codes "domain" ∷ words_of rest.now) result }
+    ensures { AnswersWords (codes "domain" ∷ words_of rest.now) result }
 {
     let Some(variable) = only_word(rest) else {
         return Err(LineFault::Syntax);
@@ -109,7 +109,7 @@ fn read_domain(alloc: Global, rest: &[u8]) -> Result<Command, LineFault>
 
 /// What a line asks for by its first word and what follows it.
 fn read_command(alloc: Global, first: &[u8], rest: &[u8]) -> Result<Command, LineFault>
-    ensures { Answers (first.now ∷ words_of rest.now) result }
+    ensures { AnswersWords (first.now ∷ words_of rest.now) result }
 {
     if is_specify(first) {
         read_specify(alloc, rest)
@@ -122,9 +122,9 @@ fn read_command(alloc: Global, first: &[u8], rest: &[u8]) -> Result<Command, Lin
     }
 }
 
-/// Reads a line without its line feed. A line that is too long is not looked at.
+/// ReadsLine a line without its line feed. A line that is too long is not looked at.
 pub fn read_line(alloc: Global, line: &[u8]) -> Result<Command, LineFault>
-    ensures { Reads line.now result }
+    ensures { ReadsLine line.now result }
 {
     if line.len() > LINE_LIMIT {
         return Err(LineFault::TooLong);

@@ -3,7 +3,7 @@
 ghost use Rattle.std.specs.Prelude.{◌≡◌, ◌↔◌, IsTrue, IfSome, IfNone};
 ghost use Rattle.std.specs.Char.{is_ascii_digit};
 ghost use Rattle.domain_core.specs.Domain.{IsValue};
-ghost use Rattle.script_lang.specs.Number.{IsNumber, number_of, without_minus};
+ghost use Rattle.script_lang.specs.Number.{IsSignedNumber, signed_value, without_minus};
 
 use domain_core::domain::{GREATEST_VALUE, LEAST_VALUE};
 
@@ -19,7 +19,7 @@ fn without_minus(word: &[u8]) -> &[u8]
 
 /// Whether the word is a number.
 pub fn is_number(word: &[u8]) -> bool
-    ensures { IsTrue result ↔ IsNumber word.now }
+    ensures { IsTrue result ↔ IsSignedNumber word.now }
 {
     let digits = without_minus(word);
     !digits.is_empty() && digits.iter().all(|byte| byte.is_ascii_digit())
@@ -27,7 +27,7 @@ pub fn is_number(word: &[u8]) -> bool
 
 /// Text of a number, whose bytes are all ASCII.
 fn number_text(number: &[u8]) -> &str
-    requires { IsNumber number.now }
+    requires { IsSignedNumber number.now }
     ensures { result.now ≡ number.now }
 {
     match std::str::from_utf8(number) {
@@ -38,9 +38,9 @@ fn number_text(number: &[u8]) -> &str
 
 /// The value that a number names; None where it lies outside the range of values.
 pub fn value_of(number: &[u8]) -> Option<i32>
-    requires { IsNumber number.now }
-    ensures some { IfSome result (λ value. (value ≡ number_of number.now) × IsValue value) }
-    ensures none { IfNone result (IsValue (number_of number.now) → ⊥) }
+    requires { IsSignedNumber number.now }
+    ensures some { IfSome result (λ value. (value ≡ signed_value number.now) × IsValue value) }
+    ensures none { IfNone result (IsValue (signed_value number.now) → ⊥) }
 {
     match number_text(number).parse::<i32>() {
         Ok(value) if LEAST_VALUE <= value && value <= GREATEST_VALUE => Some(value),

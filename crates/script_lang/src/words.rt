@@ -2,27 +2,27 @@
 
 ghost use Rattle.std.specs.Prelude.{◌≡◌, ℕ, not, ◌∷◌, [], List, IfSome, IfNone};
 ghost use Rattle.std.specs.List.{prefix_len};
-ghost use Rattle.script_lang.specs.Words.{is_blank, words_of};
+ghost use Rattle.script_lang.specs.Words.{is_separator, words_of};
 
 /// Whether the byte separates words.
-pub fn is_blank(byte: u8) -> bool
-    ensures { result ≡ is_blank byte }
+pub fn is_separator(byte: u8) -> bool
+    ensures { result ≡ is_separator byte }
 {
     byte == b' ' || byte == b'\t' || byte == b'\r'
 }
 
 /// How many blanks stand at the front.
 fn blank_count(line: &[u8]) -> usize
-    ensures { result ≡ prefix_len is_blank line.now }
+    ensures { result ≡ prefix_len is_separator line.now }
 {
-    line.iter().take_while(|byte| is_blank(**byte)).count()
+    line.iter().take_while(|byte| is_separator(**byte)).count()
 }
 
 /// How many bytes stand before the first blank.
 fn word_length(line: &[u8]) -> usize
-    ensures { result ≡ prefix_len (λ byte. not (is_blank byte)) line.now }
+    ensures { result ≡ prefix_len (λ byte. not (is_separator byte)) line.now }
 {
-    line.iter().take_while(|byte| !is_blank(**byte)).count()
+    line.iter().take_while(|byte| !is_separator(**byte)).count()
 }
 
 /// The first word, and what follows it.

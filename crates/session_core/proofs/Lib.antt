@@ -1,4 +1,3 @@
-pub mod Replying
-pub mod Once
-pub mod Beyond
 pub mod Lines
+pub mod Once
+pub mod Stopping

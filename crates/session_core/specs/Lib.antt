@@ -1,2 +1,3 @@
-pub mod Replies
 pub mod FrontLaw
+pub mod Reasons
+pub mod Replies

@@ -1,100 +1,139 @@
--- What a script's commands answer, and the history afterwards. Nothing is read but the model, the history, and what the decisions in it leave possible.
-use Rattle.std.specs.Prelude.{◌≡◌, ℕ, ℤ, List, [], ◌∷◌, ◌++◌, ◌⊎◌, MatchOption, codes, Ok, Err, ⊤}
+-- What the lines of a script are answered, and the database afterwards: when each reason stops a command, and what it does where none does.
+-- Nothing is read but the model, the history, and what the decisions in it leave possible.
+use Rattle.std.specs.Prelude.{◌≡◌, ℕ, ℤ, true, List, [], ◌∷◌, ◌++◌, ◌⊎◌, Option, Some, None, codes, Result, Ok, Err, ⊤}
 use Rattle.std.specs.Fmt.{signed_decimal}
 use Rattle.domain_core.specs.Domain.{IsValue, least, greatest}
 use Rattle.domain_core.specs.Domain as domains
 use Rattle.eu_name.specs.declared.name.VarName.TheVariants.{Global}
+use Rattle.line_session.specs.declared.reply.Answer.{Answer}
+use Rattle.model_core.specs.declared.decision.Decision.{Decision}
 use Rattle.model_core.specs.declared.decision.Decision.TheVariants.{Specify}
-use Rattle.model_core.specs.declared.model.Model.{Model}
-use Rattle.model_core.specs.History.{History, standing, accepted}
+use Rattle.model_core.specs.History.{standing}
 use Rattle.model_core.specs.Lookup.{global_named}
-use Rattle.model_core.specs.State.{State, Gives}
+use Rattle.model_core.specs.State.{State}
+use Rattle.plan_db.specs.Database.{Database, HasLeast, HasCollapsed, Applies, TakesBack, IsTold}
+use Rattle.plan_db.specs.declared.fault.Outcome.{Outcome}
+use Rattle.plan_db.specs.declared.fault.Outcome.TheVariants.{Consistent, Inconsistent}
+use Rattle.plan_defs.specs.Refusals.{Refusal, Hinders}
+use Rattle.plan_defs.specs.Refusals as refusals
 use Rattle.script_lang.specs.declared.line.Command.{Command}
 use Rattle.script_lang.specs.declared.line.Command.TheVariants.{Empty, Undo, Domain}
 use Rattle.script_lang.specs.declared.line.Command.TheVariants as command
-use Rattle.script_lang.specs.declared.line.LineFault.TheVariants.{TooLong, Syntax}
-use Rattle.script_lang.specs.Line.{Reads}
-use Rattle.script_lang.specs.Number.{IsNumber, number_of}
-use Rattle.plan_db.specs.Database.{Database}
-use Rattle.plan_db.specs.declared.fault.Outcome.{Outcome}
-use Rattle.plan_db.specs.declared.fault.Outcome.TheVariants.{Consistent, Inconsistent}
-use Rattle.plan_defs.specs.Closure.{IsLeast, IsCollapsed}
-use Rattle.plan_defs.specs.Refusals.{Decided, NotInDomain, IsRefused, IsAdmissible}
+use Rattle.script_lang.specs.declared.line.LineFault.TheVariants as line
+use Rattle.script_lang.specs.Line.{ReadsLine}
+use Rattle.script_lang.specs.Number.{IsSignedNumber, signed_value}
+use Rattle.session_core.specs.declared.reason.RefusalReason.{RefusalReason}
+use Rattle.session_core.specs.declared.reason.RefusalReason.TheVariants.{Long, Syntax, Unknown, Decided, NotInDomain, Nothing}
+use Rattle.session_core.specs.declared.reason.RefusalReason.TheVariants as reason
+use Rattle.session_core.specs.declared.reason.StepStop.{StepStop}
+use Rattle.session_core.specs.declared.reason.StepStop.TheVariants as stop
+use Rattle.session_core.specs.Reasons.{line_of, refusal, RefusedOr}
 
--- the one line that refuses a command for a reason
-abbrev pub refusal : List ℕ → List (List ℕ)
-refusal reason = (codes "refused " ++ reason) ∷ []
+-- the name is that of this global
+abbrev pub IsGlobalNamed : Database → List ℕ → ℕ → Type 0
+IsGlobalNamed database name number = global_named database.model name ≡ Some number
 
--- the command is refused for this reason, and nothing changes
-abbrev pub Refuses : List ℕ → History → List (List ℕ) → History → Type 0
-Refuses reason history lines after = (lines ≡ refusal reason) × (after ≡ history)
+-- the name is that of a global, and in the least state this speaks against giving it the value
+abbrev pub HindersValue : Database → List ℕ → ℤ → Refusal → Type 0
+HindersValue database name value refusal =
+    (number : ℕ) × (state : State) × IsGlobalNamed database name number × HasLeast database state
+    × Hinders database.model (standing database.history) state refusal (Specify (Global number) value)
 
--- `ok` where the decisions that stand leave a least state, `inconsistent` where they collapse
-abbrev pub SaysOutcome : Model → History → List (List ℕ) → Type 0
-SaysOutcome model history lines =
-    (((state : State) × IsLeast model (standing history) state) × (lines ≡ codes "ok" ∷ []))
-    ⊎ (IsCollapsed model (standing history) × (lines ≡ codes "inconsistent" ∷ []))
+-- when a reason stops `specify`
+abbrev pub StopsSpecify : Database → List ℕ → ℤ → RefusalReason → Type 0
+StopsSpecify database name value reason.Inconsistent = HasCollapsed database
+StopsSpecify database name value Unknown = global_named database.model name ≡ None
+StopsSpecify database name value Decided = HindersValue database name value refusals.Decided
+StopsSpecify database name value NotInDomain = HindersValue database name value refusals.NotInDomain
+StopsSpecify database name value reason = ⊥
 
--- a global is specified: decided already, outside its base, or accepted
-abbrev pub SpecifiesGlobal : Model → History → ℕ → ℤ → List (List ℕ) → History → Type 0
-SpecifiesGlobal model history number value lines after =
-    (IsRefused model (standing history) (Specify (Global number) value) Decided × Refuses (codes "decided") history lines after)
-    ⊎ (IsRefused model (standing history) (Specify (Global number) value) NotInDomain × Refuses (codes "not-in-domain") history lines after)
-    ⊎ (IsAdmissible model (standing history) (Specify (Global number) value) × (after ≡ accepted history (Specify (Global number) value)) × SaysOutcome model after lines)
+-- what `specify` does otherwise: the decision is applied, with this outcome
+abbrev pub Specifies : Database → List ℕ → ℤ → Outcome → Database → Type 0
+Specifies old name value outcome new = (number : ℕ) × IsGlobalNamed old name number × Applies old (Specify (Global number) value) (Ok outcome) new
 
--- the answer to `specify`: refused after a collapse, then where there is no such variable
-abbrev pub SpecifyReplies : Model → History → List ℕ → ℤ → List (List ℕ) → History → Type 0
-SpecifyReplies model history variable value lines after =
-    (IsCollapsed model (standing history) × Refuses (codes "inconsistent") history lines after)
-    ⊎ (((state : State) × IsLeast model (standing history) state)
-    × MatchOption (global_named model variable) (Refuses (codes "unknown") history lines after) (λ number. SpecifiesGlobal model history number value lines after))
+-- when a reason stops `undo`
+abbrev pub StopsUndo : Database → RefusalReason → Type 0
+StopsUndo database Nothing = database.history ≡ [] ∷ []
+StopsUndo database reason = ⊥
 
--- the answer to `undo`: the list before the standing one stands again, where there is one
-abbrev pub UndoReplies : Model → History → List (List ℕ) → History → Type 0
-UndoReplies model [] lines after = ⊥
-UndoReplies model (decisions ∷ []) lines after = Refuses (codes "nothing") (decisions ∷ []) lines after
-UndoReplies model (decisions ∷ below ∷ former) lines after = (after ≡ below ∷ former) × SaysOutcome model after lines
+-- what `undo` does otherwise: the last decision is taken back, with this outcome
+abbrev pub Undoes : Database → Outcome → Database → Type 0
+Undoes old outcome new = TakesBack old (Ok outcome) new
 
--- a variable with its domain, as it is printed: a range by its ends
+-- when a reason stops `domain`: after a collapse none does
+abbrev pub StopsDomain : Database → List ℕ → RefusalReason → Type 0
+StopsDomain database name Unknown = ((state : State) × HasLeast database state) × (global_named database.model name ≡ None)
+StopsDomain database name reason = ⊥
+
+-- how an outcome is printed
+abbrev pub outcome_line : Outcome → List ℕ
+outcome_line Consistent = line_of (codes "ok")
+outcome_line Inconsistent = line_of (codes "inconsistent")
+
+-- how a variable is printed with its domain: a range by its ends
 abbrev pub domain_line : List ℕ → domains.Domain → List ℕ
-domain_line name domain = name ++ (codes " [" ++ (signed_decimal (least domain) ++ (codes " " ++ (signed_decimal (greatest domain) ++ codes "]"))))
+domain_line name domain =
+    line_of (name ++ (codes " [" ++ (signed_decimal (least domain) ++ (codes " " ++ (signed_decimal (greatest domain) ++ codes "]")))))
 
--- the answer to `domain`: `inconsistent` after a collapse, refused where there is no such variable, and else its domain in the least state
-abbrev pub DomainReplies : Model → History → List ℕ → List (List ℕ) → History → Type 0
-DomainReplies model history variable lines after =
-    (IsCollapsed model (standing history) × (lines ≡ codes "inconsistent" ∷ []) × (after ≡ history))
-    ⊎ ((state : State) × IsLeast model (standing history) state
-    × MatchOption (global_named model variable) (Refuses (codes "unknown") history lines after)
-    (λ number. (domain : domains.Domain) × Gives state (Global number) domain × (lines ≡ domain_line variable domain ∷ []) × (after ≡ history)))
+-- what `domain` tells otherwise: that nothing is possible, or the variable's domain in the least state
+abbrev pub TellsDomain : Database → List ℕ → List ℕ → Type 0
+TellsDomain database name reply =
+    (HasCollapsed database × (reply ≡ outcome_line Inconsistent))
+    ⊎ ((number : ℕ) × (domain : domains.Domain) × IsGlobalNamed database name number × IsTold database (Global number) domain
+    × (reply ≡ domain_line name domain))
 
--- the answer to what a line asks for
-abbrev pub CommandReplies : Model → History → Command → List (List ℕ) → History → Type 0
-CommandReplies model history Empty lines after = (lines ≡ []) × (after ≡ history)
-CommandReplies model history (command.Specify variable value) lines after = SpecifyReplies model history variable (number_of value) lines after
-CommandReplies model history Undo lines after = UndoReplies model history lines after
-CommandReplies model history (Domain variable) lines after = DomainReplies model history variable lines after
+-- when a reason stops a command
+abbrev pub StopsCommand : Database → Command → RefusalReason → Type 0
+StopsCommand database Empty reason = ⊥
+StopsCommand database (command.Specify name number) reason = StopsSpecify database name (signed_value number) reason
+StopsCommand database Undo reason = StopsUndo database reason
+StopsCommand database (Domain name) reason = StopsDomain database name reason
 
--- The reply to a line: refused where it is too long, then where it is no command, and else the answer to what it asks for.
-abbrev pub Replies : Model → History → List ℕ → List (List ℕ) → History → Type 0
-Replies model history line lines after =
-    (Reads line (Err TooLong) × Refuses (codes "long") history lines after)
-    ⊎ (Reads line (Err Syntax) × Refuses (codes "syntax") history lines after)
-    ⊎ ((command : Command) × Reads line (Ok command) × CommandReplies model history command lines after)
+-- what a command replies and does otherwise
+abbrev pub CarriesOut : Database → Command → List ℕ → Database → Type 0
+CarriesOut old Empty reply new = (reply ≡ []) × (new ≡ old)
+CarriesOut old (command.Specify name number) reply new = (outcome : Outcome) × Specifies old name (signed_value number) outcome new × (reply ≡ outcome_line outcome)
+CarriesOut old Undo reply new = (outcome : Outcome) × Undoes old outcome new × (reply ≡ outcome_line outcome)
+CarriesOut old (Domain name) reply new = TellsDomain old name reply × (new ≡ old)
 
--- the same of a database, whose model stays
-abbrev pub AnswersLine : Database → List ℕ → List (List ℕ) → Database → Type 0
-AnswersLine old line lines new = (new.model ≡ old.model) × Replies old.model old.history line lines new.history
+-- the line asks for this command
+abbrev pub AsksFor : List ℕ → Command → Type 0
+AsksFor text command = ReadsLine text (Ok command)
+
+-- when a reason stops a line: it is too long, or no command, or the command that it asks for is stopped
+abbrev pub StopsLine : Database → List ℕ → RefusalReason → Type 0
+StopsLine database text Long = ReadsLine text (Err line.TooLong)
+StopsLine database text Syntax = ReadsLine text (Err line.Syntax)
+StopsLine database text reason = (command : Command) × AsksFor text command × StopsCommand database command reason
+
+-- the reply to a line, and the database then
+abbrev pub Replies : Database → List ℕ → List ℕ → Database → Type 0
+Replies old text =
+    RefusedOr (StopsLine old text) (λ reply new. (command : Command) × AsksFor text command × CarriesOut old command reply new) old
+
+-- the reply to a command by itself
+abbrev pub RepliesTo : Database → Command → List ℕ → Database → Type 0
+RepliesTo old command = RefusedOr (StopsCommand old command) (CarriesOut old command) old
+
+-- the answer to a line: its reply, and the session goes on
+abbrev pub AnswersLine : Database → List ℕ → Answer → Database → Type 0
+AnswersLine old text answer new = Replies old text answer.reply new × (answer.goes_on ≡ true)
+
+-- there was no memory for a reply: nothing changed, or what is changed is so after a reply, which is lost
+abbrev pub IsLost : (List ℕ → Database → Type 0) → Database → Database → Type 0
+IsLost IsReplied old new = (new ≡ old) ⊎ ((reply : List ℕ) × IsReplied reply new)
 
 -- the numbers of the command are numbers
 abbrev pub HasNumbers : Command → Type 0
-HasNumbers (command.Specify variable value) = IsNumber value
+HasNumbers (command.Specify name number) = IsSignedNumber number
 HasNumbers _ = ⊤
 
 -- the value is the number, or neither lies in the range of values
 abbrev pub StandsFor : ℤ → ℤ → Type 0
 StandsFor value number = (value ≡ number) ⊎ ((¬ IsValue value) × (¬ IsValue number))
 
--- the one line that says an outcome
-abbrev pub outcome_lines : Outcome → List (List ℕ)
-outcome_lines Consistent = codes "ok" ∷ []
-outcome_lines Inconsistent = codes "inconsistent" ∷ []
+-- what a step that ended so is answered
+abbrev pub SaysStep : Result Outcome StepStop → List ℕ → Type 0
+SaysStep (Ok outcome) reply = reply ≡ outcome_line outcome
+SaysStep (Err (stop.Refused reason)) reply = reply ≡ refusal reason
+SaysStep (Err stop.Memory) reply = ⊥

@@ -1,22 +1,17 @@
 //! Editing a plan by the lines of a script.
 
-ghost use Rattle.std.specs.Prelude.{◌≡◌, IfOk};
-ghost use Rattle.script_lang.specs.Number.{IsNumber, number_of};
-ghost use Rattle.session_core.specs.Replies.{CommandReplies, SpecifyReplies, HasNumbers, StandsFor};
+ghost use Rattle.std.specs.Prelude.{◌≡◌, IfOk, OnErr};
+ghost use Rattle.session_core.specs.Replies.{HasNumbers, Replies, RepliesTo, IsLost};
 
-use super::replies::{domain, refused, specify, undo};
-use domain_core::domain::GREATEST_VALUE;
-use eu_name::sequence::Sequence;
-use eu_name::text::Text;
-use line_session::responder::Responder;
+use super::commands::{domain, specify_number, undo};
+use super::reason::RefusalReason;
+use super::replies::{refused, step_reply};
+use eu_name::bytes::Bytes;
+use line_session::reply::{Answer, Responder};
 use plan_db::database::Db;
 use script_lang::line::{Command, LineFault, read_line};
-use script_lang::number::value_of;
 use std::alloc::{AllocError, Global};
 use std::marker::Model;
-
-/// Stands for every number outside the range of values: no base has it.
-const BEYOND_VALUES: i32 = GREATEST_VALUE + 1;
 
 /// A plan database that answers the lines of a script.
 #[derive(Drop)]
@@ -44,6 +39,14 @@ impl Editor {
     {
         Editor { alloc, db }
     }
+
+    /// Gives the database back as it is now.
+    pub fn into_db(self) -> Db
+        ensures { result ≡ self }
+    {
+        let Editor { db, .. } = self;
+        db
+    }
 }
 
 impl Responder for Editor {
@@ -52,54 +55,50 @@ impl Responder for Editor {
 
     ghost answers = { AnswersLine };
 
-    fn answer(&mut self, line: &[u8]) -> Result<Sequence<Text>, AllocError> {
-        match read_line(self.alloc, line) {
-            Ok(command) => return carry_out(self.alloc, &mut self.db, &command),
-            Err(LineFault::TooLong) => return refused(self.alloc, "long"),
-            Err(LineFault::Syntax) => return refused(self.alloc, "syntax"),
-            Err(LineFault::Memory) => return Err(AllocError),
+    fn answer(&mut self, line: &[u8]) -> Result<Answer, AllocError> {
+        match reply_to(self.alloc, &mut self.db, line) {
+            Ok(reply) => {
+                return Ok(Answer {
+                    reply,
+                    goes_on: true,
+                });
+            }
+            Err(none) => return Err(none),
         }
     }
 
     ghost reads_front = { front_answers };
 }
 
-// Does what a line asks for, and answers it.
-fn carry_out(alloc: Global, db: &mut Db, command: &Command) -> Result<Sequence<Text>, AllocError>
-    requires { HasNumbers command.now }
-    ensures replies { IfOk result (λ lines. CommandReplies db.old.model db.old.history command.now lines db.new.history) }
-    ensures model { db.new.model ≡ db.old.model }
+// Does what a line asks for, and gives the reply.
+fn reply_to(alloc: Global, db: &mut Db, line: &[u8]) -> Result<Bytes, AllocError>
+    ensures reply { IfOk result (λ reply. Replies db.old line.now reply db.new) }
+    ensures memory { OnErr result (IsLost (Replies db.old line.now) db.old db.new) }
 {
-    match command {
-        Command::Empty => return Ok(Sequence::new(alloc)),
-        Command::Specify { variable, value } => return specify_number(alloc, db, variable, value),
-        Command::Undo => return undo(alloc, db),
-        Command::Domain { variable } => return domain(alloc, db, variable),
+    match read_line(alloc, line) {
+        Ok(command) => carry_out(alloc, db, &command),
+        Err(LineFault::TooLong) => refused(alloc, RefusalReason::Long),
+        Err(LineFault::Syntax) => refused(alloc, RefusalReason::Syntax),
+        Err(LineFault::Memory) => Err(AllocError),
     }
 }
 
-// Specifies the variable to the value that the number names.
-fn specify_number(
-    alloc: Global,
-    db: &mut Db,
-    variable: &Text,
-    number: &Text,
-) -> Result<Sequence<Text>, AllocError>
-    requires { IsNumber number.now }
-    ensures replies { IfOk result (λ lines. SpecifyReplies db.old.model db.old.history variable.now (number_of number.now) lines db.new.history) }
-    ensures model { db.new.model ≡ db.old.model }
+// Does what a command says, and gives the reply.
+fn carry_out(alloc: Global, db: &mut Db, command: &Command) -> Result<Bytes, AllocError>
+    requires { HasNumbers command.now }
+    ensures reply { IfOk result (λ reply. RepliesTo db.old command.now reply db.new) }
+    ensures memory { OnErr result (IsLost (RepliesTo db.old command.now) db.old db.new) }
 {
-    let value = value_or_beyond(number.as_bytes());
-    specify(alloc, db, variable, value)
-}
-
-// The value that the number names, or one outside the range of values that stands for it.
-fn value_or_beyond(number: &[u8]) -> i32
-    requires { IsNumber number.now }
-    ensures { StandsFor result (number_of number.now) }
-{
-    match value_of(number) {
-        Some(value) => return value,
-        None => return BEYOND_VALUES,
+    match command {
+        Command::Empty => Ok(Bytes::from_vec(Vec::new(alloc))),
+        Command::Specify { variable, value } => {
+            let step = specify_number(db, variable, value);
+            step_reply(alloc, step)
+        }
+        Command::Undo => {
+            let step = undo(db);
+            step_reply(alloc, step)
+        }
+        Command::Domain { variable } => domain(alloc, db, variable),
     }
 }

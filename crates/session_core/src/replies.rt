@@ -1,110 +1,59 @@
-//! The replies to commands.
+//! The bytes of replies.
 
-ghost use Rattle.std.specs.Prelude.{◌≡◌, [], ◌∷◌, IfOk, string_bytes};
-ghost use Rattle.model_core.specs.Lawful.{IsLawful};
-ghost use Rattle.session_core.specs.Replies.{refusal, outcome_lines, domain_line, SpecifyReplies, UndoReplies, DomainReplies};
+ghost use Rattle.std.specs.Prelude.{◌≡◌, IfOk, string_bytes};
+ghost use Rattle.session_core.specs.Reasons.{line_of, refusal};
+ghost use Rattle.session_core.specs.Replies.{outcome_line, domain_line, SaysStep};
 
+use super::reason::{RefusalReason, StepStop, word_of};
 use domain_core::domain::Dom;
-use eu_name::name::VarName;
-use eu_name::sequence::Sequence;
+use eu_name::bytes::Bytes;
 use eu_name::text::Text;
-use model_core::decision::Decision;
-use plan_db::database::Db;
-use plan_db::fault::{DbFault, Outcome, QueryFault};
+use plan_db::fault::Outcome;
 use std::alloc::{AllocError, Global};
 
-/// Specifies the variable, and answers what came of it.
-pub fn specify(
-    alloc: Global,
-    db: &mut Db,
-    variable: &Text,
-    value: i32,
-) -> Result<Sequence<Text>, AllocError>
-    ensures lawful { IsLawful db.old.model }
-    ensures replies { IfOk result (λ lines. SpecifyReplies db.old.model db.old.history variable.now value lines db.new.history) }
-    ensures model { db.new.model ≡ db.old.model }
+/// What a step is answered that ended so.
+pub fn step_reply(alloc: Global, step: Result<Outcome, StepStop>) -> Result<Bytes, AllocError>
+    ensures { IfOk result (λ reply. SaysStep step reply) }
 {
-    if !db.is_consistent() {
-        return refused(alloc, "inconsistent");
-    }
-    let Some(number) = db.model().global_named(variable.as_bytes()) else {
-        return refused(alloc, "unknown");
-    };
-    let decision = Decision::Specify(VarName::Global(number), value);
-    match db.apply(&decision) {
-        Ok(outcome) => return says(alloc, outcome),
-        Err(DbFault::Decided) => return refused(alloc, "decided"),
-        Err(DbFault::NotInDomain) => return refused(alloc, "not-in-domain"),
-        Err(DbFault::Memory) => return Err(AllocError),
-        Err(DbFault::InInconsistent) => unreachable!(),
-        Err(DbFault::Unknown) => unreachable!(),
-        Err(DbFault::Nothing) => unreachable!(),
+    match step {
+        Ok(outcome) => outcome_reply(alloc, outcome),
+        Err(StepStop::Refused(reason)) => refused(alloc, reason),
+        Err(StepStop::Memory) => Err(AllocError),
     }
 }
 
-/// Takes the last decision back, and answers what came of it.
-pub fn undo(alloc: Global, db: &mut Db) -> Result<Sequence<Text>, AllocError>
-    ensures replies { IfOk result (λ lines. UndoReplies db.old.model db.old.history lines db.new.history) }
-    ensures model { db.new.model ≡ db.old.model }
+/// Whether the decisions leave something possible.
+pub fn outcome_reply(alloc: Global, outcome: Outcome) -> Result<Bytes, AllocError>
+    ensures { IfOk result (λ reply. reply ≡ outcome_line outcome) }
 {
-    match db.undo() {
-        Ok(outcome) => return says(alloc, outcome),
-        Err(DbFault::Nothing) => return refused(alloc, "nothing"),
-        Err(DbFault::Memory) => return Err(AllocError),
-        Err(_) => unreachable!(),
+    match outcome {
+        Outcome::Consistent => one_line(String::from_str(alloc, "ok")?),
+        Outcome::Inconsistent => one_line(String::from_str(alloc, "inconsistent")?),
     }
 }
 
-/// Answers what the variable may still be.
-pub fn domain(alloc: Global, db: &Db, variable: &Text) -> Result<Sequence<Text>, AllocError>
-    ensures { IfOk result (λ lines. DomainReplies db.now.model db.now.history variable.now lines db.now.history) }
+/// The reply that refuses a line.
+pub fn refused(alloc: Global, reason: RefusalReason) -> Result<Bytes, AllocError>
+    ensures { IfOk result (λ reply. reply ≡ refusal reason) }
 {
-    if !db.is_consistent() {
-        return one_line(alloc, String::from_str(alloc, "inconsistent")?);
-    }
-    let Some(number) = db.model().global_named(variable.as_bytes()) else {
-        return refused(alloc, "unknown");
-    };
-    let name = VarName::Global(number);
-    match db.domain(&name) {
-        Ok(domain) => return one_line(alloc, domain_text(alloc, variable, domain)?),
-        Err(QueryFault::Inconsistent) => unreachable!(),
-        Err(QueryFault::Unknown) => unreachable!(),
-    }
+    let word = word_of(reason);
+    one_line(format!(in alloc; "refused {word}")?)
 }
 
-// The variable with its domain.
-fn domain_text(alloc: Global, variable: &Text, domain: &Dom) -> Result<String, AllocError>
-    ensures { IfOk result (λ line. string_bytes line ≡ domain_line variable.now domain.now) }
+/// The variable with its domain.
+pub fn domain_reply(alloc: Global, variable: &Text, domain: &Dom) -> Result<Bytes, AllocError>
+    ensures { IfOk result (λ reply. reply ≡ domain_line variable.now domain.now) }
 {
     let name = variable.as_str();
     let lo = domain.lo();
     let hi = domain.hi();
-    format!(in alloc; "{name} [{lo} {hi}]")
+    one_line(format!(in alloc; "{name} [{lo} {hi}]")?)
 }
 
-// Whether the decisions leave something possible, as it is printed.
-fn says(alloc: Global, outcome: Outcome) -> Result<Sequence<Text>, AllocError>
-    ensures { IfOk result (λ lines. lines ≡ outcome_lines outcome) }
+/// A reply of one line.
+fn one_line(mut line: String) -> Result<Bytes, AllocError>
+    ensures { IfOk result (λ reply. reply ≡ line_of (string_bytes line)) }
 {
-    match outcome {
-        Outcome::Consistent => return one_line(alloc, String::from_str(alloc, "ok")?),
-        Outcome::Inconsistent => return one_line(alloc, String::from_str(alloc, "inconsistent")?),
-    }
-}
-
-/// The one line that refuses a command.
-pub fn refused(alloc: Global, reason: &str) -> Result<Sequence<Text>, AllocError>
-    ensures { IfOk result (λ lines. lines ≡ refusal reason.now) }
-{
-    one_line(alloc, format!(in alloc; "refused {reason}")?)
-}
-
-// A reply of one line.
-fn one_line(alloc: Global, line: String) -> Result<Sequence<Text>, AllocError>
-    ensures { IfOk result (λ lines. lines ≡ string_bytes line ∷ []) }
-{
-    let mut lines = Sequence::new(alloc);
-    lines.push(Text::from_string(line))?;
-    Ok(lines)
+    line.push('\n')?;
+    Ok(Bytes::from_vec(line.into_bytes()))
 }

@@ -1,10 +1,10 @@
 //! A sink in memory that fails only where it is full.
 
-ghost use Rattle.std.specs.Prelude.{◌≡◌, ◌<◌, ◌++◌, [], length, take, is_err, if◌then◌else◌, Some, IfOk, OnErr};
+ghost use Rattle.std.specs.Prelude.{◌≡◌, ◌<◌, ◌++◌, [], length, take, is_err, Some, IfOk, OnErr};
 ghost use Rattle.std.specs.Io.{WritesAtMost};
 ghost use Rattle.std.specs.Io.KnownBytes.{WriteAppends};
 ghost use Rattle.eu_io.specs.Faults.{CountsFailures, StaysTold};
-ghost use Rattle.eu_io.specs.Memory.{raised, taken_count, overflows};
+ghost use Rattle.eu_io.specs.Memory.{taken_count, overflows};
 
 use crate::fault::Failed;
 use crate::fault_count::FaultCount;
@@ -83,7 +83,6 @@ impl Sink for CalmSink {
         ensures ok { IfOk result (λ count.
             self.new.store ≡ record self.old.store { written = self.old.store.written ++ take count piece.now }) }
         ensures err { OnErr result (self.new.store ≡ self.old.store) }
-        ensures faults { self.new.faults ≡ (if is_err result then raised self.old.faults else self.old.faults) }
     {
         let taken = self.store.append(piece);
         if taken.is_err() {

@@ -1,9 +1,8 @@
 //! Which calls of an object fail.
 
-ghost use Rattle.std.specs.Prelude.{◌≡◌, ◌≤◌};
-ghost use Rattle.std.specs.Bool.{OnTrue};
-ghost use Rattle.eu_io.specs.Faults.{Rose};
-ghost use Rattle.eu_io.specs.Memory.{fails_next, after_call, raised};
+ghost use Rattle.std.specs.Prelude.{◌≡◌};
+ghost use Rattle.eu_io.specs.Faults.{raised};
+ghost use Rattle.eu_io.specs.Memory.{fails_next, after_call};
 
 use crate::fault_count::FaultCount;
 use std::marker::Model;
@@ -40,8 +39,6 @@ impl Calls {
     pub fn count(&mut self) -> bool
         ensures named { result ≡ fails_next self.old }
         ensures counted { self.new ≡ after_call self.old result }
-        ensures rose { OnTrue result (Rose self.old.faults self.new.faults) }
-        ensures no_less { self.old.faults ≤ self.new.faults }
     {
         self.made = self.made.saturating_add(1);
         let named = self.fails.contains(&self.made);
@@ -53,9 +50,7 @@ impl Calls {
 
     /// Counts a failure of the call that was counted last.
     pub fn fail(&mut self)
-        ensures exact { self.new ≡ record self.old { faults = raised self.old.faults } }
-        ensures rose { Rose self.old.faults self.new.faults }
-        ensures no_less { self.old.faults ≤ self.new.faults }
+        ensures { self.new ≡ record self.old { faults = raised self.old.faults } }
     {
         self.faults.raise();
     }

@@ -1,6 +1,6 @@
 use Rattle.std.proofs.Common.{◌<◌, ◌∙◌, arith}
 use Rattle.std.proofs.lemmas.Result.{err_from_is_err_and}
-use Rattle.line_session.proofs.CutLemmas.{Reads-refill, Reads-feed, Reads-more, Reads-over, Reads-grows}
+use Rattle.line_session.proofs.CutLemmas.{ReadsPart-refill, ReadsPart-feed, ReadsPart-more, ReadsPart-over, ReadsPart-grows}
 use Rattle.line_session.proofs.cutting.next_line.Goals as goal
 
 pub returns-in_err-move_line-clause-cut : goal.returns-in_err-move_line-clause-cut
@@ -12,7 +12,7 @@ returns-in_err-move_line-clause-cut g c =
     let held = c.refill.new.self in
     let line = c.loop-line.line in
     let f = rw c.in-Ok-true.field-0-test at c.in-Ok-true.ensures.bytes in
-    let r = Reads-refill first (g.S.Source.left c.loop-line.input) next held_old c.loop-line.inflow held line c.loop-line.invariant.reads f in
+    let r = ReadsPart-refill first (g.S.Source.left c.loop-line.input) next held_old c.loop-line.inflow held line c.loop-line.invariant.reads f in
     rw (p.1, p.2) (r.0, r.2)
 
 pub returns-then-branch-clause-cut : goal.returns-then-branch-clause-cut
@@ -23,9 +23,9 @@ returns-then-branch-clause-cut g c =
     let held = c.refill.new.self in
     let line = c.loop-line.line in
     let f = rw c.in-Ok-true.field-0-test at c.in-Ok-true.ensures.bytes in
-    let r = Reads-refill first (g.S.Source.left c.loop-line.input) next held_old c.loop-line.inflow held line c.loop-line.invariant.reads f in
+    let r = ReadsPart-refill first (g.S.Source.left c.loop-line.input) next held_old c.loop-line.inflow held line c.loop-line.invariant.reads f in
     let m = rw c.if-branch.true at c.in_ok-move_line.ensures.moved in
-    Reads-feed first next held_old held c.move_line.new.inflow line c.move_line.new.line c.args.longest r m
+    ReadsPart-feed first next held_old held c.move_line.new.inflow line c.move_line.new.line c.args.longest r m
 
 pub returns-then-branch-clause-bound : goal.returns-then-branch-clause-bound
 returns-then-branch-clause-bound g c = omega (arith, c.in_ok-move_line.ensures.grown, c.loop-line.invariant.short, c.requires)
@@ -38,11 +38,11 @@ returns-then-len-longest-clause-cut g c =
     let held = c.refill.new.self in
     let line = c.loop-line.line in
     let f = rw c.in-Ok-true.field-0-test at c.in-Ok-true.ensures.bytes in
-    let r = Reads-refill first (g.S.Source.left c.loop-line.input) next held_old c.loop-line.inflow held line c.loop-line.invariant.reads f in
+    let r = ReadsPart-refill first (g.S.Source.left c.loop-line.input) next held_old c.loop-line.inflow held line c.loop-line.invariant.reads f in
     let m = rw c.if-branch.false at c.in_ok-move_line.ensures.moved in
     let over : c.args.longest < c.move_line.new.line.length = omega arith in
-    Reads-over first next held_old c.move_line.new.inflow c.move_line.new.line c.args.longest
-    (Reads-more first next held_old held c.move_line.new.inflow line c.move_line.new.line r m) over
+    ReadsPart-over first next held_old c.move_line.new.inflow c.move_line.new.line c.args.longest
+    (ReadsPart-more first next held_old held c.move_line.new.inflow line c.move_line.new.line r m) over
 
 pub loop-line-preserved : goal.loop-line-preserved
 loop-line-preserved g c =
@@ -52,10 +52,10 @@ loop-line-preserved g c =
     let held = c.refill.new.self in
     let line = c.loop-line.line in
     let f = rw c.in-Ok-true.field-0-test at c.in-Ok-true.ensures.bytes in
-    let r = Reads-refill first (g.S.Source.left c.loop-line.input) next held_old c.loop-line.inflow held line c.loop-line.invariant.reads f in
+    let r = ReadsPart-refill first (g.S.Source.left c.loop-line.input) next held_old c.loop-line.inflow held line c.loop-line.invariant.reads f in
     let m = rw c.if-branch.false at c.in_ok-move_line.ensures.moved in
     record {
-      reads = Reads-more first next held_old held c.move_line.new.inflow line c.move_line.new.line r m;
+      reads = ReadsPart-more first next held_old held c.move_line.new.inflow line c.move_line.new.line r m;
       short = omega arith;
       counted = c.in-Ok-true.ensures.counted ∙ c.loop-line.invariant.counted;
     }
@@ -68,7 +68,7 @@ loop-line-smaller g c =
     let held = c.refill.new.self in
     let line = c.loop-line.line in
     let f = rw c.in-Ok-true.field-0-test at c.in-Ok-true.ensures.bytes in
-    let r = Reads-refill first (g.S.Source.left c.loop-line.input) next held_old c.loop-line.inflow held line c.loop-line.invariant.reads f in
+    let r = ReadsPart-refill first (g.S.Source.left c.loop-line.input) next held_old c.loop-line.inflow held line c.loop-line.invariant.reads f in
     let m = rw c.if-branch.false at c.in_ok-move_line.ensures.moved in
-    let grows : line.length < c.move_line.new.line.length = Reads-grows first next held_old held c.move_line.new.inflow line c.move_line.new.line r m f.3 in
+    let grows : line.length < c.move_line.new.line.length = ReadsPart-grows first next held_old held c.move_line.new.inflow line c.move_line.new.line r m f.3 in
     omega (arith, grows, c.loop-line.invariant.short)

@@ -1,0 +1,68 @@
+-- The reasons for which a line is refused, and which of them is the first.
+use Rattle.std.specs.Prelude.{◌≡◌, ℕ, ◌<◌, List, ◌∷◌, ◌++◌, ◌⊎◌, [], codes, Result, Ok, Err}
+use Rattle.plan_db.specs.Database.{Database}
+use Rattle.plan_db.specs.declared.fault.DbFault.{DbFault}
+use Rattle.plan_db.specs.declared.fault.DbFault.TheVariants as fault
+use Rattle.plan_db.specs.declared.fault.Outcome.{Outcome}
+use Rattle.session_core.specs.declared.reason.RefusalReason.{RefusalReason}
+use Rattle.session_core.specs.declared.reason.RefusalReason.TheVariants.{Long, Syntax, Inconsistent, Unknown, Decided, NotInDomain, Nothing}
+use Rattle.session_core.specs.declared.reason.StepStop.{StepStop}
+use Rattle.session_core.specs.declared.reason.StepStop.TheVariants.{Refused, Memory}
+
+-- the place of the reason in the order in which they are looked for
+abbrev pub rank_of : RefusalReason → ℕ
+rank_of Long = 0
+rank_of Syntax = 1
+rank_of Inconsistent = 2
+rank_of Unknown = 3
+rank_of Decided = 4
+rank_of NotInDomain = 5
+rank_of Nothing = 6
+
+-- the word that is printed for the reason
+abbrev pub reason_word : RefusalReason → List ℕ
+reason_word Long = codes "long"
+reason_word Syntax = codes "syntax"
+reason_word Inconsistent = codes "inconsistent"
+reason_word Unknown = codes "unknown"
+reason_word Decided = codes "decided"
+reason_word NotInDomain = codes "not-in-domain"
+reason_word Nothing = codes "nothing"
+
+-- what the database's fault means for a step
+abbrev pub stop_of : DbFault → StepStop
+stop_of fault.InInconsistent = Refused Inconsistent
+stop_of fault.Unknown = Refused Unknown
+stop_of fault.Decided = Refused Decided
+stop_of fault.NotInDomain = Refused NotInDomain
+stop_of fault.Nothing = Refused Nothing
+stop_of fault.Memory = Memory
+
+-- a line as it is printed, with its line feed
+abbrev pub line_of : List ℕ → List ℕ
+line_of text = text ++ 10 ∷ []
+
+-- the reply that refuses for this reason
+abbrev pub refusal : RefusalReason → List ℕ
+refusal reason = line_of (codes "refused " ++ reason_word reason)
+
+-- of the reasons that stop it this is the first
+pub record IsFirstReason (Stops : RefusalReason → Type 0) (reason : RefusalReason) : Type 0 where
+  pub stops : Stops reason
+  pub first : (earlier : RefusalReason) → rank_of earlier < rank_of reason → Stops earlier → ⊥
+
+-- no reason stops it
+abbrev pub IsFree : (RefusalReason → Type 0) → Type 0
+IsFree Stops = (reason : RefusalReason) → Stops reason → ⊥
+
+-- it is refused for the first reason that stops it, and nothing changes; or no reason stops it, and it is carried out
+abbrev pub RefusedOr : (RefusalReason → Type 0) → (List ℕ → Database → Type 0) → Database → List ℕ → Database → Type 0
+RefusedOr Stops CarriesOut old reply new =
+    ((reason : RefusalReason) × IsFirstReason Stops reason × (reply ≡ refusal reason) × (new ≡ old))
+    ⊎ (IsFree Stops × CarriesOut reply new)
+
+-- The same of a step that has an outcome in place of a reply, and may lack memory, where nothing changes either.
+abbrev pub StepsOr : (RefusalReason → Type 0) → (Outcome → Database → Type 0) → Database → Result Outcome StepStop → Database → Type 0
+StepsOr Stops CarriesOut old (Ok outcome) new = IsFree Stops × CarriesOut outcome new
+StepsOr Stops CarriesOut old (Err (Refused reason)) new = IsFirstReason Stops reason × (new ≡ old)
+StepsOr Stops CarriesOut old (Err Memory) new = new ≡ old
