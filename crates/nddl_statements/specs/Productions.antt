@@ -54,11 +54,13 @@ decimal_of symbol = record { constant = constants.Decimal (record { 0 = symbol.v
 abbrev pub truth_of : Bool → ℕ → Literal
 truth_of truth at = record { constant = constants.Truth truth; at = at }
 
+abbrev pub truth : Reader Literal
+truth = choice (is sorts.True) (mapped (truth_of true) (place_of sorts.True)) (mapped (truth_of false) (place_of sorts.False))
+
 unfoldable pub literal : Reader Literal
 literal =
     choice (is sorts.Number) (mapped number_of (symbol_of sorts.Number))
-    (choice (is sorts.Decimal) (mapped decimal_of (symbol_of sorts.Decimal))
-    (choice (is sorts.True) (mapped (truth_of true) (place_of sorts.True)) (mapped (truth_of false) (place_of sorts.False))))
+    (choice (is sorts.Decimal) (mapped decimal_of (symbol_of sorts.Decimal)) truth)
 
 unfoldable pub expr : Reader Expr
 expr = choice (is sorts.Name) (mapped exprs.Path path) (mapped exprs.Literal literal)
@@ -93,12 +95,14 @@ placed base at = (at, base)
 abbrev pub named : Name → ℕ × Base
 named name = (name.at, bases.Named name)
 
+abbrev pub base_behind : Reader (ℕ × Base)
+base_behind = choice (is sorts.Text) (mapped (placed bases.Str) (place_of sorts.Text)) (mapped named name)
+
 unfoldable pub base : Reader (ℕ × Base)
 base =
     choice (is sorts.Int) (mapped (placed bases.Int) (place_of sorts.Int))
     (choice (is sorts.Float) (mapped (placed bases.Float) (place_of sorts.Float))
-    (choice (is sorts.Bool) (mapped (placed bases.Bool) (place_of sorts.Bool))
-    (choice (is sorts.Text) (mapped (placed bases.Str) (place_of sorts.Text)) (mapped named name))))
+    (choice (is sorts.Bool) (mapped (placed bases.Bool) (place_of sorts.Bool)) base_behind))
 
 unfoldable pub range : Reader Bounds
 range = mapped (λ p. bounded.Range p.0 p.1.0 p.1.1.1.0)

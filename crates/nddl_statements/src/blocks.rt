@@ -1,16 +1,20 @@
 //! Statements with blocks in them.
 
 ghost use Rattle.std.specs.Prelude.{◌≡◌};
-ghost use Rattle.nddl_reading.specs.Readers.{begins, Reads};
-ghost use Rattle.nddl_statements.specs.Productions.{guard, guard_behind, begins_stmt, stmt_of, too_deep, braces, block, lone_if, else_block, otherwise, if_stmt, foreach, stmt, statements};
+ghost use Rattle.nddl_reading.specs.Readers.{begins, sequence, mark, Reads};
+ghost use Rattle.nddl_reading.specs.declared.sort.Sort.TheVariants as sorts;
+ghost use Rattle.nddl_statements.specs.Productions.{name, guard, guard_behind, begins_stmt, stmt_of, too_deep, braces, block, lone_if, else_block, otherwise, if_stmt, foreach, stmt, statements};
 
-use super::expressions::{expr, name};
+use super::expressions::{Expressions, expr, name};
+use super::list;
 use super::statements::{SimpleStmt, plain};
 use super::types::begins_type;
 use eu_name::sequence::Sequence;
 use nddl_ast::expression::Expr;
 use nddl_ast::statement::{Block, Guard, Stmt};
+use nddl_ast::name::Name;
 use nddl_reading::cursor::{Cursor, Stop};
+use nddl_reading::joining::{behind, joined};
 use nddl_reading::sort::Sort;
 
 // What a guard is behind its first expression.
@@ -19,12 +23,14 @@ fn guard_behind(cursor: &mut Cursor<'_>, one: Expr) -> Result<Guard, Stop>
     ensures { Reads result cursor.new (guard_behind one cursor.old) }
 {
     if cursor.is_at(Sort::Equal) {
-        cursor.mark(Sort::Equal)?;
-        return Ok(Guard::Equal(one, expr(cursor)?));
+        let other = list::after::<Expressions>(cursor, Sort::Equal);
+        let (one, other) = joined(one, other)?;
+        return Ok(Guard::Equal(one, other));
     }
     if cursor.is_at(Sort::NotEqual) {
-        cursor.mark(Sort::NotEqual)?;
-        return Ok(Guard::NotEqual(one, expr(cursor)?));
+        let other = list::after::<Expressions>(cursor, Sort::NotEqual);
+        let (one, other) = joined(one, other)?;
+        return Ok(Guard::NotEqual(one, other));
     }
     Ok(Guard::Truth(one))
 }
@@ -87,7 +93,8 @@ fn braces(cursor: &mut Cursor<'_>, left: u8) -> Result<Block, Stop>
 {
     let at = cursor.place_of(Sort::BraceOpen)?;
     let stmts = statements(cursor, left)?;
-    cursor.mark(Sort::BraceClose)?;
+    let done = cursor.mark(Sort::BraceClose);
+    let stmts = behind(done, stmts)?;
     Ok(Block {
         at,
         stmts: stmts.into_vec(),
@@ -148,6 +155,19 @@ fn otherwise(cursor: &mut Cursor<'_>, left: u8) -> Result<Option<Block>, Stop>
     Ok(None)
 }
 
+/// `")" Block [ "else" ( Block | IfStmt ) ]`
+#[cycle(blocks)]
+#[tactic(auto, unfolding(crate::specs::Productions::otherwise))]
+fn branches(cursor: &mut Cursor<'_>, left: u8) -> Result<((), (Block, Option<Block>)), Stop>
+    ensures { Reads result cursor.new (sequence (mark sorts.ParenClose) (sequence (block left) (otherwise left)) cursor.old) }
+{
+    cursor.mark(Sort::ParenClose)?;
+    let then = block(cursor, left)?;
+    let otherwise = otherwise(cursor, left);
+    let blocks = joined(then, otherwise)?;
+    Ok(((), blocks))
+}
+
 /// `"if" "(" Expr [ ("==" | "!=") Expr ] ")" Block [ "else" ( Block | IfStmt ) ]`
 #[cycle(blocks)]
 #[tactic(auto, unfolding(crate::specs::Productions::if_stmt, crate::specs::Productions::otherwise))]
@@ -157,15 +177,28 @@ fn if_stmt(cursor: &mut Cursor<'_>, left: u8) -> Result<Stmt, Stop>
     let at = cursor.place_of(Sort::If)?;
     cursor.mark(Sort::ParenOpen)?;
     let guard = guard(cursor)?;
-    cursor.mark(Sort::ParenClose)?;
-    let then = block(cursor, left)?;
-    let otherwise = otherwise(cursor, left)?;
+    let rest = branches(cursor, left);
+    let (guard, ((), (then, otherwise))) = joined(guard, rest)?;
     Ok(Stmt::If {
         at,
         guard,
         then,
         otherwise,
     })
+}
+
+/// `"in" Name ")" Block`
+#[cycle(blocks)]
+fn class_body(cursor: &mut Cursor<'_>, left: u8) -> Result<((), (Name, ((), Block))), Stop>
+    ensures { Reads result cursor.new (sequence (mark sorts.In) (sequence name (sequence (mark sorts.ParenClose) (block left))) cursor.old) }
+{
+    cursor.mark(Sort::In)?;
+    let class = name(cursor)?;
+    let done = cursor.mark(Sort::ParenClose);
+    let class = behind(done, class)?;
+    let body = block(cursor, left);
+    let (class, body) = joined(class, body)?;
+    Ok(((), (class, ((), body))))
 }
 
 /// `"foreach" "(" Name "in" Name ")" Block`
@@ -177,10 +210,8 @@ fn foreach(cursor: &mut Cursor<'_>, left: u8) -> Result<Stmt, Stop>
     let at = cursor.place_of(Sort::Foreach)?;
     cursor.mark(Sort::ParenOpen)?;
     let variable = name(cursor)?;
-    cursor.mark(Sort::In)?;
-    let class = name(cursor)?;
-    cursor.mark(Sort::ParenClose)?;
-    let body = block(cursor, left)?;
+    let rest = class_body(cursor, left);
+    let (variable, ((), (class, ((), body)))) = joined(variable, rest)?;
     Ok(Stmt::Foreach {
         at,
         variable,

@@ -1,8 +1,9 @@
 //! Names, values and expressions.
 
 ghost use Rattle.std.specs.Prelude.{◌≡◌};
-ghost use Rattle.nddl_reading.specs.Readers.{Reads};
-ghost use Rattle.nddl_statements.specs.Productions.{name, path, literal, expr, value, begins_value, arguments, creation, init};
+ghost use Rattle.nddl_reading.specs.Readers.{sequence, mark, Reads};
+ghost use Rattle.nddl_reading.specs.declared.sort.Sort.TheVariants as sorts;
+ghost use Rattle.nddl_statements.specs.Productions.{name, path, truth, literal, expr, value, begins_value, arguments, creation, init};
 
 use super::list;
 use super::list::Item;
@@ -10,6 +11,7 @@ use eu_name::sequence::Sequence;
 use nddl_ast::expression::{Constant, Creation, Expr, Init, Literal, Thousandths, Value};
 use nddl_ast::name::{Name, Path};
 use nddl_reading::cursor::{Cursor, Stop};
+use nddl_reading::joining::joined;
 use nddl_reading::sort::Sort;
 
 /// `Name`
@@ -57,6 +59,24 @@ pub fn path(cursor: &mut Cursor<'_>) -> Result<Path, Stop>
     Ok(Path { first, rest })
 }
 
+/// `"true" | "false"`
+fn truth(cursor: &mut Cursor<'_>) -> Result<Literal, Stop>
+    ensures { Reads result cursor.new (truth cursor.old) }
+{
+    if cursor.is_at(Sort::True) {
+        let at = cursor.place_of(Sort::True)?;
+        return Ok(Literal {
+            constant: Constant::Truth(true),
+            at,
+        });
+    }
+    let at = cursor.place_of(Sort::False)?;
+    Ok(Literal {
+        constant: Constant::Truth(false),
+        at,
+    })
+}
+
 /// `Number | Decimal | "true" | "false"`
 #[tactic(auto, unfolding(crate::specs::Productions::literal))]
 fn literal(cursor: &mut Cursor<'_>) -> Result<Literal, Stop>
@@ -76,18 +96,7 @@ fn literal(cursor: &mut Cursor<'_>) -> Result<Literal, Stop>
             at: symbol.at(),
         });
     }
-    if cursor.is_at(Sort::True) {
-        let at = cursor.place_of(Sort::True)?;
-        return Ok(Literal {
-            constant: Constant::Truth(true),
-            at,
-        });
-    }
-    let at = cursor.place_of(Sort::False)?;
-    Ok(Literal {
-        constant: Constant::Truth(false),
-        at,
-    })
+    truth(cursor)
 }
 
 /// `Path | Number | Decimal | "true" | "false"`
@@ -172,6 +181,17 @@ pub fn arguments(cursor: &mut Cursor<'_>) -> Result<Sequence<Expr>, Stop>
     list::listed::<Expressions>(cursor, Sort::Comma)
 }
 
+/// `"(" [ Args ] ")"`
+fn enclosed(cursor: &mut Cursor<'_>) -> Result<((), (Sequence<Expr>, ())), Stop>
+    ensures { Reads result cursor.new (sequence (mark sorts.ParenOpen) (sequence arguments (mark sorts.ParenClose)) cursor.old) }
+{
+    cursor.mark(Sort::ParenOpen)?;
+    let arguments = arguments(cursor)?;
+    let done = cursor.mark(Sort::ParenClose);
+    let arguments = joined(arguments, done)?;
+    Ok(((), arguments))
+}
+
 /// `"new" Name "(" [ Args ] ")"`
 #[tactic(auto, unfolding(crate::specs::Productions::creation))]
 fn creation(cursor: &mut Cursor<'_>) -> Result<Creation, Stop>
@@ -179,9 +199,8 @@ fn creation(cursor: &mut Cursor<'_>) -> Result<Creation, Stop>
 {
     let at = cursor.place_of(Sort::New)?;
     let class = name(cursor)?;
-    cursor.mark(Sort::ParenOpen)?;
-    let arguments = arguments(cursor)?;
-    cursor.mark(Sort::ParenClose)?;
+    let rest = enclosed(cursor);
+    let (class, ((), (arguments, ()))) = joined(class, rest)?;
     Ok(Creation {
         at,
         class,

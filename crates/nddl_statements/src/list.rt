@@ -57,8 +57,8 @@ pub fn many<T: Item>(cursor: &mut Cursor<'_>) -> Result<Sequence<T::Tree>, Stop>
     Ok(items)
 }
 
-// A separator and the item behind it.
-fn after<T: Item>(cursor: &mut Cursor<'_>, separator: Sort) -> Result<T::Tree, Stop>
+/// A separator and the item behind it.
+pub fn after<T: Item>(cursor: &mut Cursor<'_>, separator: Sort) -> Result<T::Tree, Stop>
     ensures { Reads result cursor.new (after separator T.reader cursor.old) }
 {
     cursor.mark(separator)?;

@@ -1,17 +1,30 @@
 //! Types, and the names that are declared with them.
 
 ghost use Rattle.std.specs.Prelude.{◌≡◌};
-ghost use Rattle.nddl_reading.specs.Readers.{Reads};
-ghost use Rattle.nddl_statements.specs.Productions.{base, range, set, bounds, begins_type, type_of, type_named, typed, field, field_after};
+ghost use Rattle.nddl_reading.specs.Readers.{sequence, mark, may_mark, Reads};
+ghost use Rattle.nddl_reading.specs.declared.sort.Sort.TheVariants as sorts;
+ghost use Rattle.nddl_statements.specs.Productions.{name, value, base_behind, base, range, set, bounds, begins_type, type_of, type_named, typed, field, field_after};
 
 use super::expressions::{Values, name, value};
 use super::list;
 use super::list::Item;
 use nddl_ast::declaration::Typed;
-use nddl_ast::expression::{Base, Bounds, Type};
+use nddl_ast::expression::{Base, Bounds, Type, Value};
 use nddl_ast::name::Name;
 use nddl_reading::cursor::{Cursor, Stop};
+use nddl_reading::joining::{behind, joined};
 use nddl_reading::sort::Sort;
+
+/// `"string" | Name`, at its place.
+fn base_behind(cursor: &mut Cursor<'_>) -> Result<(u32, Base), Stop>
+    ensures { Reads result cursor.new (base_behind cursor.old) }
+{
+    if cursor.is_at(Sort::Text) {
+        return Ok((cursor.place_of(Sort::Text)?, Base::Str));
+    }
+    let name = name(cursor)?;
+    Ok((name.at, Base::Named(name)))
+}
 
 /// `"int" | "float" | "bool" | "string" | Name`, at its place.
 #[tactic(auto, unfolding(crate::specs::Productions::base))]
@@ -27,11 +40,18 @@ fn base(cursor: &mut Cursor<'_>) -> Result<(u32, Base), Stop>
     if cursor.is_at(Sort::Bool) {
         return Ok((cursor.place_of(Sort::Bool)?, Base::Bool));
     }
-    if cursor.is_at(Sort::Text) {
-        return Ok((cursor.place_of(Sort::Text)?, Base::Str));
-    }
-    let name = name(cursor)?;
-    Ok((name.at, Base::Named(name)))
+    base_behind(cursor)
+}
+
+/// `[","] Lit "]"`
+fn range_end(cursor: &mut Cursor<'_>) -> Result<((), (Value, ())), Stop>
+    ensures { Reads result cursor.new (sequence (may_mark sorts.Comma) (sequence value (mark sorts.BracketClose)) cursor.old) }
+{
+    cursor.may_mark(Sort::Comma)?;
+    let greatest = value(cursor)?;
+    let done = cursor.mark(Sort::BracketClose);
+    let greatest = joined(greatest, done)?;
+    Ok(((), greatest))
 }
 
 /// `"[" Lit [","] Lit "]"`
@@ -41,9 +61,8 @@ fn range(cursor: &mut Cursor<'_>) -> Result<Bounds, Stop>
 {
     let at = cursor.place_of(Sort::BracketOpen)?;
     let least = value(cursor)?;
-    cursor.may_mark(Sort::Comma)?;
-    let greatest = value(cursor)?;
-    cursor.mark(Sort::BracketClose)?;
+    let rest = range_end(cursor);
+    let (least, ((), (greatest, ()))) = joined(least, rest)?;
     Ok(Bounds::Range {
         at,
         least,
@@ -58,7 +77,8 @@ fn set(cursor: &mut Cursor<'_>) -> Result<Bounds, Stop>
 {
     let at = cursor.place_of(Sort::BraceOpen)?;
     let values = list::separated::<Values>(cursor, Sort::Comma)?;
-    cursor.mark(Sort::BraceClose)?;
+    let done = cursor.mark(Sort::BraceClose);
+    let values = behind(done, values)?;
     Ok(Bounds::Set { at, values })
 }
 
@@ -81,8 +101,9 @@ pub fn bounds(cursor: &mut Cursor<'_>) -> Result<Bounds, Stop>
 pub fn type_of(cursor: &mut Cursor<'_>) -> Result<Type, Stop>
     ensures { Reads result cursor.new (type_of cursor.old) }
 {
-    let (at, base) = base(cursor)?;
-    let bounds = bounds(cursor)?;
+    let base = base(cursor)?;
+    let bounds = bounds(cursor);
+    let ((at, base), bounds) = joined(base, bounds)?;
     Ok(Type { at, base, bounds })
 }
 
@@ -113,7 +134,8 @@ fn typed(cursor: &mut Cursor<'_>) -> Result<Typed, Stop>
     ensures { Reads result cursor.new (typed cursor.old) }
 {
     let declared = type_of(cursor)?;
-    let name = name(cursor)?;
+    let name = name(cursor);
+    let (declared, name) = joined(declared, name)?;
     Ok(Typed { declared, name })
 }
 
@@ -144,8 +166,26 @@ pub fn field(cursor: &mut Cursor<'_>) -> Result<Typed, Stop>
     ensures { Reads result cursor.new (field cursor.old) }
 {
     let typed = typed(cursor)?;
-    cursor.mark(Sort::Semicolon)?;
-    Ok(typed)
+    let done = cursor.mark(Sort::Semicolon);
+    behind(done, typed)
+}
+
+// `Name ";"`
+fn named_end(cursor: &mut Cursor<'_>) -> Result<(Name, ()), Stop>
+    ensures { Reads result cursor.new (sequence name (mark sorts.Semicolon) cursor.old) }
+{
+    let name = name(cursor)?;
+    let done = cursor.mark(Sort::Semicolon);
+    joined(name, done)
+}
+
+// What the bounds of a type are, and the same.
+fn bounded_name(cursor: &mut Cursor<'_>) -> Result<(Bounds, (Name, ())), Stop>
+    ensures { Reads result cursor.new (sequence bounds (sequence name (mark sorts.Semicolon)) cursor.old) }
+{
+    let bounds = bounds(cursor)?;
+    let rest = named_end(cursor);
+    joined(bounds, rest)
 }
 
 /// The same behind the name with which the type begins.
@@ -153,9 +193,8 @@ pub fn field(cursor: &mut Cursor<'_>) -> Result<Typed, Stop>
 pub fn field_after(cursor: &mut Cursor<'_>, first: Name) -> Result<Typed, Stop>
     ensures { Reads result cursor.new (field_after first cursor.old) }
 {
-    let bounds = bounds(cursor)?;
-    let name = name(cursor)?;
-    cursor.mark(Sort::Semicolon)?;
+    let rest = bounded_name(cursor);
+    let (first, (bounds, (name, ()))) = joined(first, rest)?;
     Ok(Typed {
         declared: type_named(first, bounds),
         name,
