@@ -1,7 +1,7 @@
 //! Types, and the names that are declared with them.
 
 ghost use Rattle.std.specs.Prelude.{◌≡◌};
-ghost use Rattle.nddl_reading.specs.Readers.{sequence, mark, may_mark, Reads};
+ghost use Rattle.nddl_reading.specs.Readers.{sequence, mark, may_mark, IsFound};
 ghost use Rattle.nddl_reading.specs.declared.sort.Sort.TheVariants as sorts;
 ghost use Rattle.nddl_statements.specs.Productions.{name, value, base_behind, base, range, set, bounds, begins_type, type_of, type_named, typed, field, field_after};
 
@@ -9,43 +9,43 @@ use super::expressions::{Values, name, value};
 use super::list;
 use super::list::Item;
 use nddl_ast::declaration::Typed;
-use nddl_ast::expression::{Base, Bounds, Type, Value};
+use nddl_ast::expression::{BaseType, Bounds, Type, Value};
 use nddl_ast::name::Name;
 use nddl_reading::cursor::{Cursor, Stop};
 use nddl_reading::joining::{behind, joined};
 use nddl_reading::sort::Sort;
 
 /// `"string" | Name`, at its place.
-fn base_behind(cursor: &mut Cursor<'_>) -> Result<(u32, Base), Stop>
-    ensures { Reads result cursor.new (base_behind cursor.old) }
+fn base_behind(cursor: &mut Cursor<'_>) -> Result<(u32, BaseType), Stop>
+    ensures { IsFound result cursor.new (base_behind cursor.old) }
 {
     if cursor.is_at(Sort::Text) {
-        return Ok((cursor.place_of(Sort::Text)?, Base::Str));
+        return Ok((cursor.mark_place(Sort::Text)?, BaseType::Str));
     }
     let name = name(cursor)?;
-    Ok((name.at, Base::Named(name)))
+    Ok((name.at, BaseType::Named(name)))
 }
 
 /// `"int" | "float" | "bool" | "string" | Name`, at its place.
 #[tactic(auto, unfolding(crate::specs::Productions::base))]
-fn base(cursor: &mut Cursor<'_>) -> Result<(u32, Base), Stop>
-    ensures { Reads result cursor.new (base cursor.old) }
+fn base(cursor: &mut Cursor<'_>) -> Result<(u32, BaseType), Stop>
+    ensures { IsFound result cursor.new (base cursor.old) }
 {
     if cursor.is_at(Sort::Int) {
-        return Ok((cursor.place_of(Sort::Int)?, Base::Int));
+        return Ok((cursor.mark_place(Sort::Int)?, BaseType::Int));
     }
     if cursor.is_at(Sort::Float) {
-        return Ok((cursor.place_of(Sort::Float)?, Base::Float));
+        return Ok((cursor.mark_place(Sort::Float)?, BaseType::Float));
     }
     if cursor.is_at(Sort::Bool) {
-        return Ok((cursor.place_of(Sort::Bool)?, Base::Bool));
+        return Ok((cursor.mark_place(Sort::Bool)?, BaseType::Bool));
     }
     base_behind(cursor)
 }
 
 /// `[","] Lit "]"`
 fn range_end(cursor: &mut Cursor<'_>) -> Result<((), (Value, ())), Stop>
-    ensures { Reads result cursor.new (sequence (may_mark sorts.Comma) (sequence value (mark sorts.BracketClose)) cursor.old) }
+    ensures { IsFound result cursor.new (sequence (may_mark sorts.Comma) (sequence value (mark sorts.BracketClose)) cursor.old) }
 {
     cursor.may_mark(Sort::Comma)?;
     let greatest = value(cursor)?;
@@ -57,9 +57,9 @@ fn range_end(cursor: &mut Cursor<'_>) -> Result<((), (Value, ())), Stop>
 /// `"[" Lit [","] Lit "]"`
 #[tactic(auto, unfolding(crate::specs::Productions::range))]
 fn range(cursor: &mut Cursor<'_>) -> Result<Bounds, Stop>
-    ensures { Reads result cursor.new (range cursor.old) }
+    ensures { IsFound result cursor.new (range cursor.old) }
 {
-    let at = cursor.place_of(Sort::BracketOpen)?;
+    let at = cursor.mark_place(Sort::BracketOpen)?;
     let least = value(cursor)?;
     let rest = range_end(cursor);
     let (least, ((), (greatest, ()))) = joined(least, rest)?;
@@ -73,9 +73,9 @@ fn range(cursor: &mut Cursor<'_>) -> Result<Bounds, Stop>
 /// `"{" Lit { "," Lit } "}"`
 #[tactic(auto, unfolding(crate::specs::Productions::set))]
 fn set(cursor: &mut Cursor<'_>) -> Result<Bounds, Stop>
-    ensures { Reads result cursor.new (set cursor.old) }
+    ensures { IsFound result cursor.new (set cursor.old) }
 {
-    let at = cursor.place_of(Sort::BraceOpen)?;
+    let at = cursor.mark_place(Sort::BraceOpen)?;
     let values = list::separated::<Values>(cursor, Sort::Comma)?;
     let done = cursor.mark(Sort::BraceClose);
     let values = behind(done, values)?;
@@ -85,7 +85,7 @@ fn set(cursor: &mut Cursor<'_>) -> Result<Bounds, Stop>
 /// A range, a set, or nothing.
 #[tactic(auto, unfolding(crate::specs::Productions::bounds))]
 pub fn bounds(cursor: &mut Cursor<'_>) -> Result<Bounds, Stop>
-    ensures { Reads result cursor.new (bounds cursor.old) }
+    ensures { IsFound result cursor.new (bounds cursor.old) }
 {
     if cursor.is_at(Sort::BracketOpen) {
         return range(cursor);
@@ -99,7 +99,7 @@ pub fn bounds(cursor: &mut Cursor<'_>) -> Result<Bounds, Stop>
 /// `Base [ "[" Lit [","] Lit "]" | "{" Lit { "," Lit } "}" ]`
 #[tactic(auto, unfolding(crate::specs::Productions::type_of))]
 pub fn type_of(cursor: &mut Cursor<'_>) -> Result<Type, Stop>
-    ensures { Reads result cursor.new (type_of cursor.old) }
+    ensures { IsFound result cursor.new (type_of cursor.old) }
 {
     let base = base(cursor)?;
     let bounds = bounds(cursor);
@@ -113,7 +113,7 @@ pub fn type_named(first: Name, bounds: Bounds) -> Type
 {
     Type {
         at: first.at,
-        base: Base::Named(first),
+        base: BaseType::Named(first),
         bounds,
     }
 }
@@ -131,7 +131,7 @@ pub fn begins_type(sort: Sort) -> bool
 /// `Type Name`
 #[tactic(auto, unfolding(crate::specs::Productions::typed))]
 fn typed(cursor: &mut Cursor<'_>) -> Result<Typed, Stop>
-    ensures { Reads result cursor.new (typed cursor.old) }
+    ensures { IsFound result cursor.new (typed cursor.old) }
 {
     let declared = type_of(cursor)?;
     let name = name(cursor);
@@ -163,16 +163,16 @@ impl Item for Formals {
 /// `Type Name ";"`
 #[tactic(auto, unfolding(crate::specs::Productions::field))]
 pub fn field(cursor: &mut Cursor<'_>) -> Result<Typed, Stop>
-    ensures { Reads result cursor.new (field cursor.old) }
+    ensures { IsFound result cursor.new (field cursor.old) }
 {
     let typed = typed(cursor)?;
     let done = cursor.mark(Sort::Semicolon);
     behind(done, typed)
 }
 
-// `Name ";"`
-fn named_end(cursor: &mut Cursor<'_>) -> Result<(Name, ()), Stop>
-    ensures { Reads result cursor.new (sequence name (mark sorts.Semicolon) cursor.old) }
+/// `Name ";"`
+pub fn named_end(cursor: &mut Cursor<'_>) -> Result<(Name, ()), Stop>
+    ensures { IsFound result cursor.new (sequence name (mark sorts.Semicolon) cursor.old) }
 {
     let name = name(cursor)?;
     let done = cursor.mark(Sort::Semicolon);
@@ -181,7 +181,7 @@ fn named_end(cursor: &mut Cursor<'_>) -> Result<(Name, ()), Stop>
 
 // What the bounds of a type are, and the same.
 fn bounded_name(cursor: &mut Cursor<'_>) -> Result<(Bounds, (Name, ())), Stop>
-    ensures { Reads result cursor.new (sequence bounds (sequence name (mark sorts.Semicolon)) cursor.old) }
+    ensures { IsFound result cursor.new (sequence bounds (sequence name (mark sorts.Semicolon)) cursor.old) }
 {
     let bounds = bounds(cursor)?;
     let rest = named_end(cursor);
@@ -191,7 +191,7 @@ fn bounded_name(cursor: &mut Cursor<'_>) -> Result<(Bounds, (Name, ())), Stop>
 /// The same behind the name with which the type begins.
 #[tactic(auto, unfolding(crate::specs::Productions::field_after))]
 pub fn field_after(cursor: &mut Cursor<'_>, first: Name) -> Result<Typed, Stop>
-    ensures { Reads result cursor.new (field_after first cursor.old) }
+    ensures { IsFound result cursor.new (field_after first cursor.old) }
 {
     let rest = bounded_name(cursor);
     let (first, (bounds, (name, ()))) = joined(first, rest)?;
