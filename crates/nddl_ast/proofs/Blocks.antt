@@ -11,10 +11,10 @@ first_to : (one other : Stmt) (more others : Statements) → SameStmt one other 
 first_to (Variable one) (Variable other) more others first rest = (first, rest)
 first_to (Call one) (Call other) more others first rest = (first, rest)
 first_to (Ask one) (Ask other) more others first rest = (first, rest)
-first_to (If at guard then None) (If at' guard' then' None) more others first rest = ((first.0, first.1), rest)
-first_to (If at guard then (Some otherwise)) (If at' guard' then' (Some otherwise')) more others first rest = (first, rest)
-first_to (If at guard then None) (If at' guard' then' (Some otherwise')) more others first rest = absurd first.2
-first_to (If at guard then (Some otherwise)) (If at' guard' then' None) more others first rest = absurd first.2
+first_to (If at condition then None) (If at' condition' then' None) more others first rest = ((first.0, first.1), rest)
+first_to (If at condition then (Some otherwise)) (If at' condition' then' (Some otherwise')) more others first rest = (first, rest)
+first_to (If at condition then None) (If at' condition' then' (Some otherwise')) more others first rest = absurd first.2
+first_to (If at condition then (Some otherwise)) (If at' condition' then' None) more others first rest = absurd first.2
 first_to (Foreach at name class body) (Foreach at' name' class' body') more others first rest = (first, rest)
 first_to one other more others first rest = absurd first
 
@@ -22,13 +22,13 @@ first_from : (one other : Stmt) (more others : Statements) → SameStatements (w
 first_from (Variable one) (Variable other) more others same = same
 first_from (Call one) (Call other) more others same = same
 first_from (Ask one) (Ask other) more others same = same
-first_from (If at guard then None) (If at' guard' then' None) more others same = ((same.0.0, same.0.1, tt), same.1)
-first_from (If at guard then (Some otherwise)) (If at' guard' then' (Some otherwise')) more others same = same
+first_from (If at condition then None) (If at' condition' then' None) more others same = ((same.0.0, same.0.1, tt), same.1)
+first_from (If at condition then (Some otherwise)) (If at' condition' then' (Some otherwise')) more others same = same
 first_from (Foreach at name class body) (Foreach at' name' class' body') more others same = same
-first_from one (If at guard then None) more others same = absurd same
-first_from one (If at guard then (Some otherwise)) more others same = absurd same
-first_from (If at guard then None) other more others same = absurd same
-first_from (If at guard then (Some otherwise)) other more others same = absurd same
+first_from one (If at condition then None) more others same = absurd same
+first_from one (If at condition then (Some otherwise)) more others same = absurd same
+first_from (If at condition then None) other more others same = absurd same
+first_from (If at condition then (Some otherwise)) other more others same = absurd same
 first_from one other more others same = absurd same
 
 -- no statement stands for none
@@ -36,16 +36,16 @@ none_first : (stmt : Stmt) (more : Statements) → SameStatements Nothing (with_
 none_first (Variable v) more same = same
 none_first (Call c) more same = same
 none_first (Ask a) more same = same
-none_first (If at guard then None) more same = same
-none_first (If at guard then (Some otherwise)) more same = same
+none_first (If at condition then None) more same = same
+none_first (If at condition then (Some otherwise)) more same = same
 none_first (Foreach at name class body) more same = same
 
 first_none : (stmt : Stmt) (more : Statements) → SameStatements (with_statement stmt more) Nothing → ⊥
 first_none (Variable v) more same = same
 first_none (Call c) more same = same
 first_none (Ask a) more same = same
-first_none (If at guard then None) more same = same
-first_none (If at guard then (Some otherwise)) more same = same
+first_none (If at condition then None) more same = same
+first_none (If at condition then (Some otherwise)) more same = same
 first_none (Foreach at name class body) more same = same
 
 pub stmts_to : (xs ys : List Stmt) → AllSame SameStmt xs ys → SameStatements (statements_of xs) (statements_of ys)

@@ -8,8 +8,8 @@ use Rattle.nddl_ast.specs.declared.expression.Expr.{Expr}
 use Rattle.nddl_ast.specs.declared.expression.Expr.TheVariants as exprs
 use Rattle.nddl_ast.specs.declared.expression.Value.{Value}
 use Rattle.nddl_ast.specs.declared.expression.Value.TheVariants as values
-use Rattle.nddl_ast.specs.declared.expression.Base.{Base}
-use Rattle.nddl_ast.specs.declared.expression.Base.TheVariants as bases
+use Rattle.nddl_ast.specs.declared.expression.BaseType.{BaseType}
+use Rattle.nddl_ast.specs.declared.expression.BaseType.TheVariants as bases
 use Rattle.nddl_ast.specs.declared.expression.Bounds.{Bounds}
 use Rattle.nddl_ast.specs.declared.expression.Bounds.TheVariants as bounds
 use Rattle.nddl_ast.specs.declared.expression.Type as types
@@ -19,11 +19,11 @@ use Rattle.nddl_ast.specs.declared.expression.Init.TheVariants as inits
 use Rattle.nddl_ast.specs.declared.statement.Variable.{Variable}
 use Rattle.nddl_ast.specs.declared.statement.Call.{Call}
 use Rattle.nddl_ast.specs.declared.statement.Ask.{Ask}
-use Rattle.nddl_ast.specs.declared.statement.Guard.{Guard}
-use Rattle.nddl_ast.specs.declared.statement.Guard.TheVariants as guards
+use Rattle.nddl_ast.specs.declared.statement.Condition.{Condition}
+use Rattle.nddl_ast.specs.declared.statement.Condition.TheVariants as conditions
 use Rattle.nddl_ast.specs.declared.declaration.Typed.{Typed}
-use Rattle.nddl_ast.specs.declared.declaration.Part.{Part}
-use Rattle.nddl_ast.specs.declared.declaration.Part.TheVariants as parts
+use Rattle.nddl_ast.specs.declared.declaration.PredicatePart.{PredicatePart}
+use Rattle.nddl_ast.specs.declared.declaration.PredicatePart.TheVariants as parts
 use Rattle.nddl_ast.specs.declared.declaration.Set.{Set}
 use Rattle.nddl_ast.specs.declared.declaration.Set.TheVariants as sets
 use Rattle.nddl_ast.specs.declared.declaration.Member.{Member}
@@ -31,8 +31,8 @@ use Rattle.nddl_ast.specs.declared.declaration.Member.TheVariants as members
 use Rattle.nddl_ast.specs.declared.declaration.Decl.{Decl}
 use Rattle.nddl_ast.specs.declared.declaration.Decl.TheVariants as decls
 use Rattle.nddl_ast.specs.Tree.{Statements, Nothing, Declares, Calls, Asks, Tests, Chooses, Repeats, Braces}
-use Rattle.nddl_ast.specs.Same.{AllSame, BothSame, SameName, SamePath, SameLiteral, SameExpr, SameValue, SameBase, SameBounds, SameType, SameCreation, SameInit, SameVariable, SameCall, SameAsk, SameGuard, SameStatements, SameBlock, SameTyped, SamePart, SameSet, SameMember, SameDecl}
-use Rattle.nddl_ast.specs.Unplaced.{unplaced_name, unplaced_path, unplaced_literal, unplaced_expr, unplaced_value, unplaced_base, unplaced_bounds, unplaced_type, unplaced_creation, unplaced_init, unplaced_variable, unplaced_call, unplaced_ask, unplaced_guard, unplaced_statements, unplaced_block, unplaced_typed, unplaced_part, unplaced_set, unplaced_member, unplaced, SameIsEqual, SameIsAnEquivalence}
+use Rattle.nddl_ast.specs.Same.{AllSame, BothSame, SameName, SamePath, SameLiteral, SameExpr, SameValue, SameBase, SameBounds, SameType, SameCreation, SameInit, SameVariable, SameCall, SameAsk, SameCondition, SameStatements, SameBlock, SameTyped, SamePart, SameSet, SameMember, SameDecl}
+use Rattle.nddl_ast.specs.Unplaced.{unplaced_name, unplaced_path, unplaced_literal, unplaced_expr, unplaced_value, unplaced_base, unplaced_bounds, unplaced_type, unplaced_creation, unplaced_init, unplaced_variable, unplaced_call, unplaced_ask, unplaced_condition, unplaced_statements, unplaced_block, unplaced_typed, unplaced_part, unplaced_set, unplaced_member, unplaced, SameIsEqual, SameIsAnEquivalence}
 
 -- to be the same is to be equal after the function
 pub record IsEqual {A : Type 0} (Same : A → A → Type 0) (bare : A → A) : Type 0 where
@@ -110,7 +110,7 @@ value_from one other same = absurd (cc)
 value_equal : IsEqual SameValue unplaced_value
 value_equal = record { to = value_to; from = value_from }
 
-base_to : (one other : Base) → SameBase one other → unplaced_base one ≡ unplaced_base other
+base_to : (one other : BaseType) → SameBase one other → unplaced_base one ≡ unplaced_base other
 base_to bases.Int bases.Int same = refl
 base_to bases.Float bases.Float same = refl
 base_to bases.Bool bases.Bool same = refl
@@ -118,7 +118,7 @@ base_to bases.Str bases.Str same = refl
 base_to (bases.Named n) (bases.Named n') same = λ i. bases.Named (name_equal.to n n' same i)
 base_to one other same = absurd same
 
-base_from : (one other : Base) → unplaced_base one ≡ unplaced_base other → SameBase one other
+base_from : (one other : BaseType) → unplaced_base one ≡ unplaced_base other → SameBase one other
 base_from bases.Int bases.Int same = tt
 base_from bases.Float bases.Float same = tt
 base_from bases.Bool bases.Bool same = tt
@@ -215,38 +215,38 @@ ask_equal = record {
   );
 }
 
-guard_to : (one other : Guard) → SameGuard one other → unplaced_guard one ≡ unplaced_guard other
-guard_to (guards.Truth e) (guards.Truth e') same = λ i. guards.Truth (expr_equal.to e e' same i)
-guard_to (guards.Equal e f) (guards.Equal e' f') same = λ i. guards.Equal (expr_equal.to e e' same.0 i) (expr_equal.to f f' same.1 i)
-guard_to (guards.NotEqual e f) (guards.NotEqual e' f') same = λ i. guards.NotEqual (expr_equal.to e e' same.0 i) (expr_equal.to f f' same.1 i)
-guard_to one other same = absurd same
+condition_to : (one other : Condition) → SameCondition one other → unplaced_condition one ≡ unplaced_condition other
+condition_to (conditions.Truth e) (conditions.Truth e') same = λ i. conditions.Truth (expr_equal.to e e' same i)
+condition_to (conditions.Equal e f) (conditions.Equal e' f') same = λ i. conditions.Equal (expr_equal.to e e' same.0 i) (expr_equal.to f f' same.1 i)
+condition_to (conditions.NotEqual e f) (conditions.NotEqual e' f') same = λ i. conditions.NotEqual (expr_equal.to e e' same.0 i) (expr_equal.to f f' same.1 i)
+condition_to one other same = absurd same
 
-guard_from : (one other : Guard) → unplaced_guard one ≡ unplaced_guard other → SameGuard one other
-guard_from (guards.Truth e) (guards.Truth e') same =
+condition_from : (one other : Condition) → unplaced_condition one ≡ unplaced_condition other → SameCondition one other
+condition_from (conditions.Truth e) (conditions.Truth e') same =
     let e_same : unplaced_expr e ≡ unplaced_expr e' = cc in
     expr_equal.from e e' e_same
-guard_from (guards.Equal e f) (guards.Equal e' f') same =
+condition_from (conditions.Equal e f) (conditions.Equal e' f') same =
     let e_same : unplaced_expr e ≡ unplaced_expr e' = cc in
     let f_same : unplaced_expr f ≡ unplaced_expr f' = cc in
     (expr_equal.from e e' e_same, expr_equal.from f f' f_same)
-guard_from (guards.NotEqual e f) (guards.NotEqual e' f') same =
+condition_from (conditions.NotEqual e f) (conditions.NotEqual e' f') same =
     let e_same : unplaced_expr e ≡ unplaced_expr e' = cc in
     let f_same : unplaced_expr f ≡ unplaced_expr f' = cc in
     (expr_equal.from e e' e_same, expr_equal.from f f' f_same)
-guard_from one other same = absurd (cc)
+condition_from one other same = absurd (cc)
 
-guard_equal : IsEqual SameGuard unplaced_guard
-guard_equal = record { to = guard_to; from = guard_from }
+condition_equal : IsEqual SameCondition unplaced_condition
+condition_equal = record { to = condition_to; from = condition_from }
 
 statements_to : (one other : Statements) → SameStatements one other → unplaced_statements one ≡ unplaced_statements other
 statements_to Nothing Nothing same = refl
 statements_to (Declares one more) (Declares other others) same = λ i. Declares (variable_equal.to one other same.0 i) (statements_to more others same.1 i)
 statements_to (Calls one more) (Calls other others) same = λ i. Calls (call_equal.to one other same.0 i) (statements_to more others same.1 i)
 statements_to (Asks one more) (Asks other others) same = λ i. Asks (ask_equal.to one other same.0 i) (statements_to more others same.1 i)
-statements_to (Tests at guard then_at then more) (Tests at' guard' then_at' then' others) same = λ i.
-    Tests 0 (guard_equal.to guard guard' same.0.0 i) 0 (statements_to then then' same.0.1 i) (statements_to more others same.1 i)
-statements_to (Chooses at guard then_at then else_at else more) (Chooses at' guard' then_at' then' else_at' else' others) same = λ i.
-    Chooses 0 (guard_equal.to guard guard' same.0.0 i) 0 (statements_to then then' same.0.1 i) 0 (statements_to else else' same.0.2 i) (statements_to more others same.1 i)
+statements_to (Tests at condition then_at then more) (Tests at' condition' then_at' then' others) same = λ i.
+    Tests 0 (condition_equal.to condition condition' same.0.0 i) 0 (statements_to then then' same.0.1 i) (statements_to more others same.1 i)
+statements_to (Chooses at condition then_at then else_at else more) (Chooses at' condition' then_at' then' else_at' else' others) same = λ i.
+    Chooses 0 (condition_equal.to condition condition' same.0.0 i) 0 (statements_to then then' same.0.1 i) 0 (statements_to else else' same.0.2 i) (statements_to more others same.1 i)
 statements_to (Repeats at name class body_at body more) (Repeats at' name' class' body_at' body' others) same = λ i.
     Repeats 0 (name_equal.to name name' same.0.0 i) (name_equal.to class class' same.0.1 i) 0 (statements_to body body' same.0.2 i) (statements_to more others same.1 i)
 statements_to one other same = absurd same
@@ -265,17 +265,17 @@ statements_from (Asks one more) (Asks other others) same =
     let first : unplaced_ask one ≡ unplaced_ask other = cc in
     let rest : unplaced_statements more ≡ unplaced_statements others = cc in
     (ask_equal.from one other first, statements_from more others rest)
-statements_from (Tests at guard then_at then more) (Tests at' guard' then_at' then' others) same =
-    let guards : unplaced_guard guard ≡ unplaced_guard guard' = cc in
+statements_from (Tests at condition then_at then more) (Tests at' condition' then_at' then' others) same =
+    let conditions : unplaced_condition condition ≡ unplaced_condition condition' = cc in
     let thens : unplaced_statements then ≡ unplaced_statements then' = cc in
     let rest : unplaced_statements more ≡ unplaced_statements others = cc in
-    ((guard_equal.from guard guard' guards, statements_from then then' thens), statements_from more others rest)
-statements_from (Chooses at guard then_at then else_at else more) (Chooses at' guard' then_at' then' else_at' else' others) same =
-    let guards : unplaced_guard guard ≡ unplaced_guard guard' = cc in
+    ((condition_equal.from condition condition' conditions, statements_from then then' thens), statements_from more others rest)
+statements_from (Chooses at condition then_at then else_at else more) (Chooses at' condition' then_at' then' else_at' else' others) same =
+    let conditions : unplaced_condition condition ≡ unplaced_condition condition' = cc in
     let thens : unplaced_statements then ≡ unplaced_statements then' = cc in
     let elses : unplaced_statements else ≡ unplaced_statements else' = cc in
     let rest : unplaced_statements more ≡ unplaced_statements others = cc in
-    ((guard_equal.from guard guard' guards, statements_from then then' thens, statements_from else else' elses), statements_from more others rest)
+    ((condition_equal.from condition condition' conditions, statements_from then then' thens, statements_from else else' elses), statements_from more others rest)
 statements_from (Repeats at name class body_at body more) (Repeats at' name' class' body_at' body' others) same =
     let names : unplaced_name name ≡ unplaced_name name' = cc in
     let classes : unplaced_name class ≡ unplaced_name class' = cc in
@@ -299,12 +299,12 @@ typed_equal = record {
   );
 }
 
-part_to : (one other : Part) → SamePart one other → unplaced_part one ≡ unplaced_part other
+part_to : (one other : PredicatePart) → SamePart one other → unplaced_part one ≡ unplaced_part other
 part_to (parts.Parameter t) (parts.Parameter t') same = λ i. parts.Parameter (typed_equal.to t t' same i)
 part_to (parts.Constraint c) (parts.Constraint c') same = λ i. parts.Constraint (call_equal.to c c' same i)
 part_to one other same = absurd same
 
-part_from : (one other : Part) → unplaced_part one ≡ unplaced_part other → SamePart one other
+part_from : (one other : PredicatePart) → unplaced_part one ≡ unplaced_part other → SamePart one other
 part_from (parts.Parameter t) (parts.Parameter t') same =
     let t_same : unplaced_typed t ≡ unplaced_typed t' = cc in
     typed_equal.from t t' t_same

@@ -9,8 +9,8 @@ use Rattle.nddl_ast.specs.declared.expression.Init.{Init}
 use Rattle.nddl_ast.specs.declared.expression.Init.TheVariants as inits
 use Rattle.nddl_ast.specs.declared.statement.Stmt.{Stmt}
 use Rattle.nddl_ast.specs.declared.statement.Stmt.TheVariants as stmts
-use Rattle.nddl_ast.specs.declared.declaration.Part.{Part}
-use Rattle.nddl_ast.specs.declared.declaration.Part.TheVariants as parts
+use Rattle.nddl_ast.specs.declared.declaration.PredicatePart.{PredicatePart}
+use Rattle.nddl_ast.specs.declared.declaration.PredicatePart.TheVariants as parts
 use Rattle.nddl_ast.specs.declared.declaration.Set.{Set}
 use Rattle.nddl_ast.specs.declared.declaration.Set.TheVariants as sets
 use Rattle.nddl_ast.specs.declared.declaration.Member.{Member}
@@ -37,10 +37,10 @@ abbrev pub stmt_place : Stmt → ℕ
 stmt_place (stmts.Variable variable) = variable.declared.at
 stmt_place (stmts.Call call) = path_place call.path
 stmt_place (stmts.Ask ask) = ask.word.at
-stmt_place (stmts.If at guard then otherwise) = at
+stmt_place (stmts.If at condition then otherwise) = at
 stmt_place (stmts.Foreach at variable class body) = at
 
-abbrev pub part_place : Part → ℕ
+abbrev pub part_place : PredicatePart → ℕ
 part_place (parts.Parameter typed) = typed.declared.at
 part_place (parts.Constraint call) = path_place call.path
 

@@ -7,8 +7,8 @@ use Rattle.nddl_ast.specs.declared.expression.Expr.{Expr}
 use Rattle.nddl_ast.specs.declared.expression.Expr.TheVariants as exprs
 use Rattle.nddl_ast.specs.declared.expression.Value.{Value}
 use Rattle.nddl_ast.specs.declared.expression.Value.TheVariants as values
-use Rattle.nddl_ast.specs.declared.expression.Base.{Base}
-use Rattle.nddl_ast.specs.declared.expression.Base.TheVariants as bases
+use Rattle.nddl_ast.specs.declared.expression.BaseType.{BaseType}
+use Rattle.nddl_ast.specs.declared.expression.BaseType.TheVariants as bases
 use Rattle.nddl_ast.specs.declared.expression.Bounds.{Bounds}
 use Rattle.nddl_ast.specs.declared.expression.Bounds.TheVariants as bounds
 use Rattle.nddl_ast.specs.declared.expression.Type as types
@@ -18,11 +18,11 @@ use Rattle.nddl_ast.specs.declared.expression.Init.TheVariants as inits
 use Rattle.nddl_ast.specs.declared.statement.Variable.{Variable}
 use Rattle.nddl_ast.specs.declared.statement.Call.{Call}
 use Rattle.nddl_ast.specs.declared.statement.Ask.{Ask}
-use Rattle.nddl_ast.specs.declared.statement.Guard.{Guard}
-use Rattle.nddl_ast.specs.declared.statement.Guard.TheVariants as guards
+use Rattle.nddl_ast.specs.declared.statement.Condition.{Condition}
+use Rattle.nddl_ast.specs.declared.statement.Condition.TheVariants as conditions
 use Rattle.nddl_ast.specs.declared.declaration.Typed.{Typed}
-use Rattle.nddl_ast.specs.declared.declaration.Part.{Part}
-use Rattle.nddl_ast.specs.declared.declaration.Part.TheVariants as parts
+use Rattle.nddl_ast.specs.declared.declaration.PredicatePart.{PredicatePart}
+use Rattle.nddl_ast.specs.declared.declaration.PredicatePart.TheVariants as parts
 use Rattle.nddl_ast.specs.declared.declaration.Set.{Set}
 use Rattle.nddl_ast.specs.declared.declaration.Set.TheVariants as sets
 use Rattle.nddl_ast.specs.declared.declaration.Member.{Member}
@@ -62,7 +62,7 @@ SameValue (values.Name one) (values.Name other) = SameName one other
 SameValue (values.Literal one) (values.Literal other) = SameLiteral one other
 SameValue one other = ⊥
 
-abbrev pub SameBase : Base → Base → Type 0
+abbrev pub SameBase : BaseType → BaseType → Type 0
 SameBase bases.Int bases.Int = Unit {0}
 SameBase bases.Float bases.Float = Unit {0}
 SameBase bases.Bool bases.Bool = Unit {0}
@@ -98,21 +98,21 @@ SameCall one other = SamePath one.path other.path × AllSame SameExpr one.argume
 abbrev pub SameAsk : Ask → Ask → Type 0
 SameAsk one other = SameName one.word other.word × SamePath one.path other.path × SameName one.label other.label
 
-abbrev pub SameGuard : Guard → Guard → Type 0
-SameGuard (guards.Truth one) (guards.Truth other) = SameExpr one other
-SameGuard (guards.Equal one second) (guards.Equal other second') = SameExpr one other × SameExpr second second'
-SameGuard (guards.NotEqual one second) (guards.NotEqual other second') = SameExpr one other × SameExpr second second'
-SameGuard one other = ⊥
+abbrev pub SameCondition : Condition → Condition → Type 0
+SameCondition (conditions.Truth one) (conditions.Truth other) = SameExpr one other
+SameCondition (conditions.Equal one second) (conditions.Equal other second') = SameExpr one other × SameExpr second second'
+SameCondition (conditions.NotEqual one second) (conditions.NotEqual other second') = SameExpr one other × SameExpr second second'
+SameCondition one other = ⊥
 
 abbrev pub SameStatements : Statements → Statements → Type 0
 SameStatements Nothing Nothing = Unit {0}
 SameStatements (Declares one more) (Declares other others) = SameVariable one other × SameStatements more others
 SameStatements (Calls one more) (Calls other others) = SameCall one other × SameStatements more others
 SameStatements (Asks one more) (Asks other others) = SameAsk one other × SameStatements more others
-SameStatements (Tests at guard then_at then more) (Tests at' guard' then_at' then' others) =
-    (SameGuard guard guard' × SameStatements then then') × SameStatements more others
-SameStatements (Chooses at guard then_at then else_at else more) (Chooses at' guard' then_at' then' else_at' else' others) =
-    (SameGuard guard guard' × SameStatements then then' × SameStatements else else') × SameStatements more others
+SameStatements (Tests at condition then_at then more) (Tests at' condition' then_at' then' others) =
+    (SameCondition condition condition' × SameStatements then then') × SameStatements more others
+SameStatements (Chooses at condition then_at then else_at else more) (Chooses at' condition' then_at' then' else_at' else' others) =
+    (SameCondition condition condition' × SameStatements then then' × SameStatements else else') × SameStatements more others
 SameStatements (Repeats at name class body_at body more) (Repeats at' name' class' body_at' body' others) =
     (SameName name name' × SameName class class' × SameStatements body body') × SameStatements more others
 SameStatements one other = ⊥
@@ -125,7 +125,7 @@ SameBlock one other = SameStatements one.statements other.statements
 abbrev pub SameTyped : Typed → Typed → Type 0
 SameTyped one other = SameType one.declared other.declared × SameName one.name other.name
 
-abbrev pub SamePart : Part → Part → Type 0
+abbrev pub SamePart : PredicatePart → PredicatePart → Type 0
 SamePart (parts.Parameter one) (parts.Parameter other) = SameTyped one other
 SamePart (parts.Constraint one) (parts.Constraint other) = SameCall one other
 SamePart one other = ⊥

@@ -8,8 +8,8 @@ use Rattle.nddl_ast.specs.declared.expression.Expr.{Expr}
 use Rattle.nddl_ast.specs.declared.expression.Expr.TheVariants as exprs
 use Rattle.nddl_ast.specs.declared.expression.Value.{Value}
 use Rattle.nddl_ast.specs.declared.expression.Value.TheVariants as values
-use Rattle.nddl_ast.specs.declared.expression.Base.{Base}
-use Rattle.nddl_ast.specs.declared.expression.Base.TheVariants as bases
+use Rattle.nddl_ast.specs.declared.expression.BaseType.{BaseType}
+use Rattle.nddl_ast.specs.declared.expression.BaseType.TheVariants as bases
 use Rattle.nddl_ast.specs.declared.expression.Bounds.{Bounds}
 use Rattle.nddl_ast.specs.declared.expression.Bounds.TheVariants as bounds
 use Rattle.nddl_ast.specs.declared.expression.Type as types
@@ -19,11 +19,11 @@ use Rattle.nddl_ast.specs.declared.expression.Init.TheVariants as inits
 use Rattle.nddl_ast.specs.declared.statement.Variable.{Variable}
 use Rattle.nddl_ast.specs.declared.statement.Call.{Call}
 use Rattle.nddl_ast.specs.declared.statement.Ask.{Ask}
-use Rattle.nddl_ast.specs.declared.statement.Guard.{Guard}
-use Rattle.nddl_ast.specs.declared.statement.Guard.TheVariants as guards
+use Rattle.nddl_ast.specs.declared.statement.Condition.{Condition}
+use Rattle.nddl_ast.specs.declared.statement.Condition.TheVariants as conditions
 use Rattle.nddl_ast.specs.declared.declaration.Typed.{Typed}
-use Rattle.nddl_ast.specs.declared.declaration.Part.{Part}
-use Rattle.nddl_ast.specs.declared.declaration.Part.TheVariants as parts
+use Rattle.nddl_ast.specs.declared.declaration.PredicatePart.{PredicatePart}
+use Rattle.nddl_ast.specs.declared.declaration.PredicatePart.TheVariants as parts
 use Rattle.nddl_ast.specs.declared.declaration.Set.{Set}
 use Rattle.nddl_ast.specs.declared.declaration.Set.TheVariants as sets
 use Rattle.nddl_ast.specs.declared.declaration.Member.{Member}
@@ -50,7 +50,7 @@ abbrev pub unplaced_value : Value → Value
 unplaced_value (values.Name name) = values.Name (unplaced_name name)
 unplaced_value (values.Literal literal) = values.Literal (unplaced_literal literal)
 
-abbrev pub unplaced_base : Base → Base
+abbrev pub unplaced_base : BaseType → BaseType
 unplaced_base bases.Int = bases.Int
 unplaced_base bases.Float = bases.Float
 unplaced_base bases.Bool = bases.Bool
@@ -81,19 +81,19 @@ unplaced_call one = record { path = unplaced_path one.path; arguments = map unpl
 abbrev pub unplaced_ask : Ask → Ask
 unplaced_ask one = record { word = unplaced_name one.word; path = unplaced_path one.path; label = unplaced_name one.label }
 
-abbrev pub unplaced_guard : Guard → Guard
-unplaced_guard (guards.Truth expr) = guards.Truth (unplaced_expr expr)
-unplaced_guard (guards.Equal one other) = guards.Equal (unplaced_expr one) (unplaced_expr other)
-unplaced_guard (guards.NotEqual one other) = guards.NotEqual (unplaced_expr one) (unplaced_expr other)
+abbrev pub unplaced_condition : Condition → Condition
+unplaced_condition (conditions.Truth expr) = conditions.Truth (unplaced_expr expr)
+unplaced_condition (conditions.Equal one other) = conditions.Equal (unplaced_expr one) (unplaced_expr other)
+unplaced_condition (conditions.NotEqual one other) = conditions.NotEqual (unplaced_expr one) (unplaced_expr other)
 
 abbrev pub unplaced_statements : Statements → Statements
 unplaced_statements Nothing = Nothing
 unplaced_statements (Declares v more) = Declares (unplaced_variable v) (unplaced_statements more)
 unplaced_statements (Calls c more) = Calls (unplaced_call c) (unplaced_statements more)
 unplaced_statements (Asks a more) = Asks (unplaced_ask a) (unplaced_statements more)
-unplaced_statements (Tests at guard then_at then more) = Tests 0 (unplaced_guard guard) 0 (unplaced_statements then) (unplaced_statements more)
-unplaced_statements (Chooses at guard then_at then else_at else more) =
-    Chooses 0 (unplaced_guard guard) 0 (unplaced_statements then) 0 (unplaced_statements else) (unplaced_statements more)
+unplaced_statements (Tests at condition then_at then more) = Tests 0 (unplaced_condition condition) 0 (unplaced_statements then) (unplaced_statements more)
+unplaced_statements (Chooses at condition then_at then else_at else more) =
+    Chooses 0 (unplaced_condition condition) 0 (unplaced_statements then) 0 (unplaced_statements else) (unplaced_statements more)
 unplaced_statements (Repeats at name class body_at body more) =
     Repeats 0 (unplaced_name name) (unplaced_name class) 0 (unplaced_statements body) (unplaced_statements more)
 
@@ -103,7 +103,7 @@ unplaced_block block = record { at = 0; statements = unplaced_statements block.s
 abbrev pub unplaced_typed : Typed → Typed
 unplaced_typed typed = record { declared = unplaced_type typed.declared; name = unplaced_name typed.name }
 
-abbrev pub unplaced_part : Part → Part
+abbrev pub unplaced_part : PredicatePart → PredicatePart
 unplaced_part (parts.Parameter typed) = parts.Parameter (unplaced_typed typed)
 unplaced_part (parts.Constraint one) = parts.Constraint (unplaced_call one)
 

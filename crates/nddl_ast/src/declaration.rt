@@ -2,7 +2,7 @@
 
 use super::expression::{Expr, Init, Type};
 use super::name::Name;
-use super::statement::{Ask, Block, Call, Variable};
+use super::statement::{Ask, StmtBlock, Call, Variable};
 use eu_name::bytes::Bytes;
 use eu_name::sequence::Sequence;
 use eu_name::text::Text;
@@ -16,7 +16,7 @@ pub struct Typed {
 
 /// What can stand in the body of a predicate.
 #[derive(Drop)]
-pub enum Part {
+pub enum PredicatePart {
     Parameter(Typed),
     Constraint(Call),
 }
@@ -38,7 +38,7 @@ pub enum Member {
     Predicate {
         at: u32,
         name: Name,
-        parts: Sequence<Part>,
+        parts: Sequence<PredicatePart>,
     },
     /// A name, formals between parentheses, and a body.
     Constructor {
@@ -86,7 +86,7 @@ pub enum Decl {
     Rule {
         class: Name,
         predicate: Name,
-        body: Block,
+        body: StmtBlock,
     },
     Variable(Variable),
     Call(Call),

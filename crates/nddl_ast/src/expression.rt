@@ -41,7 +41,7 @@ pub enum Value {
 
 /// What the values of a type are, before a range or a set restricts them.
 #[derive(Drop)]
-pub enum Base {
+pub enum BaseType {
     /// `int`
     Int,
     /// `float`
@@ -76,7 +76,7 @@ pub enum Bounds {
 #[derive(Drop)]
 pub struct Type {
     pub at: u32,
-    pub base: Base,
+    pub base: BaseType,
     pub bounds: Bounds,
 }
 

@@ -3,7 +3,7 @@
 ghost use Rattle.std.specs.Prelude.{◌≡◌};
 ghost use Rattle.nddl_ast.specs.Places.{path_place, expr_place, value_place, init_place, stmt_place, part_place, set_place, member_place, decl_place};
 
-use super::declaration::{Decl, Member, Part, Set};
+use super::declaration::{Decl, Member, PredicatePart, Set};
 use super::expression::{Expr, Init, Value};
 use super::name::Path;
 use super::statement::Stmt;
@@ -65,13 +65,13 @@ impl Stmt {
     }
 }
 
-impl Part {
+impl PredicatePart {
     pub fn place(&self) -> u32
         ensures { result ≡ part_place self.now }
     {
         match self {
-            Part::Parameter(typed) => typed.declared.at,
-            Part::Constraint(call) => call.path.place(),
+            PredicatePart::Parameter(typed) => typed.declared.at,
+            PredicatePart::Constraint(call) => call.path.place(),
         }
     }
 }

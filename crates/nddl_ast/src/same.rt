@@ -1,14 +1,14 @@
 //! Comparing trees without regard to places.
 
 ghost use Rattle.std.specs.Prelude.{◌↔◌, IsTrue};
-ghost use Rattle.nddl_ast.specs.Same.{AllSame, BothSame, SameName, SamePath, SameLiteral, SameExpr, SameValue, SameBase, SameBounds, SameType, SameCreation, SameInit, SameVariable, SameCall, SameAsk, SameGuard, SameBlock, SameTyped, SamePart, SameSet, SameMember, SameDecl};
+ghost use Rattle.nddl_ast.specs.Same.{AllSame, BothSame, SameName, SamePath, SameLiteral, SameExpr, SameValue, SameBase, SameBounds, SameType, SameCreation, SameInit, SameVariable, SameCall, SameAsk, SameCondition, SameBlock, SameTyped, SamePart, SameSet, SameMember, SameDecl};
 ghost use Rattle.nddl_ast.specs.Unplaced.{SameIsEqual, SameIsAnEquivalence};
 ghost use Rattle.nddl_ast.specs.SameStatement.{SameStmt};
 
-use super::declaration::{Decl, Member, Part, Set, Typed};
-use super::expression::{Base, Bounds, Creation, Expr, Init, Literal, Type, Value};
+use super::declaration::{Decl, Member, PredicatePart, Set, Typed};
+use super::expression::{BaseType, Bounds, Creation, Expr, Init, Literal, Type, Value};
 use super::name::{Name, Path};
-use super::statement::{Ask, Block, Call, Guard, Stmt, Variable};
+use super::statement::{Ask, StmtBlock, Call, Condition, Stmt, Variable};
 
 /// What can be compared without regard to places.
 pub trait Same {
@@ -93,16 +93,16 @@ impl Same for Value {
     }
 }
 
-impl Same for Base {
+impl Same for BaseType {
     ghost same = { SameBase };
 
-    fn is_same(&self, other: &Base) -> bool {
+    fn is_same(&self, other: &BaseType) -> bool {
         match (self, other) {
-            (Base::Int, Base::Int) => true,
-            (Base::Float, Base::Float) => true,
-            (Base::Bool, Base::Bool) => true,
-            (Base::Str, Base::Str) => true,
-            (Base::Named(one), Base::Named(other)) => one.is_same(other),
+            (BaseType::Int, BaseType::Int) => true,
+            (BaseType::Float, BaseType::Float) => true,
+            (BaseType::Bool, BaseType::Bool) => true,
+            (BaseType::Str, BaseType::Str) => true,
+            (BaseType::Named(one), BaseType::Named(other)) => one.is_same(other),
             _ => false,
         }
     }
@@ -196,16 +196,16 @@ impl Same for Ask {
     }
 }
 
-impl Same for Guard {
-    ghost same = { SameGuard };
+impl Same for Condition {
+    ghost same = { SameCondition };
 
-    fn is_same(&self, other: &Guard) -> bool {
+    fn is_same(&self, other: &Condition) -> bool {
         match (self, other) {
-            (Guard::Truth(one), Guard::Truth(other)) => one.is_same(other),
-            (Guard::Equal(one, second), Guard::Equal(other, other_second)) => {
+            (Condition::Truth(one), Condition::Truth(other)) => one.is_same(other),
+            (Condition::Equal(one, second), Condition::Equal(other, other_second)) => {
                 one.is_same(other) && second.is_same(other_second)
             }
-            (Guard::NotEqual(one, second), Guard::NotEqual(other, other_second)) => {
+            (Condition::NotEqual(one, second), Condition::NotEqual(other, other_second)) => {
                 one.is_same(other) && second.is_same(other_second)
             }
             _ => false,
@@ -224,19 +224,19 @@ fn same_stmt(one: &Stmt, other: &Stmt) -> bool
         (Stmt::Ask(one), Stmt::Ask(other)) => one.is_same(other),
         (
             Stmt::If {
-                guard,
+                condition,
                 then,
                 otherwise,
                 ..
             },
             Stmt::If {
-                guard: other_guard,
+                condition: other_condition,
                 then: other_then,
                 otherwise: other_otherwise,
                 ..
             },
         ) => {
-            guard.is_same(other_guard)
+            condition.is_same(other_condition)
                 && same_block(then, other_then)
                 && both_same_blocks(otherwise, other_otherwise)
         }
@@ -263,7 +263,7 @@ fn same_stmt(one: &Stmt, other: &Stmt) -> bool
 }
 
 #[cycle(same)]
-fn both_same_blocks(one: &Option<Block>, other: &Option<Block>) -> bool
+fn both_same_blocks(one: &Option<StmtBlock>, other: &Option<StmtBlock>) -> bool
     ensures { IsTrue result ↔ BothSame SameBlock one.now other.now }
 {
     match (one, other) {
@@ -289,16 +289,16 @@ fn same_stmts(one: &[Stmt], other: &[Stmt]) -> bool
 }
 
 #[cycle(same)]
-fn same_block(one: &Block, other: &Block) -> bool
+fn same_block(one: &StmtBlock, other: &StmtBlock) -> bool
     ensures { IsTrue result ↔ SameBlock one.now other.now }
 {
     same_stmts(one.stmts.as_slice(), other.stmts.as_slice())
 }
 
-impl Same for Block {
+impl Same for StmtBlock {
     ghost same = { SameBlock };
 
-    fn is_same(&self, other: &Block) -> bool {
+    fn is_same(&self, other: &StmtBlock) -> bool {
         same_block(self, other)
     }
 }
@@ -311,13 +311,13 @@ impl Same for Typed {
     }
 }
 
-impl Same for Part {
+impl Same for PredicatePart {
     ghost same = { SamePart };
 
-    fn is_same(&self, other: &Part) -> bool {
+    fn is_same(&self, other: &PredicatePart) -> bool {
         match (self, other) {
-            (Part::Parameter(one), Part::Parameter(other)) => one.is_same(other),
-            (Part::Constraint(one), Part::Constraint(other)) => one.is_same(other),
+            (PredicatePart::Parameter(one), PredicatePart::Parameter(other)) => one.is_same(other),
+            (PredicatePart::Constraint(one), PredicatePart::Constraint(other)) => one.is_same(other),
             _ => false,
         }
     }

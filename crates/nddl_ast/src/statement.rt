@@ -30,7 +30,7 @@ pub struct Ask {
 
 /// What an `if` tests.
 #[derive(Drop)]
-pub enum Guard {
+pub enum Condition {
     /// That it is true.
     Truth(Expr),
     /// `==`
@@ -49,28 +49,28 @@ pub enum Stmt {
     /// `if`, with the block behind it and perhaps one behind `else`.
     If {
         at: u32,
-        guard: Guard,
-        then: Block,
-        otherwise: Option<Block>,
+        condition: Condition,
+        then: StmtBlock,
+        otherwise: Option<StmtBlock>,
     },
     /// `foreach (variable in class)`, with its block.
     Foreach {
         at: u32,
         variable: Name,
         class: Name,
-        body: Block,
+        body: StmtBlock,
     },
 }
 
 /// Statements between braces, at the place of `{`. An `if` behind an `else` is a block that has this one statement, at its place.
 #[derive(Drop)]
 #[cycle(block)]
-pub struct Block {
+pub struct StmtBlock {
     pub at: u32,
     pub stmts: Vec<Stmt>,
 }
 
-impl Model for Block {
+impl Model for StmtBlock {
     ghost use Rattle.nddl_ast.specs.Tree.{Braces};
 
     ghost Value = { Braces };

@@ -1,10 +1,10 @@
 //! What no clause says: that names get memory. And trees that differ in one place each, or in places alone.
 
 use super::declaration::{Decl, Member, Typed};
-use super::expression::{Base, Bounds, Constant, Expr, Literal, Type};
+use super::expression::{BaseType, Bounds, Constant, Expr, Literal, Type};
 use super::name::{Name, Path};
 use super::same::Same;
-use super::statement::{Ask, Block, Call, Guard, Stmt};
+use super::statement::{Ask, StmtBlock, Call, Condition, Stmt};
 use eu_name::sequence::Sequence;
 use eu_name::text::Text;
 use std::alloc::{AllocError, Global};
@@ -41,10 +41,10 @@ fn call(alloc: Global, name: &str, value: i32, at: u32) -> Result<Stmt, AllocErr
     }))
 }
 
-fn block(alloc: Global, stmt: Stmt, at: u32) -> Result<Block, AllocError> {
+fn block(alloc: Global, stmt: Stmt, at: u32) -> Result<StmtBlock, AllocError> {
     let mut stmts = Vec::new(alloc);
     stmts.push(stmt)?;
-    Ok(Block { at, stmts })
+    Ok(StmtBlock { at, stmts })
 }
 
 // A rule `N::P`, all of it at one place: `if (x) { any(path.Q q); } else { foreach (o in N) { name(value); } }`
@@ -62,7 +62,7 @@ fn rule(alloc: Global, path: &str, name: &str, value: i32, at: u32) -> Result<De
     };
     let choice = Stmt::If {
         at,
-        guard: Guard::Truth(Expr::Path(path_to(alloc, "x", at)?)),
+        condition: Condition::Truth(Expr::Path(path_to(alloc, "x", at)?)),
         then: block(alloc, ask, at)?,
         otherwise: Some(block(alloc, each, at)?),
     };
@@ -78,7 +78,7 @@ fn class(alloc: Global, name: &str, parent: Option<Name>, at: u32) -> Result<Dec
     let field = Member::Field(Typed {
         declared: Type {
             at,
-            base: Base::Int,
+            base: BaseType::Int,
             bounds: Bounds::All,
         },
         name: named(alloc, "k", at)?,

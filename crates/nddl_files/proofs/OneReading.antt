@@ -14,7 +14,7 @@ use Rattle.nddl_lexer.specs.Reading as lexing
 use Rattle.nddl_lexer.specs.Reading.{Lexes, IsFault, IsLexemeOf, AreLexemesOf, bytes_of}
 use Rattle.nddl_lexer.proofs.Outcomes as lexed
 use Rattle.nddl_lexer.proofs.Laws.{lie_in_order}
-use Rattle.nddl_reading.specs.Symbols.{Symbol}
+use Rattle.nddl_reading.specs.Symbols.{PlainSymbol}
 use Rattle.nddl_reading.specs.Readers.{Outcome, got, stuck, deep, next_place}
 use Rattle.nddl_parser.specs.declared.parse.ParseFault.{ParseFault}
 use Rattle.nddl_parser.specs.declared.parse.ParseFault.TheVariants as parser
@@ -92,21 +92,21 @@ some_parts kinds.Number bytes spelled range = (bytes, range.0, refl, range.1)
 some_parts kinds.Decimal bytes spelled range = (bytes, range.0, refl, range.1)
 some_parts kind bytes spelled range = (bytes, pos 0, refl, refl)
 
-some_symbol : (bytes : List ℕ) (lexeme : Lexeme) → IsLexemeOf bytes lexeme → (symbol : Symbol) × IsSymbolOf bytes lexeme symbol
+some_symbol : (bytes : List ℕ) (lexeme : Lexeme) → IsLexemeOf bytes lexeme → (symbol : PlainSymbol) × IsSymbolOf bytes lexeme symbol
 some_symbol bytes lexeme is =
     let (kept, value, keeps, has) = some_parts lexeme.kind (bytes_of bytes lexeme) is.spelled is.in_range in (
       record { sort = sort_of lexeme.kind (bytes_of bytes lexeme); bytes = kept; value = value; at = lexeme.at },
       record { sort = refl; bytes = keeps; value = has; at = refl },
     )
 
-some_symbols : (bytes : List ℕ) (from : ℕ) (lexemes : List Lexeme) → AreLexemesOf bytes from lexemes → (symbols : List Symbol) × AreSymbols bytes lexemes symbols
+some_symbols : (bytes : List ℕ) (from : ℕ) (lexemes : List Lexeme) → AreLexemesOf bytes from lexemes → (symbols : List PlainSymbol) × AreSymbols bytes lexemes symbols
 some_symbols bytes from [] are = ([], tt)
 some_symbols bytes from (lexeme ∷ lexemes) are =
     let first = some_symbol bytes lexeme are.1 in
     let more = some_symbols bytes (lexeme.at + lexeme.len) lexemes are.2 in
     (first.0 ∷ more.0, (first.1, more.1))
 
-outcome_of : (end : ℕ) (symbols : List Symbol) (found : Outcome (List Decl)) → productions.text most_nested symbols ≡ found → (outcome : Result (List Decl) ParseFault) × parsing.IsOutcome end symbols outcome
+outcome_of : (end : ℕ) (symbols : List PlainSymbol) (found : Outcome (List Decl)) → productions.text most_nested symbols ≡ found → (outcome : Result (List Decl) ParseFault) × parsing.IsOutcome end symbols outcome
 outcome_of end symbols (got tree []) is = (Ok tree, whole_tree end symbols [] tree is refl)
 outcome_of end symbols (got tree (symbol ∷ rest)) is = (Err (parser.Syntax (next_place end (symbol ∷ rest))), more_left end symbols (symbol ∷ rest) rest symbol tree is refl)
 outcome_of end symbols (stuck rest) is = (Err (parser.Syntax (next_place end rest)), stuck_there end symbols rest is)

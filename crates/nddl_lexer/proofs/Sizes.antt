@@ -12,7 +12,7 @@ use Rattle.std.proofs.lemmas.Str.Parse.{digits_value-take-le}
 use Rattle.nddl_lexer.specs.declared.kinds.LexKind.{LexKind}
 use Rattle.nddl_lexer.specs.declared.kinds.LexKind.TheVariants.{Word, Number, Decimal, Str, Include, BraceOpen, BraceClose, ParenOpen, ParenClose, BracketOpen, BracketClose, Semicolon, Comma, Point, Assign, Equal, NotEqual, DoubleColon}
 use Rattle.nddl_lexer.specs.Bytes.{AllPassing, AreDigits, unsigned}
-use Rattle.nddl_lexer.specs.Spelling.{AreParts, IsNumber, IsDecimal, IsPiece, with_sign, thousandths_of, SpellsNumber, SpellsDecimal, IsValue, IsInRange}
+use Rattle.nddl_lexer.specs.Spelling.{AreParts, IsNumber, IsDecimal, IsPiece, with_sign, thousandths_of, SpellsNumber, SpellsDecimal, IsNumberInRange, IsInRange}
 use Rattle.nddl_lexer.specs.Scan.{digits_len}
 use Rattle.nddl_lexer.proofs.Prefixes.{passing_is}
 use Rattle.nddl_lexer.proofs.Shapes.{infinity_no_amount}
@@ -90,29 +90,29 @@ fraction_small fraction digits short above =
 
 -- ---- what is in range
 
-pub size_in_range : (bytes : List ℕ) (size : ℕ) → size ≤ 1000000 → IsValue (with_sign bytes size)
+pub size_in_range : (bytes : List ℕ) (size : ℕ) → size ≤ 1000000 → IsNumberInRange (with_sign bytes size)
 size_in_range [] size small = (omega (arith, ints), omega (arith, ints))
 size_in_range (byte ∷ bytes) size small = elim (cases_Bool (eqb byte 45)) [
-  | inl minus ↦ subst IsValue (sym (cond-true _ (neg_ℤ (pos size)) (pos size) minus)) (omega (arith, ints), omega (arith, ints))
-  | inr other ↦ subst IsValue (sym (cond-false _ (neg_ℤ (pos size)) (pos size) other)) (omega (arith, ints), omega (arith, ints))
+  | inl minus ↦ subst IsNumberInRange (sym (cond-true _ (neg_ℤ (pos size)) (pos size) minus)) (omega (arith, ints), omega (arith, ints))
+  | inr other ↦ subst IsNumberInRange (sym (cond-false _ (neg_ℤ (pos size)) (pos size) other)) (omega (arith, ints), omega (arith, ints))
 ]
 
-pub range_size : (bytes : List ℕ) (size : ℕ) → IsValue (with_sign bytes size) → size ≤ 1000000
+pub range_size : (bytes : List ℕ) (size : ℕ) → IsNumberInRange (with_sign bytes size) → size ≤ 1000000
 range_size [] size value = omega (arith, ints, value.0, value.1)
 range_size (byte ∷ bytes) size value = elim (cases_Bool (eqb byte 45)) [
-  | inl minus ↦ (let at : IsValue (neg_ℤ (pos size)) = subst IsValue (cond-true _ (neg_ℤ (pos size)) (pos size) minus) value in omega (arith, ints, at.0, at.1))
-  | inr other ↦ (let at : IsValue (pos size) = subst IsValue (cond-false _ (neg_ℤ (pos size)) (pos size) other) value in omega (arith, ints, at.0, at.1))
+  | inl minus ↦ (let at : IsNumberInRange (neg_ℤ (pos size)) = subst IsNumberInRange (cond-true _ (neg_ℤ (pos size)) (pos size) minus) value in omega (arith, ints, at.0, at.1))
+  | inr other ↦ (let at : IsNumberInRange (pos size) = subst IsNumberInRange (cond-false _ (neg_ℤ (pos size)) (pos size) other) value in omega (arith, ints, at.0, at.1))
 ]
 
 pub decimal_outside : (bytes whole fraction : List ℕ)
     → ((one other : List ℕ) → AreParts (unsigned bytes) one other → (one ≡ whole) × (other ≡ fraction)) → (AreDigits whole → AreDigits fraction → length fraction ≤ 3 → 1000000 < thousandths_of whole fraction)
-    → (value : ℤ) → SpellsDecimal bytes value → IsValue value → ⊥
+    → (value : ℤ) → SpellsDecimal bytes value → IsNumberInRange value → ⊥
 decimal_outside bytes whole fraction are above value spells is_value =
     let once = are spells.whole spells.fraction spells.parts in
     let same : thousandths_of spells.whole spells.fraction ≡ thousandths_of whole fraction =
     ap (λ (xs : List ℕ). thousandths_of xs spells.fraction) once.0 ∙ ap (thousandths_of whole) once.1 in
     let too_much = above (subst AreDigits once.0 spells.parts.1) (subst AreDigits once.1 spells.parts.2) (omega (arith, spells.short, ap length once.1)) in
-    omega (arith, too_much, range_size bytes (thousandths_of spells.whole spells.fraction) (subst IsValue spells.value is_value), same)
+    omega (arith, too_much, range_size bytes (thousandths_of spells.whole spells.fraction) (subst IsNumberInRange spells.value is_value), same)
 
 -- ---- a number is in range or not
 
@@ -123,8 +123,8 @@ number_cases bytes (inl digits) = elim (cases_lt 1000000 (digits_value 10 (unsig
   | inr within ↦ inl (with_sign bytes (digits_value 10 (unsigned bytes)), inl (digits, refl), size_in_range bytes _ within)
 ]
   where
-    outside : (value : ℤ) → SpellsNumber bytes value → IsValue value → 1000000 < digits_value 10 (unsigned bytes) → ⊥
-    outside value (inl spells) is_value above = omega (arith, above, range_size bytes _ (subst IsValue spells.1 is_value))
+    outside : (value : ℤ) → SpellsNumber bytes value → IsNumberInRange value → 1000000 < digits_value 10 (unsigned bytes) → ⊥
+    outside value (inl spells) is_value above = omega (arith, above, range_size bytes _ (subst IsNumberInRange spells.1 is_value))
     outside value (inr spells) is_value above = infinity_no_amount (Some Number) (unsigned bytes) spells.0 (inl (digits, refl))
 
 decimal_once : (bytes : List ℕ) (decimal : IsDecimal bytes) → (one other : List ℕ) → AreParts (unsigned bytes) one other → (one ≡ decimal.whole) × (other ≡ decimal.fraction)

@@ -99,11 +99,11 @@ pub record SpellsDecimal (bytes : List ℕ) (thousandths : ℤ) : Type 0 where
   pub value : thousandths ≡ with_sign bytes (thousandths_of whole fraction)
 
 -- from -1,000,000 to 1,000,000: whole numbers, and for decimals thousandths
-abbrev pub IsValue : ℤ → Type 0
-IsValue value = (negsuc 999999 ≤ℤ value) × (value ≤ℤ pos 1000000)
+abbrev pub IsNumberInRange : ℤ → Type 0
+IsNumberInRange value = (negsuc 999999 ≤ℤ value) × (value ≤ℤ pos 1000000)
 
 -- where the bytes are a number or a decimal, its value is one that the language has
 abbrev pub IsInRange : Option LexKind → List ℕ → Type 0
-IsInRange (Some Number) bytes = (value : ℤ) × SpellsNumber bytes value × IsValue value
-IsInRange (Some Decimal) bytes = (thousandths : ℤ) × SpellsDecimal bytes thousandths × IsValue thousandths
+IsInRange (Some Number) bytes = (value : ℤ) × SpellsNumber bytes value × IsNumberInRange value
+IsInRange (Some Decimal) bytes = (thousandths : ℤ) × SpellsDecimal bytes thousandths × IsNumberInRange thousandths
 IsInRange kind bytes = Unit {0}

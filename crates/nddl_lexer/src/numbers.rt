@@ -3,7 +3,7 @@
 ghost use Rattle.std.specs.Prelude.{◌≡◌, ◌<◌, ◌≤◌, ◌+◌, ◌-◌, ◌*◌, ◌^◌, ◌++◌, ◌∷◌, ℕ, ℤ, List, MatchOption, IfSome, length};
 ghost use Rattle.std.specs.Str.Parse.{digits_value};
 ghost use Rattle.nddl_lexer.specs.Bytes.{AreDigits, unsigned};
-ghost use Rattle.nddl_lexer.specs.Spelling.{AreParts, IsValue, SpellsDecimal, SpellsNumber, thousandths_of, with_sign};
+ghost use Rattle.nddl_lexer.specs.Spelling.{AreParts, IsNumberInRange, SpellsDecimal, SpellsNumber, thousandths_of, with_sign};
 
 use super::fronts::digits_len;
 use eu_name::word;
@@ -63,8 +63,8 @@ fn with_sign(bytes: &[u8], size: u32) -> i32
 /// The value of a number. None where the bytes are none, and where it is out of range.
 pub fn number_value(bytes: &[u8]) -> Option<i32>
     ensures { MatchOption result
-        ((value : ℤ) → SpellsNumber bytes.now value → IsValue value → ⊥)
-        (λ value. SpellsNumber bytes.now value × IsValue value) }
+        ((value : ℤ) → SpellsNumber bytes.now value → IsNumberInRange value → ⊥)
+        (λ value. SpellsNumber bytes.now value × IsNumberInRange value) }
 {
     let digits = unsigned(bytes);
     if word::is_infinity(digits) {
@@ -123,8 +123,8 @@ fn thousandths(whole: &[u8], fraction: &[u8]) -> Option<u32>
 /// after its point.
 pub fn decimal_value(bytes: &[u8]) -> Option<i32>
     ensures { MatchOption result
-        ((value : ℤ) → SpellsDecimal bytes.now value → IsValue value → ⊥)
-        (λ value. SpellsDecimal bytes.now value × IsValue value) }
+        ((value : ℤ) → SpellsDecimal bytes.now value → IsNumberInRange value → ⊥)
+        (λ value. SpellsDecimal bytes.now value × IsNumberInRange value) }
 {
     let (whole, fraction) = parts(unsigned(bytes))?;
     let size = thousandths(whole, fraction)?;

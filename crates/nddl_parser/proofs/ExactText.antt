@@ -3,7 +3,7 @@ use Rattle.std.proofs.Common.{◌≡◌, ℕ, Bool, true, Option, Some, None, �
 use Rattle.nddl_reading.specs.declared.sort.Sort.{Sort}
 use Rattle.nddl_reading.specs.declared.sort.Sort.TheVariants as sorts
 use Rattle.nddl_reading.specs.Sorts.{same}
-use Rattle.nddl_reading.specs.Symbols.{Symbol}
+use Rattle.nddl_reading.specs.Symbols.{PlainSymbol}
 use Rattle.nddl_reading.specs.Readers.{is}
 use Rattle.nddl_reading.specs.Exact.{◌·◌, IsPlaced, IsMark, AreMany, AreSeparated, BeginsWith, IsExact}
 use Rattle.nddl_reading.proofs.Sequence.{Paired}
@@ -18,7 +18,7 @@ use Rattle.nddl_ast.specs.declared.declaration.Decl.TheVariants as decls
 use Rattle.nddl_ast.specs.Tree.{Braces}
 use Rattle.nddl_statements.specs.declared.statements.SimpleStmt.{SimpleStmt}
 use Rattle.nddl_statements.specs.declared.statements.SimpleStmt.TheVariants as plains
-use Rattle.nddl_statements.specs.Grammar.{IsName, IsType, IsVariable, IsBlock}
+use Rattle.nddl_statements.specs.Grammar.{IsWrittenName, IsType, IsVariable, IsBlock}
 use Rattle.nddl_parser.specs.Grammar.{IsMember, IsFile, IsParent, IsDecl, IsText, deep_decl, deep_text}
 use Rattle.nddl_parser.specs.Productions.{begins_member, file, include, enumeration, typedef, parent, class_body, class_after, class, rule_after, decl_of, decl_after, decl_named, decl, begins_decl, text}
 use Rattle.nddl_statements.proofs.Flat.{Starts, front_starts, flat, refuses, apart, ◌>>◌, closed}
@@ -30,7 +30,7 @@ use Rattle.nddl_parser.proofs.ExactDeclarations.{member_exact, member_begins}
 
 -- ---- includes, enums, typedefs
 
-abbrev IsFileAt : List ℕ × ℕ → List Symbol → Type 0
+abbrev IsFileAt : List ℕ × ℕ → List PlainSymbol → Type 0
 IsFileAt both = IsFile both.0 both.1
 
 file_exact : IsExact IsFileAt no_blocks no_more file
@@ -40,7 +40,7 @@ file_exact = mapped_exact IsFileAt no_blocks (λ symbol. (symbol.bytes, symbol.a
     (λ both word h. (h.symbol, (λ i. (h.bytes i, h.placed i)), (h.only, h.sorted)))
     (λ symbol. refl)
 
-abbrev IncludeParts : ℕ × ((List ℕ × ℕ) × Unit {0}) → List Symbol → Type 0
+abbrev IncludeParts : ℕ × ((List ℕ × ℕ) × Unit {0}) → List PlainSymbol → Type 0
 IncludeParts = Paired (IsPlaced sorts.Include) (Paired IsFileAt (May sorts.Semicolon))
 
 abbrev include_of : ℕ × ((List ℕ × ℕ) × Unit {0}) → Decl
@@ -50,8 +50,8 @@ include_exact : (left : ℕ) → IsExact (Image include_of IncludeParts) (deep_d
 unfolding include
 include_exact left = image_exact (deep_decl left) include_of (place_exact sorts.Include >> file_exact >> may_mark_exact sorts.Semicolon) (λ p. refl)
 
-abbrev EnumParts : ℕ × (Name × (ℕ × (List Name × (Unit {0} × Unit {0})))) → List Symbol → Type 0
-EnumParts = Paired (IsPlaced sorts.Enum) (Paired IsName (Paired (IsPlaced sorts.BraceOpen) (Paired (AreSeparated sorts.Comma IsName) (Paired (MarkOf sorts.BraceClose) (May sorts.Semicolon)))))
+abbrev EnumParts : ℕ × (Name × (ℕ × (List Name × (Unit {0} × Unit {0})))) → List PlainSymbol → Type 0
+EnumParts = Paired (IsPlaced sorts.Enum) (Paired IsWrittenName (Paired (IsPlaced sorts.BraceOpen) (Paired (AreSeparated sorts.Comma IsWrittenName) (Paired (MarkOf sorts.BraceClose) (May sorts.Semicolon)))))
 
 abbrev enum_of : ℕ × (Name × (ℕ × (List Name × (Unit {0} × Unit {0})))) → Decl
 enum_of p = decls.Enum p.0 p.1.0 p.1.1.0 p.1.1.1.0
@@ -64,8 +64,8 @@ enum_exact left = image_exact (deep_decl left) enum_of
     (pair_begins (May sorts.Semicolon) (refuses (wider (is sorts.Comma) no_more)) (mark_begins sorts.BraceClose (refuses (wider (is sorts.Comma) no_more)) refl)))
     (λ p. refl)
 
-abbrev TypedefParts : ℕ × (types.Type × (Name × Unit {0})) → List Symbol → Type 0
-TypedefParts = Paired (IsPlaced sorts.Typedef) (Paired IsType (Paired IsName (MarkOf sorts.Semicolon)))
+abbrev TypedefParts : ℕ × (types.Type × (Name × Unit {0})) → List PlainSymbol → Type 0
+TypedefParts = Paired (IsPlaced sorts.Typedef) (Paired IsType (Paired IsWrittenName (MarkOf sorts.Semicolon)))
 
 abbrev typedef_of : ℕ × (types.Type × (Name × Unit {0})) → Decl
 typedef_of p = decls.Typedef p.0 p.1.0 p.1.1.0
@@ -77,14 +77,14 @@ typedef_exact left = image_exact (deep_decl left) typedef_of
 
 -- ---- classes
 
-abbrev Parent : Option Name → List Symbol → Type 0
-Parent o word = Image Some (λ n. IsMark sorts.Extends · IsName n) o word ⊎ EmptyFor None o word
+abbrev Parent : Option Name → List PlainSymbol → Type 0
+Parent o word = Image Some (λ n. IsMark sorts.Extends · IsWrittenName n) o word ⊎ EmptyFor None o word
 
-parent_to : (o : Option Name) (word : List Symbol) → Parent o word → IsParent o word
+parent_to : (o : Option Name) (word : List PlainSymbol) → Parent o word → IsParent o word
 parent_to o word (inl (n, eq, h)) = subst (λ (o : Option Name). IsParent o word) (sym eq) h
 parent_to o word (inr (eq, h)) = subst (λ (o : Option Name). IsParent o word) (sym eq) h
 
-parent_from : (o : Option Name) (word : List Symbol) → IsParent o word → Parent o word
+parent_from : (o : Option Name) (word : List PlainSymbol) → IsParent o word → Parent o word
 parent_from None word h = inr (refl, h)
 parent_from (Some n) word h = inl (n, refl, h)
 
@@ -92,11 +92,11 @@ parent_exact : IsExact IsParent no_blocks (is sorts.Extends) parent
 unfolding parent same refuses
 parent_exact = relabelled_exact IsParent no_blocks
     (choice_exact (is sorts.Extends) (widened_exact (is sorts.Extends) (image_exact no_blocks Some (after_exact sorts.Extends name_exact) (λ x. refl)) (λ sort out. refl)) (nothing_exact None no_blocks (is sorts.Extends) refl)
-    (image_begins Some (is sorts.Extends) (after_begins IsName sorts.Extends (is sorts.Extends) refl))
+    (image_begins Some (is sorts.Extends) (after_begins IsWrittenName sorts.Extends (is sorts.Extends) refl))
     (λ y word after h out. aside_empty None (is sorts.Extends) y word after h out))
     parent_to parent_from (λ x. refl)
 
-abbrev BodyParts : Option Name × (Unit {0} × (List Member × (Unit {0} × Unit {0}))) → List Symbol → Type 0
+abbrev BodyParts : Option Name × (Unit {0} × (List Member × (Unit {0} × Unit {0}))) → List PlainSymbol → Type 0
 BodyParts = Paired IsParent (Paired (MarkOf sorts.BraceOpen) (Paired (AreMany IsMember) (Paired (MarkOf sorts.BraceClose) (May sorts.Semicolon))))
 
 abbrev class_with : ℕ → Name → Option Name × (Unit {0} × (List Member × (Unit {0} × Unit {0}))) → Decl
@@ -113,17 +113,17 @@ class_body_exact left at name = image_exact (deep_decl left) (class_with at name
     (λ p. refl)
 
 -- `extends` or `{`
-body_begins : (test : Sort → Bool) → test sorts.Extends ≡ true → test sorts.BraceOpen ≡ true → (o : Option Name) (R : List Symbol → Type 0) (word : List Symbol) → (IsParent o · IsMark sorts.BraceOpen · R) word → Starts test word
+body_begins : (test : Sort → Bool) → test sorts.Extends ≡ true → test sorts.BraceOpen ≡ true → (o : Option Name) (R : List PlainSymbol → Type 0) (word : List PlainSymbol) → (IsParent o · IsMark sorts.BraceOpen · R) word → Starts test word
 body_begins test e b None R word h =
-    let back : word ≡ h.1 = h.2 ∙ ap (λ (l : List Symbol). l ++ h.1) h.3 in
+    let back : word ≡ h.1 = h.2 ∙ ap (λ (l : List PlainSymbol). l ++ h.1) h.3 in
     let head = front_starts test (IsMark sorts.BraceOpen) R (mark_begins sorts.BraceOpen test b tt) h.1 h.4 in
     (head.0, head.1, back ∙ head.2, head.3)
-body_begins test e b (Some n) R word h = front_starts test (IsParent (Some n)) _ (λ front g. front_starts test (IsMark sorts.Extends) (IsName n) (mark_begins sorts.Extends test e tt) front g) word h
+body_begins test e b (Some n) R word h = front_starts test (IsParent (Some n)) _ (λ front g. front_starts test (IsMark sorts.Extends) (IsWrittenName n) (mark_begins sorts.Extends test e tt) front g) word h
 
 abbrev forward_with : ℕ → Name → Unit {0} → Decl
 forward_with at name nil = decls.Forward at name
 
-abbrev ClassAfter : ℕ → Name → Decl → List Symbol → Type 0
+abbrev ClassAfter : ℕ → Name → Decl → List PlainSymbol → Type 0
 ClassAfter at name y w = Image (forward_with at name) (MarkOf sorts.Semicolon) y w ⊎ Image (class_with at name) BodyParts y w
 
 class_after_exact : (left at : ℕ) (name : Name) → IsExact (ClassAfter at name) (deep_decl left) (is sorts.Semicolon) (class_after at name)
@@ -133,19 +133,19 @@ class_after_exact left at name = choice_exact (is sorts.Semicolon)
     (image_begins (forward_with at name) (is sorts.Semicolon) (mark_begins sorts.Semicolon (is sorts.Semicolon) refl))
     (apart (Image (class_with at name) BodyParts) (is sorts.Semicolon) (is sorts.Semicolon) (λ y word h. body_begins (refuses (is sorts.Semicolon)) refl refl h.0.0 _ word h.2))
 
-abbrev Classes : Decl → List Symbol → Type 0
-Classes = Bound (IsPlaced sorts.Class) (λ at. Bound IsName (ClassAfter at))
+abbrev Classes : Decl → List PlainSymbol → Type 0
+Classes = Bound (IsPlaced sorts.Class) (λ at. Bound IsWrittenName (ClassAfter at))
 
 class_exact : (left : ℕ) → IsExact Classes (deep_decl left) (is sorts.Semicolon) class
 unfolding class
-class_exact left = bound_exact (λ at. Bound IsName (ClassAfter at)) (deep_decl left) (is sorts.Semicolon) _ (place_exact sorts.Class)
+class_exact left = bound_exact (λ at. Bound IsWrittenName (ClassAfter at)) (deep_decl left) (is sorts.Semicolon) _ (place_exact sorts.Class)
     (λ at. bound_exact (ClassAfter at) (deep_decl left) (is sorts.Semicolon) (class_after at) name_exact (class_after_exact left at) (λ name. follows_none (ClassAfter at name) (is sorts.Semicolon)))
-    (λ at. follows_none (Bound IsName (ClassAfter at)) (is sorts.Semicolon))
+    (λ at. follows_none (Bound IsWrittenName (ClassAfter at)) (is sorts.Semicolon))
 
 -- ---- behind a name
 
-abbrev RuleParts : Unit {0} × (Name × Braces) → List Symbol → Type 0
-RuleParts = Paired (MarkOf sorts.DoubleColon) (Paired IsName IsBlock)
+abbrev RuleParts : Unit {0} × (Name × Braces) → List PlainSymbol → Type 0
+RuleParts = Paired (MarkOf sorts.DoubleColon) (Paired IsWrittenName IsBlock)
 
 abbrev rule_with : Name → Unit {0} × (Name × Braces) → Decl
 rule_with first p = decls.Rule first p.1.0 p.1.1
@@ -159,38 +159,38 @@ plain_flat left (plains.Variable v) = refl
 plain_flat left (plains.Call c) = refl
 plain_flat left (plains.Ask a) = refl
 
-abbrev DeclAfter : Name → Decl → List Symbol → Type 0
+abbrev DeclAfter : Name → Decl → List PlainSymbol → Type 0
 DeclAfter first y w = Image (rule_with first) RuleParts y w ⊎ Image decl_of (PlainAfter first) y w
 
 decl_after_exact : (left : ℕ) (first : Name) → IsExact (DeclAfter first) (deep_decl left) no_more (decl_after left first)
 unfolding decl_after same refuses
 decl_after_exact left first = choice_exact (is sorts.DoubleColon) (rule_after_exact left first) (image_exact (deep_decl left) decl_of (plain_after_exact first) (plain_flat left))
-    (image_begins (rule_with first) (is sorts.DoubleColon) (pair_begins (Paired IsName IsBlock) (is sorts.DoubleColon) (mark_begins sorts.DoubleColon (is sorts.DoubleColon) refl)))
+    (image_begins (rule_with first) (is sorts.DoubleColon) (pair_begins (Paired IsWrittenName IsBlock) (is sorts.DoubleColon) (mark_begins sorts.DoubleColon (is sorts.DoubleColon) refl)))
     (apart (Image decl_of (PlainAfter first)) (is sorts.DoubleColon) no_more (image_begins decl_of (refuses (is sorts.DoubleColon)) (plain_after_begins (refuses (is sorts.DoubleColon)) refl refl refl refl refl first)))
 
 -- ---- declarations
 
-abbrev NamedDecls : Decl → List Symbol → Type 0
-NamedDecls y word = Bound IsName DeclAfter y word ⊎ Beside (is sorts.Name) (Image decls.Variable IsVariable) y word
+abbrev NamedDecls : Decl → List PlainSymbol → Type 0
+NamedDecls y word = Bound IsWrittenName DeclAfter y word ⊎ Beside (is sorts.Name) (Image decls.Variable IsVariable) y word
 
-abbrev FromClass : Decl → List Symbol → Type 0
+abbrev FromClass : Decl → List PlainSymbol → Type 0
 FromClass y word = Classes y word ⊎ NamedDecls y word
 
-abbrev FromTypedef : Decl → List Symbol → Type 0
+abbrev FromTypedef : Decl → List PlainSymbol → Type 0
 FromTypedef y word = Image typedef_of TypedefParts y word ⊎ FromClass y word
 
-abbrev FromEnum : Decl → List Symbol → Type 0
+abbrev FromEnum : Decl → List PlainSymbol → Type 0
 FromEnum y word = Image enum_of EnumParts y word ⊎ FromTypedef y word
 
-abbrev Decls : Decl → List Symbol → Type 0
+abbrev Decls : Decl → List PlainSymbol → Type 0
 Decls y word = Image include_of IncludeParts y word ⊎ FromEnum y word
 
-plain_decl : (y : SimpleStmt) (word : List Symbol) → IsPlain y word → IsDecl (decl_of y) word
+plain_decl : (y : SimpleStmt) (word : List PlainSymbol) → IsPlain y word → IsDecl (decl_of y) word
 plain_decl (plains.Variable v) word h = h
 plain_decl (plains.Call c) word h = h
 plain_decl (plains.Ask a) word h = h
 
-decls_to : (y : Decl) (word : List Symbol) → Decls y word → IsDecl y word
+decls_to : (y : Decl) (word : List PlainSymbol) → Decls y word → IsDecl y word
 decls_to y word (inl (p, eq, h)) = subst (λ (z : Decl). IsDecl z word) (sym eq) h
 decls_to y word (inr (inl (p, eq, h))) = subst (λ (z : Decl). IsDecl z word) (sym eq) h
 decls_to y word (inr (inr (inl (p, eq, h)))) = subst (λ (z : Decl). IsDecl z word) (sym eq) h
@@ -204,13 +204,13 @@ decls_to y word (inr (inr (inr (inr (inl (first, h)))))) = elim h.4 as (λ f. Is
 ]
 decls_to y word (inr (inr (inr (inr (inr h))))) = subst (λ (z : Decl). IsDecl z word) (sym h.0.1) h.0.2
 
-plain_named_decl : (y : SimpleStmt) (word : List Symbol) → IsPlain y word → NamedDecls (decl_of y) word
+plain_named_decl : (y : SimpleStmt) (word : List PlainSymbol) → IsPlain y word → NamedDecls (decl_of y) word
 plain_named_decl y word h = elim (plain_from y word h) as (λ f. NamedDecls (decl_of y) word) [
   | inl g ↦ inl (g.0, (g.1.0, g.1.1, g.1.2, g.1.3, inr (y, refl, g.1.4)))
   | inr g ↦ inr ((g.0.0, ap decl_of g.0.1, g.0.2), g.1)
 ]
 
-decls_from : (y : Decl) (word : List Symbol) → IsDecl y word → Decls y word
+decls_from : (y : Decl) (word : List PlainSymbol) → IsDecl y word → Decls y word
 decls_from (decls.Include at file file_at) word h = inl ((at, ((file, file_at), tt)), refl, h)
 decls_from (decls.Enum at name members_at list) word h = inr (inl ((at, (name, (members_at, (list, (tt, tt))))), refl, h))
 decls_from (decls.Typedef at declared name) word h = inr (inr (inl ((at, (declared, (name, tt))), refl, h)))
@@ -226,7 +226,7 @@ named_decls_begin test i f b s n y word (inl h) = bound_begins DeclAfter test (n
 named_decls_begin test i f b s n y word (inr h) = variable_begins test i f b s n h.0.0 word h.0.2
 
 classes_begin : (test : Sort → Bool) → test sorts.Class ≡ true → BeginsWith Classes test
-classes_begin test holds = bound_begins (λ at. Bound IsName (ClassAfter at)) test (place_begins sorts.Class test holds)
+classes_begin test holds = bound_begins (λ at. Bound IsWrittenName (ClassAfter at)) test (place_begins sorts.Class test holds)
 
 typedefs_begin : (test : Sort → Bool) → test sorts.Typedef ≡ true → BeginsWith (Image typedef_of TypedefParts) test
 typedefs_begin test holds = image_begins typedef_of test (pair_begins _ test (place_begins sorts.Typedef test holds))

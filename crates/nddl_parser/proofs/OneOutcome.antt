@@ -4,9 +4,9 @@ use Rattle.nddl_lexer.specs.declared.kinds.Lexeme.{Lexeme}
 use Rattle.nddl_lexer.specs.Reading.{AreLexemesOf}
 use Rattle.nddl_lexer.proofs.Laws.{lie_in_order}
 use Rattle.nddl_reading.specs.declared.sort.Sort.TheVariants as sorts
-use Rattle.nddl_reading.specs.Symbols.{Symbol}
+use Rattle.nddl_reading.specs.Symbols.{PlainSymbol}
 use Rattle.nddl_reading.specs.Readers.{Outcome, got, stuck, deep, next_place, is}
-use Rattle.nddl_reading.specs.Exact.{Agrees, Answers, earlier}
+use Rattle.nddl_reading.specs.Exact.{Agrees, FindsExactly, earlier}
 use Rattle.nddl_reading.proofs.Lists.{append_none, regroup}
 use Rattle.nddl_reading.proofs.Many.{wider}
 use Rattle.nddl_ast.specs.declared.declaration.Decl.{Decl}
@@ -22,7 +22,7 @@ use Rattle.nddl_parser.specs.Productions.{text, begins_decl}
 use Rattle.nddl_parser.proofs.SymbolsOnce.{symbols_once}
 use Rattle.nddl_parser.proofs.ExactText.{text_exact}
 
-agrees_self : (symbols used rest : List Symbol) → symbols ≡ used ++ rest → Agrees symbols used rest
+agrees_self : (symbols used rest : List PlainSymbol) → symbols ≡ used ++ rest → Agrees symbols used rest
 agrees_self symbols used [] split = split ∙ append_none used
 agrees_self symbols used (c ∷ rest) split = (rest, split)
 
@@ -30,46 +30,46 @@ none_is_some : {at : ℕ} {o : Option ℕ} → o ≡ None → o ≡ Some at → 
 none_is_some p q = let e = sym p ∙ q in cc
 
 -- two trees of the same symbols are one, unless a block is nested too deep in both
-same_tree : (left : ℕ) (symbols : List Symbol) (one other : List Decl) → IsText one symbols → deep_text left one ≡ None → IsText other symbols
-    → (o : Outcome (List Decl)) → Answers IsText (deep_text left) (wider begins_decl (is sorts.Semicolon)) symbols o → one ≡ other
+same_tree : (left : ℕ) (symbols : List PlainSymbol) (one other : List Decl) → IsText one symbols → deep_text left one ≡ None → IsText other symbols
+    → (o : Outcome (List Decl)) → FindsExactly IsText (deep_text left) (wider begins_decl (is sorts.Semicolon)) symbols o → one ≡ other
 same_tree left symbols one other h shallow g (got x rest) a =
     let split = agrees_self symbols a.used rest a.split in
-    let again = subst (λ (l : List Symbol). Agrees l a.used rest) (sym (append_none symbols)) split in
+    let again = subst (λ (l : List PlainSymbol). Agrees l a.used rest) (sym (append_none symbols)) split in
     (a.only one symbols [] h refl again).0 ∙ sym (a.only other symbols [] g refl again).0
 same_tree left symbols one other h shallow g (stuck rest) a =
-    absurd (a.none one symbols [] h refl (subst (λ (l : List Symbol). Agrees l a.used rest) (sym (append_none symbols)) (agrees_self symbols a.used rest a.split)))
+    absurd (a.none one symbols [] h refl (subst (λ (l : List PlainSymbol). Agrees l a.used rest) (sym (append_none symbols)) (agrees_self symbols a.used rest a.split)))
 same_tree left symbols one other h shallow g (deep rest) a =
-    absurd (none_is_some shallow (a.all one symbols [] h refl (subst (λ (l : List Symbol). Agrees l a.used rest) (sym (append_none symbols)) (agrees_self symbols a.used rest a.split))))
+    absurd (none_is_some shallow (a.all one symbols [] h refl (subst (λ (l : List PlainSymbol). Agrees l a.used rest) (sym (append_none symbols)) (agrees_self symbols a.used rest a.split))))
 
-tree_once : (left : ℕ) (symbols : List Symbol) (one other : List Decl) → IsText one symbols → deep_text left one ≡ None → IsText other symbols → one ≡ other
+tree_once : (left : ℕ) (symbols : List PlainSymbol) (one other : List Decl) → IsText one symbols → deep_text left one ≡ None → IsText other symbols → one ≡ other
 tree_once left symbols one other h shallow g = same_tree left symbols one other h shallow g (text left symbols) ((text_exact left).answers symbols)
 
 -- two ways to split a list: at one place, or at an earlier and a later one
-data Meet (one left other right : List Symbol) : Type 0 where
+data Meet (one left other right : List PlainSymbol) : Type 0 where
   alike : one ≡ other → left ≡ right → Meet one left other right
-  before : (c : Symbol) (between : List Symbol) → other ≡ one ++ c ∷ between → left ≡ c ∷ (between ++ right) → Meet one left other right
-  behind : (c : Symbol) (between : List Symbol) → one ≡ other ++ c ∷ between → right ≡ c ∷ (between ++ left) → Meet one left other right
+  before : (c : PlainSymbol) (between : List PlainSymbol) → other ≡ one ++ c ∷ between → left ≡ c ∷ (between ++ right) → Meet one left other right
+  behind : (c : PlainSymbol) (between : List PlainSymbol) → one ≡ other ++ c ∷ between → right ≡ c ∷ (between ++ left) → Meet one left other right
 
-meet_more : (d : Symbol) (one left other right : List Symbol) → Meet one left other right → Meet (d ∷ one) left (d ∷ other) right
-meet_more d one left other right (alike p q) = alike (ap (λ (l : List Symbol). d ∷ l) p) q
-meet_more d one left other right (before c between p q) = before c between (ap (λ (l : List Symbol). d ∷ l) p) q
-meet_more d one left other right (behind c between p q) = behind c between (ap (λ (l : List Symbol). d ∷ l) p) q
+meet_more : (d : PlainSymbol) (one left other right : List PlainSymbol) → Meet one left other right → Meet (d ∷ one) left (d ∷ other) right
+meet_more d one left other right (alike p q) = alike (ap (λ (l : List PlainSymbol). d ∷ l) p) q
+meet_more d one left other right (before c between p q) = before c between (ap (λ (l : List PlainSymbol). d ∷ l) p) q
+meet_more d one left other right (behind c between p q) = behind c between (ap (λ (l : List PlainSymbol). d ∷ l) p) q
 
-meet : (one left other right : List Symbol) → one ++ left ≡ other ++ right → Meet one left other right
+meet : (one left other right : List PlainSymbol) → one ++ left ≡ other ++ right → Meet one left other right
 meet [] left [] right same = alike refl same
 meet [] left (c ∷ other) right same = before c other refl same
 meet (c ∷ one) left [] right same = behind c one refl (sym same)
 meet (c ∷ one) left (d ∷ other) right same =
     let head : c ≡ d = cc in
     let rest : one ++ left ≡ other ++ right = cc in
-    subst (λ (e : Symbol). Meet (c ∷ one) left (e ∷ other) right) head (meet_more c one left other right (meet one left other right rest))
+    subst (λ (e : PlainSymbol). Meet (c ∷ one) left (e ∷ other) right) head (meet_more c one left other right (meet one left other right rest))
 
 -- what begins past a split agrees with it
-past : (one : List Symbol) (c : Symbol) (between left right other after : List Symbol) → other ≡ one ++ c ∷ between → left ≡ c ∷ (between ++ right) → Agrees (other ++ after) one left
+past : (one : List PlainSymbol) (c : PlainSymbol) (between left right other after : List PlainSymbol) → other ≡ one ++ c ∷ between → left ≡ c ∷ (between ++ right) → Agrees (other ++ after) one left
 past one c between left right other after is begins =
-    subst (Agrees (other ++ after) one) (sym begins) (between ++ after, ap (λ (l : List Symbol). l ++ after) is ∙ regroup one (c ∷ between) after)
+    subst (Agrees (other ++ after) one) (sym begins) (between ++ after, ap (λ (l : List PlainSymbol). l ++ after) is ∙ regroup one (c ∷ between) after)
 
-syntax_once : (end : ℕ) (symbols : List Symbol) (p q : ℕ) → IsSyntax end symbols p → IsSyntax end symbols q → p ≡ q
+syntax_once : (end : ℕ) (symbols : List PlainSymbol) (p q : ℕ) → IsSyntax end symbols p → IsSyntax end symbols q → p ≡ q
 syntax_once end symbols p q one other = by (meet one.before one.rest other.before other.rest (sym one.split ∙ other.split)) where
   by : Meet one.before one.rest other.before other.rest → p ≡ q
   by (alike b r) = one.at ∙ (ap (next_place end) r ∙ sym other.at)
@@ -78,19 +78,19 @@ syntax_once end symbols p q one other = by (meet one.before one.rest other.befor
 
 -- ---- places rise
 
-abbrev AreRising : ℕ → List Symbol → Type 0
+abbrev AreRising : ℕ → List PlainSymbol → Type 0
 AreRising end [] = Unit {0}
 AreRising end (c ∷ rest) = (c.at < next_place end rest) × AreRising end rest
 
-rise_behind : (end : ℕ) (front rest : List Symbol) → AreRising end (front ++ rest) → AreRising end rest
+rise_behind : (end : ℕ) (front rest : List PlainSymbol) → AreRising end (front ++ rest) → AreRising end rest
 rise_behind end [] rest rise = rise
 rise_behind end (c ∷ front) rest rise = rise_behind end front rest rise.1
 
-rise_to : (end : ℕ) (c : Symbol) (between rest : List Symbol) → AreRising end (c ∷ (between ++ rest)) → c.at < next_place end rest
+rise_to : (end : ℕ) (c : PlainSymbol) (between rest : List PlainSymbol) → AreRising end (c ∷ (between ++ rest)) → c.at < next_place end rest
 rise_to end c [] rest rise = rise.0
 rise_to end c (d ∷ between) rest rise = let later = rise_to end d between rest rise.1 in let first : c.at < d.at = rise.0 in omega arith
 
-rising : (text : List ℕ) (from : ℕ) (lexemes : List Lexeme) (symbols : List Symbol) → AreLexemesOf text from lexemes → AreSymbols text lexemes symbols → AreRising (length text) symbols
+rising : (text : List ℕ) (from : ℕ) (lexemes : List Lexeme) (symbols : List PlainSymbol) → AreLexemesOf text from lexemes → AreSymbols text lexemes symbols → AreRising (length text) symbols
 rising text from [] [] are is = tt
 rising text from [] (c ∷ symbols) are is = absurd is
 rising text from (l ∷ lexemes) [] are is = absurd is
@@ -103,50 +103,50 @@ rising text from (l ∷ k ∷ lexemes) (c ∷ d ∷ symbols) are is =
 too_late : (place at : ℕ) (o : Option ℕ) → IsNotBefore place o → o ≡ Some at → at < place → ⊥
 too_late place at o h is early = let later : IsNotBefore place (Some at) = subst (IsNotBefore place) is h in omega (arith, later)
 
-syntax_or_deep : (end : ℕ) (symbols : List Symbol) (p q : ℕ) → AreRising end symbols → IsSyntax end symbols p → IsTooDeep symbols q → ⊥
+syntax_or_deep : (end : ℕ) (symbols : List PlainSymbol) (p q : ℕ) → AreRising end symbols → IsSyntax end symbols p → IsTooDeep symbols q → ⊥
 syntax_or_deep end symbols p q rise one other = by (meet one.before one.rest other.before (other.symbol ∷ other.rest) (sym one.split ∙ other.split)) where
   by : Meet one.before one.rest other.before (other.symbol ∷ other.rest) → ⊥
   by (alike b r) = one.none other.tree (other.before ++ other.symbol ∷ other.after) other.derived
-      (subst (Agrees (other.before ++ other.symbol ∷ other.after) one.before) (sym r) (other.after, ap (λ (l : List Symbol). l ++ other.symbol ∷ other.after) (sym b)))
+      (subst (Agrees (other.before ++ other.symbol ∷ other.after) one.before) (sym r) (other.after, ap (λ (l : List PlainSymbol). l ++ other.symbol ∷ other.after) (sym b)))
   by (before c between b r) =
       one.none other.tree (other.before ++ other.symbol ∷ other.after) other.derived (past one.before c between one.rest (other.symbol ∷ other.rest) other.before (other.symbol ∷ other.after) b r)
   by (behind c between b r) =
       let head : other.symbol ≡ c = cc in
       let whole : one.before ++ one.begun.after ≡ other.before ++ other.symbol ∷ (between ++ one.begun.after) =
-      ap (λ (l : List Symbol). l ++ one.begun.after) b ∙ (regroup other.before (c ∷ between) one.begun.after ∙ ap (λ (x : Symbol). other.before ++ x ∷ (between ++ one.begun.after)) (sym head)) in
+      ap (λ (l : List PlainSymbol). l ++ one.begun.after) b ∙ (regroup other.before (c ∷ between) one.begun.after ∙ ap (λ (x : PlainSymbol). other.before ++ x ∷ (between ++ one.begun.after)) (sym head)) in
       let first = other.all one.begun.tree (between ++ one.begun.after) (subst (IsText one.begun.tree) whole one.begun.derived) in
-      let list : symbols ≡ other.before ++ c ∷ (between ++ one.rest) = one.split ∙ (ap (λ (l : List Symbol). l ++ one.rest) b ∙ regroup other.before (c ∷ between) one.rest) in
+      let list : symbols ≡ other.before ++ c ∷ (between ++ one.rest) = one.split ∙ (ap (λ (l : List PlainSymbol). l ++ one.rest) b ∙ regroup other.before (c ∷ between) one.rest) in
       let up = rise_to end c between one.rest (rise_behind end other.before (c ∷ (between ++ one.rest)) (subst (AreRising end) list rise)) in
-      let at : q ≡ c.at = other.at ∙ ap (λ (x : Symbol). x.at) head in
+      let at : q ≡ c.at = other.at ∙ ap (λ (x : PlainSymbol). x.at) head in
       let early : q < p = omega (arith, at, one.at, up) in
       too_late p q (deep_text most_nested one.begun.tree) one.begun.shallow first early
 
-deep_once : (symbols : List Symbol) (p q : ℕ) → IsTooDeep symbols p → IsTooDeep symbols q → p ≡ q
+deep_once : (symbols : List PlainSymbol) (p q : ℕ) → IsTooDeep symbols p → IsTooDeep symbols q → p ≡ q
 deep_once symbols p q one other = by (meet one.before (one.symbol ∷ one.rest) other.before (other.symbol ∷ other.rest) (sym one.split ∙ other.split)) where
   by : Meet one.before (one.symbol ∷ one.rest) other.before (other.symbol ∷ other.rest) → p ≡ q
-  by (alike b r) = let head : one.symbol ≡ other.symbol = cc in one.at ∙ (ap (λ (x : Symbol). x.at) head ∙ sym other.at)
+  by (alike b r) = let head : one.symbol ≡ other.symbol = cc in one.at ∙ (ap (λ (x : PlainSymbol). x.at) head ∙ sym other.at)
   by (before c between b r) =
       let head : one.symbol ≡ c = cc in
       let whole : other.before ++ other.symbol ∷ other.after ≡ one.before ++ one.symbol ∷ (between ++ other.symbol ∷ other.after) =
-      ap (λ (l : List Symbol). l ++ other.symbol ∷ other.after) b ∙ (regroup one.before (c ∷ between) (other.symbol ∷ other.after) ∙ ap (λ (x : Symbol). one.before ++ x ∷ (between ++ other.symbol ∷ other.after)) (sym head)) in
+      ap (λ (l : List PlainSymbol). l ++ other.symbol ∷ other.after) b ∙ (regroup one.before (c ∷ between) (other.symbol ∷ other.after) ∙ ap (λ (x : PlainSymbol). one.before ++ x ∷ (between ++ other.symbol ∷ other.after)) (sym head)) in
       let first = one.all other.tree (between ++ other.symbol ∷ other.after) (subst (IsText other.tree) whole other.derived) in
       let e : Some p ≡ Some q = sym first ∙ other.first in
       cc
   by (behind c between b r) =
       let head : other.symbol ≡ c = cc in
       let whole : one.before ++ one.symbol ∷ one.after ≡ other.before ++ other.symbol ∷ (between ++ one.symbol ∷ one.after) =
-      ap (λ (l : List Symbol). l ++ one.symbol ∷ one.after) b ∙ (regroup other.before (c ∷ between) (one.symbol ∷ one.after) ∙ ap (λ (x : Symbol). other.before ++ x ∷ (between ++ one.symbol ∷ one.after)) (sym head)) in
+      ap (λ (l : List PlainSymbol). l ++ one.symbol ∷ one.after) b ∙ (regroup other.before (c ∷ between) (one.symbol ∷ one.after) ∙ ap (λ (x : PlainSymbol). other.before ++ x ∷ (between ++ one.symbol ∷ one.after)) (sym head)) in
       let first = other.all one.tree (between ++ one.symbol ∷ one.after) (subst (IsText one.tree) whole one.derived) in
       let e : Some q ≡ Some p = sym first ∙ one.first in
       cc
 
-tree_or_syntax : (end : ℕ) (symbols : List Symbol) (tree : List Decl) (p : ℕ) → IsText tree symbols → IsSyntax end symbols p → ⊥
+tree_or_syntax : (end : ℕ) (symbols : List PlainSymbol) (tree : List Decl) (p : ℕ) → IsText tree symbols → IsSyntax end symbols p → ⊥
 tree_or_syntax end symbols tree p h fault = fault.none tree symbols h (agrees_self symbols fault.before fault.rest fault.split)
 
-tree_or_deep : (symbols : List Symbol) (tree : List Decl) (p : ℕ) → IsText tree symbols → deep_text most_nested tree ≡ None → IsTooDeep symbols p → ⊥
+tree_or_deep : (symbols : List PlainSymbol) (tree : List Decl) (p : ℕ) → IsText tree symbols → deep_text most_nested tree ≡ None → IsTooDeep symbols p → ⊥
 tree_or_deep symbols tree p h shallow fault = none_is_some shallow (fault.all tree fault.rest (subst (IsText tree) fault.split h))
 
-same_outcome : (end : ℕ) (symbols : List Symbol) (one other : Result (List Decl) ParseFault) → AreRising end symbols → IsOutcome end symbols one → IsOutcome end symbols other → one ≡ other
+same_outcome : (end : ℕ) (symbols : List PlainSymbol) (one other : Result (List Decl) ParseFault) → AreRising end symbols → IsOutcome end symbols one → IsOutcome end symbols other → one ≡ other
 same_outcome end symbols (Ok one) (Ok other) rise h g = ap Ok (tree_once most_nested symbols one other h.0 h.1 g.0)
 same_outcome end symbols (Ok one) (Err (Syntax q)) rise h g = absurd (tree_or_syntax end symbols one q h.0 g)
 same_outcome end symbols (Ok one) (Err (TooDeep q)) rise h g = absurd (tree_or_deep symbols one q h.0 h.1 g)
@@ -165,7 +165,7 @@ pub one_outcome : HasOneOutcome
 one_outcome bytes lexemes one other lexes h g =
     let same = symbols_once bytes lexemes g.symbols h.symbols g.read h.read in
     same_outcome (length bytes) h.symbols one other (rising bytes 0 lexemes h.symbols (lie_in_order bytes lexemes lexes) h.read) h.ends
-    (subst (λ (symbols : List Symbol). IsOutcome (length bytes) symbols other) same g.ends)
+    (subst (λ (symbols : List PlainSymbol). IsOutcome (length bytes) symbols other) same g.ends)
 
 -- ---- one tree, however deep its blocks are nested
 
@@ -178,11 +178,11 @@ statements_within Nothing left within = refl
 statements_within (Declares variable more) left within = statements_within more left (omega arith)
 statements_within (Calls call more) left within = statements_within more left (omega arith)
 statements_within (Asks ask more) left within = statements_within more left (omega arith)
-statements_within (Tests at guard then_at then more) zero within = absurd (omega arith)
-statements_within (Tests at guard then_at then more) (suc left) within =
+statements_within (Tests at condition then_at then more) zero within = absurd (omega arith)
+statements_within (Tests at condition then_at then more) (suc left) within =
     neither (deep_statements then left) (deep_statements more (suc left)) (statements_within then left (omega arith)) (statements_within more (suc left) (omega arith))
-statements_within (Chooses at guard then_at then else_at else more) zero within = absurd (omega arith)
-statements_within (Chooses at guard then_at then else_at else more) (suc left) within =
+statements_within (Chooses at condition then_at then else_at else more) zero within = absurd (omega arith)
+statements_within (Chooses at condition then_at then else_at else more) (suc left) within =
     neither (earlier (deep_statements then left) (deep_statements else left)) (deep_statements more (suc left))
     (neither (deep_statements then left) (deep_statements else left) (statements_within then left (omega arith)) (statements_within else left (omega arith)))
     (statements_within more (suc left) (omega arith))

@@ -1,9 +1,9 @@
 -- What the reader of a text finds, as the outcome of a text.
 use Rattle.std.proofs.Common.{◌≡◌, ℕ, Option, Some, None, Ok, List, [], ◌∷◌, ◌++◌, refl, sym, ap, subst, ◌∙◌, arith}
-use Rattle.nddl_reading.specs.Symbols.{Symbol}
+use Rattle.nddl_reading.specs.Symbols.{PlainSymbol}
 use Rattle.nddl_reading.specs.Readers.{Outcome, got, stuck, deep, next_place, next_sort}
 use Rattle.nddl_reading.specs.declared.sort.Sort.{Sort}
-use Rattle.nddl_reading.specs.Exact.{Agrees, IfAt, Answers}
+use Rattle.nddl_reading.specs.Exact.{Agrees, IfAt, FindsExactly}
 use Rattle.nddl_reading.proofs.Lists.{append_none, not_shorter}
 use Rattle.nddl_reading.proofs.Many.{wider}
 use Rattle.nddl_reading.specs.declared.sort.Sort.TheVariants as sorts
@@ -14,19 +14,19 @@ use Rattle.nddl_parser.specs.Derives.{IsNotBefore, IsSyntax, IsTooDeep, IsOutcom
 use Rattle.nddl_parser.specs.Productions.{text, begins_decl}
 use Rattle.nddl_parser.proofs.ExactText.{text_exact}
 
-abbrev Found : List Symbol → Outcome (List Decl) → Type 0
-Found = Answers IsText (deep_text most_nested) (wider begins_decl (is sorts.Semicolon))
+abbrev Found : List PlainSymbol → Outcome (List Decl) → Type 0
+Found = FindsExactly IsText (deep_text most_nested) (wider begins_decl (is sorts.Semicolon))
 
-found : (symbols : List Symbol) (o : Outcome (List Decl)) → text most_nested symbols ≡ o → Found symbols o
+found : (symbols : List PlainSymbol) (o : Outcome (List Decl)) → text most_nested symbols ≡ o → Found symbols o
 found symbols o is = subst (Found symbols) is ((text_exact most_nested).answers symbols)
 
-ended : (other used rest : List Symbol) → Agrees other used rest → Agrees (other ++ []) used rest
-ended other used rest same = subst (λ (l : List Symbol). Agrees l used rest) (sym (append_none other)) same
+ended : (other used rest : List PlainSymbol) → Agrees other used rest → Agrees (other ++ []) used rest
+ended other used rest same = subst (λ (l : List PlainSymbol). Agrees l used rest) (sym (append_none other)) same
 
-pub whole_tree : (end : ℕ) (symbols rest : List Symbol) (tree : List Decl) → text most_nested symbols ≡ got tree rest → rest ≡ [] → IsOutcome end symbols (Ok tree)
+pub whole_tree : (end : ℕ) (symbols rest : List PlainSymbol) (tree : List Decl) → text most_nested symbols ≡ got tree rest → rest ≡ [] → IsOutcome end symbols (Ok tree)
 whole_tree end symbols rest tree is none =
     let a = found symbols (got tree rest) is in
-    (subst (IsText tree) (sym (a.split ∙ (ap (λ (l : List Symbol). a.used ++ l) none ∙ append_none a.used))) a.derived, a.shallow)
+    (subst (IsText tree) (sym (a.split ∙ (ap (λ (l : List PlainSymbol). a.used ++ l) none ∙ append_none a.used))) a.derived, a.shallow)
 
 shallow_at : (place : ℕ) (o : Option ℕ) → IfAt o place → IsNotBefore place o
 shallow_at place None h = tt
@@ -35,7 +35,7 @@ shallow_at place (Some at) h = omega (arith, h)
 no_deep : (place : ℕ) (o : Option ℕ) → o ≡ None → IsNotBefore place o
 no_deep place o is = subst (IsNotBefore place) (sym is) tt
 
-pub more_left : (end : ℕ) (symbols rest left : List Symbol) (symbol : Symbol) (tree : List Decl) → text most_nested symbols ≡ got tree rest → rest ≡ symbol ∷ left → IsSyntax end symbols (next_place end rest)
+pub more_left : (end : ℕ) (symbols rest left : List PlainSymbol) (symbol : PlainSymbol) (tree : List Decl) → text most_nested symbols ≡ got tree rest → rest ≡ symbol ∷ left → IsSyntax end symbols (next_place end rest)
 more_left end symbols rest left symbol tree is some =
     let a = found symbols (got tree rest) is in
     record {
@@ -50,7 +50,7 @@ more_left end symbols rest left symbol tree is some =
           not_shorter a.used symbol longer.0 (sym one.1 ∙ longer.1);
     }
 
-pub stuck_there : (end : ℕ) (symbols rest : List Symbol) → text most_nested symbols ≡ stuck rest → IsSyntax end symbols (next_place end rest)
+pub stuck_there : (end : ℕ) (symbols rest : List PlainSymbol) → text most_nested symbols ≡ stuck rest → IsSyntax end symbols (next_place end rest)
 stuck_there end symbols rest is =
     let a = found symbols (stuck rest) is in
     let go = a.begun (next_place end rest) in
@@ -63,7 +63,7 @@ stuck_there end symbols rest is =
       none = λ other word derived same. a.none other word [] derived refl (ended word a.used rest same);
     }
 
-pub deep_there : (end : ℕ) (symbols rest : List Symbol) → text most_nested symbols ≡ deep rest → IsTooDeep symbols (next_place end rest)
+pub deep_there : (end : ℕ) (symbols rest : List PlainSymbol) → text most_nested symbols ≡ deep rest → IsTooDeep symbols (next_place end rest)
 deep_there end symbols rest is =
     let a = found symbols (deep rest) is in
     let go = a.begun in
@@ -72,7 +72,7 @@ deep_there end symbols rest is =
       before = a.used;
       symbol = a.symbol;
       rest = a.left;
-      split = a.split ∙ ap (λ (l : List Symbol). a.used ++ l) a.next;
+      split = a.split ∙ ap (λ (l : List PlainSymbol). a.used ++ l) a.next;
       at = place;
       after = go.0;
       tree = go.1;
@@ -86,17 +86,17 @@ deep_there end symbols rest is =
 
 -- ---- as the code comes to them
 
-pub outcome_whole : (end : ℕ) (symbols begin rest : List Symbol) (tree : List Decl) → begin ≡ symbols → text most_nested begin ≡ got tree rest → None ≡ next_sort rest → IsOutcome end symbols (Ok tree)
+pub outcome_whole : (end : ℕ) (symbols begin rest : List PlainSymbol) (tree : List Decl) → begin ≡ symbols → text most_nested begin ≡ got tree rest → None ≡ next_sort rest → IsOutcome end symbols (Ok tree)
 outcome_whole end symbols begin [] tree same is none = whole_tree end symbols [] tree (ap (text most_nested) (sym same) ∙ is) refl
 outcome_whole end symbols begin (c ∷ rest) tree same is none = absurd cc
 
-pub outcome_more : (end : ℕ) (symbols begin rest : List Symbol) (tree : List Decl) (sort : Sort) (place : ℕ) → begin ≡ symbols → text most_nested begin ≡ got tree rest → Some sort ≡ next_sort rest → place ≡ next_place end rest → IsSyntax end symbols place
+pub outcome_more : (end : ℕ) (symbols begin rest : List PlainSymbol) (tree : List Decl) (sort : Sort) (place : ℕ) → begin ≡ symbols → text most_nested begin ≡ got tree rest → Some sort ≡ next_sort rest → place ≡ next_place end rest → IsSyntax end symbols place
 outcome_more end symbols begin [] tree sort place same is some at = absurd cc
 outcome_more end symbols begin (c ∷ rest) tree sort place same is some at =
     subst (IsSyntax end symbols) (sym at) (more_left end symbols (c ∷ rest) rest c tree (ap (text most_nested) (sym same) ∙ is) refl)
 
-pub outcome_stuck : (end : ℕ) (symbols begin rest : List Symbol) (place : ℕ) → begin ≡ symbols → text most_nested begin ≡ stuck rest → place ≡ next_place end rest → IsSyntax end symbols place
+pub outcome_stuck : (end : ℕ) (symbols begin rest : List PlainSymbol) (place : ℕ) → begin ≡ symbols → text most_nested begin ≡ stuck rest → place ≡ next_place end rest → IsSyntax end symbols place
 outcome_stuck end symbols begin rest place same is at = subst (IsSyntax end symbols) (sym at) (stuck_there end symbols rest (ap (text most_nested) (sym same) ∙ is))
 
-pub outcome_deep : (end : ℕ) (symbols begin rest : List Symbol) (place : ℕ) → begin ≡ symbols → text most_nested begin ≡ deep rest → place ≡ next_place end rest → IsTooDeep symbols place
+pub outcome_deep : (end : ℕ) (symbols begin rest : List PlainSymbol) (place : ℕ) → begin ≡ symbols → text most_nested begin ≡ deep rest → place ≡ next_place end rest → IsTooDeep symbols place
 outcome_deep end symbols begin rest place same is at = subst (IsTooDeep symbols) (sym at) (deep_there end symbols rest (ap (text most_nested) (sym same) ∙ is))

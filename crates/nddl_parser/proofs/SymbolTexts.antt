@@ -13,7 +13,7 @@ use Rattle.nddl_lexer.specs.declared.kinds.Lexeme.{Lexeme}
 use Rattle.nddl_lexer.specs.Spelling.{IsSpelled}
 use Rattle.nddl_lexer.specs.Reading.{AreLexemesOf, IsLexemeOf}
 use Rattle.nddl_reading.specs.declared.sort.Sort.TheVariants as sorts
-use Rattle.nddl_reading.specs.Symbols.{Symbol}
+use Rattle.nddl_reading.specs.Symbols.{PlainSymbol}
 use Rattle.nddl_parser.specs.Symbols.{sort_of, Keeps, IsSymbolOf, AreSymbols}
 
 word_byte_small : (byte : ℕ) → is_word_byte byte ≡ true → byte < 128
@@ -52,7 +52,7 @@ lexeme_at text from [] i d are within = absurd (omega arith)
 lexeme_at text from (l ∷ lexemes) zero d are within = are.1
 lexeme_at text from (l ∷ lexemes) (suc i) d are within = lexeme_at text (l.at + l.len) lexemes i d are.2 (omega arith)
 
-pub one_more : (text : List ℕ) (lexemes : List Lexeme) (symbols : List Symbol) (l : Lexeme) (s : Symbol) → AreSymbols text lexemes symbols → IsSymbolOf text l s → AreSymbols text (lexemes ++ l ∷ []) (symbols ++ s ∷ [])
+pub one_more : (text : List ℕ) (lexemes : List Lexeme) (symbols : List PlainSymbol) (l : Lexeme) (s : PlainSymbol) → AreSymbols text lexemes symbols → IsSymbolOf text l s → AreSymbols text (lexemes ++ l ∷ []) (symbols ++ s ∷ [])
 one_more text [] [] l s are is = (is, tt)
 one_more text [] (t ∷ symbols) l s are is = absurd are
 one_more text (k ∷ lexemes) [] l s are is = absurd are

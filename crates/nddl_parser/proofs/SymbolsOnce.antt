@@ -9,7 +9,7 @@ use Rattle.nddl_lexer.specs.declared.kinds.LexKind.TheVariants as kinds
 use Rattle.nddl_lexer.specs.declared.kinds.Lexeme.{Lexeme}
 use Rattle.nddl_lexer.specs.Reading.{bytes_of}
 use Rattle.nddl_reading.specs.declared.sort.Sort.{Sort}
-use Rattle.nddl_reading.specs.Symbols.{Symbol}
+use Rattle.nddl_reading.specs.Symbols.{PlainSymbol}
 use Rattle.nddl_parser.specs.Symbols.{Keeps, HasValue, IsSymbolOf, AreSymbols}
 
 no_digits : (bytes : List ℕ) → AreDigits bytes → bytes ≡ codes "inf" → ⊥
@@ -41,21 +41,21 @@ kept_once : (kind : LexKind) (bytes one other : List ℕ) → Keeps kind bytes o
 kept_once kinds.Str bytes one other p q = inside_once one other (sym p ∙ q)
 kept_once kind bytes one other p q = p ∙ sym q
 
-abbrev symbol_with : Sort → List ℕ → ℤ → ℕ → Symbol
+abbrev symbol_with : Sort → List ℕ → ℤ → ℕ → PlainSymbol
 symbol_with sort bytes value at = record { sort = sort; bytes = bytes; value = value; at = at }
 
 symbol_same : (one other : Sort) (bytes kept : List ℕ) (value number : ℤ) (at place : ℕ) → one ≡ other → bytes ≡ kept → value ≡ number → at ≡ place
     → symbol_with one bytes value at ≡ symbol_with other kept number place
 symbol_same one other bytes kept value number at place sorts keeps values places = cc
 
-symbol_once : (text : List ℕ) (lexeme : Lexeme) (one other : Symbol) → IsSymbolOf text lexeme one → IsSymbolOf text lexeme other → one ≡ other
+symbol_once : (text : List ℕ) (lexeme : Lexeme) (one other : PlainSymbol) → IsSymbolOf text lexeme one → IsSymbolOf text lexeme other → one ≡ other
 symbol_once text lexeme one other p q = symbol_same one.sort other.sort one.bytes other.bytes one.value other.value one.at other.at
     (p.sort ∙ sym q.sort)
     (kept_once lexeme.kind (bytes_of text lexeme) one.bytes other.bytes p.bytes q.bytes)
     (value_once lexeme.kind (bytes_of text lexeme) one.value other.value p.value q.value)
     (p.at ∙ sym q.at)
 
-pub symbols_once : (text : List ℕ) (lexemes : List Lexeme) (one other : List Symbol) → AreSymbols text lexemes one → AreSymbols text lexemes other → one ≡ other
+pub symbols_once : (text : List ℕ) (lexemes : List Lexeme) (one other : List PlainSymbol) → AreSymbols text lexemes one → AreSymbols text lexemes other → one ≡ other
 symbols_once text [] [] [] p q = refl
 symbols_once text [] [] (c ∷ other) p q = absurd q
 symbols_once text [] (c ∷ one) other p q = absurd p

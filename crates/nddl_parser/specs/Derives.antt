@@ -2,7 +2,7 @@
 use Rattle.std.specs.Prelude.{◌≡◌, ℕ, ◌≤◌, Option, Some, None, Result, Ok, Err, List, ◌∷◌, ◌++◌, length}
 use Rattle.nddl_lexer.specs.declared.kinds.Lexeme.{Lexeme}
 use Rattle.nddl_lexer.specs.Reading.{Lexes}
-use Rattle.nddl_reading.specs.Symbols.{Symbol}
+use Rattle.nddl_reading.specs.Symbols.{PlainSymbol}
 use Rattle.nddl_reading.specs.Readers.{next_place}
 use Rattle.nddl_reading.specs.Exact.{Agrees}
 use Rattle.nddl_ast.specs.declared.declaration.Decl.{Decl}
@@ -13,7 +13,7 @@ use Rattle.nddl_parser.specs.Grammar.{IsText, most_nested, deep_text}
 
 -- the lexemes of the text, all of them and with their places, derive the tree
 abbrev pub Derives : List ℕ → List Lexeme → List Decl → Type 0
-Derives text lexemes tree = (symbols : List Symbol) × AreSymbols text lexemes symbols × IsText tree symbols
+Derives text lexemes tree = (symbols : List PlainSymbol) × AreSymbols text lexemes symbols × IsText tree symbols
 
 -- a place is there and not before the other, or there is none
 abbrev pub IsNotBefore : ℕ → Option ℕ → Type 0
@@ -21,36 +21,36 @@ IsNotBefore place None = Unit {0}
 IsNotBefore place (Some at) = place ≤ at
 
 -- the symbols begin a derivation: others behind them complete it. No block that is nested too deep begins before the place
-pub record BeginsBefore (place : ℕ) (symbols : List Symbol) : Type 0 where
-  pub after : List Symbol
+pub record BeginsBefore (place : ℕ) (symbols : List PlainSymbol) : Type 0 where
+  pub after : List PlainSymbol
   pub tree : List Decl
   pub derived : IsText tree (symbols ++ after)
   pub shallow : IsNotBefore place (deep_text most_nested tree)
 
 -- the symbols before the place begin a derivation, and those with the one at the place begin none; or, at the end, they make up none
-pub record IsSyntax (end : ℕ) (symbols : List Symbol) (place : ℕ) : Type 0 where
-  pub before : List Symbol
-  pub rest : List Symbol
+pub record IsSyntax (end : ℕ) (symbols : List PlainSymbol) (place : ℕ) : Type 0 where
+  pub before : List PlainSymbol
+  pub rest : List PlainSymbol
   pub split : symbols ≡ before ++ rest
   pub at : place ≡ next_place end rest
   pub begun : BeginsBefore place before
-  pub none : (tree : List Decl) (other : List Symbol) → IsText tree other → Agrees other before rest → ⊥
+  pub none : (tree : List Decl) (other : List PlainSymbol) → IsText tree other → Agrees other before rest → ⊥
 
 -- the symbols up to the one at the place begin a derivation, and in each that they begin the first block nested too deep is there
-pub record IsTooDeep (symbols : List Symbol) (place : ℕ) : Type 0 where
-  pub before : List Symbol
-  pub symbol : Symbol
-  pub rest : List Symbol
+pub record IsTooDeep (symbols : List PlainSymbol) (place : ℕ) : Type 0 where
+  pub before : List PlainSymbol
+  pub symbol : PlainSymbol
+  pub rest : List PlainSymbol
   pub split : symbols ≡ before ++ symbol ∷ rest
   pub at : place ≡ symbol.at
-  pub after : List Symbol
+  pub after : List PlainSymbol
   pub tree : List Decl
   pub derived : IsText tree (before ++ symbol ∷ after)
   pub first : deep_text most_nested tree ≡ Some place
-  pub all : (tree : List Decl) (after : List Symbol) → IsText tree (before ++ symbol ∷ after) → deep_text most_nested tree ≡ Some place
+  pub all : (tree : List Decl) (after : List PlainSymbol) → IsText tree (before ++ symbol ∷ after) → deep_text most_nested tree ≡ Some place
 
 -- what symbols that end at a place are: a tree without a block nested too deep, or a fault; want of memory is no fault of theirs
-abbrev pub IsOutcome : ℕ → List Symbol → Result (List Decl) ParseFault → Type 0
+abbrev pub IsOutcome : ℕ → List PlainSymbol → Result (List Decl) ParseFault → Type 0
 IsOutcome end symbols (Ok tree) = IsText tree symbols × (deep_text most_nested tree ≡ None)
 IsOutcome end symbols (Err (Syntax place)) = IsSyntax end symbols place
 IsOutcome end symbols (Err (TooDeep place)) = IsTooDeep symbols place
@@ -58,7 +58,7 @@ IsOutcome end symbols (Err Memory) = ⊥
 
 -- the lexemes of the text have this outcome
 pub record Parses (text : List ℕ) (lexemes : List Lexeme) (outcome : Result (List Decl) ParseFault) : Type 0 where
-  pub symbols : List Symbol
+  pub symbols : List PlainSymbol
   pub read : AreSymbols text lexemes symbols
   pub ends : IsOutcome (length text) symbols outcome
 

@@ -1,63 +1,63 @@
 -- The grammar of declarations and of a text: of which symbols each part is made. One definition a line of the grammar, places included.
 use Rattle.std.specs.Prelude.{◌≡◌, ℕ, Option, Some, None, List, [], ◌∷◌}
 use Rattle.nddl_reading.specs.declared.sort.Sort.TheVariants as sorts
-use Rattle.nddl_reading.specs.Symbols.{Symbol}
+use Rattle.nddl_reading.specs.Symbols.{PlainSymbol}
 use Rattle.nddl_reading.specs.Exact.{◌·◌, IsPlaced, IsMark, IsNothing, AreMany, AreSeparated, AreListed, MayMark, earliest}
 use Rattle.nddl_ast.specs.declared.name.Name.{Name}
-use Rattle.nddl_ast.specs.declared.declaration.Part.{Part}
-use Rattle.nddl_ast.specs.declared.declaration.Part.TheVariants as parts
+use Rattle.nddl_ast.specs.declared.declaration.PredicatePart.{PredicatePart}
+use Rattle.nddl_ast.specs.declared.declaration.PredicatePart.TheVariants as parts
 use Rattle.nddl_ast.specs.declared.declaration.Set.{Set}
 use Rattle.nddl_ast.specs.declared.declaration.Set.TheVariants as sets
 use Rattle.nddl_ast.specs.declared.declaration.Member.{Member}
 use Rattle.nddl_ast.specs.declared.declaration.Member.TheVariants as members
 use Rattle.nddl_ast.specs.declared.declaration.Decl.{Decl}
 use Rattle.nddl_ast.specs.declared.declaration.Decl.TheVariants as decls
-use Rattle.nddl_statements.specs.Grammar.{IsName, AreArguments, IsInit, IsType, IsTyped, IsVariable, IsCall, IsAsk, IsBlock, deep_block}
+use Rattle.nddl_statements.specs.Grammar.{IsWrittenName, AreArguments, IsInit, IsType, IsTyped, IsVariable, IsCall, IsAsk, IsBlock, deep_block}
 
 -- ---- declarations
 
-abbrev pub IsPart : Part → List Symbol → Type 0
+abbrev pub IsPart : PredicatePart → List PlainSymbol → Type 0
 IsPart (parts.Parameter typed) = IsTyped typed · IsMark sorts.Semicolon
 IsPart (parts.Constraint call) = IsCall call
 
-abbrev pub IsSet : Set → List Symbol → Type 0
-IsSet (sets.Field name value) = IsName name · IsMark sorts.Assign · IsInit value · IsMark sorts.Semicolon
+abbrev pub IsSet : Set → List PlainSymbol → Type 0
+IsSet (sets.Field name value) = IsWrittenName name · IsMark sorts.Assign · IsInit value · IsMark sorts.Semicolon
 IsSet (sets.Super at arguments) = IsPlaced sorts.Super at · IsMark sorts.ParenOpen · AreArguments arguments · IsMark sorts.ParenClose · IsMark sorts.Semicolon
 
-abbrev pub IsMember : Member → List Symbol → Type 0
+abbrev pub IsMember : Member → List PlainSymbol → Type 0
 IsMember (members.Field typed) = IsTyped typed · IsMark sorts.Semicolon
 IsMember (members.Predicate at name parts) =
-    IsPlaced sorts.Predicate at · IsName name · IsMark sorts.BraceOpen · AreMany IsPart parts · IsMark sorts.BraceClose · MayMark sorts.Semicolon
+    IsPlaced sorts.Predicate at · IsWrittenName name · IsMark sorts.BraceOpen · AreMany IsPart parts · IsMark sorts.BraceClose · MayMark sorts.Semicolon
 IsMember (members.Constructor name formals sets) =
-    IsName name · IsMark sorts.ParenOpen · AreListed sorts.Comma IsTyped formals · IsMark sorts.ParenClose · IsMark sorts.BraceOpen · AreMany IsSet sets · IsMark sorts.BraceClose
+    IsWrittenName name · IsMark sorts.ParenOpen · AreListed sorts.Comma IsTyped formals · IsMark sorts.ParenClose · IsMark sorts.BraceOpen · AreMany IsSet sets · IsMark sorts.BraceClose
 
 -- bytes between quotes, at the place
-pub record IsFile (file : List ℕ) (at : ℕ) (symbols : List Symbol) : Type 0 where
-  pub symbol : Symbol
+pub record IsFile (file : List ℕ) (at : ℕ) (symbols : List PlainSymbol) : Type 0 where
+  pub symbol : PlainSymbol
   pub only : symbols ≡ symbol ∷ []
   pub sorted : symbol.sort ≡ sorts.Quoted
   pub bytes : file ≡ symbol.bytes
   pub placed : at ≡ symbol.at
 
-abbrev pub IsParent : Option Name → List Symbol → Type 0
+abbrev pub IsParent : Option Name → List PlainSymbol → Type 0
 IsParent None = IsNothing
-IsParent (Some name) = IsMark sorts.Extends · IsName name
+IsParent (Some name) = IsMark sorts.Extends · IsWrittenName name
 
-abbrev pub IsDecl : Decl → List Symbol → Type 0
+abbrev pub IsDecl : Decl → List PlainSymbol → Type 0
 IsDecl (decls.Include at file file_at) = IsPlaced sorts.Include at · IsFile file file_at · MayMark sorts.Semicolon
 IsDecl (decls.Enum at name members_at members) =
-    IsPlaced sorts.Enum at · IsName name · IsPlaced sorts.BraceOpen members_at · AreSeparated sorts.Comma IsName members · IsMark sorts.BraceClose · MayMark sorts.Semicolon
-IsDecl (decls.Typedef at declared name) = IsPlaced sorts.Typedef at · IsType declared · IsName name · IsMark sorts.Semicolon
-IsDecl (decls.Forward at name) = IsPlaced sorts.Class at · IsName name · IsMark sorts.Semicolon
+    IsPlaced sorts.Enum at · IsWrittenName name · IsPlaced sorts.BraceOpen members_at · AreSeparated sorts.Comma IsWrittenName members · IsMark sorts.BraceClose · MayMark sorts.Semicolon
+IsDecl (decls.Typedef at declared name) = IsPlaced sorts.Typedef at · IsType declared · IsWrittenName name · IsMark sorts.Semicolon
+IsDecl (decls.Forward at name) = IsPlaced sorts.Class at · IsWrittenName name · IsMark sorts.Semicolon
 IsDecl (decls.Class at name parent members) =
-    IsPlaced sorts.Class at · IsName name · IsParent parent · IsMark sorts.BraceOpen · AreMany IsMember members · IsMark sorts.BraceClose · MayMark sorts.Semicolon
-IsDecl (decls.Rule class predicate body) = IsName class · IsMark sorts.DoubleColon · IsName predicate · IsBlock body
+    IsPlaced sorts.Class at · IsWrittenName name · IsParent parent · IsMark sorts.BraceOpen · AreMany IsMember members · IsMark sorts.BraceClose · MayMark sorts.Semicolon
+IsDecl (decls.Rule class predicate body) = IsWrittenName class · IsMark sorts.DoubleColon · IsWrittenName predicate · IsBlock body
 IsDecl (decls.Variable variable) = IsVariable variable
 IsDecl (decls.Call call) = IsCall call
 IsDecl (decls.Ask ask) = IsAsk ask
 
 -- a text is declarations
-abbrev pub IsText : List Decl → List Symbol → Type 0
+abbrev pub IsText : List Decl → List PlainSymbol → Type 0
 IsText = AreMany IsDecl
 
 -- ---- nesting

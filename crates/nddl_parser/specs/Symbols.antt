@@ -8,7 +8,7 @@ use Rattle.nddl_lexer.specs.Spelling.{SpellsNumber, SpellsDecimal}
 use Rattle.nddl_lexer.specs.Reading.{bytes_of}
 use Rattle.nddl_reading.specs.declared.sort.Sort.{Sort}
 use Rattle.nddl_reading.specs.declared.sort.Sort.TheVariants as sorts
-use Rattle.nddl_reading.specs.Symbols.{Symbol}
+use Rattle.nddl_reading.specs.Symbols.{PlainSymbol}
 
 -- the sort of a word, which is a name unless it is reserved
 abbrev pub value_sort : List ℕ → Sort
@@ -72,13 +72,13 @@ HasValue kinds.Decimal bytes value = SpellsDecimal bytes value
 HasValue kind bytes value = value ≡ pos 0
 
 -- the symbol that a lexeme of the text is
-pub record IsSymbolOf (text : List ℕ) (lexeme : Lexeme) (symbol : Symbol) : Type 0 where
+pub record IsSymbolOf (text : List ℕ) (lexeme : Lexeme) (symbol : PlainSymbol) : Type 0 where
   pub sort : symbol.sort ≡ sort_of lexeme.kind (bytes_of text lexeme)
   pub bytes : Keeps lexeme.kind (bytes_of text lexeme) symbol.bytes
   pub value : HasValue lexeme.kind (bytes_of text lexeme) symbol.value
   pub at : symbol.at ≡ lexeme.at
 
-abbrev pub AreSymbols : List ℕ → List Lexeme → List Symbol → Type 0
+abbrev pub AreSymbols : List ℕ → List Lexeme → List PlainSymbol → Type 0
 AreSymbols text [] [] = Unit {0}
 AreSymbols text (lexeme ∷ lexemes) (symbol ∷ symbols) = IsSymbolOf text lexeme symbol × AreSymbols text lexemes symbols
 AreSymbols text lexemes symbols = ⊥

@@ -11,7 +11,7 @@ use eu_name::sequence::Sequence;
 use nddl_ast::declaration::Decl;
 use nddl_lexer::kinds::Lexeme;
 use nddl_reading::cursor::{Cursor, Stop};
-use nddl_reading::symbol::Token;
+use nddl_reading::symbol::Symbol;
 use std::alloc::{AllocError, Global};
 
 /// Why a text has no tree, and at which byte.
@@ -36,7 +36,7 @@ impl From<AllocError> for ParseFault {
 // The tree of the symbols; at the end of them the text has this length.
 fn tree_of<'a>(
     alloc: Global,
-    symbols: &'a [Token<'a>],
+    symbols: &'a [Symbol<'a>],
     end: u32,
 ) -> Result<Sequence<Decl>, ParseFault>
     ensures tree { IfOk result (λ tree. IsOutcome end symbols.now (Ok tree)) }

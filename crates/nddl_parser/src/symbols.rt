@@ -9,7 +9,7 @@ ghost use Rattle.nddl_parser.specs.Symbols.{word_sort, statement_sort, type_sort
 use nddl_lexer::kinds::{LexKind, Lexeme};
 use nddl_lexer::numbers::{decimal_value, number_value};
 use nddl_reading::sort::Sort;
-use nddl_reading::symbol::Token;
+use nddl_reading::symbol::Symbol;
 use std::alloc::{AllocError, Global};
 
 // Whether the bytes are the word.
@@ -152,14 +152,14 @@ fn inside(bytes: &[u8]) -> &[u8]
 }
 
 // The symbol that a lexeme is.
-fn symbol_of<'a>(text: &'a [u8], lexeme: &Lexeme) -> Token<'a>
+fn symbol_of<'a>(text: &'a [u8], lexeme: &Lexeme) -> Symbol<'a>
     requires { IsLexemeOf text.now lexeme.now }
     ensures { IsSymbolOf text.now lexeme.now result }
 {
     let bytes = lexeme.bytes(text);
     let sort = sort_of(lexeme.kind, bytes);
     let value = value_of(lexeme.kind, bytes);
-    Token::new(sort, kept(lexeme.kind, bytes), value, lexeme.at)
+    Symbol::new(sort, kept(lexeme.kind, bytes), value, lexeme.at)
 }
 
 /// The symbols of the lexemes of a text, in order.
@@ -167,7 +167,7 @@ pub fn symbols_of<'a>(
     alloc: Global,
     text: &'a [u8],
     lexemes: &[Lexeme],
-) -> Result<Vec<Token<'a>>, AllocError>
+) -> Result<Vec<Symbol<'a>>, AllocError>
     requires { AreLexemesOf text.now 0 lexemes.now }
     ensures { IfOk result (λ symbols. AreSymbols text.now lexemes.now symbols.items) }
 {

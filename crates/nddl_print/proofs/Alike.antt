@@ -7,23 +7,23 @@ use Rattle.nddl_ast.specs.declared.name.Name.{Name}
 use Rattle.nddl_ast.specs.declared.expression.Expr.{Expr}
 use Rattle.nddl_ast.specs.declared.expression.Expr.TheVariants as exprs
 use Rattle.nddl_ast.specs.declared.expression.Value.TheVariants as values
-use Rattle.nddl_ast.specs.declared.expression.Base.TheVariants as bases
+use Rattle.nddl_ast.specs.declared.expression.BaseType.TheVariants as bases
 use Rattle.nddl_ast.specs.declared.expression.Bounds.TheVariants as bounds
 use Rattle.nddl_ast.specs.declared.expression.Init.{Init}
 use Rattle.nddl_ast.specs.declared.expression.Init.TheVariants as inits
-use Rattle.nddl_ast.specs.declared.statement.Guard.{Guard}
-use Rattle.nddl_ast.specs.declared.statement.Guard.TheVariants as guards
-use Rattle.nddl_ast.specs.declared.declaration.Part.TheVariants as parts
+use Rattle.nddl_ast.specs.declared.statement.Condition.{Condition}
+use Rattle.nddl_ast.specs.declared.statement.Condition.TheVariants as conditions
+use Rattle.nddl_ast.specs.declared.declaration.PredicatePart.TheVariants as parts
 use Rattle.nddl_ast.specs.declared.declaration.Set.TheVariants as sets
 use Rattle.nddl_ast.specs.declared.declaration.Member.TheVariants as members
 use Rattle.nddl_ast.specs.declared.declaration.Decl.{Decl}
 use Rattle.nddl_ast.specs.declared.declaration.Decl.TheVariants as decls
 use Rattle.nddl_ast.specs.Tree.{Nothing, Declares, Calls, Asks, Tests, Chooses, Repeats}
 use Rattle.nddl_ast.specs.Same.{AllSame, SameDecl}
-use Rattle.nddl_ast.specs.Unplaced.{unplaced_name, unplaced_path, unplaced_expr, unplaced_value, unplaced_base, unplaced_bounds, unplaced_type, unplaced_init, unplaced_variable, unplaced_call, unplaced_ask, unplaced_guard, unplaced_statements, unplaced_typed, unplaced_part, unplaced_set, unplaced_member, unplaced}
+use Rattle.nddl_ast.specs.Unplaced.{unplaced_name, unplaced_path, unplaced_expr, unplaced_value, unplaced_base, unplaced_bounds, unplaced_type, unplaced_init, unplaced_variable, unplaced_call, unplaced_ask, unplaced_condition, unplaced_statements, unplaced_typed, unplaced_part, unplaced_set, unplaced_member, unplaced}
 use Rattle.nddl_ast.proofs.Equal.{same_is_equal}
 use Rattle.nddl_print.specs.Words.{Word, line_of}
-use Rattle.nddl_print.specs.Canonical.{◌⌢◌, fixed, braced, many_words, following_words, listed_words, name_words, path_words, expr_words, value_words, argument_words, init_words, base_words, bounds_words, type_words, typed_words, start_words, variable_words, call_words, ask_words, guard_words, if_words, statements_words, part_words, set_words, member_words, parent_words, decl_words, spelling_of}
+use Rattle.nddl_print.specs.Canonical.{◌⌢◌, fixed, braced, many_words, following_words, listed_words, name_words, path_words, expr_words, value_words, argument_words, init_words, base_words, bounds_words, type_words, typed_words, start_words, variable_words, call_words, ask_words, condition_words, if_words, statements_words, part_words, set_words, member_words, parent_words, decl_words, spelling_of}
 
 -- what has the same words without its places
 abbrev Unplaces : {X : Type 0} → (X → X) → (X → List Word) → Type 0
@@ -92,13 +92,13 @@ call_unplaced call = two (path_unplaced call.path) (two (arguments_unplaced call
 ask_unplaced : Unplaces unplaced_ask ask_words
 ask_unplaced ask = two refl (two refl (two (path_unplaced ask.path) refl))
 
-guard_unplaced : Unplaces unplaced_guard guard_words
-guard_unplaced (guards.Truth expr) = expr_unplaced expr
-guard_unplaced (guards.Equal one other) = two (expr_unplaced one) (two refl (expr_unplaced other))
-guard_unplaced (guards.NotEqual one other) = two (expr_unplaced one) (two refl (expr_unplaced other))
+condition_unplaced : Unplaces unplaced_condition condition_words
+condition_unplaced (conditions.Truth expr) = expr_unplaced expr
+condition_unplaced (conditions.Equal one other) = two (expr_unplaced one) (two refl (expr_unplaced other))
+condition_unplaced (conditions.NotEqual one other) = two (expr_unplaced one) (two refl (expr_unplaced other))
 
-if_unplaced : (guard : Guard) → if_words (unplaced_guard guard) ≡ if_words guard
-if_unplaced guard = two refl (two refl (two (guard_unplaced guard) refl))
+if_unplaced : (condition : Condition) → if_words (unplaced_condition condition) ≡ if_words condition
+if_unplaced condition = two refl (two refl (two (condition_unplaced condition) refl))
 
 braced_as : {a b : List Word} → a ≡ b → braced a ≡ braced b
 braced_as p = two refl (two p refl)
@@ -108,9 +108,9 @@ statements_unplaced Nothing = refl
 statements_unplaced (Declares v more) = two (variable_unplaced v) (statements_unplaced more)
 statements_unplaced (Calls c more) = two (call_unplaced c) (statements_unplaced more)
 statements_unplaced (Asks a more) = two (ask_unplaced a) (statements_unplaced more)
-statements_unplaced (Tests at guard then_at then more) = two (two (if_unplaced guard) (braced_as (statements_unplaced then))) (statements_unplaced more)
-statements_unplaced (Chooses at guard then_at then else_at else more) =
-    two (two (if_unplaced guard) (two (braced_as (statements_unplaced then)) (two refl (braced_as (statements_unplaced else))))) (statements_unplaced more)
+statements_unplaced (Tests at condition then_at then more) = two (two (if_unplaced condition) (braced_as (statements_unplaced then))) (statements_unplaced more)
+statements_unplaced (Chooses at condition then_at then else_at else more) =
+    two (two (if_unplaced condition) (two (braced_as (statements_unplaced then)) (two refl (braced_as (statements_unplaced else))))) (statements_unplaced more)
 statements_unplaced (Repeats at name class body_at body more) = two (two refl (braced_as (statements_unplaced body))) (statements_unplaced more)
 
 part_unplaced : Unplaces unplaced_part part_words

@@ -11,7 +11,7 @@ use Rattle.std.proofs.lemmas.Int.{ints}
 use Rattle.std.proofs.lemmas.Str.{digit_value_digit}
 use Rattle.std.proofs.lemmas.Str.Parse.{IsNumeralModel, IsDigitsTest, numerals_by_value}
 use Rattle.nddl_lexer.specs.Bytes.{AllPassing, AreDigits, unsigned}
-use Rattle.nddl_lexer.specs.Spelling.{with_sign, AreParts, IsValue, SpellsNumber, SpellsDecimal, thousandths_of}
+use Rattle.nddl_lexer.specs.Spelling.{with_sign, AreParts, IsNumberInRange, SpellsNumber, SpellsDecimal, thousandths_of}
 use Rattle.nddl_lexer.proofs.Classes.{digit_not_sign}
 use Rattle.nddl_print.specs.Words.{three_digits, size_text, decimal_text}
 
@@ -52,7 +52,7 @@ plain_digits (byte ∷ digits) size are = cond-false _ _ _ (digit_not_minus byte
 
 -- ---- numbers
 
-pub spells_number : (value : ℤ) → IsValue value → SpellsNumber (signed_decimal value) value
+pub spells_number : (value : ℤ) → IsNumberInRange value → SpellsNumber (signed_decimal value) value
 spells_number (pos n) is =
     let small : n < 2 ^ 64 = omega (arith, ints, is.1) in
     let digits = decimal_digits n small in
@@ -98,7 +98,7 @@ size_parts n small = (refl, decimal_digits (n / 1000) (omega arith), three_are (
 size_unsigned : (n : ℕ) → n ≤ 1000000 → unsigned (size_text n) ≡ size_text n
 size_unsigned n small = unsigned_front (decimal (n / 1000)) (46 ∷ three_digits (n % 1000)) (decimal_digits (n / 1000) (omega arith))
 
-pub spells_decimal : (value : ℤ) → IsValue value → SpellsDecimal (decimal_text value) value
+pub spells_decimal : (value : ℤ) → IsNumberInRange value → SpellsDecimal (decimal_text value) value
 spells_decimal (pos n) is =
     let small : n ≤ 1000000 = omega (arith, ints, is.1) in
     record {

@@ -9,12 +9,12 @@ use Rattle.nddl_lexer.specs.declared.kinds.LexKind.{LexKind}
 use Rattle.nddl_lexer.specs.declared.kinds.LexKind.TheVariants as kinds
 use Rattle.nddl_lexer.specs.declared.kinds.Lexeme.{Lexeme}
 use Rattle.nddl_lexer.specs.Bytes.{AreDigits, unsigned, is_quotable, AllPassing}
-use Rattle.nddl_lexer.specs.Spelling.{IsSpelled, IsInRange, IsString, IsValue, SpellsNumber, SpellsDecimal, thousandths_of, with_sign}
+use Rattle.nddl_lexer.specs.Spelling.{IsSpelled, IsInRange, IsString, IsNumberInRange, SpellsNumber, SpellsDecimal, thousandths_of, with_sign}
 use Rattle.nddl_lexer.specs.Reading.{AreLexemesOf, bytes_of}
 use Rattle.nddl_lexer.proofs.Sizes.{parts_once}
 use Rattle.nddl_reading.specs.declared.sort.Sort.{Sort}
 use Rattle.nddl_reading.specs.declared.sort.Sort.TheVariants as sorts
-use Rattle.nddl_reading.specs.Symbols.{Symbol}
+use Rattle.nddl_reading.specs.Symbols.{PlainSymbol}
 use Rattle.nddl_parser.specs.Symbols.{word_sort, sort_of, Keeps, HasValue, AreSymbols}
 use Rattle.nddl_print.proofs.Saying.{is_fixed, IsFine, AreFine}
 
@@ -61,7 +61,7 @@ word_sorts bytes = sorts_among the_reserved bytes refl
 no_sort : (test : Sort → Bool) (sort is other : Sort) → test is ≡ true → test other ≡ false → sort ≡ is → sort ≡ other → ⊥
 no_sort test sort is other passes fails p q = let both : true ≡ false = sym passes ∙ (ap test (sym p ∙ q) ∙ fails) in cc
 
-fine_fixed : (symbol : Symbol) (sort : Sort) → is_fixed sort ≡ true → symbol.sort ≡ sort → IsFine symbol
+fine_fixed : (symbol : PlainSymbol) (sort : Sort) → is_fixed sort ≡ true → symbol.sort ≡ sort → IsFine symbol
 fine_fixed symbol sort fixed is = record {
   named = λ other. absurd (no_sort is_fixed _ sort sorts.Name fixed refl is other);
   number = λ other. absurd (no_sort is_fixed _ sort sorts.Number fixed refl is other);
@@ -93,7 +93,7 @@ fine_inside bytes kept string keeps = subst (AllPassing is_quotable) (inside_onc
 
 -- ---- symbols
 
-fine_kind : (kind : LexKind) (bytes : List ℕ) (symbol : Symbol) → IsSpelled kind bytes → IsInRange (Some kind) bytes → symbol.sort ≡ sort_of kind bytes → Keeps kind bytes symbol.bytes
+fine_kind : (kind : LexKind) (bytes : List ℕ) (symbol : PlainSymbol) → IsSpelled kind bytes → IsInRange (Some kind) bytes → symbol.sort ≡ sort_of kind bytes → Keeps kind bytes symbol.bytes
     → HasValue kind bytes symbol.value → IsFine symbol
 fine_kind kinds.Word bytes symbol spelled range sort keeps value = record {
   named = λ is. (subst IsWord (sym keeps) spelled, ap word_sort keeps ∙ (sym sort ∙ is));
@@ -103,14 +103,14 @@ fine_kind kinds.Word bytes symbol spelled range sort keeps value = record {
 }
 fine_kind kinds.Number bytes symbol spelled range sort keeps value = record {
   named = λ is. let no : sorts.Number ≡ sorts.Name = sym sort ∙ is in absurd cc;
-  number = λ is. subst IsValue (number_once bytes range.0 symbol.value range.1 value) range.2;
+  number = λ is. subst IsNumberInRange (number_once bytes range.0 symbol.value range.1 value) range.2;
   decimal = λ is. let no : sorts.Number ≡ sorts.Decimal = sym sort ∙ is in absurd cc;
   quoted = λ is. let no : sorts.Number ≡ sorts.Quoted = sym sort ∙ is in absurd cc;
 }
 fine_kind kinds.Decimal bytes symbol spelled range sort keeps value = record {
   named = λ is. let no : sorts.Decimal ≡ sorts.Name = sym sort ∙ is in absurd cc;
   number = λ is. let no : sorts.Decimal ≡ sorts.Number = sym sort ∙ is in absurd cc;
-  decimal = λ is. subst IsValue (decimal_once bytes range.0 symbol.value range.1 value) range.2;
+  decimal = λ is. subst IsNumberInRange (decimal_once bytes range.0 symbol.value range.1 value) range.2;
   quoted = λ is. let no : sorts.Decimal ≡ sorts.Quoted = sym sort ∙ is in absurd cc;
 }
 fine_kind kinds.Str bytes symbol spelled range sort keeps value = record {
@@ -134,7 +134,7 @@ fine_kind kinds.Equal bytes symbol spelled range sort keeps value = fine_fixed s
 fine_kind kinds.NotEqual bytes symbol spelled range sort keeps value = fine_fixed symbol _ refl sort
 fine_kind kinds.DoubleColon bytes symbol spelled range sort keeps value = fine_fixed symbol _ refl sort
 
-pub symbols_fine : (text : List ℕ) (from : ℕ) (lexemes : List Lexeme) (symbols : List Symbol) → AreLexemesOf text from lexemes → AreSymbols text lexemes symbols → AreFine symbols
+pub symbols_fine : (text : List ℕ) (from : ℕ) (lexemes : List Lexeme) (symbols : List PlainSymbol) → AreLexemesOf text from lexemes → AreSymbols text lexemes symbols → AreFine symbols
 symbols_fine text from [] [] lie are = tt
 symbols_fine text from [] (symbol ∷ symbols) lie are = absurd are
 symbols_fine text from (lexeme ∷ lexemes) [] lie are = absurd are

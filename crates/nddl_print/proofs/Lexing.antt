@@ -7,7 +7,7 @@ use Rattle.nddl_lexer.specs.declared.kinds.Lexeme.{Lexeme}
 use Rattle.nddl_lexer.specs.Bytes.{is_blank}
 use Rattle.nddl_lexer.specs.Reading.{Piece, piece_of, Starts, Leads, lexemes_of, bytes_of}
 use Rattle.nddl_lexer.proofs.Laws.{blanks_separate}
-use Rattle.nddl_reading.specs.Symbols.{Symbol}
+use Rattle.nddl_reading.specs.Symbols.{PlainSymbol}
 use Rattle.nddl_parser.specs.Symbols.{sort_of, Keeps, HasValue, AreSymbols}
 use Rattle.nddl_ast.specs.declared.declaration.Decl.{Decl}
 use Rattle.nddl_print.specs.Words.{Word, text_of, line_of}
@@ -26,7 +26,7 @@ IsSpread (word ∷ words) text = (blank : ℕ) × (rest : List ℕ) × (is_blank
 pub record IsReadAs (whole : List ℕ) (at : ℕ) (words : List Word) (text : List ℕ) : Type 0 where
   pub pieces : List Piece
   pub leads : Leads text pieces []
-  pub symbols : List Symbol
+  pub symbols : List PlainSymbol
   pub read : AreSymbols whole (lexemes_of at pieces) symbols
   pub say : Say words symbols
   pub spelled : map (bytes_of whole) (lexemes_of at pieces) ≡ map text_of words
@@ -45,7 +45,7 @@ reads whole before text at (word ∷ words) is place sound (blank, rest, separat
     let bytes = text_of word in
     let kind = spells.kind in
     let lexeme : Lexeme = record { kind = kind; at = at; len = length bytes } in
-    let symbol : Symbol = record { sort = sort_of kind bytes; bytes = spells.kept; value = spells.value; at = at } in
+    let symbol : PlainSymbol = record { sort = sort_of kind bytes; bytes = spells.kept; value = spells.value; at = at } in
     let behind = before ++ (bytes ++ blank ∷ []) in
     let there : whole ≡ before ++ (bytes ++ blank ∷ rest) = is ∙ ap (λ back. before ++ back) split in
     let more = reads whole behind rest ((at + length bytes) + length (blank ∷ [])) words

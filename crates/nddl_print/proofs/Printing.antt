@@ -34,8 +34,8 @@ pub first_statement : (stmt : Stmt) (more : Statements) → spaced (statements_w
 first_statement (Variable v) more = alone (variable_words v) (statements_words more)
 first_statement (Call c) more = alone (call_words c) (statements_words more)
 first_statement (Ask a) more = alone (ask_words a) (statements_words more)
-first_statement (If at guard then None) more = alone (if_words guard ⌢ braced (statements_words then.statements)) (statements_words more)
-first_statement (If at guard then (Some else)) more = alone _ (statements_words more)
+first_statement (If at condition then None) more = alone (if_words condition ⌢ braced (statements_words then.statements)) (statements_words more)
+first_statement (If at condition then (Some else)) more = alone _ (statements_words more)
 first_statement (Foreach at name class body) more = alone _ (statements_words more)
 
 -- the text of what is written between quotes

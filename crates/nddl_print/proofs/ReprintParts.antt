@@ -1,7 +1,7 @@
 -- Names, values, expressions and types, read back from their words.
 use Rattle.std.proofs.Common.{◌≡◌, ℕ, true, false, List, [], ◌∷◌, refl, sym, ap, subst}
 use Rattle.nddl_reading.specs.declared.sort.Sort.TheVariants as sorts
-use Rattle.nddl_reading.specs.Symbols.{Symbol}
+use Rattle.nddl_reading.specs.Symbols.{PlainSymbol}
 use Rattle.nddl_reading.specs.Exact.{◌·◌, IsMark}
 use Rattle.nddl_ast.specs.declared.name.Name.{Name}
 use Rattle.nddl_ast.specs.declared.expression.Constant.{Constant}
@@ -11,24 +11,24 @@ use Rattle.nddl_ast.specs.declared.expression.Expr.{Expr}
 use Rattle.nddl_ast.specs.declared.expression.Expr.TheVariants as exprs
 use Rattle.nddl_ast.specs.declared.expression.Value.{Value}
 use Rattle.nddl_ast.specs.declared.expression.Value.TheVariants as values
-use Rattle.nddl_ast.specs.declared.expression.Base.{Base}
-use Rattle.nddl_ast.specs.declared.expression.Base.TheVariants as bases
+use Rattle.nddl_ast.specs.declared.expression.BaseType.{BaseType}
+use Rattle.nddl_ast.specs.declared.expression.BaseType.TheVariants as bases
 use Rattle.nddl_ast.specs.declared.expression.Bounds.{Bounds}
 use Rattle.nddl_ast.specs.declared.expression.Bounds.TheVariants as bounds
 use Rattle.nddl_ast.specs.declared.expression.Type as types
 use Rattle.nddl_ast.specs.declared.expression.Init.TheVariants as inits
 use Rattle.nddl_ast.specs.Same.{AllSame, SameName, SamePath, SameLiteral, SameExpr, SameValue, SameBase, SameBounds, SameType, SameCreation, SameInit, SameTyped}
-use Rattle.nddl_statements.specs.Grammar.{IsName, IsPath, Writes, IsLiteral, IsExpr, IsValue, AreArguments, IsCreation, IsInit, IsBase, IsBounds, IsType, IsTyped}
+use Rattle.nddl_statements.specs.Grammar.{IsWrittenName, IsPath, Writes, IsLiteral, IsExpr, IsWrittenValue, AreArguments, IsCreation, IsInit, IsBase, IsBounds, IsType, IsTyped}
 use Rattle.nddl_print.specs.Words.{Fixed, Named, Number, Decimal}
 use Rattle.nddl_print.specs.Canonical.{name_words, path_words, constant_words, literal_words, expr_words, value_words, argument_words, creation_words, init_words, base_words, bounds_words, type_words, typed_words}
 use Rattle.nddl_print.proofs.Saying.{AreSound, AreFine, Say, one_said}
 use Rattle.nddl_print.proofs.Reprinting.{Reprints, EachReprints, mapped, both, mark, after, before, may_then, placed, after_placed, following, separated, listed}
 
 -- one symbol of symbols that can be written
-fine_one : (symbols : List Symbol) (symbol : Symbol) → symbols ≡ symbol ∷ [] → AreFine symbols → AreFine (symbol ∷ [])
+fine_one : (symbols : List PlainSymbol) (symbol : PlainSymbol) → symbols ≡ symbol ∷ [] → AreFine symbols → AreFine (symbol ∷ [])
 fine_one symbols symbol only fine = subst AreFine only fine
 
-pub name_reprints : EachReprints IsName SameName name_words
+pub name_reprints : EachReprints IsWrittenName SameName name_words
 name_reprints name = record {
   sound = λ symbols fine is.
       let named = (fine_one symbols is.symbol is.only fine).0.named is.sorted in
@@ -44,14 +44,14 @@ path_reprints path =
     (both (name_reprints path.first) (following sorts.Point refl name_reprints path.rest))
 
 -- what a symbol that is the word of a constant writes
-literal_sound : (constant : Constant) (symbol : Symbol) → AreFine (symbol ∷ []) → Writes symbol constant → AreSound (constant_words constant)
+literal_sound : (constant : Constant) (symbol : PlainSymbol) → AreFine (symbol ∷ []) → Writes symbol constant → AreSound (constant_words constant)
 literal_sound (constants.Number value) symbol fine writes = (subst (λ n. AreSound (Number n ∷ [])) (sym writes.1) (fine.0.number writes.0, tt))
 literal_sound (constants.Decimal thousandths) symbol fine writes =
     (subst (λ (t : Thousandths). AreSound (Decimal t.0 ∷ [])) (sym writes.1) (fine.0.decimal writes.0, tt))
 literal_sound (constants.Truth true) symbol fine writes = (refl, tt)
 literal_sound (constants.Truth false) symbol fine writes = (refl, tt)
 
-literal_said : (constant : Constant) (symbols : List Symbol) → Say (constant_words constant) symbols → (symbol : Symbol) × (symbols ≡ symbol ∷ []) × Writes symbol constant
+literal_said : (constant : Constant) (symbols : List PlainSymbol) → Say (constant_words constant) symbols → (symbol : PlainSymbol) × (symbols ≡ symbol ∷ []) × Writes symbol constant
 literal_said (constants.Number value) symbols say = let (symbol, only, says) = one_said (Number value) symbols say in (symbol, only, (says.0, sym says.1))
 literal_said (constants.Decimal thousandths) symbols say =
     let (symbol, only, says) = one_said (Decimal thousandths.0) symbols say in
@@ -71,7 +71,7 @@ pub expr_reprints : EachReprints IsExpr SameExpr expr_words
 expr_reprints (exprs.Path path) = mapped exprs.Path path (λ p symbols is. is) (λ symbols is. is) (λ p same. same) (path_reprints path)
 expr_reprints (exprs.Literal literal) = mapped exprs.Literal literal (λ p symbols is. is) (λ symbols is. is) (λ p same. same) (literal_reprints literal)
 
-pub value_reprints : EachReprints IsValue SameValue value_words
+pub value_reprints : EachReprints IsWrittenValue SameValue value_words
 value_reprints (values.Name name) = mapped values.Name name (λ p symbols is. is) (λ symbols is. is) (λ p same. same) (name_reprints name)
 value_reprints (values.Literal literal) = mapped values.Literal literal (λ p symbols is. is) (λ symbols is. is) (λ p same. same) (literal_reprints literal)
 
@@ -90,13 +90,13 @@ init_reprints (inits.New creation) = mapped inits.New creation (λ p symbols is.
 
 -- ---- types
 
-abbrev IsBaseAt : ℕ × Base → List Symbol → Type 0
+abbrev IsBaseAt : ℕ × BaseType → List PlainSymbol → Type 0
 IsBaseAt p = IsBase p.0 p.1
 
-abbrev SameBases : ℕ × Base → ℕ × Base → Type 0
+abbrev SameBases : ℕ × BaseType → ℕ × BaseType → Type 0
 SameBases p q = SameBase p.1 q.1
 
-base_reprints : (at : ℕ) (base : Base) → Reprints IsBaseAt SameBases (base_words base) (at, base)
+base_reprints : (at : ℕ) (base : BaseType) → Reprints IsBaseAt SameBases (base_words base) (at, base)
 base_reprints at bases.Int = mapped (λ at. (at, bases.Int)) at (λ p symbols is. is) (λ symbols is. is) (λ p same. tt) (placed sorts.Int at refl)
 base_reprints at bases.Float = mapped (λ at. (at, bases.Float)) at (λ p symbols is. is) (λ symbols is. is) (λ p same. tt) (placed sorts.Float at refl)
 base_reprints at bases.Bool = mapped (λ at. (at, bases.Bool)) at (λ p symbols is. is) (λ symbols is. is) (λ p same. tt) (placed sorts.Bool at refl)
@@ -117,7 +117,7 @@ bounds_reprint (bounds.Set at values) =
 
 pub type_reprints : EachReprints IsType SameType type_words
 type_reprints of =
-    mapped {X = (ℕ × Base) × Bounds} (λ p. record { at = p.0.0; base = p.0.1; bounds = p.1 }) ((of.at, of.base), of.bounds) (λ p symbols is. is) (λ symbols is. is) (λ p same. same)
+    mapped {X = (ℕ × BaseType) × Bounds} (λ p. record { at = p.0.0; base = p.0.1; bounds = p.1 }) ((of.at, of.base), of.bounds) (λ p symbols is. is) (λ symbols is. is) (λ p same. same)
     (both (base_reprints of.at of.base) (bounds_reprint of.bounds))
 
 pub typed_reprints : EachReprints IsTyped SameTyped typed_words

@@ -1,7 +1,7 @@
 -- Statements read back from their words.
 use Rattle.std.proofs.Common.{◌≡◌, ℕ, ◌⊎◌, inl, inr, Option, Some, None, List, refl}
 use Rattle.nddl_reading.specs.declared.sort.Sort.TheVariants as sorts
-use Rattle.nddl_reading.specs.Symbols.{Symbol}
+use Rattle.nddl_reading.specs.Symbols.{PlainSymbol}
 use Rattle.nddl_ast.specs.declared.name.Name.{Name}
 use Rattle.nddl_ast.specs.declared.name.Path.{Path}
 use Rattle.nddl_ast.specs.declared.expression.Expr.{Expr}
@@ -10,13 +10,13 @@ use Rattle.nddl_ast.specs.declared.expression.Init.{Init}
 use Rattle.nddl_ast.specs.declared.statement.Variable.{Variable}
 use Rattle.nddl_ast.specs.declared.statement.Call.{Call}
 use Rattle.nddl_ast.specs.declared.statement.Ask.{Ask}
-use Rattle.nddl_ast.specs.declared.statement.Guard.{Guard}
-use Rattle.nddl_ast.specs.declared.statement.Guard.TheVariants as guards
+use Rattle.nddl_ast.specs.declared.statement.Condition.{Condition}
+use Rattle.nddl_ast.specs.declared.statement.Condition.TheVariants as conditions
 use Rattle.nddl_ast.specs.Tree.{Statements, Nothing, Declares, Calls, Asks, Tests, Chooses, Repeats}
-use Rattle.nddl_ast.specs.Same.{BothSame, SameInit, SameGuard, SameVariable, SameCall, SameAsk, SameStatements, SameBlock}
-use Rattle.nddl_statements.specs.Grammar.{IsStart, IsVariable, IsCall, IsAsk, IsGuard, IsLoneIf, Encloses, AreStatements, IsBlock}
+use Rattle.nddl_ast.specs.Same.{BothSame, SameInit, SameCondition, SameVariable, SameCall, SameAsk, SameStatements, SameBlock}
+use Rattle.nddl_statements.specs.Grammar.{IsStart, IsVariable, IsCall, IsAsk, IsCondition, IsLoneIf, Encloses, AreStatements, IsBlock}
 use Rattle.nddl_print.specs.Words.{Word, Fixed}
-use Rattle.nddl_print.specs.Canonical.{◌⌢◌, fixed, braced, start_words, variable_words, call_words, ask_words, guard_words, expr_words, listed_words, statements_words, block_words}
+use Rattle.nddl_print.specs.Canonical.{◌⌢◌, fixed, braced, start_words, variable_words, call_words, ask_words, condition_words, expr_words, listed_words, statements_words, block_words}
 use Rattle.nddl_print.proofs.Saying.{AreSound, then_assoc, three_first, sound_then, say_then, one_said}
 use Rattle.nddl_print.proofs.Reprinting.{Reprints, EachReprints, mapped, reworded, both, mark, marks, after, before, after_placed, listed}
 use Rattle.nddl_print.proofs.ReprintParts.{name_reprints, path_reprints, expr_reprints, init_reprints, type_reprints}
@@ -45,22 +45,22 @@ ask_reprints ask =
     (both (name_reprints ask.word) (after (mark sorts.ParenOpen refl)
     (both (path_reprints ask.path) (before (name_reprints ask.label) (marks (mark sorts.ParenClose refl) (mark sorts.Semicolon refl))))))
 
-pub guard_reprints : EachReprints IsGuard SameGuard guard_words
-guard_reprints (guards.Truth expr) = mapped guards.Truth expr (λ p symbols is. is) (λ symbols is. is) (λ p same. same) (expr_reprints expr)
-guard_reprints (guards.Equal one other) =
-    mapped {X = Expr × Expr} (λ p. guards.Equal p.0 p.1) (one, other) (λ p symbols is. is) (λ symbols is. is) (λ p same. same)
+pub condition_reprints : EachReprints IsCondition SameCondition condition_words
+condition_reprints (conditions.Truth expr) = mapped conditions.Truth expr (λ p symbols is. is) (λ symbols is. is) (λ p same. same) (expr_reprints expr)
+condition_reprints (conditions.Equal one other) =
+    mapped {X = Expr × Expr} (λ p. conditions.Equal p.0 p.1) (one, other) (λ p symbols is. is) (λ symbols is. is) (λ p same. same)
     (both (expr_reprints one) (after (mark sorts.Equal refl) (expr_reprints other)))
-guard_reprints (guards.NotEqual one other) =
-    mapped {X = Expr × Expr} (λ p. guards.NotEqual p.0 p.1) (one, other) (λ p symbols is. is) (λ symbols is. is) (λ p same. same)
+condition_reprints (conditions.NotEqual one other) =
+    mapped {X = Expr × Expr} (λ p. conditions.NotEqual p.0 p.1) (one, other) (λ p symbols is. is) (λ symbols is. is) (λ p same. same)
     (both (expr_reprints one) (after (mark sorts.NotEqual refl) (expr_reprints other)))
 
 -- ---- blocks
 
 -- a block, or behind `else` one `if` without braces
-abbrev Braced : ℕ × Statements → List Symbol → Type 0
+abbrev Braced : ℕ × Statements → List PlainSymbol → Type 0
 Braced p = Encloses p.0 (AreStatements p.1)
 
-abbrev Otherwise : ℕ × Statements → List Symbol → Type 0
+abbrev Otherwise : ℕ × Statements → List PlainSymbol → Type 0
 Otherwise p symbols = Encloses p.0 (AreStatements p.1) symbols ⊎ (IsLoneIf p.0 p.1 × AreStatements p.1 symbols)
 
 abbrev SameInside : ℕ × Statements → ℕ × Statements → Type 0
@@ -74,7 +74,7 @@ braced_sound : (words : List Word) → AreSound words → AreSound (braced words
 braced_sound words sound = sound_then _ _ (refl, tt) (sound_then _ _ sound (refl, tt))
 
 -- the symbols of the statements behind `else`
-inside_of : (at : ℕ) (statements : Statements) (symbols : List Symbol) → Otherwise (at, statements) symbols → (inside : List Symbol) × AreStatements statements inside
+inside_of : (at : ℕ) (statements : Statements) (symbols : List PlainSymbol) → Otherwise (at, statements) symbols → (inside : List PlainSymbol) × AreStatements statements inside
 inside_of at statements symbols (inl (front, back, split, opens, (middle, last, halves, are, closes))) = (middle, are)
 inside_of at statements symbols (inr lone) = (symbols, lone.1)
 
@@ -104,7 +104,7 @@ otherwise_reprints at statements inside = record {
       );
 }
 
--- `if` with its guard, and what follows
+-- `if` with its condition, and what follows
 if_more : (a b c d e : List Word) → a ⌢ (b ⌢ (c ⌢ (d ⌢ e))) ≡ (a ⌢ (b ⌢ (c ⌢ d))) ⌢ e
 if_more a b c d e = simp then_assoc refl
 
@@ -119,18 +119,18 @@ statements_reprint (Calls c more) =
     mapped {X = Call × Statements} (λ p. Calls p.0 p.1) (c, more) (λ p symbols is. is) (λ symbols is. is) (λ p same. same) (both (call_reprints c) (statements_reprint more))
 statements_reprint (Asks a more) =
     mapped {X = Ask × Statements} (λ p. Asks p.0 p.1) (a, more) (λ p symbols is. is) (λ symbols is. is) (λ p same. same) (both (ask_reprints a) (statements_reprint more))
-statements_reprint (Tests at guard then_at then more) =
-    mapped {X = (ℕ × (Guard × (ℕ × Statements))) × Statements} (λ p. Tests p.0.0 p.0.1.0 p.0.1.1.0 p.0.1.1.1 p.1) ((at, (guard, (then_at, then))), more)
+statements_reprint (Tests at condition then_at then more) =
+    mapped {X = (ℕ × (Condition × (ℕ × Statements))) × Statements} (λ p. Tests p.0.0 p.0.1.0 p.0.1.1.0 p.0.1.1.1 p.1) ((at, (condition, (then_at, then))), more)
     (λ p symbols is. is) (λ symbols is. is) (λ p same. same)
     (both (reworded (if_more _ _ _ _ (braced (statements_words then)))
-    (after_placed sorts.If at refl (after (mark sorts.ParenOpen refl) (both (guard_reprints guard) (after (mark sorts.ParenClose refl) (braces_reprint then_at then (statements_reprint then)))))))
+    (after_placed sorts.If at refl (after (mark sorts.ParenOpen refl) (both (condition_reprints condition) (after (mark sorts.ParenClose refl) (braces_reprint then_at then (statements_reprint then)))))))
     (statements_reprint more))
-statements_reprint (Chooses at guard then_at then else_at else more) =
-    mapped {X = (ℕ × (Guard × ((ℕ × Statements) × (ℕ × Statements)))) × Statements}
-    (λ p. Chooses p.0.0 p.0.1.0 p.0.1.1.0.0 p.0.1.1.0.1 p.0.1.1.1.0 p.0.1.1.1.1 p.1) ((at, (guard, ((then_at, then), (else_at, else)))), more)
+statements_reprint (Chooses at condition then_at then else_at else more) =
+    mapped {X = (ℕ × (Condition × ((ℕ × Statements) × (ℕ × Statements)))) × Statements}
+    (λ p. Chooses p.0.0 p.0.1.0 p.0.1.1.0.0 p.0.1.1.0.1 p.0.1.1.1.0 p.0.1.1.1.1 p.1) ((at, (condition, ((then_at, then), (else_at, else)))), more)
     (λ p symbols is. is) (λ symbols is. is) (λ p same. ((same.0.0, same.0.1.0, same.0.1.1), same.1))
     (both (reworded (if_more _ _ _ _ (braced (statements_words then) ⌢ (fixed sorts.Else ⌢ braced (statements_words else))))
-    (after_placed sorts.If at refl (after (mark sorts.ParenOpen refl) (both (guard_reprints guard) (after (mark sorts.ParenClose refl)
+    (after_placed sorts.If at refl (after (mark sorts.ParenOpen refl) (both (condition_reprints condition) (after (mark sorts.ParenClose refl)
     (both (braces_reprint then_at then (statements_reprint then)) (after (mark sorts.Else refl) (otherwise_reprints else_at else (statements_reprint else)))))))))
     (statements_reprint more))
 statements_reprint (Repeats at name class body_at body more) =

@@ -1,14 +1,14 @@
 -- Declarations read back from their words.
 use Rattle.std.proofs.Common.{◌≡◌, ℕ, Option, Some, None, List, [], ◌∷◌, refl, sym, subst}
 use Rattle.nddl_reading.specs.declared.sort.Sort.TheVariants as sorts
-use Rattle.nddl_reading.specs.Symbols.{Symbol}
+use Rattle.nddl_reading.specs.Symbols.{PlainSymbol}
 use Rattle.nddl_ast.specs.declared.name.Name.{Name}
 use Rattle.nddl_ast.specs.declared.expression.Expr.{Expr}
 use Rattle.nddl_ast.specs.declared.expression.Type as types
 use Rattle.nddl_ast.specs.declared.expression.Init.{Init}
 use Rattle.nddl_ast.specs.declared.declaration.Typed.{Typed}
-use Rattle.nddl_ast.specs.declared.declaration.Part.{Part}
-use Rattle.nddl_ast.specs.declared.declaration.Part.TheVariants as parts
+use Rattle.nddl_ast.specs.declared.declaration.PredicatePart.{PredicatePart}
+use Rattle.nddl_ast.specs.declared.declaration.PredicatePart.TheVariants as parts
 use Rattle.nddl_ast.specs.declared.declaration.Set.{Set}
 use Rattle.nddl_ast.specs.declared.declaration.Set.TheVariants as sets
 use Rattle.nddl_ast.specs.declared.declaration.Member.{Member}
@@ -43,7 +43,7 @@ member_reprints : EachReprints IsMember SameMember member_words
 member_reprints (members.Field typed) =
     mapped members.Field typed (λ p symbols is. is) (λ symbols is. is) (λ p same. same) (before (typed_reprints typed) (mark sorts.Semicolon refl))
 member_reprints (members.Predicate at name body) =
-    mapped {X = ℕ × (Name × List Part)} (λ p. members.Predicate p.0 p.1.0 p.1.1) (at, (name, body)) (λ p symbols is. is) (λ symbols is. is) (λ p same. same)
+    mapped {X = ℕ × (Name × List PredicatePart)} (λ p. members.Predicate p.0 p.1.0 p.1.1) (at, (name, body)) (λ p symbols is. is) (λ symbols is. is) (λ p same. same)
     (after_placed sorts.Predicate at refl (both (name_reprints name)
     (after (mark sorts.BraceOpen refl) (before (many part_reprints body) (mark_may sorts.Semicolon (mark sorts.BraceClose refl))))))
 member_reprints (members.Constructor name formals body) =
@@ -53,7 +53,7 @@ member_reprints (members.Constructor name formals body) =
     (after (mark sorts.ParenOpen refl) (both (listed typed_reprints formals)
     (after (mark sorts.ParenClose refl) (after (mark sorts.BraceOpen refl) (before (many set_reprints body) (mark sorts.BraceClose refl))))))))
 
-abbrev IsFileAt : List ℕ × ℕ → List Symbol → Type 0
+abbrev IsFileAt : List ℕ × ℕ → List PlainSymbol → Type 0
 IsFileAt p = IsFile p.0 p.1
 
 abbrev SameFile : List ℕ × ℕ → List ℕ × ℕ → Type 0

@@ -2,7 +2,7 @@
 use Rattle.std.proofs.Common.{◌≡◌, ℕ, true, inr, List, [], ◌∷◌, refl, sym, subst}
 use Rattle.nddl_reading.specs.declared.sort.Sort.{Sort}
 use Rattle.nddl_reading.specs.declared.sort.Sort.TheVariants as sorts
-use Rattle.nddl_reading.specs.Symbols.{Symbol}
+use Rattle.nddl_reading.specs.Symbols.{PlainSymbol}
 use Rattle.nddl_reading.specs.Exact.{◌·◌, IsPlaced, IsMark, AreMany, AreFollowing, AreSeparated, AreListed, MayMark}
 use Rattle.nddl_reading.proofs.Lists.{append_none}
 use Rattle.nddl_ast.specs.Same.{AllSame}
@@ -11,22 +11,22 @@ use Rattle.nddl_print.specs.Canonical.{◌⌢◌, fixed, many_words, following_w
 use Rattle.nddl_print.proofs.Saying.{is_fixed, AreSound, AreFine, Say, fine_parts, sound_then, say_then, one_said}
 
 -- the words can be spelled where the value has symbols that can, and symbols that are these words are those of a value that is the same
-pub record Reprints {X : Type 0} (Is : X → List Symbol → Type 0) (Same : X → X → Type 0) (words : List Word) (x : X) : Type 0 where
-  pub sound : (symbols : List Symbol) → AreFine symbols → Is x symbols → AreSound words
-  pub again : (old symbols : List Symbol) → Is x old → Say words symbols → (y : X) × Is y symbols × Same x y
+pub record Reprints {X : Type 0} (Is : X → List PlainSymbol → Type 0) (Same : X → X → Type 0) (words : List Word) (x : X) : Type 0 where
+  pub sound : (symbols : List PlainSymbol) → AreFine symbols → Is x symbols → AreSound words
+  pub again : (old symbols : List PlainSymbol) → Is x old → Say words symbols → (y : X) × Is y symbols × Same x y
 
 -- the same of words of which no value is kept
-pub record Repeats (Is : List Symbol → Type 0) (words : List Word) : Type 0 where
+pub record Repeats (Is : List PlainSymbol → Type 0) (words : List Word) : Type 0 where
   pub sound : AreSound words
-  pub again : (symbols : List Symbol) → Say words symbols → Is symbols
+  pub again : (symbols : List PlainSymbol) → Say words symbols → Is symbols
 
-abbrev pub Pair : {X Y : Type 0} → (X → List Symbol → Type 0) → (Y → List Symbol → Type 0) → X × Y → List Symbol → Type 0
+abbrev pub Pair : {X Y : Type 0} → (X → List PlainSymbol → Type 0) → (Y → List PlainSymbol → Type 0) → X × Y → List PlainSymbol → Type 0
 Pair P Q p = P p.0 · Q p.1
 
 abbrev pub SamePair : {X Y : Type 0} → (X → X → Type 0) → (Y → Y → Type 0) → X × Y → X × Y → Type 0
 SamePair SameX SameY p q = SameX p.0 q.0 × SameY p.1 q.1
 
-pub both : {X Y : Type 0} {P : X → List Symbol → Type 0} {Q : Y → List Symbol → Type 0} {SameX : X → X → Type 0} {SameY : Y → Y → Type 0} {a b : List Word} {x : X} {y : Y}
+pub both : {X Y : Type 0} {P : X → List PlainSymbol → Type 0} {Q : Y → List PlainSymbol → Type 0} {SameX : X → X → Type 0} {SameY : Y → Y → Type 0} {a b : List Word} {x : X} {y : Y}
     → Reprints P SameX a x → Reprints Q SameY b y → Reprints (Pair P Q) (SamePair SameX SameY) (a ⌢ b) (x, y)
 both {a = a} {b = b} one other = record {
   sound = λ symbols fine is.
@@ -40,8 +40,8 @@ both {a = a} {b = b} one other = record {
 }
 
 -- a value made of another
-pub mapped : {X Y : Type 0} {P : X → List Symbol → Type 0} {Q : Y → List Symbol → Type 0} {SameX : X → X → Type 0} {SameY : Y → Y → Type 0} {words : List Word} (f : X → Y) (x : X)
-    → ((z : X) (symbols : List Symbol) → P z symbols → Q (f z) symbols) → ((symbols : List Symbol) → Q (f x) symbols → P x symbols) → ((z : X) → SameX x z → SameY (f x) (f z))
+pub mapped : {X Y : Type 0} {P : X → List PlainSymbol → Type 0} {Q : Y → List PlainSymbol → Type 0} {SameX : X → X → Type 0} {SameY : Y → Y → Type 0} {words : List Word} (f : X → Y) (x : X)
+    → ((z : X) (symbols : List PlainSymbol) → P z symbols → Q (f z) symbols) → ((symbols : List PlainSymbol) → Q (f x) symbols → P x symbols) → ((z : X) → SameX x z → SameY (f x) (f z))
     → Reprints P SameX words x → Reprints Q SameY words (f x)
 mapped f x to from same one = record {
   sound = λ symbols fine is. one.sound symbols fine (from symbols is);
@@ -49,7 +49,7 @@ mapped f x to from same one = record {
 }
 
 -- the same words in other groups
-pub reworded : {X : Type 0} {P : X → List Symbol → Type 0} {Same : X → X → Type 0} {words others : List Word} {x : X} → words ≡ others → Reprints P Same words x → Reprints P Same others x
+pub reworded : {X : Type 0} {P : X → List PlainSymbol → Type 0} {Same : X → X → Type 0} {words others : List Word} {x : X} → words ≡ others → Reprints P Same words x → Reprints P Same others x
 reworded is one = record {
   sound = λ symbols fine derived. subst AreSound is (one.sound symbols fine derived);
   again = λ old symbols derived say. one.again old symbols derived (subst (λ words. Say words symbols) (sym is) say);
@@ -61,7 +61,7 @@ mark sort is = record {
   again = λ symbols say. let (symbol, only, says) = one_said (Fixed sort) symbols say in record { symbol = symbol; only = only; sorted = says };
 }
 
-pub marks : {P Q : List Symbol → Type 0} {a b : List Word} → Repeats P a → Repeats Q b → Repeats (P · Q) (a ⌢ b)
+pub marks : {P Q : List PlainSymbol → Type 0} {a b : List Word} → Repeats P a → Repeats Q b → Repeats (P · Q) (a ⌢ b)
 marks {a = a} {b = b} one other = record {
   sound = sound_then a b one.sound other.sound;
   again = λ symbols say.
@@ -70,26 +70,26 @@ marks {a = a} {b = b} one other = record {
 }
 
 -- a mark that can be left out, left out at the end
-pub mark_may : {P : List Symbol → Type 0} {words : List Word} (sort : Sort) → Repeats P words → Repeats (P · MayMark sort) words
+pub mark_may : {P : List PlainSymbol → Type 0} {words : List Word} (sort : Sort) → Repeats P words → Repeats (P · MayMark sort) words
 mark_may sort one = record {
   sound = one.sound;
   again = λ symbols say. (symbols, [], sym (append_none symbols), one.again symbols say, inr refl);
 }
 
-pub then_may : {X : Type 0} {P : X → List Symbol → Type 0} {Same : X → X → Type 0} {words : List Word} {x : X} (sort : Sort) → Reprints P Same words x → Reprints (λ z. P z · MayMark sort) Same words x
+pub then_may : {X : Type 0} {P : X → List PlainSymbol → Type 0} {Same : X → X → Type 0} {words : List Word} {x : X} (sort : Sort) → Reprints P Same words x → Reprints (λ z. P z · MayMark sort) Same words x
 then_may sort one = record {
   sound = λ symbols fine is. one.sound is.0 (fine_parts is.0 is.1 (subst AreFine is.2 fine)).0 is.3;
   again = λ old symbols is say. let (z, is_z, same) = one.again is.0 symbols is.3 say in (z, (symbols, [], sym (append_none symbols), is_z, inr refl), same);
 }
 
 -- and left out at the front
-pub may_then : {X : Type 0} {P : X → List Symbol → Type 0} {Same : X → X → Type 0} {words : List Word} {x : X} (sort : Sort) → Reprints P Same words x → Reprints (λ z. MayMark sort · P z) Same words x
+pub may_then : {X : Type 0} {P : X → List PlainSymbol → Type 0} {Same : X → X → Type 0} {words : List Word} {x : X} (sort : Sort) → Reprints P Same words x → Reprints (λ z. MayMark sort · P z) Same words x
 may_then sort one = record {
   sound = λ symbols fine is. one.sound is.1 (fine_parts is.0 is.1 (subst AreFine is.2 fine)).1 is.4;
   again = λ old symbols is say. let (z, is_z, same) = one.again is.1 symbols is.4 say in (z, ([], symbols, refl, inr refl, is_z), same);
 }
 
-pub after : {X : Type 0} {P : List Symbol → Type 0} {Q : X → List Symbol → Type 0} {Same : X → X → Type 0} {a b : List Word} {x : X} → Repeats P a → Reprints Q Same b x → Reprints (λ z. P · Q z) Same (a ⌢ b) x
+pub after : {X : Type 0} {P : List PlainSymbol → Type 0} {Q : X → List PlainSymbol → Type 0} {Same : X → X → Type 0} {a b : List Word} {x : X} → Repeats P a → Reprints Q Same b x → Reprints (λ z. P · Q z) Same (a ⌢ b) x
 after {a = a} {b = b} one other = record {
   sound = λ symbols fine is. sound_then a b one.sound (other.sound is.1 (fine_parts is.0 is.1 (subst AreFine is.2 fine)).1 is.4);
   again = λ old symbols is say.
@@ -98,7 +98,7 @@ after {a = a} {b = b} one other = record {
       (z, (front, back, split, one.again front first, is_z), same);
 }
 
-pub before : {X : Type 0} {P : List Symbol → Type 0} {Q : X → List Symbol → Type 0} {Same : X → X → Type 0} {a b : List Word} {x : X} → Reprints Q Same a x → Repeats P b → Reprints (λ z. Q z · P) Same (a ⌢ b) x
+pub before : {X : Type 0} {P : List PlainSymbol → Type 0} {Q : X → List PlainSymbol → Type 0} {Same : X → X → Type 0} {a b : List Word} {x : X} → Reprints Q Same a x → Repeats P b → Reprints (λ z. Q z · P) Same (a ⌢ b) x
 before {a = a} {b = b} one other = record {
   sound = λ symbols fine is. sound_then a b (one.sound is.0 (fine_parts is.0 is.1 (subst AreFine is.2 fine)).0 is.3) other.sound;
   again = λ old symbols is say.
@@ -118,7 +118,7 @@ placed sort at is = record {
 }
 
 -- the same before what follows it
-pub after_placed : {X : Type 0} {Q : X → List Symbol → Type 0} {Same : X → X → Type 0} {b : List Word} {x : X} (sort : Sort) (at : ℕ) → is_fixed sort ≡ true → Reprints Q Same b x
+pub after_placed : {X : Type 0} {Q : X → List PlainSymbol → Type 0} {Same : X → X → Type 0} {b : List Word} {x : X} (sort : Sort) (at : ℕ) → is_fixed sort ≡ true → Reprints Q Same b x
     → Reprints {X = ℕ × X} (λ p. IsPlaced sort p.0 · Q p.1) (λ p q. Same p.1 q.1) (fixed sort ⌢ b) (at, x)
 after_placed {X = X} {Q = Q} {x = x} sort at is one =
     mapped {X = ℕ × X} (λ p. p) (at, x) (λ p symbols derived. derived) (λ symbols derived. derived) (λ p same. same.1) (both (placed sort at is) one)
@@ -126,24 +126,24 @@ after_placed {X = X} {Q = Q} {x = x} sort at is one =
 -- ---- lists
 
 -- lemmas for each item
-abbrev pub EachReprints : {X : Type 0} (Is : X → List Symbol → Type 0) (Same : X → X → Type 0) (words : X → List Word) → Type 0
+abbrev pub EachReprints : {X : Type 0} (Is : X → List PlainSymbol → Type 0) (Same : X → X → Type 0) (words : X → List Word) → Type 0
 EachReprints {X = X} Is Same words = (x : X) → Reprints Is Same (words x) x
 
-pub many : {X : Type 0} {Is : X → List Symbol → Type 0} {Same : X → X → Type 0} {words : X → List Word} → EachReprints Is Same words → (xs : List X) → Reprints (AreMany Is) (AllSame Same) (many_words words xs) xs
+pub many : {X : Type 0} {Is : X → List PlainSymbol → Type 0} {Same : X → X → Type 0} {words : X → List Word} → EachReprints Is Same words → (xs : List X) → Reprints (AreMany Is) (AllSame Same) (many_words words xs) xs
 many item [] = record { sound = λ symbols fine is. tt; again = λ old symbols is say. ([], say, tt) }
 many {X = X} item (x ∷ xs) = mapped {X = X × List X} (λ p. p.0 ∷ p.1) (x, xs) (λ p symbols derived. derived) (λ symbols derived. derived) (λ p same. same) (both (item x) (many item xs))
 
-pub following : {X : Type 0} {Is : X → List Symbol → Type 0} {Same : X → X → Type 0} {words : X → List Word} (sort : Sort) → is_fixed sort ≡ true → EachReprints Is Same words → (xs : List X)
+pub following : {X : Type 0} {Is : X → List PlainSymbol → Type 0} {Same : X → X → Type 0} {words : X → List Word} (sort : Sort) → is_fixed sort ≡ true → EachReprints Is Same words → (xs : List X)
     → Reprints (AreFollowing sort Is) (AllSame Same) (following_words sort words xs) xs
 following {words = words} sort is item xs = many {words = λ x. fixed sort ⌢ words x} (λ x. after (mark sort is) (item x)) xs
 
-pub separated : {X : Type 0} {Is : X → List Symbol → Type 0} {Same : X → X → Type 0} {words : X → List Word} → EachReprints Is Same words → (xs : List X)
+pub separated : {X : Type 0} {Is : X → List PlainSymbol → Type 0} {Same : X → X → Type 0} {words : X → List Word} → EachReprints Is Same words → (xs : List X)
     → Reprints (AreSeparated sorts.Comma Is) (AllSame Same) (listed_words words xs) xs
 separated item [] = record { sound = λ symbols fine is. absurd is; again = λ old symbols is say. absurd is }
 separated {X = X} item (x ∷ xs) =
     mapped {X = X × List X} (λ p. p.0 ∷ p.1) (x, xs) (λ p symbols derived. derived) (λ symbols derived. derived) (λ p same. same) (both (item x) (following sorts.Comma refl item xs))
 
-pub listed : {X : Type 0} {Is : X → List Symbol → Type 0} {Same : X → X → Type 0} {words : X → List Word} → EachReprints Is Same words → (xs : List X)
+pub listed : {X : Type 0} {Is : X → List PlainSymbol → Type 0} {Same : X → X → Type 0} {words : X → List Word} → EachReprints Is Same words → (xs : List X)
     → Reprints (AreListed sorts.Comma Is) (AllSame Same) (listed_words words xs) xs
 listed item [] = record { sound = λ symbols fine is. tt; again = λ old symbols is say. ([], say, tt) }
 listed {X = X} item (x ∷ xs) =

@@ -2,10 +2,10 @@
 use Rattle.std.proofs.Common.{◌≡◌, ℕ, Bool, true, false, List, [], ◌∷◌, ◌++◌, refl, ap, ◌∙◌}
 use Rattle.nddl_reading.specs.declared.sort.Sort.{Sort}
 use Rattle.nddl_reading.specs.declared.sort.Sort.TheVariants as sorts
-use Rattle.nddl_reading.specs.Symbols.{Symbol}
+use Rattle.nddl_reading.specs.Symbols.{PlainSymbol}
 use Rattle.eu_name.specs.Word.{IsWord}
 use Rattle.nddl_lexer.specs.Bytes.{is_quotable, AllPassing}
-use Rattle.nddl_lexer.specs.Spelling.{IsValue}
+use Rattle.nddl_lexer.specs.Spelling.{IsNumberInRange}
 use Rattle.nddl_parser.specs.Symbols.{word_sort}
 use Rattle.nddl_print.specs.Words.{Word, Fixed, Named, Number, Decimal, Quoted}
 use Rattle.nddl_print.specs.Canonical.{◌⌢◌}
@@ -25,8 +25,8 @@ IsNamed bytes = IsWord bytes × (word_sort bytes ≡ sorts.Name)
 abbrev pub IsSound : Word → Type 0
 IsSound (Fixed sort) = is_fixed sort ≡ true
 IsSound (Named bytes) = IsNamed bytes
-IsSound (Number value) = IsValue value
-IsSound (Decimal value) = IsValue value
+IsSound (Number value) = IsNumberInRange value
+IsSound (Decimal value) = IsNumberInRange value
 IsSound (Quoted bytes) = AllPassing is_quotable bytes
 
 abbrev pub AreSound : List Word → Type 0
@@ -34,29 +34,29 @@ AreSound [] = Unit {0}
 AreSound (word ∷ words) = IsSound word × AreSound words
 
 -- the symbol can be written
-pub record IsFine (symbol : Symbol) : Type 0 where
+pub record IsFine (symbol : PlainSymbol) : Type 0 where
   pub named : symbol.sort ≡ sorts.Name → IsNamed symbol.bytes
-  pub number : symbol.sort ≡ sorts.Number → IsValue symbol.value
-  pub decimal : symbol.sort ≡ sorts.Decimal → IsValue symbol.value
+  pub number : symbol.sort ≡ sorts.Number → IsNumberInRange symbol.value
+  pub decimal : symbol.sort ≡ sorts.Decimal → IsNumberInRange symbol.value
   pub quoted : symbol.sort ≡ sorts.Quoted → AllPassing is_quotable symbol.bytes
 
-abbrev pub AreFine : List Symbol → Type 0
+abbrev pub AreFine : List PlainSymbol → Type 0
 AreFine [] = Unit {0}
 AreFine (symbol ∷ symbols) = IsFine symbol × AreFine symbols
 
 -- the symbol is the word
-abbrev pub Says : Word → Symbol → Type 0
+abbrev pub Says : Word → PlainSymbol → Type 0
 Says (Fixed sort) symbol = symbol.sort ≡ sort
 Says (Named bytes) symbol = (symbol.sort ≡ sorts.Name) × (symbol.bytes ≡ bytes)
 Says (Number value) symbol = (symbol.sort ≡ sorts.Number) × (symbol.value ≡ value)
 Says (Decimal value) symbol = (symbol.sort ≡ sorts.Decimal) × (symbol.value ≡ value)
 Says (Quoted bytes) symbol = (symbol.sort ≡ sorts.Quoted) × (symbol.bytes ≡ bytes)
 
-abbrev pub Say : List Word → List Symbol → Type 0
+abbrev pub Say : List Word → List PlainSymbol → Type 0
 Say [] symbols = symbols ≡ []
-Say (word ∷ words) symbols = (symbol : Symbol) × (rest : List Symbol) × (symbols ≡ symbol ∷ rest) × Says word symbol × Say words rest
+Say (word ∷ words) symbols = (symbol : PlainSymbol) × (rest : List PlainSymbol) × (symbols ≡ symbol ∷ rest) × Says word symbol × Say words rest
 
-pub fine_parts : (front back : List Symbol) → AreFine (front ++ back) → AreFine front × AreFine back
+pub fine_parts : (front back : List PlainSymbol) → AreFine (front ++ back) → AreFine front × AreFine back
 fine_parts [] back fine = (tt, fine)
 fine_parts (symbol ∷ front) back fine = let parts = fine_parts front back fine.1 in ((fine.0, parts.0), parts.1)
 
@@ -68,13 +68,13 @@ pub sound_then : (words more : List Word) → AreSound words → AreSound more �
 unfolding ◌⌢◌
 sound_then words more first rest = sound-append words more first rest
 
-say-append : (words more : List Word) (symbols : List Symbol) → Say (words ++ more) symbols → (front : List Symbol) × (back : List Symbol) × (symbols ≡ front ++ back) × Say words front × Say more back
+say-append : (words more : List Word) (symbols : List PlainSymbol) → Say (words ++ more) symbols → (front : List PlainSymbol) × (back : List PlainSymbol) × (symbols ≡ front ++ back) × Say words front × Say more back
 say-append [] more symbols say = ([], symbols, refl, refl, say)
 say-append (word ∷ words) more symbols (symbol, rest, split, says, say) =
     let (front, back, halves, first, last) = say-append words more rest say in
     (symbol ∷ front, back, split ∙ ap (λ left. symbol ∷ left) halves, (symbol, front, refl, says, first), last)
 
-pub say_then : (words more : List Word) (symbols : List Symbol) → Say (words ⌢ more) symbols → (front : List Symbol) × (back : List Symbol) × (symbols ≡ front ++ back) × Say words front × Say more back
+pub say_then : (words more : List Word) (symbols : List PlainSymbol) → Say (words ⌢ more) symbols → (front : List PlainSymbol) × (back : List PlainSymbol) × (symbols ≡ front ++ back) × Say words front × Say more back
 unfolding ◌⌢◌
 say_then words more symbols say = say-append words more symbols say
 
@@ -88,5 +88,5 @@ pub three_first : (a b c d : List Word) → a ⌢ (b ⌢ (c ⌢ d)) ≡ (a ⌢ (
 three_first a b c d = simp then_assoc refl
 
 -- symbols that are one word are one symbol
-pub one_said : (word : Word) (symbols : List Symbol) → Say (word ∷ []) symbols → (symbol : Symbol) × (symbols ≡ symbol ∷ []) × Says word symbol
+pub one_said : (word : Word) (symbols : List PlainSymbol) → Say (word ∷ []) symbols → (symbol : PlainSymbol) × (symbols ≡ symbol ∷ []) × Says word symbol
 one_said word symbols (symbol, rest, split, says, none) = (symbol, split ∙ ap (λ left. symbol ∷ left) none, says)

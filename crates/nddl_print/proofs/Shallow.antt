@@ -22,10 +22,10 @@ shallow_statements Nothing Nothing same left none = refl
 shallow_statements (Declares v more) (Declares w others) same left none = shallow_statements more others same.1 left none
 shallow_statements (Calls c more) (Calls d others) same left none = shallow_statements more others same.1 left none
 shallow_statements (Asks a more) (Asks b others) same left none = shallow_statements more others same.1 left none
-shallow_statements (Tests at guard then_at then more) (Tests at' guard' then_at' then' others) same left none =
+shallow_statements (Tests at condition then_at then more) (Tests at' condition' then_at' then' others) same left none =
     let parts = earlier_parts _ _ none in
     earlier_none _ _ (enclosed left then_at then_at' (deep_statements then) (deep_statements then') (shallow_statements then then' same.0.1) parts.0) (shallow_statements more others same.1 left parts.1)
-shallow_statements (Chooses at guard then_at then else_at else more) (Chooses at' guard' then_at' then' else_at' else' others) same left none =
+shallow_statements (Chooses at condition then_at then else_at else more) (Chooses at' condition' then_at' then' else_at' else' others) same left none =
     let parts = earlier_parts _ _ none in
     let blocks = earlier_parts _ _ parts.0 in
     earlier_none _ _

@@ -1,7 +1,7 @@
 -- Each declaration has a word.
 use Rattle.std.proofs.Common.{◌≢◌, refl, List, [], ◌∷◌}
-use Rattle.nddl_ast.specs.declared.expression.Base.{Base}
-use Rattle.nddl_ast.specs.declared.expression.Base.TheVariants as bases
+use Rattle.nddl_ast.specs.declared.expression.BaseType.{BaseType}
+use Rattle.nddl_ast.specs.declared.expression.BaseType.TheVariants as bases
 use Rattle.nddl_ast.specs.declared.declaration.Decl.{Decl}
 use Rattle.nddl_ast.specs.declared.declaration.Decl.TheVariants as decls
 use Rattle.nddl_print.specs.Words.{Word}
@@ -15,7 +15,7 @@ unfolding ◌⌢◌
 then_some [] more some none = absurd (some refl)
 then_some (word ∷ words) more some none = cc
 
-base_some : (base : Base) → base_words base ≢ []
+base_some : (base : BaseType) → base_words base ≢ []
 base_some bases.Int = one _
 base_some bases.Float = one _
 base_some bases.Bool = one _

@@ -12,8 +12,8 @@ use Rattle.nddl_ast.specs.declared.expression.Expr.{Expr}
 use Rattle.nddl_ast.specs.declared.expression.Expr.TheVariants as exprs
 use Rattle.nddl_ast.specs.declared.expression.Value.{Value}
 use Rattle.nddl_ast.specs.declared.expression.Value.TheVariants as values
-use Rattle.nddl_ast.specs.declared.expression.Base.{Base}
-use Rattle.nddl_ast.specs.declared.expression.Base.TheVariants as bases
+use Rattle.nddl_ast.specs.declared.expression.BaseType.{BaseType}
+use Rattle.nddl_ast.specs.declared.expression.BaseType.TheVariants as bases
 use Rattle.nddl_ast.specs.declared.expression.Bounds.{Bounds}
 use Rattle.nddl_ast.specs.declared.expression.Bounds.TheVariants as bounds
 use Rattle.nddl_ast.specs.declared.expression.Type as types
@@ -23,11 +23,11 @@ use Rattle.nddl_ast.specs.declared.expression.Init.TheVariants as inits
 use Rattle.nddl_ast.specs.declared.statement.Variable.{Variable}
 use Rattle.nddl_ast.specs.declared.statement.Call.{Call}
 use Rattle.nddl_ast.specs.declared.statement.Ask.{Ask}
-use Rattle.nddl_ast.specs.declared.statement.Guard.{Guard}
-use Rattle.nddl_ast.specs.declared.statement.Guard.TheVariants as guards
+use Rattle.nddl_ast.specs.declared.statement.Condition.{Condition}
+use Rattle.nddl_ast.specs.declared.statement.Condition.TheVariants as conditions
 use Rattle.nddl_ast.specs.declared.declaration.Typed.{Typed}
-use Rattle.nddl_ast.specs.declared.declaration.Part.{Part}
-use Rattle.nddl_ast.specs.declared.declaration.Part.TheVariants as parts
+use Rattle.nddl_ast.specs.declared.declaration.PredicatePart.{PredicatePart}
+use Rattle.nddl_ast.specs.declared.declaration.PredicatePart.TheVariants as parts
 use Rattle.nddl_ast.specs.declared.declaration.Set.{Set}
 use Rattle.nddl_ast.specs.declared.declaration.Set.TheVariants as sets
 use Rattle.nddl_ast.specs.declared.declaration.Member.{Member}
@@ -99,7 +99,7 @@ init_words (inits.New creation) = creation_words creation
 
 -- ---- types
 
-abbrev pub base_words : Base → List Word
+abbrev pub base_words : BaseType → List Word
 base_words bases.Int = fixed sorts.Int
 base_words bases.Float = fixed sorts.Float
 base_words bases.Bool = fixed sorts.Bool
@@ -140,14 +140,14 @@ call_words call = path_words call.path ⌢ argument_words call.arguments ⌢ fix
 abbrev pub ask_words : Ask → List Word
 ask_words ask = name_words ask.word ⌢ fixed sorts.ParenOpen ⌢ path_words ask.path ⌢ name_words ask.label ⌢ fixed sorts.ParenClose ⌢ fixed sorts.Semicolon
 
-abbrev pub guard_words : Guard → List Word
-guard_words (guards.Truth expr) = expr_words expr
-guard_words (guards.Equal one other) = expr_words one ⌢ fixed sorts.Equal ⌢ expr_words other
-guard_words (guards.NotEqual one other) = expr_words one ⌢ fixed sorts.NotEqual ⌢ expr_words other
+abbrev pub condition_words : Condition → List Word
+condition_words (conditions.Truth expr) = expr_words expr
+condition_words (conditions.Equal one other) = expr_words one ⌢ fixed sorts.Equal ⌢ expr_words other
+condition_words (conditions.NotEqual one other) = expr_words one ⌢ fixed sorts.NotEqual ⌢ expr_words other
 
--- `if` and its guard
-abbrev pub if_words : Guard → List Word
-if_words guard = fixed sorts.If ⌢ fixed sorts.ParenOpen ⌢ guard_words guard ⌢ fixed sorts.ParenClose
+-- `if` and its condition
+abbrev pub if_words : Condition → List Word
+if_words condition = fixed sorts.If ⌢ fixed sorts.ParenOpen ⌢ condition_words condition ⌢ fixed sorts.ParenClose
 
 -- `foreach`, its variable and its class
 abbrev pub foreach_words : Name → Name → List Word
@@ -159,9 +159,9 @@ statements_words Nothing = []
 statements_words (Declares variable more) = variable_words variable ⌢ statements_words more
 statements_words (Calls call more) = call_words call ⌢ statements_words more
 statements_words (Asks ask more) = ask_words ask ⌢ statements_words more
-statements_words (Tests at guard then_at then more) = (if_words guard ⌢ braced (statements_words then)) ⌢ statements_words more
-statements_words (Chooses at guard then_at then else_at else more) =
-    (if_words guard ⌢ braced (statements_words then) ⌢ fixed sorts.Else ⌢ braced (statements_words else)) ⌢ statements_words more
+statements_words (Tests at condition then_at then more) = (if_words condition ⌢ braced (statements_words then)) ⌢ statements_words more
+statements_words (Chooses at condition then_at then else_at else more) =
+    (if_words condition ⌢ braced (statements_words then) ⌢ fixed sorts.Else ⌢ braced (statements_words else)) ⌢ statements_words more
 statements_words (Repeats at name class body_at body more) = (foreach_words name class ⌢ braced (statements_words body)) ⌢ statements_words more
 
 abbrev pub block_words : Braces → List Word
@@ -173,7 +173,7 @@ else_words (Some block) = fixed sorts.Else ⌢ block_words block
 
 -- ---- declarations
 
-abbrev pub part_words : Part → List Word
+abbrev pub part_words : PredicatePart → List Word
 part_words (parts.Parameter typed) = typed_words typed ⌢ fixed sorts.Semicolon
 part_words (parts.Constraint call) = call_words call
 

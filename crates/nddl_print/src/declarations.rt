@@ -7,21 +7,21 @@ ghost use Rattle.nddl_print.specs.Canonical.{braced, decl_words, formal_words, m
 use super::expressions::{print_arguments, print_braced};
 use super::line::Lines;
 use super::lists::{Print, print_listed, print_many};
-use nddl_ast::declaration::{Decl, Member, Part, Set, Typed};
+use nddl_ast::declaration::{Decl, Member, PredicatePart, Set, Typed};
 use nddl_ast::name::Name;
 use nddl_reading::sort::Sort;
 use std::alloc::AllocError;
 
-impl Print for Part {
+impl Print for PredicatePart {
     ghost words = { part_words };
 
     fn print(&self, lines: &mut Lines) -> Result<(), AllocError> {
         match self {
-            Part::Parameter(typed) => {
+            PredicatePart::Parameter(typed) => {
                 typed.print(lines)?;
                 lines.fixed(Sort::Semicolon)
             }
-            Part::Constraint(call) => call.print(lines),
+            PredicatePart::Constraint(call) => call.print(lines),
         }
     }
 }

@@ -7,7 +7,7 @@ ghost use Rattle.nddl_print.specs.Canonical.{argument_words, base_words, bounds_
 use super::line::Lines;
 use super::lists::{Print, print_following, print_listed};
 use nddl_ast::declaration::Typed;
-use nddl_ast::expression::{Base, Bounds, Constant, Creation, Expr, Init, Literal, Type, Value};
+use nddl_ast::expression::{BaseType, Bounds, Constant, Creation, Expr, Init, Literal, Type, Value};
 use nddl_ast::name::{Name, Path};
 use nddl_reading::sort::Sort;
 use std::alloc::AllocError;
@@ -102,16 +102,16 @@ impl Print for Init {
     }
 }
 
-impl Print for Base {
+impl Print for BaseType {
     ghost words = { base_words };
 
     fn print(&self, lines: &mut Lines) -> Result<(), AllocError> {
         match self {
-            Base::Int => lines.fixed(Sort::Int),
-            Base::Float => lines.fixed(Sort::Float),
-            Base::Bool => lines.fixed(Sort::Bool),
-            Base::Str => lines.fixed(Sort::Text),
-            Base::Named(name) => name.print(lines),
+            BaseType::Int => lines.fixed(Sort::Int),
+            BaseType::Float => lines.fixed(Sort::Float),
+            BaseType::Bool => lines.fixed(Sort::Bool),
+            BaseType::Str => lines.fixed(Sort::Text),
+            BaseType::Named(name) => name.print(lines),
         }
     }
 }

@@ -4,14 +4,14 @@ ghost use Rattle.std.specs.Prelude.{◌≡◌, ◌++◌, OnOk};
 ghost use Rattle.nddl_ast.specs.Block.{statements_of, with_statement};
 ghost use Rattle.nddl_ast.specs.Tree.{Nothing};
 ghost use Rattle.nddl_print.specs.Words.{spaced};
-ghost use Rattle.nddl_print.specs.Canonical.{ask_words, block_words, call_words, else_words, foreach_words, guard_words, if_words, start_words, statements_words, variable_words};
+ghost use Rattle.nddl_print.specs.Canonical.{ask_words, block_words, call_words, else_words, foreach_words, condition_words, if_words, start_words, statements_words, variable_words};
 
 use super::expressions::print_arguments;
 use super::line::Lines;
 use super::lists::Print;
 use nddl_ast::expression::Init;
 use nddl_ast::name::Name;
-use nddl_ast::statement::{Ask, Block, Call, Guard, Stmt, Variable};
+use nddl_ast::statement::{Ask, StmtBlock, Call, Condition, Stmt, Variable};
 use nddl_reading::sort::Sort;
 use std::alloc::AllocError;
 
@@ -62,18 +62,18 @@ impl Print for Ask {
     }
 }
 
-impl Print for Guard {
-    ghost words = { guard_words };
+impl Print for Condition {
+    ghost words = { condition_words };
 
     fn print(&self, lines: &mut Lines) -> Result<(), AllocError> {
         match self {
-            Guard::Truth(expr) => expr.print(lines),
-            Guard::Equal(one, other) => {
+            Condition::Truth(expr) => expr.print(lines),
+            Condition::Equal(one, other) => {
                 one.print(lines)?;
                 lines.fixed(Sort::Equal)?;
                 other.print(lines)
             }
-            Guard::NotEqual(one, other) => {
+            Condition::NotEqual(one, other) => {
                 one.print(lines)?;
                 lines.fixed(Sort::NotEqual)?;
                 other.print(lines)
@@ -82,13 +82,13 @@ impl Print for Guard {
     }
 }
 
-// `if` and its guard.
-fn print_if(guard: &Guard, lines: &mut Lines) -> Result<(), AllocError>
-    ensures { OnOk result (lines.new ≡ lines.old ++ spaced (if_words guard.now)) }
+// `if` and its condition.
+fn print_if(condition: &Condition, lines: &mut Lines) -> Result<(), AllocError>
+    ensures { OnOk result (lines.new ≡ lines.old ++ spaced (if_words condition.now)) }
 {
     lines.fixed(Sort::If)?;
     lines.fixed(Sort::ParenOpen)?;
-    guard.print(lines)?;
+    condition.print(lines)?;
     lines.fixed(Sort::ParenClose)
 }
 
@@ -114,12 +114,12 @@ fn print_stmt(stmt: &Stmt, lines: &mut Lines) -> Result<(), AllocError>
         Stmt::Call(call) => call.print(lines),
         Stmt::Ask(ask) => ask.print(lines),
         Stmt::If {
-            guard,
+            condition,
             then,
             otherwise,
             ..
         } => {
-            print_if(guard, lines)?;
+            print_if(condition, lines)?;
             print_block(then, lines)?;
             print_else(otherwise, lines)
         }
@@ -137,7 +137,7 @@ fn print_stmt(stmt: &Stmt, lines: &mut Lines) -> Result<(), AllocError>
 
 // `else` and its block, if there is one.
 #[cycle(printing)]
-fn print_else(otherwise: &Option<Block>, lines: &mut Lines) -> Result<(), AllocError>
+fn print_else(otherwise: &Option<StmtBlock>, lines: &mut Lines) -> Result<(), AllocError>
     ensures { OnOk result (lines.new ≡ lines.old ++ spaced (else_words otherwise.now)) }
 {
     match otherwise {
@@ -162,7 +162,7 @@ fn print_stmts(stmts: &[Stmt], lines: &mut Lines) -> Result<(), AllocError>
 
 // Statements between braces.
 #[cycle(printing)]
-fn print_block(block: &Block, lines: &mut Lines) -> Result<(), AllocError>
+fn print_block(block: &StmtBlock, lines: &mut Lines) -> Result<(), AllocError>
     ensures { OnOk result (lines.new ≡ lines.old ++ spaced (block_words block.now)) }
 {
     lines.fixed(Sort::BraceOpen)?;
@@ -170,7 +170,7 @@ fn print_block(block: &Block, lines: &mut Lines) -> Result<(), AllocError>
     lines.fixed(Sort::BraceClose)
 }
 
-impl Print for Block {
+impl Print for StmtBlock {
     ghost words = { block_words };
 
     fn print(&self, lines: &mut Lines) -> Result<(), AllocError> {

@@ -32,12 +32,12 @@ typedef float [-0.0 02.5] Rate;
 typedef Colour {red} Warm;
 
 class Rover;
-class Base { }
+class BaseType { }
 class Rover extends Timeline {
   Level fuel; bool {true, false} ready; string note; float rate;
   Rover(int {1, 2} count, Colour colour) {
     super(count, colour);
-    fuel = count; rate = -1.5; base = new Base();
+    fuel = count; rate = -1.5; base = new BaseType();
   }
   Rover() { super(); }
   predicate Go { Level far; leq(far, 7); neq(object.fuel, far); };
@@ -68,8 +68,8 @@ typedef int [ 0 10 ] Level ;
 typedef float [ 0.000 2.500 ] Rate ;
 typedef Colour { red } Warm ;
 class Rover ;
-class Base { }
-class Rover extends Timeline { Level fuel ; bool { true , false } ready ; string note ; float rate ; Rover ( int { 1 , 2 } count , Colour colour ) { super ( count , colour ) ; fuel = count ; rate = -1.500 ; base = new Base ( ) ; } Rover ( ) { super ( ) ; } predicate Go { Level far ; leq ( far , 7 ) ; neq ( object . fuel , far ) ; } predicate Stay { } }
+class BaseType { }
+class Rover extends Timeline { Level fuel ; bool { true , false } ready ; string note ; float rate ; Rover ( int { 1 , 2 } count , Colour colour ) { super ( count , colour ) ; fuel = count ; rate = -1.500 ; base = new BaseType ( ) ; } Rover ( ) { super ( ) ; } predicate Go { Level far ; leq ( far , 7 ) ; neq ( object . fuel , far ) ; } predicate Stay { } }
 Rover :: Go { meets ( object . Stay s ) ; any ( Stay ) ; Level x = s . far ; if ( ready ) { eq ( x , -3 ) ; } else { if ( x != far ) { starts ( object . Go t ) ; } else { foreach ( r in Rover ) { neq ( r . fuel , 1000000 ) ; } } } if ( x == true ) { } }
 Rover rover = new Rover ( 3 , red ) ;
 int [ -5 -1000000 ] y ;

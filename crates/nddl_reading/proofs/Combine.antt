@@ -2,9 +2,9 @@
 use Rattle.std.proofs.Common.{◌≡◌, ℕ, Bool, true, false, cond, pos, Option, None, ◌⊎◌, inl, inr, List, [], ◌∷◌, ◌++◌, refl, sym, ap, subst, ◌∙◌}
 use Rattle.nddl_reading.specs.declared.sort.Sort.{Sort}
 use Rattle.nddl_reading.specs.Sorts.{same}
-use Rattle.nddl_reading.specs.Symbols.{Symbol}
-use Rattle.nddl_reading.specs.Readers.{Outcome, got, stuck, deep, begins, and_then, mapped, choice, nothing, place_of, mark, symbol_of}
-use Rattle.nddl_reading.specs.Exact.{IsSymbol, IsPlaced, IsMark, Agrees, IfAt, Answers, BeginsWith, IsExact}
+use Rattle.nddl_reading.specs.Symbols.{PlainSymbol}
+use Rattle.nddl_reading.specs.Readers.{Outcome, got, stuck, deep, begins, and_then, mapped, choice, nothing, mark_place, mark, symbol_of}
+use Rattle.nddl_reading.specs.Exact.{IsSymbol, IsPlaced, IsMark, Agrees, IfAt, FindsExactly, BeginsWith, IsExact}
 use Rattle.nddl_reading.proofs.OneSort.{same_is, is_same}
 use Rattle.nddl_reading.proofs.Lists.{agrees_head, agrees_none}
 use Rattle.nddl_reading.proofs.Sequence.{Paired}
@@ -13,24 +13,24 @@ pub not_both : {b : Bool} → b ≡ true → b ≡ false → ⊥
 not_both p q = cc
 
 -- what goes on alike begins alike
-pub same_begins : (test : Sort → Bool) (symbols other used rest : List Symbol) → symbols ≡ used ++ rest → Agrees other used rest → begins test other ≡ begins test symbols
-same_begins test [] other used rest split same = subst (λ (list : List Symbol). begins test list ≡ false) (sym (agrees_none other used rest split same)) refl
+pub same_begins : (test : Sort → Bool) (symbols other used rest : List PlainSymbol) → symbols ≡ used ++ rest → Agrees other used rest → begins test other ≡ begins test symbols
+same_begins test [] other used rest split same = subst (λ (list : List PlainSymbol). begins test list ≡ false) (sym (agrees_none other used rest split same)) refl
 same_begins test (c ∷ symbols) other used rest split same =
     let head = agrees_head other used rest c symbols split same in
-    subst (λ (list : List Symbol). begins test list ≡ test c.sort) (sym head.1) refl
+    subst (λ (list : List PlainSymbol). begins test list ≡ test c.sort) (sym head.1) refl
 
-pub word_begins : {X : Type 0} (P : X → List Symbol → Type 0) (test : Sort → Bool) → BeginsWith P test → (x : X) (word after : List Symbol) → P x word → begins test (word ++ after) ≡ true
+pub word_begins : {X : Type 0} (P : X → List PlainSymbol → Type 0) (test : Sort → Bool) → BeginsWith P test → (x : X) (word after : List PlainSymbol) → P x word → begins test (word ++ after) ≡ true
 word_begins P test firsts x word after is =
     let head = firsts x word is in
-    subst (λ (list : List Symbol). begins test (list ++ after) ≡ true) (sym head.2) head.3
+    subst (λ (list : List PlainSymbol). begins test (list ++ after) ≡ true) (sym head.2) head.3
 
 -- a value of the second language that goes on as the list does is one of the first
-abbrev pub Comes : {X Y : Type 0} (P : X → List Symbol → Type 0) (Q : Y → List Symbol → Type 0) (more : Sort → Bool) (symbols : List Symbol) (f : X → Y) → Type 0
-Comes {X = X} {Y = Y} P Q more symbols f = (y : Y) (word after used rest : List Symbol) → symbols ≡ used ++ rest → Q y word → begins more after ≡ false → Agrees (word ++ after) used rest → (x : X) × (y ≡ f x) × P x word
+abbrev pub Comes : {X Y : Type 0} (P : X → List PlainSymbol → Type 0) (Q : Y → List PlainSymbol → Type 0) (more : Sort → Bool) (symbols : List PlainSymbol) (f : X → Y) → Type 0
+Comes {X = X} {Y = Y} P Q more symbols f = (y : Y) (word after used rest : List PlainSymbol) → symbols ≡ used ++ rest → Q y word → begins more after ≡ false → Agrees (word ++ after) used rest → (x : X) × (y ≡ f x) × P x word
 
-pub mapped_at : {X Y : Type 0} (P : X → List Symbol → Type 0) (Q : Y → List Symbol → Type 0) (dx : X → Option ℕ) (dy : Y → Option ℕ) (more : Sort → Bool) (symbols : List Symbol) (f : X → Y)
-    → ((x : X) (word : List Symbol) → P x word → Q (f x) word) → ((x : X) → dy (f x) ≡ dx x) → Comes P Q more symbols f
-    → (o : Outcome X) → Answers P dx more symbols o → Answers Q dy more symbols (and_then o (λ x rest. got (f x) rest))
+pub mapped_at : {X Y : Type 0} (P : X → List PlainSymbol → Type 0) (Q : Y → List PlainSymbol → Type 0) (dx : X → Option ℕ) (dy : Y → Option ℕ) (more : Sort → Bool) (symbols : List PlainSymbol) (f : X → Y)
+    → ((x : X) (word : List PlainSymbol) → P x word → Q (f x) word) → ((x : X) → dy (f x) ≡ dx x) → Comes P Q more symbols f
+    → (o : Outcome X) → FindsExactly P dx more symbols o → FindsExactly Q dy more symbols (and_then o (λ x rest. got (f x) rest))
 mapped_at P Q dx dy more symbols f to places from (got x rest) a = record {
   used = a.used;
   split = a.split;
@@ -66,24 +66,24 @@ unchanged (got x rest) = refl
 unchanged (stuck rest) = refl
 unchanged (deep rest) = refl
 
-pub relabelled_at : {X : Type 0} (P Q : X → List Symbol → Type 0) (dx dy : X → Option ℕ) (more : Sort → Bool) (symbols : List Symbol)
-    → ((x : X) (word : List Symbol) → P x word → Q x word) → ((x : X) → dy x ≡ dx x) → Comes P Q more symbols (λ x. x)
-    → (o : Outcome X) → Answers P dx more symbols o → Answers Q dy more symbols o
+pub relabelled_at : {X : Type 0} (P Q : X → List PlainSymbol → Type 0) (dx dy : X → Option ℕ) (more : Sort → Bool) (symbols : List PlainSymbol)
+    → ((x : X) (word : List PlainSymbol) → P x word → Q x word) → ((x : X) → dy x ≡ dx x) → Comes P Q more symbols (λ x. x)
+    → (o : Outcome X) → FindsExactly P dx more symbols o → FindsExactly Q dy more symbols o
 relabelled_at {X = X} P Q dx dy more symbols to places from o a =
-    subst (λ (found : Outcome X). Answers Q dy more symbols found) (unchanged o) (mapped_at P Q dx dy more symbols (λ x. x) to places from o a)
+    subst (λ (found : Outcome X). FindsExactly Q dy more symbols found) (unchanged o) (mapped_at P Q dx dy more symbols (λ x. x) to places from o a)
 
-pub mapped_exact : {X Y : Type 0} {P : X → List Symbol → Type 0} {dx : X → Option ℕ} {more : Sort → Bool} {one : List Symbol → Outcome X}
-    (Q : Y → List Symbol → Type 0) (dy : Y → Option ℕ) (f : X → Y) → IsExact P dx more one
-    → ((x : X) (word : List Symbol) → P x word → Q (f x) word) → ((y : Y) (word : List Symbol) → Q y word → (x : X) × (y ≡ f x) × P x word) → ((x : X) → dy (f x) ≡ dx x)
+pub mapped_exact : {X Y : Type 0} {P : X → List PlainSymbol → Type 0} {dx : X → Option ℕ} {more : Sort → Bool} {one : List PlainSymbol → Outcome X}
+    (Q : Y → List PlainSymbol → Type 0) (dy : Y → Option ℕ) (f : X → Y) → IsExact P dx more one
+    → ((x : X) (word : List PlainSymbol) → P x word → Q (f x) word) → ((y : Y) (word : List PlainSymbol) → Q y word → (x : X) × (y ≡ f x) × P x word) → ((x : X) → dy (f x) ≡ dx x)
     → IsExact Q dy more (mapped f one)
 mapped_exact {P = P} {dx = dx} {more = more} {one = one} Q dy f a to from places = record {
   answers = λ symbols. mapped_at P Q dx dy more symbols f to places (λ y word after used rest split is out same. from y word is) (one symbols) (a.answers symbols);
   sample = λ place. let end = a.sample place in (end.0, f end.1, to end.1 end.0 end.2, subst (λ (o : Option ℕ). IfAt o place) (sym (places end.1)) end.3);
 }
 
-pub relabelled_exact : {X : Type 0} {P : X → List Symbol → Type 0} {dx : X → Option ℕ} {more : Sort → Bool} {one : List Symbol → Outcome X}
-    (Q : X → List Symbol → Type 0) (dy : X → Option ℕ) → IsExact P dx more one
-    → ((x : X) (word : List Symbol) → P x word → Q x word) → ((x : X) (word : List Symbol) → Q x word → P x word) → ((x : X) → dy x ≡ dx x)
+pub relabelled_exact : {X : Type 0} {P : X → List PlainSymbol → Type 0} {dx : X → Option ℕ} {more : Sort → Bool} {one : List PlainSymbol → Outcome X}
+    (Q : X → List PlainSymbol → Type 0) (dy : X → Option ℕ) → IsExact P dx more one
+    → ((x : X) (word : List PlainSymbol) → P x word → Q x word) → ((x : X) (word : List PlainSymbol) → Q x word → P x word) → ((x : X) → dy x ≡ dx x)
     → IsExact Q dy more one
 relabelled_exact {P = P} {dx = dx} {more = more} {one = one} Q dy a to from places = record {
   answers = λ symbols. relabelled_at P Q dx dy more symbols to places (λ y word after used rest split is out same. (y, refl, from y word is)) (one symbols) (a.answers symbols);
@@ -91,17 +91,17 @@ relabelled_exact {P = P} {dx = dx} {more = more} {one = one} Q dy a to from plac
 }
 
 -- more may be asked of what follows
-widened_at : {X : Type 0} (P : X → List Symbol → Type 0) (dx : X → Option ℕ) (more wide : Sort → Bool) (symbols : List Symbol) → ((after : List Symbol) → begins wide after ≡ false → begins more after ≡ false)
-    → (o : Outcome X) → Answers P dx more symbols o → Answers P dx wide symbols o
+widened_at : {X : Type 0} (P : X → List PlainSymbol → Type 0) (dx : X → Option ℕ) (more wide : Sort → Bool) (symbols : List PlainSymbol) → ((after : List PlainSymbol) → begins wide after ≡ false → begins more after ≡ false)
+    → (o : Outcome X) → FindsExactly P dx more symbols o → FindsExactly P dx wide symbols o
 widened_at P dx more wide symbols less (got x rest) a = record { used = a.used; split = a.split; derived = a.derived; shallow = a.shallow; only = λ y word after is out same. a.only y word after is (less after out) same }
 widened_at P dx more wide symbols less (stuck rest) a = record { used = a.used; split = a.split; begun = a.begun; none = λ y word after is out same. a.none y word after is (less after out) same }
 widened_at P dx more wide symbols less (deep rest) a =
     record { used = a.used; symbol = a.symbol; left = a.left; next = a.next; split = a.split; begun = a.begun; all = λ y word after is out same. a.all y word after is (less after out) same }
 
-pub widened_exact : {X : Type 0} {P : X → List Symbol → Type 0} {dx : X → Option ℕ} {more : Sort → Bool} {one : List Symbol → Outcome X}
+pub widened_exact : {X : Type 0} {P : X → List PlainSymbol → Type 0} {dx : X → Option ℕ} {more : Sort → Bool} {one : List PlainSymbol → Outcome X}
     (wide : Sort → Bool) → IsExact P dx more one → ((sort : Sort) → wide sort ≡ false → more sort ≡ false) → IsExact P dx wide one
 widened_exact {P = P} {dx = dx} {more = more} {one = one} wide a less = record {
-  answers = λ symbols. widened_at P dx more wide symbols (λ after. elim after as (λ (list : List Symbol). begins wide list ≡ false → begins more list ≡ false) [ [] ↦ λ out. refl | c ∷ rest ↦ λ out. less c.sort out ]) (one symbols) (a.answers symbols);
+  answers = λ symbols. widened_at P dx more wide symbols (λ after. elim after as (λ (list : List PlainSymbol). begins wide list ≡ false → begins more list ≡ false) [ [] ↦ λ out. refl | c ∷ rest ↦ λ out. less c.sort out ]) (one symbols) (a.answers symbols);
   sample = a.sample;
 }
 
@@ -113,11 +113,11 @@ no_more sort = false
 abbrev pub no_blocks : {X : Type 0} → X → Option ℕ
 no_blocks x = None
 
-sample_of : Sort → Symbol
+sample_of : Sort → PlainSymbol
 sample_of sort = record { sort = sort; bytes = []; value = pos 0; at = 0 }
 
-found_at : (sort : Sort) (c : Symbol) (rest : List Symbol) (flag : Bool) → same c.sort sort ≡ flag
-    → Answers (IsSymbol sort) no_blocks no_more (c ∷ rest) (cond flag (got c rest) (stuck (c ∷ rest)))
+found_at : (sort : Sort) (c : PlainSymbol) (rest : List PlainSymbol) (flag : Bool) → same c.sort sort ≡ flag
+    → FindsExactly (IsSymbol sort) no_blocks no_more (c ∷ rest) (cond flag (got c rest) (stuck (c ∷ rest)))
 unfolding sample_of
 found_at sort c rest true is = record {
   used = c ∷ [];
@@ -125,33 +125,33 @@ found_at sort c rest true is = record {
   derived = (refl, same_is c.sort sort is);
   shallow = refl;
   only = λ x word after (one, sorted) out goes.
-      let alike = subst (λ (list : List Symbol). Agrees (list ++ after) (c ∷ []) rest) one goes in
+      let alike = subst (λ (list : List PlainSymbol). Agrees (list ++ after) (c ∷ []) rest) one goes in
       let head = agrees_head (x ∷ after) (c ∷ []) rest c rest refl alike in
       let both : x ∷ after ≡ c ∷ head.0 = head.1 in
       let first : x ≡ c = cc in
-      (first, one ∙ ap (λ (symbol : Symbol). symbol ∷ []) first);
+      (first, one ∙ ap (λ (symbol : PlainSymbol). symbol ∷ []) first);
 }
 found_at sort c rest false is = record {
   used = [];
   split = refl;
   begun = λ place. (sample_of sort ∷ [], sample_of sort, (refl, refl), tt);
   none = λ x word after (one, sorted) out goes.
-      let alike = subst (λ (list : List Symbol). Agrees (list ++ after) [] (c ∷ rest)) one goes in
+      let alike = subst (λ (list : List PlainSymbol). Agrees (list ++ after) [] (c ∷ rest)) one goes in
       let head = agrees_head (x ∷ after) [] (c ∷ rest) c rest refl alike in
       let both : x ∷ after ≡ c ∷ head.0 = head.1 in
       let first : x ≡ c = cc in
-      let sorts : c.sort ≡ sort = ap (λ (symbol : Symbol). symbol.sort) (sym first) ∙ sorted in
+      let sorts : c.sort ≡ sort = ap (λ (symbol : PlainSymbol). symbol.sort) (sym first) ∙ sorted in
       not_both (subst (λ (other : Sort). same c.sort other ≡ true) sorts (is_same c.sort)) is;
 }
 
-symbol_at : (sort : Sort) (symbols : List Symbol) → Answers (IsSymbol sort) no_blocks no_more symbols (symbol_of sort symbols)
+symbol_at : (sort : Sort) (symbols : List PlainSymbol) → FindsExactly (IsSymbol sort) no_blocks no_more symbols (symbol_of sort symbols)
 unfolding symbol_of sample_of
 symbol_at sort [] = record {
   used = [];
   split = refl;
   begun = λ place. (sample_of sort ∷ [], sample_of sort, (refl, refl), tt);
   none = λ x word after (one, sorted) out same.
-      let empty : x ∷ after ≡ [] = subst (λ (list : List Symbol). list ++ after ≡ []) one same in
+      let empty : x ∷ after ≡ [] = subst (λ (list : List PlainSymbol). list ++ after ≡ []) one same in
       absurd cc;
 }
 symbol_at sort (c ∷ rest) = found_at sort c rest (same c.sort sort) refl
@@ -163,7 +163,7 @@ symbol_exact sort = record {
   sample = λ place. (sample_of sort ∷ [], sample_of sort, (refl, refl), tt);
 }
 
-abbrev pub MarkOf : Sort → Unit {0} → List Symbol → Type 0
+abbrev pub MarkOf : Sort → Unit {0} → List PlainSymbol → Type 0
 MarkOf sort nil = IsMark sort
 
 pub mark_exact : (sort : Sort) → IsExact (MarkOf sort) no_blocks no_more (mark sort)
@@ -172,7 +172,7 @@ mark_exact sort = mapped_exact (MarkOf sort) no_blocks (λ symbol. tt) (symbol_e
     (λ nil word is. (is.symbol, refl, (is.only, is.sorted)))
     (λ symbol. refl)
 
-pub place_exact : (sort : Sort) → IsExact (IsPlaced sort) no_blocks no_more (place_of sort)
+pub place_exact : (sort : Sort) → IsExact (IsPlaced sort) no_blocks no_more (mark_place sort)
 place_exact sort = mapped_exact (IsPlaced sort) no_blocks (λ symbol. symbol.at) (symbol_exact sort)
     (λ symbol word is. record { symbol = symbol; only = is.0; sorted = is.1; placed = refl })
     (λ at word is. (is.symbol, sym is.placed, (is.only, is.sorted)))
@@ -188,23 +188,23 @@ pub place_begins : (sort : Sort) (test : Sort → Bool) → test sort ≡ true �
 place_begins sort test holds at word is = (is.symbol, [], is.only, subst (λ (other : Sort). test other ≡ true) (sym is.sorted) holds)
 
 -- a pair begins as its first part does
-pub pair_begins : {X Y : Type 0} {P : X → List Symbol → Type 0} (Q : Y → List Symbol → Type 0) (test : Sort → Bool) → BeginsWith P test → BeginsWith (Paired P Q) test
+pub pair_begins : {X Y : Type 0} {P : X → List PlainSymbol → Type 0} (Q : Y → List PlainSymbol → Type 0) (test : Sort → Bool) → BeginsWith P test → BeginsWith (Paired P Q) test
 pair_begins Q test begin both word is =
     let head = begin both.0 is.0 is.3 in
-    (head.0, head.1 ++ is.1, is.2 ∙ ap (λ (list : List Symbol). list ++ is.1) head.2, head.3)
+    (head.0, head.1 ++ is.1, is.2 ∙ ap (λ (list : List PlainSymbol). list ++ is.1) head.2, head.3)
 
 -- ---- choices
 
-pub choice_exact : {X : Type 0} {P Q : X → List Symbol → Type 0} {dx : X → Option ℕ} {more : Sort → Bool} {one other : List Symbol → Outcome X}
+pub choice_exact : {X : Type 0} {P Q : X → List PlainSymbol → Type 0} {dx : X → Option ℕ} {more : Sort → Bool} {one other : List PlainSymbol → Outcome X}
     (test : Sort → Bool) → IsExact P dx more one → IsExact Q dx more other → BeginsWith P test
-    → ((x : X) (word after : List Symbol) → Q x word → begins more after ≡ false → begins test (word ++ after) ≡ false)
+    → ((x : X) (word after : List PlainSymbol) → Q x word → begins more after ≡ false → begins test (word ++ after) ≡ false)
     → IsExact (λ x word. P x word ⊎ Q x word) dx more (choice test one other)
 choice_exact {X = X} {P = P} {Q = Q} {dx = dx} {more = more} {one = one} {other = other} test a b firsts aside = record {
   answers = λ symbols. chosen symbols (begins test symbols) refl;
   sample = λ place. let end = b.sample place in (end.0, end.1, inr end.2, end.3);
 } where
-  chosen : (symbols : List Symbol) (flag : Bool) → begins test symbols ≡ flag
-      → Answers (λ x word. P x word ⊎ Q x word) dx more symbols (cond flag (one symbols) (other symbols))
+  chosen : (symbols : List PlainSymbol) (flag : Bool) → begins test symbols ≡ flag
+      → FindsExactly (λ x word. P x word ⊎ Q x word) dx more symbols (cond flag (one symbols) (other symbols))
   chosen symbols true is = relabelled_at P (λ x word. P x word ⊎ Q x word) dx dx more symbols (λ x word h. inl h) (λ x. refl)
       (λ y word after used rest split found out same.
       elim found as (λ f. (x : X) × (y ≡ x) × P x word) [
@@ -221,7 +221,7 @@ choice_exact {X = X} {P = P} {Q = Q} {dx = dx} {more = more} {one = one} {other 
       (other symbols) (b.answers symbols)
 
 -- nothing at all, standing for one value
-abbrev pub EmptyFor : {X : Type 0} → X → X → List Symbol → Type 0
+abbrev pub EmptyFor : {X : Type 0} → X → X → List PlainSymbol → Type 0
 EmptyFor x y word = (y ≡ x) × (word ≡ [])
 
 pub nothing_exact : {X : Type 0} (x : X) (dx : X → Option ℕ) (more : Sort → Bool) → dx x ≡ None → IsExact (EmptyFor x) dx more (nothing x)

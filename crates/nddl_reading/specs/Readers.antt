@@ -4,35 +4,35 @@ use Rattle.nddl_reading.specs.declared.sort.Sort.{Sort}
 use Rattle.nddl_reading.specs.declared.cursor.Stop.{Stop}
 use Rattle.nddl_reading.specs.declared.cursor.Stop.TheVariants.{Stuck, Deep, Memory}
 use Rattle.nddl_reading.specs.Sorts.{same}
-use Rattle.nddl_reading.specs.Symbols.{Symbol}
+use Rattle.nddl_reading.specs.Symbols.{PlainSymbol}
 
 -- what a reader finds at the front of a list: a value, no value, or a block that is nested too deep; and what it didn't take
 pub data Outcome (X : Type 0) : Type 0 where
-  got : X → List Symbol → Outcome X
-  stuck : List Symbol → Outcome X
-  deep : List Symbol → Outcome X
+  got : X → List PlainSymbol → Outcome X
+  stuck : List PlainSymbol → Outcome X
+  deep : List PlainSymbol → Outcome X
 
 abbrev pub Reader : Type 0 → Type 0
-Reader X = List Symbol → Outcome X
+Reader X = List PlainSymbol → Outcome X
 
 -- goes on from what was found
-abbrev pub and_then : {X Y : Type 0} → Outcome X → (X → List Symbol → Outcome Y) → Outcome Y
+abbrev pub and_then : {X Y : Type 0} → Outcome X → (X → List PlainSymbol → Outcome Y) → Outcome Y
 and_then (got x rest) next = next x rest
 and_then (stuck rest) next = stuck rest
 and_then (deep rest) next = deep rest
 
 -- whether there is a next symbol and its sort passes the test
-abbrev pub begins : (Sort → Bool) → List Symbol → Bool
+abbrev pub begins : (Sort → Bool) → List PlainSymbol → Bool
 begins test [] = false
 begins test (symbol ∷ rest) = test symbol.sort
 
 -- the sort of the next symbol
-abbrev pub next_sort : List Symbol → Option Sort
+abbrev pub next_sort : List PlainSymbol → Option Sort
 next_sort [] = None
 next_sort (symbol ∷ rest) = Some symbol.sort
 
 -- the place of the next symbol, or the end
-abbrev pub next_place : ℕ → List Symbol → ℕ
+abbrev pub next_place : ℕ → List PlainSymbol → ℕ
 next_place end [] = end
 next_place end (symbol ∷ rest) = symbol.at
 
@@ -40,7 +40,7 @@ abbrev pub is : Sort → Sort → Bool
 is sort other = same other sort
 
 -- one symbol of the sort
-unfoldable pub symbol_of : Sort → Reader Symbol
+unfoldable pub symbol_of : Sort → Reader PlainSymbol
 symbol_of sort [] = stuck []
 symbol_of sort (symbol ∷ rest) = if same symbol.sort sort then got symbol rest else stuck (symbol ∷ rest)
 
@@ -54,8 +54,8 @@ mapped f one symbols = and_then (one symbols) (λ x rest. got (f x) rest)
 abbrev pub mark : Sort → Reader (Unit {0})
 mark sort = mapped (λ symbol. tt) (symbol_of sort)
 
-abbrev pub place_of : Sort → Reader ℕ
-place_of sort = mapped (λ symbol. symbol.at) (symbol_of sort)
+abbrev pub mark_place : Sort → Reader ℕ
+mark_place sort = mapped (λ symbol. symbol.at) (symbol_of sort)
 
 -- one after the other
 abbrev pub sequence : {X Y : Type 0} → Reader X → Reader Y → Reader (X × Y)
@@ -76,18 +76,18 @@ unfoldable pub many : {X : Type 0} → (Sort → Bool) → Reader X → Reader (
 many test item symbols = repeated (length symbols) test item symbols
 
 -- what a call returned, and what it left unread, are what the reader finds; want of memory may come at any time
-abbrev pub Reads : {X : Type 0} → Result X Stop → List Symbol → Outcome X → Type 0
-Reads (Ok x) rest outcome = outcome ≡ got x rest
-Reads (Err Stuck) rest outcome = outcome ≡ stuck rest
-Reads (Err Deep) rest outcome = outcome ≡ deep rest
-Reads (Err Memory) rest outcome = Unit {0}
+abbrev pub IsFound : {X : Type 0} → Result X Stop → List PlainSymbol → Outcome X → Type 0
+IsFound (Ok x) rest outcome = outcome ≡ got x rest
+IsFound (Err Stuck) rest outcome = outcome ≡ stuck rest
+IsFound (Err Deep) rest outcome = outcome ≡ deep rest
+IsFound (Err Memory) rest outcome = Unit {0}
 
 -- the same, where what a reader finds is what is seen of what the call returned
-abbrev pub ReadsAs : {X Y : Type 0} → (X → Y) → Result X Stop → List Symbol → Outcome Y → Type 0
-ReadsAs view (Ok x) rest outcome = outcome ≡ got (view x) rest
-ReadsAs view (Err Stuck) rest outcome = outcome ≡ stuck rest
-ReadsAs view (Err Deep) rest outcome = outcome ≡ deep rest
-ReadsAs view (Err Memory) rest outcome = Unit {0}
+abbrev pub IsFoundAs : {X Y : Type 0} → (X → Y) → Result X Stop → List PlainSymbol → Outcome Y → Type 0
+IsFoundAs view (Ok x) rest outcome = outcome ≡ got (view x) rest
+IsFoundAs view (Err Stuck) rest outcome = outcome ≡ stuck rest
+IsFoundAs view (Err Deep) rest outcome = outcome ≡ deep rest
+IsFoundAs view (Err Memory) rest outcome = Unit {0}
 
 -- a mark, and then what is kept
 abbrev pub after : {X : Type 0} → Sort → Reader X → Reader X

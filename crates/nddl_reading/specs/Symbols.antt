@@ -3,7 +3,7 @@ use Rattle.std.specs.Prelude.{ℕ, ℤ, List}
 use Rattle.nddl_reading.specs.declared.sort.Sort.{Sort}
 
 -- a symbol: its sort, its bytes, its value if it has one, and the place at which it begins
-pub record Symbol : Type 0 where
+pub record PlainSymbol : Type 0 where
   pub sort : Sort
   pub bytes : List ℕ
   pub value : ℤ

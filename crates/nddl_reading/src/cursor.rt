@@ -2,11 +2,11 @@
 
 ghost use Rattle.std.specs.Prelude.{◌≡◌, ◌∷◌, [], List, MatchOption, length};
 ghost use Rattle.nddl_reading.specs.declared.cursor.Stop.TheVariants.{Memory};
-ghost use Rattle.nddl_reading.specs.Symbols.{Symbol};
-ghost use Rattle.nddl_reading.specs.Readers.{begins, next_place, next_sort, is, mark, may_mark, place_of, symbol_of, Reads, ReadsAs};
+ghost use Rattle.nddl_reading.specs.Symbols.{PlainSymbol};
+ghost use Rattle.nddl_reading.specs.Readers.{begins, next_place, next_sort, is, mark, may_mark, mark_place, symbol_of, IsFound, IsFoundAs};
 
 use super::sort::Sort;
-use super::symbol::Token;
+use super::symbol::Symbol;
 use std::alloc::{AllocError, Global};
 use std::marker::Model;
 
@@ -33,15 +33,15 @@ impl From<AllocError> for Stop {
 #[derive(Drop)]
 pub struct Cursor<'a> {
     alloc: Global,
-    symbols: &'a [Token<'a>],
+    symbols: &'a [Symbol<'a>],
     next: usize,
 }
 
 impl<'a> Model for Cursor<'a> {
     ghost use Rattle.std.specs.Prelude.{List, drop, length, ◌≤◌};
-    ghost use Rattle.nddl_reading.specs.Symbols.{Symbol};
+    ghost use Rattle.nddl_reading.specs.Symbols.{PlainSymbol};
 
-    ghost Value = { List Symbol };
+    ghost Value = { List PlainSymbol };
 
     ghost view = { λ cursor. drop cursor.next cursor.symbols.now };
 
@@ -50,7 +50,7 @@ impl<'a> Model for Cursor<'a> {
 
 impl<'a> Cursor<'a> {
     /// A cursor at the first of the symbols; what is read takes its memory from the allocator.
-    pub fn new(alloc: Global, symbols: &'a [Token<'a>]) -> Cursor<'a>
+    pub fn new(alloc: Global, symbols: &'a [Symbol<'a>]) -> Cursor<'a>
         ensures { result ≡ symbols.now }
     {
         Cursor {
@@ -73,8 +73,8 @@ impl<'a> Cursor<'a> {
     }
 
     // The next symbol.
-    fn first(&self) -> Option<&'a Token<'a>>
-        ensures { MatchOption result (self.now ≡ []) (λ symbol. (rest : List Symbol) × (self.now ≡ symbol.now ∷ rest)) }
+    fn first(&self) -> Option<&'a Symbol<'a>>
+        ensures { MatchOption result (self.now ≡ []) (λ symbol. (rest : List PlainSymbol) × (self.now ≡ symbol.now ∷ rest)) }
     {
         self.symbols.get(self.next)
     }
@@ -111,7 +111,7 @@ impl<'a> Cursor<'a> {
 
     // Leaves the next symbol behind.
     fn advance(&mut self)
-        ensures { (symbol : Symbol) (rest : List Symbol) → self.old ≡ symbol ∷ rest → self.new ≡ rest }
+        ensures { (symbol : PlainSymbol) (rest : List PlainSymbol) → self.old ≡ symbol ∷ rest → self.new ≡ rest }
     {
         if self.next < self.symbols.len() {
             self.next += 1;
@@ -119,8 +119,8 @@ impl<'a> Cursor<'a> {
     }
 
     /// Takes the next symbol if it is of the sort.
-    pub fn take(&mut self, sort: Sort) -> Result<&'a Token<'a>, Stop>
-        ensures { ReadsAs (λ symbol. symbol.now) result self.new (symbol_of sort self.old) }
+    pub fn take(&mut self, sort: Sort) -> Result<&'a Symbol<'a>, Stop>
+        ensures { IsFoundAs (λ symbol. symbol.now) result self.new (symbol_of sort self.old) }
     {
         match self.first() {
             Some(symbol) => {
@@ -137,22 +137,22 @@ impl<'a> Cursor<'a> {
 
     /// Takes the next symbol if it is of the sort, and forgets it.
     pub fn mark(&mut self, sort: Sort) -> Result<(), Stop>
-        ensures { Reads result self.new (mark sort self.old) }
+        ensures { IsFound result self.new (mark sort self.old) }
     {
         self.take(sort)?;
         Ok(())
     }
 
     /// Takes the next symbol if it is of the sort, and keeps its place.
-    pub fn place_of(&mut self, sort: Sort) -> Result<u32, Stop>
-        ensures { Reads result self.new (place_of sort self.old) }
+    pub fn mark_place(&mut self, sort: Sort) -> Result<u32, Stop>
+        ensures { IsFound result self.new (mark_place sort self.old) }
     {
         let symbol = self.take(sort)?;
         Ok(symbol.at())
     }
     /// Takes the next symbol if it is of the sort, and else nothing.
     pub fn may_mark(&mut self, sort: Sort) -> Result<(), Stop>
-        ensures { Reads result self.new (may_mark sort self.old) }
+        ensures { IsFound result self.new (may_mark sort self.old) }
     {
         if self.is_at(sort) {
             self.mark(sort)

@@ -2,5 +2,6 @@
 #![tactic(auto)]
 
 pub mod cursor;
+pub mod joining;
 pub mod sort;
 pub mod symbol;

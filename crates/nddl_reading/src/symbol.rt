@@ -12,27 +12,27 @@ use std::marker::Model;
 
 /// A symbol of a text. The bytes of a name are text.
 #[derive(Drop)]
-pub struct Token<'a> {
+pub struct Symbol<'a> {
     sort: Sort,
     bytes: &'a [u8],
     value: i32,
     at: u32,
 }
 
-impl<'a> Model for Token<'a> {
+impl<'a> Model for Symbol<'a> {
     ghost use Rattle.std.specs.Prelude.{◌≡◌};
     ghost use Rattle.std.specs.Str.{IsUtf8};
     ghost use Rattle.nddl_reading.specs.declared.sort.Sort.TheVariants.{Name};
-    ghost use Rattle.nddl_reading.specs.Symbols.{Symbol};
+    ghost use Rattle.nddl_reading.specs.Symbols.{PlainSymbol};
 
-    ghost Value = { Symbol };
+    ghost Value = { PlainSymbol };
 
     ghost view = { λ token. record { sort = token.sort; bytes = token.bytes.now; value = token.value; at = token.at } };
 
     ghost invariant = { λ token. token.sort ≡ Name → IsUtf8 token.bytes.now };
 }
 
-impl<'a> Token<'a> {
+impl<'a> Symbol<'a> {
     pub fn sort(&self) -> Sort
         ensures { result ≡ self.now.sort }
     {
@@ -69,11 +69,11 @@ impl<'a> Token<'a> {
     }
 
     /// A symbol of the sort, with these bytes, at this place.
-    pub fn new(sort: Sort, bytes: &'a [u8], value: i32, at: u32) -> Token<'a>
+    pub fn new(sort: Sort, bytes: &'a [u8], value: i32, at: u32) -> Symbol<'a>
         requires { sort ≡ Name → IsUtf8 bytes.now }
         ensures { result ≡ record { sort = sort; bytes = bytes.now; value = value; at = at } }
     {
-        Token {
+        Symbol {
             sort,
             bytes,
             value,

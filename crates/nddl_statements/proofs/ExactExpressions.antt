@@ -3,7 +3,7 @@ use Rattle.std.proofs.Common.{◌≡◌, ℕ, Bool, true, false, ◌⊎◌, inl,
 use Rattle.nddl_reading.specs.declared.sort.Sort.{Sort}
 use Rattle.nddl_reading.specs.declared.sort.Sort.TheVariants as sorts
 use Rattle.nddl_reading.specs.Sorts.{same}
-use Rattle.nddl_reading.specs.Symbols.{Symbol}
+use Rattle.nddl_reading.specs.Symbols.{PlainSymbol}
 use Rattle.nddl_reading.specs.Readers.{is, following}
 use Rattle.nddl_reading.specs.Exact.{IsSymbol, IsPlaced, AreFollowing, BeginsWith, IsExact}
 use Rattle.nddl_reading.proofs.Combine.{no_more, no_blocks, symbol_exact, mark_exact, place_exact, symbol_begins, mark_begins, place_begins, pair_begins, mapped_exact, relabelled_exact, widened_exact, choice_exact}
@@ -16,22 +16,22 @@ use Rattle.nddl_ast.specs.declared.expression.Expr.{Expr}
 use Rattle.nddl_ast.specs.declared.expression.Expr.TheVariants as exprs
 use Rattle.nddl_ast.specs.declared.expression.Value.{Value}
 use Rattle.nddl_ast.specs.declared.expression.Value.TheVariants as values
-use Rattle.nddl_ast.specs.declared.expression.Base.{Base}
-use Rattle.nddl_ast.specs.declared.expression.Base.TheVariants as bases
+use Rattle.nddl_ast.specs.declared.expression.BaseType.{BaseType}
+use Rattle.nddl_ast.specs.declared.expression.BaseType.TheVariants as bases
 use Rattle.nddl_ast.specs.declared.expression.Init.{Init}
 use Rattle.nddl_ast.specs.declared.expression.Init.TheVariants as inits
-use Rattle.nddl_statements.specs.Grammar.{IsName, IsPath, Writes, IsLiteral, IsExpr, IsValue, AreArguments, IsCreation, IsInit, IsBase}
+use Rattle.nddl_statements.specs.Grammar.{IsWrittenName, IsPath, Writes, IsLiteral, IsExpr, IsWrittenValue, AreArguments, IsCreation, IsInit, IsBase}
 use Rattle.nddl_statements.specs.Productions.{name, name_of, path, literal, number_of, decimal_of, truth_of, expr, value, begins_value, arguments, creation, init, placed, named, base}
 use Rattle.nddl_statements.proofs.Flat.{front_starts, flat, refuses, apart, ◌>>◌, closed}
 
-pub name_exact : IsExact IsName no_blocks no_more name
+pub name_exact : IsExact IsWrittenName no_blocks no_more name
 unfolding name
-name_exact = mapped_exact IsName no_blocks name_of (symbol_exact sorts.Name)
+name_exact = mapped_exact IsWrittenName no_blocks name_of (symbol_exact sorts.Name)
     (λ symbol word h. record { symbol = symbol; only = h.0; sorted = h.1; is = refl })
     (λ n word h. (h.symbol, h.is, (h.only, h.sorted)))
     (λ symbol. refl)
 
-pub name_begins : (test : Sort → Bool) → test sorts.Name ≡ true → BeginsWith IsName test
+pub name_begins : (test : Sort → Bool) → test sorts.Name ≡ true → BeginsWith IsWrittenName test
 name_begins test holds n word h = (h.symbol, [], h.only, subst (λ (sort : Sort). test sort ≡ true) (sym h.sorted) holds)
 
 abbrev pub more_path : Sort → Bool
@@ -44,21 +44,21 @@ path_exact = mapped_exact IsPath no_blocks (λ p. record { first = p.0; rest = p
     (λ p word h. h) (λ path word h. ((path.first, path.rest), refl, h)) (λ p. refl)
 
 pub path_begins : (test : Sort → Bool) → test sorts.Name ≡ true → BeginsWith IsPath test
-path_begins test holds path word h = pair_begins (AreFollowing sorts.Point IsName) test (name_begins test holds) (path.first, path.rest) word h
+path_begins test holds path word h = pair_begins (AreFollowing sorts.Point IsWrittenName) test (name_begins test holds) (path.first, path.rest) word h
 
 -- ---- literals
 
-abbrev Literals : Literal → List Symbol → Type 0
+abbrev Literals : Literal → List PlainSymbol → Type 0
 Literals l word = Image number_of (IsSymbol sorts.Number) l word
     ⊎ (Image decimal_of (IsSymbol sorts.Decimal) l word ⊎ (Image (truth_of true) (IsPlaced sorts.True) l word ⊎ Image (truth_of false) (IsPlaced sorts.False) l word))
 
-literals_to : (l : Literal) (word : List Symbol) → Literals l word → IsLiteral l word
+literals_to : (l : Literal) (word : List PlainSymbol) → Literals l word → IsLiteral l word
 literals_to l word (inl (symbol, eq, h)) = subst (λ (l : Literal). IsLiteral l word) (sym eq) (record { symbol = symbol; only = h.0; written = (h.1, refl); placed = refl })
 literals_to l word (inr (inl (symbol, eq, h))) = subst (λ (l : Literal). IsLiteral l word) (sym eq) (record { symbol = symbol; only = h.0; written = (h.1, refl); placed = refl })
 literals_to l word (inr (inr (inl (at, eq, h)))) = subst (λ (l : Literal). IsLiteral l word) (sym eq) (record { symbol = h.symbol; only = h.only; written = h.sorted; placed = sym h.placed })
 literals_to l word (inr (inr (inr (at, eq, h)))) = subst (λ (l : Literal). IsLiteral l word) (sym eq) (record { symbol = h.symbol; only = h.only; written = h.sorted; placed = sym h.placed })
 
-literals_from : (constant : Constant) (at : ℕ) (word : List Symbol) → IsLiteral (record { constant = constant; at = at }) word → Literals (record { constant = constant; at = at }) word
+literals_from : (constant : Constant) (at : ℕ) (word : List PlainSymbol) → IsLiteral (record { constant = constant; at = at }) word → Literals (record { constant = constant; at = at }) word
 literals_from (constants.Number v) at word h = inl (h.symbol, (λ i. record { constant = constants.Number (h.written.1 i); at = h.placed i }), (h.only, h.written.0))
 literals_from (constants.Decimal t) at word h = inr (inl (h.symbol, (λ i. record { constant = constants.Decimal (h.written.1 i); at = h.placed i }), (h.only, h.written.0)))
 literals_from (constants.Truth true) at word h = inr (inr (inl (at, refl, record { symbol = h.symbol; only = h.only; sorted = h.written; placed = sym h.placed })))
@@ -66,7 +66,7 @@ literals_from (constants.Truth false) at word h = inr (inr (inr (at, refl, recor
 
 -- a literal begins with one of four sorts
 literal_starts : (test : Sort → Bool) → test sorts.Number ≡ true → test sorts.Decimal ≡ true → test sorts.True ≡ true → test sorts.False ≡ true
-    → (constant : Constant) (symbol : Symbol) → Writes symbol constant → test symbol.sort ≡ true
+    → (constant : Constant) (symbol : PlainSymbol) → Writes symbol constant → test symbol.sort ≡ true
 literal_starts test n d t f (constants.Number v) symbol w = subst (λ (sort : Sort). test sort ≡ true) (sym w.0) n
 literal_starts test n d t f (constants.Decimal v) symbol w = subst (λ (sort : Sort). test sort ≡ true) (sym w.0) d
 literal_starts test n d t f (constants.Truth true) symbol w = subst (λ (sort : Sort). test sort ≡ true) (sym w) t
@@ -93,14 +93,14 @@ literal_exact = relabelled_exact IsLiteral no_blocks
 
 -- ---- expressions and values
 
-abbrev Exprs : Expr → List Symbol → Type 0
+abbrev Exprs : Expr → List PlainSymbol → Type 0
 Exprs e word = Image exprs.Path IsPath e word ⊎ Image exprs.Literal IsLiteral e word
 
-exprs_to : (e : Expr) (word : List Symbol) → Exprs e word → IsExpr e word
+exprs_to : (e : Expr) (word : List PlainSymbol) → Exprs e word → IsExpr e word
 exprs_to e word (inl (p, eq, h)) = subst (λ (e : Expr). IsExpr e word) (sym eq) h
 exprs_to e word (inr (l, eq, h)) = subst (λ (e : Expr). IsExpr e word) (sym eq) h
 
-exprs_from : (e : Expr) (word : List Symbol) → IsExpr e word → Exprs e word
+exprs_from : (e : Expr) (word : List PlainSymbol) → IsExpr e word → Exprs e word
 exprs_from (exprs.Path p) word h = inl (p, refl, h)
 exprs_from (exprs.Literal l) word h = inr (l, refl, h)
 
@@ -116,20 +116,20 @@ pub expr_begins : (test : Sort → Bool) → test sorts.Name ≡ true → test s
 expr_begins test a n d t f (exprs.Path p) word h = path_begins test a p word h
 expr_begins test a n d t f (exprs.Literal l) word h = literal_begins test n d t f l word h
 
-abbrev Values : Value → List Symbol → Type 0
-Values e word = Image values.Name IsName e word ⊎ Image values.Literal IsLiteral e word
+abbrev Values : Value → List PlainSymbol → Type 0
+Values e word = Image values.Name IsWrittenName e word ⊎ Image values.Literal IsLiteral e word
 
-values_to : (e : Value) (word : List Symbol) → Values e word → IsValue e word
-values_to e word (inl (p, eq, h)) = subst (λ (e : Value). IsValue e word) (sym eq) h
-values_to e word (inr (l, eq, h)) = subst (λ (e : Value). IsValue e word) (sym eq) h
+values_to : (e : Value) (word : List PlainSymbol) → Values e word → IsWrittenValue e word
+values_to e word (inl (p, eq, h)) = subst (λ (e : Value). IsWrittenValue e word) (sym eq) h
+values_to e word (inr (l, eq, h)) = subst (λ (e : Value). IsWrittenValue e word) (sym eq) h
 
-values_from : (e : Value) (word : List Symbol) → IsValue e word → Values e word
+values_from : (e : Value) (word : List PlainSymbol) → IsWrittenValue e word → Values e word
 values_from (values.Name p) word h = inl (p, refl, h)
 values_from (values.Literal l) word h = inr (l, refl, h)
 
-pub value_exact : IsExact IsValue no_blocks no_more value
+pub value_exact : IsExact IsWrittenValue no_blocks no_more value
 unfolding value same refuses
-value_exact = relabelled_exact IsValue no_blocks
+value_exact = relabelled_exact IsWrittenValue no_blocks
     (choice_exact (is sorts.Name) (image_exact no_blocks values.Name name_exact (λ x. refl)) (image_exact no_blocks values.Literal literal_exact (λ x. refl))
     (image_begins values.Name (is sorts.Name) (name_begins (is sorts.Name) refl))
     (apart (Image values.Literal IsLiteral) (is sorts.Name) no_more (image_begins values.Literal (refuses (is sorts.Name)) (literal_begins (refuses (is sorts.Name)) refl refl refl refl))))
@@ -159,14 +159,14 @@ creation_exact = mapped_exact IsCreation no_blocks (λ p. record { at = p.0; cla
     (λ c word h. ((c.at, (c.class, (tt, (c.arguments, tt)))), refl, h))
     (λ p. refl)
 
-abbrev Inits : Init → List Symbol → Type 0
+abbrev Inits : Init → List PlainSymbol → Type 0
 Inits e word = Image inits.New IsCreation e word ⊎ Image inits.Expr IsExpr e word
 
-inits_to : (e : Init) (word : List Symbol) → Inits e word → IsInit e word
+inits_to : (e : Init) (word : List PlainSymbol) → Inits e word → IsInit e word
 inits_to e word (inl (p, eq, h)) = subst (λ (e : Init). IsInit e word) (sym eq) h
 inits_to e word (inr (l, eq, h)) = subst (λ (e : Init). IsInit e word) (sym eq) h
 
-inits_from : (e : Init) (word : List Symbol) → IsInit e word → Inits e word
+inits_from : (e : Init) (word : List PlainSymbol) → IsInit e word → Inits e word
 inits_from (inits.New p) word h = inl (p, refl, h)
 inits_from (inits.Expr l) word h = inr (l, refl, h)
 
@@ -183,22 +183,22 @@ init_exact = relabelled_exact IsInit no_blocks
 
 -- ---- types
 
-abbrev pub IsPlacedBase : ℕ × Base → List Symbol → Type 0
+abbrev pub IsPlacedBase : ℕ × BaseType → List PlainSymbol → Type 0
 IsPlacedBase both = IsBase both.0 both.1
 
-abbrev Bases : ℕ × Base → List Symbol → Type 0
+abbrev Bases : ℕ × BaseType → List PlainSymbol → Type 0
 Bases b word = Image (placed bases.Int) (IsPlaced sorts.Int) b word
     ⊎ (Image (placed bases.Float) (IsPlaced sorts.Float) b word
-    ⊎ (Image (placed bases.Bool) (IsPlaced sorts.Bool) b word ⊎ (Image (placed bases.Str) (IsPlaced sorts.Text) b word ⊎ Image named IsName b word)))
+    ⊎ (Image (placed bases.Bool) (IsPlaced sorts.Bool) b word ⊎ (Image (placed bases.Str) (IsPlaced sorts.Text) b word ⊎ Image named IsWrittenName b word)))
 
-bases_to : (b : ℕ × Base) (word : List Symbol) → Bases b word → IsPlacedBase b word
-bases_to b word (inl (at, eq, h)) = subst (λ (b : ℕ × Base). IsPlacedBase b word) (sym eq) h
-bases_to b word (inr (inl (at, eq, h))) = subst (λ (b : ℕ × Base). IsPlacedBase b word) (sym eq) h
-bases_to b word (inr (inr (inl (at, eq, h)))) = subst (λ (b : ℕ × Base). IsPlacedBase b word) (sym eq) h
-bases_to b word (inr (inr (inr (inl (at, eq, h))))) = subst (λ (b : ℕ × Base). IsPlacedBase b word) (sym eq) h
-bases_to b word (inr (inr (inr (inr (n, eq, h))))) = subst (λ (b : ℕ × Base). IsPlacedBase b word) (sym eq) (h, refl)
+bases_to : (b : ℕ × BaseType) (word : List PlainSymbol) → Bases b word → IsPlacedBase b word
+bases_to b word (inl (at, eq, h)) = subst (λ (b : ℕ × BaseType). IsPlacedBase b word) (sym eq) h
+bases_to b word (inr (inl (at, eq, h))) = subst (λ (b : ℕ × BaseType). IsPlacedBase b word) (sym eq) h
+bases_to b word (inr (inr (inl (at, eq, h)))) = subst (λ (b : ℕ × BaseType). IsPlacedBase b word) (sym eq) h
+bases_to b word (inr (inr (inr (inl (at, eq, h))))) = subst (λ (b : ℕ × BaseType). IsPlacedBase b word) (sym eq) h
+bases_to b word (inr (inr (inr (inr (n, eq, h))))) = subst (λ (b : ℕ × BaseType). IsPlacedBase b word) (sym eq) (h, refl)
 
-bases_from : (at : ℕ) (b : Base) (word : List Symbol) → IsBase at b word → Bases (at, b) word
+bases_from : (at : ℕ) (b : BaseType) (word : List PlainSymbol) → IsBase at b word → Bases (at, b) word
 bases_from at bases.Int word h = inl (at, refl, h)
 bases_from at bases.Float word h = inr (inl (at, refl, h))
 bases_from at bases.Bool word h = inr (inr (inl (at, refl, h)))
@@ -206,7 +206,7 @@ bases_from at bases.Str word h = inr (inr (inr (inl (at, refl, h))))
 bases_from at (bases.Named name) word h = inr (inr (inr (inr (name, (λ i. (h.1 i, bases.Named name)), h.0))))
 
 pub base_begins : (test : Sort → Bool) → test sorts.Int ≡ true → test sorts.Float ≡ true → test sorts.Bool ≡ true → test sorts.Text ≡ true → test sorts.Name ≡ true
-    → (at : ℕ) (b : Base) (word : List Symbol) → IsBase at b word → (symbol : Symbol) × (after : List Symbol) × (word ≡ symbol ∷ after) × (test symbol.sort ≡ true)
+    → (at : ℕ) (b : BaseType) (word : List PlainSymbol) → IsBase at b word → (symbol : PlainSymbol) × (after : List PlainSymbol) × (word ≡ symbol ∷ after) × (test symbol.sort ≡ true)
 base_begins test i f b s n at bases.Int word h = place_begins sorts.Int test i at word h
 base_begins test i f b s n at bases.Float word h = place_begins sorts.Float test f at word h
 base_begins test i f b s n at bases.Bool word h = place_begins sorts.Bool test b at word h

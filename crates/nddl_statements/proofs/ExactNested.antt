@@ -3,7 +3,7 @@ use Rattle.std.proofs.Common.{◌≡◌, ℕ, zero, suc, Bool, true, false, Opti
 use Rattle.nddl_reading.specs.declared.sort.Sort.{Sort}
 use Rattle.nddl_reading.specs.declared.sort.Sort.TheVariants as sorts
 use Rattle.nddl_reading.specs.Sorts.{same}
-use Rattle.nddl_reading.specs.Symbols.{Symbol}
+use Rattle.nddl_reading.specs.Symbols.{PlainSymbol}
 use Rattle.nddl_reading.specs.Readers.{Outcome, is, choice, mapped}
 use Rattle.nddl_reading.specs.Exact.{◌·◌, IsPlaced, IsMark, IsNothing, AreMany, earlier, earliest, BeginsWith, IsExact}
 use Rattle.nddl_reading.proofs.Lists.{append_none}
@@ -12,55 +12,55 @@ use Rattle.nddl_reading.proofs.Combine.{no_more, not_both, mark_exact, place_exa
 use Rattle.nddl_reading.proofs.Many.{wider, many_exact}
 use Rattle.nddl_reading.proofs.Choices.{Image, image_exact, image_begins, either_begins, after_exact, after_begins, same_sort}
 use Rattle.nddl_ast.specs.declared.name.Name.{Name}
-use Rattle.nddl_ast.specs.declared.statement.Guard.{Guard}
+use Rattle.nddl_ast.specs.declared.statement.Condition.{Condition}
 use Rattle.nddl_ast.specs.declared.statement.Stmt.{Stmt}
 use Rattle.nddl_ast.specs.declared.statement.Stmt.TheVariants as stmts
 use Rattle.nddl_ast.specs.Tree.{Statements, Nothing, Declares, Calls, Asks, Tests, Chooses, Repeats, Braces}
 use Rattle.nddl_ast.specs.Block.{statements_of}
 use Rattle.nddl_statements.specs.declared.statements.SimpleStmt.{SimpleStmt}
 use Rattle.nddl_statements.specs.declared.statements.SimpleStmt.TheVariants as plains
-use Rattle.nddl_statements.specs.Grammar.{IsName, IsVariable, IsCall, IsAsk, IsGuard, IsLoneIf, Encloses, AreStatements, IsBlock, deep_statements, deep_block}
-use Rattle.nddl_statements.specs.Productions.{guard, begins_stmt, stmt_of, lone, too_deep, Inner, otherwise_with, if_with, foreach_with, stmt_with, block_with, blocks, block}
+use Rattle.nddl_statements.specs.Grammar.{IsWrittenName, IsVariable, IsCall, IsAsk, IsCondition, IsLoneIf, Encloses, AreStatements, IsBlock, deep_statements, deep_block}
+use Rattle.nddl_statements.specs.Productions.{condition, begins_stmt, stmt_of, lone, too_deep, Inner, otherwise_with, if_with, foreach_with, stmt_with, block_with, blocks, block}
 use Rattle.nddl_statements.proofs.Flat.{Starts, front_starts, refuses, apart, ◌>>◌, closed}
 use Rattle.nddl_statements.proofs.ExactExpressions.{name_exact}
 use Rattle.nddl_statements.proofs.ExactStatements.{aside_empty, in_back}
 use Rattle.nddl_statements.proofs.ExactStatements.{IsPlain}
 use Rattle.nddl_statements.proofs.ExactPlain.{plain_exact, plain_begins}
 use Rattle.nddl_ast.specs.Places.{stmt_place}
-use Rattle.nddl_statements.proofs.ExactBlocks.{more_guard, guard_exact, Opens, too_deep_exact, with_nothing, without_nothing}
+use Rattle.nddl_statements.proofs.ExactBlocks.{more_condition, condition_exact, Opens, too_deep_exact, with_nothing, without_nothing}
 
-abbrev pub IsElse : Braces → List Symbol → Type 0
+abbrev pub IsElse : Braces → List PlainSymbol → Type 0
 IsElse b word = Encloses b.at (AreStatements b.statements) word ⊎ (IsLoneIf b.at b.statements × AreStatements b.statements word)
 
-abbrev pub IsOtherwise : Option Braces → List Symbol → Type 0
+abbrev pub IsOtherwise : Option Braces → List PlainSymbol → Type 0
 IsOtherwise None = IsNothing
 IsOtherwise (Some b) = IsMark sorts.Else · IsElse b
 
-abbrev IfParts : ℕ × (Unit {0} × (Guard × (Unit {0} × (Braces × Option Braces)))) → List Symbol → Type 0
-IfParts = Paired (IsPlaced sorts.If) (Paired (MarkOf sorts.ParenOpen) (Paired IsGuard (Paired (MarkOf sorts.ParenClose) (Paired IsBlock IsOtherwise))))
+abbrev IfParts : ℕ × (Unit {0} × (Condition × (Unit {0} × (Braces × Option Braces)))) → List PlainSymbol → Type 0
+IfParts = Paired (IsPlaced sorts.If) (Paired (MarkOf sorts.ParenOpen) (Paired IsCondition (Paired (MarkOf sorts.ParenClose) (Paired IsBlock IsOtherwise))))
 
-abbrev if_of : ℕ × (Unit {0} × (Guard × (Unit {0} × (Braces × Option Braces)))) → Stmt
+abbrev if_of : ℕ × (Unit {0} × (Condition × (Unit {0} × (Braces × Option Braces)))) → Stmt
 if_of p = stmts.If p.0 p.1.1.0 p.1.1.1.1.0 p.1.1.1.1.1
 
-abbrev ForeachParts : ℕ × (Unit {0} × (Name × (Unit {0} × (Name × (Unit {0} × Braces))))) → List Symbol → Type 0
-ForeachParts = Paired (IsPlaced sorts.Foreach) (Paired (MarkOf sorts.ParenOpen) (Paired IsName (Paired (MarkOf sorts.In) (Paired IsName (Paired (MarkOf sorts.ParenClose) IsBlock)))))
+abbrev ForeachParts : ℕ × (Unit {0} × (Name × (Unit {0} × (Name × (Unit {0} × Braces))))) → List PlainSymbol → Type 0
+ForeachParts = Paired (IsPlaced sorts.Foreach) (Paired (MarkOf sorts.ParenOpen) (Paired IsWrittenName (Paired (MarkOf sorts.In) (Paired IsWrittenName (Paired (MarkOf sorts.ParenClose) IsBlock)))))
 
 abbrev foreach_of : ℕ × (Unit {0} × (Name × (Unit {0} × (Name × (Unit {0} × Braces))))) → Stmt
 foreach_of p = stmts.Foreach p.0 p.1.1.0 p.1.1.1.1.0 p.1.1.1.1.1.1
 
-abbrev pub IsStmt : Stmt → List Symbol → Type 0
+abbrev pub IsStmt : Stmt → List PlainSymbol → Type 0
 IsStmt (stmts.Variable v) = IsVariable v
 IsStmt (stmts.Call c) = IsCall c
 IsStmt (stmts.Ask a) = IsAsk a
-IsStmt (stmts.If at guard then otherwise) = IsPlaced sorts.If at · IsMark sorts.ParenOpen · IsGuard guard · IsMark sorts.ParenClose · IsBlock then · IsOtherwise otherwise
-IsStmt (stmts.Foreach at name class body) = IsPlaced sorts.Foreach at · IsMark sorts.ParenOpen · IsName name · IsMark sorts.In · IsName class · IsMark sorts.ParenClose · IsBlock body
+IsStmt (stmts.If at condition then otherwise) = IsPlaced sorts.If at · IsMark sorts.ParenOpen · IsCondition condition · IsMark sorts.ParenClose · IsBlock then · IsOtherwise otherwise
+IsStmt (stmts.Foreach at name class body) = IsPlaced sorts.Foreach at · IsMark sorts.ParenOpen · IsWrittenName name · IsMark sorts.In · IsWrittenName class · IsMark sorts.ParenClose · IsBlock body
 
 abbrev deep_other : ℕ → Option Braces → Option ℕ
 deep_other left None = None
 deep_other left (Some b) = deep_block left b
 
 abbrev pub deep_stmt : ℕ → Stmt → Option ℕ
-deep_stmt left (stmts.If at guard then otherwise) = earlier (deep_block left then) (deep_other left otherwise)
+deep_stmt left (stmts.If at condition then otherwise) = earlier (deep_block left then) (deep_other left otherwise)
 deep_stmt left (stmts.Foreach at name class body) = deep_block left body
 deep_stmt left other = None
 
@@ -71,14 +71,14 @@ pub record AreExact (left : ℕ) (inner : Inner) : Type 0 where
 
 -- ---- statements
 
-abbrev Otherwise : Option Braces → List Symbol → Type 0
+abbrev Otherwise : Option Braces → List PlainSymbol → Type 0
 Otherwise o word = Image Some (λ b. IsMark sorts.Else · IsElse b) o word ⊎ EmptyFor None o word
 
-otherwise_to : (o : Option Braces) (word : List Symbol) → Otherwise o word → IsOtherwise o word
+otherwise_to : (o : Option Braces) (word : List PlainSymbol) → Otherwise o word → IsOtherwise o word
 otherwise_to o word (inl (b, eq, h)) = subst (λ (o : Option Braces). IsOtherwise o word) (sym eq) h
 otherwise_to o word (inr (eq, h)) = subst (λ (o : Option Braces). IsOtherwise o word) (sym eq) h
 
-otherwise_from : (o : Option Braces) (word : List Symbol) → IsOtherwise o word → Otherwise o word
+otherwise_from : (o : Option Braces) (word : List PlainSymbol) → IsOtherwise o word → Otherwise o word
 otherwise_from None word h = inr (refl, h)
 otherwise_from (Some b) word h = inl (b, refl, h)
 
@@ -93,28 +93,28 @@ otherwise_exact left inner a = relabelled_exact IsOtherwise (deep_other left)
 if_exact : (left : ℕ) (inner : Inner) → AreExact left inner → IsExact (Image if_of IfParts) (deep_stmt left) (is sorts.Else) (if_with inner)
 unfolding same refuses
 if_exact left inner a = image_exact (deep_stmt left) if_of
-    (place_exact sorts.If >> mark_exact sorts.ParenOpen >> closed guard_exact (mark_exact sorts.ParenClose >> a.block >> otherwise_exact left inner a) (pair_begins (Paired IsBlock IsOtherwise) (refuses more_guard) (mark_begins sorts.ParenClose (refuses more_guard) refl)))
+    (place_exact sorts.If >> mark_exact sorts.ParenOpen >> closed condition_exact (mark_exact sorts.ParenClose >> a.block >> otherwise_exact left inner a) (pair_begins (Paired IsBlock IsOtherwise) (refuses more_condition) (mark_begins sorts.ParenClose (refuses more_condition) refl)))
     (λ p. refl)
 
 foreach_exact : (left : ℕ) (inner : Inner) → AreExact left inner → IsExact (Image foreach_of ForeachParts) (deep_stmt left) no_more (foreach_with inner)
 foreach_exact left inner a = image_exact (deep_stmt left) foreach_of
     (place_exact sorts.Foreach >> mark_exact sorts.ParenOpen >> name_exact >> mark_exact sorts.In >> name_exact >> mark_exact sorts.ParenClose >> a.block) (λ p. refl)
 
-abbrev Stmts : Stmt → List Symbol → Type 0
+abbrev Stmts : Stmt → List PlainSymbol → Type 0
 Stmts s word = Image if_of IfParts s word ⊎ (Image foreach_of ForeachParts s word ⊎ Image stmt_of IsPlain s word)
 
-plain_to_stmt : (y : SimpleStmt) (word : List Symbol) → IsPlain y word → IsStmt (stmt_of y) word
+plain_to_stmt : (y : SimpleStmt) (word : List PlainSymbol) → IsPlain y word → IsStmt (stmt_of y) word
 plain_to_stmt (plains.Variable v) word h = h
 plain_to_stmt (plains.Call c) word h = h
 plain_to_stmt (plains.Ask a) word h = h
 
-stmts_to : (s : Stmt) (word : List Symbol) → Stmts s word → IsStmt s word
+stmts_to : (s : Stmt) (word : List PlainSymbol) → Stmts s word → IsStmt s word
 stmts_to s word (inl (p, eq, h)) = subst (λ (s : Stmt). IsStmt s word) (sym eq) h
 stmts_to s word (inr (inl (p, eq, h))) = subst (λ (s : Stmt). IsStmt s word) (sym eq) h
 stmts_to s word (inr (inr (y, eq, h))) = subst (λ (s : Stmt). IsStmt s word) (sym eq) (plain_to_stmt y word h)
 
-stmts_from : (s : Stmt) (word : List Symbol) → IsStmt s word → Stmts s word
-stmts_from (stmts.If at guard then otherwise) word h = inl ((at, (tt, (guard, (tt, (then, otherwise))))), refl, h)
+stmts_from : (s : Stmt) (word : List PlainSymbol) → IsStmt s word → Stmts s word
+stmts_from (stmts.If at condition then otherwise) word h = inl ((at, (tt, (condition, (tt, (then, otherwise))))), refl, h)
 stmts_from (stmts.Foreach at name class body) word h = inr (inl ((at, (tt, (name, (tt, (class, (tt, body)))))), refl, h))
 stmts_from (stmts.Variable v) word h = inr (inr (plains.Variable v, refl, h))
 stmts_from (stmts.Call c) word h = inr (inr (plains.Call c, refl, h))
@@ -160,38 +160,38 @@ not_that test sort fails other holds = by (is sort other) refl where
 
 -- ---- lists of statements
 
-with_none : (at : ℕ) (guard : Guard) (then : Braces) (word : List Symbol) → IsStmt (stmts.If at guard then None) word
-    → (IsPlaced sorts.If at · IsMark sorts.ParenOpen · IsGuard guard · IsMark sorts.ParenClose · IsBlock then) word
-with_none at guard then = in_back (IsPlaced sorts.If at) _ _ (in_back (IsMark sorts.ParenOpen) _ _ (in_back (IsGuard guard) _ _ (in_back (IsMark sorts.ParenClose) (IsBlock then · IsNothing) (IsBlock then) (without_nothing (IsBlock then)))))
+with_none : (at : ℕ) (condition : Condition) (then : Braces) (word : List PlainSymbol) → IsStmt (stmts.If at condition then None) word
+    → (IsPlaced sorts.If at · IsMark sorts.ParenOpen · IsCondition condition · IsMark sorts.ParenClose · IsBlock then) word
+with_none at condition then = in_back (IsPlaced sorts.If at) _ _ (in_back (IsMark sorts.ParenOpen) _ _ (in_back (IsCondition condition) _ _ (in_back (IsMark sorts.ParenClose) (IsBlock then · IsNothing) (IsBlock then) (without_nothing (IsBlock then)))))
 
-to_none : (at : ℕ) (guard : Guard) (then : Braces) (word : List Symbol) → (IsPlaced sorts.If at · IsMark sorts.ParenOpen · IsGuard guard · IsMark sorts.ParenClose · IsBlock then) word
-    → IsStmt (stmts.If at guard then None) word
-to_none at guard then = in_back (IsPlaced sorts.If at) _ _ (in_back (IsMark sorts.ParenOpen) _ _ (in_back (IsGuard guard) _ _ (in_back (IsMark sorts.ParenClose) (IsBlock then) (IsBlock then · IsNothing) (with_nothing (IsBlock then)))))
+to_none : (at : ℕ) (condition : Condition) (then : Braces) (word : List PlainSymbol) → (IsPlaced sorts.If at · IsMark sorts.ParenOpen · IsCondition condition · IsMark sorts.ParenClose · IsBlock then) word
+    → IsStmt (stmts.If at condition then None) word
+to_none at condition then = in_back (IsPlaced sorts.If at) _ _ (in_back (IsMark sorts.ParenOpen) _ _ (in_back (IsCondition condition) _ _ (in_back (IsMark sorts.ParenClose) (IsBlock then) (IsBlock then · IsNothing) (with_nothing (IsBlock then)))))
 
-list_to : (xs : List Stmt) (word : List Symbol) → AreMany IsStmt xs word → AreStatements (statements_of xs) word
+list_to : (xs : List Stmt) (word : List PlainSymbol) → AreMany IsStmt xs word → AreStatements (statements_of xs) word
 list_to [] word h = h
 list_to (stmts.Variable v ∷ xs) word h = in_back (IsVariable v) _ _ (list_to xs) word h
 list_to (stmts.Call c ∷ xs) word h = in_back (IsCall c) _ _ (list_to xs) word h
 list_to (stmts.Ask a ∷ xs) word h = in_back (IsAsk a) _ _ (list_to xs) word h
-list_to (stmts.If at guard then None ∷ xs) word h = (h.0, h.1, h.2, with_none at guard then h.0 h.3, list_to xs h.1 h.4)
-list_to (stmts.If at guard then (Some b) ∷ xs) word h = (h.0, h.1, h.2, h.3, list_to xs h.1 h.4)
+list_to (stmts.If at condition then None ∷ xs) word h = (h.0, h.1, h.2, with_none at condition then h.0 h.3, list_to xs h.1 h.4)
+list_to (stmts.If at condition then (Some b) ∷ xs) word h = (h.0, h.1, h.2, h.3, list_to xs h.1 h.4)
 list_to (stmts.Foreach at name class body ∷ xs) word h = (h.0, h.1, h.2, h.3, list_to xs h.1 h.4)
 
-abbrev Listed : Statements → List Symbol → Type 0
+abbrev Listed : Statements → List PlainSymbol → Type 0
 Listed st word = (xs : List Stmt) × (st ≡ statements_of xs) × AreMany IsStmt xs word
 
-list_from : (st : Statements) (word : List Symbol) → AreStatements st word → Listed st word
+list_from : (st : Statements) (word : List PlainSymbol) → AreStatements st word → Listed st word
 list_from Nothing word h = ([], refl, h)
 list_from (Declares v more) word h = let rest = list_from more h.1 h.4 in (stmts.Variable v ∷ rest.0, ap (Declares v) rest.1, (h.0, h.1, h.2, h.3, rest.2))
 list_from (Calls c more) word h = let rest = list_from more h.1 h.4 in (stmts.Call c ∷ rest.0, ap (Calls c) rest.1, (h.0, h.1, h.2, h.3, rest.2))
 list_from (Asks a more) word h = let rest = list_from more h.1 h.4 in (stmts.Ask a ∷ rest.0, ap (Asks a) rest.1, (h.0, h.1, h.2, h.3, rest.2))
-list_from (Tests at guard then_at then more) word h =
+list_from (Tests at condition then_at then more) word h =
     let rest = list_from more h.1 h.4 in
-    (stmts.If at guard (record { at = then_at; statements = then }) None ∷ rest.0, ap (Tests at guard then_at then) rest.1, (h.0, h.1, h.2, to_none at guard (record { at = then_at; statements = then }) h.0 h.3, rest.2))
-list_from (Chooses at guard then_at then else_at else more) word h =
+    (stmts.If at condition (record { at = then_at; statements = then }) None ∷ rest.0, ap (Tests at condition then_at then) rest.1, (h.0, h.1, h.2, to_none at condition (record { at = then_at; statements = then }) h.0 h.3, rest.2))
+list_from (Chooses at condition then_at then else_at else more) word h =
     let rest = list_from more h.1 h.4 in (
-      stmts.If at guard (record { at = then_at; statements = then }) (Some (record { at = else_at; statements = else })) ∷ rest.0,
-      ap (Chooses at guard then_at then else_at else) rest.1,
+      stmts.If at condition (record { at = then_at; statements = then }) (Some (record { at = else_at; statements = else })) ∷ rest.0,
+      ap (Chooses at condition then_at then else_at else) rest.1,
       (h.0, h.1, h.2, h.3, rest.2),
     )
 list_from (Repeats at name class body_at body more) word h =
@@ -207,8 +207,8 @@ list_deep left [] = refl
 list_deep left (stmts.Variable v ∷ xs) = list_deep left xs
 list_deep left (stmts.Call c ∷ xs) = list_deep left xs
 list_deep left (stmts.Ask a ∷ xs) = list_deep left xs
-list_deep left (stmts.If at guard then None ∷ xs) = (λ i. earlier (sym (earlier_right (deep_block left then)) i) (list_deep left xs i))
-list_deep left (stmts.If at guard then (Some b) ∷ xs) = ap (λ (o : Option ℕ). earlier (earlier (deep_block left then) (deep_block left b)) o) (list_deep left xs)
+list_deep left (stmts.If at condition then None ∷ xs) = (λ i. earlier (sym (earlier_right (deep_block left then)) i) (list_deep left xs i))
+list_deep left (stmts.If at condition then (Some b) ∷ xs) = ap (λ (o : Option ℕ). earlier (earlier (deep_block left then) (deep_block left b)) o) (list_deep left xs)
 list_deep left (stmts.Foreach at name class body ∷ xs) = ap (λ (o : Option ℕ). earlier (deep_block left body) o) (list_deep left xs)
 
 -- ---- blocks, one deeper
@@ -226,24 +226,24 @@ block_exact left inner a = mapped_exact IsBlock (deep_block (suc left)) (λ p. r
 block_begins : (test : Sort → Bool) → test sorts.BraceOpen ≡ true → BeginsWith IsBlock test
 block_begins test holds b word h = front_starts test (IsPlaced sorts.BraceOpen b.at) _ (place_begins sorts.BraceOpen test holds b.at) word h
 
-abbrev LoneIf : Braces → List Symbol → Type 0
+abbrev LoneIf : Braces → List PlainSymbol → Type 0
 LoneIf b word = IsLoneIf b.at b.statements × AreStatements b.statements word
 
-lone_to : (p : ℕ × (Unit {0} × (Guard × (Unit {0} × (Braces × Option Braces))))) (word : List Symbol) → IfParts p word → LoneIf (lone (if_of p)) word
-lone_to (at, (nil, (guard, (nil', (then, None))))) word h = (refl, (word, [], sym (append_none word), with_none at guard then word h, refl))
-lone_to (at, (nil, (guard, (nil', (then, Some b))))) word h = (refl, (word, [], sym (append_none word), h, refl))
+lone_to : (p : ℕ × (Unit {0} × (Condition × (Unit {0} × (Braces × Option Braces))))) (word : List PlainSymbol) → IfParts p word → LoneIf (lone (if_of p)) word
+lone_to (at, (nil, (condition, (nil', (then, None))))) word h = (refl, (word, [], sym (append_none word), with_none at condition then word h, refl))
+lone_to (at, (nil, (condition, (nil', (then, Some b))))) word h = (refl, (word, [], sym (append_none word), h, refl))
 
-lone_from : (at : ℕ) (st : Statements) (word : List Symbol) → IsLoneIf at st → AreStatements st word
+lone_from : (at : ℕ) (st : Statements) (word : List PlainSymbol) → IsLoneIf at st → AreStatements st word
     → (s : Stmt) × (record { at = at; statements = st } ≡ lone s) × Image if_of IfParts s word
-lone_from at (Tests if_at guard then_at then Nothing) word is h = (
-  stmts.If if_at guard (record { at = then_at; statements = then }) None,
-  (λ i. record { at = is i; statements = Tests if_at guard then_at then Nothing }),
-  ((if_at, (tt, (guard, (tt, (record { at = then_at; statements = then }, None))))), refl, to_none if_at guard (record { at = then_at; statements = then }) word (without_nothing _ word h)),
+lone_from at (Tests if_at condition then_at then Nothing) word is h = (
+  stmts.If if_at condition (record { at = then_at; statements = then }) None,
+  (λ i. record { at = is i; statements = Tests if_at condition then_at then Nothing }),
+  ((if_at, (tt, (condition, (tt, (record { at = then_at; statements = then }, None))))), refl, to_none if_at condition (record { at = then_at; statements = then }) word (without_nothing _ word h)),
 )
-lone_from at (Chooses if_at guard then_at then else_at else Nothing) word is h = (
-  stmts.If if_at guard (record { at = then_at; statements = then }) (Some (record { at = else_at; statements = else })),
-  (λ i. record { at = is i; statements = Chooses if_at guard then_at then else_at else Nothing }),
-  ((if_at, (tt, (guard, (tt, (record { at = then_at; statements = then }, Some (record { at = else_at; statements = else })))))), refl, without_nothing _ word h),
+lone_from at (Chooses if_at condition then_at then else_at else Nothing) word is h = (
+  stmts.If if_at condition (record { at = then_at; statements = then }) (Some (record { at = else_at; statements = else })),
+  (λ i. record { at = is i; statements = Chooses if_at condition then_at then else_at else Nothing }),
+  ((if_at, (tt, (condition, (tt, (record { at = then_at; statements = then }, Some (record { at = else_at; statements = else })))))), refl, without_nothing _ word h),
 )
 lone_from at other word is h = absurd is
 
@@ -256,7 +256,7 @@ lone_exact left inner a = mapped_exact LoneIf (deep_block (suc left)) lone (if_e
     (λ b word h. lone_from b.at b.statements word h.0 h.1)
     (λ s. list_deep left (s ∷ []) ∙ earlier_right (deep_stmt left s))
 
-else_of : (left : ℕ) {one other : List Symbol → Outcome Braces} → IsExact LoneIf (deep_block left) (is sorts.Else) one → IsExact IsBlock (deep_block left) no_more other → IsExact IsElse (deep_block left) (is sorts.Else) (choice (is sorts.If) one other)
+else_of : (left : ℕ) {one other : List PlainSymbol → Outcome Braces} → IsExact LoneIf (deep_block left) (is sorts.Else) one → IsExact IsBlock (deep_block left) no_more other → IsExact IsElse (deep_block left) (is sorts.Else) (choice (is sorts.If) one other)
 unfolding same refuses
 else_of left a b = relabelled_exact IsElse (deep_block left)
     (choice_exact (is sorts.If) a (widened_exact (is sorts.Else) b (λ sort out. refl)) (lone_begins (is sorts.If) refl)
@@ -267,22 +267,22 @@ else_of left a b = relabelled_exact IsElse (deep_block left)
 
 -- ---- where nothing more may be nested
 
-block_opens : (b : Braces) (word : List Symbol) → IsBlock b word → Opens sorts.BraceOpen b word
-block_opens b word h = (h.3.symbol, h.1, h.2 ∙ ap (λ (l : List Symbol). l ++ h.1) h.3.only, h.3.sorted, h.3.placed)
+block_opens : (b : Braces) (word : List PlainSymbol) → IsBlock b word → Opens sorts.BraceOpen b word
+block_opens b word h = (h.3.symbol, h.1, h.2 ∙ ap (λ (l : List PlainSymbol). l ++ h.1) h.3.only, h.3.sorted, h.3.placed)
 
-lone_opens : (b : Braces) (word : List Symbol) → LoneIf b word → Opens sorts.If b word
+lone_opens : (b : Braces) (word : List PlainSymbol) → LoneIf b word → Opens sorts.If b word
 lone_opens b word (is, h) =
     let s = lone_from b.at b.statements word is h in
     let p = s.2 in
     let g = p.2 in (
       g.3.symbol,
       g.1,
-      g.2 ∙ ap (λ (l : List Symbol). l ++ g.1) g.3.only,
+      g.2 ∙ ap (λ (l : List PlainSymbol). l ++ g.1) g.3.only,
       g.3.sorted,
       g.3.placed ∙ sym (ap (λ (x : Braces). x.at) s.1 ∙ ap stmt_place p.1),
     )
 
-block_complete : (c : Symbol) → c.sort ≡ sorts.BraceOpen → (after : List Symbol) × (b : Braces) × IsBlock b (c ∷ after) × (b.at ≡ c.at)
+block_complete : (c : PlainSymbol) → c.sort ≡ sorts.BraceOpen → (after : List PlainSymbol) × (b : Braces) × IsBlock b (c ∷ after) × (b.at ≡ c.at)
 block_complete c is =
     let close = (mark_exact sorts.BraceClose).sample 0 in (
       close.0,
@@ -294,10 +294,10 @@ block_complete c is =
 blocks_none : IsExact IsBlock (deep_block 0) no_more (too_deep sorts.BraceOpen)
 blocks_none = too_deep_exact sorts.BraceOpen IsBlock no_more block_opens block_complete
 
-lone_complete : (c : Symbol) → c.sort ≡ sorts.If → (after : List Symbol) × (b : Braces) × LoneIf b (c ∷ after) × (b.at ≡ c.at)
+lone_complete : (c : PlainSymbol) → c.sort ≡ sorts.If → (after : List PlainSymbol) × (b : Braces) × LoneIf b (c ∷ after) × (b.at ≡ c.at)
 unfolding same refuses
 lone_complete c is =
-    let end = (mark_exact sorts.ParenOpen >> closed guard_exact (mark_exact sorts.ParenClose >> blocks_none) (pair_begins IsBlock (refuses more_guard) (mark_begins sorts.ParenClose (refuses more_guard) refl))).sample 0 in (
+    let end = (mark_exact sorts.ParenOpen >> closed condition_exact (mark_exact sorts.ParenClose >> blocks_none) (pair_begins IsBlock (refuses more_condition) (mark_begins sorts.ParenClose (refuses more_condition) refl))).sample 0 in (
       end.0,
       lone (stmts.If c.at end.1.1.0 end.1.1.1.1 None),
       (refl, (c ∷ end.0, [], sym (append_none (c ∷ end.0)), (c ∷ [], end.0, refl, record { symbol = c; only = refl; sorted = is; placed = refl }, end.2), refl)),

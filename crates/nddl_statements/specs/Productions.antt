@@ -2,8 +2,8 @@
 use Rattle.std.specs.Prelude.{ℕ, zero, suc, Bool, true, false, if◌then◌else◌, Option, Some, None, List, [], ◌∷◌, ◌++◌}
 use Rattle.nddl_reading.specs.declared.sort.Sort.{Sort}
 use Rattle.nddl_reading.specs.declared.sort.Sort.TheVariants as sorts
-use Rattle.nddl_reading.specs.Symbols.{Symbol}
-use Rattle.nddl_reading.specs.Readers.{stuck, deep, Reader, and_then, is, symbol_of, place_of, mark, may_mark, nothing, mapped, sequence, choice, many, after, following, separated, listed}
+use Rattle.nddl_reading.specs.Symbols.{PlainSymbol}
+use Rattle.nddl_reading.specs.Readers.{stuck, deep, Reader, and_then, is, symbol_of, mark_place, mark, may_mark, nothing, mapped, sequence, choice, many, after, following, separated, listed}
 use Rattle.nddl_ast.specs.declared.name.Name.{Name}
 use Rattle.nddl_ast.specs.declared.name.Path.{Path}
 use Rattle.nddl_ast.specs.declared.expression.Constant.TheVariants as constants
@@ -12,8 +12,8 @@ use Rattle.nddl_ast.specs.declared.expression.Expr.{Expr}
 use Rattle.nddl_ast.specs.declared.expression.Expr.TheVariants as exprs
 use Rattle.nddl_ast.specs.declared.expression.Value.{Value}
 use Rattle.nddl_ast.specs.declared.expression.Value.TheVariants as values
-use Rattle.nddl_ast.specs.declared.expression.Base.{Base}
-use Rattle.nddl_ast.specs.declared.expression.Base.TheVariants as bases
+use Rattle.nddl_ast.specs.declared.expression.BaseType.{BaseType}
+use Rattle.nddl_ast.specs.declared.expression.BaseType.TheVariants as bases
 use Rattle.nddl_ast.specs.declared.expression.Bounds.{Bounds}
 use Rattle.nddl_ast.specs.declared.expression.Bounds.TheVariants as bounded
 use Rattle.nddl_ast.specs.declared.expression.Type as types
@@ -22,8 +22,8 @@ use Rattle.nddl_ast.specs.declared.expression.Init.{Init}
 use Rattle.nddl_ast.specs.declared.expression.Init.TheVariants as inits
 use Rattle.nddl_ast.specs.declared.statement.Variable.{Variable}
 use Rattle.nddl_ast.specs.declared.statement.Call.{Call}
-use Rattle.nddl_ast.specs.declared.statement.Guard.{Guard}
-use Rattle.nddl_ast.specs.declared.statement.Guard.TheVariants as guards
+use Rattle.nddl_ast.specs.declared.statement.Condition.{Condition}
+use Rattle.nddl_ast.specs.declared.statement.Condition.TheVariants as conditions
 use Rattle.nddl_ast.specs.declared.statement.Stmt.{Stmt}
 use Rattle.nddl_ast.specs.declared.statement.Stmt.TheVariants as stmts
 use Rattle.nddl_ast.specs.declared.declaration.Typed.{Typed}
@@ -36,7 +36,7 @@ use Rattle.nddl_statements.specs.declared.statements.SimpleStmt.TheVariants as p
 
 -- ---- names, values, expressions
 
-abbrev pub name_of : Symbol → Name
+abbrev pub name_of : PlainSymbol → Name
 name_of symbol = record { text = symbol.bytes; at = symbol.at }
 
 unfoldable pub name : Reader Name
@@ -45,20 +45,22 @@ name = mapped name_of (symbol_of sorts.Name)
 unfoldable pub path : Reader Path
 path = mapped (λ p. record { first = p.0; rest = p.1 }) (sequence name (following sorts.Point name))
 
-abbrev pub number_of : Symbol → Literal
+abbrev pub number_of : PlainSymbol → Literal
 number_of symbol = record { constant = constants.Number symbol.value; at = symbol.at }
 
-abbrev pub decimal_of : Symbol → Literal
+abbrev pub decimal_of : PlainSymbol → Literal
 decimal_of symbol = record { constant = constants.Decimal (record { 0 = symbol.value }); at = symbol.at }
 
 abbrev pub truth_of : Bool → ℕ → Literal
 truth_of truth at = record { constant = constants.Truth truth; at = at }
 
+abbrev pub truth : Reader Literal
+truth = choice (is sorts.True) (mapped (truth_of true) (mark_place sorts.True)) (mapped (truth_of false) (mark_place sorts.False))
+
 unfoldable pub literal : Reader Literal
 literal =
     choice (is sorts.Number) (mapped number_of (symbol_of sorts.Number))
-    (choice (is sorts.Decimal) (mapped decimal_of (symbol_of sorts.Decimal))
-    (choice (is sorts.True) (mapped (truth_of true) (place_of sorts.True)) (mapped (truth_of false) (place_of sorts.False))))
+    (choice (is sorts.Decimal) (mapped decimal_of (symbol_of sorts.Decimal)) truth)
 
 unfoldable pub expr : Reader Expr
 expr = choice (is sorts.Name) (mapped exprs.Path path) (mapped exprs.Literal literal)
@@ -80,32 +82,34 @@ arguments = listed begins_value sorts.Comma expr
 
 unfoldable pub creation : Reader Creation
 creation = mapped (λ p. record { at = p.0; class = p.1.0; arguments = p.1.1.1.0 })
-    (sequence (place_of sorts.New) (sequence name (sequence (mark sorts.ParenOpen) (sequence arguments (mark sorts.ParenClose)))))
+    (sequence (mark_place sorts.New) (sequence name (sequence (mark sorts.ParenOpen) (sequence arguments (mark sorts.ParenClose)))))
 
 unfoldable pub init : Reader Init
 init = choice (is sorts.New) (mapped inits.New creation) (mapped inits.Expr expr)
 
 -- ---- types
 
-abbrev pub placed : Base → ℕ → ℕ × Base
+abbrev pub placed : BaseType → ℕ → ℕ × BaseType
 placed base at = (at, base)
 
-abbrev pub named : Name → ℕ × Base
+abbrev pub named : Name → ℕ × BaseType
 named name = (name.at, bases.Named name)
 
-unfoldable pub base : Reader (ℕ × Base)
+abbrev pub base_behind : Reader (ℕ × BaseType)
+base_behind = choice (is sorts.Text) (mapped (placed bases.Str) (mark_place sorts.Text)) (mapped named name)
+
+unfoldable pub base : Reader (ℕ × BaseType)
 base =
-    choice (is sorts.Int) (mapped (placed bases.Int) (place_of sorts.Int))
-    (choice (is sorts.Float) (mapped (placed bases.Float) (place_of sorts.Float))
-    (choice (is sorts.Bool) (mapped (placed bases.Bool) (place_of sorts.Bool))
-    (choice (is sorts.Text) (mapped (placed bases.Str) (place_of sorts.Text)) (mapped named name))))
+    choice (is sorts.Int) (mapped (placed bases.Int) (mark_place sorts.Int))
+    (choice (is sorts.Float) (mapped (placed bases.Float) (mark_place sorts.Float))
+    (choice (is sorts.Bool) (mapped (placed bases.Bool) (mark_place sorts.Bool)) base_behind))
 
 unfoldable pub range : Reader Bounds
 range = mapped (λ p. bounded.Range p.0 p.1.0 p.1.1.1.0)
-    (sequence (place_of sorts.BracketOpen) (sequence value (sequence (may_mark sorts.Comma) (sequence value (mark sorts.BracketClose)))))
+    (sequence (mark_place sorts.BracketOpen) (sequence value (sequence (may_mark sorts.Comma) (sequence value (mark sorts.BracketClose)))))
 
 unfoldable pub set : Reader Bounds
-set = mapped (λ p. bounded.Set p.0 p.1.0) (sequence (place_of sorts.BraceOpen) (sequence (separated sorts.Comma value) (mark sorts.BraceClose)))
+set = mapped (λ p. bounded.Set p.0 p.1.0) (sequence (mark_place sorts.BraceOpen) (sequence (separated sorts.Comma value) (mark sorts.BraceClose)))
 
 unfoldable pub bounds : Reader Bounds
 bounds = choice (is sorts.BracketOpen) range (choice (is sorts.BraceOpen) set (nothing bounded.All))
@@ -186,13 +190,13 @@ plain = choice (is sorts.Name) plain_named (mapped plains.Variable variable)
 
 -- ---- statements with blocks
 
-unfoldable pub guard_behind : Expr → Reader Guard
-guard_behind one =
-    choice (is sorts.Equal) (mapped (guards.Equal one) (after sorts.Equal expr))
-    (choice (is sorts.NotEqual) (mapped (guards.NotEqual one) (after sorts.NotEqual expr)) (nothing (guards.Truth one)))
+unfoldable pub condition_behind : Expr → Reader Condition
+condition_behind one =
+    choice (is sorts.Equal) (mapped (conditions.Equal one) (after sorts.Equal expr))
+    (choice (is sorts.NotEqual) (mapped (conditions.NotEqual one) (after sorts.NotEqual expr)) (nothing (conditions.Truth one)))
 
-unfoldable pub guard : Reader Guard
-guard symbols = and_then (expr symbols) guard_behind
+unfoldable pub condition : Reader Condition
+condition symbols = and_then (expr symbols) condition_behind
 
 abbrev pub stmt_of : SimpleStmt → Stmt
 stmt_of (plains.Variable variable) = stmts.Variable variable
@@ -230,11 +234,11 @@ otherwise_with inner = choice (is sorts.Else) (mapped Some (after sorts.Else inn
 
 abbrev pub if_with : Inner → Reader Stmt
 if_with inner = mapped (λ p. stmts.If p.0 p.1.1.0 p.1.1.1.1.0 p.1.1.1.1.1)
-    (sequence (place_of sorts.If) (sequence (mark sorts.ParenOpen) (sequence guard (sequence (mark sorts.ParenClose) (sequence inner.0 (otherwise_with inner))))))
+    (sequence (mark_place sorts.If) (sequence (mark sorts.ParenOpen) (sequence condition (sequence (mark sorts.ParenClose) (sequence inner.0 (otherwise_with inner))))))
 
 abbrev pub foreach_with : Inner → Reader Stmt
 foreach_with inner = mapped (λ p. stmts.Foreach p.0 p.1.1.0 p.1.1.1.1.0 p.1.1.1.1.1.1)
-    (sequence (place_of sorts.Foreach) (sequence (mark sorts.ParenOpen) (sequence name (sequence (mark sorts.In) (sequence name (sequence (mark sorts.ParenClose) inner.0))))))
+    (sequence (mark_place sorts.Foreach) (sequence (mark sorts.ParenOpen) (sequence name (sequence (mark sorts.In) (sequence name (sequence (mark sorts.ParenClose) inner.0))))))
 
 abbrev pub stmt_with : Inner → Reader Stmt
 stmt_with inner = choice (is sorts.If) (if_with inner) (choice (is sorts.Foreach) (foreach_with inner) (mapped stmt_of plain))
@@ -242,7 +246,7 @@ stmt_with inner = choice (is sorts.If) (if_with inner) (choice (is sorts.Foreach
 -- a block in which the others are read
 abbrev pub block_with : Inner → Reader Braces
 block_with inner = mapped (λ p. record { at = p.0; statements = statements_of p.1.0 })
-    (sequence (place_of sorts.BraceOpen) (sequence (many begins_stmt (stmt_with inner)) (mark sorts.BraceClose)))
+    (sequence (mark_place sorts.BraceOpen) (sequence (many begins_stmt (stmt_with inner)) (mark sorts.BraceClose)))
 
 -- the blocks where so many may be nested
 unfoldable pub blocks : ℕ → Inner
@@ -272,7 +276,7 @@ statements left = many begins_stmt (stmt left)
 
 -- a block in which so many may be nested
 unfoldable pub braces : ℕ → Reader Braces
-braces left = mapped (λ p. record { at = p.0; statements = statements_of p.1.0 }) (sequence (place_of sorts.BraceOpen) (sequence (statements left) (mark sorts.BraceClose)))
+braces left = mapped (λ p. record { at = p.0; statements = statements_of p.1.0 }) (sequence (mark_place sorts.BraceOpen) (sequence (statements left) (mark sorts.BraceClose)))
 
 -- an `if` behind an `else`
 unfoldable pub lone_if : ℕ → Reader Braces

@@ -1,41 +1,47 @@
 //! Statements with blocks in them.
 
 ghost use Rattle.std.specs.Prelude.{◌≡◌};
-ghost use Rattle.nddl_reading.specs.Readers.{begins, Reads};
-ghost use Rattle.nddl_statements.specs.Productions.{guard, guard_behind, begins_stmt, stmt_of, too_deep, braces, block, lone_if, else_block, otherwise, if_stmt, foreach, stmt, statements};
+ghost use Rattle.nddl_reading.specs.Readers.{begins, sequence, mark, IsFound};
+ghost use Rattle.nddl_reading.specs.declared.sort.Sort.TheVariants as sorts;
+ghost use Rattle.nddl_statements.specs.Productions.{name, condition, condition_behind, begins_stmt, stmt_of, too_deep, braces, block, lone_if, else_block, otherwise, if_stmt, foreach, stmt, statements};
 
-use super::expressions::{expr, name};
+use super::expressions::{Expressions, expr, name};
+use super::list;
 use super::statements::{SimpleStmt, plain};
 use super::types::begins_type;
 use eu_name::sequence::Sequence;
 use nddl_ast::expression::Expr;
-use nddl_ast::statement::{Block, Guard, Stmt};
+use nddl_ast::statement::{StmtBlock, Condition, Stmt};
+use nddl_ast::name::Name;
 use nddl_reading::cursor::{Cursor, Stop};
+use nddl_reading::joining::{behind, joined};
 use nddl_reading::sort::Sort;
 
-// What a guard is behind its first expression.
-#[tactic(auto, unfolding(crate::specs::Productions::guard_behind))]
-fn guard_behind(cursor: &mut Cursor<'_>, one: Expr) -> Result<Guard, Stop>
-    ensures { Reads result cursor.new (guard_behind one cursor.old) }
+// What a condition is behind its first expression.
+#[tactic(auto, unfolding(crate::specs::Productions::condition_behind))]
+fn condition_behind(cursor: &mut Cursor<'_>, one: Expr) -> Result<Condition, Stop>
+    ensures { IsFound result cursor.new (condition_behind one cursor.old) }
 {
     if cursor.is_at(Sort::Equal) {
-        cursor.mark(Sort::Equal)?;
-        return Ok(Guard::Equal(one, expr(cursor)?));
+        let other = list::after::<Expressions>(cursor, Sort::Equal);
+        let (one, other) = joined(one, other)?;
+        return Ok(Condition::Equal(one, other));
     }
     if cursor.is_at(Sort::NotEqual) {
-        cursor.mark(Sort::NotEqual)?;
-        return Ok(Guard::NotEqual(one, expr(cursor)?));
+        let other = list::after::<Expressions>(cursor, Sort::NotEqual);
+        let (one, other) = joined(one, other)?;
+        return Ok(Condition::NotEqual(one, other));
     }
-    Ok(Guard::Truth(one))
+    Ok(Condition::Truth(one))
 }
 
 /// `Expr [ ("==" | "!=") Expr ]`
-#[tactic(auto, unfolding(crate::specs::Productions::guard))]
-fn guard(cursor: &mut Cursor<'_>) -> Result<Guard, Stop>
-    ensures { Reads result cursor.new (guard cursor.old) }
+#[tactic(auto, unfolding(crate::specs::Productions::condition))]
+fn condition(cursor: &mut Cursor<'_>) -> Result<Condition, Stop>
+    ensures { IsFound result cursor.new (condition cursor.old) }
 {
     let one = expr(cursor)?;
-    guard_behind(cursor, one)
+    condition_behind(cursor, one)
 }
 
 fn stmt_of(simple: SimpleStmt) -> Stmt
@@ -70,8 +76,8 @@ fn is_at_stmt(cursor: &Cursor<'_>) -> bool
 
 // A block that begins with a symbol of the sort is nested too deep here.
 #[tactic(auto, unfolding(crate::specs::Productions::too_deep))]
-fn too_deep(cursor: &mut Cursor<'_>, sort: Sort) -> Result<Block, Stop>
-    ensures { Reads result cursor.new (too_deep sort cursor.old) }
+fn too_deep(cursor: &mut Cursor<'_>, sort: Sort) -> Result<StmtBlock, Stop>
+    ensures { IsFound result cursor.new (too_deep sort cursor.old) }
 {
     if cursor.is_at(sort) {
         return Err(Stop::Deep);
@@ -82,13 +88,14 @@ fn too_deep(cursor: &mut Cursor<'_>, sort: Sort) -> Result<Block, Stop>
 /// `"{" { Stmt } "}"`, where so many blocks may be nested in it.
 #[cycle(blocks)]
 #[tactic(auto, unfolding(crate::specs::Productions::braces))]
-fn braces(cursor: &mut Cursor<'_>, left: u8) -> Result<Block, Stop>
-    ensures { Reads result cursor.new (braces left cursor.old) }
+fn braces(cursor: &mut Cursor<'_>, left: u8) -> Result<StmtBlock, Stop>
+    ensures { IsFound result cursor.new (braces left cursor.old) }
 {
-    let at = cursor.place_of(Sort::BraceOpen)?;
+    let at = cursor.mark_place(Sort::BraceOpen)?;
     let stmts = statements(cursor, left)?;
-    cursor.mark(Sort::BraceClose)?;
-    Ok(Block {
+    let done = cursor.mark(Sort::BraceClose);
+    let stmts = behind(done, stmts)?;
+    Ok(StmtBlock {
         at,
         stmts: stmts.into_vec(),
     })
@@ -96,8 +103,8 @@ fn braces(cursor: &mut Cursor<'_>, left: u8) -> Result<Block, Stop>
 
 /// The same, where so many blocks may be nested, it among them.
 #[cycle(blocks)]
-pub fn block(cursor: &mut Cursor<'_>, left: u8) -> Result<Block, Stop>
-    ensures { Reads result cursor.new (block left cursor.old) }
+pub fn block(cursor: &mut Cursor<'_>, left: u8) -> Result<StmtBlock, Stop>
+    ensures { IsFound result cursor.new (block left cursor.old) }
 {
     if left == 0 {
         return too_deep(cursor, Sort::BraceOpen);
@@ -108,14 +115,14 @@ pub fn block(cursor: &mut Cursor<'_>, left: u8) -> Result<Block, Stop>
 /// An `if` behind an `else`, as a block.
 #[cycle(blocks)]
 #[tactic(auto, unfolding(crate::specs::Productions::lone_if))]
-fn lone_if(cursor: &mut Cursor<'_>, left: u8) -> Result<Block, Stop>
-    ensures { Reads result cursor.new (lone_if left cursor.old) }
+fn lone_if(cursor: &mut Cursor<'_>, left: u8) -> Result<StmtBlock, Stop>
+    ensures { IsFound result cursor.new (lone_if left cursor.old) }
 {
     let stmt = if_stmt(cursor, left)?;
     let at = stmt.place();
     let mut stmts = Sequence::new(cursor.allocator());
     stmts.push(stmt)?;
-    Ok(Block {
+    Ok(StmtBlock {
         at,
         stmts: stmts.into_vec(),
     })
@@ -123,8 +130,8 @@ fn lone_if(cursor: &mut Cursor<'_>, left: u8) -> Result<Block, Stop>
 
 /// `Block | IfStmt`: what stands behind `else`.
 #[cycle(blocks)]
-fn else_block(cursor: &mut Cursor<'_>, left: u8) -> Result<Block, Stop>
-    ensures { Reads result cursor.new (else_block left cursor.old) }
+fn else_block(cursor: &mut Cursor<'_>, left: u8) -> Result<StmtBlock, Stop>
+    ensures { IsFound result cursor.new (else_block left cursor.old) }
 {
     if !cursor.is_at(Sort::If) {
         return block(cursor, left);
@@ -138,8 +145,8 @@ fn else_block(cursor: &mut Cursor<'_>, left: u8) -> Result<Block, Stop>
 /// `[ "else" ( Block | IfStmt ) ]`
 #[cycle(blocks)]
 #[tactic(auto, unfolding(crate::specs::Productions::otherwise))]
-fn otherwise(cursor: &mut Cursor<'_>, left: u8) -> Result<Option<Block>, Stop>
-    ensures { Reads result cursor.new (otherwise left cursor.old) }
+fn otherwise(cursor: &mut Cursor<'_>, left: u8) -> Result<Option<StmtBlock>, Stop>
+    ensures { IsFound result cursor.new (otherwise left cursor.old) }
 {
     if cursor.is_at(Sort::Else) {
         cursor.mark(Sort::Else)?;
@@ -148,39 +155,63 @@ fn otherwise(cursor: &mut Cursor<'_>, left: u8) -> Result<Option<Block>, Stop>
     Ok(None)
 }
 
+/// `")" Block [ "else" ( Block | IfStmt ) ]`
+#[cycle(blocks)]
+#[tactic(auto, unfolding(crate::specs::Productions::otherwise))]
+fn branches(cursor: &mut Cursor<'_>, left: u8) -> Result<((), (StmtBlock, Option<StmtBlock>)), Stop>
+    ensures { IsFound result cursor.new (sequence (mark sorts.ParenClose) (sequence (block left) (otherwise left)) cursor.old) }
+{
+    cursor.mark(Sort::ParenClose)?;
+    let then = block(cursor, left)?;
+    let otherwise = otherwise(cursor, left);
+    let blocks = joined(then, otherwise)?;
+    Ok(((), blocks))
+}
+
 /// `"if" "(" Expr [ ("==" | "!=") Expr ] ")" Block [ "else" ( Block | IfStmt ) ]`
 #[cycle(blocks)]
 #[tactic(auto, unfolding(crate::specs::Productions::if_stmt, crate::specs::Productions::otherwise))]
 fn if_stmt(cursor: &mut Cursor<'_>, left: u8) -> Result<Stmt, Stop>
-    ensures { Reads result cursor.new (if_stmt left cursor.old) }
+    ensures { IsFound result cursor.new (if_stmt left cursor.old) }
 {
-    let at = cursor.place_of(Sort::If)?;
+    let at = cursor.mark_place(Sort::If)?;
     cursor.mark(Sort::ParenOpen)?;
-    let guard = guard(cursor)?;
-    cursor.mark(Sort::ParenClose)?;
-    let then = block(cursor, left)?;
-    let otherwise = otherwise(cursor, left)?;
+    let condition = condition(cursor)?;
+    let rest = branches(cursor, left);
+    let (condition, ((), (then, otherwise))) = joined(condition, rest)?;
     Ok(Stmt::If {
         at,
-        guard,
+        condition,
         then,
         otherwise,
     })
+}
+
+/// `"in" Name ")" Block`
+#[cycle(blocks)]
+fn class_body(cursor: &mut Cursor<'_>, left: u8) -> Result<((), (Name, ((), StmtBlock))), Stop>
+    ensures { IsFound result cursor.new (sequence (mark sorts.In) (sequence name (sequence (mark sorts.ParenClose) (block left))) cursor.old) }
+{
+    cursor.mark(Sort::In)?;
+    let class = name(cursor)?;
+    let done = cursor.mark(Sort::ParenClose);
+    let class = behind(done, class)?;
+    let body = block(cursor, left);
+    let (class, body) = joined(class, body)?;
+    Ok(((), (class, ((), body))))
 }
 
 /// `"foreach" "(" Name "in" Name ")" Block`
 #[cycle(blocks)]
 #[tactic(auto, unfolding(crate::specs::Productions::foreach))]
 fn foreach(cursor: &mut Cursor<'_>, left: u8) -> Result<Stmt, Stop>
-    ensures { Reads result cursor.new (foreach left cursor.old) }
+    ensures { IsFound result cursor.new (foreach left cursor.old) }
 {
-    let at = cursor.place_of(Sort::Foreach)?;
+    let at = cursor.mark_place(Sort::Foreach)?;
     cursor.mark(Sort::ParenOpen)?;
     let variable = name(cursor)?;
-    cursor.mark(Sort::In)?;
-    let class = name(cursor)?;
-    cursor.mark(Sort::ParenClose)?;
-    let body = block(cursor, left)?;
+    let rest = class_body(cursor, left);
+    let (variable, ((), (class, ((), body)))) = joined(variable, rest)?;
     Ok(Stmt::Foreach {
         at,
         variable,
@@ -193,7 +224,7 @@ fn foreach(cursor: &mut Cursor<'_>, left: u8) -> Result<Stmt, Stop>
 #[cycle(blocks)]
 #[tactic(auto, unfolding(crate::specs::Productions::stmt, crate::specs::Productions::if_stmt, crate::specs::Productions::foreach))]
 fn stmt(cursor: &mut Cursor<'_>, left: u8) -> Result<Stmt, Stop>
-    ensures { Reads result cursor.new (stmt left cursor.old) }
+    ensures { IsFound result cursor.new (stmt left cursor.old) }
 {
     if cursor.is_at(Sort::If) {
         return if_stmt(cursor, left);
@@ -207,7 +238,7 @@ fn stmt(cursor: &mut Cursor<'_>, left: u8) -> Result<Stmt, Stop>
 /// `{ Stmt }`
 #[cycle(blocks)]
 fn statements(cursor: &mut Cursor<'_>, left: u8) -> Result<Sequence<Stmt>, Stop>
-    ensures { Reads result cursor.new (statements left cursor.old) }
+    ensures { IsFound result cursor.new (statements left cursor.old) }
 {
     let mut stmts = Sequence::new(cursor.allocator());
     for turn in 0..cursor.len() {

@@ -1,8 +1,9 @@
 //! Names, values and expressions.
 
 ghost use Rattle.std.specs.Prelude.{◌≡◌};
-ghost use Rattle.nddl_reading.specs.Readers.{Reads};
-ghost use Rattle.nddl_statements.specs.Productions.{name, path, literal, expr, value, begins_value, arguments, creation, init};
+ghost use Rattle.nddl_reading.specs.Readers.{sequence, mark, IsFound};
+ghost use Rattle.nddl_reading.specs.declared.sort.Sort.TheVariants as sorts;
+ghost use Rattle.nddl_statements.specs.Productions.{name, path, truth, literal, expr, value, begins_value, arguments, creation, init};
 
 use super::list;
 use super::list::Item;
@@ -10,12 +11,13 @@ use eu_name::sequence::Sequence;
 use nddl_ast::expression::{Constant, Creation, Expr, Init, Literal, Thousandths, Value};
 use nddl_ast::name::{Name, Path};
 use nddl_reading::cursor::{Cursor, Stop};
+use nddl_reading::joining::joined;
 use nddl_reading::sort::Sort;
 
 /// `Name`
 #[tactic(auto, unfolding(crate::specs::Productions::name))]
 pub fn name(cursor: &mut Cursor<'_>) -> Result<Name, Stop>
-    ensures { Reads result cursor.new (name cursor.old) }
+    ensures { IsFound result cursor.new (name cursor.old) }
 {
     let symbol = cursor.take(Sort::Name)?;
     Ok(Name {
@@ -50,17 +52,35 @@ impl Item for Names {
 /// `Name { "." Name }`
 #[tactic(auto, unfolding(crate::specs::Productions::path))]
 pub fn path(cursor: &mut Cursor<'_>) -> Result<Path, Stop>
-    ensures { Reads result cursor.new (path cursor.old) }
+    ensures { IsFound result cursor.new (path cursor.old) }
 {
     let first = name(cursor)?;
     let rest = list::following::<Names>(cursor, Sort::Point)?;
     Ok(Path { first, rest })
 }
 
+/// `"true" | "false"`
+fn truth(cursor: &mut Cursor<'_>) -> Result<Literal, Stop>
+    ensures { IsFound result cursor.new (truth cursor.old) }
+{
+    if cursor.is_at(Sort::True) {
+        let at = cursor.mark_place(Sort::True)?;
+        return Ok(Literal {
+            constant: Constant::Truth(true),
+            at,
+        });
+    }
+    let at = cursor.mark_place(Sort::False)?;
+    Ok(Literal {
+        constant: Constant::Truth(false),
+        at,
+    })
+}
+
 /// `Number | Decimal | "true" | "false"`
 #[tactic(auto, unfolding(crate::specs::Productions::literal))]
 fn literal(cursor: &mut Cursor<'_>) -> Result<Literal, Stop>
-    ensures { Reads result cursor.new (literal cursor.old) }
+    ensures { IsFound result cursor.new (literal cursor.old) }
 {
     if cursor.is_at(Sort::Number) {
         let symbol = cursor.take(Sort::Number)?;
@@ -76,24 +96,13 @@ fn literal(cursor: &mut Cursor<'_>) -> Result<Literal, Stop>
             at: symbol.at(),
         });
     }
-    if cursor.is_at(Sort::True) {
-        let at = cursor.place_of(Sort::True)?;
-        return Ok(Literal {
-            constant: Constant::Truth(true),
-            at,
-        });
-    }
-    let at = cursor.place_of(Sort::False)?;
-    Ok(Literal {
-        constant: Constant::Truth(false),
-        at,
-    })
+    truth(cursor)
 }
 
 /// `Path | Number | Decimal | "true" | "false"`
 #[tactic(auto, unfolding(crate::specs::Productions::expr))]
 pub fn expr(cursor: &mut Cursor<'_>) -> Result<Expr, Stop>
-    ensures { Reads result cursor.new (expr cursor.old) }
+    ensures { IsFound result cursor.new (expr cursor.old) }
 {
     if cursor.is_at(Sort::Name) {
         return Ok(Expr::Path(path(cursor)?));
@@ -104,7 +113,7 @@ pub fn expr(cursor: &mut Cursor<'_>) -> Result<Expr, Stop>
 /// `Number | Decimal | "true" | "false" | Name`
 #[tactic(auto, unfolding(crate::specs::Productions::value))]
 pub fn value(cursor: &mut Cursor<'_>) -> Result<Value, Stop>
-    ensures { Reads result cursor.new (value cursor.old) }
+    ensures { IsFound result cursor.new (value cursor.old) }
 {
     if cursor.is_at(Sort::Name) {
         return Ok(Value::Name(name(cursor)?));
@@ -167,21 +176,31 @@ impl Item for Values {
 /// `[ Expr { "," Expr } ]`
 #[tactic(auto, unfolding(crate::specs::Productions::arguments))]
 pub fn arguments(cursor: &mut Cursor<'_>) -> Result<Sequence<Expr>, Stop>
-    ensures { Reads result cursor.new (arguments cursor.old) }
+    ensures { IsFound result cursor.new (arguments cursor.old) }
 {
     list::listed::<Expressions>(cursor, Sort::Comma)
+}
+
+/// `"(" [ Args ] ")"`
+fn enclosed(cursor: &mut Cursor<'_>) -> Result<((), (Sequence<Expr>, ())), Stop>
+    ensures { IsFound result cursor.new (sequence (mark sorts.ParenOpen) (sequence arguments (mark sorts.ParenClose)) cursor.old) }
+{
+    cursor.mark(Sort::ParenOpen)?;
+    let arguments = arguments(cursor)?;
+    let done = cursor.mark(Sort::ParenClose);
+    let arguments = joined(arguments, done)?;
+    Ok(((), arguments))
 }
 
 /// `"new" Name "(" [ Args ] ")"`
 #[tactic(auto, unfolding(crate::specs::Productions::creation))]
 fn creation(cursor: &mut Cursor<'_>) -> Result<Creation, Stop>
-    ensures { Reads result cursor.new (creation cursor.old) }
+    ensures { IsFound result cursor.new (creation cursor.old) }
 {
-    let at = cursor.place_of(Sort::New)?;
+    let at = cursor.mark_place(Sort::New)?;
     let class = name(cursor)?;
-    cursor.mark(Sort::ParenOpen)?;
-    let arguments = arguments(cursor)?;
-    cursor.mark(Sort::ParenClose)?;
+    let rest = enclosed(cursor);
+    let (class, ((), (arguments, ()))) = joined(class, rest)?;
     Ok(Creation {
         at,
         class,
@@ -192,7 +211,7 @@ fn creation(cursor: &mut Cursor<'_>) -> Result<Creation, Stop>
 /// `Expr | "new" Name "(" [ Args ] ")"`
 #[tactic(auto, unfolding(crate::specs::Productions::init))]
 pub fn init(cursor: &mut Cursor<'_>) -> Result<Init, Stop>
-    ensures { Reads result cursor.new (init cursor.old) }
+    ensures { IsFound result cursor.new (init cursor.old) }
 {
     if cursor.is_at(Sort::New) {
         return Ok(Init::New(creation(cursor)?));

@@ -1,7 +1,7 @@
 //! Reading items one after another.
 
 ghost use Rattle.std.specs.Prelude.{◌≡◌, ◌++◌};
-ghost use Rattle.nddl_reading.specs.Readers.{Outcome, begins, is, mapped, many, after, following, separated, listed, Reads};
+ghost use Rattle.nddl_reading.specs.Readers.{Outcome, begins, is, mapped, many, after, following, separated, listed, IsFound};
 
 use eu_name::sequence::Sequence;
 use nddl_reading::cursor::{Cursor, Stop};
@@ -15,13 +15,13 @@ pub trait Item {
 
     ghost use Rattle.std.specs.Prelude.{◌≡◌, List, Bool};
     ghost use Rattle.nddl_reading.specs.declared.sort.Sort.{Sort};
-    ghost use Rattle.nddl_reading.specs.Symbols.{Symbol};
-    ghost use Rattle.nddl_reading.specs.Readers.{Outcome, Reads};
+    ghost use Rattle.nddl_reading.specs.Symbols.{PlainSymbol};
+    ghost use Rattle.nddl_reading.specs.Readers.{Outcome, IsFound};
 
     /// With which symbols it can begin.
     ghost first: { Sort → Bool };
 
-    ghost reader: { List Symbol → Outcome Self.Tree };
+    ghost reader: { List PlainSymbol → Outcome Self.Tree };
 
     /// Whether it can begin with a symbol of the sort.
     fn is_first(sort: Sort) -> bool
@@ -29,7 +29,7 @@ pub trait Item {
 
     /// Reads one.
     fn read(cursor: &mut Cursor<'_>) -> Result<Self::Tree, Stop>
-        ensures { Reads result cursor.new (reader cursor.old) };
+        ensures { IsFound result cursor.new (reader cursor.old) };
 }
 
 // Whether an item can begin with the next symbol.
@@ -44,7 +44,7 @@ fn begins_item<T: Item>(cursor: &Cursor<'_>) -> bool
 
 /// Items, as long as the next symbol can begin one.
 pub fn many<T: Item>(cursor: &mut Cursor<'_>) -> Result<Sequence<T::Tree>, Stop>
-    ensures { Reads result cursor.new (many T.first T.reader cursor.old) }
+    ensures { IsFound result cursor.new (many T.first T.reader cursor.old) }
 {
     let mut items = Sequence::new(cursor.allocator());
     for turn in 0..cursor.len() {
@@ -57,9 +57,9 @@ pub fn many<T: Item>(cursor: &mut Cursor<'_>) -> Result<Sequence<T::Tree>, Stop>
     Ok(items)
 }
 
-// A separator and the item behind it.
-fn after<T: Item>(cursor: &mut Cursor<'_>, separator: Sort) -> Result<T::Tree, Stop>
-    ensures { Reads result cursor.new (after separator T.reader cursor.old) }
+/// A separator and the item behind it.
+pub fn after<T: Item>(cursor: &mut Cursor<'_>, separator: Sort) -> Result<T::Tree, Stop>
+    ensures { IsFound result cursor.new (after separator T.reader cursor.old) }
 {
     cursor.mark(separator)?;
     T::read(cursor)
@@ -71,7 +71,7 @@ pub fn with_following<T: Item>(
     separator: Sort,
     items: Sequence<T::Tree>,
 ) -> Result<Sequence<T::Tree>, Stop>
-    ensures { Reads result cursor.new (mapped (λ more. items ++ more) (following separator T.reader) cursor.old) }
+    ensures { IsFound result cursor.new (mapped (λ more. items ++ more) (following separator T.reader) cursor.old) }
 {
     let mut all = items;
     for turn in 0..cursor.len() {
@@ -89,7 +89,7 @@ pub fn following<T: Item>(
     cursor: &mut Cursor<'_>,
     separator: Sort,
 ) -> Result<Sequence<T::Tree>, Stop>
-    ensures { Reads result cursor.new (following separator T.reader cursor.old) }
+    ensures { IsFound result cursor.new (following separator T.reader cursor.old) }
 {
     let none = Sequence::new(cursor.allocator());
     with_following::<T>(cursor, separator, none)
@@ -100,7 +100,7 @@ pub fn separated<T: Item>(
     cursor: &mut Cursor<'_>,
     separator: Sort,
 ) -> Result<Sequence<T::Tree>, Stop>
-    ensures { Reads result cursor.new (separated separator T.reader cursor.old) }
+    ensures { IsFound result cursor.new (separated separator T.reader cursor.old) }
 {
     let first = T::read(cursor)?;
     let mut items = Sequence::new(cursor.allocator());
@@ -110,7 +110,7 @@ pub fn separated<T: Item>(
 
 /// Items with separators between them, if the next symbol can begin one; else none.
 pub fn listed<T: Item>(cursor: &mut Cursor<'_>, separator: Sort) -> Result<Sequence<T::Tree>, Stop>
-    ensures { Reads result cursor.new (listed T.first separator T.reader cursor.old) }
+    ensures { IsFound result cursor.new (listed T.first separator T.reader cursor.old) }
 {
     if begins_item::<T>(cursor) {
         separated::<T>(cursor, separator)

@@ -1,49 +1,68 @@
 //! Types, and the names that are declared with them.
 
 ghost use Rattle.std.specs.Prelude.{◌≡◌};
-ghost use Rattle.nddl_reading.specs.Readers.{Reads};
-ghost use Rattle.nddl_statements.specs.Productions.{base, range, set, bounds, begins_type, type_of, type_named, typed, field, field_after};
+ghost use Rattle.nddl_reading.specs.Readers.{sequence, mark, may_mark, IsFound};
+ghost use Rattle.nddl_reading.specs.declared.sort.Sort.TheVariants as sorts;
+ghost use Rattle.nddl_statements.specs.Productions.{name, value, base_behind, base, range, set, bounds, begins_type, type_of, type_named, typed, field, field_after};
 
 use super::expressions::{Values, name, value};
 use super::list;
 use super::list::Item;
 use nddl_ast::declaration::Typed;
-use nddl_ast::expression::{Base, Bounds, Type};
+use nddl_ast::expression::{BaseType, Bounds, Type, Value};
 use nddl_ast::name::Name;
 use nddl_reading::cursor::{Cursor, Stop};
+use nddl_reading::joining::{behind, joined};
 use nddl_reading::sort::Sort;
+
+/// `"string" | Name`, at its place.
+fn base_behind(cursor: &mut Cursor<'_>) -> Result<(u32, BaseType), Stop>
+    ensures { IsFound result cursor.new (base_behind cursor.old) }
+{
+    if cursor.is_at(Sort::Text) {
+        return Ok((cursor.mark_place(Sort::Text)?, BaseType::Str));
+    }
+    let name = name(cursor)?;
+    Ok((name.at, BaseType::Named(name)))
+}
 
 /// `"int" | "float" | "bool" | "string" | Name`, at its place.
 #[tactic(auto, unfolding(crate::specs::Productions::base))]
-fn base(cursor: &mut Cursor<'_>) -> Result<(u32, Base), Stop>
-    ensures { Reads result cursor.new (base cursor.old) }
+fn base(cursor: &mut Cursor<'_>) -> Result<(u32, BaseType), Stop>
+    ensures { IsFound result cursor.new (base cursor.old) }
 {
     if cursor.is_at(Sort::Int) {
-        return Ok((cursor.place_of(Sort::Int)?, Base::Int));
+        return Ok((cursor.mark_place(Sort::Int)?, BaseType::Int));
     }
     if cursor.is_at(Sort::Float) {
-        return Ok((cursor.place_of(Sort::Float)?, Base::Float));
+        return Ok((cursor.mark_place(Sort::Float)?, BaseType::Float));
     }
     if cursor.is_at(Sort::Bool) {
-        return Ok((cursor.place_of(Sort::Bool)?, Base::Bool));
+        return Ok((cursor.mark_place(Sort::Bool)?, BaseType::Bool));
     }
-    if cursor.is_at(Sort::Text) {
-        return Ok((cursor.place_of(Sort::Text)?, Base::Str));
-    }
-    let name = name(cursor)?;
-    Ok((name.at, Base::Named(name)))
+    base_behind(cursor)
+}
+
+/// `[","] Lit "]"`
+fn range_end(cursor: &mut Cursor<'_>) -> Result<((), (Value, ())), Stop>
+    ensures { IsFound result cursor.new (sequence (may_mark sorts.Comma) (sequence value (mark sorts.BracketClose)) cursor.old) }
+{
+    cursor.may_mark(Sort::Comma)?;
+    let greatest = value(cursor)?;
+    let done = cursor.mark(Sort::BracketClose);
+    let greatest = joined(greatest, done)?;
+    Ok(((), greatest))
 }
 
 /// `"[" Lit [","] Lit "]"`
 #[tactic(auto, unfolding(crate::specs::Productions::range))]
 fn range(cursor: &mut Cursor<'_>) -> Result<Bounds, Stop>
-    ensures { Reads result cursor.new (range cursor.old) }
+    ensures { IsFound result cursor.new (range cursor.old) }
 {
-    let at = cursor.place_of(Sort::BracketOpen)?;
+    let at = cursor.mark_place(Sort::BracketOpen)?;
     let least = value(cursor)?;
-    cursor.may_mark(Sort::Comma)?;
-    let greatest = value(cursor)?;
-    cursor.mark(Sort::BracketClose)?;
+    let rest = range_end(cursor);
+    let (least, ((), (greatest, ()))) = joined(least, rest)?;
     Ok(Bounds::Range {
         at,
         least,
@@ -54,18 +73,19 @@ fn range(cursor: &mut Cursor<'_>) -> Result<Bounds, Stop>
 /// `"{" Lit { "," Lit } "}"`
 #[tactic(auto, unfolding(crate::specs::Productions::set))]
 fn set(cursor: &mut Cursor<'_>) -> Result<Bounds, Stop>
-    ensures { Reads result cursor.new (set cursor.old) }
+    ensures { IsFound result cursor.new (set cursor.old) }
 {
-    let at = cursor.place_of(Sort::BraceOpen)?;
+    let at = cursor.mark_place(Sort::BraceOpen)?;
     let values = list::separated::<Values>(cursor, Sort::Comma)?;
-    cursor.mark(Sort::BraceClose)?;
+    let done = cursor.mark(Sort::BraceClose);
+    let values = behind(done, values)?;
     Ok(Bounds::Set { at, values })
 }
 
 /// A range, a set, or nothing.
 #[tactic(auto, unfolding(crate::specs::Productions::bounds))]
 pub fn bounds(cursor: &mut Cursor<'_>) -> Result<Bounds, Stop>
-    ensures { Reads result cursor.new (bounds cursor.old) }
+    ensures { IsFound result cursor.new (bounds cursor.old) }
 {
     if cursor.is_at(Sort::BracketOpen) {
         return range(cursor);
@@ -79,10 +99,11 @@ pub fn bounds(cursor: &mut Cursor<'_>) -> Result<Bounds, Stop>
 /// `Base [ "[" Lit [","] Lit "]" | "{" Lit { "," Lit } "}" ]`
 #[tactic(auto, unfolding(crate::specs::Productions::type_of))]
 pub fn type_of(cursor: &mut Cursor<'_>) -> Result<Type, Stop>
-    ensures { Reads result cursor.new (type_of cursor.old) }
+    ensures { IsFound result cursor.new (type_of cursor.old) }
 {
-    let (at, base) = base(cursor)?;
-    let bounds = bounds(cursor)?;
+    let base = base(cursor)?;
+    let bounds = bounds(cursor);
+    let ((at, base), bounds) = joined(base, bounds)?;
     Ok(Type { at, base, bounds })
 }
 
@@ -92,7 +113,7 @@ pub fn type_named(first: Name, bounds: Bounds) -> Type
 {
     Type {
         at: first.at,
-        base: Base::Named(first),
+        base: BaseType::Named(first),
         bounds,
     }
 }
@@ -110,10 +131,11 @@ pub fn begins_type(sort: Sort) -> bool
 /// `Type Name`
 #[tactic(auto, unfolding(crate::specs::Productions::typed))]
 fn typed(cursor: &mut Cursor<'_>) -> Result<Typed, Stop>
-    ensures { Reads result cursor.new (typed cursor.old) }
+    ensures { IsFound result cursor.new (typed cursor.old) }
 {
     let declared = type_of(cursor)?;
-    let name = name(cursor)?;
+    let name = name(cursor);
+    let (declared, name) = joined(declared, name)?;
     Ok(Typed { declared, name })
 }
 
@@ -141,21 +163,38 @@ impl Item for Formals {
 /// `Type Name ";"`
 #[tactic(auto, unfolding(crate::specs::Productions::field))]
 pub fn field(cursor: &mut Cursor<'_>) -> Result<Typed, Stop>
-    ensures { Reads result cursor.new (field cursor.old) }
+    ensures { IsFound result cursor.new (field cursor.old) }
 {
     let typed = typed(cursor)?;
-    cursor.mark(Sort::Semicolon)?;
-    Ok(typed)
+    let done = cursor.mark(Sort::Semicolon);
+    behind(done, typed)
+}
+
+/// `Name ";"`
+pub fn named_end(cursor: &mut Cursor<'_>) -> Result<(Name, ()), Stop>
+    ensures { IsFound result cursor.new (sequence name (mark sorts.Semicolon) cursor.old) }
+{
+    let name = name(cursor)?;
+    let done = cursor.mark(Sort::Semicolon);
+    joined(name, done)
+}
+
+// What the bounds of a type are, and the same.
+fn bounded_name(cursor: &mut Cursor<'_>) -> Result<(Bounds, (Name, ())), Stop>
+    ensures { IsFound result cursor.new (sequence bounds (sequence name (mark sorts.Semicolon)) cursor.old) }
+{
+    let bounds = bounds(cursor)?;
+    let rest = named_end(cursor);
+    joined(bounds, rest)
 }
 
 /// The same behind the name with which the type begins.
 #[tactic(auto, unfolding(crate::specs::Productions::field_after))]
 pub fn field_after(cursor: &mut Cursor<'_>, first: Name) -> Result<Typed, Stop>
-    ensures { Reads result cursor.new (field_after first cursor.old) }
+    ensures { IsFound result cursor.new (field_after first cursor.old) }
 {
-    let bounds = bounds(cursor)?;
-    let name = name(cursor)?;
-    cursor.mark(Sort::Semicolon)?;
+    let rest = bounded_name(cursor);
+    let (first, (bounds, (name, ()))) = joined(first, rest)?;
     Ok(Typed {
         declared: type_named(first, bounds),
         name,

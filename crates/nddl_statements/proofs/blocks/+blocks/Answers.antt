@@ -2,7 +2,7 @@
 use Rattle.std.proofs.Common.{◌≡◌, ◌+◌, ◌-◌, ◌<◌, suc, true, false, sym, subst, ◌∙◌, arith}
 use Rattle.nddl_ast.specs.Tree.{Braces}
 use Rattle.nddl_reading.specs.declared.sort.Sort.TheVariants as sorts
-use Rattle.nddl_reading.specs.Readers.{Outcome, begins, is, Reads}
+use Rattle.nddl_reading.specs.Readers.{Outcome, begins, is, IsFound}
 use Rattle.nddl_statements.specs.Productions.{begins_stmt, stmt, statements}
 use Rattle.nddl_statements.proofs.Depth.{block_none, block_some, else_other, else_deep, else_some}
 use Rattle.nddl_statements.proofs.Walking.{onward_start, onward_step}
@@ -10,28 +10,28 @@ use Rattle.nddl_statements.proofs.blocks.+blocks.Goals as goal
 
 pub block-returns-then-left-eq0 : goal.block-returns-then-left-eq0
 block-returns-then-left-eq0 t c =
-    subst (λ (o : Outcome Braces). Reads c.too_deep.result c.too_deep.new.cursor o) (λ i. sym (block_none c.args.left c.if-left-eq0.true) i c.args.cursor.now) c.too_deep.ensures
+    subst (λ (o : Outcome Braces). IsFound c.too_deep.result c.too_deep.new.cursor o) (λ i. sym (block_none c.args.left c.if-left-eq0.true) i c.args.cursor.now) c.too_deep.ensures
 
 pub block-returns : goal.block-returns
 block-returns t c =
     let some : 0 < c.args.left = omega arith in
-    subst (λ (o : Outcome Braces). Reads c.braces.result c.braces.new.cursor o) (λ i. sym (block_some c.args.left some) i c.args.cursor.now) c.braces.ensures
+    subst (λ (o : Outcome Braces). IsFound c.braces.result c.braces.new.cursor o) (λ i. sym (block_some c.args.left some) i c.args.cursor.now) c.braces.ensures
 
 pub else_block-returns-then-not-is_at : goal.else_block-returns-then-not-is_at
 else_block-returns-then-not-is_at t c =
     let other : begins (is sorts.If) c.args.cursor.now ≡ false = cc in
-    subst (λ (o : Outcome Braces). Reads c.block.result c.block.new.cursor o) (sym (else_other c.args.left c.args.cursor.now other)) c.block.ensures
+    subst (λ (o : Outcome Braces). IsFound c.block.result c.block.new.cursor o) (sym (else_other c.args.left c.args.cursor.now other)) c.block.ensures
 
 pub else_block-returns-then-left-eq0 : goal.else_block-returns-then-left-eq0
 else_block-returns-then-left-eq0 t c =
     let there : begins (is sorts.If) c.args.cursor.now ≡ true = cc in
-    subst (λ (o : Outcome Braces). Reads c.too_deep.result c.too_deep.new.cursor o) (sym (else_deep c.args.left c.args.cursor.now c.if-left-eq0.true there)) c.too_deep.ensures
+    subst (λ (o : Outcome Braces). IsFound c.too_deep.result c.too_deep.new.cursor o) (sym (else_deep c.args.left c.args.cursor.now c.if-left-eq0.true there)) c.too_deep.ensures
 
 pub else_block-returns : goal.else_block-returns
 else_block-returns t c =
     let there : begins (is sorts.If) c.args.cursor.now ≡ true = cc in
     let some : 0 < c.args.left = omega arith in
-    subst (λ (o : Outcome Braces). Reads c.lone_if.result c.lone_if.new.cursor o) (sym (else_some c.args.left c.args.cursor.now some there)) c.lone_if.ensures
+    subst (λ (o : Outcome Braces). IsFound c.lone_if.result c.lone_if.new.cursor o) (sym (else_some c.args.left c.args.cursor.now some there)) c.lone_if.ensures
 
 pub statements-loop-turn-init : goal.statements-loop-turn-init
 unfolding statements
