@@ -3,7 +3,7 @@
 ghost use Rattle.std.specs.Prelude.{◌≡◌, ◌≤◌, ◌≤ℤ◌, ◌↔◌, All, IsTrue, true, false, IfSome, IfNone, IfOk, MatchBool, ℤ};
 ghost use Rattle.std.specs.List.{Any};
 ghost use Rattle.domain_core.specs.Domain.{Range, IsDomain, IsRange, IsSingle, HaveCommon, IsNth, IsValue, Has};
-ghost use Rattle.domain_core.specs.Domain.{least, greatest, count_of};
+ghost use Rattle.domain_core.specs.Domain.{least, greatest, count_of, IsTested};
 ghost use Rattle.domain_core.specs.Narrowing.{Keeps, Sieves};
 ghost use Rattle.domain_core.specs.Lists.{MakesSet};
 
@@ -143,6 +143,16 @@ impl Dom {
                 Form::Range(bounds) => members::reach(members.as_slice(), bounds),
                 Form::Set(others) => members::have_common(members.as_slice(), others.as_slice()),
             },
+        }
+    }
+
+    /// Whether `meet_set` with the other domain would change nothing. It writes nothing.
+    pub fn lies_in(&self, other: &Dom) -> bool
+        ensures { IsTrue result ↔ ((value : ℤ) → IsTested self.now value → Has other.now value) }
+    {
+        match &self.form {
+            Form::Range(interval) => other.has(interval.lo) && other.has(interval.hi),
+            Form::Set(members) => members.iter().all(|member| other.has(*member)),
         }
     }
 

@@ -1,0 +1,4 @@
+pub mod Rewriting
+pub mod Lists
+pub mod Views
+pub mod Returning

@@ -1,0 +1,29 @@
+use Rattle.std.proofs.Common.{◌≡◌, ◌+◌, ◌++◌, ◌∷◌, [], reverse, length, sym, ap, ◌∙◌, subst, arith, length-append}
+use Rattle.std.proofs.lemmas.List.{reverse-append, length-reverse}
+use Rattle.cell_store.specs.Cells.{GoesBack}
+use Rattle.cell_store.specs.Kept.{view_of}
+use Rattle.cell_store.proofs.Returning.{IsReturning, returning_more, goes_back}
+use Rattle.cell_store.proofs.trail.go_back.Goals as goal
+
+pub loop-cells-preserved : goal.loop-cells-preserved
+loop-cells-preserved c =
+    let step = c.step_back.ensures in
+    let turned : reverse c.loop-cells.trail.items ≡ step.entry ∷ reverse c.step_back.new.trail.items =
+    ap reverse step.trail ∙ reverse-append c.step_back.new.trail.items (step.entry ∷ []) in
+    record {
+      returning = returning_more c.args.cells.now.items (reverse c.args.trail.now.items) c.loop-cells.cells.items (reverse c.step_back.new.trail.items) step.entry
+          c.step_back.new.cells.items
+          (subst (IsReturning c.args.cells.now.items (reverse c.args.trail.now.items) c.loop-cells.cells.items) turned c.loop-cells.invariant.returning) step.cells;
+      long = omega (arith, ap length step.trail, length-append c.step_back.new.trail.items (step.entry ∷ []), c.loop-cells.trail.ok.0, c.step_back.new.trail.ok.0);
+    }
+
+pub returns : goal.returns
+returns c =
+    let now = c.loop-cells.trail.items in
+    let returning = c.loop-cells.invariant.returning in
+    let long : length (reverse now) ≡ c.args.behind = length-reverse now ∙ omega (arith, c.loop-cells.invariant.long, c.loop-cells.trail.ok.0) in
+    record {
+      kept = returning.kept;
+      goes = subst (λ n. GoesBack n (view_of c.args.cells.now.items (reverse c.args.trail.now.items)) (view_of c.loop-cells.cells.items (reverse now))) long
+          (goes_back c.args.cells.now.items (reverse c.args.trail.now.items) c.loop-cells.cells.items (reverse now) returning);
+    }

@@ -1,0 +1,137 @@
+//! Cells and the trail of what was written to them.
+
+ghost use Rattle.std.specs.Prelude.{◌<◌, ◌≤◌, length, reverse, vec_len};
+ghost use Rattle.cell_store.specs.Kept.{IsKept};
+ghost use Rattle.cell_store.specs.Writing.{MeetsCell, MeetsBehind, MeetsAt, SavesAt, StepsBack, TakesBack, ReturnsTo};
+ghost use Rattle.cell_store.specs.declared.trail.Entry.TheVariants.{Narrowed};
+
+use domain_core::Change;
+use domain_core::domain::Dom;
+use std::alloc::AllocError;
+
+/// A cell: its domain, how often it was written, and how long the trail was behind the last entry about it.
+#[derive(Drop)]
+pub struct Cell {
+    pub domain: Dom,
+    pub stamp: u64,
+    pub saved: usize,
+}
+
+/// One entry of the trail, with what going back over it needs.
+#[derive(Drop)]
+pub enum Entry {
+    /// A cell was added.
+    Added,
+    /// The cell had this domain before it was narrowed, and knew this place of the trail.
+    Narrowed {
+        cell: usize,
+        former: Dom,
+        saved: usize,
+    },
+}
+
+impl Cell {
+    // Keeps what the other domain has too.
+    fn meet(&mut self, to: &Dom) -> Change
+        ensures { MeetsCell to.now self.old result self.new }
+    {
+        let change = self.domain.meet_set(to);
+        if let Change::Smaller = change {
+            self.stamp = self.stamp.saturating_add(1);
+        }
+        change
+    }
+
+    // The same, and where the cell was written it knows the length of the trail.
+    fn meet_behind(&mut self, to: &Dom, behind: usize) -> Change
+        ensures { MeetsBehind behind to.now self.old result self.new }
+    {
+        let change = self.meet(to);
+        if let Change::Smaller = change {
+            self.saved = behind;
+        }
+        change
+    }
+}
+
+/// Keeps of the cell what the other domain has too.
+pub fn meet_at(cells: &mut Vec<Cell>, cell: usize, to: &Dom) -> Change
+    requires { cell < length cells.old.items }
+    ensures { MeetsAt cell to.now cells.old.items result cells.new.items }
+{
+    cells[cell].meet(to)
+}
+
+/// The same, with an entry in the trail if the cell was written.
+pub fn meet_and_save(
+    cells: &mut Vec<Cell>,
+    trail: &mut Vec<Entry>,
+    cell: usize,
+    to: &Dom,
+) -> Result<Change, AllocError>
+    requires { cell < length cells.old.items }
+    ensures { SavesAt cell to.now (cells.old.items, trail.old.items) result (cells.new.items, trail.new.items) }
+{
+    let found = &cells[cell];
+    if found.domain.lies_in(to) {
+        return Ok(Change::Same);
+    }
+    trail.reserve(1)?;
+    let former = found.domain.copy()?;
+    let saved = found.saved;
+    match cells[cell].meet_behind(to, trail.len() + 1) {
+        Change::Smaller => {
+            trail.push_reserved(Entry::Narrowed {
+                cell,
+                former,
+                saved,
+            });
+            return Ok(Change::Smaller);
+        }
+        Change::Same => return Ok(Change::Same),
+        Change::Empty => return Ok(Change::Empty),
+    }
+}
+
+/// Goes back along the trail until it has this length.
+pub fn go_back(cells: &mut Vec<Cell>, trail: &mut Vec<Entry>, behind: usize)
+    requires kept { IsKept cells.old.items (reverse trail.old.items) }
+    requires long { behind ≤ vec_len trail.old }
+    ensures { ReturnsTo behind (cells.old.items, trail.old.items) (cells.new.items, trail.new.items) }
+{
+    while trail.len() > behind {
+        step_back(cells, trail);
+    }
+}
+
+// Goes back over the last entry of the trail.
+fn step_back(cells: &mut Vec<Cell>, trail: &mut Vec<Entry>)
+    requires kept { IsKept cells.old.items (reverse trail.old.items) }
+    requires some { 0 < length trail.old.items }
+    ensures { StepsBack (cells.old.items, trail.old.items) (cells.new.items, trail.new.items) }
+{
+    match trail.pop() {
+        None => unreachable!(),
+        Some(Entry::Added) => {
+            let _added = cells.pop();
+        }
+        Some(
+            Entry::Narrowed {
+                cell,
+                former,
+                saved,
+            },
+        ) => restore(cells, cell, former, saved),
+    }
+}
+
+// Gives the cell a former domain again.
+fn restore(cells: &mut Vec<Cell>, cell: usize, former: Dom, saved: usize)
+    requires { cell < length cells.old.items }
+    ensures { TakesBack (Narrowed cell former saved) cells.old.items cells.new.items }
+{
+    let found = &mut cells[cell];
+    found.domain = former;
+    found.stamp = found.stamp.saturating_add(1);
+    found.saved = saved;
+}
