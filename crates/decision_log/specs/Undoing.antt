@@ -1,5 +1,5 @@
 -- What undo brings back.
-use Rattle.std.specs.Prelude.{◌≡◌, List, ◌∷◌, length, Option, Some, None, Result, Ok, Err, ⊤}
+use Rattle.std.specs.Prelude.{◌≡◌, ◌<◌, List, ◌∷◌, length, Option, Some, None, Result, Ok, Err}
 use Rattle.model_core.specs.declared.decision.Decision.{Decision}
 use Rattle.model_core.specs.History.{History, standing, accepted}
 use Rattle.decision_log.specs.declared.LogFault.{LogFault}
@@ -20,8 +20,8 @@ abbrev pub Pops : History → Option Decision → History → Type 0
 Pops old (Some decision) new = old ≡ accepted new decision
 Pops old None new = (new ≡ old) × ((before : History) (decision : Decision) → old ≡ accepted before decision → ⊥)
 
--- the list before the standing one is copied, if there is one
+-- the list before the standing one is copied, if there is one; memory is wanted only where there is
 abbrev pub CopiesFormer : History → Result (List Decision) LogFault → Type 0
 CopiesFormer history (Ok decisions) = IsFormer history decisions
 CopiesFormer history (Err Nothing) = length history ≡ 1
-CopiesFormer history (Err Memory) = ⊤
+CopiesFormer history (Err Memory) = (former : List Decision) × IsFormer history former
