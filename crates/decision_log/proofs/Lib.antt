@@ -1,1 +1,4 @@
-pub mod Histories
+pub mod Places
+pub mod Lists
+pub mod Taking
+pub mod Telling

@@ -1,2 +1,3 @@
-pub mod Pushes
+pub mod Kept
 pub mod Undoing
+pub mod Taking
