@@ -25,7 +25,7 @@ fn change(at: i32, add: i64) -> LevelChange
 
 /// When the capacity is exceeded by two uses that meet, one that overlaps both, one that begins late and one that is
 /// empty.
-fn over(capacity: i32) -> Option<i32> {
+fn over(capacity: u16) -> Option<i32> {
     let uses = [
         usage(5, 9, 2),
         usage(2, 5, 2),
@@ -33,11 +33,11 @@ fn over(capacity: i32) -> Option<i32> {
         usage(20, 30, 4),
         usage(7, 7, 9),
     ];
-    over_use(&uses, capacity)
+    over_use(&uses, i32::from(capacity))
 }
 
 /// Capacities, and when they are exceeded.
-const CAPACITIES: [(i32, Option<i32>); 5] = [
+const CAPACITIES: [(u16, Option<i32>); 5] = [
     (0, Some(2)),
     (1, Some(2)),
     (2, Some(4)),
