@@ -69,31 +69,50 @@ fn set_of_many(alloc: Global, count: i32) -> Option<Result<Shape, SetFault>> {
     }
 }
 
+/// Lists, and the shapes of their sets, or why they have none.
+const LISTS: [(&[i32], Result<Shape, SetFault>); 3] = [
+    (&[7, -3, 7, 1_000_000, 0, -3], Ok((false, -3, 1_000_000, 4))),
+    (&[], Err(SetFault::Empty)),
+    (&[1, 1_000_001], Err(SetFault::OutOfRange)),
+];
+
 #[test]
 fn sets_are_made_of_lists(rt: HostRuntime) {
-    let set = [7, -3, 7, 1_000_000, 0, -3];
-    assert_eq!(rt;
-        set_of(rt.alloc(), set.as_slice()),
-        Ok((false, -3, 1_000_000, 4))
-    );
-    assert_eq!(rt; set_of(rt.alloc(), &[]), Err(SetFault::Empty));
-    assert_eq!(rt;
-        set_of(rt.alloc(), &[1, 1_000_001]),
-        Err(SetFault::OutOfRange)
-    );
-    assert_eq!(rt;
-        set_of_many(rt.alloc(), 4096),
-        Some(Ok((false, 0, 4095, 4096)))
-    );
-    assert_eq!(rt; set_of_many(rt.alloc(), 4097), Some(Err(SetFault::TooMany)));
-    assert_eq!(rt;
-        copied_from(rt.alloc(), Members(&[5, 2])),
-        Some((false, 2, 5, 2))
-    );
-    assert_eq!(rt;
-        copied_from(rt.alloc(), Ends(-2, 2)),
-        Some((true, -2, 2, 5))
-    );
+    for (place, (values, wanted)) in LISTS.iter().enumerate() {
+        assert!(rt; set_of(rt.alloc(), *values) == *wanted, "{place}");
+    }
+}
+
+/// Whether so many numbers have a set of them all.
+fn is_whole(alloc: Global, count: i32) -> bool {
+    set_of_many(alloc, count) == Some(Ok((false, 0, count.saturating_sub(1), count.unsigned_abs())))
+}
+
+/// Whether so many numbers are too many.
+fn is_too_many(alloc: Global, count: i32) -> bool {
+    set_of_many(alloc, count) == Some(Err(SetFault::TooMany))
+}
+
+#[test]
+fn sets_have_4096_members_at_most(rt: HostRuntime) {
+    assert!(rt; is_whole(rt.alloc(), 4096));
+    assert!(rt; is_too_many(rt.alloc(), 4097));
+}
+
+/// Domains, and the shapes of their copies.
+const COPIES: [(Written, Shape); 2] = [
+    (Members(&[5, 2]), (false, 2, 5, 2)),
+    (Ends(-2, 2), (true, -2, 2, 5)),
+];
+
+#[test]
+fn copies_are_equal(rt: HostRuntime) {
+    for (place, (written, wanted)) in COPIES.iter().enumerate() {
+        assert!(rt;
+            copied_from(rt.alloc(), *written) == Some(*wanted),
+            "{place}"
+        );
+    }
 }
 
 /// The value at the place, of the domain that is written so, and its only value.
@@ -258,11 +277,22 @@ const DOMAINS: [(Written, [bool; 5]); 5] = [
     (Members(&[2, 3]), [true, false, false, false, true]),
 ];
 
+/// The first of the domains with which this one doesn't share values as the row says.
+fn wrong_in_row(alloc: Global, one: Written, row: &[bool]) -> Option<usize> {
+    for (place, ((other, _), shared)) in DOMAINS.iter().zip(row.iter()).enumerate() {
+        if share(alloc, one, *other) != Some(*shared) {
+            return Some(place);
+        }
+    }
+    None
+}
+
 #[test]
 fn domains_share_values(rt: HostRuntime) {
-    for (one, row) in &DOMAINS {
-        for ((other, _), shared) in DOMAINS.iter().zip(row.iter()) {
-            assert_eq!(rt; share(rt.alloc(), *one, *other), Some(*shared));
-        }
+    for (place, (one, row)) in DOMAINS.iter().enumerate() {
+        assert!(rt;
+            wrong_in_row(rt.alloc(), *one, row.as_slice()).is_none(),
+            "{place}"
+        );
     }
 }
