@@ -69,20 +69,58 @@ fn set_of_many(alloc: Global, count: i32) -> Option<Result<Shape, SetFault>> {
     }
 }
 
+/// Lists, and the shapes of their sets, or why they have none.
+const LISTS: [(&[i32], Result<Shape, SetFault>); 3] = [
+    (&[7, -3, 7, 1_000_000, 0, -3], Ok((false, -3, 1_000_000, 4))),
+    (&[], Err(SetFault::Empty)),
+    (&[1, 1_000_001], Err(SetFault::OutOfRange)),
+];
+
 #[test]
 fn sets_are_made_of_lists(rt: HostRuntime) {
-    let set = [7, -3, 7, 1_000_000, 0, -3];
-    assert_eq!(rt; set_of(rt.alloc(), set.as_slice()), Ok((false, -3, 1_000_000, 4)));
-    assert_eq!(rt; set_of(rt.alloc(), &[]), Err(SetFault::Empty));
-    assert_eq!(rt; set_of(rt.alloc(), &[1, 1_000_001]), Err(SetFault::OutOfRange));
-    assert_eq!(rt; set_of_many(rt.alloc(), 4096), Some(Ok((false, 0, 4095, 4096))));
-    assert_eq!(rt; set_of_many(rt.alloc(), 4097), Some(Err(SetFault::TooMany)));
-    assert_eq!(rt; copied_from(rt.alloc(), Members(&[5, 2])), Some((false, 2, 5, 2)));
-    assert_eq!(rt; copied_from(rt.alloc(), Ends(-2, 2)), Some((true, -2, 2, 5)));
+    for (place, (values, wanted)) in LISTS.iter().enumerate() {
+        assert!(rt; set_of(rt.alloc(), *values) == *wanted, "{place}");
+    }
+}
+
+/// Whether so many numbers have a set of them all.
+fn is_whole(alloc: Global, count: i32) -> bool {
+    set_of_many(alloc, count) == Some(Ok((false, 0, count.saturating_sub(1), count.unsigned_abs())))
+}
+
+/// Whether so many numbers are too many.
+fn is_too_many(alloc: Global, count: i32) -> bool {
+    set_of_many(alloc, count) == Some(Err(SetFault::TooMany))
+}
+
+#[test]
+fn sets_have_4096_members_at_most(rt: HostRuntime) {
+    assert!(rt; is_whole(rt.alloc(), 4096));
+    assert!(rt; is_too_many(rt.alloc(), 4097));
+}
+
+/// Domains, and the shapes of their copies.
+const COPIES: [(Written, Shape); 2] = [
+    (Members(&[5, 2]), (false, 2, 5, 2)),
+    (Ends(-2, 2), (true, -2, 2, 5)),
+];
+
+#[test]
+fn copies_are_equal(rt: HostRuntime) {
+    for (place, (written, wanted)) in COPIES.iter().enumerate() {
+        assert!(rt;
+            copied_from(rt.alloc(), *written) == Some(*wanted),
+            "{place}"
+        );
+    }
 }
 
 /// The value at the place, of the domain that is written so, and its only value.
-fn nth_and_single(alloc: Global, written: Written, place: u32) -> Option<(Option<i32>, Option<i32>)> {
+fn nth_and_single(
+    alloc: Global,
+    written: Written,
+    place: u32,
+) -> Option<(Option<i32>, Option<i32>)> {
     match made(alloc, written) {
         Some(domain) => Some((domain.nth(place), domain.single())),
         None => None,
@@ -122,17 +160,41 @@ fn met(alloc: Global, own: Written, other: Written) -> Option<(Change, Shape)> {
 
 /// What is met with what, the answer, and what is left.
 const MEETINGS: [(Written, Written, Change, Shape); 5] = [
-    (Ends(1, 7), Members(&[0, 2, 4, 6, 8]), Change::Smaller, (true, 2, 6, 5)),
-    (Members(&[0, 2, 4, 6, 8]), Ends(2, 5), Change::Smaller, (false, 2, 4, 2)),
-    (Members(&[2, 4]), Members(&[3, 6, 9]), Change::Empty, (false, 2, 4, 2)),
-    (Members(&[3, 6, 9]), Members(&[0, 2, 4, 6, 8]), Change::Smaller, (false, 6, 6, 1)),
+    (
+        Ends(1, 7),
+        Members(&[0, 2, 4, 6, 8]),
+        Change::Smaller,
+        (true, 2, 6, 5),
+    ),
+    (
+        Members(&[0, 2, 4, 6, 8]),
+        Ends(2, 5),
+        Change::Smaller,
+        (false, 2, 4, 2),
+    ),
+    (
+        Members(&[2, 4]),
+        Members(&[3, 6, 9]),
+        Change::Empty,
+        (false, 2, 4, 2),
+    ),
+    (
+        Members(&[3, 6, 9]),
+        Members(&[0, 2, 4, 6, 8]),
+        Change::Smaller,
+        (false, 6, 6, 1),
+    ),
     (Ends(2, 5), Ends(0, 9), Change::Same, (true, 2, 5, 4)),
 ];
 
 #[test]
 fn domains_are_met(rt: HostRuntime) {
     for (place, (own, other, change, left)) in MEETINGS.iter().enumerate() {
-        assert_eq!(rt; met(rt.alloc(), *own, *other), Some((*change, *left)), "{place}");
+        assert_eq!(rt;
+            met(rt.alloc(), *own, *other),
+            Some((*change, *left)),
+            "{place}"
+        );
     }
 }
 
@@ -161,7 +223,11 @@ const DROPS: [(Written, i32, Change, Shape); 5] = [
 #[test]
 fn values_are_taken_out(rt: HostRuntime) {
     for (place, (own, value, change, left)) in DROPS.iter().enumerate() {
-        assert_eq!(rt; dropped(rt.alloc(), *own, *value), Some((*change, *left)), "{place}");
+        assert_eq!(rt;
+            dropped(rt.alloc(), *own, *value),
+            Some((*change, *left)),
+            "{place}"
+        );
     }
 }
 
@@ -188,7 +254,10 @@ fn members_are_kept(rt: HostRuntime) {
     assert_eq!(rt; some, Some((Change::Smaller, (false, 0, 8, 3))));
     let none = kept_of(rt.alloc(), evens.as_slice(), 9);
     assert_eq!(rt; none, Some((Change::Empty, (false, 0, 8, 5))));
-    assert_eq!(rt; kept_of(rt.alloc(), &[4, 8], 4), Some((Change::Same, (false, 4, 8, 2))));
+    assert_eq!(rt;
+        kept_of(rt.alloc(), &[4, 8], 4),
+        Some((Change::Same, (false, 4, 8, 2)))
+    );
 }
 
 /// Whether the domains share a value.
@@ -208,11 +277,22 @@ const DOMAINS: [(Written, [bool; 5]); 5] = [
     (Members(&[2, 3]), [true, false, false, false, true]),
 ];
 
+/// The first of the domains with which this one doesn't share values as the row says.
+fn wrong_in_row(alloc: Global, one: Written, row: &[bool]) -> Option<usize> {
+    for (place, ((other, _), shared)) in DOMAINS.iter().zip(row.iter()).enumerate() {
+        if share(alloc, one, *other) != Some(*shared) {
+            return Some(place);
+        }
+    }
+    None
+}
+
 #[test]
 fn domains_share_values(rt: HostRuntime) {
-    for (one, row) in &DOMAINS {
-        for ((other, _), shared) in DOMAINS.iter().zip(row.iter()) {
-            assert_eq!(rt; share(rt.alloc(), *one, *other), Some(*shared));
-        }
+    for (place, (one, row)) in DOMAINS.iter().enumerate() {
+        assert!(rt;
+            wrong_in_row(rt.alloc(), *one, row.as_slice()).is_none(),
+            "{place}"
+        );
     }
 }

@@ -5,6 +5,7 @@ use eu_name::name_order::{order, var_order};
 use eu_name::sequence::Sequence;
 use eu_name::text::Text;
 use eu_name::{NameFault, NameText, Part, Step, Tail, TokenName, VarName, read_name, write_name};
+use indexmap::IndexMap;
 use std::alloc::{AllocError, Global};
 use std::cmp::Ordering;
 
@@ -166,17 +167,20 @@ const TOKENS: [Steps; 8] = [
     (0, &[(0, 1), (0, 0)]),
 ];
 
+/// The first of the tokens that doesn't compare with this one as their places do.
+fn wrong_token(alloc: Global, place: usize, one: Steps) -> Option<usize> {
+    for (other_place, other) in TOKENS.iter().enumerate() {
+        if tokens_compared(alloc, one, *other) != Some(place.cmp(&other_place)) {
+            return Some(other_place);
+        }
+    }
+    None
+}
+
 #[test]
 fn tokens_are_in_order(rt: HostRuntime) {
     for (place, one) in TOKENS.iter().enumerate() {
-        for (other_place, other) in TOKENS.iter().enumerate() {
-            let found = tokens_compared(rt.alloc(), *one, *other);
-            assert_eq!(rt;
-                found,
-                Some(place.cmp(&other_place)),
-                "{place} and {other_place}"
-            );
-        }
+        assert!(rt; wrong_token(rt.alloc(), place, *one).is_none(), "{place}");
     }
 }
 
@@ -277,4 +281,33 @@ fn are_copied_bytes(alloc: Global, slice: &[u8]) -> bool {
 fn copies_are_equal(rt: HostRuntime) {
     assert!(rt; is_copied_text(rt.alloc(), "x1"));
     assert!(rt; are_copied_bytes(rt.alloc(), b"\x00\xff"));
+}
+
+/// What a map of names has for the second of three names.
+fn second_in_map(alloc: Global) -> Option<u32> {
+    let mut map = IndexMap::new(alloc);
+    let noted = is_noted(&mut map, token(alloc, 1, &[]), 10)
+        && is_noted(&mut map, token(alloc, 1, &[(0, 2)]), 20)
+        && is_noted(&mut map, token(alloc, 1, &[(0, 3)]), 30);
+    match token(alloc, 1, &[(0, 2)]) {
+        Ok(name) if noted => map.get(&name).copied(),
+        _ => None,
+    }
+}
+
+/// Whether the name is put into the map.
+fn is_noted(
+    map: &mut IndexMap<TokenName, u32>,
+    name: Result<TokenName, AllocError>,
+    number: u32,
+) -> bool {
+    match name {
+        Ok(name) => map.insert(name, number).is_ok(),
+        Err(_) => false,
+    }
+}
+
+#[test]
+fn names_are_keys(rt: HostRuntime) {
+    assert_eq!(rt; second_in_map(rt.alloc()), Some(20));
 }

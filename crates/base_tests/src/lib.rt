@@ -3,4 +3,10 @@
 #![tactic(auto)]
 
 #[cfg(test)]
+mod domain_core;
+#[cfg(test)]
 mod eu_name;
+#[cfg(test)]
+mod resource_profile;
+#[cfg(test)]
+mod temporal_core;

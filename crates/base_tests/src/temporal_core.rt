@@ -1,86 +1,145 @@
 //! Networks by hand.
 
-ghost use Rattle.std.specs.Prelude.{◌≡◌};
+ghost use Rattle.std.specs.Prelude.{◌<◌, ◌≤◌};
 
-use super::bounds::{TimeFault, bounds};
-use super::cycle::check_cycle;
-use super::edges::{Edge, Edges};
-use eu_name::sequence::Sequence;
-use std::alloc::AllocError;
+use std::alloc::Global;
+use temporal_core::bounds::bounds;
+use temporal_core::edges::Edges;
+use temporal_core::{Edge, TimeFault, check_cycle};
 
-fn edge(from: u32, gap: i32, to: u32) -> Edge
-    ensures from { result.from ≡ from }
-    ensures to { result.to ≡ to }
-    ensures gap { result.gap ≡ gap }
+/// From a point, at least so much later, to a point.
+type Written = (u32, i32, u32);
+
+/// Whether the edge is added.
+fn is_added(edges: &mut Edges, written: Written) -> bool {
+    let (from, gap, to) = written;
+    let points = edges.points();
+    if from >= points || to >= points || gap < -2_000_000 || gap > 2_000_000 {
+        return false;
+    }
+    if edges.as_slice().len() > 99 {
+        return false;
+    }
+    edges.add(Edge { from, to, gap }).is_ok()
+}
+
+fn are_added(edges: &mut Edges, list: &[Written]) -> bool {
+    for written in list {
+        if !is_added(edges, *written) {
+            return false;
+        }
+    }
+    true
+}
+
+/// Whether these are the least and the greatest values.
+fn are_bounds(edges: &Edges, lo: &[Option<i64>], hi: &[Option<i64>]) -> bool {
+    match bounds(edges) {
+        Ok(found) => found.lo.as_slice() == lo && found.hi.as_slice() == hi,
+        Err(_) => false,
+    }
+}
+
+/// Whether the edges have no schedule, because of these.
+fn is_told(edges: &Edges, places: &[u32]) -> bool {
+    match bounds(edges) {
+        Ok(_) => false,
+        Err(TimeFault::Memory) => false,
+        Err(TimeFault::Cycle(found)) => found.as_slice() == places,
+    }
+}
+
+fn have_bounds(
+    alloc: Global,
+    points: u32,
+    list: &[Written],
+    lo: &[Option<i64>],
+    hi: &[Option<i64>],
+) -> bool
+    requires some { 0 < points }
+    requires few { points ≤ 65536 }
 {
-    Edge { from, to, gap }
+    let mut edges = Edges::new(alloc, points);
+    are_added(&mut edges, list) && are_bounds(&edges, lo, hi)
 }
 
-/// The places of the cycle that the fault tells, if it tells one.
-fn places_of(fault: TimeFault) -> Option<Sequence<u32>> {
-    match fault {
-        TimeFault::Cycle(places) => Some(places),
-        TimeFault::Memory => None,
+fn have_a_cycle(alloc: Global, points: u32, list: &[Written], places: &[u32]) -> bool
+    requires some { 0 < points }
+    requires few { points ≤ 65536 }
+{
+    let mut edges = Edges::new(alloc, points);
+    are_added(&mut edges, list) && is_told(&edges, places)
+}
+
+#[test]
+fn points_have_bounds(rt: HostRuntime) {
+    let three = [(0, 0, 1), (1, 3, 2), (2, -10, 0)];
+    let lo = [Some(0), Some(0), Some(3)];
+    let hi = [Some(0), Some(7), Some(10)];
+    assert!(rt;
+        have_bounds(
+            rt.alloc(),
+            3,
+            three.as_slice(),
+            lo.as_slice(),
+            hi.as_slice()
+        )
+    );
+    let four = [(0, 5, 1), (2, -1, 0)];
+    let lo = [Some(0), Some(5), None, None];
+    let hi = [Some(0), None, Some(1), None];
+    assert!(rt; have_bounds(rt.alloc(), 4, four.as_slice(), lo.as_slice(), hi.as_slice()));
+}
+
+#[test]
+fn edges_without_a_schedule_have_a_cycle(rt: HostRuntime) {
+    let edges = [(0, 0, 1), (1, 3, 2), (2, -10, 0), (2, -2, 1)];
+    assert!(rt; have_a_cycle(rt.alloc(), 3, edges.as_slice(), &[1, 3]));
+}
+
+/// The least value of the last of as many points as there may be.
+fn last_of_most(alloc: Global) -> Option<i64> {
+    let mut edges = Edges::new(alloc, 65_536);
+    let added = is_added(&mut edges, (0, 5, 65_535));
+    match bounds(&edges) {
+        Ok(found) => match found.lo.as_slice().last() {
+            Some(least) if added => *least,
+            _ => None,
+        },
+        Err(_) => None,
     }
 }
 
 #[test]
-fn bounds_of_three_points(rt: HostRuntime) -> Result<(), AllocError> {
-    let mut edges = Edges::new(rt.alloc(), 3);
-    edges.add(edge(0, 0, 1))?;
-    edges.add(edge(1, 3, 2))?;
-    edges.add(edge(2, -10, 0))?;
-    let found = bounds(&edges).ok().expect(&rt, "a schedule");
-    assert_eq!(rt; found.lo.as_slice(), [Some(0), Some(0), Some(3)].as_slice());
-    assert_eq!(rt;
-        found.hi.as_slice(),
-        [Some(0), Some(7), Some(10)].as_slice()
-    );
-    edges.add(edge(2, -2, 1))?;
-    let fault = bounds(&edges).err().expect(&rt, "no schedule");
-    let places = places_of(fault).expect(&rt, "a cycle");
-    assert_eq!(rt; places.as_slice(), [1, 3].as_slice());
-    Ok(())
+fn there_may_be_65536_points(rt: HostRuntime) {
+    assert_eq!(rt; last_of_most(rt.alloc()), Some(5));
 }
 
-#[test]
-fn points_without_bounds(rt: HostRuntime) -> Result<(), AllocError> {
-    let mut edges = Edges::new(rt.alloc(), 4);
-    edges.add(edge(0, 5, 1))?;
-    edges.add(edge(2, -1, 0))?;
-    let found = bounds(&edges).ok().expect(&rt, "a schedule");
-    assert_eq!(rt;
-        found.lo.as_slice(),
-        [Some(0), Some(5), None, None].as_slice()
-    );
-    assert_eq!(rt;
-        found.hi.as_slice(),
-        [Some(0), None, Some(1), None].as_slice()
-    );
-    Ok(())
+/// Whether the edges at the places are told to be a cycle that no schedule keeps.
+fn is_cycle(alloc: Global, places: &[u32]) -> Option<bool> {
+    let mut edges = Edges::new(alloc, 3);
+    let list = [(0, 1, 1), (1, 2, 2), (2, -3, 0), (1, 0, 0), (2, 1, 2)];
+    let added = are_added(&mut edges, list.as_slice());
+    let told = check_cycle(&edges, places);
+    if added { Some(told) } else { None }
 }
 
+/// Places of edges, and whether they are such a cycle.
+const PLACES: [(&[u32], bool); 9] = [
+    (&[0, 3], true),
+    (&[3, 0], true),
+    (&[4], true),
+    (&[0, 1, 2], false),
+    (&[0, 3, 0, 3], false),
+    (&[0, 1], false),
+    (&[3], false),
+    (&[], false),
+    (&[5], false),
+];
+
 #[test]
-fn tells_cycles_from_others(rt: HostRuntime) -> Result<(), AllocError> {
-    let mut edges = Edges::new(rt.alloc(), 3);
-    edges.add(edge(0, 1, 1))?;
-    edges.add(edge(1, 2, 2))?;
-    edges.add(edge(2, -3, 0))?;
-    edges.add(edge(1, 0, 0))?;
-    edges.add(edge(2, 1, 2))?;
-    let cases: [(&[u32], bool); 9] = [
-        (&[0, 3], true),
-        (&[3, 0], true),
-        (&[4], true),
-        (&[0, 1, 2], false),
-        (&[0, 3, 0, 3], false),
-        (&[0, 1], false),
-        (&[3], false),
-        (&[], false),
-        (&[5], false),
-    ];
-    for (places, expected) in cases {
-        assert_eq!(rt; check_cycle(&edges, places), expected, "at {places:?}");
+fn tells_cycles_from_others(rt: HostRuntime) {
+    for (place, (places, expected)) in PLACES.iter().enumerate() {
+        assert_eq!(rt; is_cycle(rt.alloc(), *places), Some(*expected), "{place}");
     }
-    Ok(())
 }

@@ -33,5 +33,5 @@ Posts old kind args (Err none) new = new ≡ old
 abbrev pub Limits : Network → ℕ → Domain → Result Change AllocError → Network → Type 0
 Limits old variable to (Ok change) new =
     LimitsAt old.domains variable to change new.domains × (new ≡ record old { domains = new.domains })
-        × (change ≡ Empty → new ≡ old)
+    × (change ≡ Empty → new ≡ old)
 Limits old variable to (Err none) new = new ≡ old

@@ -16,8 +16,8 @@ place_in_pass Backward step count = count - 1 - step
 abbrev pub IsConsistentAt : List Field → List Constraint → Direction → ℕ → List Domain → Type 0
 IsConsistentAt tables constraints direction step domains =
     (constraint : Constraint)
-        → slice_get constraints (place_in_pass direction step (length constraints)) ≡ Some constraint
-        → IsConsistent tables constraint domains
+    → slice_get constraints (place_in_pass direction step (length constraints)) ≡ Some constraint
+    → IsConsistent tables constraint domains
 
 -- each constraint could be posted
 abbrev pub WerePosted : List Field → ℕ → List Constraint → Type 0

@@ -13,10 +13,10 @@ ghost use Rattle.constraint_net.specs.declared.NetFault.{NetFault};
 pub fn settling_has_one_outcome()
     ensures one { (tables : List Field) (constraints : List Constraint) (old one other : List Domain)
         → SettlesTo (AllConsistent tables constraints) old (Ok tt) one
-            → SettlesTo (AllConsistent tables constraints) old (Ok tt) other → one ≡ other }
+        → SettlesTo (AllConsistent tables constraints) old (Ok tt) other → one ≡ other }
     ensures decided { (tables : List Field) (constraints : List Constraint) (old one other : List Domain)
         → SettlesTo (AllConsistent tables constraints) old (Ok tt) one
-            → SettlesTo (AllConsistent tables constraints) old (Err Collapsed) other → ⊥ }
+        → SettlesTo (AllConsistent tables constraints) old (Err Collapsed) other → ⊥ }
 {}
 
 /// A call that memory has interrupted is taken up by the next one: the two answer and leave what one would have.

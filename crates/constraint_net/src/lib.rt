@@ -14,7 +14,6 @@ mod rounds;
 
 pub use constraint::NetArg;
 pub use network::Net;
-
 use std::alloc::AllocError;
 
 /// Why there are no greatest consistent domains.

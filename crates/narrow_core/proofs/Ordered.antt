@@ -1,5 +1,5 @@
 -- Tables in the order of one side.
-use Rattle.std.proofs.Common.{◌≡◌, ℕ, ◌+◌, ◌<◌, ◌≤◌, Bool, true, false, List, length, get_or, drop, ℤ, ◌≤ℤ◌, ◌<ℤ◌, ⊎_elim, inl, inr, refl, sym, ap, ◌∙◌, subst, arith}
+use Rattle.std.proofs.Common.{◌≡◌, ℕ, ◌+◌, ◌<◌, ◌≤◌, Bool, true, false, List, length, get_or, ℤ, ◌≤ℤ◌, ◌<ℤ◌, ⊎_elim, sym, ap, ◌∙◌, subst, arith}
 use Rattle.std.specs.Prelude.{Contains, ◌↔◌}
 use Rattle.std.specs.List.{AllWithin}
 use Rattle.std.specs.List.Sorted.{IsPermutation, IsPartitionedBy, IsSortedByKey}
@@ -12,11 +12,11 @@ use Rattle.std.proofs.lemmas.List.{get_or_default}
 use Rattle.std.proofs.lemmas.List.Elements.{AllWithin-more}
 use Rattle.std.proofs.lemmas.List.MinMax.{ranks_by}
 use Rattle.std.proofs.lemmas.List.Sorted.{sorted_far, Contains-permutation, IsPermutation-sym}
-use Rattle.domain_core.specs.Domain.{Domain, Has}
+use Rattle.domain_core.specs.Domain.{Domain}
 use Rattle.narrow_core.specs.declared.field.FieldEntry.{FieldEntry}
 use Rattle.narrow_core.specs.declared.field.Side.{Side}
 use Rattle.narrow_core.specs.declared.field.Side.TheVariants.{Object, Value}
-use Rattle.narrow_core.specs.Sides.{side_of, opposite, Pairs, IsPaired}
+use Rattle.narrow_core.specs.Sides.{side_of, Pairs, IsPaired}
 use Rattle.narrow_core.specs.Tables.{IsInOrderOf, AreOrders}
 
 -- ---- the order of the values

@@ -7,6 +7,7 @@ use Rattle.domain_core.specs.Narrowing.{Keeps}
 use Rattle.domain_core.specs.declared.Change.{Change}
 use Rattle.domain_core.specs.declared.Change.TheVariants.{Empty}
 use Rattle.domain_core.proofs.Words.{between_ends, has_value}
+use Rattle.narrow_core.specs.Products.{LiesBetween, AreMultiplied}
 use Rattle.narrow_core.proofs.Bounds.{keeps_around}
 use Rattle.narrow_core.proofs.Times.{times_up, times_down}
 
@@ -17,14 +18,14 @@ cast_value value is = omega (arith, ints, is.0, is.1)
 pub cast_product : (c d a b : ℤ) → c ≡ a → d ≡ b → IsValue (a *ℤ b) → to_z w32 (of_z w32 (c *ℤ d)) ≡ (a *ℤ b)
 cast_product c d a b c_is d_is value = (λ i. to_z w32 (of_z w32 (c_is i *ℤ d_is i))) ∙ cast_value (a *ℤ b) value
 
+-- what lies between two numbers is kept, as the code names them
+pub between_along : (low high lo hi : ℤ) (old new : Domain) (change : Change) → low ≡ lo → high ≡ hi → Keeps (LiesBetween low high) old change new → Keeps (LiesBetween lo hi) old change new
+between_along low high lo hi old new change low_is high_is keeps =
+    subst (λ l. Keeps (LiesBetween l hi) old change new) low_is (subst (λ h. Keeps (LiesBetween low h) old change new) high_is keeps)
+
 -- the value is the product of a number between the ends of x
 abbrev pub IsProductOf : ℤ → Domain → ℤ → Type 0
 IsProductOf factor x value = (w : ℤ) × IsBetweenEnds x w × ((w *ℤ factor) ≡ value)
-
--- between these numbers lie those between the ends of x whose products lie between the two others
-abbrev pub AreMultiplied : ℤ → Domain → ℤ → ℤ → ℤ → ℤ → Type 0
-AreMultiplied factor x low high first last =
-    (value : ℤ) → ((first ≤ℤ value) × (value ≤ℤ last)) ↔ (IsBetweenEnds x value × (low ≤ℤ (value *ℤ factor)) × ((value *ℤ factor) ≤ℤ high))
 
 pub multiplied_along : (factor : ℤ) (x : Domain) (low high l h first last : ℤ) → low ≡ l → high ≡ h → AreMultiplied factor x low high first last → AreMultiplied factor x l h first last
 multiplied_along factor x low high l h first last low_is high_is law =

@@ -32,7 +32,7 @@ Narrows reach holds old Empty new =
 abbrev pub IsMonotone : Reach → (List ℤ → Type 0) → Type 0
 IsMonotone reach holds =
     (old new wide wide_new : List Domain) (change wide_change : Change) → All IsDomain old → All IsDomain new
-        → All IsDomain wide → All IsDomain wide_new → LieWithin old wide
+    → All IsDomain wide → All IsDomain wide_new → LieWithin old wide
     → Sweeps reach holds [] old change new → Sweeps reach holds [] wide wide_change wide_new
     → (change ≡ Empty → ⊥) → (wide_change ≡ Empty → ⊥) × LieWithin new wide_new
 

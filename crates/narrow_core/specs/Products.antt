@@ -1,6 +1,6 @@
--- The law that ties a product by a factor to the constraint of three arguments.
-use Rattle.std.specs.Prelude.{◌↔◌, ℤ, [], ◌∷◌}
-use Rattle.domain_core.specs.Domain.{Domain, IsDomain, IsSingle}
+-- Products by a factor, and the law that ties them to the constraint of three arguments.
+use Rattle.std.specs.Prelude.{◌↔◌, ℤ, ◌*ℤ◌, ◌≤ℤ◌, [], ◌∷◌}
+use Rattle.domain_core.specs.Domain.{Domain, IsDomain, IsSingle, IsBetweenEnds}
 use Rattle.model_core.specs.Consistency.{Ends, AreConsistent}
 use Rattle.model_core.specs.Constraints.{HoldsOf}
 use Rattle.model_core.specs.declared.item.Kind.TheVariants.{MulEq}
@@ -12,3 +12,13 @@ abbrev pub IsLikeThree : ℤ → Type 0
 IsLikeThree factor =
     (x middle z : Domain) → IsDomain x → IsDomain middle → IsDomain z → IsSingle middle factor
     → AreConsistent Ends (HoldsOf MulEq) (x ∷ middle ∷ z ∷ []) ↔ AreConsistent Ends (IsProduct factor) (x ∷ z ∷ [])
+
+-- the value lies between the two, both included
+abbrev pub LiesBetween : ℤ → ℤ → ℤ → Type 0
+LiesBetween low high value = (low ≤ℤ value) × (value ≤ℤ high)
+
+-- from the first number to the last lie those between the ends of x whose products lie between low and high
+abbrev pub AreMultiplied : ℤ → Domain → ℤ → ℤ → ℤ → ℤ → Type 0
+AreMultiplied factor x low high first last =
+    (value : ℤ) → ((first ≤ℤ value) × (value ≤ℤ last))
+    ↔ (IsBetweenEnds x value × (low ≤ℤ (value *ℤ factor)) × ((value *ℤ factor) ≤ℤ high))

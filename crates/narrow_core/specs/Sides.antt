@@ -28,7 +28,7 @@ abbrev pub Spans : List FieldEntry → Side → Domain → Domain → Option Spa
 Spans entries side own other None = (value : ℤ) → Has own value → IsPaired entries side other value → ⊥
 Spans entries side own other (Some span) =
     (Has own span.first × IsPaired entries side other span.first)
-        × (Has own span.last × IsPaired entries side other span.last)
+    × (Has own span.last × IsPaired entries side other span.last)
     × ((value : ℤ) → Has own value → IsPaired entries side other value → (span.first ≤ℤ value) × (value ≤ℤ span.last))
 
 -- the span of a value more

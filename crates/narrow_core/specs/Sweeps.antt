@@ -15,7 +15,7 @@ Sweeps reach holds left (old ∷ later) change (new ∷ rest) =
     (first : Change) × Keeps (λ value. IsSupported reach holds left value later) old first new
     × (first ≡ Empty → (change ≡ Empty) × (rest ≡ later))
     × ((first ≡ Empty → ⊥)
-        → (next : Change) × (change ≡ joined first next) × Sweeps reach holds (left ++ new ∷ []) later next rest)
+    → (next : Change) × (change ≡ joined first next) × Sweeps reach holds (left ++ new ∷ []) later next rest)
 
 -- one argument keeps the values that the others support, and the others stay as they are
 pub record NarrowsAt (reach : Reach) (holds : List ℤ → Type 0) (place : ℕ)

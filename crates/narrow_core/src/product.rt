@@ -2,8 +2,9 @@
 //! that doesn't lie between the ends of a domain.
 
 ghost use Rattle.std.specs.Prelude.{◌≡◌, ◌↔◌, ℤ, pos, ◌≤ℤ◌, ◌<ℤ◌, ◌*ℤ◌, IsTrue};
-ghost use Rattle.domain_core.specs.Domain.{IsDomain, IsRange, IsValue, IsBetweenEnds};
+ghost use Rattle.domain_core.specs.Domain.{IsDomain, IsRange, IsValue, IsBetweenEnds, least, greatest};
 ghost use Rattle.domain_core.specs.Narrowing.{Keeps};
+ghost use Rattle.narrow_core.specs.Products.{LiesBetween, AreMultiplied};
 
 use super::narrow::Narrow;
 use domain_core::Change;
@@ -54,8 +55,7 @@ impl MulEq {
     fn multiplied(&self, x: &Dom, low: i32, high: i32) -> (i32, i32)
         requires low { IsValue low }
         requires high { IsValue high }
-        ensures { (value : ℤ) → ((result.0 ≤ℤ value) × (value ≤ℤ result.1))
-            ↔ (IsBetweenEnds x.now value × (low ≤ℤ (value *ℤ self.now.factor)) × ((value *ℤ self.now.factor) ≤ℤ high)) }
+        ensures { AreMultiplied self.now.factor x.now low high result.0 result.1 }
     {
         let (first, last) = quotients(self.factor, low, high);
         (greater(first, x.lo()), less(last, x.hi()))
@@ -90,15 +90,35 @@ impl MulEq {
             products.old result products.new }
         ensures domain { IsDomain products.old → IsDomain products.new }
     {
-        let (first, last) = self.multiplied(x, products.lo(), products.hi());
+        let (first, last) = self.multiplied_within(x, products);
         if last < first {
             return Change::Empty;
         }
         if self.factor > 0 {
-            products.meet_range(first * self.factor, last * self.factor)
+            self.meet_products(products, first, last)
         } else {
-            products.meet_range(last * self.factor, first * self.factor)
+            self.meet_products(products, last, first)
         }
+    }
+
+    // The first and the last number between the ends of x whose products lie between those of the domain.
+    fn multiplied_within(&self, x: &Dom, products: &Dom) -> (i32, i32)
+        ensures law { AreMultiplied self.now.factor x.now (least products.now) (greatest products.now)
+            result.0 result.1 }
+        ensures domain { IsDomain products.now }
+    {
+        self.multiplied(x, products.lo(), products.hi())
+    }
+
+    // Keeps what lies between the products of the two numbers.
+    fn meet_products(&self, products: &mut Dom, low: i32, high: i32) -> Change
+        requires low { IsValue (low *ℤ self.now.factor) }
+        requires high { IsValue (high *ℤ self.now.factor) }
+        ensures kept { Keeps (LiesBetween (low *ℤ self.now.factor) (high *ℤ self.now.factor))
+            products.old result products.new }
+        ensures domain { IsDomain products.new }
+    {
+        products.meet_range(low * self.factor, high * self.factor)
     }
 }
 

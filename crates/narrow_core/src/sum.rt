@@ -11,7 +11,7 @@ use domain_core::domain::Dom;
 // Keeps the values to which something can be added that gives the sum.
 fn keep_differences(own: &mut Dom, added: &Dom, sum: &Dom) -> Change
     ensures kept { Keeps (λ value. (w u : ℤ)
-            × IsBetweenEnds added.now w × IsBetweenEnds sum.now u × ((value +ℤ w) ≡ u))
+        × IsBetweenEnds added.now w × IsBetweenEnds sum.now u × ((value +ℤ w) ≡ u))
         own.old result own.new }
     ensures domain { IsDomain own.new }
 {

@@ -95,7 +95,7 @@ fn reaches_one(domain: &Dom) -> bool
 // Keeps the values of the lower side of the order that the truth and the upper side support.
 fn keep_lower(truth: &Dom, own: &mut Dom, upper: &Dom) -> Change
     ensures kept { Keeps (λ value. (t w : ℤ)
-            × IsBetweenEnds truth.now t × IsBetweenEnds upper.now w × ((t ≡ pos 1) ↔ (value ≤ℤ w)))
+        × IsBetweenEnds truth.now t × IsBetweenEnds upper.now w × ((t ≡ pos 1) ↔ (value ≤ℤ w)))
         own.old result own.new }
     ensures domain { IsDomain own.old → IsDomain own.new }
 {
@@ -110,7 +110,7 @@ fn keep_lower(truth: &Dom, own: &mut Dom, upper: &Dom) -> Change
 // Keeps the values of the upper side of the order that the truth and the lower side support.
 fn keep_upper(truth: &Dom, own: &mut Dom, lower: &Dom) -> Change
     ensures kept { Keeps (λ value. (t w : ℤ)
-            × IsBetweenEnds truth.now t × IsBetweenEnds lower.now w × ((t ≡ pos 1) ↔ (w ≤ℤ value)))
+        × IsBetweenEnds truth.now t × IsBetweenEnds lower.now w × ((t ≡ pos 1) ↔ (w ≤ℤ value)))
         own.old result own.new }
     ensures domain { IsDomain own.old → IsDomain own.new }
 {

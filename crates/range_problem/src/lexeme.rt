@@ -10,6 +10,7 @@ ghost use Rattle.eu_name.specs.Word.{is_word_byte, IsWord};
 ghost use Rattle.range_problem.specs.Lexeme.{Word, Number, Mark, is_blank, marks, IsInfinity, Begins, Starts};
 
 use domain_core::domain::{GREATEST_VALUE, LEAST_VALUE};
+use domain_core::is_value;
 use eu_name::text::Text;
 use eu_name::word;
 use std::alloc::{AllocError, Global};

@@ -1,5 +1,5 @@
 -- The least values, from values that were raised with the origin.
-use Rattle.std.proofs.Common.{◌≡◌, ℕ, ◌<◌, ◌≤◌, ℤ, pos, negsuc, neg_ℤ, ◌-ℤ◌, ◌≤ℤ◌, ◌<ℤ◌, ◌⊎◌, inl, inr, ⊎_elim, true, false, cond, List, [], ◌∷◌, length, get_or, map, Option, Some, None, sym, ◌∙◌, subst, arith}
+use Rattle.std.proofs.Common.{◌≡◌, ℕ, ◌<◌, ◌≤◌, ℤ, pos, negsuc, neg_ℤ, ◌-ℤ◌, ◌≤ℤ◌, ◌<ℤ◌, ◌⊎◌, inl, inr, ⊎_elim, true, false, cond, List, [], ◌∷◌, length, get_or, map, Option, Some, None, sym, ◌∙◌, ap, subst, w64, to_z, of_z, arith}
 use Rattle.std.specs.Prelude.{Contains, All, int_lt, MatchOption, ⊤}
 use Rattle.std.proofs.lemmas.Int.{ints, by_lt_z}
 use Rattle.std.proofs.lemmas.List.{get_or_past, get_or-map, length-map}
@@ -9,7 +9,7 @@ use Rattle.temporal_core.specs.declared.edges.Edge.{Edge}
 use Rattle.temporal_core.specs.Network.{IsEdge}
 use Rattle.temporal_core.specs.Schedule.{KeepsEdge, IsSchedule, IsLeastValue, AreLeastValues}
 use Rattle.temporal_core.specs.Cycle.{LeadsFrom, gap_sum}
-use Rattle.temporal_core.specs.Settled.{value_at, Raises, Exceeds, AreSettled}
+use Rattle.temporal_core.specs.Settled.{value_at, far, Raises, Exceeds, AreSettled}
 use Rattle.temporal_core.specs.Bounds.{far_below, TellsPoint, AreNear}
 use Rattle.temporal_core.proofs.Members.{all_from_contains}
 use Rattle.temporal_core.proofs.Walks.{Contains-head, Contains-tail, path_or_cycle, rises_along, none_keeps}
@@ -28,6 +28,20 @@ natural_above (negsuc n) = (0, omega (arith, ints))
 
 below : (a b : ℤ) → ((int_lt a b ≡ true) × (a <ℤ b)) ⊎ ((int_lt a b ≡ false) × (b ≤ℤ a))
 below a b = by_lt_z a b (λ under. inl (grind (arith, ints), under)) (λ above. inr (grind (arith, ints), above))
+
+-- ---- the origin, as the code hands it on
+
+pub cast_origin : (read values : List ℤ) → read ≡ values → pos 0 ≤ℤ value_at values 0 → value_at values 0 ≤ℤ pos 131072000000 → to_z w64 (of_z w64 (value_at read 0)) ≡ value_at values 0
+cast_origin read values is low high = ap (λ xs. to_z w64 (of_z w64 (value_at xs 0))) is ∙ cast_value (value_at values 0) low high
+  where
+    cast_value : (value : ℤ) → pos 0 ≤ℤ value → value ≤ℤ pos 131072000000 → to_z w64 (of_z w64 value) ≡ value
+    cast_value value low high = omega (arith, ints)
+
+pub settled_near : (value : ℤ) → value ≤ℤ pos 131072000000 → value ≤ℤ far
+settled_near value high = omega (arith, ints)
+
+pub cast_modest : (z value : ℤ) → z ≡ value → pos 0 ≤ℤ value → value ≤ℤ pos 131072000000 → (pos 0 ≤ℤ z) × (z ≤ℤ far)
+cast_modest z value is low high = (omega (arith, ints), omega (arith, ints))
 
 module _ (points : ℕ) (edges : List Edge) (settled : List ℤ) (some : 0 < points) (few : points ≤ 65536) (each : All (IsEdge points) edges) (is_settled : AreSettled points edges settled) where
   pub low_at : (point : ℕ) → point < points → value_at (map far_below settled) point ≡ far_below (value_at settled point)

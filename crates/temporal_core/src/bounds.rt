@@ -46,6 +46,14 @@ impl From<AllocError> for TimeFault {
 /// So far below the values of a schedule that no walk from the origin leads there.
 const FAR: i64 = 1_099_511_627_776;
 
+// The value, that much less.
+fn far_from(value: i64) -> i64
+    requires { pos 0 ≤ℤ value }
+    ensures { result ≡ far_below value }
+{
+    value - FAR
+}
+
 // Each value that much less.
 fn lowered(alloc: Global, values: &[i64]) -> Result<Vec<i64>, AllocError>
     requires { (point : ℕ) → pos 0 ≤ℤ value_at values.now point }
@@ -53,7 +61,7 @@ fn lowered(alloc: Global, values: &[i64]) -> Result<Vec<i64>, AllocError>
 {
     let mut low = Vec::with_capacity(alloc, values.len())?;
     for value in values {
-        low.push(*value - FAR)?;
+        low.push(far_from(*value))?;
     }
     Ok(low)
 }

@@ -1,4 +1,4 @@
-use Rattle.std.proofs.Common.{◌≡◌, ◌<◌, ℤ, pos, List, length, get_or, map, sym, ap, subst, arith}
+use Rattle.std.proofs.Common.{◌<◌, ℤ, pos, List, length, sym, ap, subst, arith}
 use Rattle.std.proofs.lemmas.Int.{ints}
 use Rattle.std.proofs.lemmas.List.{get_or-map, length-map}
 use Rattle.narrow_core.specs.declared.field.FieldEntry.{FieldEntry}

@@ -1,4 +1,4 @@
-use Rattle.std.proofs.Common.{◌≡◌, ◌<ℤ◌, pos, get_or, refl, w32, to_z, of_z, arith, subst, sym}
+use Rattle.std.proofs.Common.{◌≡◌, ◌<ℤ◌, pos, get_or, refl, w32, to_z, of_z, arith, subst}
 use Rattle.std.proofs.lemmas.Bool.{both_ways}
 use Rattle.std.proofs.lemmas.Int.{ints}
 use Rattle.narrow_core.specs.declared.field.FieldEntry.{FieldEntry}
@@ -19,7 +19,7 @@ returns-then-value-at c =
     let more : to_z w32 (of_z w32 c.args.value) <ℤ side_of (get_or c.args.entries.now c.loop-place.place d) c.args.side = omega (arith, ints, c.at.ensures) in (
       λ never. absurd (cc),
       λ some. absurd (none_paired c.args.entries.now c.args.side c.requires c.args.other.now _ c.loop-place.place d (omega arith) c.loop-place.invariant more
-      (subst (IsPaired c.args.entries.now c.args.side c.args.other.now) is some)),
+          (subst (IsPaired c.args.entries.now c.args.side c.args.other.now) is some)),
     )
 
 pub returns-then-pairs : goal.returns-then-pairs
@@ -38,5 +38,5 @@ returns c =
     let is : c.args.value ≡ to_z w32 (of_z w32 c.args.value) = omega (arith, ints) in (
       λ never. absurd (cc),
       λ some. absurd (none_of_all c.args.entries.now c.args.side c.requires c.args.other.now _ c.loop-place.place (omega arith) c.loop-place.invariant
-      (subst (IsPaired c.args.entries.now c.args.side c.args.other.now) is some)),
+          (subst (IsPaired c.args.entries.now c.args.side c.args.other.now) is some)),
     )

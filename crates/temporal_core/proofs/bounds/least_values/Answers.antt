@@ -4,7 +4,7 @@ use lib.Seq.{take-append_seam}
 use Rattle.temporal_core.specs.Settled.{value_at, Raises, Exceeds}
 use Rattle.temporal_core.specs.Bounds.{far_below, TellsPoint}
 use Rattle.temporal_core.proofs.Settling.{settled_modest}
-use Rattle.temporal_core.proofs.Least.{low_modest, nothing_beyond, new_modest, least_told_all, near_told_all}
+use Rattle.temporal_core.proofs.Least.{cast_origin, cast_modest, settled_near, low_modest, nothing_beyond, new_modest, least_told_all, near_told_all}
 use Rattle.temporal_core.proofs.bounds.least_values.Goals as goal
 
 pub raise-requires-clause-low : goal.raise-requires-clause-low
@@ -44,11 +44,10 @@ raise-requires-clause-modest c =
     let is_settled = c.requires.settled.values in
     let first : c.as_slice-first.result.now ≡ values = c.as_slice-first.ensures.value in
     let low : c.deref_mut.result.now ≡ map far_below values = c.deref_mut.ensures.value ∙ c.in_ok-values.ensures ∙ ap (map far_below) first in
-    let at_origin : value_at c.as_slice-first.result.now 0 ≡ value_at values 0 = ap (λ xs. value_at xs 0) first in
     let origin_low = is_settled.low 0 in
     let origin_high = settled_modest points edges values few each is_settled 0 in
-    let origin : to_z w64 (of_z w64 (value_at c.as_slice-first.result.now 0)) ≡ value_at values 0 = omega (arith, ints) in
-    omega (arith, ints)
+    let origin = cast_origin c.as_slice-first.result.now values first origin_low origin_high in
+    (cast_modest _ _ origin origin_low origin_high).1
 
 pub unreachable-requires : goal.unreachable-requires
 unreachable-requires c =
@@ -61,10 +60,9 @@ unreachable-requires c =
     let is_settled = c.requires.settled.values in
     let first : c.as_slice-first.result.now ≡ values = c.as_slice-first.ensures.value in
     let low : c.deref_mut.result.now ≡ map far_below values = c.deref_mut.ensures.value ∙ c.in_ok-values.ensures ∙ ap (map far_below) first in
-    let at_origin : value_at c.as_slice-first.result.now 0 ≡ value_at values 0 = ap (λ xs. value_at xs 0) first in
     let origin_low = is_settled.low 0 in
     let origin_high = settled_modest points edges values few each is_settled 0 in
-    let origin : to_z w64 (of_z w64 (value_at c.as_slice-first.result.now 0)) ≡ value_at values 0 = omega (arith, ints) in
+    let origin = cast_origin c.as_slice-first.result.now values first origin_low origin_high in
     let raised = subst (λ done. MatchBool done (Raises edges 0 (to_z w64 (of_z w64 (value_at c.as_slice-first.result.now 0))) (length c.as_slice-first.result.now) c.deref_mut.result.now c.raise.new.values) (Exceeds edges 0 (to_z w64 (of_z w64 (value_at c.as_slice-first.result.now 0))) (length c.as_slice-first.result.now) c.deref_mut.result.now)) c.if-not-branch.true c.in_ok-raise.ensures in
     let exceeds = subst (λ v. Exceeds edges 0 v (length c.as_slice-first.result.now) c.deref_mut.result.now) origin raised in
     nothing_beyond points edges values c.requires.some few each is_settled
@@ -82,7 +80,7 @@ told_all-requires-clause-settled c =
     let first : c.as_slice-first.result.now ≡ values = c.as_slice-first.ensures.value in
     let low : c.deref_mut.result.now ≡ map far_below values = c.deref_mut.ensures.value ∙ c.in_ok-values.ensures ∙ ap (map far_below) first in
     subst (λ xs. (point : ℕ) → (pos 0 ≤ℤ value_at xs point) × (value_at xs point ≤ℤ pos 2199023255552)) (sym first)
-    (λ point. let high = settled_modest points edges values few each is_settled point in (is_settled.low point, omega (arith, ints)))
+    (λ point. (is_settled.low point, settled_near _ (settled_modest points edges values few each is_settled point)))
 
 pub told_all-requires-clause-origin : goal.told_all-requires-clause-origin
 told_all-requires-clause-origin c =
@@ -95,11 +93,10 @@ told_all-requires-clause-origin c =
     let is_settled = c.requires.settled.values in
     let first : c.as_slice-first.result.now ≡ values = c.as_slice-first.ensures.value in
     let low : c.deref_mut.result.now ≡ map far_below values = c.deref_mut.ensures.value ∙ c.in_ok-values.ensures ∙ ap (map far_below) first in
-    let at_origin : value_at c.as_slice-first.result.now 0 ≡ value_at values 0 = ap (λ xs. value_at xs 0) first in
     let origin_low = is_settled.low 0 in
     let origin_high = settled_modest points edges values few each is_settled 0 in
-    let origin : to_z w64 (of_z w64 (value_at c.as_slice-first.result.now 0)) ≡ value_at values 0 = omega (arith, ints) in
-    (omega (arith, ints), omega (arith, ints))
+    let origin = cast_origin c.as_slice-first.result.now values first origin_low origin_high in
+    cast_modest _ _ origin origin_low origin_high
 
 pub told_all-requires-clause-values : goal.told_all-requires-clause-values
 told_all-requires-clause-values c =
@@ -112,10 +109,9 @@ told_all-requires-clause-values c =
     let is_settled = c.requires.settled.values in
     let first : c.as_slice-first.result.now ≡ values = c.as_slice-first.ensures.value in
     let low : c.deref_mut.result.now ≡ map far_below values = c.deref_mut.ensures.value ∙ c.in_ok-values.ensures ∙ ap (map far_below) first in
-    let at_origin : value_at c.as_slice-first.result.now 0 ≡ value_at values 0 = ap (λ xs. value_at xs 0) first in
     let origin_low = is_settled.low 0 in
     let origin_high = settled_modest points edges values few each is_settled 0 in
-    let origin : to_z w64 (of_z w64 (value_at c.as_slice-first.result.now 0)) ≡ value_at values 0 = omega (arith, ints) in
+    let origin = cast_origin c.as_slice-first.result.now values first origin_low origin_high in
     let raised = subst (λ done. MatchBool done (Raises edges 0 (to_z w64 (of_z w64 (value_at c.as_slice-first.result.now 0))) (length c.as_slice-first.result.now) c.deref_mut.result.now c.raise.new.values) (Exceeds edges 0 (to_z w64 (of_z w64 (value_at c.as_slice-first.result.now 0))) (length c.as_slice-first.result.now) c.deref_mut.result.now)) c.if-not-branch.false c.in_ok-raise.ensures in
     let moved = subst (λ v. Raises edges 0 v (length c.as_slice-first.result.now) c.deref_mut.result.now c.raise.new.values) origin raised in
     let raises = subst (λ n. Raises edges 0 (value_at values 0) n (map far_below values) c.raise.new.values) (ap length first)
@@ -137,10 +133,9 @@ returns-clause-values c =
     let is_settled = c.requires.settled.values in
     let first : c.as_slice-first.result.now ≡ values = c.as_slice-first.ensures.value in
     let low : c.deref_mut.result.now ≡ map far_below values = c.deref_mut.ensures.value ∙ c.in_ok-values.ensures ∙ ap (map far_below) first in
-    let at_origin : value_at c.as_slice-first.result.now 0 ≡ value_at values 0 = ap (λ xs. value_at xs 0) first in
     let origin_low = is_settled.low 0 in
     let origin_high = settled_modest points edges values few each is_settled 0 in
-    let origin : to_z w64 (of_z w64 (value_at c.as_slice-first.result.now 0)) ≡ value_at values 0 = omega (arith, ints) in
+    let origin = cast_origin c.as_slice-first.result.now values first origin_low origin_high in
     let raised = subst (λ done. MatchBool done (Raises edges 0 (to_z w64 (of_z w64 (value_at c.as_slice-first.result.now 0))) (length c.as_slice-first.result.now) c.deref_mut.result.now c.raise.new.values) (Exceeds edges 0 (to_z w64 (of_z w64 (value_at c.as_slice-first.result.now 0))) (length c.as_slice-first.result.now) c.deref_mut.result.now)) c.if-not-branch.false c.in_ok-raise.ensures in
     let moved = subst (λ v. Raises edges 0 v (length c.as_slice-first.result.now) c.deref_mut.result.now c.raise.new.values) origin raised in
     let raises = subst (λ n. Raises edges 0 (value_at values 0) n (map far_below values) c.raise.new.values) (ap length first)
@@ -167,10 +162,9 @@ returns-clause-near c =
     let is_settled = c.requires.settled.values in
     let first : c.as_slice-first.result.now ≡ values = c.as_slice-first.ensures.value in
     let low : c.deref_mut.result.now ≡ map far_below values = c.deref_mut.ensures.value ∙ c.in_ok-values.ensures ∙ ap (map far_below) first in
-    let at_origin : value_at c.as_slice-first.result.now 0 ≡ value_at values 0 = ap (λ xs. value_at xs 0) first in
     let origin_low = is_settled.low 0 in
     let origin_high = settled_modest points edges values few each is_settled 0 in
-    let origin : to_z w64 (of_z w64 (value_at c.as_slice-first.result.now 0)) ≡ value_at values 0 = omega (arith, ints) in
+    let origin = cast_origin c.as_slice-first.result.now values first origin_low origin_high in
     let raised = subst (λ done. MatchBool done (Raises edges 0 (to_z w64 (of_z w64 (value_at c.as_slice-first.result.now 0))) (length c.as_slice-first.result.now) c.deref_mut.result.now c.raise.new.values) (Exceeds edges 0 (to_z w64 (of_z w64 (value_at c.as_slice-first.result.now 0))) (length c.as_slice-first.result.now) c.deref_mut.result.now)) c.if-not-branch.false c.in_ok-raise.ensures in
     let moved = subst (λ v. Raises edges 0 v (length c.as_slice-first.result.now) c.deref_mut.result.now c.raise.new.values) origin raised in
     let raises = subst (λ n. Raises edges 0 (value_at values 0) n (map far_below values) c.raise.new.values) (ap length first)

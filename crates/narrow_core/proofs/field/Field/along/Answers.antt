@@ -1,5 +1,3 @@
-use Rattle.std.proofs.Common.{sym, subst}
-use Rattle.std.specs.Prelude.{Contains, ◌↔◌}
 use Rattle.narrow_core.proofs.field.Field.along.Goals as goal
 
 pub returns-in-Value-clause-same : goal.returns-in-Value-clause-same
