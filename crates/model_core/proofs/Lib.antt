@@ -8,4 +8,3 @@ pub mod Naming
 pub mod Words
 pub mod WellFormed
 pub mod OneText
-pub mod Sample

@@ -88,7 +88,7 @@ impl Model for Block {
     ghost size = { λ block. size_of block };
 
     ghost use Rattle.std.proofs.Common.{arith};
-    ghost use Rattle.model_core.specs.Falls.{most_deep};
+    ghost use Rattle.model_core.specs.Falls.{entries_most_deep};
 
-    ghost size_decreases = { λ a h. omega (arith, most_deep a.entries.items) };
+    ghost size_decreases = { λ a h. omega (arith, entries_most_deep a.entries.items) };
 }

@@ -9,7 +9,7 @@ use Rattle.model_core.specs.declared.decision.Decision.TheVariants.{Specify}
 use Rattle.model_core.specs.declared.model.Model.{Model}
 use Rattle.model_core.specs.History.{History, standing}
 use Rattle.model_core.specs.Lookup.{global_named}
-use Rattle.model_core.specs.Lawful.{IsLawful, IsLawfulVariable, IsBase}
+use Rattle.model_core.specs.Lawful.{IsLawful, IsLawfulVariable, IsLawfulBase}
 use Rattle.model_core.specs.State.{State}
 use Rattle.plan_defs.specs.Refusals.{Refusal, Unknown, Decided, NotInDomain, rank_of, IsDeclared, Hinders}
 use Rattle.plan_defs.proofs.Members.{get_all}
@@ -19,7 +19,7 @@ use Rattle.session_core.specs.Replies.{Refuses, SpecifiesGlobal, SpecifyReplies,
 declared_value : (model : Model) (number : ℕ) (value : ℤ) → IsLawful model → IsDeclared model (Global number) value → IsValue value
 declared_value model number value lawful is =
     let base = is.1 in
-    let ok = subst IsBase (sym base.2) (get_all (IsLawfulVariable model) model.problem.globals number base.0 lawful.globals base.1).base in
+    let ok = subst IsLawfulBase (sym base.2) (get_all (IsLawfulVariable model) model.problem.globals number base.0 lawful.globals base.1).base in
     has_value is.0 value ok is.2
 
 -- reasons that are looked for before the value matters

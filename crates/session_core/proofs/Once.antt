@@ -82,5 +82,5 @@ domain_once model history variable lines others after then' (inr p) (inr q) =
     (global_named model variable)
     (refused_once (codes "unknown") history lines others after then')
     (λ number a b.
-    let domains = gives_same p.0 p.1.closed.is_state.order (Global number) a.0 b.0 a.1 (subst (λ s. Gives s (Global number) b.0) (sym same) b.1) in
+    let domains = gives_same p.0 p.1.closed.consistent.is_state.order (Global number) a.0 b.0 a.1 (subst (λ s. Gives s (Global number) b.0) (sym same) b.1) in
     (b.2 ∙ sym (a.2 ∙ ap (λ d. domain_line variable d ∷ []) domains), b.3 ∙ sym a.3)) p.2 q.2

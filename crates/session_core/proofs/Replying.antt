@@ -34,11 +34,11 @@ named_within model name number e = omega (arith, named_from 0 name model.problem
 
 -- a global that is there is never unknown
 pub never_unknown : (database : Database) (number : ℕ) (value : ℤ) → number < length database.model.problem.globals → RefusesFor database (Specify (Global number) value) Unknown → ⊥
-never_unknown database number value within refused = refused.refusal.hinders ((refused.least.closed.is_state.variables (Global number)).0 within)
+never_unknown database number value within refused = refused.refusal.hinders ((refused.least.closed.consistent.is_state.variables (Global number)).0 within)
 
 pub never_untold : (database : Database) (number : ℕ) → number < length database.model.problem.globals → IsUntold database (Global number) query.Unknown → ⊥
 never_untold database number within untold =
-    let given = (untold.1.closed.is_state.variables (Global number)).0 within in
+    let given = (untold.1.closed.consistent.is_state.variables (Global number)).0 within in
     untold.2 given.0 given.1
 
 -- an outcome is said as the lines that it has
