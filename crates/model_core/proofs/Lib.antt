@@ -8,3 +8,4 @@ pub mod Naming
 pub mod Words
 pub mod WellFormed
 pub mod OneText
+pub mod Numbering

@@ -5,7 +5,9 @@ use Rattle.model_core.specs.declared.rule.Rule.{Rule}
 use Rattle.model_core.specs.declared.rule.Side.{Side}
 use Rattle.model_core.specs.declared.rule.Side.TheVariants.{Then, Otherwise}
 use Rattle.model_core.specs.declared.rule.Turn.{Turn}
+use Rattle.model_core.specs.Blocks.{OfItem}
 use Rattle.model_core.specs.Entries.{Entries, NoEntry, WithSlot, WithLocal, WithItem, WithBranch}
+use Rattle.model_core.specs.Standing.{StandsAt}
 
 -- an item, with the way to the block in which it stands and its place there
 pub record PlacedItem : Type 0 where
@@ -36,3 +38,10 @@ rule_items rule = items_from [] 0 rule.top
 -- the item of this number of the rule
 abbrev pub IsItemOf : Rule → ℕ → PlacedItem → Type 0
 IsItemOf rule number placed = slice_get (rule_items rule) number ≡ Some placed
+
+-- each item that stands in the rule has a number
+abbrev pub ItemsHaveNumbers : Type 0
+ItemsHaveNumbers =
+    (rule : Rule) (path : List Turn) (place : ℕ) (item : Item)
+    → StandsAt rule.top path place (OfItem item)
+    → (number : ℕ) × IsItemOf rule number (record { path = path; place = place; item = item })

@@ -1,5 +1,7 @@
 //! Rules: what a token asks for.
 
+ghost use Rattle.model_core.specs.Numbers.{ItemsHaveNumbers};
+
 use super::item::{Item, Term};
 use super::variable::{Base, VarDecl};
 use eu_name::sequence::Sequence;
@@ -92,3 +94,8 @@ impl Model for Block {
 
     ghost size_decreases = { λ a h. omega (arith, entries_most_deep a.entries.items) };
 }
+
+/// A law: each item that stands in a rule has a number.
+pub fn items_have_numbers()
+    ensures { ItemsHaveNumbers }
+{}
