@@ -1,1 +1,1 @@
-pub mod Sample
+pub mod Lawfulness

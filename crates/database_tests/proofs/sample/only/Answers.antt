@@ -1,4 +1,4 @@
-use Rattle.database_tests.proofs.Sample.{only_is}
+use Rattle.database_tests.proofs.Lawfulness.{only_is}
 use Rattle.database_tests.proofs.sample.only.Goals as goal
 
 pub returns-in-Ok : goal.returns-in-Ok

@@ -1,4 +1,4 @@
-use Rattle.database_tests.proofs.Sample.{lawful_sample}
+use Rattle.database_tests.proofs.Lawfulness.{lawful_sample}
 use Rattle.database_tests.proofs.sample.sample.Goals as goal
 
 pub returns : goal.returns
