@@ -5,8 +5,14 @@
 #[cfg(test)]
 mod constraint_net;
 #[cfg(test)]
+mod database;
+#[cfg(test)]
 mod decision_log;
 #[cfg(test)]
+mod names;
+#[cfg(test)]
 mod narrow_core;
+#[cfg(test)]
+mod sample;
 #[cfg(test)]
 mod shapes;

@@ -8,4 +8,4 @@ pub mod Naming
 pub mod Words
 pub mod WellFormed
 pub mod OneText
-pub mod Sample
+pub mod Numbering

@@ -6,16 +6,19 @@ use Rattle.model_core.specs.contracts.item.Item as an_item
 use Rattle.model_core.specs.contracts.rule.Guard as a_guard
 use Rattle.model_core.specs.Entries.{Entries, NoEntry, WithSlot, WithLocal, WithItem, WithBranch}
 
+-- the first of a pair
 abbrev first : Gv → Gv
 first gnil = gnil
 first (gnum n) = gnil
 first (gcons a b) = a
 
+-- the second
 abbrev rest : Gv → Gv
 rest gnil = gnil
 rest (gnum n) = gnil
 rest (gcons a b) = b
 
+-- a block as a tree of numbers: each entry is the number of its sort with what it has
 abbrev code_of : Entries → Gv
 code_of NoEntry = gnil
 code_of (WithSlot slot more) = gcons (gnum 1) (gcons (code_of more) (gnum slot))
@@ -42,22 +45,24 @@ coded_sort (WithBranch guard then otherwise more) = refl
 same_sort : (one other : Entries) → code_of one ≡ code_of other → sort_of one ≡ sort_of other
 same_sort one other p = sym (coded_sort one) ∙ (ap (λ g. num (first g)) p ∙ coded_sort other)
 
-pub code_once : (one other : Entries) → code_of one ≡ code_of other → one ≡ other
-code_once NoEntry NoEntry p = refl
-code_once (WithSlot slot more) (WithSlot slot' others) p = λ i.
-    WithSlot (ap (λ g. num (rest (rest g))) p i) (code_once more others (ap (λ g. first (rest g)) p) i)
-code_once (WithLocal local more) (WithLocal local' others) p = λ i.
-    WithLocal (ap (λ g. num (rest (rest g))) p i) (code_once more others (ap (λ g. first (rest g)) p) i)
-code_once (WithItem item more) (WithItem item' others) p = λ i.
-    WithItem (an_item.the_row.coded.inj item item' (ap (λ g. rest (rest g)) p) i) (code_once more others (ap (λ g. first (rest g)) p) i)
-code_once (WithBranch guard then otherwise more) (WithBranch guard' then' otherwise' others) p = λ i.
+-- blocks with one code are one
+pub entries_code_once : (one other : Entries) → code_of one ≡ code_of other → one ≡ other
+entries_code_once NoEntry NoEntry p = refl
+entries_code_once (WithSlot slot more) (WithSlot slot' others) p = λ i.
+    WithSlot (ap (λ g. num (rest (rest g))) p i) (entries_code_once more others (ap (λ g. first (rest g)) p) i)
+entries_code_once (WithLocal local more) (WithLocal local' others) p = λ i.
+    WithLocal (ap (λ g. num (rest (rest g))) p i) (entries_code_once more others (ap (λ g. first (rest g)) p) i)
+entries_code_once (WithItem item more) (WithItem item' others) p = λ i.
+    WithItem (an_item.the_row.coded.inj item item' (ap (λ g. rest (rest g)) p) i) (entries_code_once more others (ap (λ g. first (rest g)) p) i)
+entries_code_once (WithBranch guard then otherwise more) (WithBranch guard' then' otherwise' others) p = λ i.
     WithBranch (a_guard.the_row.coded.inj guard guard' (ap (λ g. rest (rest (rest (rest g)))) p) i)
-    (code_once then then' (ap (λ g. first (rest (rest g))) p) i) (code_once otherwise otherwise' (ap (λ g. first (rest (rest (rest g)))) p) i)
-    (code_once more others (ap (λ g. first (rest g)) p) i)
-code_once one other p = absurd (omega (arith, same_sort one other p))
+    (entries_code_once then then' (ap (λ g. first (rest (rest g))) p) i) (entries_code_once otherwise otherwise' (ap (λ g. first (rest (rest (rest g)))) p) i)
+    (entries_code_once more others (ap (λ g. first (rest g)) p) i)
+entries_code_once one other p = absurd (omega (arith, same_sort one other p))
 
+-- the code of blocks, which tells them apart
 abbrev pub entries_code : Coded Entries
 entries_code = record {
   code = code_of;
-  inj = code_once;
+  inj = entries_code_once;
 }

@@ -15,9 +15,10 @@ some (WithLocal local more) = omega arith
 some (WithItem item more) = omega arith
 some (WithBranch guard then otherwise more) = omega arith
 
-pub most_deep : (entries : List Entry) → most deep-Entry entries ≤ size_of (plain_entries entries)
-most_deep [] = omega arith
-most_deep (Slot number ∷ more) = omega (arith, most_deep more, some (plain_entries more))
-most_deep (Local number ∷ more) = omega (arith, most_deep more, some (plain_entries more))
-most_deep (Item item ∷ more) = omega (arith, most_deep more, some (plain_entries more))
-most_deep (Branch guard then otherwise ∷ more) = omega (arith, most_deep more, some (plain_entries more))
+-- no entry of a block is as deep as the block is large
+pub entries_most_deep : (entries : List Entry) → most deep-Entry entries ≤ size_of (plain_entries entries)
+entries_most_deep [] = omega arith
+entries_most_deep (Slot number ∷ more) = omega (arith, entries_most_deep more, some (plain_entries more))
+entries_most_deep (Local number ∷ more) = omega (arith, entries_most_deep more, some (plain_entries more))
+entries_most_deep (Item item ∷ more) = omega (arith, entries_most_deep more, some (plain_entries more))
+entries_most_deep (Branch guard then otherwise ∷ more) = omega (arith, entries_most_deep more, some (plain_entries more))

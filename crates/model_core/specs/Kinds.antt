@@ -24,14 +24,14 @@ use Rattle.model_core.specs.Tokens.{IsRoot}
 use Rattle.model_core.specs.Variables.{IsGlobal, HasParameter}
 
 -- the class of the first number extends that of the second
-abbrev pub IsParent : Model → ℕ → ℕ → Type 0
-IsParent model class parent =
+abbrev pub IsParentClass : Model → ℕ → ℕ → Type 0
+IsParentClass model class parent =
     (found : Class) × (slice_get model.classes class ≡ Some found) × (found.parent ≡ Some parent)
 
 -- the classes lead up to the ancestor, each extending the next
 abbrev pub Climbs : Model → ℕ → List ℕ → ℕ → Type 0
 Climbs model class [] ancestor = ancestor ≡ class
-Climbs model class (parent ∷ path) ancestor = IsParent model class parent × Climbs model parent path ancestor
+Climbs model class (parent ∷ path) ancestor = IsParentClass model class parent × Climbs model parent path ancestor
 
 -- the class is the other one, or extends it at once or over others
 abbrev pub IsUnder : Model → ℕ → ℕ → Type 0

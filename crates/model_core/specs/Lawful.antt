@@ -43,14 +43,14 @@ use Rattle.model_core.specs.Tokens.{HasToken}
 use Rattle.model_core.specs.Variables.{IsGlobal, HasBase, IsGiven}
 
 -- a base is void or a domain
-abbrev pub IsBase : Base → Type 0
-IsBase (Given domain) = IsDomain domain
-IsBase Void = ⊤
+abbrev pub IsLawfulBase : Base → Type 0
+IsLawfulBase (Given domain) = IsDomain domain
+IsLawfulBase Void = ⊤
 
 -- the model has the variable's kind, and what the variable may be is of it
 pub record IsLawfulVariable (model : Model) (variable : VarDecl) : Type 0 where
   pub kind : IsKind model variable.kind
-  pub base : IsBase variable.base
+  pub base : IsLawfulBase variable.base
   pub inside : IsBaseOf model variable.kind variable.base
 
 -- an enum has 1 to 4,096 members
@@ -96,7 +96,7 @@ pub record IsLawfulObject (model : Model) (object : Object) : Type 0 where
 pub record IsLawfulSlot (model : Model) (slot : Slot) : Type 0 where
   pub pred : Pred
   pub is_pred : slice_get model.preds slot.pred ≡ Some pred
-  pub base : IsBase slot.object
+  pub base : IsLawfulBase slot.object
   pub inside : IsBaseOf model kinds.Object slot.object
   pub objects : AreObjectsOf model pred.class slot.object
 

@@ -12,10 +12,10 @@ pub mod History
 pub mod Kinds
 pub mod Naming
 pub mod Standing
+pub mod Numbers
 pub mod Lawful
 pub mod Lookup
 pub mod Names
 pub mod Decided
 pub mod TokenStates
 pub mod Views
-pub mod Sample

@@ -42,9 +42,9 @@ abbrev pub IsObjectName : List ℕ → Type 0
 IsObjectName name = (names : List (List ℕ)) × (0 < length names) × All IsName names × (name ≡ join_with_byte 46 names)
 
 -- the words for the parts that every token has
-abbrev pub part_words : List (List ℕ)
-part_words = codes "start" ∷ codes "end" ∷ codes "duration" ∷ codes "object" ∷ []
+abbrev pub token_part_words : List (List ℕ)
+token_part_words = codes "start" ∷ codes "end" ∷ codes "duration" ∷ codes "object" ∷ []
 
 -- a predicate's parameter isn't called like a part that every token has
 abbrev pub IsParameterName : List ℕ → Type 0
-IsParameterName name = IsName name × (Contains part_words name → ⊥)
+IsParameterName name = IsName name × (Contains token_part_words name → ⊥)

@@ -1,5 +1,7 @@
 //! Rules: what a token asks for.
 
+ghost use Rattle.model_core.specs.Numbers.{ItemsHaveNumbers};
+
 use super::item::{Item, Term};
 use super::variable::{Base, VarDecl};
 use eu_name::sequence::Sequence;
@@ -88,7 +90,12 @@ impl Model for Block {
     ghost size = { λ block. size_of block };
 
     ghost use Rattle.std.proofs.Common.{arith};
-    ghost use Rattle.model_core.specs.Falls.{most_deep};
+    ghost use Rattle.model_core.specs.Falls.{entries_most_deep};
 
-    ghost size_decreases = { λ a h. omega (arith, most_deep a.entries.items) };
+    ghost size_decreases = { λ a h. omega (arith, entries_most_deep a.entries.items) };
 }
+
+/// A law: each item that stands in a rule has a number.
+pub fn items_have_numbers()
+    ensures { ItemsHaveNumbers }
+{}

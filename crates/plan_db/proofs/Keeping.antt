@@ -15,7 +15,7 @@ use Rattle.plan_defs.specs.Refusals.{IsAdmissible}
 use Rattle.plan_defs.specs.History.{IsHistory}
 use Rattle.plan_db.specs.declared.fault.DbFault.{DbFault}
 use Rattle.plan_db.specs.declared.fault.DbFault.TheVariants.{InInconsistent, Unknown, Decided, NotInDomain, Nothing, Memory}
-use Rattle.plan_db.specs.Kept.{IsLeastNet, IsKept, global_state, outcome_where}
+use Rattle.plan_db.specs.Kept.{IsLeastNet, KeepsLeast, global_state, outcome_where}
 use Rattle.plan_db.specs.Database.{Database, OutcomeIs, Applies, Finds, HasLeast, HasCollapsed, HasFormer}
 use Rattle.decision_log.specs.Undoing.{Pops}
 use Rattle.plan_db.proofs.Positions.{gives_at, given_at, number_same}
@@ -31,7 +31,7 @@ first_history model [] is one = absurd is
 first_history model (decisions ∷ []) is one = ap (λ list. list ∷ []) is
 first_history model (decisions ∷ below ∷ former) is one = absurd (omega arith)
 
-module _ (model : Model) (history : History) (kept : Option Network) (is : IsKept model history kept) where
+module _ (model : Model) (history : History) (kept : Option Network) (is : KeepsLeast model history kept) where
   pub least_kept : (net : Network) → kept ≡ Some net → IsLeast model (standing history) (global_state net.domains)
   least_kept net e = subst (IsLeastNet model (standing history)) e is.state
 
@@ -74,7 +74,7 @@ pub admissible : (database : Database) (decision : Decision) (state : State) →
 admissible database decision state least finds = record { state = state; least = least; free = finds }
 
 -- whether the kept state is there says whether the decisions leave something
-pub consistent_kept : (database : Database) (kept : Option Network) → IsKept database.model database.history kept → MatchBool (is_some kept) ((state : State) × HasLeast database state) (HasCollapsed database)
+pub consistent_kept : (database : Database) (kept : Option Network) → KeepsLeast database.model database.history kept → MatchBool (is_some kept) ((state : State) × HasLeast database state) (HasCollapsed database)
 consistent_kept database None is = is.state
 consistent_kept database (Some net) is = (global_state net.domains, is.state)
 

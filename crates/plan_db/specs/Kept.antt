@@ -49,7 +49,7 @@ abbrev pub HasLeastOfFormer : Model → History → Option Network → Type 0
 HasLeastOfFormer model history kept = (former : List Decision) × IsFormer history former × IsLeastNet model former kept
 
 -- what the database keeps beside the model and the history: the least state, or that there is none
-pub record IsKept (model : Model) (history : History) (kept : Option Network) : Type 0 where
+pub record KeepsLeast (model : Model) (history : History) (kept : Option Network) : Type 0 where
   pub lawful : IsLawful model
   pub built : IsBuilt model
   pub history_is : IsHistory model history

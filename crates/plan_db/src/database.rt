@@ -31,7 +31,7 @@ pub struct Db {
 
 impl marker::Model for Db {
     ghost use Rattle.plan_db.specs.Database.{Database};
-    ghost use Rattle.plan_db.specs.Kept.{IsKept};
+    ghost use Rattle.plan_db.specs.Kept.{KeepsLeast};
 
     ghost Value = { Database };
 
@@ -42,7 +42,7 @@ impl marker::Model for Db {
 
     ghost view = { λ db. record { model = db.model; history = db.log } };
 
-    ghost invariant = { λ db. IsKept db.model db.log db.net };
+    ghost invariant = { λ db. KeepsLeast db.model db.log db.net };
 }
 
 impl Db {

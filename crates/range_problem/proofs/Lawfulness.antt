@@ -13,7 +13,7 @@ use Rattle.model_core.specs.declared.item.Item.{Item}
 use Rattle.model_core.specs.declared.item.Term.TheVariants.{Global}
 use Rattle.model_core.specs.declared.variable.ValueKind.TheVariants.{Int}
 use Rattle.model_core.specs.Kinds.{OfProblem, IsOfKind}
-use Rattle.model_core.specs.Lawful.{IsBase, IsLawfulItem, IsLawfulVariable, IsLawful}
+use Rattle.model_core.specs.Lawful.{IsLawfulBase, IsLawfulItem, IsLawfulVariable, IsLawful}
 use Rattle.plan_db.specs.Built.{IsRangeVariable, IsPlain, IsOfGlobals}
 use Rattle.model_core.specs.Naming.{names_of, builtin_names, global_names, declared_names}
 use Rattle.model_core.proofs.Distinct.{pairs_front}
@@ -125,7 +125,7 @@ leq_lawful model item ranges (first, second, in_first, in_second, same) =
 declarable_lawful : (model : Model) (variable : VarDecl) → IsDeclarable variable → IsLawfulVariable model variable
 declarable_lawful model variable declarable =
     let is = variable_is variable declarable.range in
-    let domain : IsDomain (Range is.0 is.1) = subst IsBase (ap (λ (v : VarDecl). v.base) is.2) declarable.base in
+    let domain : IsDomain (Range is.0 is.1) = subst IsLawfulBase (ap (λ (v : VarDecl). v.base) is.2) declarable.base in
     let lawful : IsLawfulVariable model (variable_of variable.name (Range is.0 is.1)) = record {
       kind = tt;
       base = domain;

@@ -9,7 +9,7 @@ use Rattle.model_core.specs.declared.item.Item.{Item}
 use Rattle.model_core.specs.declared.item.Item.TheVariants.{Constraint}
 use Rattle.model_core.specs.declared.item.Kind.TheVariants.{Leq}
 use Rattle.model_core.specs.declared.item.Term.TheVariants.{Global}
-use Rattle.model_core.specs.Lawful.{IsBase}
+use Rattle.model_core.specs.Lawful.{IsLawfulBase}
 use Rattle.plan_db.specs.Built.{IsRangeVariable}
 use Rattle.model_core.specs.Naming.{builtin_names, names_of}
 
@@ -33,7 +33,7 @@ pub record IsFree (name : List ℕ) : Type 0 where
 -- the variable may be declared, whatever else is
 pub record IsDeclarable (variable : VarDecl) : Type 0 where
   pub free : IsFree variable.name
-  pub base : IsBase variable.base
+  pub base : IsLawfulBase variable.base
   pub range : IsRangeVariable variable
 
 -- the variables may be declared together

@@ -6,7 +6,7 @@ use Rattle.plan_defs.specs.Closure.{IsLeast}
 use Rattle.plan_defs.specs.History.{IsHistory}
 use Rattle.plan_defs.specs.Refusals.{IsAdmissible}
 use Rattle.plan_db.specs.Database.{Database, Finds, Applies}
-use Rattle.plan_db.specs.Kept.{IsKept}
+use Rattle.plan_db.specs.Kept.{KeepsLeast}
 use Rattle.plan_db.proofs.Keeping.{collapsed_where, least_where, refused, admissible, IsHistory-accepted, outcome_is}
 use Rattle.plan_db.proofs.database.Db.apply.Goals as goal
 use Rattle.plan_db.proofs.database.Db.apply.Goals.{In_ok-outcome}
@@ -34,7 +34,7 @@ accepts c =
     (c.in_ok-check.ensures least.0 least.1.closed.consistent.is_state) in
     admissible database c.args.decision.now least.0 least.1 finds
 
-keeps : (c : In_ok-outcome) → IsKept c.self.inside.model c.accept.new.log c.accept.new.net
+keeps : (c : In_ok-outcome) → KeepsLeast c.self.inside.model c.accept.new.log c.accept.new.net
 keeps c = record {
   lawful = c.self.invariant.lawful;
   built = c.self.invariant.built;

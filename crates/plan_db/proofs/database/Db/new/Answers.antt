@@ -2,11 +2,11 @@ use Rattle.std.proofs.Common.{refl, sym, subst}
 use Rattle.std.specs.Prelude.{MatchOption}
 use Rattle.plan_defs.specs.Closure.{IsLeast, IsCollapsed}
 use Rattle.plan_defs.specs.History.{IsHistory}
-use Rattle.plan_db.specs.Kept.{IsKept, global_state}
+use Rattle.plan_db.specs.Kept.{KeepsLeast, global_state}
 use Rattle.plan_db.proofs.database.Db.new.Goals as goal
 use Rattle.plan_db.proofs.database.Db.new.Goals.{In_ok-net}
 
-keeps : (c : In_ok-net) → IsKept c.args.model c.new-log.result c.in_ok-net.net
+keeps : (c : In_ok-net) → KeepsLeast c.args.model c.new-log.result c.in_ok-net.net
 keeps c = record {
   lawful = c.requires.lawful;
   built = c.requires.built;

@@ -1,13 +1,13 @@
 use Rattle.std.proofs.Common.{◌≡◌, ◌∷◌, refl, sym, subst}
 use Rattle.model_core.specs.History.{standing}
 use Rattle.plan_db.specs.Database.{Database, OutcomeIs}
-use Rattle.plan_db.specs.Kept.{IsKept, IsLeastNet}
+use Rattle.plan_db.specs.Kept.{KeepsLeast, IsLeastNet}
 use Rattle.plan_db.proofs.Keeping.{outcome_is, standing_below, IsHistory-below}
 use Rattle.plan_db.proofs.database.Db.undo.Goals as goal
 use Rattle.plan_db.proofs.database.Db.undo.Goals.{After-take_off}
 
 -- the state that was kept before is that of the list that stands then
-keeps : (c : After-take_off) → IsKept c.self.inside.model c.take_off.new.log c.restore.new.net
+keeps : (c : After-take_off) → KeepsLeast c.self.inside.model c.take_off.new.log c.restore.new.net
 keeps c =
     let model = c.self.inside.model in
     let old = c.self.inside.log in

@@ -22,7 +22,7 @@ use Rattle.model_core.specs.Entries.{Entries}
 use Rattle.model_core.specs.Kinds.{IsObjectOf, IsInKind, OfProblem}
 use Rattle.model_core.specs.Lawful.{IsLawfulVariable, IsLawfulClass, IsLawfulObject, IsLawfulSlot, IsLawfulItem, IsLawfulEntry, IsLawfulRule, IsLawfulPred, IsLawfulRoot, IsLawful}
 use Rattle.model_core.specs.Naming.{builtin_names, file_names, declared_names, IsGlobalName, IsParameterName}
-use Rattle.model_core.specs.Sample.{ranged, spirit_alone, rover, spirit, at, coming, here, sample}
+use Rattle.database_tests.specs.Sample.{ranged, spirit_alone, rover, spirit, at, coming, here, sample}
 use Rattle.model_core.specs.Variables.{IsGiven}
 use Rattle.model_core.specs.Standing.{StandsAt, StandsOnce, IsSeen, LeadsToBlock}
 use Rattle.model_core.proofs.Words.{not_contained, plain_name, differing}

@@ -5,16 +5,16 @@ ghost use Rattle.domain_core.specs.Domain.{Range};
 ghost use Rattle.model_core.specs.declared.variable.Base.TheVariants.{Given};
 ghost use Rattle.model_core.specs.declared.variable.ValueKind.TheVariants.{Int};
 ghost use Rattle.model_core.specs.Lawful.{IsLawful};
-ghost use Rattle.model_core.specs.Sample.{spirit_alone, coming, sample};
+ghost use Rattle.database_tests.specs.Sample.{spirit_alone, coming, sample};
 
-use crate::class::{Class, Object, ObjectKind, Pred, PredKind};
-use crate::item::{Item, Rel};
-use crate::model::{Model, Problem, Root, RootKind};
-use crate::rule::{Block, Entry, Rule, Slot};
-use crate::variable::{Base, ValueKind, VarDecl};
 use domain_core::domain::Dom;
 use eu_name::sequence::Sequence;
 use eu_name::text::Text;
+use model_core::class::{Class, Object, ObjectKind, Pred, PredKind};
+use model_core::item::{Item, Rel};
+use model_core::model::{Model, Problem, Root, RootKind};
+use model_core::rule::{Block, Entry, Rule, Slot};
+use model_core::variable::{Base, ValueKind, VarDecl};
 use std::alloc::{AllocError, Global};
 
 // A variable with a range from 0.

@@ -1,0 +1,211 @@
+//! Names of tokens and variables of the small problem, and copies of decisions.
+
+ghost use Rattle.model_core.specs.declared.variable.Base.{Base};
+ghost use Rattle.model_core.specs.Lawful.{IsLawful};
+ghost use Rattle.model_core.specs.Variables.{HasBase};
+
+use super::sample::sample;
+use eu_name::name::{Part, TokenName, VarName};
+use eu_name::name_text::NameText;
+use eu_name::reading::read_name;
+use eu_name::sequence::Sequence;
+use eu_name::writing::write_name;
+use model_core::decision::Decision;
+use model_core::model::Model;
+use std::alloc::Global;
+
+/// A token in numbers: its root, how many steps there are, and the rule and the slot of the last.
+type Numbers = (u32, usize, u16, u16);
+
+/// Texts, and the tokens that they name.
+const TOKENS: [(&str, Option<Numbers>); 11] = [
+    ("here", Some((0, 0, 0, 0))),
+    ("here/0:0", Some((0, 1, 0, 0))),
+    ("here/0:0/0:0", Some((0, 2, 0, 0))),
+    ("there", None),
+    ("total", None),
+    ("here/1:0", None),
+    ("here/0:1", None),
+    ("here/0:0/0:1", None),
+    ("here.start", None),
+    ("here/0!0", None),
+    ("!1", None),
+];
+
+/// Texts, and what they name: a global, or a part or a local of a token, with its number.
+const VARIABLES: [(&str, Option<(&str, Numbers, u32)>); 20] = [
+    ("total", Some(("global", (0, 0, 0, 0), 0))),
+    ("!1", Some(("global", (0, 0, 0, 0), 1))),
+    ("here.start", Some(("start", (0, 0, 0, 0), 0))),
+    ("here.end", Some(("end", (0, 0, 0, 0), 0))),
+    ("here.duration", Some(("duration", (0, 0, 0, 0), 0))),
+    ("here.object", Some(("object", (0, 0, 0, 0), 0))),
+    ("here.place", Some(("param", (0, 0, 0, 0), 0))),
+    ("here/0:0.place", Some(("param", (0, 1, 0, 0), 0))),
+    ("here/0!0", Some(("local", (0, 0, 0, 0), 0))),
+    ("here/0:0/0!0", Some(("local", (0, 1, 0, 0), 0))),
+    ("here", None),
+    ("there.start", None),
+    ("total.start", None),
+    ("total/0:0", None),
+    ("!0", None),
+    ("!2", None),
+    ("here.speed", None),
+    ("here/0:1.start", None),
+    ("here/1!0", None),
+    ("here/0!1", None),
+];
+
+// The token in numbers.
+fn numbers(token: &TokenName) -> Numbers {
+    let steps = token.steps.as_slice();
+    match steps.last() {
+        Some(step) => (token.root, steps.len(), step.rule, step.slot),
+        None => (token.root, 0, 0, 0),
+    }
+}
+
+// The variable in numbers, with the word for what it is.
+fn described(variable: &VarName) -> (&'static str, Numbers, u32) {
+    match variable {
+        VarName::Global(number) => ("global", (0, 0, 0, 0), *number),
+        VarName::Token(token, Part::Start) => ("start", numbers(token), 0),
+        VarName::Token(token, Part::End) => ("end", numbers(token), 0),
+        VarName::Token(token, Part::Duration) => ("duration", numbers(token), 0),
+        VarName::Token(token, Part::Object) => ("object", numbers(token), 0),
+        VarName::Token(token, Part::Param(number)) => ("param", numbers(token), u32::from(*number)),
+        VarName::Local { token, number, .. } => ("local", numbers(token), u32::from(*number)),
+    }
+}
+
+// The token that the name names in the model.
+fn token_in(model: &Model, name: &NameText) -> Option<Numbers>
+    requires { IsLawful model.now }
+{
+    match model.resolve_token(name) {
+        Ok(Some(token)) => Some(numbers(&token)),
+        Ok(None) => None,
+        Err(_) => Some((9, 0, 0, 0)),
+    }
+}
+
+// Whether the text is how the variable is written.
+fn is_written(alloc: Global, model: &Model, variable: &VarName, text: &str) -> bool
+    requires { (base : Base) × HasBase model.now variable.now base }
+{
+    match model.var_text(variable) {
+        Ok(name) =>
+            matches!(write_name(alloc, &name), Ok(spelling) if spelling.as_slice() == text.as_bytes()),
+        Err(_) => false,
+    }
+}
+
+// The variable that the name names in the model, where the text is how it is written.
+fn variable_in(
+    alloc: Global,
+    model: &Model,
+    name: &NameText,
+    text: &str,
+) -> Option<(&'static str, Numbers, u32)>
+    requires { IsLawful model.now }
+{
+    match model.resolve_var(name) {
+        Ok(Some(variable)) if is_written(alloc, model, &variable, text) => Some(described(
+            &variable,
+        )),
+        Ok(None) => None,
+        _ => Some(("not so", (0, 0, 0, 0), 0)),
+    }
+}
+
+// The token of the small problem that the text names.
+fn token_named(alloc: Global, text: &str) -> Option<Numbers> {
+    match (sample(alloc), read_name(alloc, text.as_bytes())) {
+        (Ok(model), Ok(name)) => token_in(&model, &name),
+        (_, _) => Some((8, 0, 0, 0)),
+    }
+}
+
+// The variable of the small problem that the text names.
+fn variable_named(alloc: Global, text: &str) -> Option<(&'static str, Numbers, u32)> {
+    match (sample(alloc), read_name(alloc, text.as_bytes())) {
+        (Ok(model), Ok(name)) => variable_in(alloc, &model, &name, text),
+        (_, _) => Some(("no name", (0, 0, 0, 0), 0)),
+    }
+}
+
+#[test]
+fn texts_name_tokens(rt: HostRuntime) {
+    for (text, expected) in &TOKENS {
+        assert!(rt; token_named(rt.alloc(), text) == *expected, "{text}");
+    }
+}
+
+#[test]
+fn texts_name_variables(rt: HostRuntime) {
+    for (text, expected) in &VARIABLES {
+        assert!(rt; variable_named(rt.alloc(), text) == *expected, "{text}");
+    }
+}
+
+/// The kinds of decisions, each with the numbers in it: a variable and its value, or roots.
+const DECISIONS: [(&str, u32, i32); 5] = [
+    ("specify", 7, -5),
+    ("activate", 1, 0),
+    ("reject", 2, 0),
+    ("merge", 3, 4),
+    ("order", 5, 6),
+];
+
+fn root(alloc: Global, number: u32) -> TokenName {
+    TokenName {
+        root: number,
+        steps: Sequence::new(alloc),
+    }
+}
+
+fn decision(alloc: Global, kind: &str, number: u32, other: i32) -> Decision {
+    let first = root(alloc, number);
+    let second = root(alloc, other.unsigned_abs());
+    match kind {
+        "activate" => Decision::Activate(first),
+        "reject" => Decision::Reject(first),
+        "merge" => Decision::Merge(first, second),
+        "order" => Decision::Order(first, second),
+        _ => Decision::Specify(VarName::Global(number), other),
+    }
+}
+
+// The decision in a word and its numbers.
+fn summary(decision: &Decision) -> (&'static str, u32, i64) {
+    match decision {
+        Decision::Specify(VarName::Global(number), value) => (
+            "specify",
+            *number,
+            i64::from(*value),
+        ),
+        Decision::Specify(_, _) => ("specify", 0, 0),
+        Decision::Activate(token) => ("activate", token.root, 0),
+        Decision::Reject(token) => ("reject", token.root, 0),
+        Decision::Merge(token, target) => ("merge", token.root, i64::from(target.root)),
+        Decision::Order(first, second) => ("order", first.root, i64::from(second.root)),
+    }
+}
+
+// What a copy of the decision is.
+fn copied(alloc: Global, kind: &str, number: u32, other: i32) -> Option<(&'static str, u32, i64)> {
+    let made = decision(alloc, kind, number, other);
+    match made.copy() {
+        Ok(copy) => Some(summary(&copy)),
+        Err(_) => None,
+    }
+}
+
+#[test]
+fn decisions_are_copied(rt: HostRuntime) {
+    for (kind, number, other) in &DECISIONS {
+        assert!(rt;
+            copied(rt.alloc(), kind, *number, *other) == Some((*kind, *number, i64::from(*other)))
+        );
+    }
+}
