@@ -1,4 +1,5 @@
 pub mod Lines
+pub mod Once
 pub mod Requests
 pub mod Scripts
 pub mod Shows

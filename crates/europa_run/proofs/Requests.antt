@@ -1,10 +1,10 @@
--- The words ask for one command and one file, so that their output is that of the command.
-use Rattle.std.proofs.Common.{◌≡◌, ℕ, List, [], ◌∷◌, Option, sym, ap, ◌∙◌, subst, refl, inl, inr, get_or}
-use Rattle.europa_run.specs.declared.command_line.Command.{Command}
-use Rattle.europa_run.specs.declared.command_line.Command.TheVariants.{Script, Show}
-use Rattle.europa_run.specs.declared.status.Status.{Status}
-use Rattle.europa_run.specs.CommandLine.{word_of, Asks}
-use Rattle.europa_run.specs.Output.{CommandOutput, Output}
+-- The words ask for one thing, so that their output is what that gives.
+use Rattle.std.proofs.Common.{◌≡◌, ℕ, List, [], ◌∷◌, sym, ap, ◌∙◌, subst, refl, inl, inr, get_or}
+use Rattle.europa_run.specs.declared.command_line.Request.{Request}
+use Rattle.europa_run.specs.declared.command_line.Request.TheVariants.{Script, Show}
+use Rattle.europa_run.specs.declared.status.RunEnd.{RunEnd}
+use Rattle.europa_run.specs.CommandLine.{Asks}
+use Rattle.europa_run.specs.Output.{Given, RequestOutput, Output}
 
 abbrev first_word : List (List ℕ) → List ℕ
 first_word [] = []
@@ -14,26 +14,23 @@ abbrev second_word : List (List ℕ) → List ℕ
 second_word [] = []
 second_word (first ∷ words) = first_word words
 
-one_word : (one other : Command) → word_of one ≡ word_of other → other ≡ one
-one_word Script Script same = refl
-one_word Script Show same = absurd (let byte : 99 ≡ 104 = ap (λ word. get_or word 1 0) same in cc)
-one_word Show Script same = absurd (let byte : 104 ≡ 99 = ap (λ word. get_or word 1 0) same in cc)
-one_word Show Show same = refl
+second_byte : List (List ℕ) → ℕ
+second_byte words = get_or (first_word words) 1 0
 
-module _ (words : List (List ℕ)) (command : Command) (file : List ℕ) (asks : Asks words command file) where
-  one_command : (other : Command) (name : List ℕ) → Asks words other name → other ≡ command
-  one_command other name q = one_word command other (ap first_word (sym asks.0 ∙ q.0))
+pub one_request : (words : List (List ℕ)) (one other : Request (List ℕ)) → Asks words one → Asks words other → other ≡ one
+unfolding second_byte
+one_request words (Script file) (Script name) p q = ap Script (ap second_word (sym q.0 ∙ p.0))
+one_request words (Script file) (Show name) p q = absurd (let byte : 99 ≡ 104 = ap second_byte (sym p.0 ∙ q.0) in cc)
+one_request words (Show file) (Script name) p q = absurd (let byte : 104 ≡ 99 = ap second_byte (sym p.0 ∙ q.0) in cc)
+one_request words (Show file) (Show name) p q = ap Show (ap second_word (sym q.0 ∙ p.0))
 
-  one_file : (other : Command) (name : List ℕ) → Asks words other name → name ≡ file
-  one_file other name q = ap second_word (sym q.0 ∙ asks.0)
+-- words that ask for a file to be shown ask for no script
+pub shows_no_script : (words : List (List ℕ)) (file name : List ℕ) → Asks words (Show file) → Asks words (Script name) → ⊥
+shows_no_script words file name p q = let same = one_request words (Show file) (Script name) p q in cc
 
-  -- what the command gives is the output of the words
-  pub is_output : (content_of : List ℕ → Option (List ℕ)) (input out : List ℕ) (status : Status) → CommandOutput command file (content_of file) input out status → Output words content_of input out status
-  is_output content_of input out status gives = inr (command, file, asks, gives)
-
-  -- and only that is
-  pub only_output : (content_of : List ℕ → Option (List ℕ)) (input out : List ℕ) (status : Status) → Output words content_of input out status → CommandOutput command file (content_of file) input out status
-  only_output content_of input out status (inl unasked) = absurd (unasked.0 command file asks)
-  only_output content_of input out status (inr asked) =
-      subst (λ (name : List ℕ). CommandOutput command name (content_of name) input out status) (one_file asked.0 asked.1 asked.2)
-      (subst (λ (c : Command). CommandOutput c asked.1 (content_of asked.1) input out status) (one_command asked.0 asked.1 asked.2) asked.3)
+-- only what the request gives is the output of the words
+pub only_output : (words : List (List ℕ)) (request : Request (List ℕ)) (given : Given) (out : List ℕ) (end : RunEnd) → Asks words request → Output words given out end
+    → RequestOutput request given out end
+only_output words request given out end asks (inl unasked) = absurd (unasked.0 request asks)
+only_output words request given out end asks (inr asked) =
+    subst (λ (r : Request (List ℕ)). RequestOutput r given out end) (one_request words request asked.0 asks asked.1) asked.2

@@ -1,156 +1,154 @@
--- What the session with a file's problem writes is the output of the words, or a front of it.
-use Rattle.std.proofs.Common.{◌≡◌, ℕ, ◌<◌, ◌≤◌, List, [], ◌++◌, length, Option, Some, Result, Ok, Err, inl, inr, refl, sym, ap, ◌∙◌, subst, append-nil, codes, arith}
-use Rattle.eu_io.specs.Files.{file_named, Holds}
+-- What the session with a file's problem leaves is what the run of the words leaves.
+use Rattle.std.proofs.Common.{◌≡◌, ℕ, ◌<◌, ◌≤◌, Bool, true, false, List, [], ◌∷◌, ◌++◌, length, Option, Some, None, Result, Ok, Err, inl, inr, refl, sym, ap, ◌∙◌, subst, append-nil, codes, arith}
+use Rattle.eu_io.specs.Files.{file_named, HasContent}
 use Rattle.eu_io.specs.declared.shelf.FileEntry.{FileEntry}
 use Rattle.line_session.specs.declared.fault.SessionFault.{SessionFault}
 use Rattle.line_session.specs.declared.fault.SessionFault.TheVariants as fault
-use Rattle.line_session.specs.Laws.{IsFront}
+use Rattle.line_session.specs.declared.talk.SessionEnd.{SessionEnd}
+use Rattle.line_session.specs.declared.talk.SessionEnd.TheVariants.{OfInput, ByAnswer}
+use Rattle.line_session.specs.Ends.{Passage, input_of, course_of, begun, Ends, SessionTells}
 use Rattle.line_session.specs.Lines.{lines_of}
-use Rattle.line_session.specs.Sessions.{AtEnd, AtLimit, Session, Ends, Tells}
-use Rattle.line_session.specs.Sessions as sessions
-use Rattle.line_session.proofs.LawLemmas.{fault_writes_front}
+use Rattle.line_session.specs.Sessions.{Standing, Ending, AtEnd, AtAnswer, AtLimit, Course, Session}
 use Rattle.model_core.specs.declared.model.Model.{Model}
 use Rattle.plan_db.specs.Database.{Database}
 use Rattle.range_problem.specs.Spelling.{Spells}
-use Rattle.range_problem.proofs.Unique.{spells_unique}
 use Rattle.session_core.specs.Replies.{AnswersLine}
-use Rattle.session_core.proofs.Lines.{one_reply}
-use Rattle.europa_run.specs.declared.command_line.Command.TheVariants.{Script}
-use Rattle.europa_run.specs.declared.status.Status.{Status}
-use Rattle.europa_run.specs.declared.status.Status.TheVariants.{Done, Usage, Text, LinesSpent, ReadFault, WriteFault, Memory}
+use Rattle.europa_run.specs.declared.command_line.Request.TheVariants.{Script}
+use Rattle.europa_run.specs.declared.status.RunEnd.{RunEnd}
+use Rattle.europa_run.specs.declared.status.RunEnd.TheVariants.{Done, Text, LinesSpent}
+use Rattle.europa_run.specs.declared.status.RunFault.{RunFault}
+use Rattle.europa_run.specs.declared.status.RunFault.TheVariants as run
 use Rattle.europa_run.specs.CommandLine.{Asks}
-use Rattle.europa_run.specs.Output.{start_of, ScriptOutput, FileOutput, Output}
+use Rattle.europa_run.specs.Output.{Given, start_of, end_of, ScriptOutput, FileOutput, Output}
+use Rattle.europa_run.specs.Pieces.{ended_by, Streams, ScriptTells, RunsScript, PrintsFault, GivesContent}
 use Rattle.europa_run.specs.Printed.{FaultOutput, file_limit}
-use Rattle.europa_run.specs.Pieces.{ScriptTells, RoseAtReadFault, PrintsFault, status_of}
-use Rattle.europa_run.specs.Runs.{Prints, Runs, StopsAtRead, StopsAtReadFault, CountsWrites}
-use Rattle.europa_run.proofs.Requests.{is_output, only_output}
-use Rattle.europa_run.proofs.Written.{writes_fault, written_runs}
+use Rattle.europa_run.specs.Runs.{Leavings, StopsScript, Leaves, Outside, RunsTo}
+use Rattle.europa_run.proofs.Written.{given_by, named_content, nothing_runs, written_runs, writes_fault, text_no_done}
 
 -- what is told of the session is told of the script
-pub script_tells : (model : Model) (start : Database) (left_old left_new written_old written_new : Option (List ℕ)) (result : Result (Unit {0}) SessionFault) (last : Database)
-    → start ≡ start_of model → Tells AnswersLine start left_old left_new written_old written_new result last → ScriptTells model left_old left_new written_old written_new (status_of result)
-script_tells model start left_old left_new written_old written_new result last is tells = λ input before told_left told_written.
-    let t = tells input before told_left told_written in
-    (t.0, t.1, t.2, result, last, t.3, t.4, t.5, subst (λ s. Ends AnswersLine 0 s t.0 t.1 t.2 result last) is t.6, refl)
-
--- the counts of faults tell of the status as of the session's end
-pub counts_input : (result : Result (Unit {0}) SessionFault) (old new : ℕ) → sessions.CountsReads result old new → RoseAtReadFault (status_of result) old new
-counts_input (Ok done) old new counts = counts
-counts_input (Err fault.ReadFault) old new counts = counts.0
-counts_input (Err fault.WriteFault) old new counts = counts
-counts_input (Err fault.LinesSpent) old new counts = counts
-counts_input (Err fault.Memory) old new counts = counts
-
-pub counts_output : (result : Result (Unit {0}) SessionFault) (old new : ℕ) → sessions.CountsWrites result old new → CountsWrites (status_of result) old new
-counts_output (Ok done) old new counts = counts
-counts_output (Err fault.ReadFault) old new counts = counts
-counts_output (Err fault.WriteFault) old new counts = counts.0
-counts_output (Err fault.LinesSpent) old new counts = counts
-counts_output (Err fault.Memory) old new counts = counts
-
--- where there was no memory to begin with, nothing was taken and nothing written
-pub script_unbegun : (model : Model) (left written : Option (List ℕ)) → ScriptTells model left left written written Memory
-script_unbegun model left written = λ input before told_left told_written. (
-  [],
-  input,
-  [],
-  Err fault.Memory,
-  start_of model,
+pub script_tells : (model : Model) (start last : Database) (old new : Streams) (end : Result SessionEnd SessionFault) → start ≡ start_of model
+    → SessionTells AnswersLine (record { responder = start; left = old.left; written = old.written }) (record { responder = last; left = new.left; written = new.written }) end
+    → ScriptTells model old new (ended_by end)
+script_tells model start last old new end is tells = (
+  last,
+  end,
   refl,
-  told_left,
-  told_written ∙ ap Some (sym (append-nil before)),
-  ([], lines_of input, [], start_of model, refl, (refl, refl)),
-  refl,
+  subst (λ (s : Database). SessionTells AnswersLine (record { responder = s; left = old.left; written = old.written })
+      (record { responder = last; left = new.left; written = new.written }) end) is tells,
 )
 
-module _ (words : List (List ℕ)) (file bytes : List ℕ) (model : Model) (asks : Asks words Script file) (short : length bytes ≤ file_limit) (spells : Spells bytes model) where
+-- where there was no memory to begin with, nothing was taken and nothing written
+pub script_unbegun : (model : Model) (streams : Streams) → ScriptTells model streams streams (ended_by (Err fault.Memory))
+script_unbegun model streams = (
+  start_of model,
+  Err fault.Memory,
+  refl,
+  λ input before told_left told_written. (
+    record { taken = []; left = input; out = []; last = begun (start_of model) },
+    refl,
+    told_left,
+    told_written ∙ ap Some (sym (append-nil before)),
+    refl,
+    inl (record { answered = []; later = lines_of input; split = refl; session = refl }),
+  ),
+)
+
+-- no answer ends the session of a script
+no_answer_ends : (b : Bool) → b ≡ false → b ≡ true → ⊥
+no_answer_ends b e f = cc
+
+never_by_answer : (start : Standing Database) (lines : List (List ℕ)) (course : Course Database) → Session AnswersLine start lines course → course.ending ≡ AtAnswer → ⊥
+never_by_answer start [] course s e =
+    let other : AtEnd ≡ AtAnswer = sym (ap (λ (c : Course Database). c.ending) s) ∙ e in cc
+never_by_answer start (line ∷ lines) course (inl s) e =
+    let other : AtLimit ≡ AtAnswer = sym (ap (λ (c : Course Database). c.ending) s.1) ∙ e in cc
+never_by_answer start (line ∷ lines) course (inr (answer, next, is, inl g)) e = no_answer_ends answer.goes_on g.0 is.answered.1
+never_by_answer start (line ∷ lines) course (inr (answer, next, is, inr g)) e =
+    never_by_answer next lines g.1.0 g.1.1 (sym (ap (λ (c : Course Database). c.ending) g.1.2) ∙ e)
+
+module _ (words : List (List ℕ)) (file bytes : List ℕ) (model : Model) (asks : Asks words (Script file)) (short : length bytes ≤ file_limit) (spells : Spells bytes model) where
   -- the output of a script is the output of the words that ask for it
-  output_of_script : (files : List FileEntry) (input out : List ℕ) (status : Status) → file_named file files ≡ Some bytes → ScriptOutput model input out status → Output words (λ name. file_named name files) input out status
-  output_of_script files input out status named script =
-      is_output words Script file asks (λ name. file_named name files) input out status
-      (subst (λ content. FileOutput file content input out status) (sym named) (inr (inr (short, (model, spells, script)))))
+  script_output : (given : Given) (out : List ℕ) (end : RunEnd) → given.content_of file ≡ Some bytes → ScriptOutput model given.input out end → Output words given out end
+  script_output given out end content script =
+      inr (Script file, asks, subst (λ (c : Option (List ℕ)). FileOutput file c given.input out end) (sym content) (inr (inr (short, (model, spells, script)))))
 
-  -- and only that is the output of the words
-  only_script : (files : List FileEntry) (input out : List ℕ) (status : Status) → file_named file files ≡ Some bytes → Output words (λ name. file_named name files) input out status → ScriptOutput model input out status
-  only_script files input out status named output =
-      of_content (subst (λ content. FileOutput file content input out status) named (only_output words Script file asks (λ name. file_named name files) input out status output))
-    where
-      of_content : FileOutput file (Some bytes) input out status → ScriptOutput model input out status
-      of_content (inl long) = absurd (omega (arith, long.0, short))
-      of_content (inr (inl other)) = absurd (other.1 model spells)
-      of_content (inr (inr other)) = subst (λ m. ScriptOutput m input out status) (spells_unique bytes other.1.0 model other.1.1 spells) other.1.2
+  -- the session came to an end of its own
+  session_output : (given : Given) (passage : Passage Database) (ending : Ending) → given.content_of file ≡ Some bytes
+      → Session AnswersLine (begun (start_of model)) (lines_of given.input) (course_of passage ending) → Output words given passage.out (end_of ending)
+  session_output given passage ending content s = script_output given passage.out (end_of ending) content (course_of passage ending, s, refl, refl)
 
-  -- what a session wrote before a fault comes first in the output of the words
-  front_of_output : (files : List FileEntry) (taken rest out : List ℕ) (end : SessionFault) (last : Database) → file_named file files ≡ Some bytes
-      → Ends {U = Unit {0}} AnswersLine 0 (start_of model) taken rest out (Err end) last
-      → (whole : List ℕ) (status : Status) → Output words (λ name. file_named name files) (taken ++ rest) whole status → IsFront out whole
-  front_of_output files taken rest out end last named ends whole status output = of_script status (only_script files (taken ++ rest) whole status named output)
-    where
-      of_script : (s : Status) → ScriptOutput model (taken ++ rest) whole s → IsFront out whole
-      of_script Done script = fault_writes_front AnswersLine one_reply 0 (start_of model) taken rest out whole end last script.0 AtEnd ends script.1
-      of_script LinesSpent script = fault_writes_front AnswersLine one_reply 0 (start_of model) taken rest out whole end last script.0 AtLimit ends script.1
-      of_script Usage script = absurd script
-      of_script Text script = absurd script
-      of_script ReadFault script = absurd script
-      of_script WriteFault script = absurd script
-      of_script Memory script = absurd script
+  stops : (given : Given) (passage : Passage Database) (end : SessionFault) → given.content_of file ≡ Some bytes → given.input ≡ input_of passage
+      → Ends AnswersLine (begun (start_of model)) passage (Err end) → StopsScript words given (record { left = passage.left; out = passage.out }) end
+  stops given passage end content is ends = record {
+    file = file;
+    bytes = bytes;
+    model = model;
+    passage = passage;
+    asks = asks;
+    content = content;
+    short = short;
+    spells = spells;
+    input = is;
+    left = refl;
+    out = refl;
+    ends = ends;
+  }
 
-  -- however the session ended, this is what the program prints
-  prints : (files : List FileEntry) (taken rest out : List ℕ) (result : Result (Unit {0}) SessionFault) (last : Database) → file_named file files ≡ Some bytes
-      → Ends AnswersLine 0 (start_of model) taken rest out result last → Prints words files (taken ++ rest) out (status_of result)
-  prints files taken rest out (Ok done) last named ends =
-      let whole : taken ≡ taken ++ rest = sym (ap (λ left. taken ++ left) ends.0 ∙ append-nil taken) in
-      output_of_script files (taken ++ rest) out Done named (last, subst (λ text. Session AnswersLine 0 (start_of model) (lines_of text) out AtEnd last) whole ends.1)
-  prints files taken rest out (Err fault.LinesSpent) last named ends = output_of_script files (taken ++ rest) out LinesSpent named (last, ends)
-  prints files taken rest out (Err fault.ReadFault) last named ends = front_of_output files taken rest out fault.ReadFault last named ends
-  prints files taken rest out (Err fault.WriteFault) last named ends = front_of_output files taken rest out fault.WriteFault last named ends
-  prints files taken rest out (Err fault.Memory) last named ends = front_of_output files taken rest out fault.Memory last named ends
+  -- however the session ended, this is what the run leaves
+  leaves : (given : Given) (passage : Passage Database) (end : Result SessionEnd SessionFault) → given.content_of file ≡ Some bytes → given.input ≡ input_of passage
+      → Ends AnswersLine (begun (start_of model)) passage end → Leaves words given (record { left = passage.left; out = passage.out }) (ended_by end)
+  leaves given passage (Ok OfInput) content is ends =
+      let whole : passage.taken ≡ given.input = sym (is ∙ ap (λ l. passage.taken ++ l) ends.0 ∙ append-nil passage.taken) in (
+        session_output given passage AtEnd content (subst (λ l. Session AnswersLine (begun (start_of model)) (lines_of l) (course_of passage AtEnd)) whole ends.1),
+        λ name asked. ends.0,
+      )
+  leaves given passage (Ok ByAnswer) content is ends = absurd (never_by_answer (begun (start_of model)) _ _ ends refl)
+  leaves given passage (Err fault.LinesSpent) content is ends =
+      session_output given passage AtLimit content (subst (λ l. Session AnswersLine (begun (start_of model)) (lines_of l) (course_of passage AtLimit)) (sym is) ends)
+  leaves given passage (Err fault.ReadFault) content is ends = inr (stops given passage fault.ReadFault content is ends)
+  leaves given passage (Err fault.WriteFault) content is ends = inr (stops given passage fault.WriteFault content is ends)
+  leaves given passage (Err fault.Memory) content is ends = inr (stops given passage fault.Memory content is ends)
 
-  -- where only the answer to a failed read is asked for
-  stops_at_read : (files : List FileEntry) (input taken rest out : List ℕ) (result : Result (Unit {0}) SessionFault) (last : Database) → file_named file files ≡ Some bytes → input ≡ taken ++ rest
-      → status_of result ≡ ReadFault → Ends AnswersLine 0 (start_of model) taken rest out result last → StopsAtRead words files input rest out
-  stops_at_read files input taken rest out (Err fault.ReadFault) last named whole is ends = inr (file, bytes, model, taken, last, asks, named, spells, whole, ends)
-  stops_at_read files input taken rest out (Ok done) last named whole is ends = absurd (cc)
-  stops_at_read files input taken rest out (Err fault.LinesSpent) last named whole is ends = absurd (cc)
-  stops_at_read files input taken rest out (Err fault.WriteFault) last named whole is ends = absurd (cc)
-  stops_at_read files input taken rest out (Err fault.Memory) last named whole is ends = absurd (cc)
+  script_leaves : (old new : Outside) (ended : Result RunEnd RunFault) → HasContent old.files file (Some bytes)
+      → ScriptTells model (record { left = old.left; written = old.written }) (record { left = new.left; written = new.written }) ended → RunsTo words old new ended
+  script_leaves old new ended holds t = λ files input before told_files told_left told_written.
+      let p = t.3 input before told_left told_written in
+      let passage = p.0 in
+      let content = sym (named_content old.files file (Some bytes) files holds told_files) in (
+        record { left = passage.left; out = passage.out },
+        p.2,
+        p.3,
+        subst (Leaves words (given_by files input) (record { left = passage.left; out = passage.out })) (sym t.2) (leaves (given_by files input) passage t.1 content p.1 p.5),
+      )
 
-  pub script_runs : (told : Option (List FileEntry)) (left_old left_new written_old written_new : Option (List ℕ)) (status : Status) → Holds told file (Some bytes)
-      → ScriptTells model left_old left_new written_old written_new status → Runs words told left_old written_old written_new status
-  script_runs told left_old left_new written_old written_new status holds tells = λ files input before told_files told_left told_written.
-      let t = tells input before told_left told_written in
-      let named : file_named file files ≡ Some bytes = sym (subst (λ f. Holds f file (Some bytes)) told_files holds) in
-      let printed = prints files t.0 t.1 t.2 t.3 t.4 named t.8 in
-      (t.2, t.7, subst (Prints words files input t.2) (sym t.9) (subst (λ text. Prints words files text t.2 (status_of t.3)) (sym t.5) printed))
+module _ (file : List ℕ) (old new : Outside) (ended : Result RunEnd RunFault) where
+  pub script_runs : (bytes : List ℕ) (model : Model) → HasContent old.files file (Some bytes) → length bytes ≤ file_limit → Spells bytes model
+      → ScriptTells model (record { left = old.left; written = old.written }) (record { left = new.left; written = new.written }) ended → RunsScript file old new ended
+  script_runs bytes model holds short spells tells = λ words asks. script_leaves words file bytes model asks short spells old new ended holds tells
 
-  pub script_stops : (told : Option (List FileEntry)) (left_old left_new written_old written_new : Option (List ℕ)) (status : Status) → Holds told file (Some bytes)
-      → ScriptTells model left_old left_new written_old written_new status → StopsAtReadFault words told left_old left_new written_old written_new status
-  script_stops told left_old left_new written_old written_new status holds tells = λ files input before told_files told_left told_written is.
-      let t = tells input before told_left told_written in
-      let named : file_named file files ≡ Some bytes = sym (subst (λ f. Holds f file (Some bytes)) told_files holds) in
-      (t.1, t.2, t.6, t.7, stops_at_read files input t.0 t.1 t.2 t.3 t.4 named t.5 (sym t.9 ∙ is) t.8)
+  -- files without a problem
+  fault_runs : (kind : List ℕ) (content : Option (List ℕ)) → ((input out : List ℕ) (end : RunEnd) → FaultOutput kind file 0 out end → FileOutput file content input out end)
+      → new.left ≡ old.left → HasContent old.files file content → PrintsFault kind file 0 old.written new.written ended → RunsScript file old new ended
+  fault_runs kind content gives unread holds w = λ words asks.
+      written_runs words old new unread (FaultOutput kind file 0)
+      (λ files input out end told is. inr (Script file, asks, subst (λ (c : Option (List ℕ)). FileOutput file c input out end)
+      (named_content old.files file content files holds told) (gives input out end is)))
+      (λ out is name asked. text_no_done kind file 0 out is) ended (writes_fault kind file 0 old.written new.written ended w)
 
--- ---- files without a problem
+  pub absent_runs : new.left ≡ old.left → HasContent old.files file None → PrintsFault (codes "Absent") file 0 old.written new.written ended → RunsScript file old new ended
+  absent_runs unread holds w = fault_runs (codes "Absent") None (λ input out end is. is) unread holds w
 
-module _ (words : List (List ℕ)) (file bytes : List ℕ) (asks : Asks words Script file) where
-  pub long_runs : (told : Option (List FileEntry)) (left old new : Option (List ℕ)) (status : Status) → Holds told file (Some bytes) → file_limit < length bytes
-      → PrintsFault (codes "Limit:bytes") file 0 old new status → Runs words told left old new status
-  long_runs told left old new status holds long w =
-      written_runs words Script file asks (Some bytes) (FaultOutput (codes "Limit:bytes") file 0) (λ input out status given. inl (long, given)) once told left old new status holds
-      (writes_fault (codes "Limit:bytes") file 0 old new status w)
-    where
-      once : (input out other : List ℕ) (status last : Status) → FaultOutput (codes "Limit:bytes") file 0 out status → FileOutput file (Some bytes) input other last → other ≡ out
-      once input out other status last p (inl q) = q.1.0 ∙ sym p.0
-      once input out other status last p (inr (inl q)) = absurd (omega (arith, long, q.0))
-      once input out other status last p (inr (inr q)) = absurd (omega (arith, long, q.0))
+  pub long_runs : (bytes : List ℕ) → new.left ≡ old.left → HasContent old.files file (Some bytes) → file_limit < length bytes
+      → PrintsFault (codes "Limit:bytes") file 0 old.written new.written ended → RunsScript file old new ended
+  long_runs bytes unread holds long w = fault_runs (codes "Limit:bytes") (Some bytes) (λ input out end is. inl (long, is)) unread holds w
 
-  pub strange_runs : (told : Option (List FileEntry)) (left old new : Option (List ℕ)) (status : Status) → Holds told file (Some bytes) → length bytes ≤ file_limit → ((model : Model) → Spells bytes model → ⊥)
-      → PrintsFault (codes "NotBuilt") file 0 old new status → Runs words told left old new status
-  strange_runs told left old new status holds short strange w =
-      written_runs words Script file asks (Some bytes) (FaultOutput (codes "NotBuilt") file 0) (λ input out status given. inr (inl (short, strange, given))) once told left old new status holds
-      (writes_fault (codes "NotBuilt") file 0 old new status w)
-    where
-      once : (input out other : List ℕ) (status last : Status) → FaultOutput (codes "NotBuilt") file 0 out status → FileOutput file (Some bytes) input other last → other ≡ out
-      once input out other status last p (inl q) = absurd (omega (arith, short, q.0))
-      once input out other status last p (inr (inl q)) = q.2.0 ∙ sym p.0
-      once input out other status last p (inr (inr q)) = absurd (strange q.1.0 q.1.1)
+  pub strange_runs : (bytes : List ℕ) → new.left ≡ old.left → HasContent old.files file (Some bytes) → length bytes ≤ file_limit → ((model : Model) → Spells bytes model → ⊥)
+      → PrintsFault (codes "NotBuilt") file 0 old.written new.written ended → RunsScript file old new ended
+  strange_runs bytes unread holds short strange w = fault_runs (codes "NotBuilt") (Some bytes) (λ input out end is. inr (inl (short, strange, is))) unread holds w
+
+-- the file wasn't given
+pub unread_runs : (file : List ℕ) (old new : Outside) (fault : RunFault) → new.left ≡ old.left → new.written ≡ old.written → GivesContent old.files file (Err fault)
+    → RunsScript file old new (Err fault)
+unread_runs file old new run.Read unread same given = λ words asks. (nothing_runs words old new unread same).0
+unread_runs file old new run.Memory unread same given = λ words asks. (nothing_runs words old new unread same).1
+unread_runs file old new run.Write unread same given = absurd given

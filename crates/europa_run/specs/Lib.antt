@@ -1,7 +1,8 @@
 pub mod CommandLine
+pub mod Laws
 pub mod Output
 pub mod Pieces
 pub mod Printed
 pub mod Runs
 pub mod Showing
-pub mod StatusNumbers
+pub mod Statuses

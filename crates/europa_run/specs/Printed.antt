@@ -1,8 +1,9 @@
 -- Lines that the program prints of its own.
 use Rattle.std.specs.Prelude.{◌≡◌, ℕ, Bool, not, ◌==◌, List, [], ◌∷◌, ◌++◌, codes}
 use Rattle.std.specs.Fmt.{decimal}
-use Rattle.europa_run.specs.declared.status.Status.{Status}
-use Rattle.europa_run.specs.declared.status.Status.TheVariants.{Text}
+use Rattle.nddl_includes.specs.Limits.{most_bytes}
+use Rattle.europa_run.specs.declared.status.RunEnd.{RunEnd}
+use Rattle.europa_run.specs.declared.status.RunEnd.TheVariants.{Text}
 
 -- the byte doesn't end a line
 abbrev pub is_in_line : ℕ → Bool
@@ -21,9 +22,9 @@ abbrev pub fault_line : List ℕ → List ℕ → ℕ → List ℕ
 fault_line kind file place = codes "text " ++ (kind ++ (codes " " ++ (file ++ (codes " " ++ decimal place))))
 
 -- a fault of the file is printed
-abbrev pub FaultOutput : List ℕ → List ℕ → ℕ → List ℕ → Status → Type 0
-FaultOutput kind file place out status = (out ≡ printed (fault_line kind file place)) × (status ≡ Text)
+abbrev pub FaultOutput : List ℕ → List ℕ → ℕ → List ℕ → RunEnd → Type 0
+FaultOutput kind file place out end = (out ≡ printed (fault_line kind file place)) × (end ≡ Text)
 
 -- the most bytes that a file may have
 abbrev pub file_limit : ℕ
-file_limit = 1048576
+file_limit = most_bytes

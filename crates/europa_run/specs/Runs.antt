@@ -1,56 +1,91 @@
--- What a run of the program leaves: its output or, after a fault, a front of it; and when each fault comes.
-use Rattle.std.specs.Prelude.{◌≡◌, ℕ, List, [], ◌++◌, ◌⊎◌, Option, Some}
-use Rattle.eu_io.specs.Faults.{Rose}
+-- What a run of the program leaves: its output or, after a fault, what was written of it and what was lost.
+use Rattle.std.specs.Prelude.{◌≡◌, ℕ, ◌≤◌, Bool, true, false, List, [], ◌++◌, ◌⊎◌, length, Option, Some, Result, Ok, Err}
+use Rattle.eu_io.specs.Faults.{raised}
 use Rattle.eu_io.specs.Files.{file_named}
 use Rattle.eu_io.specs.declared.shelf.FileEntry.{FileEntry}
-use Rattle.line_session.specs.Laws.{IsFront}
-use Rattle.line_session.specs.Lines.{ended_lines}
-use Rattle.line_session.specs.Sessions.{AtEnd, Session}
+use Rattle.line_session.specs.declared.fault.SessionFault.{SessionFault}
+use Rattle.line_session.specs.declared.fault.SessionFault.TheVariants as session
+use Rattle.line_session.specs.Ends.{Passage, input_of, begun, Ends}
 use Rattle.model_core.specs.declared.model.Model.{Model}
 use Rattle.plan_db.specs.Database.{Database}
 use Rattle.range_problem.specs.Spelling.{Spells}
 use Rattle.session_core.specs.Replies.{AnswersLine}
-use Rattle.europa_run.specs.declared.command_line.Command.TheVariants.{Script}
+use Rattle.europa_run.specs.declared.command_line.Request.TheVariants.{Script}
+use Rattle.europa_run.specs.declared.status.RunEnd.{RunEnd}
+use Rattle.europa_run.specs.declared.status.RunEnd.TheVariants.{Done, Usage, Text, LinesSpent}
+use Rattle.europa_run.specs.declared.status.RunFault.{RunFault}
+use Rattle.europa_run.specs.declared.status.RunFault.TheVariants.{Read, Write, Memory}
 use Rattle.europa_run.specs.declared.status.Status.{Status}
-use Rattle.europa_run.specs.declared.status.Status.TheVariants.{ReadFault, WriteFault, Memory}
-use Rattle.europa_run.specs.CommandLine.{Asks}
-use Rattle.europa_run.specs.Output.{Output, start_of}
+use Rattle.europa_run.specs.CommandLine.{Asks, AreNoCommand}
+use Rattle.europa_run.specs.Output.{Given, start_of, Output}
+use Rattle.europa_run.specs.Printed.{file_limit}
+use Rattle.europa_run.specs.Statuses.{status_of}
 
--- the output is the defined one, or after a fault it comes first in whatever is defined
-abbrev pub Prints : List (List ℕ) → List FileEntry → List ℕ → List ℕ → Status → Type 0
-Prints words files input out ReadFault = (whole : List ℕ) (status : Status) → Output words (λ name. file_named name files) input whole status → IsFront out whole
-Prints words files input out WriteFault = (whole : List ℕ) (status : Status) → Output words (λ name. file_named name files) input whole status → IsFront out whole
-Prints words files input out Memory = (whole : List ℕ) (status : Status) → Output words (λ name. file_named name files) input whole status → IsFront out whole
-Prints words files input out status = Output words (λ name. file_named name files) input out status
+-- the bytes of its input that a run left, and what it wrote
+pub record Leavings : Type 0 where
+  pub left : List ℕ
+  pub out : List ℕ
 
--- where the files, the input and what was written before are told, this is what was appended
-abbrev pub Runs : List (List ℕ) → Option (List FileEntry) → Option (List ℕ) → Option (List ℕ) → Option (List ℕ) → Status → Type 0
-Runs words told left written_old written_new status =
-    (files : List FileEntry) (input before : List ℕ) → told ≡ Some files → left ≡ Some input → written_old ≡ Some before
-    → (out : List ℕ) × (written_new ≡ Some (before ++ out)) × Prints words files input out status
+-- nothing was written, and nothing of the input taken
+abbrev pub LeavesAll : Given → Leavings → Type 0
+LeavesAll given leavings = (leavings.out ≡ []) × (leavings.left ≡ given.input)
 
--- After a failed read of the input, exactly the lines were answered that a line feed ended in the bytes that were taken,
--- and none of them ended the session. After a failed read of the file nothing was written, and nothing of the input taken.
-abbrev pub StopsAtRead : List (List ℕ) → List FileEntry → List ℕ → List ℕ → List ℕ → Type 0
-StopsAtRead words files input rest out =
-    ((out ≡ []) × (rest ≡ input))
-    ⊎ ((file : List ℕ) × (bytes : List ℕ) × (model : Model) × (taken : List ℕ) × (last : Database) × Asks words Script file
-    × (file_named file files ≡ Some bytes) × Spells bytes model × (input ≡ taken ++ rest)
-    × Session AnswersLine 0 (start_of model) (ended_lines taken) out AtEnd last)
+-- a front of the defined output was written, and the rest was lost
+abbrev pub LosesRest : List (List ℕ) → Given → Leavings → Type 0
+LosesRest words given leavings = (lost : List ℕ) × (end : RunEnd) × Output words given (leavings.out ++ lost) end
 
--- the same of what is told
-abbrev pub StopsAtReadFault : List (List ℕ) → Option (List FileEntry) → Option (List ℕ) → Option (List ℕ) → Option (List ℕ) → Option (List ℕ) → Status → Type 0
-StopsAtReadFault words told left_old left_new written_old written_new status =
-    (files : List FileEntry) (input before : List ℕ) → told ≡ Some files → left_old ≡ Some input → written_old ≡ Some before → status ≡ ReadFault
-    → (rest out : List ℕ) × (left_new ≡ Some rest) × (written_new ≡ Some (before ++ out)) × StopsAtRead words files input rest out
+-- the words ask for a script, whose session a fault ended: what `Ends` says of it names the lines that were answered
+pub record StopsScript (words : List (List ℕ)) (given : Given) (leavings : Leavings) (fault : SessionFault) : Type 0 where
+  pub file : List ℕ
+  pub bytes : List ℕ
+  pub model : Model
+  pub passage : Passage Database
+  pub asks : Asks words (Script file)
+  pub content : given.content_of file ≡ Some bytes
+  pub short : length bytes ≤ file_limit
+  pub spells : Spells bytes model
+  pub input : given.input ≡ input_of passage
+  pub left : leavings.left ≡ passage.left
+  pub out : leavings.out ≡ passage.out
+  pub ends : Ends AnswersLine (begun (start_of model)) passage (Err fault)
 
--- A failed read of the file or of the input is the only cause of `ReadFault`, and no other answer comes after one.
-abbrev pub CountsReads : Status → ℕ → ℕ → ℕ → ℕ → Type 0
-CountsReads ReadFault shelf_old shelf_new input_old input_new =
-    (Rose shelf_old shelf_new × (input_new ≡ input_old)) ⊎ ((shelf_new ≡ shelf_old) × Rose input_old input_new)
-CountsReads status shelf_old shelf_new input_old input_new = (shelf_new ≡ shelf_old) × (input_new ≡ input_old)
+-- What a run leaves that ends so: the defined output, and of a script that is done nothing of the input; after a failed read
+-- either nothing was done, or the script's session stopped there; after a failed write a front of the output was written, or the
+-- session stopped there; and where memory ran out nothing was done, or the session stopped there.
+abbrev pub Leaves : List (List ℕ) → Given → Leavings → Result RunEnd RunFault → Type 0
+Leaves words given leavings (Ok Done) = Output words given leavings.out Done × ((file : List ℕ) → Asks words (Script file) → leavings.left ≡ [])
+Leaves words given leavings (Ok Usage) = Output words given leavings.out Usage
+Leaves words given leavings (Ok Text) = Output words given leavings.out Text
+Leaves words given leavings (Ok LinesSpent) = Output words given leavings.out LinesSpent
+Leaves words given leavings (Err Read) = LeavesAll given leavings ⊎ StopsScript words given leavings session.ReadFault
+Leaves words given leavings (Err Write) = LosesRest words given leavings ⊎ StopsScript words given leavings session.WriteFault
+Leaves words given leavings (Err Memory) = LeavesAll given leavings ⊎ StopsScript words given leavings session.Memory
 
--- A failed write is the only cause of `WriteFault`, and no other answer comes after one.
-abbrev pub CountsWrites : Status → ℕ → ℕ → Type 0
-CountsWrites WriteFault old new = Rose old new
-CountsWrites status old new = new ≡ old
+-- the files, the bytes that the input has left and those that the output has so far, where these are told
+pub record Outside : Type 0 where
+  pub files : Option (List FileEntry)
+  pub left : Option (List ℕ)
+  pub written : Option (List ℕ)
+
+-- where all is told, this is what the run leaves
+abbrev pub RunsTo : List (List ℕ) → Outside → Outside → Result RunEnd RunFault → Type 0
+RunsTo words old new ended =
+    (files : List FileEntry) (input before : List ℕ) → old.files ≡ Some files → old.left ≡ Some input → old.written ≡ Some before
+    → (leavings : Leavings) × (new.left ≡ Some leavings.left) × (new.written ≡ Some (before ++ leavings.out))
+    × Leaves words (record { content_of = λ name. file_named name files; input = input }) leavings ended
+
+-- the same of a run by its status
+abbrev pub Runs : List (List ℕ) → Outside → Outside → Status → Type 0
+Runs words old new status = (ended : Result RunEnd RunFault) × (status ≡ status_of ended) × RunsTo words old new ended
+
+-- how many calls of the shelf failed, and how many reads of the input
+pub record ReadFaults : Type 0 where
+  pub of_shelf : ℕ
+  pub of_input : ℕ
+
+-- where a read failed, one of the two counts is one more; otherwise both are what they were
+abbrev pub RaisesReads : Bool → ReadFaults → ReadFaults → Type 0
+RaisesReads true old new =
+    ((new.of_shelf ≡ raised old.of_shelf) × (new.of_input ≡ old.of_input))
+    ⊎ ((new.of_shelf ≡ old.of_shelf) × (new.of_input ≡ raised old.of_input))
+RaisesReads false old new = (new.of_shelf ≡ old.of_shelf) × (new.of_input ≡ old.of_input)

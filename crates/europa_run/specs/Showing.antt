@@ -5,8 +5,8 @@ use Rattle.nddl_includes.specs.declared.fault.TextFault.{TextFault}
 use Rattle.nddl_includes.specs.declared.fault.TextFault.TheVariants.{BadByte, OpenComment, OutOfRange, Syntax, TooDeep}
 use Rattle.nddl_files.specs.Language.{ReadsAs}
 use Rattle.nddl_print.specs.Canonical.{spelling_of}
-use Rattle.europa_run.specs.declared.status.Status.{Status}
-use Rattle.europa_run.specs.declared.status.Status.TheVariants.{Done}
+use Rattle.europa_run.specs.declared.status.RunEnd.{RunEnd}
+use Rattle.europa_run.specs.declared.status.RunEnd.TheVariants.{Done}
 use Rattle.europa_run.specs.Printed.{FaultOutput, file_limit}
 
 -- the word for what is wrong in a text
@@ -26,17 +26,17 @@ place_of (Syntax place) = place
 place_of (TooDeep place) = place
 
 -- what is printed of a text that is read so: the spelling of its tree, or what is wrong in it first
-abbrev pub ReadingOutput : List ℕ → Result (List Decl) TextFault → List ℕ → Status → Type 0
-ReadingOutput file (Ok tree) out status = (out ≡ spelling_of tree) × (status ≡ Done)
-ReadingOutput file (Err fault) out status = FaultOutput (kind_of fault) file (place_of fault) out status
+abbrev pub ReadingOutput : List ℕ → Result (List Decl) TextFault → List ℕ → RunEnd → Type 0
+ReadingOutput file (Ok tree) out end = (out ≡ spelling_of tree) × (end ≡ Done)
+ReadingOutput file (Err fault) out end = FaultOutput (kind_of fault) file (place_of fault) out end
 
 -- what the text is read as is printed
-abbrev pub TextOutput : List ℕ → List ℕ → List ℕ → Status → Type 0
-TextOutput file bytes out status = (reading : Result (List Decl) TextFault) × ReadsAs bytes reading × ReadingOutput file reading out status
+abbrev pub TextOutput : List ℕ → List ℕ → List ℕ → RunEnd → Type 0
+TextOutput file bytes out end = (reading : Result (List Decl) TextFault) × ReadsAs bytes reading × ReadingOutput file reading out end
 
 -- what a file with this content gives: a fault where it is absent or too long, and else what its text is read as
-abbrev pub ShowOutput : List ℕ → Option (List ℕ) → List ℕ → Status → Type 0
-ShowOutput file None out status = FaultOutput (codes "Absent") file 0 out status
-ShowOutput file (Some bytes) out status =
-    ((file_limit < length bytes) × FaultOutput (codes "Limit:bytes") file 0 out status)
-    ⊎ ((length bytes ≤ file_limit) × TextOutput file bytes out status)
+abbrev pub ShowOutput : List ℕ → Option (List ℕ) → List ℕ → RunEnd → Type 0
+ShowOutput file None out end = FaultOutput (codes "Absent") file 0 out end
+ShowOutput file (Some bytes) out end =
+    ((file_limit < length bytes) × FaultOutput (codes "Limit:bytes") file 0 out end)
+    ⊎ ((length bytes ≤ file_limit) × TextOutput file bytes out end)

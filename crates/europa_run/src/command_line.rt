@@ -1,52 +1,43 @@
 //! The words after the program's name.
 
 ghost use Rattle.std.specs.Prelude.{◌≡◌, ◌↔◌, IsTrue, IfSome, IfNone};
-ghost use Rattle.europa_run.specs.declared.command_line.Command.{Command};
-ghost use Rattle.europa_run.specs.CommandLine.{Asks, AreNoCommand, IsNoFile, word_of};
+ghost use Rattle.europa_run.specs.CommandLine.{told_request, IsWritten, IsNoWord, Asks, AreNoCommand, IsNoFile};
 
 use eu_name::text::Text;
 
-/// A command that is given a file.
+/// A command with what it is given.
 #[derive(Clone, Copy)]
-pub enum Command {
-    /// Answers the input's lines over the problem of the file.
-    Script,
-    /// Prints the file in the canonical spelling.
-    Show,
+pub enum Request<File> {
+    /// To answer the input's lines over the problem of the file.
+    Script { file: File },
+    /// To print the file in the canonical spelling.
+    Show { file: File },
 }
 
-/// What the words ask for.
-#[derive(Clone, Copy)]
-pub struct Request<'a> {
-    pub command: Command,
-    pub file: &'a Text,
-}
-
-/// The command and the file that the words ask for. None where they are no command line.
-pub fn read_words(words: &[Text]) -> Option<Request<'_>>
-    ensures some { IfSome result (λ request. Asks words.now request.command request.file.now) }
+/// What the words ask for. None where they are no command line.
+pub fn read_words(words: &[Text]) -> Option<Request<&Text>>
+    ensures some { IfSome result (λ request. Asks words.now (told_request request)) }
     ensures none { IfNone result (AreNoCommand words.now) }
 {
     match words {
         [word, file] => {
-            let command = command_of(word)?;
             if is_no_file(file) {
                 return None;
             }
-            return Some(Request { command, file });
+            return request_of(word, file);
         }
         _ => return None,
     }
 }
 
-// The command that is written so.
-fn command_of(word: &Text) -> Option<Command>
-    ensures some { IfSome result (λ command. word.now ≡ word_of command) }
-    ensures none { IfNone result ((command : Command) → word.now ≡ word_of command → ⊥) }
+// The command that is written so, for this file.
+fn request_of<'a>(word: &Text, file: &'a Text) -> Option<Request<&'a Text>>
+    ensures some { IfSome result (λ request. IsWritten word.now file.now (told_request request)) }
+    ensures none { IfNone result (IsNoWord word.now) }
 {
     match word.as_bytes() {
-        b"script" => Some(Command::Script),
-        b"show" => Some(Command::Show),
+        b"script" => Some(Request::Script { file }),
+        b"show" => Some(Request::Show { file }),
         _ => None,
     }
 }

@@ -1,7 +1,11 @@
 //! The problem's file.
 
-ghost use Rattle.europa_run.specs.Pieces.{GivesContent, CountsFile};
+ghost use Rattle.std.specs.Prelude.{◌≡◌};
+ghost use Rattle.eu_io.specs.Faults.{counted};
+ghost use Rattle.europa_run.specs.Pieces.{GivesContent};
+ghost use Rattle.europa_run.specs.Statuses.{is_read};
 
+use super::status::RunFault;
 use eu_io::shelf::{Shelf, ShelfFail};
 use eu_name::text::Text;
 use model_core::model::Model;
@@ -23,32 +27,24 @@ pub enum FileContent {
     Problem(Model),
 }
 
-/// Why it isn't known what a file has.
-#[derive(Clone, Copy)]
-pub enum FileFault {
-    /// The shelf failed.
-    Read,
-    Memory,
-}
-
 /// Reads the file of this name.
 pub fn read_file<F: Shelf>(
     alloc: Global,
     shelf: &mut F,
     name: &Text,
-) -> Result<FileContent, FileFault>
+) -> Result<FileContent, RunFault>
     ensures content { GivesContent (F.files shelf.old) name.now result }
-    ensures counted { CountsFile result (F.faults shelf.old) (F.faults shelf.new) }
+    ensures counted { F.faults shelf.new ≡ counted (is_read result) (F.faults shelf.old) }
 {
     match shelf.get(name.as_str(), FILE_LIMIT) {
         Ok(bytes) => match read_problem(alloc, bytes.as_slice()) {
             Ok(Some(model)) => return Ok(FileContent::Problem(model)),
             Ok(None) => return Ok(FileContent::NotBuilt),
-            Err(_none) => return Err(FileFault::Memory),
+            Err(_none) => return Err(RunFault::Memory),
         },
         Err(ShelfFail::Absent) => return Ok(FileContent::Absent),
         Err(ShelfFail::TooLong) => return Ok(FileContent::TooLong),
-        Err(ShelfFail::Failed) => return Err(FileFault::Read),
-        Err(ShelfFail::Memory) => return Err(FileFault::Memory),
+        Err(ShelfFail::Failed) => return Err(RunFault::Read),
+        Err(ShelfFail::Memory) => return Err(RunFault::Memory),
     }
 }

@@ -1,14 +1,14 @@
 //! What the program prints of its own.
 
-ghost use Rattle.std.specs.Prelude.{◌≡◌, ◌+◌, ◌≤◌, IfOk, length, min, string_bytes};
+ghost use Rattle.std.specs.Prelude.{◌≡◌, ◌+◌, ◌≤◌, false, IfOk, length, min, string_bytes};
 ghost use Rattle.std.specs.List.{prefix_len};
-ghost use Rattle.eu_io.specs.Faults.{CountsFailures};
+ghost use Rattle.eu_io.specs.Faults.{CountsFailures, counted};
 ghost use Rattle.line_session.specs.Writing.{WritesWhole};
 ghost use Rattle.europa_run.specs.Printed.{is_in_line, printed, fault_line};
-ghost use Rattle.europa_run.specs.Pieces.{PrintsFault};
-ghost use Rattle.europa_run.specs.Runs.{CountsWrites};
+ghost use Rattle.europa_run.specs.Pieces.{PrintsFault, UsageOutput, WritesText};
+ghost use Rattle.europa_run.specs.Statuses.{is_read, is_write};
 
-use super::status::Status;
+use super::status::{RunEnd, RunFault};
 use eu_io::fault::Failed;
 use eu_io::sink::Sink;
 use eu_name::text::Text;
@@ -18,6 +18,18 @@ use std::alloc::{AllocError, Global};
 /// What is printed where the words are no command line, with its line feed.
 pub const USAGE: &[u8] =
     b"usage: europa plan FILE [--steps N] [--tokens N] | script FILE | check FILE PLAN | show FILE | gen N | try N\n";
+
+/// Prints the usage.
+pub fn print_usage<O: Sink>(out: &mut O) -> Result<RunEnd, RunFault>
+    ensures printed { WritesText UsageOutput (O.written out.old) (O.written out.new) result }
+    ensures writes { O.faults out.new ≡ counted (is_write result) (O.faults out.old) }
+    ensures no_read { is_read result ≡ false }
+{
+    match write_whole(out, USAGE) {
+        Ok(()) => Ok(RunEnd::Usage),
+        Err(_failed) => Err(RunFault::Write),
+    }
+}
 
 // The line that says what is wrong with a file, and at which byte, with its line feed.
 fn fault_text(alloc: Global, kind: &str, file: &Text, place: u32) -> Result<String, AllocError>
@@ -42,16 +54,16 @@ pub fn print_fault<O: Sink>(
     kind: &str,
     file: &Text,
     place: u32,
-) -> Status
+) -> Result<RunEnd, RunFault>
     ensures printed { PrintsFault kind.now file.now place (O.written out.old) (O.written out.new) result }
-    ensures writes { CountsWrites result (O.faults out.old) (O.faults out.new) }
+    ensures writes { O.faults out.new ≡ counted (is_write result) (O.faults out.old) }
 {
     let Ok(line) = fault_text(alloc, kind, file, place) else {
-        return Status::Memory;
+        return Err(RunFault::Memory);
     };
     match write_whole(out, line.as_bytes()) {
-        Ok(()) => return Status::Text,
-        Err(_failed) => return Status::WriteFault,
+        Ok(()) => Ok(RunEnd::Text),
+        Err(_failed) => Err(RunFault::Write),
     }
 }
 

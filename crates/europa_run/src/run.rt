@@ -1,31 +1,32 @@
 //! A run of the program.
 
-ghost use Rattle.std.specs.Prelude.{◌≡◌};
+ghost use Rattle.std.specs.Prelude.{◌≡◌, false};
+ghost use Rattle.eu_io.specs.Faults.{counted};
 ghost use Rattle.model_core.specs.Lawful.{IsLawful};
 ghost use Rattle.plan_db.specs.Built.{IsBuilt};
 ghost use Rattle.europa_run.specs.CommandLine.{AreNoScript, AreNoCommand};
-ghost use Rattle.europa_run.specs.Pieces.{ScriptTells, RoseAtReadFault, status_of};
-ghost use Rattle.europa_run.specs.Runs.{Runs, StopsAtReadFault, CountsReads, CountsWrites};
+ghost use Rattle.europa_run.specs.Pieces.{ScriptTells, RunsScript, ended_by};
+ghost use Rattle.europa_run.specs.Runs.{Runs, RunsTo, RaisesReads};
+ghost use Rattle.europa_run.specs.Statuses.{is_read, is_write, is_read_status, is_write_status};
 
-use super::command_line::{Command, read_words};
-use super::file::{FileContent, FileFault, read_file};
-use super::printing::{USAGE, print_fault};
+use super::command_line::{Request, read_words};
+use super::file::{FileContent, read_file};
+use super::printing::{print_fault, print_usage};
 use super::show::show;
-use super::status::Status;
+use super::status::{RunEnd, RunFault, Status, status_of};
 use eu_io::shelf::Shelf;
 use eu_io::sink::Sink;
 use eu_io::source::Source;
 use eu_name::text::Text;
 use line_session::fault::SessionFault;
-use line_session::session::session;
-use line_session::whole::write_whole;
+use line_session::talk::{SessionEnd, session};
 use model_core::model::Model;
 use plan_db::database::Db;
 use session_core::editor::Editor;
 use std::alloc::Global;
 
-/// Runs the program on the words after its name: carries out the command that they ask for, over the file that they name, and says how it ended.
-/// After a fault nothing more is read or written.
+/// Runs the program on the words after its name: carries out the command that they ask for, over the file that they name,
+/// and says how it ended. After a fault nothing more is read or written.
 pub fn europa<F: Shelf, S: Source, O: Sink>(
     alloc: Global,
     words: &[Text],
@@ -33,62 +34,106 @@ pub fn europa<F: Shelf, S: Source, O: Sink>(
     input: &mut S,
     out: &mut O,
 ) -> Status
-    // The output, or after a fault a front of it.
-    ensures output { Runs words.now (F.files shelf.old) (S.left input.old) (O.written out.old) (O.written out.new) result }
-    // What was answered before a failed read.
-    ensures stops { StopsAtReadFault words.now (F.files shelf.old) (S.left input.old) (S.left input.new) (O.written out.old) (O.written out.new) result }
+    // The output, or after a fault what was written of it and what was lost.
+    ensures output { Runs words.now
+        (record { files = F.files shelf.old; left = S.left input.old; written = O.written out.old })
+        (record { files = F.files shelf.new; left = S.left input.new; written = O.written out.new }) result }
     // When each fault comes.
-    ensures reads { CountsReads result (F.faults shelf.old) (F.faults shelf.new) (S.faults input.old) (S.faults input.new) }
-    ensures writes { CountsWrites result (O.faults out.old) (O.faults out.new) }
-    // Only a script reads the input, and only a command asks for files.
+    ensures reads { RaisesReads (is_read_status result)
+        (record { of_shelf = F.faults shelf.old; of_input = S.faults input.old })
+        (record { of_shelf = F.faults shelf.new; of_input = S.faults input.new }) }
+    ensures writes { O.faults out.new ≡ counted (is_write_status result) (O.faults out.old) }
+    // Only a script reads the input, and only a command asks for files; without one no read fails.
     ensures unread { AreNoScript words.now → input.new ≡ input.old }
     ensures unasked { AreNoCommand words.now → shelf.new ≡ shelf.old }
+    ensures no_read_fault { AreNoCommand words.now → is_read_status result ≡ false }
 {
-    let Some(request) = read_words(words) else {
-        match write_whole(out, USAGE) {
-            Ok(()) => return Status::Usage,
-            Err(_failed) => return Status::WriteFault,
-        }
-    };
-    let file = request.file;
-    match request.command {
-        Command::Script => match read_file(alloc, shelf, file) {
-            Ok(FileContent::Problem(model)) => return run_script(alloc, model, input, out),
-            Ok(FileContent::Absent) => return print_fault(alloc, out, "Absent", file, 0),
-            Ok(FileContent::TooLong) => return print_fault(alloc, out, "Limit:bytes", file, 0),
-            Ok(FileContent::NotBuilt) => return print_fault(alloc, out, "NotBuilt", file, 0),
-            Err(FileFault::Read) => return Status::ReadFault,
-            Err(FileFault::Memory) => return Status::Memory,
-        },
-        Command::Show => return show(alloc, shelf, out, file),
+    status_of(carry_out(alloc, words, shelf, input, out))
+}
+
+// Carries out what the words ask for.
+fn carry_out<F: Shelf, S: Source, O: Sink>(
+    alloc: Global,
+    words: &[Text],
+    shelf: &mut F,
+    input: &mut S,
+    out: &mut O,
+) -> Result<RunEnd, RunFault>
+    ensures output { RunsTo words.now
+        (record { files = F.files shelf.old; left = S.left input.old; written = O.written out.old })
+        (record { files = F.files shelf.new; left = S.left input.new; written = O.written out.new }) result }
+    ensures reads { RaisesReads (is_read result)
+        (record { of_shelf = F.faults shelf.old; of_input = S.faults input.old })
+        (record { of_shelf = F.faults shelf.new; of_input = S.faults input.new }) }
+    ensures writes { O.faults out.new ≡ counted (is_write result) (O.faults out.old) }
+    ensures unread { AreNoScript words.now → input.new ≡ input.old }
+    ensures unasked { AreNoCommand words.now → shelf.new ≡ shelf.old }
+    ensures no_read_fault { AreNoCommand words.now → is_read result ≡ false }
+{
+    match read_words(words) {
+        Some(Request::Script { file }) => return script(alloc, shelf, input, out, file),
+        Some(Request::Show { file }) => return show(alloc, shelf, out, file),
+        None => return print_usage(out),
+    }
+}
+
+// Answers the input's lines over the problem of the file of this name, or says what is wrong with the file.
+fn script<F: Shelf, S: Source, O: Sink>(
+    alloc: Global,
+    shelf: &mut F,
+    input: &mut S,
+    out: &mut O,
+    file: &Text,
+) -> Result<RunEnd, RunFault>
+    ensures output { RunsScript file.now
+        (record { files = F.files shelf.old; left = S.left input.old; written = O.written out.old })
+        (record { files = F.files shelf.new; left = S.left input.new; written = O.written out.new }) result }
+    ensures reads { RaisesReads (is_read result)
+        (record { of_shelf = F.faults shelf.old; of_input = S.faults input.old })
+        (record { of_shelf = F.faults shelf.new; of_input = S.faults input.new }) }
+    ensures writes { O.faults out.new ≡ counted (is_write result) (O.faults out.old) }
+{
+    match read_file(alloc, shelf, file) {
+        Ok(FileContent::Problem(model)) => return run_script(alloc, model, input, out),
+        Ok(FileContent::Absent) => return print_fault(alloc, out, "Absent", file, 0),
+        Ok(FileContent::TooLong) => return print_fault(alloc, out, "Limit:bytes", file, 0),
+        Ok(FileContent::NotBuilt) => return print_fault(alloc, out, "NotBuilt", file, 0),
+        Err(fault) => return Err(fault),
     }
 }
 
 // Answers the input's lines over the model.
-fn run_script<S: Source, O: Sink>(alloc: Global, model: Model, input: &mut S, out: &mut O) -> Status
+fn run_script<S: Source, O: Sink>(
+    alloc: Global,
+    model: Model,
+    input: &mut S,
+    out: &mut O,
+) -> Result<RunEnd, RunFault>
     requires lawful { IsLawful model }
     requires built { IsBuilt model }
-    ensures told { ScriptTells model (S.left input.old) (S.left input.new) (O.written out.old) (O.written out.new) result }
-    ensures reads { RoseAtReadFault result (S.faults input.old) (S.faults input.new) }
-    ensures writes { CountsWrites result (O.faults out.old) (O.faults out.new) }
+    ensures told { ScriptTells model (record { left = S.left input.old; written = O.written out.old })
+        (record { left = S.left input.new; written = O.written out.new }) result }
+    ensures reads { S.faults input.new ≡ counted (is_read result) (S.faults input.old) }
+    ensures writes { O.faults out.new ≡ counted (is_write result) (O.faults out.old) }
 {
     let Ok(db) = Db::new(alloc, model) else {
-        return Status::Memory;
+        return Err(RunFault::Memory);
     };
     let mut editor = Editor::new(alloc, db);
-    let ended = session(alloc, &mut editor, input, out);
-    status_of(ended)
+    let end = session(alloc, &mut editor, input, out);
+    ended_by(end)
 }
 
-// The status that a session's end gives.
-fn status_of(ended: Result<(), SessionFault>) -> Status
-    ensures { result ≡ status_of ended }
+// How a script ends whose session ended so.
+fn ended_by(end: Result<SessionEnd, SessionFault>) -> Result<RunEnd, RunFault>
+    ensures { result ≡ ended_by end }
 {
-    match ended {
-        Ok(()) => Status::Done,
-        Err(SessionFault::ReadFault) => Status::ReadFault,
-        Err(SessionFault::WriteFault) => Status::WriteFault,
-        Err(SessionFault::LinesSpent) => Status::LinesSpent,
-        Err(SessionFault::Memory) => Status::Memory,
+    match end {
+        Ok(SessionEnd::OfInput) => Ok(RunEnd::Done),
+        Ok(SessionEnd::ByAnswer) => Ok(RunEnd::Done),
+        Err(SessionFault::LinesSpent) => Ok(RunEnd::LinesSpent),
+        Err(SessionFault::ReadFault) => Err(RunFault::Read),
+        Err(SessionFault::WriteFault) => Err(RunFault::Write),
+        Err(SessionFault::Memory) => Err(RunFault::Memory),
     }
 }
