@@ -1,5 +1,6 @@
 pub mod Orders
 pub mod Fronts
 pub mod Numbers
+pub mod Reserved
 pub mod Endings
 pub mod Names

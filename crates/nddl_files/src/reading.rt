@@ -13,7 +13,8 @@ use nddl_includes::fault::ReadAllFault;
 use nddl_includes::reading;
 use std::alloc::Global;
 
-/// Reads the file of this name, and each that it includes, as trees: the first file first, and each include's own includes before the next one. Or gives the fault that is met first.
+/// Reads the file of this name, and each that it includes, as trees: the first file first, and each include's own
+/// includes before the next one. Or gives the fault that is met first.
 pub fn read_all<F: Shelf>(
     alloc: Global,
     shelf: &mut F,
