@@ -161,7 +161,8 @@ fn otherwise(cursor: &mut Cursor<'_>, left: u8) -> Result<Option<StmtBlock>, Sto
 #[cycle(blocks)]
 #[tactic(auto, unfolding(crate::specs::Productions::otherwise))]
 fn branches(cursor: &mut Cursor<'_>, left: u8) -> Result<((), (StmtBlock, Option<StmtBlock>)), Stop>
-    ensures { IsFound result cursor.new (sequence (mark sorts.ParenClose) (sequence (block left) (otherwise left)) cursor.old) }
+    ensures { IsFound result cursor.new
+        (sequence (mark sorts.ParenClose) (sequence (block left) (otherwise left)) cursor.old) }
 {
     cursor.mark(Sort::ParenClose)?;
     let then = block(cursor, left)?;
@@ -192,7 +193,8 @@ fn if_stmt(cursor: &mut Cursor<'_>, left: u8) -> Result<Stmt, Stop>
 /// `"in" Name ")" Block`
 #[cycle(blocks)]
 fn class_body(cursor: &mut Cursor<'_>, left: u8) -> Result<((), (Name, ((), StmtBlock))), Stop>
-    ensures { IsFound result cursor.new (sequence (mark (sorts.Word keywords.In)) (sequence name (sequence (mark sorts.ParenClose) (block left))) cursor.old) }
+    ensures { IsFound result cursor.new
+        (sequence (mark (sorts.Word keywords.In)) (sequence name (sequence (mark sorts.ParenClose) (block left))) cursor.old) }
 {
     cursor.mark(Sort::Word(Reserved::In))?;
     let class = name(cursor)?;

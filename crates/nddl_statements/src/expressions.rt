@@ -188,7 +188,8 @@ pub fn arguments(cursor: &mut Cursor<'_>) -> Result<Sequence<Expr>, Stop>
 
 /// `"(" [ Args ] ")"`
 fn enclosed(cursor: &mut Cursor<'_>) -> Result<((), (Sequence<Expr>, ())), Stop>
-    ensures { IsFound result cursor.new (sequence (mark sorts.ParenOpen) (sequence arguments (mark sorts.ParenClose)) cursor.old) }
+    ensures { IsFound result cursor.new
+        (sequence (mark sorts.ParenOpen) (sequence arguments (mark sorts.ParenClose)) cursor.old) }
 {
     cursor.mark(Sort::ParenOpen)?;
     let arguments = arguments(cursor)?;

@@ -52,7 +52,8 @@ fn base(cursor: &mut Cursor<'_>) -> Result<(u32, BaseType), Stop>
 
 /// `[","] Lit "]"`
 fn range_end(cursor: &mut Cursor<'_>) -> Result<((), (Value, ())), Stop>
-    ensures { IsFound result cursor.new (sequence (may_mark sorts.Comma) (sequence value (mark sorts.BracketClose)) cursor.old) }
+    ensures { IsFound result cursor.new
+        (sequence (may_mark sorts.Comma) (sequence value (mark sorts.BracketClose)) cursor.old) }
 {
     cursor.may_mark(Sort::Comma)?;
     let greatest = value(cursor)?;

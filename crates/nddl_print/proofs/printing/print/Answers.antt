@@ -1,6 +1,6 @@
 use Rattle.std.proofs.Common.{refl}
 use Rattle.nddl_print.specs.Canonical.{spelling_of, decl_words}
-use Rattle.nddl_print.proofs.Printing.{item_printed}
+use Rattle.nddl_print.proofs.Printed.{item_printed}
 use Rattle.nddl_print.proofs.Some.{decl_some}
 use Rattle.nddl_print.proofs.printing.print.Goals as goal
 
