@@ -1,7 +1,7 @@
 //! A file of the language with those that it includes.
 
 ghost use Rattle.std.specs.Prelude.{◌≡◌};
-ghost use Rattle.nddl_includes.specs.Outcomes.{CountsReads, Says};
+ghost use Rattle.nddl_includes.specs.Outcomes.{CountsReads, TellsOutcome};
 ghost use Rattle.nddl_includes.specs.Visits.{ReadsAll};
 ghost use Rattle.nddl_files.specs.Language.{ReadsAs};
 
@@ -20,7 +20,7 @@ pub fn read_all<F: Shelf>(
     shelf: &mut F,
     name: &str,
 ) -> Result<Sequence<FileDecls>, ReadAllFault>
-    ensures told { Says (ReadsAll ReadsAs (F.files shelf.old) name.now) result }
+    ensures told { TellsOutcome (ReadsAll ReadsAs (F.files shelf.old) name.now) result }
     ensures kept { F.files shelf.new ≡ F.files shelf.old }
     ensures counted { CountsReads result (F.faults shelf.old) (F.faults shelf.new) }
 {
