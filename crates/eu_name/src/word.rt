@@ -1,28 +1,102 @@
 //! Words of the language, and which of them are names.
 
 ghost use Rattle.std.specs.Prelude.{◌≡◌, ◌↔◌, All, Contains, IsTrue, codes, map};
-ghost use Rattle.eu_name.specs.Word.{is_word_start, is_word_byte, reserved_words, IsWord, IsName};
+ghost use Rattle.eu_name.specs.Word.{is_word_start, is_word_byte, reserved_word, reserved_of, reserved_words, IsWord, IsName};
 
 /// The words that no file may declare, in the order of the language's description.
-const RESERVED: [&[u8]; 17] = [
-    b"class",
-    b"predicate",
-    b"enum",
-    b"typedef",
-    b"extends",
-    b"new",
-    b"if",
-    b"else",
-    b"foreach",
-    b"in",
-    b"int",
-    b"float",
-    b"bool",
-    b"string",
-    b"true",
-    b"false",
-    b"super",
+#[derive(Clone, Copy, Debug, PartialEq, Eq)]
+pub enum Reserved {
+    /// `class`
+    Class,
+    /// `predicate`
+    Predicate,
+    /// `enum`
+    Enum,
+    /// `typedef`
+    Typedef,
+    /// `extends`
+    Extends,
+    /// `new`
+    New,
+    /// `if`
+    If,
+    /// `else`
+    Else,
+    /// `foreach`
+    Foreach,
+    /// `in`
+    In,
+    /// `int`
+    Int,
+    /// `float`
+    Float,
+    /// `bool`
+    Bool,
+    /// `string`
+    Str,
+    /// `true`
+    True,
+    /// `false`
+    False,
+    /// `super`
+    Super,
+}
+
+/// All of them.
+const RESERVED: [Reserved; 17] = [
+    Reserved::Class,
+    Reserved::Predicate,
+    Reserved::Enum,
+    Reserved::Typedef,
+    Reserved::Extends,
+    Reserved::New,
+    Reserved::If,
+    Reserved::Else,
+    Reserved::Foreach,
+    Reserved::In,
+    Reserved::Int,
+    Reserved::Float,
+    Reserved::Bool,
+    Reserved::Str,
+    Reserved::True,
+    Reserved::False,
+    Reserved::Super,
 ];
+
+impl Reserved {
+    /// How the word is spelled.
+    pub fn word(self) -> &'static [u8]
+        ensures { result.now ≡ reserved_word self }
+    {
+        match self {
+            Reserved::Class => b"class",
+            Reserved::Predicate => b"predicate",
+            Reserved::Enum => b"enum",
+            Reserved::Typedef => b"typedef",
+            Reserved::Extends => b"extends",
+            Reserved::New => b"new",
+            Reserved::If => b"if",
+            Reserved::Else => b"else",
+            Reserved::Foreach => b"foreach",
+            Reserved::In => b"in",
+            Reserved::Int => b"int",
+            Reserved::Float => b"float",
+            Reserved::Bool => b"bool",
+            Reserved::Str => b"string",
+            Reserved::True => b"true",
+            Reserved::False => b"false",
+            Reserved::Super => b"super",
+        }
+    }
+}
+
+/// The reserved word that the bytes spell, if they spell one.
+#[tactic(auto, unfolding(crate::specs::Word::reserved_of))]
+pub fn reserved_of(bytes: &[u8]) -> Option<Reserved>
+    ensures { result ≡ reserved_of bytes.now }
+{
+    RESERVED.iter().copied().find(|word| word.word() == bytes)
+}
 
 /// Whether a word can begin with the byte.
 pub fn is_word_start(byte: u8) -> bool
@@ -81,7 +155,7 @@ pub fn is_among(word: &[u8], words: &[&[u8]]) -> bool
 pub fn is_reserved(word: &[u8]) -> bool
     ensures { IsTrue result ↔ Contains reserved_words word.now }
 {
-    is_among(word, &RESERVED)
+    reserved_of(word).is_some()
 }
 
 /// Whether a file may declare something by this name.
@@ -89,36 +163,4 @@ pub fn is_name(bytes: &[u8]) -> bool
     ensures { IsTrue result ↔ IsName bytes.now }
 {
     is_word(bytes) && !is_reserved(bytes)
-}
-
-#[cfg(test)]
-mod tests {
-    use super::*;
-
-    #[test]
-    fn tells_names_from_others(rt: HostRuntime) {
-        let cases: [(&str, bool); 18] = [
-            ("x", true),
-            ("_k", true),
-            ("Zz9", true),
-            ("info", true),
-            ("leq", true),
-            ("Int", true),
-            ("in_", true),
-            ("inf", false),
-            ("in", false),
-            ("int", false),
-            ("foreach", false),
-            ("super", false),
-            ("9x", false),
-            ("", false),
-            ("a.b", false),
-            ("x-y", false),
-            ("x ", false),
-            ("é", false),
-        ];
-        for (bytes, named) in cases {
-            assert_eq!(rt; is_name(bytes.as_bytes()), named, "at {bytes}");
-        }
-    }
 }

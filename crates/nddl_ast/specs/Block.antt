@@ -8,7 +8,8 @@ use Rattle.nddl_ast.specs.Tree.{Statements, Nothing, Declares, Calls, Asks, Test
 -- an `if` without `else`, or with it, before other statements
 abbrev pub with_else : ℕ → Condition → Braces → Option Braces → Statements → Statements
 with_else at condition then None more = Tests at condition then.at then.statements more
-with_else at condition then (Some otherwise) more = Chooses at condition then.at then.statements otherwise.at otherwise.statements more
+with_else at condition then (Some otherwise) more =
+    Chooses at condition then.at then.statements otherwise.at otherwise.statements more
 
 -- any statement before others
 abbrev pub with_statement : Stmt → Statements → Statements

@@ -6,3 +6,4 @@ pub mod Same
 pub mod SameStatement
 pub mod Places
 pub mod Unplaced
+pub mod Kinds

@@ -72,7 +72,8 @@ SameBase one other = ⊥
 
 abbrev pub SameBounds : Bounds → Bounds → Type 0
 SameBounds bounds.All bounds.All = Unit {0}
-SameBounds (bounds.Range at least greatest) (bounds.Range at' least' greatest') = SameValue least least' × SameValue greatest greatest'
+SameBounds (bounds.Range at least greatest) (bounds.Range at' least' greatest') =
+    SameValue least least' × SameValue greatest greatest'
 SameBounds (bounds.Set at one) (bounds.Set at' other) = AllSame SameValue one other
 SameBounds one other = ⊥
 
@@ -90,7 +91,8 @@ SameInit one other = ⊥
 -- ---- statements
 
 abbrev pub SameVariable : Variable → Variable → Type 0
-SameVariable one other = SameType one.declared other.declared × SameName one.name other.name × BothSame SameInit one.init other.init
+SameVariable one other =
+    SameType one.declared other.declared × SameName one.name other.name × BothSame SameInit one.init other.init
 
 abbrev pub SameCall : Call → Call → Type 0
 SameCall one other = SamePath one.path other.path × AllSame SameExpr one.arguments other.arguments
@@ -100,8 +102,10 @@ SameAsk one other = SameName one.word other.word × SamePath one.path other.path
 
 abbrev pub SameCondition : Condition → Condition → Type 0
 SameCondition (conditions.Truth one) (conditions.Truth other) = SameExpr one other
-SameCondition (conditions.Equal one second) (conditions.Equal other second') = SameExpr one other × SameExpr second second'
-SameCondition (conditions.NotEqual one second) (conditions.NotEqual other second') = SameExpr one other × SameExpr second second'
+SameCondition (conditions.Equal one second) (conditions.Equal other second') =
+    SameExpr one other × SameExpr second second'
+SameCondition (conditions.NotEqual one second) (conditions.NotEqual other second') =
+    SameExpr one other × SameExpr second second'
 SameCondition one other = ⊥
 
 abbrev pub SameStatements : Statements → Statements → Type 0
@@ -111,8 +115,10 @@ SameStatements (Calls one more) (Calls other others) = SameCall one other × Sam
 SameStatements (Asks one more) (Asks other others) = SameAsk one other × SameStatements more others
 SameStatements (Tests at condition then_at then more) (Tests at' condition' then_at' then' others) =
     (SameCondition condition condition' × SameStatements then then') × SameStatements more others
-SameStatements (Chooses at condition then_at then else_at else more) (Chooses at' condition' then_at' then' else_at' else' others) =
-    (SameCondition condition condition' × SameStatements then then' × SameStatements else else') × SameStatements more others
+SameStatements (Chooses at condition then_at then else_at else more)
+    (Chooses at' condition' then_at' then' else_at' else' others) =
+    (SameCondition condition condition' × SameStatements then then' × SameStatements else else')
+    × SameStatements more others
 SameStatements (Repeats at name class body_at body more) (Repeats at' name' class' body_at' body' others) =
     (SameName name name' × SameName class class' × SameStatements body body') × SameStatements more others
 SameStatements one other = ⊥
@@ -137,7 +143,8 @@ SameSet one other = ⊥
 
 abbrev pub SameMember : Member → Member → Type 0
 SameMember (members.Field one) (members.Field other) = SameTyped one other
-SameMember (members.Predicate at name body) (members.Predicate at' name' body') = SameName name name' × AllSame SamePart body body'
+SameMember (members.Predicate at name body) (members.Predicate at' name' body') =
+    SameName name name' × AllSame SamePart body body'
 SameMember (members.Constructor name formals body) (members.Constructor name' formals' body') =
     SameName name name' × AllSame SameTyped formals formals' × AllSame SameSet body body'
 SameMember one other = ⊥
@@ -145,8 +152,10 @@ SameMember one other = ⊥
 -- the declarations are equal up to places
 abbrev pub SameDecl : Decl → Decl → Type 0
 SameDecl (decls.Include at file file_at) (decls.Include at' file' file_at') = file ≡ file'
-SameDecl (decls.Enum at name members_at one) (decls.Enum at' name' members_at' other) = SameName name name' × AllSame SameName one other
-SameDecl (decls.Typedef at declared name) (decls.Typedef at' declared' name') = SameType declared declared' × SameName name name'
+SameDecl (decls.Enum at name members_at one) (decls.Enum at' name' members_at' other) =
+    SameName name name' × AllSame SameName one other
+SameDecl (decls.Typedef at declared name) (decls.Typedef at' declared' name') =
+    SameType declared declared' × SameName name name'
 SameDecl (decls.Forward at name) (decls.Forward at' name') = SameName name name'
 SameDecl (decls.Class at name parent one) (decls.Class at' name' parent' other) =
     SameName name name' × BothSame SameName parent parent' × AllSame SameMember one other

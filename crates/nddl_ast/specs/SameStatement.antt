@@ -7,6 +7,8 @@ abbrev pub SameStmt : declared.Stmt → declared.Stmt → Type 0
 SameStmt (Variable one) (Variable other) = SameVariable one other
 SameStmt (Call one) (Call other) = SameCall one other
 SameStmt (Ask one) (Ask other) = SameAsk one other
-SameStmt (If at condition then otherwise) (If at' condition' then' otherwise') = SameCondition condition condition' × SameBlock then then' × BothSame SameBlock otherwise otherwise'
-SameStmt (Foreach at name class body) (Foreach at' name' class' body') = SameName name name' × SameName class class' × SameBlock body body'
+SameStmt (If at condition then otherwise) (If at' condition' then' otherwise') =
+    SameCondition condition condition' × SameBlock then then' × BothSame SameBlock otherwise otherwise'
+SameStmt (Foreach at name class body) (Foreach at' name' class' body') =
+    SameName name name' × SameName class class' × SameBlock body body'
 SameStmt one other = ⊥

@@ -6,7 +6,8 @@ use Rattle.nddl_ast.specs.declared.statement.Call.{Call}
 use Rattle.nddl_ast.specs.declared.statement.Ask.{Ask}
 use Rattle.nddl_ast.specs.declared.statement.Condition.{Condition}
 
--- the statements of a block in order: the first, with the places and the statements of the blocks in it, and then those that follow
+-- the statements of a block in order: the first, with the places and the statements of the blocks in it, and then
+-- those that follow
 pub data Statements : Type 0 where
   -- there is none
   Nothing : Statements

@@ -66,20 +66,23 @@ abbrev pub unplaced_type : types.Type → types.Type
 unplaced_type of = record { at = 0; base = unplaced_base of.base; bounds = unplaced_bounds of.bounds }
 
 abbrev pub unplaced_creation : Creation → Creation
-unplaced_creation creation = record { at = 0; class = unplaced_name creation.class; arguments = map unplaced_expr creation.arguments }
+unplaced_creation creation =
+    record { at = 0; class = unplaced_name creation.class; arguments = map unplaced_expr creation.arguments }
 
 abbrev pub unplaced_init : Init → Init
 unplaced_init (inits.Expr expr) = inits.Expr (unplaced_expr expr)
 unplaced_init (inits.New creation) = inits.New (unplaced_creation creation)
 
 abbrev pub unplaced_variable : Variable → Variable
-unplaced_variable one = record { declared = unplaced_type one.declared; name = unplaced_name one.name; init = option_map unplaced_init one.init }
+unplaced_variable one =
+    record { declared = unplaced_type one.declared; name = unplaced_name one.name; init = option_map unplaced_init one.init }
 
 abbrev pub unplaced_call : Call → Call
 unplaced_call one = record { path = unplaced_path one.path; arguments = map unplaced_expr one.arguments }
 
 abbrev pub unplaced_ask : Ask → Ask
-unplaced_ask one = record { word = unplaced_name one.word; path = unplaced_path one.path; label = unplaced_name one.label }
+unplaced_ask one =
+    record { word = unplaced_name one.word; path = unplaced_path one.path; label = unplaced_name one.label }
 
 abbrev pub unplaced_condition : Condition → Condition
 unplaced_condition (conditions.Truth expr) = conditions.Truth (unplaced_expr expr)
@@ -91,9 +94,11 @@ unplaced_statements Nothing = Nothing
 unplaced_statements (Declares v more) = Declares (unplaced_variable v) (unplaced_statements more)
 unplaced_statements (Calls c more) = Calls (unplaced_call c) (unplaced_statements more)
 unplaced_statements (Asks a more) = Asks (unplaced_ask a) (unplaced_statements more)
-unplaced_statements (Tests at condition then_at then more) = Tests 0 (unplaced_condition condition) 0 (unplaced_statements then) (unplaced_statements more)
+unplaced_statements (Tests at condition then_at then more) =
+    Tests 0 (unplaced_condition condition) 0 (unplaced_statements then) (unplaced_statements more)
 unplaced_statements (Chooses at condition then_at then else_at else more) =
-    Chooses 0 (unplaced_condition condition) 0 (unplaced_statements then) 0 (unplaced_statements else) (unplaced_statements more)
+    Chooses 0 (unplaced_condition condition) 0 (unplaced_statements then) 0 (unplaced_statements else)
+    (unplaced_statements more)
 unplaced_statements (Repeats at name class body_at body more) =
     Repeats 0 (unplaced_name name) (unplaced_name class) 0 (unplaced_statements body) (unplaced_statements more)
 
@@ -114,15 +119,18 @@ unplaced_set (sets.Super at arguments) = sets.Super 0 (map unplaced_expr argumen
 abbrev pub unplaced_member : Member → Member
 unplaced_member (members.Field typed) = members.Field (unplaced_typed typed)
 unplaced_member (members.Predicate at name body) = members.Predicate 0 (unplaced_name name) (map unplaced_part body)
-unplaced_member (members.Constructor name formals body) = members.Constructor (unplaced_name name) (map unplaced_typed formals) (map unplaced_set body)
+unplaced_member (members.Constructor name formals body) =
+    members.Constructor (unplaced_name name) (map unplaced_typed formals) (map unplaced_set body)
 
 abbrev pub unplaced : Decl → Decl
 unplaced (decls.Include at file file_at) = decls.Include 0 file 0
 unplaced (decls.Enum at name members_at members) = decls.Enum 0 (unplaced_name name) 0 (map unplaced_name members)
 unplaced (decls.Typedef at declared name) = decls.Typedef 0 (unplaced_type declared) (unplaced_name name)
 unplaced (decls.Forward at name) = decls.Forward 0 (unplaced_name name)
-unplaced (decls.Class at name parent members) = decls.Class 0 (unplaced_name name) (option_map unplaced_name parent) (map unplaced_member members)
-unplaced (decls.Rule class predicate body) = decls.Rule (unplaced_name class) (unplaced_name predicate) (unplaced_block body)
+unplaced (decls.Class at name parent members) =
+    decls.Class 0 (unplaced_name name) (option_map unplaced_name parent) (map unplaced_member members)
+unplaced (decls.Rule class predicate body) =
+    decls.Rule (unplaced_name class) (unplaced_name predicate) (unplaced_block body)
 unplaced (decls.Variable one) = decls.Variable (unplaced_variable one)
 unplaced (decls.Call one) = decls.Call (unplaced_call one)
 unplaced (decls.Ask one) = decls.Ask (unplaced_ask one)

@@ -2,7 +2,7 @@
 
 use super::expression::{Expr, Init, Type};
 use super::name::Name;
-use super::statement::{Ask, StmtBlock, Call, Variable};
+use super::statement::{Ask, Call, StmtBlock, Variable};
 use eu_name::bytes::Bytes;
 use eu_name::sequence::Sequence;
 use eu_name::text::Text;

@@ -4,11 +4,13 @@ ghost use Rattle.std.specs.Prelude.{◌↔◌, IsTrue};
 ghost use Rattle.nddl_ast.specs.Same.{AllSame, BothSame, SameName, SamePath, SameLiteral, SameExpr, SameValue, SameBase, SameBounds, SameType, SameCreation, SameInit, SameVariable, SameCall, SameAsk, SameCondition, SameBlock, SameTyped, SamePart, SameSet, SameMember, SameDecl};
 ghost use Rattle.nddl_ast.specs.Unplaced.{SameIsEqual, SameIsAnEquivalence};
 ghost use Rattle.nddl_ast.specs.SameStatement.{SameStmt};
+ghost use Rattle.nddl_ast.specs.declared.declaration.Decl.TheVariants as decls;
 
 use super::declaration::{Decl, Member, PredicatePart, Set, Typed};
 use super::expression::{BaseType, Bounds, Creation, Expr, Init, Literal, Type, Value};
 use super::name::{Name, Path};
-use super::statement::{Ask, StmtBlock, Call, Condition, Stmt, Variable};
+use super::statement::{Ask, Call, Condition, Stmt, StmtBlock, Variable};
+use eu_name::bytes::Bytes;
 
 /// What can be compared without regard to places.
 pub trait Same {
@@ -317,7 +319,9 @@ impl Same for PredicatePart {
     fn is_same(&self, other: &PredicatePart) -> bool {
         match (self, other) {
             (PredicatePart::Parameter(one), PredicatePart::Parameter(other)) => one.is_same(other),
-            (PredicatePart::Constraint(one), PredicatePart::Constraint(other)) => one.is_same(other),
+            (PredicatePart::Constraint(one), PredicatePart::Constraint(other)) => one.is_same(
+                other,
+            ),
             _ => false,
         }
     }
@@ -382,81 +386,142 @@ impl Same for Member {
     }
 }
 
+// Whether the declaration is the same as an include of the file.
+fn is_include(decl: &Decl, file: &Bytes) -> bool
+    ensures { IsTrue result ↔ SameDecl (decls.Include 0 file.now 0) decl.now }
+{
+    match decl {
+        Decl::Include { file: other, .. } => file.as_slice() == other.as_slice(),
+        _ => false,
+    }
+}
+
+// Whether it is the same as an enum.
+fn is_enum(decl: &Decl, name: &Name, members: &[Name]) -> bool
+    ensures { IsTrue result ↔ SameDecl (decls.Enum 0 name.now 0 members.now) decl.now }
+{
+    match decl {
+        Decl::Enum {
+            name: other_name,
+            members: other,
+            ..
+        } => name.is_same(other_name) && are_same(members, other.as_slice()),
+        _ => false,
+    }
+}
+
+// Whether it is the same as a `typedef`.
+fn is_typedef(decl: &Decl, declared: &Type, name: &Name) -> bool
+    ensures { IsTrue result ↔ SameDecl (decls.Typedef 0 declared.now name.now) decl.now }
+{
+    match decl {
+        Decl::Typedef {
+            declared: other,
+            name: other_name,
+            ..
+        } => declared.is_same(other) && name.is_same(other_name),
+        _ => false,
+    }
+}
+
+// Whether it is the same as a class that is only named.
+fn is_forward(decl: &Decl, name: &Name) -> bool
+    ensures { IsTrue result ↔ SameDecl (decls.Forward 0 name.now) decl.now }
+{
+    match decl {
+        Decl::Forward { name: other, .. } => name.is_same(other),
+        _ => false,
+    }
+}
+
+// Whether it is the same as a class.
+fn is_class(decl: &Decl, name: &Name, parent: &Option<Name>, members: &[Member]) -> bool
+    ensures { IsTrue result ↔ SameDecl (decls.Class 0 name.now parent.now members.now) decl.now }
+{
+    match decl {
+        Decl::Class {
+            name: other_name,
+            parent: other_parent,
+            members: other_members,
+            ..
+        } => {
+            name.is_same(other_name)
+                && both_same(parent, other_parent)
+                && are_same(members, other_members.as_slice())
+        }
+        _ => false,
+    }
+}
+
+// Whether it is the same as a rule.
+fn is_rule(decl: &Decl, class: &Name, predicate: &Name, body: &StmtBlock) -> bool
+    ensures { IsTrue result ↔ SameDecl (decls.Rule class.now predicate.now body.now) decl.now }
+{
+    match decl {
+        Decl::Rule {
+            class: other_class,
+            predicate: other_predicate,
+            body: other,
+        } => {
+            class.is_same(other_class) && predicate.is_same(other_predicate) && body.is_same(other)
+        }
+        _ => false,
+    }
+}
+
+// Whether it is the same as a variable.
+fn is_variable(decl: &Decl, variable: &Variable) -> bool
+    ensures { IsTrue result ↔ SameDecl (decls.Variable variable.now) decl.now }
+{
+    match decl {
+        Decl::Variable(other) => variable.is_same(other),
+        _ => false,
+    }
+}
+
+// Whether it is the same as a call.
+fn is_call(decl: &Decl, call: &Call) -> bool
+    ensures { IsTrue result ↔ SameDecl (decls.Call call.now) decl.now }
+{
+    match decl {
+        Decl::Call(other) => call.is_same(other),
+        _ => false,
+    }
+}
+
+// Whether it is the same as what asks for something.
+fn is_ask(decl: &Decl, ask: &Ask) -> bool
+    ensures { IsTrue result ↔ SameDecl (decls.Ask ask.now) decl.now }
+{
+    match decl {
+        Decl::Ask(other) => ask.is_same(other),
+        _ => false,
+    }
+}
+
 impl Same for Decl {
     ghost same = { SameDecl };
 
     fn is_same(&self, other: &Decl) -> bool {
-        match (self, other) {
-            (
-                Decl::Include { file, .. },
-                Decl::Include {
-                    file: other_file,
-                    ..
-                },
-            ) => file.as_slice() == other_file.as_slice(),
-            (
-                Decl::Enum { name, members, .. },
-                Decl::Enum {
-                    name: other_name,
-                    members: other_members,
-                    ..
-                },
-            ) => {
-                name.is_same(other_name) && are_same(members.as_slice(), other_members.as_slice())
-            }
-            (
-                Decl::Typedef { declared, name, .. },
-                Decl::Typedef {
-                    declared: other_declared,
-                    name: other_name,
-                    ..
-                },
-            ) => declared.is_same(other_declared) && name.is_same(other_name),
-            (
-                Decl::Forward { name, .. },
-                Decl::Forward {
-                    name: other_name,
-                    ..
-                },
-            ) => name.is_same(other_name),
-            (
-                Decl::Class {
-                    name,
-                    parent,
-                    members,
-                    ..
-                },
-                Decl::Class {
-                    name: other_name,
-                    parent: other_parent,
-                    members: other_members,
-                    ..
-                },
-            ) => {
-                name.is_same(other_name)
-                    && both_same(parent, other_parent)
-                    && are_same(members.as_slice(), other_members.as_slice())
-            }
-            (
-                Decl::Rule {
-                    class,
-                    predicate,
-                    body,
-                },
-                Decl::Rule {
-                    class: other_class,
-                    predicate: other_predicate,
-                    body: other_body,
-                },
-            ) => {
-                class.is_same(other_class)
-                    && predicate.is_same(other_predicate)
-                    && body.is_same(other_body)
-            }
-            (Decl::Variable(one), Decl::Variable(other)) => one.is_same(other),
-            (Decl::Call(one), Decl::Call(other)) => one.is_same(other),
-            (Decl::Ask(one), Decl::Ask(other)) => one.is_same(other),
-            _ => false,
+        match self {
+            Decl::Include { file, .. } => is_include(other, file),
+            Decl::Enum { name, members, .. } => is_enum(other, name, members.as_slice()),
+            Decl::Typedef { declared, name, .. } => is_typedef(other, declared, name),
+            Decl::Forward { name, .. } => is_forward(other, name),
+            Decl::Class {
+                name,
+                parent,
+                members,
+                ..
+            } => is_class(other, name, parent, members.as_slice()),
+            Decl::Rule {
+                class,
+                predicate,
+                body,
+            } => is_rule(other, class, predicate, body),
+            Decl::Variable(variable) => is_variable(other, variable),
+            Decl::Call(call) => is_call(other, call),
+            Decl::Ask(ask) => is_ask(other, ask),
         }
     }
 }

@@ -62,7 +62,8 @@ pub enum Stmt {
     },
 }
 
-/// Statements between braces, at the place of `{`. An `if` behind an `else` is a block that has this one statement, at its place.
+/// Statements between braces, at the place of `{`. An `if` behind an `else` is a block that has this one statement, at
+/// its place.
 #[derive(Drop)]
 #[cycle(block)]
 pub struct StmtBlock {

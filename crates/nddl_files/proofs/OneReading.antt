@@ -1,9 +1,11 @@
 -- Each text has one reading.
 use Rattle.std.proofs.Common.{◌≡◌, ℕ, ◌+◌, ℤ, pos, Some, Result, Ok, Err, List, [], ◌∷◌, length, refl, sym, ap, subst, ◌∙◌}
 use Rattle.nddl_ast.specs.declared.declaration.Decl.{Decl}
-use Rattle.nddl_includes.specs.declared.fault.TextFault.{TextFault}
-use Rattle.nddl_includes.specs.declared.fault.TextFault.TheVariants as text
-use Rattle.nddl_includes.specs.Laws.{HasOneReading}
+use Rattle.nddl_includes.specs.declared.fault.TextFail.{TextFail}
+use Rattle.nddl_includes.specs.declared.fault.TextFail.TheVariants as text
+use Rattle.std.specs.Prelude.{IfErr, IsSome}
+use Rattle.nddl_includes.specs.Faults.{fail_kind}
+use Rattle.nddl_includes.specs.Laws.{IsOne, HasOneReading}
 use Rattle.nddl_lexer.specs.declared.kinds.LexFault.{LexFault}
 use Rattle.nddl_lexer.specs.declared.kinds.LexFault.TheVariants as lexer
 use Rattle.nddl_lexer.specs.declared.kinds.LexKind.{LexKind}
@@ -16,8 +18,8 @@ use Rattle.nddl_lexer.proofs.Outcomes as lexed
 use Rattle.nddl_lexer.proofs.Laws.{lie_in_order}
 use Rattle.nddl_reading.specs.Symbols.{PlainSymbol}
 use Rattle.nddl_reading.specs.Readers.{Outcome, got, stuck, deep, next_place}
-use Rattle.nddl_parser.specs.declared.parse.ParseFault.{ParseFault}
-use Rattle.nddl_parser.specs.declared.parse.ParseFault.TheVariants as parser
+use Rattle.nddl_parser.specs.declared.parsing.ParseFault.{ParseFault}
+use Rattle.nddl_parser.specs.declared.parsing.ParseFault.TheVariants as parser
 use Rattle.nddl_parser.specs.Derives as parsing
 use Rattle.nddl_parser.specs.Derives.{Parses}
 use Rattle.nddl_parser.specs.Grammar.{most_nested}
@@ -29,31 +31,23 @@ use Rattle.nddl_files.specs.Language.{ParsesText, ReadsAs}
 
 -- ---- no two readings
 
--- the reading that a fault of the lexemes is, and that an outcome of the grammar is; want of memory is neither
-abbrev of_lexing : LexFault → Result (List Decl) TextFault
-of_lexing (lexer.BadByte at) = Err (text.BadByte at)
-of_lexing (lexer.OpenComment at) = Err (text.OpenComment at)
-of_lexing (lexer.OutOfRange at) = Err (text.OutOfRange at)
-of_lexing lexer.Memory = Ok []
+-- the reading that a fault of the lexemes is, and that an outcome of the grammar is
+abbrev of_lexing : LexFault → Result (List Decl) TextFail
+of_lexing fault = Err (text.Lex fault)
 
-abbrev of_parsing : Result (List Decl) ParseFault → Result (List Decl) TextFault
+abbrev of_parsing : Result (List Decl) ParseFault → Result (List Decl) TextFail
 of_parsing (Ok tree) = Ok tree
-of_parsing (Err (parser.Syntax at)) = Err (text.Syntax at)
-of_parsing (Err (parser.TooDeep at)) = Err (text.TooDeep at)
-of_parsing (Err parser.Memory) = Ok []
+of_parsing (Err fault) = Err (text.Parse fault)
 
 -- how a text comes to a reading
-data Comes (bytes : List ℕ) (reading : Result (List Decl) TextFault) : Type 0 where
+data Comes (bytes : List ℕ) (reading : Result (List Decl) TextFail) : Type 0 where
   by_lexing : (fault : LexFault) → IsFault bytes fault → reading ≡ of_lexing fault → Comes bytes reading
   by_parsing : (outcome : Result (List Decl) ParseFault) → ParsesText bytes outcome → reading ≡ of_parsing outcome → Comes bytes reading
 
-comes : (bytes : List ℕ) (reading : Result (List Decl) TextFault) → ReadsAs bytes reading → Comes bytes reading
+comes : (bytes : List ℕ) (reading : Result (List Decl) TextFail) → ReadsAs bytes reading → Comes bytes reading
 comes bytes (Ok tree) is = by_parsing (Ok tree) is refl
-comes bytes (Err (text.BadByte at)) is = by_lexing (lexer.BadByte at) is refl
-comes bytes (Err (text.OpenComment at)) is = by_lexing (lexer.OpenComment at) is refl
-comes bytes (Err (text.OutOfRange at)) is = by_lexing (lexer.OutOfRange at) is refl
-comes bytes (Err (text.Syntax at)) is = by_parsing (Err (parser.Syntax at)) is refl
-comes bytes (Err (text.TooDeep at)) is = by_parsing (Err (parser.TooDeep at)) is refl
+comes bytes (Err (text.Lex fault)) is = by_lexing fault is refl
+comes bytes (Err (text.Parse fault)) is = by_parsing (Err fault) is refl
 
 same_fault : (bytes : List ℕ) (one other : LexFault) → IsFault bytes one → IsFault bytes other → one ≡ other
 same_fault bytes one other p q =
@@ -74,13 +68,13 @@ same_outcome bytes one other p q =
     parsed.one_outcome bytes p.0 one other p.1 p.2
     (subst (λ (lexemes : List Lexeme). Parses bytes lexemes other) (lexed.one_reading bytes q.0 p.0 q.1 p.1) q.2)
 
-meet : (bytes : List ℕ) (one other : Result (List Decl) TextFault) → Comes bytes one → Comes bytes other → other ≡ one
+meet : (bytes : List ℕ) (one other : Result (List Decl) TextFail) → Comes bytes one → Comes bytes other → other ≡ one
 meet bytes one other (by_lexing fault p is) (by_lexing last q was) = was ∙ ap of_lexing (same_fault bytes last fault q p) ∙ sym is
 meet bytes one other (by_lexing fault p is) (by_parsing last q was) = absurd (never_both bytes fault q.0 p q.1)
 meet bytes one other (by_parsing outcome p is) (by_lexing last q was) = absurd (never_both bytes last p.0 q p.1)
 meet bytes one other (by_parsing outcome p is) (by_parsing last q was) = was ∙ ap of_parsing (same_outcome bytes last outcome q p) ∙ sym is
 
-pub read_once : (bytes : List ℕ) (one other : Result (List Decl) TextFault) → ReadsAs bytes one → ReadsAs bytes other → other ≡ one
+pub read_once : (bytes : List ℕ) (one other : Result (List Decl) TextFail) → ReadsAs bytes one → ReadsAs bytes other → other ≡ one
 read_once bytes one other p q = meet bytes one other (comes bytes one p) (comes bytes other q)
 
 -- ---- some reading
@@ -118,23 +112,32 @@ some_parse bytes lexemes lexes =
     let outcome = outcome_of (length bytes) symbols.0 (productions.text most_nested symbols.0) refl in
     (outcome.0, record { symbols = symbols.0; read = symbols.1; ends = outcome.1 })
 
-parse_reading : (bytes : List ℕ) (outcome : Result (List Decl) ParseFault) → ParsesText bytes outcome → (reading : Result (List Decl) TextFault) × ReadsAs bytes reading
-parse_reading bytes (Ok tree) is = (Ok tree, is)
-parse_reading bytes (Err (parser.Syntax at)) is = (Err (text.Syntax at), is)
-parse_reading bytes (Err (parser.TooDeep at)) is = (Err (text.TooDeep at), is)
-parse_reading bytes (Err parser.Memory) is = absurd is.2.ends
+-- want of memory is no outcome of a text
+told : (bytes : List ℕ) (fail : TextFail) → ReadsAs bytes (Err fail) → IsSome (fail_kind fail)
+told bytes (text.Lex (lexer.BadByte at)) is = refl
+told bytes (text.Lex (lexer.OpenComment at)) is = refl
+told bytes (text.Lex (lexer.OutOfRange at)) is = refl
+told bytes (text.Lex lexer.Memory) is = absurd is.cause
+told bytes (text.Parse (parser.Syntax at)) is = refl
+told bytes (text.Parse (parser.TooDeep at)) is = refl
+told bytes (text.Parse parser.Memory) is = absurd is.2.ends
 
-some_reading : (bytes : List ℕ) (outcome : Result (List Lexeme) LexFault) → lexing.IsOutcome bytes outcome → (reading : Result (List Decl) TextFault) × ReadsAs bytes reading
+told_reading : (bytes : List ℕ) (reading : Result (List Decl) TextFail) → ReadsAs bytes reading → IfErr reading (λ fail. IsSome (fail_kind fail))
+told_reading bytes (Ok tree) is = tt
+told_reading bytes (Err fail) is = told bytes fail is
+
+parse_reading : (bytes : List ℕ) (outcome : Result (List Decl) ParseFault) → ParsesText bytes outcome → (reading : Result (List Decl) TextFail) × ReadsAs bytes reading
+parse_reading bytes (Ok tree) is = (Ok tree, is)
+parse_reading bytes (Err fault) is = (Err (text.Parse fault), is)
+
+some_reading : (bytes : List ℕ) (outcome : Result (List Lexeme) LexFault) → lexing.IsOutcome bytes outcome → (reading : Result (List Decl) TextFail) × ReadsAs bytes reading
 some_reading bytes (Ok lexemes) is =
     let parse = some_parse bytes lexemes is in
     parse_reading bytes parse.0 (lexemes, is, parse.1)
-some_reading bytes (Err (lexer.BadByte at)) is = (Err (text.BadByte at), is)
-some_reading bytes (Err (lexer.OpenComment at)) is = (Err (text.OpenComment at), is)
-some_reading bytes (Err (lexer.OutOfRange at)) is = (Err (text.OutOfRange at), is)
-some_reading bytes (Err lexer.Memory) is = absurd is.cause
+some_reading bytes (Err fault) is = (Err (text.Lex fault), is)
 
 pub one_reading : HasOneReading ReadsAs
 one_reading bytes short =
     let outcome = lexed.one_outcome bytes in
     let some = some_reading bytes outcome.0 outcome.1 in
-    (some.0, some.1, λ other is. read_once bytes some.0 other some.1 is)
+    (some.0, record { is = some.1; only = λ other is. read_once bytes some.0 other some.1 is }, told_reading bytes some.0 some.1)

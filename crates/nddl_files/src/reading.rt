@@ -1,7 +1,7 @@
 //! A file of the language with those that it includes.
 
 ghost use Rattle.std.specs.Prelude.{◌≡◌};
-ghost use Rattle.nddl_includes.specs.Outcomes.{CountsReads, Says};
+ghost use Rattle.nddl_includes.specs.Outcomes.{CountsReads, TellsOutcome};
 ghost use Rattle.nddl_includes.specs.Visits.{ReadsAll};
 ghost use Rattle.nddl_files.specs.Language.{ReadsAs};
 
@@ -13,13 +13,14 @@ use nddl_includes::fault::ReadAllFault;
 use nddl_includes::reading;
 use std::alloc::Global;
 
-/// Reads the file of this name, and each that it includes, as trees: the first file first, and each include's own includes before the next one. Or gives the fault that is met first.
+/// Reads the file of this name, and each that it includes, as trees: the first file first, and each include's own
+/// includes before the next one. Or gives the fault that is met first.
 pub fn read_all<F: Shelf>(
     alloc: Global,
     shelf: &mut F,
     name: &str,
 ) -> Result<Sequence<FileDecls>, ReadAllFault>
-    ensures told { Says (ReadsAll ReadsAs (F.files shelf.old) name.now) result }
+    ensures told { TellsOutcome (ReadsAll ReadsAs (F.files shelf.old) name.now) result }
     ensures kept { F.files shelf.new ≡ F.files shelf.old }
     ensures counted { CountsReads result (F.faults shelf.old) (F.faults shelf.new) }
 {

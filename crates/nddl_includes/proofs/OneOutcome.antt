@@ -1,6 +1,6 @@
 -- Where each text is read in one way, each file is with those that it includes.
 use Rattle.std.proofs.Common.{◌≡◌, ℕ, zero, suc, ◌+◌, ◌<◌, ◌≤◌, Bool, true, false, List, [], ◌∷◌, length, refl, sym, ◌∙◌, ap, subst, inl, inr, arith}
-use Rattle.std.specs.Prelude.{◌⊎◌, Option, Some, None, Result, Ok, Err, MatchResult, MatchBool}
+use Rattle.std.specs.Prelude.{◌⊎◌, Option, Some, None, Result, Ok, Err, MatchResult, MatchBool, IfErr, IsSome}
 use Rattle.std.specs.Str.{is_utf8}
 use Rattle.std.proofs.lemmas.Bool.{cases_lt}
 use Rattle.std.proofs.lemmas.Str.{IsUtf8-from_is_utf8, is_utf8-from_IsUtf8}
@@ -12,12 +12,12 @@ use Rattle.nddl_includes.specs.declared.include.Ask.{Ask}
 use Rattle.nddl_includes.specs.declared.include.Include.{Include}
 use Rattle.nddl_includes.specs.declared.fault.Refusal.{Refusal}
 use Rattle.nddl_includes.specs.declared.fault.Refusal.TheVariants as refused
-use Rattle.nddl_includes.specs.declared.fault.TextFault.{TextFault}
+use Rattle.nddl_includes.specs.declared.fault.TextFail.{TextFail}
 use Rattle.nddl_includes.specs.declared.fault.ReadAllFault.{ReadAllFault}
 use Rattle.nddl_includes.specs.declared.fault.ReadAllFault.TheVariants as all
-use Rattle.nddl_includes.specs.Faults.{fault_at}
+use Rattle.nddl_includes.specs.Faults.{fail_kind, faulty, fault_at}
 use Rattle.nddl_includes.specs.Includes.{includes_of, is_skipped, ask_in}
-use Rattle.nddl_includes.specs.Laws.{HasOneReading, HasOneOutcome}
+use Rattle.nddl_includes.specs.Laws.{IsOne, HasOneReading, HasOneOutcome}
 use Rattle.nddl_includes.specs.Limits.{most_bytes, most_files, deepest}
 use Rattle.nddl_includes.specs.Outcomes.{Reading, Outcome}
 use Rattle.nddl_includes.specs.Visits.{Loads, Stops, Takes, Visit, Enters, Follows, VisitsBy, Visits, first_ask, with_file}
@@ -65,8 +65,8 @@ one_load files count levels name (Ok text) (Err refused.TooDeep) p q = let same 
 one_load files count levels name (Ok text) (Ok more) p q = ap Ok (same_text (file_named name files) text more p.0 q.0)
 
 module _ (reads : Reading) (has_one : HasOneReading reads) (files : List FileEntry) where
-  single : (text : List ℕ) → length text ≤ most_bytes → (one other : Result (List Decl) TextFault) → reads text one → reads text other → other ≡ one
-  single text short one other p q = (has_one text short).2 other q ∙ sym ((has_one text short).2 one p)
+  single : (text : List ℕ) → length text ≤ most_bytes → (one other : Result (List Decl) TextFail) → reads text one → reads text other → other ≡ one
+  single text short one other p q = (has_one text short).1.only other q ∙ sym ((has_one text short).1.only one p)
 
   one_stop : (count levels : ℕ) (ask : Ask) (one other : ReadAllFault) → Stops reads (Some files) count levels ask one → Stops reads (Some files) count levels ask other → other ≡ one
   one_stop count levels ask one other (inl p) (inl q) =
@@ -74,18 +74,18 @@ module _ (reads : Reading) (has_one : HasOneReading reads) (files : List FileEnt
       let refusal : q.0 ≡ p.0 = cc in
       q.2 ∙ (ap (λ r. fault_at r ask) refusal ∙ sym p.2)
   one_stop count levels ask one other (inl p) (inr q) =
-      let same = one_load files count levels ask.name (Err p.0) (Ok q.0) p.1 q.2 in
+      let same = one_load files count levels ask.name (Err p.0) (Ok q.0) p.1 q.1 in
       absurd (let no : ⊥ = cc in no)
   one_stop count levels ask one other (inr p) (inl q) =
-      let same = one_load files count levels ask.name (Ok p.0) (Err q.0) p.2 q.1 in
+      let same = one_load files count levels ask.name (Ok p.0) (Err q.0) p.1 q.1 in
       absurd (let no : ⊥ = cc in no)
   one_stop count levels ask one other (inr p) (inr q) =
-      let same = one_load files count levels ask.name (Ok p.0) (Ok q.0) p.2 q.2 in
+      let same = one_load files count levels ask.name (Ok p.0) (Ok q.0) p.1 q.1 in
       let text : q.0 ≡ p.0 = cc in
-      let P : List ℕ → Type 0 = λ t. reads t (Err q.1) in
-      let read = single p.0 p.2.1 (Err p.1) (Err q.1) p.3 (subst P text q.3) in
-      let wrong : q.1 ≡ p.1 = cc in
-      q.4 ∙ (ap (λ w. all.Faulty ask.name w) wrong ∙ sym p.4)
+      let P : List ℕ → Type 0 = λ t. reads t (Err q.2.0) in
+      let read = single p.0 p.1.1 (Err p.2.0) (Err q.2.0) p.2.1 (subst P text q.2.1) in
+      let wrong : q.2.0 ≡ p.2.0 = cc in
+      q.2.3 ∙ (ap (λ w. faulty ask.name w) wrong ∙ sym p.2.3)
 
   one_take : (count levels : ℕ) (ask : Ask) (one other : List Decl) → Takes reads (Some files) count levels ask one → Takes reads (Some files) count levels ask other → other ≡ one
   one_take count levels ask one other p q =
@@ -100,10 +100,10 @@ module _ (reads : Reading) (has_one : HasOneReading reads) (files : List FileEnt
       let same = one_load files count levels ask.name (Err p.0) (Ok q.0) p.1 q.1 in
       cc
   stop_or_take count levels ask fault decls (inr p) q =
-      let same = one_load files count levels ask.name (Ok p.0) (Ok q.0) p.2 q.1 in
+      let same = one_load files count levels ask.name (Ok p.0) (Ok q.0) p.1 q.1 in
       let text : q.0 ≡ p.0 = cc in
       let P : List ℕ → Type 0 = λ t. reads t (Ok decls) in
-      let read = single p.0 p.2.1 (Err p.1) (Ok decls) p.3 (subst P text q.2) in
+      let read = single p.0 p.1.1 (Err p.2.0) (Ok decls) p.2.1 (subst P text q.2) in
       cc
 
   one_enter : (visit : Visit) → IsSingle visit → IsSingle (Enters visit)
@@ -194,19 +194,19 @@ module _ (reads : Reading) (has_one : HasOneReading reads) (files : List FileEnt
 
   some_read : (inner : Visit) → ((ask : Ask) (read : List FileDecls) → (outcome : Outcome) × inner ask read outcome)
       → (levels : ℕ) (ask : Ask) (read : List FileDecls) (text : List ℕ) → Loads (Some files) (length read) levels ask.name (Ok text)
-      → (result : Result (List Decl) TextFault) → reads text result
+      → (result : Result (List Decl) TextFail) → reads text result → IfErr result (λ fail. IsSome (fail_kind fail))
       → (outcome : Outcome) × VisitsBy inner reads (Some files) levels ask read outcome
-  some_read inner has levels ask read text loaded (Ok decls) is =
+  some_read inner has levels ask read text loaded (Ok decls) is told =
       let followed = some_following inner has ask.name (includes_of decls) (with_file read ask decls) in
       (followed.0, inr (decls, (text, loaded, is), followed.1))
-  some_read inner has levels ask read text loaded (Err wrong) is =
-      (Err (all.Faulty ask.name wrong), inl (all.Faulty ask.name wrong, inr (text, wrong, loaded, is, refl), refl))
+  some_read inner has levels ask read text loaded (Err wrong) is told =
+      (Err (faulty ask.name wrong), inl (faulty ask.name wrong, inr (text, loaded, (wrong, is, told, refl)), refl))
 
   some_by : (inner : Visit) → ((ask : Ask) (read : List FileDecls) → (outcome : Outcome) × inner ask read outcome)
       → (levels : ℕ) (ask : Ask) (read : List FileDecls) (loaded : Result (List ℕ) Refusal) → Loads (Some files) (length read) levels ask.name loaded
       → (outcome : Outcome) × VisitsBy inner reads (Some files) levels ask read outcome
   some_by inner has levels ask read (Ok text) loads =
-      let one = has_one text loads.1 in some_read inner has levels ask read text loads one.0 one.1
+      let one = has_one text loads.1 in some_read inner has levels ask read text loads one.0 one.1.is one.2
   some_by inner has levels ask read (Err refusal) loads =
       (Err (fault_at refusal ask), inl (fault_at refusal ask, inl (refusal, loads, refl), refl))
 
@@ -228,4 +228,4 @@ module _ (reads : Reading) (has_one : HasOneReading reads) (files : List FileEnt
 pub one_outcome : (reads : Reading) → HasOneOutcome reads
 one_outcome reads = λ has_one files name.
     let some = some_visit reads has_one files (deepest + 1) (first_ask name) [] in
-    (some.0, some.1, λ other q. one_visit reads has_one files (deepest + 1) (first_ask name) [] some.0 other some.1 q)
+    (some.0, record { is = some.1; only = λ other q. one_visit reads has_one files (deepest + 1) (first_ask name) [] some.0 other some.1 q })

@@ -9,18 +9,19 @@ use Rattle.nddl_includes.specs.declared.include.Include.{Include}
 use Rattle.nddl_includes.specs.declared.fault.ReadAllFault.{ReadAllFault}
 use Rattle.nddl_includes.specs.declared.fault.ReadAllFault.TheVariants as all
 use Rattle.nddl_includes.specs.Includes.{includes_of, is_skipped, ask_in, NamesText}
-use Rattle.nddl_includes.specs.Outcomes.{Reading, Outcome, Says}
-use Rattle.nddl_includes.specs.Taking.{TakesFile}
-use Rattle.nddl_includes.specs.Visits.{Stops, Visit, Enters, Follows, Visits}
+use Rattle.nddl_includes.specs.Outcomes.{Reading, Outcome, TellsOutcome}
+use Rattle.nddl_includes.specs.Taking.{HasDecls, TakesFile}
+use Rattle.nddl_includes.specs.Visits.{Stops, Visit, Enters, Passes, Follows, Visits}
 
 -- what follows from what an answer says is said by the answer
-pub says_more : (P Q : Outcome → Type 0) (outcome : Outcome) → (P outcome → Q outcome) → Says P outcome → Says Q outcome
+pub says_more : (P Q : Outcome → Type 0) (outcome : Outcome) → (P outcome → Q outcome) → TellsOutcome P outcome → TellsOutcome Q outcome
 says_more P Q (Ok files) more said = more said
 says_more P Q (Err (all.Absent file at)) more said = more said
 says_more P Q (Err (all.TooLong file at)) more said = more said
 says_more P Q (Err (all.TooManyFiles file at)) more said = more said
 says_more P Q (Err (all.TooDeep file at)) more said = more said
-says_more P Q (Err (all.Faulty file wrong)) more said = more said
+says_more P Q (Err (all.Lex file wrong)) more said = more said
+says_more P Q (Err (all.Parse file wrong)) more said = more said
 says_more P Q (Err all.ReadFault) more said = tt
 says_more P Q (Err all.Memory) more said = tt
 
@@ -47,45 +48,67 @@ stops_visit reads files zero ask before fault stops = inl (fault, stops, refl)
 stops_visit reads files (suc levels) ask before fault stops = inl (fault, stops, refl)
 
 pub taken_fault : (reads : Reading) (files : Option (List FileEntry)) (levels : ℕ) (ask : Ask) (before new : List FileDecls) (fault : ReadAllFault)
-    → TakesFile reads files levels ask before new (Err fault) → Says (Visits reads files levels ask before) (Err fault)
+    → TakesFile reads files levels ask before new (Err fault) → TellsOutcome (Visits reads files levels ask before) (Err fault)
 taken_fault reads files levels ask before new (all.Absent file at) stops = stops_visit reads files levels ask before (all.Absent file at) stops
 taken_fault reads files levels ask before new (all.TooLong file at) stops = stops_visit reads files levels ask before (all.TooLong file at) stops
 taken_fault reads files levels ask before new (all.TooManyFiles file at) stops = stops_visit reads files levels ask before (all.TooManyFiles file at) stops
 taken_fault reads files levels ask before new (all.TooDeep file at) stops = stops_visit reads files levels ask before (all.TooDeep file at) stops
-taken_fault reads files levels ask before new (all.Faulty file wrong) stops = stops_visit reads files levels ask before (all.Faulty file wrong) stops
+taken_fault reads files levels ask before new (all.Lex file wrong) stops = stops_visit reads files levels ask before (all.Lex file wrong) stops
+taken_fault reads files levels ask before new (all.Parse file wrong) stops = stops_visit reads files levels ask before (all.Parse file wrong) stops
 taken_fault reads files levels ask before new all.ReadFault stops = tt
 taken_fault reads files levels ask before new all.Memory stops = tt
 
+-- what the file's declarations weren't read for, it isn't taken for
+pub declared_fault : (reads : Reading) (files : Option (List FileEntry)) (levels : ℕ) (ask : Ask) (old new : List FileDecls) (fault : ReadAllFault)
+    → HasDecls reads files (length old) levels ask (Err fault) → TakesFile reads files levels ask old new (Err fault)
+declared_fault reads files levels ask old new (all.Absent file at) stops = stops
+declared_fault reads files levels ask old new (all.TooLong file at) stops = stops
+declared_fault reads files levels ask old new (all.TooManyFiles file at) stops = stops
+declared_fault reads files levels ask old new (all.TooDeep file at) stops = stops
+declared_fault reads files levels ask old new (all.Lex file wrong) stops = stops
+declared_fault reads files levels ask old new (all.Parse file wrong) stops = stops
+declared_fault reads files levels ask old new all.ReadFault stops = tt
+declared_fault reads files levels ask old new all.Memory stops = tt
+
 -- an include that is passed over
-pub skips : (visit : Visit) (file : List ℕ) (include : Include) (includes : List Include) (read : List FileDecls) (outcome : Outcome)
-    → is_skipped include.name read ≡ true → Follows visit file includes read outcome → Follows visit file (include ∷ includes) read outcome
-skips visit file include includes read outcome skipped follows =
-    let P : Bool → Type 0 = λ b. MatchBool b (Follows visit file includes read outcome) ((met : Outcome) × Enters visit (ask_in file include) read met
-    × MatchResult met (λ between. Follows visit file includes between outcome) (λ fault. outcome ≡ Err fault)) in
-    subst P (sym skipped) follows
+pub passes_over : (visit : Visit) (file : List ℕ) (include : Include) (read : List FileDecls) → is_skipped include.name read ≡ true → Passes visit file include read (Ok read)
+passes_over visit file include read skipped =
+    let met : Outcome = Ok read in
+    let same : met ≡ met = refl in
+    let P : Bool → Type 0 = λ b. MatchBool b (met ≡ met) (Enters visit (ask_in file include) read met) in
+    subst P (sym skipped) same
 
 -- an include that is followed
-pub enters : (visit : Visit) (file : List ℕ) (include : Include) (includes : List Include) (read : List FileDecls) (outcome met : Outcome)
-    → is_skipped include.name read ≡ false → Enters visit (ask_in file include) read met
-    → MatchResult met (λ between. Follows visit file includes between outcome) (λ fault. outcome ≡ Err fault)
-    → Follows visit file (include ∷ includes) read outcome
-enters visit file include includes read outcome met followed inner ends =
-    let P : Bool → Type 0 = λ b. MatchBool b (Follows visit file includes read outcome) ((met : Outcome) × Enters visit (ask_in file include) read met
-    × MatchResult met (λ between. Follows visit file includes between outcome) (λ fault. outcome ≡ Err fault)) in
-    subst P (sym followed) (met, inner, ends)
+pub passes_in : (visit : Visit) (file : List ℕ) (include : Include) (read : List FileDecls) (met : Outcome)
+    → is_skipped include.name read ≡ false → Enters visit (ask_in file include) read met → Passes visit file include read met
+passes_in visit file include read met followed inner =
+    let P : Bool → Type 0 = λ b. MatchBool b (met ≡ Ok read) (Enters visit (ask_in file include) read met) in
+    subst P (sym followed) inner
 
 -- an include whose name isn't text
-pub unnamed : (visit : Visit) (file : List ℕ) (include : Include) (includes : List Include) (read : List FileDecls) (fault : ReadAllFault)
-    → is_skipped include.name read ≡ false → NamesText file include (Err fault) → Says (Follows visit file (include ∷ includes) read) (Err fault)
-unnamed visit file include includes read (all.Absent at_file at) followed names =
+pub unnamed : (visit : Visit) (file : List ℕ) (include : Include) (read : List FileDecls) (fault : ReadAllFault)
+    → is_skipped include.name read ≡ false → NamesText file include (Err fault) → TellsOutcome (Passes visit file include read) (Err fault)
+unnamed visit file include read (all.Absent at_file at) followed names =
     let same : all.Absent at_file at ≡ all.Absent file include.at = λ i. all.Absent (names.0 i) (names.1 i) in
-    enters visit file include includes read (Err (all.Absent at_file at)) (Err (all.Absent file include.at)) followed (inr (names.2, refl)) (ap Err same)
-unnamed visit file include includes read (all.TooLong at_file at) followed names = absurd names
-unnamed visit file include includes read (all.TooManyFiles at_file at) followed names = absurd names
-unnamed visit file include includes read (all.TooDeep at_file at) followed names = absurd names
-unnamed visit file include includes read (all.Faulty at_file wrong) followed names = absurd names
-unnamed visit file include includes read all.ReadFault followed names = absurd names
-unnamed visit file include includes read all.Memory followed names = tt
+    passes_in visit file include read (Err (all.Absent at_file at)) followed (inr (names.2, ap Err same))
+unnamed visit file include read (all.TooLong at_file at) followed names = absurd names
+unnamed visit file include read (all.TooManyFiles at_file at) followed names = absurd names
+unnamed visit file include read (all.TooDeep at_file at) followed names = absurd names
+unnamed visit file include read (all.Lex at_file wrong) followed names = absurd names
+unnamed visit file include read (all.Parse at_file wrong) followed names = absurd names
+unnamed visit file include read all.ReadFault followed names = absurd names
+unnamed visit file include read all.Memory followed names = tt
+
+-- what comes of one include, and then of the others
+pub passed : (visit : Visit) (file : List ℕ) (include : Include) (includes : List Include) (read : List FileDecls) (outcome met : Outcome)
+    → Passes visit file include read met → MatchResult met (λ between. Follows visit file includes between outcome) (λ fault. outcome ≡ Err fault)
+    → Follows visit file (include ∷ includes) read outcome
+passed visit file include includes read outcome met pass ends = chosen (is_skipped include.name read) pass where
+  chosen : (skipped : Bool) → MatchBool skipped (met ≡ Ok read) (Enters visit (ask_in file include) read met)
+      → MatchBool skipped (Follows visit file includes read outcome) ((other : Outcome) × Enters visit (ask_in file include) read other
+      × MatchResult other (λ between. Follows visit file includes between outcome) (λ fault. outcome ≡ Err fault))
+  chosen true same = subst (λ (m : Outcome). MatchResult m (λ between. Follows visit file includes between outcome) (λ fault. outcome ≡ Err fault)) same ends
+  chosen false inner = (met, inner, ends)
 
 -- the file that the include asks for was visited
 pub visited : (visit : Visit) (file : List ℕ) (include : Include) (ask : Ask) (read : List FileDecls) (met : Outcome)

@@ -1,23 +1,30 @@
 -- Laws of files with their includes.
-use Rattle.std.specs.Prelude.{◌≡◌, ◌≢◌, ℕ, ◌≤◌, true, List, ◌∷◌, length, All, AllPairs, Option, Some, Result, Ok}
+use Rattle.std.specs.Prelude.{◌≡◌, ◌≢◌, ℕ, ◌≤◌, true, List, ◌∷◌, length, All, AllPairs, Option, Some, Result, Ok, IfErr, IsSome}
 use Rattle.eu_io.specs.declared.shelf.FileEntry.{FileEntry}
 use Rattle.nddl_ast.specs.declared.declaration.Decl.{Decl}
-use Rattle.nddl_includes.specs.declared.fault.TextFault.{TextFault}
+use Rattle.nddl_includes.specs.declared.fault.TextFail.{TextFail}
+use Rattle.nddl_includes.specs.Faults.{fail_kind}
 use Rattle.nddl_ast.specs.declared.declaration.FileDecls.{FileDecls}
 use Rattle.nddl_includes.specs.Includes.{includes_of, is_skipped}
 use Rattle.nddl_includes.specs.Limits.{most_bytes, most_files}
 use Rattle.nddl_includes.specs.Outcomes.{Reading, Outcome}
 use Rattle.nddl_includes.specs.Visits.{ReadsAll}
 
--- each text that isn't too long is read in one way
+-- this is the one outcome that there is
+pub record IsOne {X : Type 0} (Is : X → Type 0) (outcome : X) : Type 0 where
+  pub is : Is outcome
+  pub only : (other : X) → Is other → other ≡ outcome
+
+-- each text that isn't too long is read in one way, and not as want of memory
 abbrev pub HasOneReading : Reading → Type 0
-HasOneReading reads = (text : List ℕ) → length text ≤ most_bytes → (outcome : Result (List Decl) TextFault) × reads text outcome
-    × ((other : Result (List Decl) TextFault) → reads text other → other ≡ outcome)
+HasOneReading reads = (text : List ℕ) → length text ≤ most_bytes
+    → (outcome : Result (List Decl) TextFail) × IsOne (reads text) outcome
+    × IfErr outcome (λ fail. IsSome (fail_kind fail))
 
 -- then, where the shelf tells its files, each file is read in one way with those that it includes
 abbrev pub HasOneOutcome : Reading → Type 0
-HasOneOutcome reads = HasOneReading reads → (files : List FileEntry) (name : List ℕ) → (outcome : Outcome) × ReadsAll reads (Some files) name outcome
-    × ((other : Outcome) → ReadsAll reads (Some files) name other → other ≡ outcome)
+HasOneOutcome reads = HasOneReading reads
+    → (files : List FileEntry) (name : List ℕ) → (outcome : Outcome) × IsOne (ReadsAll reads (Some files) name) outcome
 
 -- What files that were read are like: the first has this name, no two have one name, there are no more than may be,
 -- and each include in them names one of them, or what is built in.
@@ -29,4 +36,5 @@ pub record AreRead (name : List ℕ) (files : List FileDecls) : Type 0 where
 
 -- what a file is read as with those that it includes are such files
 abbrev pub ReadsFiles : Reading → Type 0
-ReadsFiles reads = (shelf : Option (List FileEntry)) (name : List ℕ) (files : List FileDecls) → ReadsAll reads shelf name (Ok files) → AreRead name files
+ReadsFiles reads = (shelf : Option (List FileEntry)) (name : List ℕ) (files : List FileDecls)
+    → ReadsAll reads shelf name (Ok files) → AreRead name files

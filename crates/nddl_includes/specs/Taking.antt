@@ -15,7 +15,7 @@ use Rattle.nddl_includes.specs.declared.fault.ReadAllFault.{ReadAllFault}
 use Rattle.nddl_includes.specs.declared.fault.ReadAllFault.TheVariants as all
 use Rattle.nddl_includes.specs.Includes.{includes_of}
 use Rattle.nddl_includes.specs.Outcomes.{Reading}
-use Rattle.nddl_includes.specs.Visits.{Loads, Stops, Takes, with_file}
+use Rattle.nddl_includes.specs.Visits.{Faults, Loads, Stops, Takes, with_file}
 
 -- what the answer of a shelf says of a file
 abbrev pub fail_of : ShelfFail → FetchFail
@@ -37,15 +37,23 @@ Fetches files count levels name (Err fetch.ReadFault) = ⊤
 Fetches files count levels name (Err fetch.Memory) = ⊤
 
 -- the declarations of the text of this file, or the fault in it
-abbrev pub Parses : Reading → List ℕ → List ℕ → Result (List Decl) ReadAllFault → Type 0
-Parses reads name text (Ok decls) = reads text (Ok decls)
-Parses reads name text (Err (all.Faulty file wrong)) = (file ≡ name) × reads text (Err wrong)
-Parses reads name text (Err all.Memory) = ⊤
-Parses reads name text (Err fault) = ⊥
+abbrev pub ParsesFile : Reading → List ℕ → List ℕ → Result (List Decl) ReadAllFault → Type 0
+ParsesFile reads name text (Ok decls) = reads text (Ok decls)
+ParsesFile reads name text (Err all.Memory) = ⊤
+ParsesFile reads name text (Err fault) = Faults reads name text fault
+
+-- the file that is asked for has these declarations, or why none are read
+abbrev pub HasDecls : Reading → Option (List FileEntry) → ℕ → ℕ → Ask → Result (List Decl) ReadAllFault → Type 0
+HasDecls reads files count levels ask (Ok decls) = Takes reads files count levels ask decls
+HasDecls reads files count levels ask (Err all.ReadFault) = ⊤
+HasDecls reads files count levels ask (Err all.Memory) = ⊤
+HasDecls reads files count levels ask (Err fault) = Stops reads files count levels ask fault
 
 -- the file was read, and these are its includes, or why not
-abbrev pub TakesFile : Reading → Option (List FileEntry) → ℕ → Ask → List FileDecls → List FileDecls → Result (List Include) ReadAllFault → Type 0
-TakesFile reads files levels ask old new (Ok includes) = (decls : List Decl) × Takes reads files (length old) levels ask decls
+abbrev pub TakesFile : Reading → Option (List FileEntry) → ℕ → Ask → List FileDecls → List FileDecls
+    → Result (List Include) ReadAllFault → Type 0
+TakesFile reads files levels ask old new (Ok includes) =
+    (decls : List Decl) × Takes reads files (length old) levels ask decls
     × (includes ≡ includes_of decls) × (new ≡ with_file old ask decls)
 TakesFile reads files levels ask old new (Err all.ReadFault) = ⊤
 TakesFile reads files levels ask old new (Err all.Memory) = ⊤

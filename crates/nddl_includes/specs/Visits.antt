@@ -1,5 +1,5 @@
 -- What a file is read as with those that it includes.
-use Rattle.std.specs.Prelude.{◌≡◌, ℕ, ◌+◌, ◌<◌, ◌≤◌, zero, suc, List, [], ◌∷◌, ◌++◌, ◌⊎◌, length, Option, Some, None, Result, Ok, Err, MatchResult, MatchBool, IsUtf8}
+use Rattle.std.specs.Prelude.{◌≡◌, ℕ, ◌+◌, ◌<◌, ◌≤◌, zero, suc, List, [], ◌∷◌, ◌++◌, ◌⊎◌, length, Option, Some, None, Result, Ok, Err, MatchResult, MatchBool, IsSome, IsUtf8}
 use Rattle.eu_io.specs.Files.{HasContent}
 use Rattle.eu_io.specs.declared.shelf.FileEntry.{FileEntry}
 use Rattle.nddl_ast.specs.declared.declaration.Decl.{Decl}
@@ -8,15 +8,16 @@ use Rattle.nddl_includes.specs.declared.include.Ask.{Ask}
 use Rattle.nddl_includes.specs.declared.include.Include.{Include}
 use Rattle.nddl_includes.specs.declared.fault.Refusal.{Refusal}
 use Rattle.nddl_includes.specs.declared.fault.Refusal.TheVariants as refused
-use Rattle.nddl_includes.specs.declared.fault.TextFault.{TextFault}
+use Rattle.nddl_includes.specs.declared.fault.TextFail.{TextFail}
 use Rattle.nddl_includes.specs.declared.fault.ReadAllFault.{ReadAllFault}
 use Rattle.nddl_includes.specs.declared.fault.ReadAllFault.TheVariants as all
-use Rattle.nddl_includes.specs.Faults.{fault_at}
+use Rattle.nddl_includes.specs.Faults.{fail_kind, faulty, fault_at}
 use Rattle.nddl_includes.specs.Includes.{includes_of, is_skipped, ask_in}
 use Rattle.nddl_includes.specs.Limits.{most_bytes, most_files, deepest}
 use Rattle.nddl_includes.specs.Outcomes.{Reading, Outcome}
 
--- The text of a file, or the first cause for which it isn't read: there is no such file, it is too long, as many were read
+-- The text of a file, or the first cause for which it isn't read: there is no such file, it is too long, as many were
+-- read
 -- before as there may be, or no level of includes is left for it.
 abbrev pub Loads : Option (List FileEntry) → ℕ → ℕ → List ℕ → Result (List ℕ) Refusal → Type 0
 Loads files count levels name (Err refused.Absent) = HasContent files name None
@@ -29,12 +30,16 @@ Loads files count levels name (Err refused.TooDeep) =
 Loads files count levels name (Ok text) =
     HasContent files name (Some text) × (length text ≤ most_bytes) × (count < most_files) × (0 < levels)
 
+-- the text of this file has this fault first, which isn't want of memory
+abbrev pub Faults : Reading → List ℕ → List ℕ → ReadAllFault → Type 0
+Faults reads name text fault =
+    (wrong : TextFail) × reads text (Err wrong) × IsSome (fail_kind wrong) × (fault ≡ faulty name wrong)
+
 -- the file isn't read, or there is this fault in its text
 abbrev pub Stops : Reading → Option (List FileEntry) → ℕ → ℕ → Ask → ReadAllFault → Type 0
 Stops reads files count levels ask fault =
     ((refusal : Refusal) × Loads files count levels ask.name (Err refusal) × (fault ≡ fault_at refusal ask))
-    ⊎ ((text : List ℕ) × (wrong : TextFault) × Loads files count levels ask.name (Ok text) × reads text (Err wrong)
-    × (fault ≡ all.Faulty ask.name wrong))
+    ⊎ ((text : List ℕ) × Loads files count levels ask.name (Ok text) × Faults reads ask.name text fault)
 
 -- the file is read, and its text has these declarations
 abbrev pub Takes : Reading → Option (List FileEntry) → ℕ → ℕ → Ask → List Decl → Type 0
@@ -49,6 +54,11 @@ Visit = Ask → List FileDecls → Outcome → Type 0
 abbrev pub Enters : Visit → Visit
 Enters visit ask read outcome =
     (IsUtf8 ask.name × visit ask read outcome) ⊎ (¬ (IsUtf8 ask.name) × (outcome ≡ Err (all.Absent ask.file ask.at)))
+
+-- what comes of one include of this file: it is passed over, or the file that it asks for is visited
+abbrev pub Passes : Visit → List ℕ → Include → List FileDecls → Outcome → Type 0
+Passes visit file include read outcome =
+    MatchBool (is_skipped include.name read) (outcome ≡ Ok read) (Enters visit (ask_in file include) read outcome)
 
 -- the includes of this file are visited one after another, but for those that are passed over; the first fault ends it
 abbrev pub Follows : Visit → List ℕ → List Include → List FileDecls → Outcome → Type 0
@@ -72,7 +82,8 @@ VisitsBy inner reads files levels ask read outcome =
 -- a file is visited with its includes, in as many levels
 unfoldable pub Visits : Reading → Option (List FileEntry) → ℕ → Visit
 Visits reads files zero ask read outcome = VisitsBy (λ _ _ _. ⊥) reads files zero ask read outcome
-Visits reads files (suc levels) ask read outcome = VisitsBy (Visits reads files levels) reads files (suc levels) ask read outcome
+Visits reads files (suc levels) ask read outcome =
+    VisitsBy (Visits reads files levels) reads files (suc levels) ask read outcome
 
 -- the file of this name is asked for at 0 of itself
 abbrev pub first_ask : List ℕ → Ask

@@ -1,34 +1,21 @@
 //! Why a file and what it includes wasn't read.
 
-ghost use Rattle.std.specs.Prelude.{◌≡◌, IfOk};
-ghost use Rattle.nddl_includes.specs.Faults.{fault_at};
+ghost use Rattle.std.specs.Prelude.{◌≡◌, None, Some, IfOk, MatchOption};
+ghost use Rattle.nddl_includes.specs.Faults.{fail_kind, fail_place, fail_in, fault_at, fault_kind, fault_file, fault_place};
 ghost use Rattle.nddl_includes.specs.declared.fault.ReadAllFault.TheVariants as all;
-ghost use Rattle.nddl_includes.specs.declared.fault.TextFail.TheVariants as text;
 
 use super::include::Ask;
 use eu_name::text::Text;
+use nddl_ast::kind::TextKind;
+use nddl_lexer::kinds::LexFault;
+use nddl_parser::parsing::ParseFault;
 use std::alloc::AllocError;
 
-/// What is wrong in a text first, and at which byte.
-#[derive(Clone, Copy, Debug, PartialEq, Eq)]
-pub enum TextFault {
-    /// No lexeme, blank or comment begins at this byte.
-    BadByte(u32),
-    /// The comment that is opened here is never closed.
-    OpenComment(u32),
-    /// The number here is out of range.
-    OutOfRange(u32),
-    /// No declarations go on in this way.
-    Syntax(u32),
-    /// The block here is nested too deep.
-    TooDeep(u32),
-}
-
-/// Why one text wasn't read.
+/// Why one text wasn't read: what is wrong in its lexemes, or where these are right in its grammar.
 #[derive(Clone, Copy, Debug, PartialEq, Eq)]
 pub enum TextFail {
-    Fault(TextFault),
-    Memory,
+    Lex(LexFault),
+    Parse(ParseFault),
 }
 
 /// Why a file isn't read, whatever is in it.
@@ -44,7 +31,8 @@ pub enum Refusal {
     TooDeep,
 }
 
-/// Why a file and what it includes wasn't read. The first four stand at an include, in the file that has it, or at 0 of the file that was asked for first.
+/// Why a file and what it includes wasn't read. The first four stand at an include, in the file that has it, or at 0 of
+/// the file that was asked for first.
 #[derive(Drop)]
 pub enum ReadAllFault {
     /// There is no such file, or its name isn't UTF-8.
@@ -55,18 +43,48 @@ pub enum ReadAllFault {
     TooManyFiles { file: Text, at: u32 },
     /// The include is 9 deep.
     TooDeep { file: Text, at: u32 },
-    /// The text of this file is faulty.
-    Faulty { file: Text, fault: TextFault },
+    /// The lexemes of this file are faulty. The fault is never Memory.
+    Lex { file: Text, fault: LexFault },
+    /// The lexemes of this file make no tree. The fault is never Memory.
+    Parse { file: Text, fault: ParseFault },
     /// A call of the shelf failed.
     ReadFault,
     Memory,
 }
 
-impl From<AllocError> for TextFail {
-    ghost from_gives = { λ _ fail. fail ≡ text.Memory };
+impl TextFail {
+    /// What kind of fault it is; none where there is no memory.
+    pub fn kind(self) -> Option<TextKind>
+        ensures { result ≡ fail_kind self }
+    {
+        match self {
+            TextFail::Lex(fault) => fault.kind(),
+            TextFail::Parse(fault) => fault.kind(),
+        }
+    }
 
-    fn from(_error: AllocError) -> TextFail {
-        TextFail::Memory
+    /// The byte at which it is; none where there is no memory.
+    pub fn at(self) -> Option<u32>
+        ensures { result ≡ fail_place self }
+    {
+        match self {
+            TextFail::Lex(fault) => fault.at(),
+            TextFail::Parse(fault) => fault.at(),
+        }
+    }
+
+    /// The fault of the file whose text it is.
+    pub fn located(self, file: &Text) -> Result<ReadAllFault, AllocError>
+        ensures { IfOk result (λ fault. fault ≡ fail_in self file.now) }
+    {
+        if self.kind().is_none() {
+            return Ok(ReadAllFault::Memory);
+        }
+        let file = file.copy()?;
+        Ok(match self {
+            TextFail::Lex(fault) => ReadAllFault::Lex { file, fault },
+            TextFail::Parse(fault) => ReadAllFault::Parse { file, fault },
+        })
     }
 }
 
@@ -91,5 +109,52 @@ impl Refusal {
             Refusal::TooManyFiles => ReadAllFault::TooManyFiles { file, at },
             Refusal::TooDeep => ReadAllFault::TooDeep { file, at },
         })
+    }
+}
+
+impl ReadAllFault {
+    /// What kind of fault it is; none where a call of the shelf failed, or there is no memory.
+    pub fn kind(&self) -> Option<TextKind>
+        ensures { result ≡ fault_kind self.now }
+    {
+        match self {
+            ReadAllFault::Absent { .. } => Some(TextKind::Absent),
+            ReadAllFault::TooLong { .. } => Some(TextKind::LimitBytes),
+            ReadAllFault::TooManyFiles { .. } => Some(TextKind::LimitFiles),
+            ReadAllFault::TooDeep { .. } => Some(TextKind::LimitDepth),
+            ReadAllFault::Lex { fault, .. } => fault.kind(),
+            ReadAllFault::Parse { fault, .. } => fault.kind(),
+            ReadAllFault::ReadFault | ReadAllFault::Memory => None,
+        }
+    }
+
+    /// The byte at which it is, of its file.
+    pub fn at(&self) -> Option<u32>
+        ensures { result ≡ fault_place self.now }
+    {
+        match self {
+            ReadAllFault::Absent { at, .. }
+            | ReadAllFault::TooLong { at, .. }
+            | ReadAllFault::TooManyFiles { at, .. }
+            | ReadAllFault::TooDeep { at, .. } => Some(*at),
+            ReadAllFault::Lex { fault, .. } => fault.at(),
+            ReadAllFault::Parse { fault, .. } => fault.at(),
+            ReadAllFault::ReadFault | ReadAllFault::Memory => None,
+        }
+    }
+
+    /// The file in which it is.
+    pub fn file(&self) -> Option<&Text>
+        ensures { MatchOption result (fault_file self.now ≡ None) (λ file. fault_file self.now ≡ Some file.now) }
+    {
+        match self {
+            ReadAllFault::Absent { file, .. }
+            | ReadAllFault::TooLong { file, .. }
+            | ReadAllFault::TooManyFiles { file, .. }
+            | ReadAllFault::TooDeep { file, .. }
+            | ReadAllFault::Lex { file, .. }
+            | ReadAllFault::Parse { file, .. } => Some(file),
+            ReadAllFault::ReadFault | ReadAllFault::Memory => None,
+        }
     }
 }

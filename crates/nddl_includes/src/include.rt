@@ -9,7 +9,8 @@ use eu_name::text::Text;
 use nddl_ast::declaration::Decl;
 use std::alloc::{AllocError, Global};
 
-/// A file that is asked for, and where: at this byte of this file, which includes it. The file that is asked for first is asked for at 0 of itself.
+/// A file that is asked for, and where: at this byte of this file, which includes it. The file that is asked for first
+/// is asked for at 0 of itself.
 #[derive(Drop)]
 pub struct Ask {
     pub name: Text,

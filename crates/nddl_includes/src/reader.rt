@@ -9,12 +9,12 @@ use std::alloc::Global;
 pub trait TextReader {
     ghost use Rattle.std.specs.Prelude.{ℕ, ◌≤◌, List, Result, length};
     ghost use Rattle.nddl_ast.specs.declared.declaration.Decl.{Decl};
-    ghost use Rattle.nddl_includes.specs.declared.fault.TextFault.{TextFault};
+    ghost use Rattle.nddl_includes.specs.declared.fault.TextFail.{TextFail};
     ghost use Rattle.nddl_includes.specs.Limits.{most_bytes};
     ghost use Rattle.nddl_includes.specs.Outcomes.{ReadsText};
 
     /// The text has these declarations, or this is the first thing that is wrong in it.
-    ghost reads: { Self → List ℕ → Result (List Decl) TextFault → Type 0 };
+    ghost reads: { Self → List ℕ → Result (List Decl) TextFail → Type 0 };
 
     /// Reads a text to its end.
     fn read(&self, alloc: Global, text: &[u8]) -> Result<Sequence<Decl>, TextFail>

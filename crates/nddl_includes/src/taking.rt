@@ -1,11 +1,12 @@
 //! One file taken from the shelf and read.
 
-ghost use Rattle.std.specs.Prelude.{◌≡◌, ◌≤◌, length};
+ghost use Rattle.std.specs.Prelude.{◌≡◌, ◌≤◌, ◌++◌, ◌∷◌, [], IfOk, length};
 ghost use Rattle.nddl_includes.specs.Limits.{most_bytes};
 ghost use Rattle.nddl_includes.specs.Outcomes.{CountsReads};
-ghost use Rattle.nddl_includes.specs.Taking.{fail_of, CountsFetch, Fetches, Parses, TakesFile};
+ghost use Rattle.nddl_includes.specs.Includes.{includes_of};
+ghost use Rattle.nddl_includes.specs.Taking.{fail_of, CountsFetch, Fetches, HasDecls, ParsesFile, TakesFile};
 
-use super::fault::{ReadAllFault, Refusal, TextFail};
+use super::fault::{ReadAllFault, Refusal};
 use super::include::{Ask, Include, includes_in};
 use super::reader::TextReader;
 use eu_io::shelf::{Shelf, ShelfFail};
@@ -13,7 +14,8 @@ use eu_name::bytes::Bytes;
 use eu_name::sequence::Sequence;
 use eu_name::text::Text;
 use nddl_ast::declaration::{Decl, FileDecls};
-use std::alloc::Global;
+use nddl_reading::joining::{behind, joined};
+use std::alloc::{AllocError, Global};
 
 /// The most bytes that a file may have.
 pub const MOST_BYTES: u64 = 1_048_576;
@@ -43,7 +45,8 @@ impl From<ShelfFail> for FetchFail {
     }
 }
 
-/// Gives the text of this file, where as many were read before, and includes may still go as many levels deep, that of this file counted.
+/// Gives the text of this file, where as many were read before, and includes may still go as many levels deep, that of
+/// this file counted.
 fn fetch<F: Shelf>(
     shelf: &mut F,
     name: &str,
@@ -72,16 +75,56 @@ fn parse<R: TextReader>(
     text: &[u8],
 ) -> Result<Sequence<Decl>, ReadAllFault>
     requires { length text.now ≤ most_bytes }
-    ensures { Parses (R.reads reader.now) name.now text.now result }
+    ensures { ParsesFile (R.reads reader.now) name.now text.now result }
 {
     match reader.read(alloc, text) {
         Ok(decls) => Ok(decls),
-        Err(TextFail::Fault(fault)) => Err(ReadAllFault::Faulty {
-            file: name.copy()?,
-            fault,
-        }),
-        Err(TextFail::Memory) => Err(ReadAllFault::Memory),
+        Err(fail) => Err(fail.located(name)?),
     }
+}
+
+/// The declarations of the file that is asked for, where as many were read before.
+fn declarations<F: Shelf, R: TextReader>(
+    alloc: Global,
+    shelf: &mut F,
+    reader: &R,
+    ask: &Ask,
+    count: usize,
+    levels: usize,
+) -> Result<Sequence<Decl>, ReadAllFault>
+    ensures declared { HasDecls (R.reads reader.now) (F.files shelf.old) count levels ask.now result }
+    ensures kept { F.files shelf.new ≡ F.files shelf.old }
+    ensures counted { CountsReads result (F.faults shelf.old) (F.faults shelf.new) }
+{
+    match fetch(shelf, ask.name.as_str(), count, levels) {
+        Ok(text) => parse(alloc, reader, &ask.name, text.as_slice()),
+        Err(FetchFail::Refused(refusal)) => Err(refusal.located(ask)?),
+        Err(FetchFail::ReadFault) => Err(ReadAllFault::ReadFault),
+        Err(FetchFail::Memory) => Err(ReadAllFault::Memory),
+    }
+}
+
+/// The file of this name with its declarations.
+fn file_of(name: &Text, decls: Sequence<Decl>) -> Result<FileDecls, AllocError>
+    ensures { IfOk result (λ file. file ≡ record { name = name.now; decls = decls }) }
+{
+    let name = name.copy();
+    let (decls, name) = joined(decls, name)?;
+    Ok(FileDecls { name, decls })
+}
+
+/// Puts the file after those that were read before, and gives its includes.
+fn keep(
+    alloc: Global,
+    read: &mut Sequence<FileDecls>,
+    file: FileDecls,
+) -> Result<Sequence<Include>, AllocError>
+    ensures { IfOk result (λ includes. (includes ≡ includes_of file.decls) × (read.new ≡ read.old ++ file ∷ [])) }
+{
+    let includes = includes_in(alloc, file.decls.as_slice());
+    let (file, includes) = joined(file, includes)?;
+    let done = read.push(file);
+    behind(done, includes)
 }
 
 /// Takes the file that is asked for, puts its declarations after those that were read before, and gives its includes.
@@ -97,15 +140,7 @@ pub fn take_file<F: Shelf, R: TextReader>(
     ensures kept { F.files shelf.new ≡ F.files shelf.old }
     ensures counted { CountsReads result (F.faults shelf.old) (F.faults shelf.new) }
 {
-    let text = match fetch(shelf, ask.name.as_str(), read.len(), levels) {
-        Ok(text) => text,
-        Err(FetchFail::Refused(refusal)) => return Err(refusal.located(ask)?),
-        Err(FetchFail::ReadFault) => return Err(ReadAllFault::ReadFault),
-        Err(FetchFail::Memory) => return Err(ReadAllFault::Memory),
-    };
-    let decls = parse(alloc, reader, &ask.name, text.as_slice())?;
-    let includes = includes_in(alloc, decls.as_slice())?;
-    let name = ask.name.copy()?;
-    read.push(FileDecls { name, decls })?;
-    Ok(includes)
+    let decls = declarations(alloc, shelf, reader, ask, read.len(), levels)?;
+    let file = file_of(&ask.name, decls)?;
+    Ok(keep(alloc, read, file)?)
 }

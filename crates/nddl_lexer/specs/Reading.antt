@@ -19,12 +19,14 @@ piece_of kind bytes = record { kind = kind; bytes = bytes }
 pub record Starts (text : List ℕ) (piece : Piece) (rest : List ℕ) : Type 0 where
   pub parts : text ≡ piece.bytes ++ rest
   pub spelled : IsPiece piece.kind piece.bytes
-  pub longest : (other : Piece) (left : List ℕ) → text ≡ other.bytes ++ left → IsPiece other.kind other.bytes → length other.bytes ≤ length piece.bytes
+  pub longest : (other : Piece) (left : List ℕ) → text ≡ other.bytes ++ left → IsPiece other.kind other.bytes
+      → length other.bytes ≤ length piece.bytes
 
 -- the text is these pieces in turn, each the longest at its place and with a value in range if any, and then the rest
 abbrev pub Leads : List ℕ → List Piece → List ℕ → Type 0
 Leads text [] rest = text ≡ rest
-Leads text (piece ∷ more) rest = (after : List ℕ) × Starts text piece after × IsInRange piece.kind piece.bytes × Leads after more rest
+Leads text (piece ∷ more) rest =
+    (after : List ℕ) × Starts text piece after × IsInRange piece.kind piece.bytes × Leads after more rest
 
 -- the lexeme that the piece is at this place, before others
 abbrev pub with_lexeme : Option LexKind → ℕ → ℕ → List Lexeme → List Lexeme
@@ -34,9 +36,11 @@ with_lexeme (Some kind) at len lexemes = record { kind = kind; at = at; len = le
 -- the lexemes among the pieces, of which the first begins at the place
 abbrev pub lexemes_of : ℕ → List Piece → List Lexeme
 lexemes_of at [] = []
-lexemes_of at (piece ∷ more) = with_lexeme piece.kind at (length piece.bytes) (lexemes_of (at + length piece.bytes) more)
+lexemes_of at (piece ∷ more) =
+    with_lexeme piece.kind at (length piece.bytes) (lexemes_of (at + length piece.bytes) more)
 
--- lexemes, blanks and comments follow each other and make up the whole text, each the longest at its place; these are the lexemes
+-- lexemes, blanks and comments follow each other and make up the whole text, each the longest at its place; these are
+-- the lexemes
 abbrev pub Lexes : List ℕ → List Lexeme → Type 0
 Lexes text lexemes = (pieces : List Piece) × Leads text pieces [] × (lexemes ≡ lexemes_of 0 pieces)
 
@@ -103,7 +107,8 @@ pub record IsLexemeOf (text : List ℕ) (lexeme : Lexeme) : Type 0 where
 -- these are lexemes of the text from the place on, each after the one before it
 abbrev pub AreLexemesOf : List ℕ → ℕ → List Lexeme → Type 0
 AreLexemesOf text from [] = Unit {0}
-AreLexemesOf text from (lexeme ∷ more) = (from ≤ lexeme.at) × IsLexemeOf text lexeme × AreLexemesOf text (lexeme.at + lexeme.len) more
+AreLexemesOf text from (lexeme ∷ more) =
+    (from ≤ lexeme.at) × IsLexemeOf text lexeme × AreLexemesOf text (lexeme.at + lexeme.len) more
 
 -- the lexemes of a text lie in it in order, without overlap, each as its kind says
 abbrev pub LieInOrder : Type 0
@@ -111,5 +116,7 @@ LieInOrder = (text : List ℕ) (lexemes : List Lexeme) → Lexes text lexemes �
 
 -- a blank after a lexeme ends it there, whatever follows, and is skipped itself
 pub record BlanksSeparate : Type 0 where
-  pub lexeme : (kind : LexKind) (bytes : List ℕ) (blank : ℕ) (rest : List ℕ) → IsSpelled kind bytes → IsTrue (is_blank blank) → Starts (bytes ++ blank ∷ rest) (piece_of (Some kind) bytes) (blank ∷ rest)
-  pub blank : (blank : ℕ) (rest : List ℕ) → IsTrue (is_blank blank) → Starts (blank ∷ rest) (piece_of None (blank ∷ [])) rest
+  pub lexeme : (kind : LexKind) (bytes : List ℕ) (blank : ℕ) (rest : List ℕ) → IsSpelled kind bytes
+      → IsTrue (is_blank blank) → Starts (bytes ++ blank ∷ rest) (piece_of (Some kind) bytes) (blank ∷ rest)
+  pub blank : (blank : ℕ) (rest : List ℕ) → IsTrue (is_blank blank)
+      → Starts (blank ∷ rest) (piece_of None (blank ∷ [])) rest

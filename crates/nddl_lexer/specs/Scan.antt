@@ -1,4 +1,5 @@
--- How far each sort of piece goes, told by its first byte. What the scan finds is a piece as Spelling and Reading have it, and the longest.
+-- How far each sort of piece goes, told by its first byte. What the scan finds is a piece as Spelling and Reading
+-- have it, and the longest.
 use Rattle.std.specs.Prelude.{ℕ, ◌+◌, Bool, false, ◌&&◌, ◌==◌, if◌then◌else◌, Option, Some, None, Result, Ok, Err, List, [], ◌∷◌, take, drop, codes, slice_index}
 use Rattle.std.specs.Char.{is_ascii_digit}
 use Rattle.std.specs.List.{prefix_len, starts_with}
@@ -54,7 +55,8 @@ fraction_len (byte ∷ bytes) = if (byte == 46) && begins_with_digit bytes then 
 
 -- digits, with a fraction or none, of which one is known to be there
 abbrev pub amount_of : ℕ → ℕ → Front
-amount_of whole fraction = if fraction == 0 then lexeme_of kinds.Number whole else lexeme_of kinds.Decimal (whole + fraction)
+amount_of whole fraction =
+    if fraction == 0 then lexeme_of kinds.Number whole else lexeme_of kinds.Decimal (whole + fraction)
 
 abbrev pub amount_at : List ℕ → Front
 amount_at text = amount_of (digits_len text) (fraction_len (drop (digits_len text) text))
@@ -131,7 +133,8 @@ mark_at first (second ∷ bytes) = mark_of (double_mark first second) (single_ma
 -- what stands at the front of the text, by the sort of its first byte
 abbrev pub front_in : Class → ℕ → List ℕ → Result Front Stop
 front_in Blank first rest = Ok (gap_of 1)
-front_in Letter first rest = let len = word_len (first ∷ rest) in Ok (lexeme_of (kind_of_word (take len (first ∷ rest))) len)
+front_in Letter first rest =
+    let len = word_len (first ∷ rest) in Ok (lexeme_of (kind_of_word (take len (first ∷ rest))) len)
 front_in Digit first rest = Ok (amount_at (first ∷ rest))
 front_in Sign first rest = after_sign rest
 front_in Quote first rest = after_quote rest

@@ -66,7 +66,8 @@ pub record IsBlockComment (bytes : List ℕ) : Type 0 where
 
 -- one blank, or one comment
 abbrev pub IsGap : List ℕ → Type 0
-IsGap bytes = ((blank : ℕ) × IsTrue (is_blank blank) × (bytes ≡ blank ∷ [])) ⊎ (IsLineComment bytes ⊎ IsBlockComment bytes)
+IsGap bytes =
+    ((blank : ℕ) × IsTrue (is_blank blank) × (bytes ≡ blank ∷ [])) ⊎ (IsLineComment bytes ⊎ IsBlockComment bytes)
 
 -- the bytes are a lexeme of this kind or, for none, a blank or a comment
 abbrev pub IsPiece : Option LexKind → List ℕ → Type 0

@@ -1,6 +1,9 @@
 //! Lexemes, and what can be wrong with a text.
 
 ghost use Rattle.std.specs.Prelude.{◌≡◌, ◌+◌, ◌≤◌, length};
+ghost use Rattle.nddl_lexer.specs.Faults.{lex_kind, lex_place};
+
+use nddl_ast::kind::TextKind;
 
 /// What a lexeme is.
 #[derive(Clone, Copy, Debug, PartialEq, Eq)]
@@ -74,5 +77,31 @@ impl Lexeme {
     {
         let start = self.at as usize;
         &text[start..start + self.len as usize]
+    }
+}
+
+impl LexFault {
+    /// What kind of fault it is; none where there is no memory.
+    pub fn kind(self) -> Option<TextKind>
+        ensures { result ≡ lex_kind self }
+    {
+        match self {
+            LexFault::BadByte(_) => Some(TextKind::BadByte),
+            LexFault::OpenComment(_) => Some(TextKind::OpenComment),
+            LexFault::OutOfRange(_) => Some(TextKind::OutOfRange),
+            LexFault::Memory => None,
+        }
+    }
+
+    /// The byte at which it is; none where there is no memory.
+    pub fn at(self) -> Option<u32>
+        ensures { result ≡ lex_place self }
+    {
+        match self {
+            LexFault::BadByte(at) | LexFault::OpenComment(at) | LexFault::OutOfRange(at) => Some(
+                at,
+            ),
+            LexFault::Memory => None,
+        }
     }
 }

@@ -34,7 +34,8 @@ fn is_in_range(kind: Option<LexKind>, bytes: &[u8]) -> bool
 fn piece_at(text: &[u8], at: usize) -> Result<Front, LexFault>
     requires short { length text.now < 2 ^ 32 }
     requires inside { at < length text.now }
-    ensures piece { IfOk result (λ front. Starts (drop at text.now) (piece_of front.kind (take front.len (drop at text.now))) (drop (at + front.len) text.now)
+    ensures piece { IfOk result (λ front. Starts (drop at text.now)
+        (piece_of front.kind (take front.len (drop at text.now))) (drop (at + front.len) text.now)
         × IsInRange front.kind (take front.len (drop at text.now))) }
     ensures within { IfOk result (λ front. (0 < front.len) × (at + front.len ≤ length text.now)) }
     ensures fault { IfErr result (IsFaultFrom (drop at text.now) at) }
@@ -99,7 +100,8 @@ pub fn lexemes_lie_in_order()
     ensures { LieInOrder }
 {}
 
-/// A blank after a lexeme ends it there, whatever follows: so lexemes that are written with blanks between them are read again.
+/// A blank after a lexeme ends it there, whatever follows: so lexemes that are written with blanks between them are
+/// read again.
 pub fn blanks_separate_lexemes()
     ensures { BlanksSeparate }
 {}

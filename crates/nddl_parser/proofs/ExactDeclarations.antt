@@ -1,6 +1,7 @@
 -- What the readers of declarations find is exactly what the grammar has.
 use Rattle.std.proofs.Common.{◌≡◌, ℕ, Bool, true, false, ◌⊎◌, inl, inr, List, [], ◌∷◌, refl, sym, ap, subst, ◌∙◌}
 use Rattle.nddl_reading.specs.declared.sort.Sort.{Sort}
+use Rattle.eu_name.specs.declared.word.Reserved.TheVariants as keywords
 use Rattle.nddl_reading.specs.declared.sort.Sort.TheVariants as sorts
 use Rattle.nddl_reading.specs.Sorts.{same}
 use Rattle.nddl_reading.specs.Symbols.{PlainSymbol}
@@ -66,10 +67,10 @@ unfolding same refuses
 fields_of at (bases.Named first) b n word h =
     let g = field_from at first b n word h in
     inl (first, (g.1.0, g.1.1, g.1.2, g.1.3, ((b, (n, tt)), (λ i. typed_of (g.0 i) (bases.Named first) b n), g.1.4)))
-fields_of at bases.Int b n word h = inr (h, other_base sorts.Int refl at bases.Int b n word (λ w g. g) h)
-fields_of at bases.Float b n word h = inr (h, other_base sorts.Float refl at bases.Float b n word (λ w g. g) h)
-fields_of at bases.Bool b n word h = inr (h, other_base sorts.Bool refl at bases.Bool b n word (λ w g. g) h)
-fields_of at bases.Str b n word h = inr (h, other_base sorts.Text refl at bases.Str b n word (λ w g. g) h)
+fields_of at bases.Int b n word h = inr (h, other_base (sorts.Word keywords.Int) refl at bases.Int b n word (λ w g. g) h)
+fields_of at bases.Float b n word h = inr (h, other_base (sorts.Word keywords.Float) refl at bases.Float b n word (λ w g. g) h)
+fields_of at bases.Bool b n word h = inr (h, other_base (sorts.Word keywords.Bool) refl at bases.Bool b n word (λ w g. g) h)
+fields_of at bases.Str b n word h = inr (h, other_base (sorts.Word keywords.Str) refl at bases.Str b n word (λ w g. g) h)
 
 -- ---- the bodies of predicates
 
@@ -121,7 +122,7 @@ part_exact = relabelled_exact IsPart no_blocks
     (λ y word after h none out. some_still (Image parts.Parameter IsField) (is sorts.Name) any (image_begins parts.Parameter any (field_begins any refl refl refl refl refl)) y word after h none))
     parts_to parts_from (λ y. refl)
 
-part_begins : (test : Sort → Bool) → test sorts.Int ≡ true → test sorts.Float ≡ true → test sorts.Bool ≡ true → test sorts.Text ≡ true → test sorts.Name ≡ true → BeginsWith IsPart test
+part_begins : (test : Sort → Bool) → test (sorts.Word keywords.Int) ≡ true → test (sorts.Word keywords.Float) ≡ true → test (sorts.Word keywords.Bool) ≡ true → test (sorts.Word keywords.Str) ≡ true → test sorts.Name ≡ true → BeginsWith IsPart test
 part_begins test i f b s n (parts.Parameter t) word h = field_begins test i f b s n t word h
 part_begins test i f b s n (parts.Constraint c) word h = front_starts test (IsPath c.path) _ (path_begins test n c.path) word h
 
@@ -134,7 +135,7 @@ abbrev field_set_of : Name × (Unit {0} × (Init × Unit {0})) → Set
 field_set_of p = sets.Field p.0 p.1.1.0
 
 abbrev SuperSet : ℕ × List Expr → List PlainSymbol → Type 0
-SuperSet = Paired (IsPlaced sorts.Super) IsCallEnd
+SuperSet = Paired (IsPlaced (sorts.Word keywords.Super)) IsCallEnd
 
 abbrev super_set_of : ℕ × List Expr → Set
 super_set_of p = sets.Super p.0 p.1
@@ -153,20 +154,20 @@ sets_from (sets.Super at list) word h = inl ((at, list), refl, h)
 set_exact : IsExact IsSet no_blocks no_more set_item
 unfolding set_item super_set field_set same refuses
 set_exact = relabelled_exact IsSet no_blocks
-    (choice_exact (is sorts.Super) (image_exact no_blocks super_set_of (place_exact sorts.Super >> call_end_exact) (λ x. refl))
+    (choice_exact (is (sorts.Word keywords.Super)) (image_exact no_blocks super_set_of (place_exact (sorts.Word keywords.Super) >> call_end_exact) (λ x. refl))
     (image_exact no_blocks field_set_of (name_exact >> mark_exact sorts.Assign >> closed init_exact (mark_exact sorts.Semicolon) (mark_begins sorts.Semicolon (refuses more_path) refl)) (λ x. refl))
-    (image_begins super_set_of (is sorts.Super) (pair_begins IsCallEnd (is sorts.Super) (place_begins sorts.Super (is sorts.Super) refl)))
-    (apart (Image field_set_of FieldSet) (is sorts.Super) no_more (image_begins field_set_of (refuses (is sorts.Super)) (pair_begins _ (refuses (is sorts.Super)) (name_begins (refuses (is sorts.Super)) refl)))))
+    (image_begins super_set_of (is (sorts.Word keywords.Super)) (pair_begins IsCallEnd (is (sorts.Word keywords.Super)) (place_begins (sorts.Word keywords.Super) (is (sorts.Word keywords.Super)) refl)))
+    (apart (Image field_set_of FieldSet) (is (sorts.Word keywords.Super)) no_more (image_begins field_set_of (refuses (is (sorts.Word keywords.Super))) (pair_begins _ (refuses (is (sorts.Word keywords.Super))) (name_begins (refuses (is (sorts.Word keywords.Super))) refl)))))
     sets_to sets_from (λ y. refl)
 
 set_begins : BeginsWith IsSet begins_set
 set_begins (sets.Field name value) word h = front_starts begins_set (IsWrittenName name) _ (name_begins begins_set refl name) word h
-set_begins (sets.Super at list) word h = front_starts begins_set (IsPlaced sorts.Super at) _ (place_begins sorts.Super begins_set refl at) word h
+set_begins (sets.Super at list) word h = front_starts begins_set (IsPlaced (sorts.Word keywords.Super) at) _ (place_begins (sorts.Word keywords.Super) begins_set refl at) word h
 
 -- ---- members
 
 abbrev PredicateParts : ℕ × (Name × (Unit {0} × (List PredicatePart × (Unit {0} × Unit {0})))) → List PlainSymbol → Type 0
-PredicateParts = Paired (IsPlaced sorts.Predicate) (Paired IsWrittenName (Paired (MarkOf sorts.BraceOpen) (Paired (AreMany IsPart) (Paired (MarkOf sorts.BraceClose) (May sorts.Semicolon)))))
+PredicateParts = Paired (IsPlaced (sorts.Word keywords.Predicate)) (Paired IsWrittenName (Paired (MarkOf sorts.BraceOpen) (Paired (AreMany IsPart) (Paired (MarkOf sorts.BraceClose) (May sorts.Semicolon)))))
 
 abbrev predicate_of : ℕ × (Name × (Unit {0} × (List PredicatePart × (Unit {0} × Unit {0})))) → Member
 predicate_of p = members.Predicate p.0 p.1.0 p.1.1.1.0
@@ -174,7 +175,7 @@ predicate_of p = members.Predicate p.0 p.1.0 p.1.1.1.0
 predicate_exact : IsExact (Image predicate_of PredicateParts) no_blocks (is sorts.Semicolon) predicate
 unfolding predicate same refuses
 predicate_exact = image_exact no_blocks predicate_of
-    (place_exact sorts.Predicate >> name_exact >> mark_exact sorts.BraceOpen
+    (place_exact (sorts.Word keywords.Predicate) >> name_exact >> mark_exact sorts.BraceOpen
     >> closed (flat (many_exact begins_type part_exact (part_begins begins_type refl refl refl refl refl) (λ sort holds. refl))) (mark_exact sorts.BraceClose >> may_mark_exact sorts.Semicolon)
     (pair_begins (May sorts.Semicolon) (refuses (wider begins_type no_more)) (mark_begins sorts.BraceClose (refuses (wider begins_type no_more)) refl)))
     (λ p. refl)
@@ -228,22 +229,22 @@ members_from (members.Field t) word h = elim (fields_of t.declared.at t.declared
   | inr g ↦ inr (inr ((t, refl, g.0), g.1))
 ]
 
-predicate_begins : (test : Sort → Bool) → test sorts.Predicate ≡ true → BeginsWith (Image predicate_of PredicateParts) test
-predicate_begins test holds y word (p, eq, h) = front_starts test (IsPlaced sorts.Predicate p.0) _ (place_begins sorts.Predicate test holds p.0) word h
+predicate_begins : (test : Sort → Bool) → test (sorts.Word keywords.Predicate) ≡ true → BeginsWith (Image predicate_of PredicateParts) test
+predicate_begins test holds y word (p, eq, h) = front_starts test (IsPlaced (sorts.Word keywords.Predicate) p.0) _ (place_begins (sorts.Word keywords.Predicate) test holds p.0) word h
 
-pub member_begins : (test : Sort → Bool) → test sorts.Predicate ≡ true → test sorts.Int ≡ true → test sorts.Float ≡ true → test sorts.Bool ≡ true → test sorts.Text ≡ true → test sorts.Name ≡ true → BeginsWith IsMember test
+pub member_begins : (test : Sort → Bool) → test (sorts.Word keywords.Predicate) ≡ true → test (sorts.Word keywords.Int) ≡ true → test (sorts.Word keywords.Float) ≡ true → test (sorts.Word keywords.Bool) ≡ true → test (sorts.Word keywords.Str) ≡ true → test sorts.Name ≡ true → BeginsWith IsMember test
 member_begins test p i f b s n (members.Field t) word h = field_begins test i f b s n t word h
-member_begins test p i f b s n (members.Predicate at name list) word h = front_starts test (IsPlaced sorts.Predicate at) _ (place_begins sorts.Predicate test p at) word h
+member_begins test p i f b s n (members.Predicate at name list) word h = front_starts test (IsPlaced (sorts.Word keywords.Predicate) at) _ (place_begins (sorts.Word keywords.Predicate) test p at) word h
 member_begins test p i f b s n (members.Constructor name formals list) word h = front_starts test (IsWrittenName name) _ (name_begins test n name) word h
 
-named_members_begin : (test : Sort → Bool) → test sorts.Int ≡ true → test sorts.Float ≡ true → test sorts.Bool ≡ true → test sorts.Text ≡ true → test sorts.Name ≡ true → BeginsWith NamedMembers test
+named_members_begin : (test : Sort → Bool) → test (sorts.Word keywords.Int) ≡ true → test (sorts.Word keywords.Float) ≡ true → test (sorts.Word keywords.Bool) ≡ true → test (sorts.Word keywords.Str) ≡ true → test sorts.Name ≡ true → BeginsWith NamedMembers test
 named_members_begin test i f b s n y word (inl h) = bound_begins MemberAfter test (name_begins test n) y word h
 named_members_begin test i f b s n y word (inr h) = field_begins test i f b s n h.0.0 word h.0.2
 
 pub member_exact : IsExact IsMember no_blocks (is sorts.Semicolon) member
 unfolding member member_named same refuses
 member_exact = relabelled_exact IsMember no_blocks
-    (choice_exact (is sorts.Predicate) predicate_exact
+    (choice_exact (is (sorts.Word keywords.Predicate)) predicate_exact
     (widened_exact (is sorts.Semicolon)
     (beside_exact (is sorts.Name)
     (bound_exact MemberAfter no_blocks no_more member_after name_exact member_after_exact (λ first. follows_none (MemberAfter first) no_more))
@@ -251,6 +252,6 @@ member_exact = relabelled_exact IsMember no_blocks
     (bound_begins MemberAfter (is sorts.Name) (name_begins (is sorts.Name) refl))
     (λ y word after h none out. some_still (Image members.Field IsField) (is sorts.Name) any (image_begins members.Field any (field_begins any refl refl refl refl refl)) y word after h none))
     (λ sort out. refl))
-    (predicate_begins (is sorts.Predicate) refl)
-    (apart NamedMembers (is sorts.Predicate) (is sorts.Semicolon) (named_members_begin (refuses (is sorts.Predicate)) refl refl refl refl refl)))
+    (predicate_begins (is (sorts.Word keywords.Predicate)) refl)
+    (apart NamedMembers (is (sorts.Word keywords.Predicate)) (is sorts.Semicolon) (named_members_begin (refuses (is (sorts.Word keywords.Predicate))) refl refl refl refl refl)))
     members_to members_from (λ y. refl)

@@ -1,6 +1,7 @@
 -- What the reader of a text finds is exactly what the grammar has.
 use Rattle.std.proofs.Common.{◌≡◌, ℕ, Bool, true, Option, Some, None, ◌⊎◌, inl, inr, List, ◌++◌, refl, sym, ap, subst, ◌∙◌}
 use Rattle.nddl_reading.specs.declared.sort.Sort.{Sort}
+use Rattle.eu_name.specs.declared.word.Reserved.TheVariants as keywords
 use Rattle.nddl_reading.specs.declared.sort.Sort.TheVariants as sorts
 use Rattle.nddl_reading.specs.Sorts.{same}
 use Rattle.nddl_reading.specs.Symbols.{PlainSymbol}
@@ -51,7 +52,7 @@ unfolding include
 include_exact left = image_exact (deep_decl left) include_of (place_exact sorts.Include >> file_exact >> may_mark_exact sorts.Semicolon) (λ p. refl)
 
 abbrev EnumParts : ℕ × (Name × (ℕ × (List Name × (Unit {0} × Unit {0})))) → List PlainSymbol → Type 0
-EnumParts = Paired (IsPlaced sorts.Enum) (Paired IsWrittenName (Paired (IsPlaced sorts.BraceOpen) (Paired (AreSeparated sorts.Comma IsWrittenName) (Paired (MarkOf sorts.BraceClose) (May sorts.Semicolon)))))
+EnumParts = Paired (IsPlaced (sorts.Word keywords.Enum)) (Paired IsWrittenName (Paired (IsPlaced sorts.BraceOpen) (Paired (AreSeparated sorts.Comma IsWrittenName) (Paired (MarkOf sorts.BraceClose) (May sorts.Semicolon)))))
 
 abbrev enum_of : ℕ × (Name × (ℕ × (List Name × (Unit {0} × Unit {0})))) → Decl
 enum_of p = decls.Enum p.0 p.1.0 p.1.1.0 p.1.1.1.0
@@ -59,13 +60,13 @@ enum_of p = decls.Enum p.0 p.1.0 p.1.1.0 p.1.1.1.0
 enum_exact : (left : ℕ) → IsExact (Image enum_of EnumParts) (deep_decl left) (is sorts.Semicolon) enumeration
 unfolding enumeration same refuses
 enum_exact left = image_exact (deep_decl left) enum_of
-    (place_exact sorts.Enum >> name_exact >> place_exact sorts.BraceOpen
+    (place_exact (sorts.Word keywords.Enum) >> name_exact >> place_exact sorts.BraceOpen
     >> closed (flat (separated_exact sorts.Comma name_exact (λ other holds. refl))) (mark_exact sorts.BraceClose >> may_mark_exact sorts.Semicolon)
     (pair_begins (May sorts.Semicolon) (refuses (wider (is sorts.Comma) no_more)) (mark_begins sorts.BraceClose (refuses (wider (is sorts.Comma) no_more)) refl)))
     (λ p. refl)
 
 abbrev TypedefParts : ℕ × (types.Type × (Name × Unit {0})) → List PlainSymbol → Type 0
-TypedefParts = Paired (IsPlaced sorts.Typedef) (Paired IsType (Paired IsWrittenName (MarkOf sorts.Semicolon)))
+TypedefParts = Paired (IsPlaced (sorts.Word keywords.Typedef)) (Paired IsType (Paired IsWrittenName (MarkOf sorts.Semicolon)))
 
 abbrev typedef_of : ℕ × (types.Type × (Name × Unit {0})) → Decl
 typedef_of p = decls.Typedef p.0 p.1.0 p.1.1.0
@@ -73,12 +74,12 @@ typedef_of p = decls.Typedef p.0 p.1.0 p.1.1.0
 typedef_exact : (left : ℕ) → IsExact (Image typedef_of TypedefParts) (deep_decl left) no_more typedef
 unfolding typedef same refuses
 typedef_exact left = image_exact (deep_decl left) typedef_of
-    (place_exact sorts.Typedef >> closed type_exact (name_exact >> mark_exact sorts.Semicolon) (pair_begins (MarkOf sorts.Semicolon) (refuses more_bounds) (name_begins (refuses more_bounds) refl))) (λ p. refl)
+    (place_exact (sorts.Word keywords.Typedef) >> closed type_exact (name_exact >> mark_exact sorts.Semicolon) (pair_begins (MarkOf sorts.Semicolon) (refuses more_bounds) (name_begins (refuses more_bounds) refl))) (λ p. refl)
 
 -- ---- classes
 
 abbrev Parent : Option Name → List PlainSymbol → Type 0
-Parent o word = Image Some (λ n. IsMark sorts.Extends · IsWrittenName n) o word ⊎ EmptyFor None o word
+Parent o word = Image Some (λ n. IsMark (sorts.Word keywords.Extends) · IsWrittenName n) o word ⊎ EmptyFor None o word
 
 parent_to : (o : Option Name) (word : List PlainSymbol) → Parent o word → IsParent o word
 parent_to o word (inl (n, eq, h)) = subst (λ (o : Option Name). IsParent o word) (sym eq) h
@@ -88,12 +89,12 @@ parent_from : (o : Option Name) (word : List PlainSymbol) → IsParent o word �
 parent_from None word h = inr (refl, h)
 parent_from (Some n) word h = inl (n, refl, h)
 
-parent_exact : IsExact IsParent no_blocks (is sorts.Extends) parent
+parent_exact : IsExact IsParent no_blocks (is (sorts.Word keywords.Extends)) parent
 unfolding parent same refuses
 parent_exact = relabelled_exact IsParent no_blocks
-    (choice_exact (is sorts.Extends) (widened_exact (is sorts.Extends) (image_exact no_blocks Some (after_exact sorts.Extends name_exact) (λ x. refl)) (λ sort out. refl)) (nothing_exact None no_blocks (is sorts.Extends) refl)
-    (image_begins Some (is sorts.Extends) (after_begins IsWrittenName sorts.Extends (is sorts.Extends) refl))
-    (λ y word after h out. aside_empty None (is sorts.Extends) y word after h out))
+    (choice_exact (is (sorts.Word keywords.Extends)) (widened_exact (is (sorts.Word keywords.Extends)) (image_exact no_blocks Some (after_exact (sorts.Word keywords.Extends) name_exact) (λ x. refl)) (λ sort out. refl)) (nothing_exact None no_blocks (is (sorts.Word keywords.Extends)) refl)
+    (image_begins Some (is (sorts.Word keywords.Extends)) (after_begins IsWrittenName (sorts.Word keywords.Extends) (is (sorts.Word keywords.Extends)) refl))
+    (λ y word after h out. aside_empty None (is (sorts.Word keywords.Extends)) y word after h out))
     parent_to parent_from (λ x. refl)
 
 abbrev BodyParts : Option Name × (Unit {0} × (List Member × (Unit {0} × Unit {0}))) → List PlainSymbol → Type 0
@@ -109,16 +110,16 @@ class_body_exact left at name = image_exact (deep_decl left) (class_with at name
     (mark_exact sorts.BraceOpen
     >> closed (flat (many_exact begins_member member_exact (member_begins begins_member refl refl refl refl refl refl) (not_that begins_member sorts.Semicolon refl))) (mark_exact sorts.BraceClose >> may_mark_exact sorts.Semicolon)
     (pair_begins (May sorts.Semicolon) (refuses (wider begins_member (is sorts.Semicolon))) (mark_begins sorts.BraceClose (refuses (wider begins_member (is sorts.Semicolon))) refl)))
-    (pair_begins _ (refuses (is sorts.Extends)) (mark_begins sorts.BraceOpen (refuses (is sorts.Extends)) refl)))
+    (pair_begins _ (refuses (is (sorts.Word keywords.Extends))) (mark_begins sorts.BraceOpen (refuses (is (sorts.Word keywords.Extends))) refl)))
     (λ p. refl)
 
 -- `extends` or `{`
-body_begins : (test : Sort → Bool) → test sorts.Extends ≡ true → test sorts.BraceOpen ≡ true → (o : Option Name) (R : List PlainSymbol → Type 0) (word : List PlainSymbol) → (IsParent o · IsMark sorts.BraceOpen · R) word → Starts test word
+body_begins : (test : Sort → Bool) → test (sorts.Word keywords.Extends) ≡ true → test sorts.BraceOpen ≡ true → (o : Option Name) (R : List PlainSymbol → Type 0) (word : List PlainSymbol) → (IsParent o · IsMark sorts.BraceOpen · R) word → Starts test word
 body_begins test e b None R word h =
     let back : word ≡ h.1 = h.2 ∙ ap (λ (l : List PlainSymbol). l ++ h.1) h.3 in
     let head = front_starts test (IsMark sorts.BraceOpen) R (mark_begins sorts.BraceOpen test b tt) h.1 h.4 in
     (head.0, head.1, back ∙ head.2, head.3)
-body_begins test e b (Some n) R word h = front_starts test (IsParent (Some n)) _ (λ front g. front_starts test (IsMark sorts.Extends) (IsWrittenName n) (mark_begins sorts.Extends test e tt) front g) word h
+body_begins test e b (Some n) R word h = front_starts test (IsParent (Some n)) _ (λ front g. front_starts test (IsMark (sorts.Word keywords.Extends)) (IsWrittenName n) (mark_begins (sorts.Word keywords.Extends) test e tt) front g) word h
 
 abbrev forward_with : ℕ → Name → Unit {0} → Decl
 forward_with at name nil = decls.Forward at name
@@ -134,11 +135,11 @@ class_after_exact left at name = choice_exact (is sorts.Semicolon)
     (apart (Image (class_with at name) BodyParts) (is sorts.Semicolon) (is sorts.Semicolon) (λ y word h. body_begins (refuses (is sorts.Semicolon)) refl refl h.0.0 _ word h.2))
 
 abbrev Classes : Decl → List PlainSymbol → Type 0
-Classes = Bound (IsPlaced sorts.Class) (λ at. Bound IsWrittenName (ClassAfter at))
+Classes = Bound (IsPlaced (sorts.Word keywords.Class)) (λ at. Bound IsWrittenName (ClassAfter at))
 
 class_exact : (left : ℕ) → IsExact Classes (deep_decl left) (is sorts.Semicolon) class
 unfolding class
-class_exact left = bound_exact (λ at. Bound IsWrittenName (ClassAfter at)) (deep_decl left) (is sorts.Semicolon) _ (place_exact sorts.Class)
+class_exact left = bound_exact (λ at. Bound IsWrittenName (ClassAfter at)) (deep_decl left) (is sorts.Semicolon) _ (place_exact (sorts.Word keywords.Class))
     (λ at. bound_exact (ClassAfter at) (deep_decl left) (is sorts.Semicolon) (class_after at) name_exact (class_after_exact left at) (λ name. follows_none (ClassAfter at name) (is sorts.Semicolon)))
     (λ at. follows_none (Bound IsWrittenName (ClassAfter at)) (is sorts.Semicolon))
 
@@ -221,18 +222,18 @@ decls_from (decls.Variable v) word h = inr (inr (inr (inr (plain_named_decl (pla
 decls_from (decls.Call c) word h = inr (inr (inr (inr (plain_named_decl (plains.Call c) word h))))
 decls_from (decls.Ask a) word h = inr (inr (inr (inr (plain_named_decl (plains.Ask a) word h))))
 
-named_decls_begin : (test : Sort → Bool) → test sorts.Int ≡ true → test sorts.Float ≡ true → test sorts.Bool ≡ true → test sorts.Text ≡ true → test sorts.Name ≡ true → BeginsWith NamedDecls test
+named_decls_begin : (test : Sort → Bool) → test (sorts.Word keywords.Int) ≡ true → test (sorts.Word keywords.Float) ≡ true → test (sorts.Word keywords.Bool) ≡ true → test (sorts.Word keywords.Str) ≡ true → test sorts.Name ≡ true → BeginsWith NamedDecls test
 named_decls_begin test i f b s n y word (inl h) = bound_begins DeclAfter test (name_begins test n) y word h
 named_decls_begin test i f b s n y word (inr h) = variable_begins test i f b s n h.0.0 word h.0.2
 
-classes_begin : (test : Sort → Bool) → test sorts.Class ≡ true → BeginsWith Classes test
-classes_begin test holds = bound_begins (λ at. Bound IsWrittenName (ClassAfter at)) test (place_begins sorts.Class test holds)
+classes_begin : (test : Sort → Bool) → test (sorts.Word keywords.Class) ≡ true → BeginsWith Classes test
+classes_begin test holds = bound_begins (λ at. Bound IsWrittenName (ClassAfter at)) test (place_begins (sorts.Word keywords.Class) test holds)
 
-typedefs_begin : (test : Sort → Bool) → test sorts.Typedef ≡ true → BeginsWith (Image typedef_of TypedefParts) test
-typedefs_begin test holds = image_begins typedef_of test (pair_begins _ test (place_begins sorts.Typedef test holds))
+typedefs_begin : (test : Sort → Bool) → test (sorts.Word keywords.Typedef) ≡ true → BeginsWith (Image typedef_of TypedefParts) test
+typedefs_begin test holds = image_begins typedef_of test (pair_begins _ test (place_begins (sorts.Word keywords.Typedef) test holds))
 
-enums_begin : (test : Sort → Bool) → test sorts.Enum ≡ true → BeginsWith (Image enum_of EnumParts) test
-enums_begin test holds = image_begins enum_of test (pair_begins _ test (place_begins sorts.Enum test holds))
+enums_begin : (test : Sort → Bool) → test (sorts.Word keywords.Enum) ≡ true → BeginsWith (Image enum_of EnumParts) test
+enums_begin test holds = image_begins enum_of test (pair_begins _ test (place_begins (sorts.Word keywords.Enum) test holds))
 
 includes_begin : (test : Sort → Bool) → test sorts.Include ≡ true → BeginsWith (Image include_of IncludeParts) test
 includes_begin test holds = image_begins include_of test (pair_begins _ test (place_begins sorts.Include test holds))
@@ -241,9 +242,9 @@ decl_exact : (left : ℕ) → IsExact IsDecl (deep_decl left) (is sorts.Semicolo
 unfolding decl decl_named same refuses
 decl_exact left = relabelled_exact IsDecl (deep_decl left)
     (choice_exact (is sorts.Include) (include_exact left)
-    (choice_exact (is sorts.Enum) (enum_exact left)
-    (choice_exact (is sorts.Typedef) (widened_exact (is sorts.Semicolon) (typedef_exact left) (λ sort out. refl))
-    (choice_exact (is sorts.Class) (class_exact left)
+    (choice_exact (is (sorts.Word keywords.Enum)) (enum_exact left)
+    (choice_exact (is (sorts.Word keywords.Typedef)) (widened_exact (is sorts.Semicolon) (typedef_exact left) (λ sort out. refl))
+    (choice_exact (is (sorts.Word keywords.Class)) (class_exact left)
     (widened_exact (is sorts.Semicolon)
     (beside_exact (is sorts.Name)
     (bound_exact DeclAfter (deep_decl left) no_more (decl_after left) name_exact (decl_after_exact left) (λ first. follows_none (DeclAfter first) no_more))
@@ -251,14 +252,14 @@ decl_exact left = relabelled_exact IsDecl (deep_decl left)
     (bound_begins DeclAfter (is sorts.Name) (name_begins (is sorts.Name) refl))
     (λ y word after h none out. some_still (Image decls.Variable IsVariable) (is sorts.Name) any (image_begins decls.Variable any (variable_begins any refl refl refl refl refl)) y word after h none))
     (λ sort out. refl))
-    (classes_begin (is sorts.Class) refl)
-    (apart NamedDecls (is sorts.Class) (is sorts.Semicolon) (named_decls_begin (refuses (is sorts.Class)) refl refl refl refl refl)))
-    (typedefs_begin (is sorts.Typedef) refl)
-    (apart FromClass (is sorts.Typedef) (is sorts.Semicolon) (either_begins (refuses (is sorts.Typedef)) (classes_begin (refuses (is sorts.Typedef)) refl) (named_decls_begin (refuses (is sorts.Typedef)) refl refl refl refl refl))))
-    (enums_begin (is sorts.Enum) refl)
-    (apart FromTypedef (is sorts.Enum) (is sorts.Semicolon)
-    (either_begins (refuses (is sorts.Enum)) (typedefs_begin (refuses (is sorts.Enum)) refl)
-    (either_begins (refuses (is sorts.Enum)) (classes_begin (refuses (is sorts.Enum)) refl) (named_decls_begin (refuses (is sorts.Enum)) refl refl refl refl refl)))))
+    (classes_begin (is (sorts.Word keywords.Class)) refl)
+    (apart NamedDecls (is (sorts.Word keywords.Class)) (is sorts.Semicolon) (named_decls_begin (refuses (is (sorts.Word keywords.Class))) refl refl refl refl refl)))
+    (typedefs_begin (is (sorts.Word keywords.Typedef)) refl)
+    (apart FromClass (is (sorts.Word keywords.Typedef)) (is sorts.Semicolon) (either_begins (refuses (is (sorts.Word keywords.Typedef))) (classes_begin (refuses (is (sorts.Word keywords.Typedef))) refl) (named_decls_begin (refuses (is (sorts.Word keywords.Typedef))) refl refl refl refl refl))))
+    (enums_begin (is (sorts.Word keywords.Enum)) refl)
+    (apart FromTypedef (is (sorts.Word keywords.Enum)) (is sorts.Semicolon)
+    (either_begins (refuses (is (sorts.Word keywords.Enum))) (typedefs_begin (refuses (is (sorts.Word keywords.Enum))) refl)
+    (either_begins (refuses (is (sorts.Word keywords.Enum))) (classes_begin (refuses (is (sorts.Word keywords.Enum))) refl) (named_decls_begin (refuses (is (sorts.Word keywords.Enum))) refl refl refl refl refl)))))
     (includes_begin (is sorts.Include) refl)
     (apart FromEnum (is sorts.Include) (is sorts.Semicolon)
     (either_begins (refuses (is sorts.Include)) (enums_begin (refuses (is sorts.Include)) refl)

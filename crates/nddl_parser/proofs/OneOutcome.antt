@@ -12,8 +12,8 @@ use Rattle.nddl_reading.proofs.Many.{wider}
 use Rattle.nddl_ast.specs.declared.declaration.Decl.{Decl}
 use Rattle.nddl_ast.specs.declared.declaration.Decl.TheVariants as decls
 use Rattle.nddl_ast.specs.Tree.{Statements, Nothing, Declares, Calls, Asks, Tests, Chooses, Repeats, count}
-use Rattle.nddl_parser.specs.declared.parse.ParseFault.{ParseFault}
-use Rattle.nddl_parser.specs.declared.parse.ParseFault.TheVariants.{Syntax, TooDeep, Memory}
+use Rattle.nddl_parser.specs.declared.parsing.ParseFault.{ParseFault}
+use Rattle.nddl_parser.specs.declared.parsing.ParseFault.TheVariants.{Syntax, TooDeep, Memory}
 use Rattle.nddl_parser.specs.Symbols.{AreSymbols}
 use Rattle.nddl_statements.specs.Grammar.{deep_statements}
 use Rattle.nddl_parser.specs.Grammar.{IsText, most_nested, deep_decl, deep_text}

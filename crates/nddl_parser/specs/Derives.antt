@@ -6,8 +6,8 @@ use Rattle.nddl_reading.specs.Symbols.{PlainSymbol}
 use Rattle.nddl_reading.specs.Readers.{next_place}
 use Rattle.nddl_reading.specs.Exact.{Agrees}
 use Rattle.nddl_ast.specs.declared.declaration.Decl.{Decl}
-use Rattle.nddl_parser.specs.declared.parse.ParseFault.{ParseFault}
-use Rattle.nddl_parser.specs.declared.parse.ParseFault.TheVariants.{Syntax, TooDeep, Memory}
+use Rattle.nddl_parser.specs.declared.parsing.ParseFault.{ParseFault}
+use Rattle.nddl_parser.specs.declared.parsing.ParseFault.TheVariants.{Syntax, TooDeep, Memory}
 use Rattle.nddl_parser.specs.Symbols.{AreSymbols}
 use Rattle.nddl_parser.specs.Grammar.{IsText, most_nested, deep_text}
 
@@ -20,14 +20,16 @@ abbrev pub IsNotBefore : ℕ → Option ℕ → Type 0
 IsNotBefore place None = Unit {0}
 IsNotBefore place (Some at) = place ≤ at
 
--- the symbols begin a derivation: others behind them complete it. No block that is nested too deep begins before the place
+-- the symbols begin a derivation: others behind them complete it. No block that is nested too deep begins before the
+-- place
 pub record BeginsBefore (place : ℕ) (symbols : List PlainSymbol) : Type 0 where
   pub after : List PlainSymbol
   pub tree : List Decl
   pub derived : IsText tree (symbols ++ after)
   pub shallow : IsNotBefore place (deep_text most_nested tree)
 
--- the symbols before the place begin a derivation, and those with the one at the place begin none; or, at the end, they make up none
+-- the symbols before the place begin a derivation, and those with the one at the place begin none; or, at the end,
+-- they make up none
 pub record IsSyntax (end : ℕ) (symbols : List PlainSymbol) (place : ℕ) : Type 0 where
   pub before : List PlainSymbol
   pub rest : List PlainSymbol
@@ -36,7 +38,8 @@ pub record IsSyntax (end : ℕ) (symbols : List PlainSymbol) (place : ℕ) : Typ
   pub begun : BeginsBefore place before
   pub none : (tree : List Decl) (other : List PlainSymbol) → IsText tree other → Agrees other before rest → ⊥
 
--- the symbols up to the one at the place begin a derivation, and in each that they begin the first block nested too deep is there
+-- the symbols up to the one at the place begin a derivation, and in each that they begin the first block nested too
+-- deep is there
 pub record IsTooDeep (symbols : List PlainSymbol) (place : ℕ) : Type 0 where
   pub before : List PlainSymbol
   pub symbol : PlainSymbol
@@ -47,9 +50,11 @@ pub record IsTooDeep (symbols : List PlainSymbol) (place : ℕ) : Type 0 where
   pub tree : List Decl
   pub derived : IsText tree (before ++ symbol ∷ after)
   pub first : deep_text most_nested tree ≡ Some place
-  pub all : (tree : List Decl) (after : List PlainSymbol) → IsText tree (before ++ symbol ∷ after) → deep_text most_nested tree ≡ Some place
+  pub all : (tree : List Decl) (after : List PlainSymbol) → IsText tree (before ++ symbol ∷ after)
+      → deep_text most_nested tree ≡ Some place
 
--- what symbols that end at a place are: a tree without a block nested too deep, or a fault; want of memory is no fault of theirs
+-- what symbols that end at a place are: a tree without a block nested too deep, or a fault; want of memory is no
+-- fault of theirs
 abbrev pub IsOutcome : ℕ → List PlainSymbol → Result (List Decl) ParseFault → Type 0
 IsOutcome end symbols (Ok tree) = IsText tree symbols × (deep_text most_nested tree ≡ None)
 IsOutcome end symbols (Err (Syntax place)) = IsSyntax end symbols place
@@ -69,4 +74,5 @@ HasOneOutcome = (text : List ℕ) (lexemes : List Lexeme) (one other : Result (L
 
 -- no lexemes derive two trees, however deep blocks are nested in them
 abbrev pub HasOneTree : Type 0
-HasOneTree = (text : List ℕ) (lexemes : List Lexeme) (one other : List Decl) → Derives text lexemes one → Derives text lexemes other → one ≡ other
+HasOneTree = (text : List ℕ) (lexemes : List Lexeme) (one other : List Decl) → Derives text lexemes one
+    → Derives text lexemes other → one ≡ other

@@ -1,5 +1,7 @@
--- The grammar of declarations and of a text: of which symbols each part is made. One definition a line of the grammar, places included.
+-- The grammar of declarations and of a text: of which symbols each part is made. One definition a line of the
+-- grammar, places included.
 use Rattle.std.specs.Prelude.{◌≡◌, ℕ, Option, Some, None, List, [], ◌∷◌}
+use Rattle.eu_name.specs.declared.word.Reserved.TheVariants as keywords
 use Rattle.nddl_reading.specs.declared.sort.Sort.TheVariants as sorts
 use Rattle.nddl_reading.specs.Symbols.{PlainSymbol}
 use Rattle.nddl_reading.specs.Exact.{◌·◌, IsPlaced, IsMark, IsNothing, AreMany, AreSeparated, AreListed, MayMark, earliest}
@@ -22,14 +24,18 @@ IsPart (parts.Constraint call) = IsCall call
 
 abbrev pub IsSet : Set → List PlainSymbol → Type 0
 IsSet (sets.Field name value) = IsWrittenName name · IsMark sorts.Assign · IsInit value · IsMark sorts.Semicolon
-IsSet (sets.Super at arguments) = IsPlaced sorts.Super at · IsMark sorts.ParenOpen · AreArguments arguments · IsMark sorts.ParenClose · IsMark sorts.Semicolon
+IsSet (sets.Super at arguments) =
+    IsPlaced (sorts.Word keywords.Super) at · IsMark sorts.ParenOpen · AreArguments arguments
+    · IsMark sorts.ParenClose · IsMark sorts.Semicolon
 
 abbrev pub IsMember : Member → List PlainSymbol → Type 0
 IsMember (members.Field typed) = IsTyped typed · IsMark sorts.Semicolon
 IsMember (members.Predicate at name parts) =
-    IsPlaced sorts.Predicate at · IsWrittenName name · IsMark sorts.BraceOpen · AreMany IsPart parts · IsMark sorts.BraceClose · MayMark sorts.Semicolon
+    IsPlaced (sorts.Word keywords.Predicate) at · IsWrittenName name · IsMark sorts.BraceOpen · AreMany IsPart parts
+    · IsMark sorts.BraceClose · MayMark sorts.Semicolon
 IsMember (members.Constructor name formals sets) =
-    IsWrittenName name · IsMark sorts.ParenOpen · AreListed sorts.Comma IsTyped formals · IsMark sorts.ParenClose · IsMark sorts.BraceOpen · AreMany IsSet sets · IsMark sorts.BraceClose
+    IsWrittenName name · IsMark sorts.ParenOpen · AreListed sorts.Comma IsTyped formals · IsMark sorts.ParenClose
+    · IsMark sorts.BraceOpen · AreMany IsSet sets · IsMark sorts.BraceClose
 
 -- bytes between quotes, at the place
 pub record IsFile (file : List ℕ) (at : ℕ) (symbols : List PlainSymbol) : Type 0 where
@@ -41,17 +47,21 @@ pub record IsFile (file : List ℕ) (at : ℕ) (symbols : List PlainSymbol) : Ty
 
 abbrev pub IsParent : Option Name → List PlainSymbol → Type 0
 IsParent None = IsNothing
-IsParent (Some name) = IsMark sorts.Extends · IsWrittenName name
+IsParent (Some name) = IsMark (sorts.Word keywords.Extends) · IsWrittenName name
 
 abbrev pub IsDecl : Decl → List PlainSymbol → Type 0
 IsDecl (decls.Include at file file_at) = IsPlaced sorts.Include at · IsFile file file_at · MayMark sorts.Semicolon
 IsDecl (decls.Enum at name members_at members) =
-    IsPlaced sorts.Enum at · IsWrittenName name · IsPlaced sorts.BraceOpen members_at · AreSeparated sorts.Comma IsWrittenName members · IsMark sorts.BraceClose · MayMark sorts.Semicolon
-IsDecl (decls.Typedef at declared name) = IsPlaced sorts.Typedef at · IsType declared · IsWrittenName name · IsMark sorts.Semicolon
-IsDecl (decls.Forward at name) = IsPlaced sorts.Class at · IsWrittenName name · IsMark sorts.Semicolon
+    IsPlaced (sorts.Word keywords.Enum) at · IsWrittenName name · IsPlaced sorts.BraceOpen members_at
+    · AreSeparated sorts.Comma IsWrittenName members · IsMark sorts.BraceClose · MayMark sorts.Semicolon
+IsDecl (decls.Typedef at declared name) =
+    IsPlaced (sorts.Word keywords.Typedef) at · IsType declared · IsWrittenName name · IsMark sorts.Semicolon
+IsDecl (decls.Forward at name) = IsPlaced (sorts.Word keywords.Class) at · IsWrittenName name · IsMark sorts.Semicolon
 IsDecl (decls.Class at name parent members) =
-    IsPlaced sorts.Class at · IsWrittenName name · IsParent parent · IsMark sorts.BraceOpen · AreMany IsMember members · IsMark sorts.BraceClose · MayMark sorts.Semicolon
-IsDecl (decls.Rule class predicate body) = IsWrittenName class · IsMark sorts.DoubleColon · IsWrittenName predicate · IsBlock body
+    IsPlaced (sorts.Word keywords.Class) at · IsWrittenName name · IsParent parent · IsMark sorts.BraceOpen
+    · AreMany IsMember members · IsMark sorts.BraceClose · MayMark sorts.Semicolon
+IsDecl (decls.Rule class predicate body) =
+    IsWrittenName class · IsMark sorts.DoubleColon · IsWrittenName predicate · IsBlock body
 IsDecl (decls.Variable variable) = IsVariable variable
 IsDecl (decls.Call call) = IsCall call
 IsDecl (decls.Ask ask) = IsAsk ask

@@ -2,3 +2,4 @@ pub mod Grammar
 pub mod Symbols
 pub mod Derives
 pub mod Productions
+pub mod Faults

@@ -1,6 +1,7 @@
 -- The symbols of lexemes.
-use Rattle.std.specs.Prelude.{◌≡◌, ℕ, ℤ, pos, List, [], ◌∷◌, ◌++◌, codes, if◌then◌else◌}
-use Rattle.std.specs.Str.{bytes_eq}
+use Rattle.std.specs.Prelude.{◌≡◌, ℕ, ℤ, pos, Option, Some, None, List, [], ◌∷◌, ◌++◌}
+use Rattle.eu_name.specs.declared.word.Reserved.{Reserved}
+use Rattle.eu_name.specs.Word.{reserved_of}
 use Rattle.nddl_lexer.specs.declared.kinds.LexKind.{LexKind}
 use Rattle.nddl_lexer.specs.declared.kinds.LexKind.TheVariants as kinds
 use Rattle.nddl_lexer.specs.declared.kinds.Lexeme.{Lexeme}
@@ -10,38 +11,13 @@ use Rattle.nddl_reading.specs.declared.sort.Sort.{Sort}
 use Rattle.nddl_reading.specs.declared.sort.Sort.TheVariants as sorts
 use Rattle.nddl_reading.specs.Symbols.{PlainSymbol}
 
--- the sort of a word, which is a name unless it is reserved
-abbrev pub value_sort : List ℕ → Sort
-value_sort bytes =
-    if bytes_eq bytes (codes "true") then sorts.True
-    else (if bytes_eq bytes (codes "false") then sorts.False
-    else (if bytes_eq bytes (codes "super") then sorts.Super else sorts.Name))
-
-abbrev pub type_sort : List ℕ → Sort
-type_sort bytes =
-    if bytes_eq bytes (codes "int") then sorts.Int
-    else (if bytes_eq bytes (codes "float") then sorts.Float
-    else (if bytes_eq bytes (codes "bool") then sorts.Bool
-    else (if bytes_eq bytes (codes "string") then sorts.Text else value_sort bytes)))
-
-abbrev pub statement_sort : List ℕ → Sort
-statement_sort bytes =
-    if bytes_eq bytes (codes "if") then sorts.If
-    else (if bytes_eq bytes (codes "else") then sorts.Else
-    else (if bytes_eq bytes (codes "foreach") then sorts.Foreach
-    else (if bytes_eq bytes (codes "in") then sorts.In else type_sort bytes)))
-
-abbrev pub word_sort : List ℕ → Sort
-word_sort bytes =
-    if bytes_eq bytes (codes "class") then sorts.Class
-    else (if bytes_eq bytes (codes "predicate") then sorts.Predicate
-    else (if bytes_eq bytes (codes "enum") then sorts.Enum
-    else (if bytes_eq bytes (codes "typedef") then sorts.Typedef
-    else (if bytes_eq bytes (codes "extends") then sorts.Extends
-    else (if bytes_eq bytes (codes "new") then sorts.New else statement_sort bytes)))))
+-- the sort of a word: that of the reserved word that it is, and else a name's
+abbrev pub word_sort : Option Reserved → Sort
+word_sort None = sorts.Name
+word_sort (Some word) = sorts.Word word
 
 abbrev pub sort_of : LexKind → List ℕ → Sort
-sort_of kinds.Word bytes = word_sort bytes
+sort_of kinds.Word bytes = word_sort (reserved_of bytes)
 sort_of kinds.Number bytes = sorts.Number
 sort_of kinds.Decimal bytes = sorts.Decimal
 sort_of kinds.Str bytes = sorts.Quoted

@@ -9,6 +9,7 @@ ghost use Rattle.nddl_parser.specs.Productions.{body_of, sets_behind, constructo
 
 use eu_name::bytes::Bytes;
 use eu_name::sequence::Sequence;
+use eu_name::word::Reserved;
 use nddl_ast::declaration::{Decl, Member, PredicatePart, Set, Typed};
 use nddl_ast::expression::Init;
 use nddl_ast::name::Name;
@@ -110,7 +111,7 @@ fn field_set(cursor: &mut Cursor<'_>) -> Result<Set, Stop>
 fn super_set(cursor: &mut Cursor<'_>) -> Result<Set, Stop>
     ensures { IsFound result cursor.new (super_set cursor.old) }
 {
-    let at = cursor.mark_place(Sort::Super)?;
+    let at = cursor.mark_place(Sort::Word(Reserved::Super))?;
     let arguments = call_end(cursor)?;
     Ok(Set::Super { at, arguments })
 }
@@ -120,7 +121,7 @@ fn super_set(cursor: &mut Cursor<'_>) -> Result<Set, Stop>
 fn set_item(cursor: &mut Cursor<'_>) -> Result<Set, Stop>
     ensures { IsFound result cursor.new (set_item cursor.old) }
 {
-    if cursor.is_at(Sort::Super) {
+    if cursor.is_at(Sort::Word(Reserved::Super)) {
         return super_set(cursor);
     }
     field_set(cursor)
@@ -140,7 +141,7 @@ impl Item for Sets {
 
     fn is_first(sort: Sort) -> bool {
         match sort {
-            Sort::Name | Sort::Super => true,
+            Sort::Name | Sort::Word(Reserved::Super) => true,
             _ => false,
         }
     }
@@ -175,7 +176,7 @@ fn body<T: Item>(cursor: &mut Cursor<'_>) -> Result<((), (Sequence<T::Tree>, (()
 fn predicate(cursor: &mut Cursor<'_>) -> Result<Member, Stop>
     ensures { IsFound result cursor.new (predicate cursor.old) }
 {
-    let at = cursor.mark_place(Sort::Predicate)?;
+    let at = cursor.mark_place(Sort::Word(Reserved::Predicate))?;
     let name = name(cursor)?;
     let rest = body::<Parts>(cursor);
     let (name, ((), (parts, ((), ())))) = joined(name, rest)?;
@@ -245,7 +246,7 @@ fn member_named(cursor: &mut Cursor<'_>) -> Result<Member, Stop>
 fn member(cursor: &mut Cursor<'_>) -> Result<Member, Stop>
     ensures { IsFound result cursor.new (member cursor.old) }
 {
-    if cursor.is_at(Sort::Predicate) {
+    if cursor.is_at(Sort::Word(Reserved::Predicate)) {
         return predicate(cursor);
     }
     if cursor.is_at(Sort::Name) {
@@ -268,7 +269,7 @@ impl Item for Members {
 
     fn is_first(sort: Sort) -> bool {
         match sort {
-            Sort::Predicate => true,
+            Sort::Word(Reserved::Predicate) => true,
             _ => begins_type(sort),
         }
     }
@@ -316,7 +317,7 @@ fn enum_members(cursor: &mut Cursor<'_>) -> Result<(u32, (Sequence<Name>, ((), (
 fn enumeration(cursor: &mut Cursor<'_>) -> Result<Decl, Stop>
     ensures { IsFound result cursor.new (enumeration cursor.old) }
 {
-    let at = cursor.mark_place(Sort::Enum)?;
+    let at = cursor.mark_place(Sort::Word(Reserved::Enum))?;
     let name = name(cursor)?;
     let rest = enum_members(cursor);
     let (name, (members_at, (members, ((), ())))) = joined(name, rest)?;
@@ -333,7 +334,7 @@ fn enumeration(cursor: &mut Cursor<'_>) -> Result<Decl, Stop>
 fn typedef(cursor: &mut Cursor<'_>) -> Result<Decl, Stop>
     ensures { IsFound result cursor.new (typedef cursor.old) }
 {
-    let at = cursor.mark_place(Sort::Typedef)?;
+    let at = cursor.mark_place(Sort::Word(Reserved::Typedef))?;
     let declared = type_of(cursor)?;
     let rest = named_end(cursor);
     let (declared, (name, ())) = joined(declared, rest)?;
@@ -345,8 +346,8 @@ fn typedef(cursor: &mut Cursor<'_>) -> Result<Decl, Stop>
 fn parent(cursor: &mut Cursor<'_>) -> Result<Option<Name>, Stop>
     ensures { IsFound result cursor.new (parent cursor.old) }
 {
-    if cursor.is_at(Sort::Extends) {
-        cursor.mark(Sort::Extends)?;
+    if cursor.is_at(Sort::Word(Reserved::Extends)) {
+        cursor.mark(Sort::Word(Reserved::Extends))?;
         return Ok(Some(name(cursor)?));
     }
     Ok(None)
@@ -396,7 +397,7 @@ fn class_after(cursor: &mut Cursor<'_>, at: u32, name: Name) -> Result<Decl, Sto
 fn class(cursor: &mut Cursor<'_>) -> Result<Decl, Stop>
     ensures { IsFound result cursor.new (class cursor.old) }
 {
-    let at = cursor.mark_place(Sort::Class)?;
+    let at = cursor.mark_place(Sort::Word(Reserved::Class))?;
     let name = name(cursor)?;
     class_after(cursor, at, name)
 }
@@ -463,13 +464,13 @@ fn decl(cursor: &mut Cursor<'_>) -> Result<Decl, Stop>
     if cursor.is_at(Sort::Include) {
         return include(cursor);
     }
-    if cursor.is_at(Sort::Enum) {
+    if cursor.is_at(Sort::Word(Reserved::Enum)) {
         return enumeration(cursor);
     }
-    if cursor.is_at(Sort::Typedef) {
+    if cursor.is_at(Sort::Word(Reserved::Typedef)) {
         return typedef(cursor);
     }
-    if cursor.is_at(Sort::Class) {
+    if cursor.is_at(Sort::Word(Reserved::Class)) {
         return class(cursor);
     }
     if cursor.is_at(Sort::Name) {
@@ -493,7 +494,10 @@ impl Item for Declarations {
 
     fn is_first(sort: Sort) -> bool {
         match sort {
-            Sort::Include | Sort::Enum | Sort::Typedef | Sort::Class => true,
+            Sort::Include
+            | Sort::Word(Reserved::Enum)
+            | Sort::Word(Reserved::Typedef)
+            | Sort::Word(Reserved::Class) => true,
             _ => begins_type(sort),
         }
     }

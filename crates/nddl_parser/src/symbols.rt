@@ -1,91 +1,25 @@
 //! The symbols of lexemes: reserved words are told from names, and numbers have their values.
 
 ghost use Rattle.std.specs.Prelude.{◌≡◌, ◌++◌, ◌∷◌, [], Some, IfOk};
-ghost use Rattle.std.specs.Str.{bytes_eq};
+ghost use Rattle.eu_name.specs.Word.{reserved_of};
 ghost use Rattle.nddl_lexer.specs.Spelling.{IsSpelled, IsInRange, IsString};
 ghost use Rattle.nddl_lexer.specs.Reading.{AreLexemesOf, IsLexemeOf};
-ghost use Rattle.nddl_parser.specs.Symbols.{word_sort, statement_sort, type_sort, value_sort, sort_of, Keeps, HasValue, IsSymbolOf, AreSymbols};
+ghost use Rattle.nddl_parser.specs.Symbols.{word_sort, sort_of, Keeps, HasValue, IsSymbolOf, AreSymbols};
 
+use eu_name::word::reserved_of;
 use nddl_lexer::kinds::{LexKind, Lexeme};
 use nddl_lexer::numbers::{decimal_value, number_value};
 use nddl_reading::sort::Sort;
 use nddl_reading::symbol::Symbol;
 use std::alloc::{AllocError, Global};
 
-// Whether the bytes are the word.
-fn is(bytes: &[u8], word: &[u8]) -> bool
-    ensures { result ≡ bytes_eq bytes.now word.now }
-{
-    bytes == word
-}
-
 // The sort of a word: a name unless it is reserved.
 fn word_sort(bytes: &[u8]) -> Sort
-    ensures { result ≡ word_sort bytes.now }
+    ensures { result ≡ word_sort (reserved_of bytes.now) }
 {
-    if is(bytes, b"class") {
-        Sort::Class
-    } else if is(bytes, b"predicate") {
-        Sort::Predicate
-    } else if is(bytes, b"enum") {
-        Sort::Enum
-    } else if is(bytes, b"typedef") {
-        Sort::Typedef
-    } else if is(bytes, b"extends") {
-        Sort::Extends
-    } else if is(bytes, b"new") {
-        Sort::New
-    } else {
-        statement_sort(bytes)
-    }
-}
-
-// The same, where the word is none with which a declaration begins.
-fn statement_sort(bytes: &[u8]) -> Sort
-    ensures { result ≡ statement_sort bytes.now }
-{
-    if is(bytes, b"if") {
-        Sort::If
-    } else if is(bytes, b"else") {
-        Sort::Else
-    } else if is(bytes, b"foreach") {
-        Sort::Foreach
-    } else if is(bytes, b"in") {
-        Sort::In
-    } else {
-        type_sort(bytes)
-    }
-}
-
-// The same, where the word is none of statements either.
-fn type_sort(bytes: &[u8]) -> Sort
-    ensures { result ≡ type_sort bytes.now }
-{
-    if is(bytes, b"int") {
-        Sort::Int
-    } else if is(bytes, b"float") {
-        Sort::Float
-    } else if is(bytes, b"bool") {
-        Sort::Bool
-    } else if is(bytes, b"string") {
-        Sort::Text
-    } else {
-        value_sort(bytes)
-    }
-}
-
-// The same, where the word is none of types either.
-fn value_sort(bytes: &[u8]) -> Sort
-    ensures { result ≡ value_sort bytes.now }
-{
-    if is(bytes, b"true") {
-        Sort::True
-    } else if is(bytes, b"false") {
-        Sort::False
-    } else if is(bytes, b"super") {
-        Sort::Super
-    } else {
-        Sort::Name
+    match reserved_of(bytes) {
+        Some(word) => Sort::Word(word),
+        None => Sort::Name,
     }
 }
 

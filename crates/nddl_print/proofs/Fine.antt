@@ -1,10 +1,9 @@
 -- The symbols of a text can be written.
 use Rattle.std.proofs.Common.{◌≡◌, ℕ, ℤ, Bool, true, false, ◌&&◌, inl, inr, Some, List, [], ◌∷◌, ◌++◌, ◌+◌, codes, refl, sym, ap, subst, ◌∙◌}
-use Rattle.std.specs.Str.{bytes_eq}
-use Rattle.std.specs.Prelude.{if◌then◌else◌}
-use Rattle.std.proofs.lemmas.Bool.{and_parts}
+use Rattle.std.specs.Prelude.{Option, None}
 use Rattle.std.proofs.lemmas.List.{append_cancel_right}
-use Rattle.eu_name.specs.Word.{IsWord}
+use Rattle.eu_name.specs.Word.{IsWord, reserved_of}
+use Rattle.eu_name.specs.declared.word.Reserved.{Reserved}
 use Rattle.nddl_lexer.specs.declared.kinds.LexKind.{LexKind}
 use Rattle.nddl_lexer.specs.declared.kinds.LexKind.TheVariants as kinds
 use Rattle.nddl_lexer.specs.declared.kinds.Lexeme.{Lexeme}
@@ -27,35 +26,9 @@ is_of_word sorts.Decimal = false
 is_of_word sorts.Quoted = false
 is_of_word sort = true
 
--- the sort beside the first of the words that is this one, else a name's
-abbrev sort_among : List (List ℕ × Sort) → List ℕ → Sort
-sort_among [] bytes = sorts.Name
-sort_among (pair ∷ pairs) bytes = if bytes_eq bytes pair.0 then pair.1 else sort_among pairs bytes
-
-abbrev are_of_words : List (List ℕ × Sort) → Bool
-are_of_words [] = true
-are_of_words (pair ∷ pairs) = is_of_word pair.1 && are_of_words pairs
-
-either : (flag : Bool) (one other : Sort) → is_of_word one ≡ true → is_of_word other ≡ true → is_of_word (if flag then one else other) ≡ true
-either true one other p q = p
-either false one other p q = q
-
-sorts_among : (pairs : List (List ℕ × Sort)) (bytes : List ℕ) → are_of_words pairs ≡ true → is_of_word (sort_among pairs bytes) ≡ true
-sorts_among [] bytes are = refl
-sorts_among (pair ∷ pairs) bytes are =
-    let parts = and_parts (is_of_word pair.1) (are_of_words pairs) are in
-    either (bytes_eq bytes pair.0) pair.1 (sort_among pairs bytes) parts.0 (sorts_among pairs bytes parts.1)
-
-abbrev the_reserved : List (List ℕ × Sort)
-the_reserved =
-    (codes "class", sorts.Class) ∷ ((codes "predicate", sorts.Predicate) ∷ ((codes "enum", sorts.Enum) ∷ ((codes "typedef", sorts.Typedef)
-    ∷ ((codes "extends", sorts.Extends) ∷ ((codes "new", sorts.New) ∷ ((codes "if", sorts.If) ∷ ((codes "else", sorts.Else)
-    ∷ ((codes "foreach", sorts.Foreach) ∷ ((codes "in", sorts.In) ∷ ((codes "int", sorts.Int) ∷ ((codes "float", sorts.Float)
-    ∷ ((codes "bool", sorts.Bool) ∷ ((codes "string", sorts.Text) ∷ ((codes "true", sorts.True) ∷ ((codes "false", sorts.False)
-    ∷ ((codes "super", sorts.Super) ∷ []))))))))))))))))
-
-word_sorts : (bytes : List ℕ) → is_of_word (word_sort bytes) ≡ true
-word_sorts bytes = sorts_among the_reserved bytes refl
+word_sorts : (found : Option Reserved) → is_of_word (word_sort found) ≡ true
+word_sorts None = refl
+word_sorts (Some word) = refl
 
 -- a sort that passes is none that fails
 no_sort : (test : Sort → Bool) (sort is other : Sort) → test is ≡ true → test other ≡ false → sort ≡ is → sort ≡ other → ⊥
@@ -96,10 +69,10 @@ fine_inside bytes kept string keeps = subst (AllPassing is_quotable) (inside_onc
 fine_kind : (kind : LexKind) (bytes : List ℕ) (symbol : PlainSymbol) → IsSpelled kind bytes → IsInRange (Some kind) bytes → symbol.sort ≡ sort_of kind bytes → Keeps kind bytes symbol.bytes
     → HasValue kind bytes symbol.value → IsFine symbol
 fine_kind kinds.Word bytes symbol spelled range sort keeps value = record {
-  named = λ is. (subst IsWord (sym keeps) spelled, ap word_sort keeps ∙ (sym sort ∙ is));
-  number = λ is. absurd (no_sort is_of_word _ (word_sort bytes) sorts.Number (word_sorts bytes) refl sort is);
-  decimal = λ is. absurd (no_sort is_of_word _ (word_sort bytes) sorts.Decimal (word_sorts bytes) refl sort is);
-  quoted = λ is. absurd (no_sort is_of_word _ (word_sort bytes) sorts.Quoted (word_sorts bytes) refl sort is);
+  named = λ is. (subst IsWord (sym keeps) spelled, ap (λ (b : List ℕ). word_sort (reserved_of b)) keeps ∙ (sym sort ∙ is));
+  number = λ is. absurd (no_sort is_of_word _ (word_sort (reserved_of bytes)) sorts.Number (word_sorts (reserved_of bytes)) refl sort is);
+  decimal = λ is. absurd (no_sort is_of_word _ (word_sort (reserved_of bytes)) sorts.Decimal (word_sorts (reserved_of bytes)) refl sort is);
+  quoted = λ is. absurd (no_sort is_of_word _ (word_sort (reserved_of bytes)) sorts.Quoted (word_sorts (reserved_of bytes)) refl sort is);
 }
 fine_kind kinds.Number bytes symbol spelled range sort keeps value = record {
   named = λ is. let no : sorts.Number ≡ sorts.Name = sym sort ∙ is in absurd cc;

@@ -1,5 +1,5 @@
 pub mod Spaced
-pub mod Printing
+pub mod Printed
 pub mod Some
 pub mod Decimals
 pub mod Saying

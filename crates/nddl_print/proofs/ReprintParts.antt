@@ -1,5 +1,6 @@
 -- Names, values, expressions and types, read back from their words.
 use Rattle.std.proofs.Common.{◌≡◌, ℕ, true, false, List, [], ◌∷◌, refl, sym, ap, subst}
+use Rattle.eu_name.specs.declared.word.Reserved.TheVariants as keywords
 use Rattle.nddl_reading.specs.declared.sort.Sort.TheVariants as sorts
 use Rattle.nddl_reading.specs.Symbols.{PlainSymbol}
 use Rattle.nddl_reading.specs.Exact.{◌·◌, IsMark}
@@ -56,8 +57,8 @@ literal_said (constants.Number value) symbols say = let (symbol, only, says) = o
 literal_said (constants.Decimal thousandths) symbols say =
     let (symbol, only, says) = one_said (Decimal thousandths.0) symbols say in
     (symbol, only, (says.0, (λ i. record { 0 = sym says.1 i })))
-literal_said (constants.Truth true) symbols say = let (symbol, only, says) = one_said (Fixed sorts.True) symbols say in (symbol, only, says)
-literal_said (constants.Truth false) symbols say = let (symbol, only, says) = one_said (Fixed sorts.False) symbols say in (symbol, only, says)
+literal_said (constants.Truth true) symbols say = let (symbol, only, says) = one_said (Fixed (sorts.Word keywords.True)) symbols say in (symbol, only, says)
+literal_said (constants.Truth false) symbols say = let (symbol, only, says) = one_said (Fixed (sorts.Word keywords.False)) symbols say in (symbol, only, says)
 
 pub literal_reprints : EachReprints IsLiteral SameLiteral literal_words
 literal_reprints literal = record {
@@ -82,7 +83,7 @@ pub creation_reprints : EachReprints IsCreation SameCreation creation_words
 creation_reprints creation =
     mapped {X = ℕ × (Name × List Expr)} (λ p. record { at = p.0; class = p.1.0; arguments = p.1.1 }) (creation.at, (creation.class, creation.arguments))
     (λ p symbols is. is) (λ symbols is. is) (λ p same. same)
-    (after_placed sorts.New creation.at refl (both (name_reprints creation.class) (arguments_reprint creation.arguments)))
+    (after_placed (sorts.Word keywords.New) creation.at refl (both (name_reprints creation.class) (arguments_reprint creation.arguments)))
 
 pub init_reprints : EachReprints IsInit SameInit init_words
 init_reprints (inits.Expr expr) = mapped inits.Expr expr (λ p symbols is. is) (λ symbols is. is) (λ p same. same) (expr_reprints expr)
@@ -97,10 +98,10 @@ abbrev SameBases : ℕ × BaseType → ℕ × BaseType → Type 0
 SameBases p q = SameBase p.1 q.1
 
 base_reprints : (at : ℕ) (base : BaseType) → Reprints IsBaseAt SameBases (base_words base) (at, base)
-base_reprints at bases.Int = mapped (λ at. (at, bases.Int)) at (λ p symbols is. is) (λ symbols is. is) (λ p same. tt) (placed sorts.Int at refl)
-base_reprints at bases.Float = mapped (λ at. (at, bases.Float)) at (λ p symbols is. is) (λ symbols is. is) (λ p same. tt) (placed sorts.Float at refl)
-base_reprints at bases.Bool = mapped (λ at. (at, bases.Bool)) at (λ p symbols is. is) (λ symbols is. is) (λ p same. tt) (placed sorts.Bool at refl)
-base_reprints at bases.Str = mapped (λ at. (at, bases.Str)) at (λ p symbols is. is) (λ symbols is. is) (λ p same. tt) (placed sorts.Text at refl)
+base_reprints at bases.Int = mapped (λ at. (at, bases.Int)) at (λ p symbols is. is) (λ symbols is. is) (λ p same. tt) (placed (sorts.Word keywords.Int) at refl)
+base_reprints at bases.Float = mapped (λ at. (at, bases.Float)) at (λ p symbols is. is) (λ symbols is. is) (λ p same. tt) (placed (sorts.Word keywords.Float) at refl)
+base_reprints at bases.Bool = mapped (λ at. (at, bases.Bool)) at (λ p symbols is. is) (λ symbols is. is) (λ p same. tt) (placed (sorts.Word keywords.Bool) at refl)
+base_reprints at bases.Str = mapped (λ at. (at, bases.Str)) at (λ p symbols is. is) (λ symbols is. is) (λ p same. tt) (placed (sorts.Word keywords.Str) at refl)
 base_reprints at (bases.Named name) = record {
   sound = λ symbols fine is. (name_reprints name).sound symbols fine is.0;
   again = λ old symbols is say. let (other, named, same) = (name_reprints name).again old symbols is.0 say in ((other.at, bases.Named other), (named, refl), same);

@@ -1,5 +1,6 @@
 -- Statements read back from their words.
 use Rattle.std.proofs.Common.{◌≡◌, ℕ, ◌⊎◌, inl, inr, Option, Some, None, List, refl}
+use Rattle.eu_name.specs.declared.word.Reserved.TheVariants as keywords
 use Rattle.nddl_reading.specs.declared.sort.Sort.TheVariants as sorts
 use Rattle.nddl_reading.specs.Symbols.{PlainSymbol}
 use Rattle.nddl_ast.specs.declared.name.Name.{Name}
@@ -123,21 +124,21 @@ statements_reprint (Tests at condition then_at then more) =
     mapped {X = (ℕ × (Condition × (ℕ × Statements))) × Statements} (λ p. Tests p.0.0 p.0.1.0 p.0.1.1.0 p.0.1.1.1 p.1) ((at, (condition, (then_at, then))), more)
     (λ p symbols is. is) (λ symbols is. is) (λ p same. same)
     (both (reworded (if_more _ _ _ _ (braced (statements_words then)))
-    (after_placed sorts.If at refl (after (mark sorts.ParenOpen refl) (both (condition_reprints condition) (after (mark sorts.ParenClose refl) (braces_reprint then_at then (statements_reprint then)))))))
+    (after_placed (sorts.Word keywords.If) at refl (after (mark sorts.ParenOpen refl) (both (condition_reprints condition) (after (mark sorts.ParenClose refl) (braces_reprint then_at then (statements_reprint then)))))))
     (statements_reprint more))
 statements_reprint (Chooses at condition then_at then else_at else more) =
     mapped {X = (ℕ × (Condition × ((ℕ × Statements) × (ℕ × Statements)))) × Statements}
     (λ p. Chooses p.0.0 p.0.1.0 p.0.1.1.0.0 p.0.1.1.0.1 p.0.1.1.1.0 p.0.1.1.1.1 p.1) ((at, (condition, ((then_at, then), (else_at, else)))), more)
     (λ p symbols is. is) (λ symbols is. is) (λ p same. ((same.0.0, same.0.1.0, same.0.1.1), same.1))
-    (both (reworded (if_more _ _ _ _ (braced (statements_words then) ⌢ (fixed sorts.Else ⌢ braced (statements_words else))))
-    (after_placed sorts.If at refl (after (mark sorts.ParenOpen refl) (both (condition_reprints condition) (after (mark sorts.ParenClose refl)
-    (both (braces_reprint then_at then (statements_reprint then)) (after (mark sorts.Else refl) (otherwise_reprints else_at else (statements_reprint else)))))))))
+    (both (reworded (if_more _ _ _ _ (braced (statements_words then) ⌢ (fixed (sorts.Word keywords.Else) ⌢ braced (statements_words else))))
+    (after_placed (sorts.Word keywords.If) at refl (after (mark sorts.ParenOpen refl) (both (condition_reprints condition) (after (mark sorts.ParenClose refl)
+    (both (braces_reprint then_at then (statements_reprint then)) (after (mark (sorts.Word keywords.Else) refl) (otherwise_reprints else_at else (statements_reprint else)))))))))
     (statements_reprint more))
 statements_reprint (Repeats at name class body_at body more) =
     mapped {X = (ℕ × (Name × (Name × (ℕ × Statements)))) × Statements} (λ p. Repeats p.0.0 p.0.1.0 p.0.1.1.0 p.0.1.1.1.0 p.0.1.1.1.1 p.1) ((at, (name, (class, (body_at, body)))), more)
     (λ p symbols is. is) (λ symbols is. is) (λ p same. ((same.0.0, same.0.1.0, same.0.1.1), same.1))
     (both (reworded (foreach_more _ _ _ _ _ _ (braced (statements_words body)))
-    (after_placed sorts.Foreach at refl (after (mark sorts.ParenOpen refl) (both (name_reprints name) (after (mark sorts.In refl) (both (name_reprints class)
+    (after_placed (sorts.Word keywords.Foreach) at refl (after (mark sorts.ParenOpen refl) (both (name_reprints name) (after (mark (sorts.Word keywords.In) refl) (both (name_reprints class)
     (after (mark sorts.ParenClose refl) (braces_reprint body_at body (statements_reprint body)))))))))
     (statements_reprint more))
 

@@ -1,5 +1,6 @@
 -- Declarations read back from their words.
 use Rattle.std.proofs.Common.{◌≡◌, ℕ, Option, Some, None, List, [], ◌∷◌, refl, sym, subst}
+use Rattle.eu_name.specs.declared.word.Reserved.TheVariants as keywords
 use Rattle.nddl_reading.specs.declared.sort.Sort.TheVariants as sorts
 use Rattle.nddl_reading.specs.Symbols.{PlainSymbol}
 use Rattle.nddl_ast.specs.declared.name.Name.{Name}
@@ -35,7 +36,7 @@ set_reprints (sets.Field name value) =
     (both (name_reprints name) (after (mark sorts.Assign refl) (before (init_reprints value) (mark sorts.Semicolon refl))))
 set_reprints (sets.Super at arguments) =
     mapped {X = ℕ × List Expr} (λ p. sets.Super p.0 p.1) (at, arguments) (λ p symbols is. is) (λ symbols is. is) (λ p same. same)
-    (after_placed sorts.Super at refl
+    (after_placed (sorts.Word keywords.Super) at refl
     (reworded (three_first (fixed sorts.ParenOpen) (listed_words expr_words arguments) (fixed sorts.ParenClose) (fixed sorts.Semicolon))
     (after (mark sorts.ParenOpen refl) (before (listed expr_reprints arguments) (marks (mark sorts.ParenClose refl) (mark sorts.Semicolon refl))))))
 
@@ -44,7 +45,7 @@ member_reprints (members.Field typed) =
     mapped members.Field typed (λ p symbols is. is) (λ symbols is. is) (λ p same. same) (before (typed_reprints typed) (mark sorts.Semicolon refl))
 member_reprints (members.Predicate at name body) =
     mapped {X = ℕ × (Name × List PredicatePart)} (λ p. members.Predicate p.0 p.1.0 p.1.1) (at, (name, body)) (λ p symbols is. is) (λ symbols is. is) (λ p same. same)
-    (after_placed sorts.Predicate at refl (both (name_reprints name)
+    (after_placed (sorts.Word keywords.Predicate) at refl (both (name_reprints name)
     (after (mark sorts.BraceOpen refl) (before (many part_reprints body) (mark_may sorts.Semicolon (mark sorts.BraceClose refl))))))
 member_reprints (members.Constructor name formals body) =
     mapped {X = Name × (List Typed × List Set)} (λ p. members.Constructor p.0 p.1.0 p.1.1) (name, (formals, body)) (λ p symbols is. is) (λ symbols is. is) (λ p same. (same.0, same.1.0, same.1.1))
@@ -69,7 +70,7 @@ file_reprints file at = record {
 
 parent_reprints : EachReprints IsParent (BothSame SameName) parent_words
 parent_reprints None = record { sound = λ symbols fine is. tt; again = λ old symbols is say. (None, say, tt) }
-parent_reprints (Some name) = mapped Some name (λ p symbols is. is) (λ symbols is. is) (λ p same. same) (after (mark sorts.Extends refl) (name_reprints name))
+parent_reprints (Some name) = mapped Some name (λ p symbols is. is) (λ symbols is. is) (λ p same. same) (after (mark (sorts.Word keywords.Extends) refl) (name_reprints name))
 
 decl_reprints : EachReprints IsDecl SameDecl decl_words
 decl_reprints (decls.Include at file file_at) =
@@ -77,18 +78,18 @@ decl_reprints (decls.Include at file file_at) =
     (after_placed sorts.Include at refl (then_may sorts.Semicolon (file_reprints file file_at)))
 decl_reprints (decls.Enum at name members_at names) =
     mapped {X = ℕ × (Name × (ℕ × List Name))} (λ p. decls.Enum p.0 p.1.0 p.1.1.0 p.1.1.1) (at, (name, (members_at, names))) (λ p symbols is. is) (λ symbols is. is) (λ p same. same)
-    (after_placed sorts.Enum at refl (both (name_reprints name)
+    (after_placed (sorts.Word keywords.Enum) at refl (both (name_reprints name)
     (after_placed sorts.BraceOpen members_at refl (before (separated name_reprints names) (mark_may sorts.Semicolon (mark sorts.BraceClose refl))))))
 decl_reprints (decls.Typedef at declared name) =
     mapped {X = ℕ × (types.Type × Name)} (λ p. decls.Typedef p.0 p.1.0 p.1.1) (at, (declared, name)) (λ p symbols is. is) (λ symbols is. is) (λ p same. same)
-    (after_placed sorts.Typedef at refl (both (type_reprints declared) (before (name_reprints name) (mark sorts.Semicolon refl))))
+    (after_placed (sorts.Word keywords.Typedef) at refl (both (type_reprints declared) (before (name_reprints name) (mark sorts.Semicolon refl))))
 decl_reprints (decls.Forward at name) =
     mapped {X = ℕ × Name} (λ p. decls.Forward p.0 p.1) (at, name) (λ p symbols is. is) (λ symbols is. is) (λ p same. same)
-    (after_placed sorts.Class at refl (before (name_reprints name) (mark sorts.Semicolon refl)))
+    (after_placed (sorts.Word keywords.Class) at refl (before (name_reprints name) (mark sorts.Semicolon refl)))
 decl_reprints (decls.Class at name parent body) =
     mapped {X = ℕ × (Name × (Option Name × List Member))} (λ p. decls.Class p.0 p.1.0 p.1.1.0 p.1.1.1) (at, (name, (parent, body))) (λ p symbols is. is) (λ symbols is. is)
     (λ p same. (same.0, same.1.0, same.1.1))
-    (after_placed sorts.Class at refl (both (name_reprints name) (both (parent_reprints parent)
+    (after_placed (sorts.Word keywords.Class) at refl (both (name_reprints name) (both (parent_reprints parent)
     (after (mark sorts.BraceOpen refl) (before (many member_reprints body) (mark_may sorts.Semicolon (mark sorts.BraceClose refl)))))))
 decl_reprints (decls.Rule class predicate body) =
     mapped {X = Name × (Name × Braces)} (λ p. decls.Rule p.0 p.1.0 p.1.1) (class, (predicate, body)) (λ p symbols is. is) (λ symbols is. is) (λ p same. (same.0, same.1.0, same.1.1))

@@ -3,7 +3,7 @@ use Rattle.std.proofs.Common.{◌≡◌, ℕ, Bool, true, false, List, [], ◌�
 use Rattle.nddl_reading.specs.declared.sort.Sort.{Sort}
 use Rattle.nddl_reading.specs.declared.sort.Sort.TheVariants as sorts
 use Rattle.nddl_reading.specs.Symbols.{PlainSymbol}
-use Rattle.eu_name.specs.Word.{IsWord}
+use Rattle.eu_name.specs.Word.{IsWord, reserved_of}
 use Rattle.nddl_lexer.specs.Bytes.{is_quotable, AllPassing}
 use Rattle.nddl_lexer.specs.Spelling.{IsNumberInRange}
 use Rattle.nddl_parser.specs.Symbols.{word_sort}
@@ -19,7 +19,7 @@ is_fixed sorts.Quoted = false
 is_fixed sort = true
 
 abbrev pub IsNamed : List ℕ → Type 0
-IsNamed bytes = IsWord bytes × (word_sort bytes ≡ sorts.Name)
+IsNamed bytes = IsWord bytes × (word_sort (reserved_of bytes) ≡ sorts.Name)
 
 -- the spelling of the word is a lexeme that is read as this word
 abbrev pub IsSound : Word → Type 0

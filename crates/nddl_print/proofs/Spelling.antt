@@ -1,16 +1,18 @@
 -- Each word's spelling is one lexeme, and its symbol is the word.
-use Rattle.std.proofs.Common.{◌≡◌, ℕ, ℤ, pos, Bool, true, false, ◌&&◌, not, IsTrue, Some, inl, inr, List, [], ◌∷◌, codes, refl}
+use Rattle.std.proofs.Common.{◌≡◌, ℕ, ℤ, pos, Bool, true, false, ◌&&◌, not, IsTrue, Some, inl, inr, List, [], ◌∷◌, codes, refl, ap}
 use Rattle.std.specs.Str.{bytes_eq}
 use Rattle.std.proofs.lemmas.Bool.{and_parts, both_ways}
 use Rattle.std.proofs.lemmas.Slice.Eq.{bytes_eq-Decides}
 use Rattle.std.proofs.lemmas.List.Elements.{All-from_recursion}
 use Rattle.std.specs.Fmt.{signed_decimal}
-use Rattle.eu_name.specs.Word.{is_word_start, is_word_byte, IsWord}
+use Rattle.eu_name.specs.Word.{is_word_start, is_word_byte, reserved_of, IsWord}
+use Rattle.eu_name.proofs.Reserved.{reserved_back}
 use Rattle.nddl_lexer.specs.declared.kinds.LexKind.{LexKind}
 use Rattle.nddl_lexer.specs.declared.kinds.LexKind.TheVariants as kinds
 use Rattle.nddl_lexer.specs.Bytes.{AllPassing}
 use Rattle.nddl_lexer.specs.Spelling.{IsSpelled, IsInRange, IsNumber, SpellsNumber}
 use Rattle.nddl_reading.specs.declared.sort.Sort.{Sort}
+use Rattle.eu_name.specs.declared.word.Reserved.TheVariants as keywords
 use Rattle.nddl_reading.specs.declared.sort.Sort.TheVariants as sorts
 use Rattle.nddl_parser.specs.Symbols.{word_sort, sort_of, Keeps, HasValue}
 use Rattle.nddl_print.specs.Words.{Word, Fixed, Named, Number, Decimal, Quoted, fixed_text, decimal_text, text_of}
@@ -56,7 +58,7 @@ word_is (byte ∷ bytes) is =
       λ same. both_ways _ (is_other _ rest.1) ((bytes_eq-Decides (byte ∷ bytes) (codes "inf")).1 same),
     )
 
-reserved : (sort : Sort) → is_word (fixed_text sort) ≡ true → word_sort (fixed_text sort) ≡ sort → Spells (Fixed sort)
+reserved : (sort : Sort) → is_word (fixed_text sort) ≡ true → word_sort (reserved_of (fixed_text sort)) ≡ sort → Spells (Fixed sort)
 reserved sort word is = record {
   kind = kinds.Word;
   spelled = word_is (fixed_text sort) word;
@@ -83,23 +85,23 @@ sign sort kind spelled range keeps valued is = record {
 
 fixed_spells : (sort : Sort) → is_fixed sort ≡ true → Spells (Fixed sort)
 fixed_spells sorts.Name is = absurd cc
-fixed_spells sorts.Class is = reserved sorts.Class refl refl
-fixed_spells sorts.Predicate is = reserved sorts.Predicate refl refl
-fixed_spells sorts.Enum is = reserved sorts.Enum refl refl
-fixed_spells sorts.Typedef is = reserved sorts.Typedef refl refl
-fixed_spells sorts.Extends is = reserved sorts.Extends refl refl
-fixed_spells sorts.New is = reserved sorts.New refl refl
-fixed_spells sorts.If is = reserved sorts.If refl refl
-fixed_spells sorts.Else is = reserved sorts.Else refl refl
-fixed_spells sorts.Foreach is = reserved sorts.Foreach refl refl
-fixed_spells sorts.In is = reserved sorts.In refl refl
-fixed_spells sorts.Int is = reserved sorts.Int refl refl
-fixed_spells sorts.Float is = reserved sorts.Float refl refl
-fixed_spells sorts.Bool is = reserved sorts.Bool refl refl
-fixed_spells sorts.Text is = reserved sorts.Text refl refl
-fixed_spells sorts.True is = reserved sorts.True refl refl
-fixed_spells sorts.False is = reserved sorts.False refl refl
-fixed_spells sorts.Super is = reserved sorts.Super refl refl
+fixed_spells (sorts.Word keywords.Class) is = reserved (sorts.Word keywords.Class) refl (ap word_sort (reserved_back keywords.Class))
+fixed_spells (sorts.Word keywords.Predicate) is = reserved (sorts.Word keywords.Predicate) refl (ap word_sort (reserved_back keywords.Predicate))
+fixed_spells (sorts.Word keywords.Enum) is = reserved (sorts.Word keywords.Enum) refl (ap word_sort (reserved_back keywords.Enum))
+fixed_spells (sorts.Word keywords.Typedef) is = reserved (sorts.Word keywords.Typedef) refl (ap word_sort (reserved_back keywords.Typedef))
+fixed_spells (sorts.Word keywords.Extends) is = reserved (sorts.Word keywords.Extends) refl (ap word_sort (reserved_back keywords.Extends))
+fixed_spells (sorts.Word keywords.New) is = reserved (sorts.Word keywords.New) refl (ap word_sort (reserved_back keywords.New))
+fixed_spells (sorts.Word keywords.If) is = reserved (sorts.Word keywords.If) refl (ap word_sort (reserved_back keywords.If))
+fixed_spells (sorts.Word keywords.Else) is = reserved (sorts.Word keywords.Else) refl (ap word_sort (reserved_back keywords.Else))
+fixed_spells (sorts.Word keywords.Foreach) is = reserved (sorts.Word keywords.Foreach) refl (ap word_sort (reserved_back keywords.Foreach))
+fixed_spells (sorts.Word keywords.In) is = reserved (sorts.Word keywords.In) refl (ap word_sort (reserved_back keywords.In))
+fixed_spells (sorts.Word keywords.Int) is = reserved (sorts.Word keywords.Int) refl (ap word_sort (reserved_back keywords.Int))
+fixed_spells (sorts.Word keywords.Float) is = reserved (sorts.Word keywords.Float) refl (ap word_sort (reserved_back keywords.Float))
+fixed_spells (sorts.Word keywords.Bool) is = reserved (sorts.Word keywords.Bool) refl (ap word_sort (reserved_back keywords.Bool))
+fixed_spells (sorts.Word keywords.Str) is = reserved (sorts.Word keywords.Str) refl (ap word_sort (reserved_back keywords.Str))
+fixed_spells (sorts.Word keywords.True) is = reserved (sorts.Word keywords.True) refl (ap word_sort (reserved_back keywords.True))
+fixed_spells (sorts.Word keywords.False) is = reserved (sorts.Word keywords.False) refl (ap word_sort (reserved_back keywords.False))
+fixed_spells (sorts.Word keywords.Super) is = reserved (sorts.Word keywords.Super) refl (ap word_sort (reserved_back keywords.Super))
 fixed_spells sorts.Number is = absurd cc
 fixed_spells sorts.Decimal is = absurd cc
 fixed_spells sorts.Quoted is = absurd cc

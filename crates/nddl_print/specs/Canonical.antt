@@ -1,7 +1,9 @@
--- The canonical spelling of a tree: its words, without what can be left out, one line a declaration. One definition a line of the grammar.
+-- The canonical spelling of a tree: its words, without what can be left out, one line a declaration. One definition a
+-- line of the grammar.
 use Rattle.std.specs.Prelude.{ℕ, true, false, Option, Some, None, List, [], ◌∷◌, ◌++◌}
 use Rattle.std.specs.List.{flat_map}
 use Rattle.nddl_reading.specs.declared.sort.Sort.{Sort}
+use Rattle.eu_name.specs.declared.word.Reserved.TheVariants as keywords
 use Rattle.nddl_reading.specs.declared.sort.Sort.TheVariants as sorts
 use Rattle.nddl_ast.specs.declared.name.Name.{Name}
 use Rattle.nddl_ast.specs.declared.name.Path.{Path}
@@ -73,8 +75,8 @@ path_words path = name_words path.first ⌢ following_words sorts.Point name_wor
 abbrev pub constant_words : Constant → List Word
 constant_words (constants.Number value) = Number value ∷ []
 constant_words (constants.Decimal thousandths) = Decimal thousandths.0 ∷ []
-constant_words (constants.Truth true) = fixed sorts.True
-constant_words (constants.Truth false) = fixed sorts.False
+constant_words (constants.Truth true) = fixed (sorts.Word keywords.True)
+constant_words (constants.Truth false) = fixed (sorts.Word keywords.False)
 
 abbrev pub literal_words : Literal → List Word
 literal_words literal = constant_words literal.constant
@@ -91,7 +93,8 @@ abbrev pub argument_words : List Expr → List Word
 argument_words arguments = fixed sorts.ParenOpen ⌢ listed_words expr_words arguments ⌢ fixed sorts.ParenClose
 
 abbrev pub creation_words : Creation → List Word
-creation_words creation = fixed sorts.New ⌢ name_words creation.class ⌢ argument_words creation.arguments
+creation_words creation =
+    fixed (sorts.Word keywords.New) ⌢ name_words creation.class ⌢ argument_words creation.arguments
 
 abbrev pub init_words : Init → List Word
 init_words (inits.Expr expr) = expr_words expr
@@ -100,15 +103,16 @@ init_words (inits.New creation) = creation_words creation
 -- ---- types
 
 abbrev pub base_words : BaseType → List Word
-base_words bases.Int = fixed sorts.Int
-base_words bases.Float = fixed sorts.Float
-base_words bases.Bool = fixed sorts.Bool
-base_words bases.Str = fixed sorts.Text
+base_words bases.Int = fixed (sorts.Word keywords.Int)
+base_words bases.Float = fixed (sorts.Word keywords.Float)
+base_words bases.Bool = fixed (sorts.Word keywords.Bool)
+base_words bases.Str = fixed (sorts.Word keywords.Str)
 base_words (bases.Named name) = name_words name
 
 -- a range is written without a comma
 abbrev pub range_words : Value → Value → List Word
-range_words least greatest = fixed sorts.BracketOpen ⌢ value_words least ⌢ value_words greatest ⌢ fixed sorts.BracketClose
+range_words least greatest =
+    fixed sorts.BracketOpen ⌢ value_words least ⌢ value_words greatest ⌢ fixed sorts.BracketClose
 
 -- words between braces
 abbrev pub braced : List Word → List Word
@@ -132,13 +136,16 @@ start_words None = []
 start_words (Some init) = fixed sorts.Assign ⌢ init_words init
 
 abbrev pub variable_words : Variable → List Word
-variable_words variable = type_words variable.declared ⌢ name_words variable.name ⌢ start_words variable.init ⌢ fixed sorts.Semicolon
+variable_words variable =
+    type_words variable.declared ⌢ name_words variable.name ⌢ start_words variable.init ⌢ fixed sorts.Semicolon
 
 abbrev pub call_words : Call → List Word
 call_words call = path_words call.path ⌢ argument_words call.arguments ⌢ fixed sorts.Semicolon
 
 abbrev pub ask_words : Ask → List Word
-ask_words ask = name_words ask.word ⌢ fixed sorts.ParenOpen ⌢ path_words ask.path ⌢ name_words ask.label ⌢ fixed sorts.ParenClose ⌢ fixed sorts.Semicolon
+ask_words ask =
+    name_words ask.word ⌢ fixed sorts.ParenOpen ⌢ path_words ask.path ⌢ name_words ask.label ⌢ fixed sorts.ParenClose
+    ⌢ fixed sorts.Semicolon
 
 abbrev pub condition_words : Condition → List Word
 condition_words (conditions.Truth expr) = expr_words expr
@@ -147,11 +154,14 @@ condition_words (conditions.NotEqual one other) = expr_words one ⌢ fixed sorts
 
 -- `if` and its condition
 abbrev pub if_words : Condition → List Word
-if_words condition = fixed sorts.If ⌢ fixed sorts.ParenOpen ⌢ condition_words condition ⌢ fixed sorts.ParenClose
+if_words condition =
+    fixed (sorts.Word keywords.If) ⌢ fixed sorts.ParenOpen ⌢ condition_words condition ⌢ fixed sorts.ParenClose
 
 -- `foreach`, its variable and its class
 abbrev pub foreach_words : Name → Name → List Word
-foreach_words name class = fixed sorts.Foreach ⌢ fixed sorts.ParenOpen ⌢ name_words name ⌢ fixed sorts.In ⌢ name_words class ⌢ fixed sorts.ParenClose
+foreach_words name class =
+    fixed (sorts.Word keywords.Foreach) ⌢ fixed sorts.ParenOpen ⌢ name_words name ⌢ fixed (sorts.Word keywords.In)
+    ⌢ name_words class ⌢ fixed sorts.ParenClose
 
 -- each block has its braces, that behind `else` too if it is an `if`
 abbrev pub statements_words : Statements → List Word
@@ -159,17 +169,20 @@ statements_words Nothing = []
 statements_words (Declares variable more) = variable_words variable ⌢ statements_words more
 statements_words (Calls call more) = call_words call ⌢ statements_words more
 statements_words (Asks ask more) = ask_words ask ⌢ statements_words more
-statements_words (Tests at condition then_at then more) = (if_words condition ⌢ braced (statements_words then)) ⌢ statements_words more
+statements_words (Tests at condition then_at then more) =
+    (if_words condition ⌢ braced (statements_words then)) ⌢ statements_words more
 statements_words (Chooses at condition then_at then else_at else more) =
-    (if_words condition ⌢ braced (statements_words then) ⌢ fixed sorts.Else ⌢ braced (statements_words else)) ⌢ statements_words more
-statements_words (Repeats at name class body_at body more) = (foreach_words name class ⌢ braced (statements_words body)) ⌢ statements_words more
+    (if_words condition ⌢ braced (statements_words then) ⌢ fixed (sorts.Word keywords.Else)
+    ⌢ braced (statements_words else)) ⌢ statements_words more
+statements_words (Repeats at name class body_at body more) =
+    (foreach_words name class ⌢ braced (statements_words body)) ⌢ statements_words more
 
 abbrev pub block_words : Braces → List Word
 block_words block = braced (statements_words block.statements)
 
 abbrev pub else_words : Option Braces → List Word
 else_words None = []
-else_words (Some block) = fixed sorts.Else ⌢ block_words block
+else_words (Some block) = fixed (sorts.Word keywords.Else) ⌢ block_words block
 
 -- ---- declarations
 
@@ -179,29 +192,35 @@ part_words (parts.Constraint call) = call_words call
 
 abbrev pub set_words : Set → List Word
 set_words (sets.Field name value) = name_words name ⌢ fixed sorts.Assign ⌢ init_words value ⌢ fixed sorts.Semicolon
-set_words (sets.Super at arguments) = fixed sorts.Super ⌢ argument_words arguments ⌢ fixed sorts.Semicolon
+set_words (sets.Super at arguments) =
+    fixed (sorts.Word keywords.Super) ⌢ argument_words arguments ⌢ fixed sorts.Semicolon
 
 abbrev pub formal_words : List Typed → List Word
 formal_words formals = fixed sorts.ParenOpen ⌢ listed_words typed_words formals ⌢ fixed sorts.ParenClose
 
 abbrev pub member_words : Member → List Word
 member_words (members.Field typed) = typed_words typed ⌢ fixed sorts.Semicolon
-member_words (members.Predicate at name parts) = fixed sorts.Predicate ⌢ name_words name ⌢ braced (many_words part_words parts)
+member_words (members.Predicate at name parts) =
+    fixed (sorts.Word keywords.Predicate) ⌢ name_words name ⌢ braced (many_words part_words parts)
 member_words (members.Constructor name formals sets) =
     name_words name ⌢ formal_words formals ⌢ braced (many_words set_words sets)
 
 abbrev pub parent_words : Option Name → List Word
 parent_words None = []
-parent_words (Some name) = fixed sorts.Extends ⌢ name_words name
+parent_words (Some name) = fixed (sorts.Word keywords.Extends) ⌢ name_words name
 
 -- no `;` behind an include, an enum or the body of a class
 abbrev pub decl_words : Decl → List Word
 decl_words (decls.Include at file file_at) = fixed sorts.Include ⌢ (Quoted file ∷ [])
-decl_words (decls.Enum at name members_at members) = fixed sorts.Enum ⌢ name_words name ⌢ braced (listed_words name_words members)
-decl_words (decls.Typedef at declared name) = fixed sorts.Typedef ⌢ type_words declared ⌢ name_words name ⌢ fixed sorts.Semicolon
-decl_words (decls.Forward at name) = fixed sorts.Class ⌢ name_words name ⌢ fixed sorts.Semicolon
-decl_words (decls.Class at name parent members) = fixed sorts.Class ⌢ name_words name ⌢ parent_words parent ⌢ braced (many_words member_words members)
-decl_words (decls.Rule class predicate body) = name_words class ⌢ fixed sorts.DoubleColon ⌢ name_words predicate ⌢ block_words body
+decl_words (decls.Enum at name members_at members) =
+    fixed (sorts.Word keywords.Enum) ⌢ name_words name ⌢ braced (listed_words name_words members)
+decl_words (decls.Typedef at declared name) =
+    fixed (sorts.Word keywords.Typedef) ⌢ type_words declared ⌢ name_words name ⌢ fixed sorts.Semicolon
+decl_words (decls.Forward at name) = fixed (sorts.Word keywords.Class) ⌢ name_words name ⌢ fixed sorts.Semicolon
+decl_words (decls.Class at name parent members) =
+    fixed (sorts.Word keywords.Class) ⌢ name_words name ⌢ parent_words parent ⌢ braced (many_words member_words members)
+decl_words (decls.Rule class predicate body) =
+    name_words class ⌢ fixed sorts.DoubleColon ⌢ name_words predicate ⌢ block_words body
 decl_words (decls.Variable variable) = variable_words variable
 decl_words (decls.Call call) = call_words call
 decl_words (decls.Ask ask) = ask_words ask

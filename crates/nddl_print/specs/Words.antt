@@ -2,10 +2,12 @@
 use Rattle.std.specs.Prelude.{ℕ, suc, ◌+◌, ◌/◌, ◌%◌, ℤ, pos, negsuc, List, [], ◌∷◌, ◌++◌, codes}
 use Rattle.std.specs.List.{join_by, flat_map}
 use Rattle.std.specs.Fmt.{decimal, signed_decimal}
+use Rattle.eu_name.specs.Word.{reserved_word}
 use Rattle.nddl_reading.specs.declared.sort.Sort.{Sort}
 use Rattle.nddl_reading.specs.declared.sort.Sort.TheVariants as sorts
 
--- what stands between two blanks: a reserved word or a mark, by its sort; a name; a number; a decimal, by its thousandths; bytes between quotes
+-- what stands between two blanks: a reserved word or a mark, by its sort; a name; a number; a decimal, by its
+-- thousandths; bytes between quotes
 pub data Word : Type 0 where
   Fixed : Sort → Word
   Named : List ℕ → Word
@@ -16,23 +18,7 @@ pub data Word : Type 0 where
 -- how a reserved word or a mark is spelled; names, values and quoted bytes have no one spelling
 abbrev pub fixed_text : Sort → List ℕ
 fixed_text sorts.Name = []
-fixed_text sorts.Class = codes "class"
-fixed_text sorts.Predicate = codes "predicate"
-fixed_text sorts.Enum = codes "enum"
-fixed_text sorts.Typedef = codes "typedef"
-fixed_text sorts.Extends = codes "extends"
-fixed_text sorts.New = codes "new"
-fixed_text sorts.If = codes "if"
-fixed_text sorts.Else = codes "else"
-fixed_text sorts.Foreach = codes "foreach"
-fixed_text sorts.In = codes "in"
-fixed_text sorts.Int = codes "int"
-fixed_text sorts.Float = codes "float"
-fixed_text sorts.Bool = codes "bool"
-fixed_text sorts.Text = codes "string"
-fixed_text sorts.True = codes "true"
-fixed_text sorts.False = codes "false"
-fixed_text sorts.Super = codes "super"
+fixed_text (sorts.Word word) = reserved_word word
 fixed_text sorts.Number = []
 fixed_text sorts.Decimal = []
 fixed_text sorts.Quoted = []

@@ -6,8 +6,11 @@ ghost use Rattle.nddl_print.specs.Canonical.{argument_words, base_words, bounds_
 
 use super::line::Lines;
 use super::lists::{Print, print_following, print_listed};
+use eu_name::word::Reserved;
 use nddl_ast::declaration::Typed;
-use nddl_ast::expression::{BaseType, Bounds, Constant, Creation, Expr, Init, Literal, Type, Value};
+use nddl_ast::expression::{
+    BaseType, Bounds, Constant, Creation, Expr, Init, Literal, Type, Value,
+};
 use nddl_ast::name::{Name, Path};
 use nddl_reading::sort::Sort;
 use std::alloc::AllocError;
@@ -36,8 +39,8 @@ impl Print for Constant {
         match self {
             Constant::Number(value) => lines.number(*value),
             Constant::Decimal(thousandths) => lines.decimal(thousandths.0),
-            Constant::Truth(true) => lines.fixed(Sort::True),
-            Constant::Truth(false) => lines.fixed(Sort::False),
+            Constant::Truth(true) => lines.fixed(Sort::Word(Reserved::True)),
+            Constant::Truth(false) => lines.fixed(Sort::Word(Reserved::False)),
         }
     }
 }
@@ -85,7 +88,7 @@ impl Print for Creation {
     ghost words = { creation_words };
 
     fn print(&self, lines: &mut Lines) -> Result<(), AllocError> {
-        lines.fixed(Sort::New)?;
+        lines.fixed(Sort::Word(Reserved::New))?;
         self.class.print(lines)?;
         print_arguments(self.arguments.as_slice(), lines)
     }
@@ -107,10 +110,10 @@ impl Print for BaseType {
 
     fn print(&self, lines: &mut Lines) -> Result<(), AllocError> {
         match self {
-            BaseType::Int => lines.fixed(Sort::Int),
-            BaseType::Float => lines.fixed(Sort::Float),
-            BaseType::Bool => lines.fixed(Sort::Bool),
-            BaseType::Str => lines.fixed(Sort::Text),
+            BaseType::Int => lines.fixed(Sort::Word(Reserved::Int)),
+            BaseType::Float => lines.fixed(Sort::Word(Reserved::Float)),
+            BaseType::Bool => lines.fixed(Sort::Word(Reserved::Bool)),
+            BaseType::Str => lines.fixed(Sort::Word(Reserved::Str)),
             BaseType::Named(name) => name.print(lines),
         }
     }

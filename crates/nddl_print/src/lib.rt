@@ -1,4 +1,5 @@
-// Trees in the canonical spelling, which is read back as the same tree.
+//! Trees in the canonical spelling, which is read back as the same tree: `print(alloc, &decls)` of the tree of
+//! `int[0,1]x;` answers the line `int [ 0 1 ] x ;`.
 #![tactic(auto)]
 
 #[tactic(auto, using(crate::proofs::Spaced::words_joined))]
@@ -10,8 +11,8 @@ pub mod laws;
 mod line;
 #[tactic(auto, using(crate::proofs::Spaced::words_joined))]
 mod lists;
-pub mod print;
+pub mod printing;
 #[tactic(auto, using(crate::proofs::Spaced::words_joined))]
 mod statements;
-#[cfg(test)]
-mod tests;
+
+pub use printing::print;

@@ -9,9 +9,10 @@ ghost use Rattle.nddl_print.specs.Canonical.{ask_words, block_words, call_words,
 use super::expressions::print_arguments;
 use super::line::Lines;
 use super::lists::Print;
+use eu_name::word::Reserved;
 use nddl_ast::expression::Init;
 use nddl_ast::name::Name;
-use nddl_ast::statement::{Ask, StmtBlock, Call, Condition, Stmt, Variable};
+use nddl_ast::statement::{Ask, Call, Condition, Stmt, StmtBlock, Variable};
 use nddl_reading::sort::Sort;
 use std::alloc::AllocError;
 
@@ -86,7 +87,7 @@ impl Print for Condition {
 fn print_if(condition: &Condition, lines: &mut Lines) -> Result<(), AllocError>
     ensures { OnOk result (lines.new ≡ lines.old ++ spaced (if_words condition.now)) }
 {
-    lines.fixed(Sort::If)?;
+    lines.fixed(Sort::Word(Reserved::If))?;
     lines.fixed(Sort::ParenOpen)?;
     condition.print(lines)?;
     lines.fixed(Sort::ParenClose)
@@ -96,10 +97,10 @@ fn print_if(condition: &Condition, lines: &mut Lines) -> Result<(), AllocError>
 fn print_foreach(variable: &Name, class: &Name, lines: &mut Lines) -> Result<(), AllocError>
     ensures { OnOk result (lines.new ≡ lines.old ++ spaced (foreach_words variable.now class.now)) }
 {
-    lines.fixed(Sort::Foreach)?;
+    lines.fixed(Sort::Word(Reserved::Foreach))?;
     lines.fixed(Sort::ParenOpen)?;
     variable.print(lines)?;
-    lines.fixed(Sort::In)?;
+    lines.fixed(Sort::Word(Reserved::In))?;
     class.print(lines)?;
     lines.fixed(Sort::ParenClose)
 }
@@ -143,7 +144,7 @@ fn print_else(otherwise: &Option<StmtBlock>, lines: &mut Lines) -> Result<(), Al
     match otherwise {
         None => Ok(()),
         Some(block) => {
-            lines.fixed(Sort::Else)?;
+            lines.fixed(Sort::Word(Reserved::Else))?;
             print_block(block, lines)
         }
     }

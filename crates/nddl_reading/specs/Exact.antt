@@ -71,32 +71,41 @@ abbrev pub IfAt : Option ℕ → ℕ → Type 0
 IfAt None place = Unit {0}
 IfAt (Some at) place = at ≡ place
 
--- the value has a word at the front, with no block in it too deep, and whatever goes on alike begins with that word alone
-pub record IsRead {X : Type 0} (Is : X → List PlainSymbol → Type 0) (deeps : X → Option ℕ) (more : Sort → Bool) (symbols : List PlainSymbol) (x : X) (rest : List PlainSymbol) : Type 0 where
+-- the value has a word at the front, with no block in it too deep, and whatever goes on alike begins with that word
+-- alone
+pub record IsRead {X : Type 0} (Is : X → List PlainSymbol → Type 0) (deeps : X → Option ℕ) (more : Sort → Bool)
+    (symbols : List PlainSymbol) (x : X) (rest : List PlainSymbol) : Type 0 where
   pub used : List PlainSymbol
   pub split : symbols ≡ used ++ rest
   pub derived : Is x used
   pub shallow : deeps x ≡ None
-  pub only : (y : X) (word after : List PlainSymbol) → Is y word → begins more after ≡ false → Agrees (word ++ after) used rest → (y ≡ x) × (word ≡ used)
+  pub only : (y : X) (word after : List PlainSymbol) → Is y word → begins more after ≡ false
+      → Agrees (word ++ after) used rest → (y ≡ x) × (word ≡ used)
 
--- the used symbols begin a word, in which the first block that is too deep can be at any place behind them, and nothing that goes on alike begins with a word
-pub record IsStuck {X : Type 0} (Is : X → List PlainSymbol → Type 0) (deeps : X → Option ℕ) (more : Sort → Bool) (symbols rest : List PlainSymbol) : Type 0 where
+-- the used symbols begin a word, in which the first block that is too deep can be at any place behind them, and
+-- nothing that goes on alike begins with a word
+pub record IsStuck {X : Type 0} (Is : X → List PlainSymbol → Type 0) (deeps : X → Option ℕ) (more : Sort → Bool)
+    (symbols rest : List PlainSymbol) : Type 0 where
   pub used : List PlainSymbol
   pub split : symbols ≡ used ++ rest
   pub begun : (place : ℕ) → (after : List PlainSymbol) × (y : X) × Is y (used ++ after) × IfAt (deeps y) place
-  pub none : (y : X) (word after : List PlainSymbol) → Is y word → begins more after ≡ false → Agrees (word ++ after) used rest → ⊥
+  pub none : (y : X) (word after : List PlainSymbol) → Is y word → begins more after ≡ false
+      → Agrees (word ++ after) used rest → ⊥
 
 -- the next symbol begins a block that is too deep, the first in every word that goes on alike; there is one
-pub record IsDeep {X : Type 0} (Is : X → List PlainSymbol → Type 0) (deeps : X → Option ℕ) (more : Sort → Bool) (symbols rest : List PlainSymbol) : Type 0 where
+pub record IsDeep {X : Type 0} (Is : X → List PlainSymbol → Type 0) (deeps : X → Option ℕ) (more : Sort → Bool)
+    (symbols rest : List PlainSymbol) : Type 0 where
   pub used : List PlainSymbol
   pub symbol : PlainSymbol
   pub left : List PlainSymbol
   pub next : rest ≡ symbol ∷ left
   pub split : symbols ≡ used ++ rest
   pub begun : (after : List PlainSymbol) × (y : X) × Is y (used ++ symbol ∷ after) × (deeps y ≡ Some symbol.at)
-  pub all : (y : X) (word after : List PlainSymbol) → Is y word → begins more after ≡ false → Agrees (word ++ after) used rest → deeps y ≡ Some symbol.at
+  pub all : (y : X) (word after : List PlainSymbol) → Is y word → begins more after ≡ false
+      → Agrees (word ++ after) used rest → deeps y ≡ Some symbol.at
 
-abbrev pub FindsExactly : {X : Type 0} (Is : X → List PlainSymbol → Type 0) (deeps : X → Option ℕ) (more : Sort → Bool) (symbols : List PlainSymbol) → Outcome X → Type 0
+abbrev pub FindsExactly : {X : Type 0} (Is : X → List PlainSymbol → Type 0) (deeps : X → Option ℕ)
+    (more : Sort → Bool) (symbols : List PlainSymbol) → Outcome X → Type 0
 FindsExactly Is deeps more symbols (got x rest) = IsRead Is deeps more symbols x rest
 FindsExactly Is deeps more symbols (stuck rest) = IsStuck Is deeps more symbols rest
 FindsExactly Is deeps more symbols (deep rest) = IsDeep Is deeps more symbols rest
@@ -107,9 +116,12 @@ HasSample {X = X} Is deeps = (place : ℕ) → (word : List PlainSymbol) × (y :
 
 -- each word begins with a symbol that passes the test
 abbrev pub BeginsWith : {X : Type 0} (Is : X → List PlainSymbol → Type 0) (test : Sort → Bool) → Type 0
-BeginsWith {X = X} Is test = (y : X) (word : List PlainSymbol) → Is y word → (symbol : PlainSymbol) × (after : List PlainSymbol) × (word ≡ symbol ∷ after) × (test symbol.sort ≡ true)
+BeginsWith {X = X} Is test =
+    (y : X) (word : List PlainSymbol) → Is y word → (symbol : PlainSymbol) × (after : List PlainSymbol)
+    × (word ≡ symbol ∷ after) × (test symbol.sort ≡ true)
 
 -- what the reader finds is exactly what the language has, and the language has a word
-pub record IsExact {X : Type 0} (Is : X → List PlainSymbol → Type 0) (deeps : X → Option ℕ) (more : Sort → Bool) (reader : List PlainSymbol → Outcome X) : Type 0 where
+pub record IsExact {X : Type 0} (Is : X → List PlainSymbol → Type 0) (deeps : X → Option ℕ) (more : Sort → Bool)
+    (reader : List PlainSymbol → Outcome X) : Type 0 where
   pub answers : (symbols : List PlainSymbol) → FindsExactly Is deeps more symbols (reader symbols)
   pub sample : HasSample Is deeps

@@ -6,7 +6,8 @@ use Rattle.nddl_reading.specs.declared.cursor.Stop.TheVariants.{Stuck, Deep, Mem
 use Rattle.nddl_reading.specs.Sorts.{same}
 use Rattle.nddl_reading.specs.Symbols.{PlainSymbol}
 
--- what a reader finds at the front of a list: a value, no value, or a block that is nested too deep; and what it didn't take
+-- what a reader finds at the front of a list: a value, no value, or a block that is nested too deep; and what it
+-- didn't take
 pub data Outcome (X : Type 0) : Type 0 where
   got : X → List PlainSymbol → Outcome X
   stuck : List PlainSymbol → Outcome X
@@ -69,7 +70,8 @@ choice test one other symbols = if begins test symbols then one symbols else oth
 abbrev pub repeated : {X : Type 0} → ℕ → (Sort → Bool) → Reader X → Reader (List X)
 repeated zero test item symbols = got [] symbols
 repeated (suc n) test item symbols =
-    if begins test symbols then mapped (λ both. both.0 ∷ both.1) (sequence item (repeated n test item)) symbols else got [] symbols
+    if begins test symbols then mapped (λ both. both.0 ∷ both.1)
+    (sequence item (repeated n test item)) symbols else got [] symbols
 
 -- items as long as the next symbol passes the test
 unfoldable pub many : {X : Type 0} → (Sort → Bool) → Reader X → Reader (List X)

@@ -2,24 +2,22 @@
 
 ghost use Rattle.std.specs.Prelude.{◌≡◌, Ok, Err, MatchResult};
 
-use super::cursor::Stop;
-
 /// The value, if what stands behind it was read.
-pub fn behind<T: Drop>(done: Result<(), Stop>, value: T) -> Result<T, Stop>
-    ensures { MatchResult done (λ _. result ≡ Ok value) (λ stop. result ≡ Err stop) }
+pub fn behind<T: Drop, E>(done: Result<(), E>, value: T) -> Result<T, E>
+    ensures { MatchResult done (λ _. result ≡ Ok value) (λ error. result ≡ Err error) }
 {
     match done {
         Ok(()) => Ok(value),
-        Err(stop) => Err(stop),
+        Err(error) => Err(error),
     }
 }
 
 /// The value, and what was read behind it.
-pub fn joined<T: Drop, U>(value: T, read: Result<U, Stop>) -> Result<(T, U), Stop>
-    ensures { MatchResult read (λ more. result ≡ Ok (value, more)) (λ stop. result ≡ Err stop) }
+pub fn joined<T: Drop, U, E>(value: T, read: Result<U, E>) -> Result<(T, U), E>
+    ensures { MatchResult read (λ more. result ≡ Ok (value, more)) (λ error. result ≡ Err error) }
 {
     match read {
         Ok(more) => Ok((value, more)),
-        Err(stop) => Err(stop),
+        Err(error) => Err(error),
     }
 }

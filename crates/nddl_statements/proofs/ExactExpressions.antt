@@ -1,6 +1,7 @@
 -- What the readers of names, values, expressions and types find is exactly what the grammar has.
 use Rattle.std.proofs.Common.{◌≡◌, ℕ, Bool, true, false, ◌⊎◌, inl, inr, List, [], ◌∷◌, refl, sym, subst}
 use Rattle.nddl_reading.specs.declared.sort.Sort.{Sort}
+use Rattle.eu_name.specs.declared.word.Reserved.TheVariants as keywords
 use Rattle.nddl_reading.specs.declared.sort.Sort.TheVariants as sorts
 use Rattle.nddl_reading.specs.Sorts.{same}
 use Rattle.nddl_reading.specs.Symbols.{PlainSymbol}
@@ -50,7 +51,7 @@ path_begins test holds path word h = pair_begins (AreFollowing sorts.Point IsWri
 
 abbrev Literals : Literal → List PlainSymbol → Type 0
 Literals l word = Image number_of (IsSymbol sorts.Number) l word
-    ⊎ (Image decimal_of (IsSymbol sorts.Decimal) l word ⊎ (Image (truth_of true) (IsPlaced sorts.True) l word ⊎ Image (truth_of false) (IsPlaced sorts.False) l word))
+    ⊎ (Image decimal_of (IsSymbol sorts.Decimal) l word ⊎ (Image (truth_of true) (IsPlaced (sorts.Word keywords.True)) l word ⊎ Image (truth_of false) (IsPlaced (sorts.Word keywords.False)) l word))
 
 literals_to : (l : Literal) (word : List PlainSymbol) → Literals l word → IsLiteral l word
 literals_to l word (inl (symbol, eq, h)) = subst (λ (l : Literal). IsLiteral l word) (sym eq) (record { symbol = symbol; only = h.0; written = (h.1, refl); placed = refl })
@@ -65,14 +66,14 @@ literals_from (constants.Truth true) at word h = inr (inr (inl (at, refl, record
 literals_from (constants.Truth false) at word h = inr (inr (inr (at, refl, record { symbol = h.symbol; only = h.only; sorted = h.written; placed = sym h.placed })))
 
 -- a literal begins with one of four sorts
-literal_starts : (test : Sort → Bool) → test sorts.Number ≡ true → test sorts.Decimal ≡ true → test sorts.True ≡ true → test sorts.False ≡ true
+literal_starts : (test : Sort → Bool) → test sorts.Number ≡ true → test sorts.Decimal ≡ true → test (sorts.Word keywords.True) ≡ true → test (sorts.Word keywords.False) ≡ true
     → (constant : Constant) (symbol : PlainSymbol) → Writes symbol constant → test symbol.sort ≡ true
 literal_starts test n d t f (constants.Number v) symbol w = subst (λ (sort : Sort). test sort ≡ true) (sym w.0) n
 literal_starts test n d t f (constants.Decimal v) symbol w = subst (λ (sort : Sort). test sort ≡ true) (sym w.0) d
 literal_starts test n d t f (constants.Truth true) symbol w = subst (λ (sort : Sort). test sort ≡ true) (sym w) t
 literal_starts test n d t f (constants.Truth false) symbol w = subst (λ (sort : Sort). test sort ≡ true) (sym w) f
 
-pub literal_begins : (test : Sort → Bool) → test sorts.Number ≡ true → test sorts.Decimal ≡ true → test sorts.True ≡ true → test sorts.False ≡ true → BeginsWith IsLiteral test
+pub literal_begins : (test : Sort → Bool) → test sorts.Number ≡ true → test sorts.Decimal ≡ true → test (sorts.Word keywords.True) ≡ true → test (sorts.Word keywords.False) ≡ true → BeginsWith IsLiteral test
 literal_begins test n d t f l word h = (h.symbol, [], h.only, literal_starts test n d t f l.constant h.symbol h.written)
 
 pub literal_exact : IsExact IsLiteral no_blocks no_more literal
@@ -80,13 +81,13 @@ unfolding literal same refuses
 literal_exact = relabelled_exact IsLiteral no_blocks
     (choice_exact (is sorts.Number) (image_exact no_blocks number_of (symbol_exact sorts.Number) (λ x. refl))
     (choice_exact (is sorts.Decimal) (image_exact no_blocks decimal_of (symbol_exact sorts.Decimal) (λ x. refl))
-    (choice_exact (is sorts.True) (image_exact no_blocks (truth_of true) (place_exact sorts.True) (λ x. refl)) (image_exact no_blocks (truth_of false) (place_exact sorts.False) (λ x. refl))
-    (image_begins (truth_of true) (is sorts.True) (place_begins sorts.True (is sorts.True) refl))
-    (apart (Image (truth_of false) (IsPlaced sorts.False)) (is sorts.True) no_more (image_begins (truth_of false) (refuses (is sorts.True)) (place_begins sorts.False (refuses (is sorts.True)) refl))))
+    (choice_exact (is (sorts.Word keywords.True)) (image_exact no_blocks (truth_of true) (place_exact (sorts.Word keywords.True)) (λ x. refl)) (image_exact no_blocks (truth_of false) (place_exact (sorts.Word keywords.False)) (λ x. refl))
+    (image_begins (truth_of true) (is (sorts.Word keywords.True)) (place_begins (sorts.Word keywords.True) (is (sorts.Word keywords.True)) refl))
+    (apart (Image (truth_of false) (IsPlaced (sorts.Word keywords.False))) (is (sorts.Word keywords.True)) no_more (image_begins (truth_of false) (refuses (is (sorts.Word keywords.True))) (place_begins (sorts.Word keywords.False) (refuses (is (sorts.Word keywords.True))) refl))))
     (image_begins decimal_of (is sorts.Decimal) (symbol_begins sorts.Decimal (is sorts.Decimal) refl))
-    (apart _ (is sorts.Decimal) no_more (either_begins (refuses (is sorts.Decimal)) (image_begins (truth_of true) _ (place_begins sorts.True _ refl)) (image_begins (truth_of false) _ (place_begins sorts.False _ refl)))))
+    (apart _ (is sorts.Decimal) no_more (either_begins (refuses (is sorts.Decimal)) (image_begins (truth_of true) _ (place_begins (sorts.Word keywords.True) _ refl)) (image_begins (truth_of false) _ (place_begins (sorts.Word keywords.False) _ refl)))))
     (image_begins number_of (is sorts.Number) (symbol_begins sorts.Number (is sorts.Number) refl))
-    (apart _ (is sorts.Number) no_more (either_begins (refuses (is sorts.Number)) (image_begins decimal_of _ (symbol_begins sorts.Decimal _ refl)) (either_begins _ (image_begins (truth_of true) _ (place_begins sorts.True _ refl)) (image_begins (truth_of false) _ (place_begins sorts.False _ refl))))))
+    (apart _ (is sorts.Number) no_more (either_begins (refuses (is sorts.Number)) (image_begins decimal_of _ (symbol_begins sorts.Decimal _ refl)) (either_begins _ (image_begins (truth_of true) _ (place_begins (sorts.Word keywords.True) _ refl)) (image_begins (truth_of false) _ (place_begins (sorts.Word keywords.False) _ refl))))))
     literals_to
     (λ l word h. literals_from l.constant l.at word h)
     (λ x. refl)
@@ -112,7 +113,7 @@ expr_exact = relabelled_exact IsExpr no_blocks
     (apart (Image exprs.Literal IsLiteral) (is sorts.Name) more_path (image_begins exprs.Literal (refuses (is sorts.Name)) (literal_begins (refuses (is sorts.Name)) refl refl refl refl))))
     exprs_to exprs_from (λ x. refl)
 
-pub expr_begins : (test : Sort → Bool) → test sorts.Name ≡ true → test sorts.Number ≡ true → test sorts.Decimal ≡ true → test sorts.True ≡ true → test sorts.False ≡ true → BeginsWith IsExpr test
+pub expr_begins : (test : Sort → Bool) → test sorts.Name ≡ true → test sorts.Number ≡ true → test sorts.Decimal ≡ true → test (sorts.Word keywords.True) ≡ true → test (sorts.Word keywords.False) ≡ true → BeginsWith IsExpr test
 expr_begins test a n d t f (exprs.Path p) word h = path_begins test a p word h
 expr_begins test a n d t f (exprs.Literal l) word h = literal_begins test n d t f l word h
 
@@ -154,7 +155,7 @@ arguments_exact = flat (listed_exact begins_value sorts.Comma expr_exact (expr_b
 pub creation_exact : IsExact IsCreation no_blocks no_more creation
 unfolding creation same refuses
 creation_exact = mapped_exact IsCreation no_blocks (λ p. record { at = p.0; class = p.1.0; arguments = p.1.1.1.0 })
-    (place_exact sorts.New >> name_exact >> mark_exact sorts.ParenOpen >> closed arguments_exact (mark_exact sorts.ParenClose) (mark_begins sorts.ParenClose (refuses more_arguments) refl))
+    (place_exact (sorts.Word keywords.New) >> name_exact >> mark_exact sorts.ParenOpen >> closed arguments_exact (mark_exact sorts.ParenClose) (mark_begins sorts.ParenClose (refuses more_arguments) refl))
     (λ p word h. h)
     (λ c word h. ((c.at, (c.class, (tt, (c.arguments, tt)))), refl, h))
     (λ p. refl)
@@ -170,15 +171,15 @@ inits_from : (e : Init) (word : List PlainSymbol) → IsInit e word → Inits e 
 inits_from (inits.New p) word h = inl (p, refl, h)
 inits_from (inits.Expr l) word h = inr (l, refl, h)
 
-creation_begins : (test : Sort → Bool) → test sorts.New ≡ true → BeginsWith IsCreation test
-creation_begins test holds c word h = front_starts test (IsPlaced sorts.New c.at) _ (place_begins sorts.New test holds c.at) word h
+creation_begins : (test : Sort → Bool) → test (sorts.Word keywords.New) ≡ true → BeginsWith IsCreation test
+creation_begins test holds c word h = front_starts test (IsPlaced (sorts.Word keywords.New) c.at) _ (place_begins (sorts.Word keywords.New) test holds c.at) word h
 
 pub init_exact : IsExact IsInit no_blocks more_path init
 unfolding init same refuses
 init_exact = relabelled_exact IsInit no_blocks
-    (choice_exact (is sorts.New) (image_exact no_blocks inits.New (widened_exact more_path creation_exact (λ sort out. refl)) (λ x. refl)) (image_exact no_blocks inits.Expr expr_exact (λ x. refl))
-    (image_begins inits.New (is sorts.New) (creation_begins (is sorts.New) refl))
-    (apart (Image inits.Expr IsExpr) (is sorts.New) more_path (image_begins inits.Expr (refuses (is sorts.New)) (expr_begins (refuses (is sorts.New)) refl refl refl refl refl))))
+    (choice_exact (is (sorts.Word keywords.New)) (image_exact no_blocks inits.New (widened_exact more_path creation_exact (λ sort out. refl)) (λ x. refl)) (image_exact no_blocks inits.Expr expr_exact (λ x. refl))
+    (image_begins inits.New (is (sorts.Word keywords.New)) (creation_begins (is (sorts.Word keywords.New)) refl))
+    (apart (Image inits.Expr IsExpr) (is (sorts.Word keywords.New)) more_path (image_begins inits.Expr (refuses (is (sorts.Word keywords.New))) (expr_begins (refuses (is (sorts.Word keywords.New))) refl refl refl refl refl))))
     inits_to inits_from (λ x. refl)
 
 -- ---- types
@@ -187,9 +188,9 @@ abbrev pub IsPlacedBase : ℕ × BaseType → List PlainSymbol → Type 0
 IsPlacedBase both = IsBase both.0 both.1
 
 abbrev Bases : ℕ × BaseType → List PlainSymbol → Type 0
-Bases b word = Image (placed bases.Int) (IsPlaced sorts.Int) b word
-    ⊎ (Image (placed bases.Float) (IsPlaced sorts.Float) b word
-    ⊎ (Image (placed bases.Bool) (IsPlaced sorts.Bool) b word ⊎ (Image (placed bases.Str) (IsPlaced sorts.Text) b word ⊎ Image named IsWrittenName b word)))
+Bases b word = Image (placed bases.Int) (IsPlaced (sorts.Word keywords.Int)) b word
+    ⊎ (Image (placed bases.Float) (IsPlaced (sorts.Word keywords.Float)) b word
+    ⊎ (Image (placed bases.Bool) (IsPlaced (sorts.Word keywords.Bool)) b word ⊎ (Image (placed bases.Str) (IsPlaced (sorts.Word keywords.Str)) b word ⊎ Image named IsWrittenName b word)))
 
 bases_to : (b : ℕ × BaseType) (word : List PlainSymbol) → Bases b word → IsPlacedBase b word
 bases_to b word (inl (at, eq, h)) = subst (λ (b : ℕ × BaseType). IsPlacedBase b word) (sym eq) h
@@ -205,29 +206,29 @@ bases_from at bases.Bool word h = inr (inr (inl (at, refl, h)))
 bases_from at bases.Str word h = inr (inr (inr (inl (at, refl, h))))
 bases_from at (bases.Named name) word h = inr (inr (inr (inr (name, (λ i. (h.1 i, bases.Named name)), h.0))))
 
-pub base_begins : (test : Sort → Bool) → test sorts.Int ≡ true → test sorts.Float ≡ true → test sorts.Bool ≡ true → test sorts.Text ≡ true → test sorts.Name ≡ true
+pub base_begins : (test : Sort → Bool) → test (sorts.Word keywords.Int) ≡ true → test (sorts.Word keywords.Float) ≡ true → test (sorts.Word keywords.Bool) ≡ true → test (sorts.Word keywords.Str) ≡ true → test sorts.Name ≡ true
     → (at : ℕ) (b : BaseType) (word : List PlainSymbol) → IsBase at b word → (symbol : PlainSymbol) × (after : List PlainSymbol) × (word ≡ symbol ∷ after) × (test symbol.sort ≡ true)
-base_begins test i f b s n at bases.Int word h = place_begins sorts.Int test i at word h
-base_begins test i f b s n at bases.Float word h = place_begins sorts.Float test f at word h
-base_begins test i f b s n at bases.Bool word h = place_begins sorts.Bool test b at word h
-base_begins test i f b s n at bases.Str word h = place_begins sorts.Text test s at word h
+base_begins test i f b s n at bases.Int word h = place_begins (sorts.Word keywords.Int) test i at word h
+base_begins test i f b s n at bases.Float word h = place_begins (sorts.Word keywords.Float) test f at word h
+base_begins test i f b s n at bases.Bool word h = place_begins (sorts.Word keywords.Bool) test b at word h
+base_begins test i f b s n at bases.Str word h = place_begins (sorts.Word keywords.Str) test s at word h
 base_begins test i f b s n at (bases.Named name) word h = name_begins test n name word h.0
 
 pub base_exact : IsExact IsPlacedBase no_blocks no_more base
 unfolding base same refuses
 base_exact = relabelled_exact IsPlacedBase no_blocks
-    (choice_exact (is sorts.Int) (image_exact no_blocks (placed bases.Int) (place_exact sorts.Int) (λ x. refl))
-    (choice_exact (is sorts.Float) (image_exact no_blocks (placed bases.Float) (place_exact sorts.Float) (λ x. refl))
-    (choice_exact (is sorts.Bool) (image_exact no_blocks (placed bases.Bool) (place_exact sorts.Bool) (λ x. refl))
-    (choice_exact (is sorts.Text) (image_exact no_blocks (placed bases.Str) (place_exact sorts.Text) (λ x. refl)) (image_exact no_blocks named name_exact (λ x. refl))
-    (image_begins (placed bases.Str) (is sorts.Text) (place_begins sorts.Text (is sorts.Text) refl))
-    (apart _ (is sorts.Text) no_more (image_begins named _ (name_begins _ refl))))
-    (image_begins (placed bases.Bool) (is sorts.Bool) (place_begins sorts.Bool (is sorts.Bool) refl))
-    (apart _ (is sorts.Bool) no_more (either_begins _ (image_begins (placed bases.Str) _ (place_begins sorts.Text _ refl)) (image_begins named _ (name_begins _ refl)))))
-    (image_begins (placed bases.Float) (is sorts.Float) (place_begins sorts.Float (is sorts.Float) refl))
-    (apart _ (is sorts.Float) no_more (either_begins _ (image_begins (placed bases.Bool) _ (place_begins sorts.Bool _ refl)) (either_begins _ (image_begins (placed bases.Str) _ (place_begins sorts.Text _ refl)) (image_begins named _ (name_begins _ refl))))))
-    (image_begins (placed bases.Int) (is sorts.Int) (place_begins sorts.Int (is sorts.Int) refl))
-    (apart _ (is sorts.Int) no_more
-    (either_begins _ (image_begins (placed bases.Float) _ (place_begins sorts.Float _ refl))
-    (either_begins _ (image_begins (placed bases.Bool) _ (place_begins sorts.Bool _ refl)) (either_begins _ (image_begins (placed bases.Str) _ (place_begins sorts.Text _ refl)) (image_begins named _ (name_begins _ refl)))))))
+    (choice_exact (is (sorts.Word keywords.Int)) (image_exact no_blocks (placed bases.Int) (place_exact (sorts.Word keywords.Int)) (λ x. refl))
+    (choice_exact (is (sorts.Word keywords.Float)) (image_exact no_blocks (placed bases.Float) (place_exact (sorts.Word keywords.Float)) (λ x. refl))
+    (choice_exact (is (sorts.Word keywords.Bool)) (image_exact no_blocks (placed bases.Bool) (place_exact (sorts.Word keywords.Bool)) (λ x. refl))
+    (choice_exact (is (sorts.Word keywords.Str)) (image_exact no_blocks (placed bases.Str) (place_exact (sorts.Word keywords.Str)) (λ x. refl)) (image_exact no_blocks named name_exact (λ x. refl))
+    (image_begins (placed bases.Str) (is (sorts.Word keywords.Str)) (place_begins (sorts.Word keywords.Str) (is (sorts.Word keywords.Str)) refl))
+    (apart _ (is (sorts.Word keywords.Str)) no_more (image_begins named _ (name_begins _ refl))))
+    (image_begins (placed bases.Bool) (is (sorts.Word keywords.Bool)) (place_begins (sorts.Word keywords.Bool) (is (sorts.Word keywords.Bool)) refl))
+    (apart _ (is (sorts.Word keywords.Bool)) no_more (either_begins _ (image_begins (placed bases.Str) _ (place_begins (sorts.Word keywords.Str) _ refl)) (image_begins named _ (name_begins _ refl)))))
+    (image_begins (placed bases.Float) (is (sorts.Word keywords.Float)) (place_begins (sorts.Word keywords.Float) (is (sorts.Word keywords.Float)) refl))
+    (apart _ (is (sorts.Word keywords.Float)) no_more (either_begins _ (image_begins (placed bases.Bool) _ (place_begins (sorts.Word keywords.Bool) _ refl)) (either_begins _ (image_begins (placed bases.Str) _ (place_begins (sorts.Word keywords.Str) _ refl)) (image_begins named _ (name_begins _ refl))))))
+    (image_begins (placed bases.Int) (is (sorts.Word keywords.Int)) (place_begins (sorts.Word keywords.Int) (is (sorts.Word keywords.Int)) refl))
+    (apart _ (is (sorts.Word keywords.Int)) no_more
+    (either_begins _ (image_begins (placed bases.Float) _ (place_begins (sorts.Word keywords.Float) _ refl))
+    (either_begins _ (image_begins (placed bases.Bool) _ (place_begins (sorts.Word keywords.Bool) _ refl)) (either_begins _ (image_begins (placed bases.Str) _ (place_begins (sorts.Word keywords.Str) _ refl)) (image_begins named _ (name_begins _ refl)))))))
     bases_to (λ b word h. bases_from b.0 b.1 word h) (λ x. refl)

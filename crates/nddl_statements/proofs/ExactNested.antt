@@ -1,6 +1,7 @@
 -- Blocks in blocks: exact at each depth, since they are one deeper.
 use Rattle.std.proofs.Common.{◌≡◌, ℕ, zero, suc, Bool, true, false, Option, Some, None, ◌⊎◌, inl, inr, List, [], ◌∷◌, ◌++◌, refl, sym, ap, subst, ◌∙◌}
 use Rattle.nddl_reading.specs.declared.sort.Sort.{Sort}
+use Rattle.eu_name.specs.declared.word.Reserved.TheVariants as keywords
 use Rattle.nddl_reading.specs.declared.sort.Sort.TheVariants as sorts
 use Rattle.nddl_reading.specs.Sorts.{same}
 use Rattle.nddl_reading.specs.Symbols.{PlainSymbol}
@@ -34,16 +35,16 @@ IsElse b word = Encloses b.at (AreStatements b.statements) word ⊎ (IsLoneIf b.
 
 abbrev pub IsOtherwise : Option Braces → List PlainSymbol → Type 0
 IsOtherwise None = IsNothing
-IsOtherwise (Some b) = IsMark sorts.Else · IsElse b
+IsOtherwise (Some b) = IsMark (sorts.Word keywords.Else) · IsElse b
 
 abbrev IfParts : ℕ × (Unit {0} × (Condition × (Unit {0} × (Braces × Option Braces)))) → List PlainSymbol → Type 0
-IfParts = Paired (IsPlaced sorts.If) (Paired (MarkOf sorts.ParenOpen) (Paired IsCondition (Paired (MarkOf sorts.ParenClose) (Paired IsBlock IsOtherwise))))
+IfParts = Paired (IsPlaced (sorts.Word keywords.If)) (Paired (MarkOf sorts.ParenOpen) (Paired IsCondition (Paired (MarkOf sorts.ParenClose) (Paired IsBlock IsOtherwise))))
 
 abbrev if_of : ℕ × (Unit {0} × (Condition × (Unit {0} × (Braces × Option Braces)))) → Stmt
 if_of p = stmts.If p.0 p.1.1.0 p.1.1.1.1.0 p.1.1.1.1.1
 
 abbrev ForeachParts : ℕ × (Unit {0} × (Name × (Unit {0} × (Name × (Unit {0} × Braces))))) → List PlainSymbol → Type 0
-ForeachParts = Paired (IsPlaced sorts.Foreach) (Paired (MarkOf sorts.ParenOpen) (Paired IsWrittenName (Paired (MarkOf sorts.In) (Paired IsWrittenName (Paired (MarkOf sorts.ParenClose) IsBlock)))))
+ForeachParts = Paired (IsPlaced (sorts.Word keywords.Foreach)) (Paired (MarkOf sorts.ParenOpen) (Paired IsWrittenName (Paired (MarkOf (sorts.Word keywords.In)) (Paired IsWrittenName (Paired (MarkOf sorts.ParenClose) IsBlock)))))
 
 abbrev foreach_of : ℕ × (Unit {0} × (Name × (Unit {0} × (Name × (Unit {0} × Braces))))) → Stmt
 foreach_of p = stmts.Foreach p.0 p.1.1.0 p.1.1.1.1.0 p.1.1.1.1.1.1
@@ -52,8 +53,8 @@ abbrev pub IsStmt : Stmt → List PlainSymbol → Type 0
 IsStmt (stmts.Variable v) = IsVariable v
 IsStmt (stmts.Call c) = IsCall c
 IsStmt (stmts.Ask a) = IsAsk a
-IsStmt (stmts.If at condition then otherwise) = IsPlaced sorts.If at · IsMark sorts.ParenOpen · IsCondition condition · IsMark sorts.ParenClose · IsBlock then · IsOtherwise otherwise
-IsStmt (stmts.Foreach at name class body) = IsPlaced sorts.Foreach at · IsMark sorts.ParenOpen · IsWrittenName name · IsMark sorts.In · IsWrittenName class · IsMark sorts.ParenClose · IsBlock body
+IsStmt (stmts.If at condition then otherwise) = IsPlaced (sorts.Word keywords.If) at · IsMark sorts.ParenOpen · IsCondition condition · IsMark sorts.ParenClose · IsBlock then · IsOtherwise otherwise
+IsStmt (stmts.Foreach at name class body) = IsPlaced (sorts.Word keywords.Foreach) at · IsMark sorts.ParenOpen · IsWrittenName name · IsMark (sorts.Word keywords.In) · IsWrittenName class · IsMark sorts.ParenClose · IsBlock body
 
 abbrev deep_other : ℕ → Option Braces → Option ℕ
 deep_other left None = None
@@ -67,12 +68,12 @@ deep_stmt left other = None
 -- the readers of blocks that may be nested so deep are exact
 pub record AreExact (left : ℕ) (inner : Inner) : Type 0 where
   pub block : IsExact IsBlock (deep_block left) no_more inner.0
-  pub else : IsExact IsElse (deep_block left) (is sorts.Else) inner.1
+  pub else : IsExact IsElse (deep_block left) (is (sorts.Word keywords.Else)) inner.1
 
 -- ---- statements
 
 abbrev Otherwise : Option Braces → List PlainSymbol → Type 0
-Otherwise o word = Image Some (λ b. IsMark sorts.Else · IsElse b) o word ⊎ EmptyFor None o word
+Otherwise o word = Image Some (λ b. IsMark (sorts.Word keywords.Else) · IsElse b) o word ⊎ EmptyFor None o word
 
 otherwise_to : (o : Option Braces) (word : List PlainSymbol) → Otherwise o word → IsOtherwise o word
 otherwise_to o word (inl (b, eq, h)) = subst (λ (o : Option Braces). IsOtherwise o word) (sym eq) h
@@ -82,23 +83,23 @@ otherwise_from : (o : Option Braces) (word : List PlainSymbol) → IsOtherwise o
 otherwise_from None word h = inr (refl, h)
 otherwise_from (Some b) word h = inl (b, refl, h)
 
-otherwise_exact : (left : ℕ) (inner : Inner) → AreExact left inner → IsExact IsOtherwise (deep_other left) (is sorts.Else) (otherwise_with inner)
+otherwise_exact : (left : ℕ) (inner : Inner) → AreExact left inner → IsExact IsOtherwise (deep_other left) (is (sorts.Word keywords.Else)) (otherwise_with inner)
 unfolding same refuses
 otherwise_exact left inner a = relabelled_exact IsOtherwise (deep_other left)
-    (choice_exact (is sorts.Else) (image_exact (deep_other left) Some (after_exact sorts.Else a.else) (λ x. refl)) (nothing_exact None (deep_other left) (is sorts.Else) refl)
-    (image_begins Some (is sorts.Else) (after_begins IsElse sorts.Else (is sorts.Else) refl))
-    (λ y word after h out. aside_empty None (is sorts.Else) y word after h out))
+    (choice_exact (is (sorts.Word keywords.Else)) (image_exact (deep_other left) Some (after_exact (sorts.Word keywords.Else) a.else) (λ x. refl)) (nothing_exact None (deep_other left) (is (sorts.Word keywords.Else)) refl)
+    (image_begins Some (is (sorts.Word keywords.Else)) (after_begins IsElse (sorts.Word keywords.Else) (is (sorts.Word keywords.Else)) refl))
+    (λ y word after h out. aside_empty None (is (sorts.Word keywords.Else)) y word after h out))
     otherwise_to otherwise_from (λ x. refl)
 
-if_exact : (left : ℕ) (inner : Inner) → AreExact left inner → IsExact (Image if_of IfParts) (deep_stmt left) (is sorts.Else) (if_with inner)
+if_exact : (left : ℕ) (inner : Inner) → AreExact left inner → IsExact (Image if_of IfParts) (deep_stmt left) (is (sorts.Word keywords.Else)) (if_with inner)
 unfolding same refuses
 if_exact left inner a = image_exact (deep_stmt left) if_of
-    (place_exact sorts.If >> mark_exact sorts.ParenOpen >> closed condition_exact (mark_exact sorts.ParenClose >> a.block >> otherwise_exact left inner a) (pair_begins (Paired IsBlock IsOtherwise) (refuses more_condition) (mark_begins sorts.ParenClose (refuses more_condition) refl)))
+    (place_exact (sorts.Word keywords.If) >> mark_exact sorts.ParenOpen >> closed condition_exact (mark_exact sorts.ParenClose >> a.block >> otherwise_exact left inner a) (pair_begins (Paired IsBlock IsOtherwise) (refuses more_condition) (mark_begins sorts.ParenClose (refuses more_condition) refl)))
     (λ p. refl)
 
 foreach_exact : (left : ℕ) (inner : Inner) → AreExact left inner → IsExact (Image foreach_of ForeachParts) (deep_stmt left) no_more (foreach_with inner)
 foreach_exact left inner a = image_exact (deep_stmt left) foreach_of
-    (place_exact sorts.Foreach >> mark_exact sorts.ParenOpen >> name_exact >> mark_exact sorts.In >> name_exact >> mark_exact sorts.ParenClose >> a.block) (λ p. refl)
+    (place_exact (sorts.Word keywords.Foreach) >> mark_exact sorts.ParenOpen >> name_exact >> mark_exact (sorts.Word keywords.In) >> name_exact >> mark_exact sorts.ParenClose >> a.block) (λ p. refl)
 
 abbrev Stmts : Stmt → List PlainSymbol → Type 0
 Stmts s word = Image if_of IfParts s word ⊎ (Image foreach_of ForeachParts s word ⊎ Image stmt_of IsPlain s word)
@@ -125,23 +126,23 @@ plain_deep left (plains.Variable v) = refl
 plain_deep left (plains.Call c) = refl
 plain_deep left (plains.Ask a) = refl
 
-if_begins : (test : Sort → Bool) → test sorts.If ≡ true → BeginsWith (Image if_of IfParts) test
-if_begins test holds s word (p, eq, h) = front_starts test (IsPlaced sorts.If p.0) _ (place_begins sorts.If test holds p.0) word h
+if_begins : (test : Sort → Bool) → test (sorts.Word keywords.If) ≡ true → BeginsWith (Image if_of IfParts) test
+if_begins test holds s word (p, eq, h) = front_starts test (IsPlaced (sorts.Word keywords.If) p.0) _ (place_begins (sorts.Word keywords.If) test holds p.0) word h
 
-foreach_begins : (test : Sort → Bool) → test sorts.Foreach ≡ true → BeginsWith (Image foreach_of ForeachParts) test
-foreach_begins test holds s word (p, eq, h) = front_starts test (IsPlaced sorts.Foreach p.0) _ (place_begins sorts.Foreach test holds p.0) word h
+foreach_begins : (test : Sort → Bool) → test (sorts.Word keywords.Foreach) ≡ true → BeginsWith (Image foreach_of ForeachParts) test
+foreach_begins test holds s word (p, eq, h) = front_starts test (IsPlaced (sorts.Word keywords.Foreach) p.0) _ (place_begins (sorts.Word keywords.Foreach) test holds p.0) word h
 
-stmt_exact : (left : ℕ) (inner : Inner) → AreExact left inner → IsExact IsStmt (deep_stmt left) (is sorts.Else) (stmt_with inner)
+stmt_exact : (left : ℕ) (inner : Inner) → AreExact left inner → IsExact IsStmt (deep_stmt left) (is (sorts.Word keywords.Else)) (stmt_with inner)
 unfolding same refuses
 stmt_exact left inner a = relabelled_exact IsStmt (deep_stmt left)
-    (choice_exact (is sorts.If) (if_exact left inner a)
-    (choice_exact (is sorts.Foreach) (widened_exact (is sorts.Else) (foreach_exact left inner a) (λ sort out. refl))
-    (widened_exact (is sorts.Else) (image_exact (deep_stmt left) stmt_of plain_exact (plain_deep left)) (λ sort out. refl))
-    (foreach_begins (is sorts.Foreach) refl)
-    (apart (Image stmt_of IsPlain) (is sorts.Foreach) (is sorts.Else) (image_begins stmt_of (refuses (is sorts.Foreach)) (plain_begins (refuses (is sorts.Foreach)) refl refl refl refl refl))))
-    (if_begins (is sorts.If) refl)
-    (apart (λ s word. Image foreach_of ForeachParts s word ⊎ Image stmt_of IsPlain s word) (is sorts.If) (is sorts.Else)
-    (either_begins (refuses (is sorts.If)) (foreach_begins (refuses (is sorts.If)) refl) (image_begins stmt_of (refuses (is sorts.If)) (plain_begins (refuses (is sorts.If)) refl refl refl refl refl)))))
+    (choice_exact (is (sorts.Word keywords.If)) (if_exact left inner a)
+    (choice_exact (is (sorts.Word keywords.Foreach)) (widened_exact (is (sorts.Word keywords.Else)) (foreach_exact left inner a) (λ sort out. refl))
+    (widened_exact (is (sorts.Word keywords.Else)) (image_exact (deep_stmt left) stmt_of plain_exact (plain_deep left)) (λ sort out. refl))
+    (foreach_begins (is (sorts.Word keywords.Foreach)) refl)
+    (apart (Image stmt_of IsPlain) (is (sorts.Word keywords.Foreach)) (is (sorts.Word keywords.Else)) (image_begins stmt_of (refuses (is (sorts.Word keywords.Foreach))) (plain_begins (refuses (is (sorts.Word keywords.Foreach))) refl refl refl refl refl))))
+    (if_begins (is (sorts.Word keywords.If)) refl)
+    (apart (λ s word. Image foreach_of ForeachParts s word ⊎ Image stmt_of IsPlain s word) (is (sorts.Word keywords.If)) (is (sorts.Word keywords.Else))
+    (either_begins (refuses (is (sorts.Word keywords.If))) (foreach_begins (refuses (is (sorts.Word keywords.If))) refl) (image_begins stmt_of (refuses (is (sorts.Word keywords.If))) (plain_begins (refuses (is (sorts.Word keywords.If))) refl refl refl refl refl)))))
     stmts_to stmts_from (λ s. refl)
 
 stmt_begins : BeginsWith IsStmt begins_stmt
@@ -161,12 +162,12 @@ not_that test sort fails other holds = by (is sort other) refl where
 -- ---- lists of statements
 
 with_none : (at : ℕ) (condition : Condition) (then : Braces) (word : List PlainSymbol) → IsStmt (stmts.If at condition then None) word
-    → (IsPlaced sorts.If at · IsMark sorts.ParenOpen · IsCondition condition · IsMark sorts.ParenClose · IsBlock then) word
-with_none at condition then = in_back (IsPlaced sorts.If at) _ _ (in_back (IsMark sorts.ParenOpen) _ _ (in_back (IsCondition condition) _ _ (in_back (IsMark sorts.ParenClose) (IsBlock then · IsNothing) (IsBlock then) (without_nothing (IsBlock then)))))
+    → (IsPlaced (sorts.Word keywords.If) at · IsMark sorts.ParenOpen · IsCondition condition · IsMark sorts.ParenClose · IsBlock then) word
+with_none at condition then = in_back (IsPlaced (sorts.Word keywords.If) at) _ _ (in_back (IsMark sorts.ParenOpen) _ _ (in_back (IsCondition condition) _ _ (in_back (IsMark sorts.ParenClose) (IsBlock then · IsNothing) (IsBlock then) (without_nothing (IsBlock then)))))
 
-to_none : (at : ℕ) (condition : Condition) (then : Braces) (word : List PlainSymbol) → (IsPlaced sorts.If at · IsMark sorts.ParenOpen · IsCondition condition · IsMark sorts.ParenClose · IsBlock then) word
+to_none : (at : ℕ) (condition : Condition) (then : Braces) (word : List PlainSymbol) → (IsPlaced (sorts.Word keywords.If) at · IsMark sorts.ParenOpen · IsCondition condition · IsMark sorts.ParenClose · IsBlock then) word
     → IsStmt (stmts.If at condition then None) word
-to_none at condition then = in_back (IsPlaced sorts.If at) _ _ (in_back (IsMark sorts.ParenOpen) _ _ (in_back (IsCondition condition) _ _ (in_back (IsMark sorts.ParenClose) (IsBlock then) (IsBlock then · IsNothing) (with_nothing (IsBlock then)))))
+to_none at condition then = in_back (IsPlaced (sorts.Word keywords.If) at) _ _ (in_back (IsMark sorts.ParenOpen) _ _ (in_back (IsCondition condition) _ _ (in_back (IsMark sorts.ParenClose) (IsBlock then) (IsBlock then · IsNothing) (with_nothing (IsBlock then)))))
 
 list_to : (xs : List Stmt) (word : List PlainSymbol) → AreMany IsStmt xs word → AreStatements (statements_of xs) word
 list_to [] word h = h
@@ -216,7 +217,7 @@ list_deep left (stmts.Foreach at name class body ∷ xs) = ap (λ (o : Option �
 block_exact : (left : ℕ) (inner : Inner) → AreExact left inner → IsExact IsBlock (deep_block (suc left)) no_more (block_with inner)
 unfolding same refuses
 block_exact left inner a = mapped_exact IsBlock (deep_block (suc left)) (λ p. record { at = p.0; statements = statements_of p.1.0 })
-    (place_exact sorts.BraceOpen >> closed (many_exact begins_stmt (stmt_exact left inner a) stmt_begins (not_that begins_stmt sorts.Else refl)) (mark_exact sorts.BraceClose) (mark_begins sorts.BraceClose (refuses (wider begins_stmt (is sorts.Else))) refl))
+    (place_exact sorts.BraceOpen >> closed (many_exact begins_stmt (stmt_exact left inner a) stmt_begins (not_that begins_stmt (sorts.Word keywords.Else) refl)) (mark_exact sorts.BraceClose) (mark_begins sorts.BraceClose (refuses (wider begins_stmt (is (sorts.Word keywords.Else)))) refl))
     (λ p word h. (h.0, h.1, h.2, h.3, (h.4.0, h.4.1, h.4.2, list_to p.1.0 h.4.0 h.4.3, h.4.4)))
     (λ b word h.
     let xs = list_from b.statements h.4.0 h.4.3 in
@@ -247,20 +248,20 @@ lone_from at (Chooses if_at condition then_at then else_at else Nothing) word is
 )
 lone_from at other word is h = absurd is
 
-lone_begins : (test : Sort → Bool) → test sorts.If ≡ true → BeginsWith LoneIf test
+lone_begins : (test : Sort → Bool) → test (sorts.Word keywords.If) ≡ true → BeginsWith LoneIf test
 lone_begins test holds b word (is, h) = let s = lone_from b.at b.statements word is h in if_begins test holds s.0 word s.2
 
-lone_exact : (left : ℕ) (inner : Inner) → AreExact left inner → IsExact LoneIf (deep_block (suc left)) (is sorts.Else) (mapped lone (if_with inner))
+lone_exact : (left : ℕ) (inner : Inner) → AreExact left inner → IsExact LoneIf (deep_block (suc left)) (is (sorts.Word keywords.Else)) (mapped lone (if_with inner))
 lone_exact left inner a = mapped_exact LoneIf (deep_block (suc left)) lone (if_exact left inner a)
     (λ s word h. subst (λ (s : Stmt). LoneIf (lone s) word) (sym h.1) (lone_to h.0 word h.2))
     (λ b word h. lone_from b.at b.statements word h.0 h.1)
     (λ s. list_deep left (s ∷ []) ∙ earlier_right (deep_stmt left s))
 
-else_of : (left : ℕ) {one other : List PlainSymbol → Outcome Braces} → IsExact LoneIf (deep_block left) (is sorts.Else) one → IsExact IsBlock (deep_block left) no_more other → IsExact IsElse (deep_block left) (is sorts.Else) (choice (is sorts.If) one other)
+else_of : (left : ℕ) {one other : List PlainSymbol → Outcome Braces} → IsExact LoneIf (deep_block left) (is (sorts.Word keywords.Else)) one → IsExact IsBlock (deep_block left) no_more other → IsExact IsElse (deep_block left) (is (sorts.Word keywords.Else)) (choice (is (sorts.Word keywords.If)) one other)
 unfolding same refuses
 else_of left a b = relabelled_exact IsElse (deep_block left)
-    (choice_exact (is sorts.If) a (widened_exact (is sorts.Else) b (λ sort out. refl)) (lone_begins (is sorts.If) refl)
-    (apart IsBlock (is sorts.If) (is sorts.Else) (block_begins (refuses (is sorts.If)) refl)))
+    (choice_exact (is (sorts.Word keywords.If)) a (widened_exact (is (sorts.Word keywords.Else)) b (λ sort out. refl)) (lone_begins (is (sorts.Word keywords.If)) refl)
+    (apart IsBlock (is (sorts.Word keywords.If)) (is (sorts.Word keywords.Else)) (block_begins (refuses (is (sorts.Word keywords.If))) refl)))
     (λ b word h. elim h as (λ f. IsElse b word) [ inl g ↦ inr g | inr g ↦ inl g ])
     (λ b word h. elim h as (λ f. LoneIf b word ⊎ IsBlock b word) [ inl g ↦ inr g | inr g ↦ inl g ])
     (λ b. refl)
@@ -270,7 +271,7 @@ else_of left a b = relabelled_exact IsElse (deep_block left)
 block_opens : (b : Braces) (word : List PlainSymbol) → IsBlock b word → Opens sorts.BraceOpen b word
 block_opens b word h = (h.3.symbol, h.1, h.2 ∙ ap (λ (l : List PlainSymbol). l ++ h.1) h.3.only, h.3.sorted, h.3.placed)
 
-lone_opens : (b : Braces) (word : List PlainSymbol) → LoneIf b word → Opens sorts.If b word
+lone_opens : (b : Braces) (word : List PlainSymbol) → LoneIf b word → Opens (sorts.Word keywords.If) b word
 lone_opens b word (is, h) =
     let s = lone_from b.at b.statements word is h in
     let p = s.2 in
@@ -294,7 +295,7 @@ block_complete c is =
 blocks_none : IsExact IsBlock (deep_block 0) no_more (too_deep sorts.BraceOpen)
 blocks_none = too_deep_exact sorts.BraceOpen IsBlock no_more block_opens block_complete
 
-lone_complete : (c : PlainSymbol) → c.sort ≡ sorts.If → (after : List PlainSymbol) × (b : Braces) × LoneIf b (c ∷ after) × (b.at ≡ c.at)
+lone_complete : (c : PlainSymbol) → c.sort ≡ (sorts.Word keywords.If) → (after : List PlainSymbol) × (b : Braces) × LoneIf b (c ∷ after) × (b.at ≡ c.at)
 unfolding same refuses
 lone_complete c is =
     let end = (mark_exact sorts.ParenOpen >> closed condition_exact (mark_exact sorts.ParenClose >> blocks_none) (pair_begins IsBlock (refuses more_condition) (mark_begins sorts.ParenClose (refuses more_condition) refl))).sample 0 in (
@@ -304,8 +305,8 @@ lone_complete c is =
       refl,
     )
 
-lone_none : IsExact LoneIf (deep_block 0) (is sorts.Else) (too_deep sorts.If)
-lone_none = too_deep_exact sorts.If LoneIf (is sorts.Else) lone_opens lone_complete
+lone_none : IsExact LoneIf (deep_block 0) (is (sorts.Word keywords.Else)) (too_deep (sorts.Word keywords.If))
+lone_none = too_deep_exact (sorts.Word keywords.If) LoneIf (is (sorts.Word keywords.Else)) lone_opens lone_complete
 
 blocks_exact : (left : ℕ) → AreExact left (blocks left)
 unfolding blocks

@@ -1,6 +1,7 @@
 -- Behind a name come a variable, a call, or what asks for something.
 use Rattle.std.proofs.Common.{◌≡◌, ℕ, Bool, true, false, not, Option, ◌⊎◌, inl, inr, List, [], ◌∷◌, refl, sym, ap, subst, ◌∙◌}
 use Rattle.nddl_reading.specs.declared.sort.Sort.{Sort}
+use Rattle.eu_name.specs.declared.word.Reserved.TheVariants as keywords
 use Rattle.nddl_reading.specs.declared.sort.Sort.TheVariants as sorts
 use Rattle.nddl_reading.specs.Sorts.{same}
 use Rattle.nddl_reading.specs.Symbols.{PlainSymbol}
@@ -177,19 +178,19 @@ variable_plain at (bases.Named first) b n o word h =
     )
 variable_plain at bases.Int b n o word h = inr (
   (record { declared = record { at = at; base = bases.Int; bounds = b }; name = n; init = o }, refl, h),
-  starts_not (is sorts.Name) word (front_starts (refuses (is sorts.Name)) (IsType (record { at = at; base = bases.Int; bounds = b })) _ (front_starts (refuses (is sorts.Name)) (IsPlaced sorts.Int at) (IsBounds b) (place_begins sorts.Int (refuses (is sorts.Name)) refl at)) word h),
+  starts_not (is sorts.Name) word (front_starts (refuses (is sorts.Name)) (IsType (record { at = at; base = bases.Int; bounds = b })) _ (front_starts (refuses (is sorts.Name)) (IsPlaced (sorts.Word keywords.Int) at) (IsBounds b) (place_begins (sorts.Word keywords.Int) (refuses (is sorts.Name)) refl at)) word h),
 )
 variable_plain at bases.Float b n o word h = inr (
   (record { declared = record { at = at; base = bases.Float; bounds = b }; name = n; init = o }, refl, h),
-  starts_not (is sorts.Name) word (front_starts (refuses (is sorts.Name)) (IsType (record { at = at; base = bases.Float; bounds = b })) _ (front_starts (refuses (is sorts.Name)) (IsPlaced sorts.Float at) (IsBounds b) (place_begins sorts.Float (refuses (is sorts.Name)) refl at)) word h),
+  starts_not (is sorts.Name) word (front_starts (refuses (is sorts.Name)) (IsType (record { at = at; base = bases.Float; bounds = b })) _ (front_starts (refuses (is sorts.Name)) (IsPlaced (sorts.Word keywords.Float) at) (IsBounds b) (place_begins (sorts.Word keywords.Float) (refuses (is sorts.Name)) refl at)) word h),
 )
 variable_plain at bases.Bool b n o word h = inr (
   (record { declared = record { at = at; base = bases.Bool; bounds = b }; name = n; init = o }, refl, h),
-  starts_not (is sorts.Name) word (front_starts (refuses (is sorts.Name)) (IsType (record { at = at; base = bases.Bool; bounds = b })) _ (front_starts (refuses (is sorts.Name)) (IsPlaced sorts.Bool at) (IsBounds b) (place_begins sorts.Bool (refuses (is sorts.Name)) refl at)) word h),
+  starts_not (is sorts.Name) word (front_starts (refuses (is sorts.Name)) (IsType (record { at = at; base = bases.Bool; bounds = b })) _ (front_starts (refuses (is sorts.Name)) (IsPlaced (sorts.Word keywords.Bool) at) (IsBounds b) (place_begins (sorts.Word keywords.Bool) (refuses (is sorts.Name)) refl at)) word h),
 )
 variable_plain at bases.Str b n o word h = inr (
   (record { declared = record { at = at; base = bases.Str; bounds = b }; name = n; init = o }, refl, h),
-  starts_not (is sorts.Name) word (front_starts (refuses (is sorts.Name)) (IsType (record { at = at; base = bases.Str; bounds = b })) _ (front_starts (refuses (is sorts.Name)) (IsPlaced sorts.Text at) (IsBounds b) (place_begins sorts.Text (refuses (is sorts.Name)) refl at)) word h),
+  starts_not (is sorts.Name) word (front_starts (refuses (is sorts.Name)) (IsType (record { at = at; base = bases.Str; bounds = b })) _ (front_starts (refuses (is sorts.Name)) (IsPlaced (sorts.Word keywords.Str) at) (IsBounds b) (place_begins (sorts.Word keywords.Str) (refuses (is sorts.Name)) refl at)) word h),
 )
 
 pub plain_from : (y : SimpleStmt) (word : List PlainSymbol) → IsPlain y word → Plains y word
@@ -229,7 +230,7 @@ plain_exact = relabelled_exact IsPlain no_blocks
     ])
     plain_from (λ y. refl)
 
-pub plain_begins : (test : Sort → Bool) → test sorts.Int ≡ true → test sorts.Float ≡ true → test sorts.Bool ≡ true → test sorts.Text ≡ true → test sorts.Name ≡ true → BeginsWith IsPlain test
+pub plain_begins : (test : Sort → Bool) → test (sorts.Word keywords.Int) ≡ true → test (sorts.Word keywords.Float) ≡ true → test (sorts.Word keywords.Bool) ≡ true → test (sorts.Word keywords.Str) ≡ true → test sorts.Name ≡ true → BeginsWith IsPlain test
 plain_begins test i f b s n (plains.Variable v) word h = variable_begins test i f b s n v word h
 plain_begins test i f b s n (plains.Call c) word h = front_starts test (IsPath c.path) _ (path_begins test n c.path) word h
 plain_begins test i f b s n (plains.Ask a) word h = front_starts test (IsWrittenName a.word) _ (name_begins test n a.word) word h

@@ -1,6 +1,7 @@
 -- What the readers of types and of statements without blocks find is exactly what the grammar has.
 use Rattle.std.proofs.Common.{◌≡◌, ℕ, Bool, true, false, ◌||◌, Option, Some, None, ◌⊎◌, inl, inr, List, [], ◌∷◌, ◌++◌, refl, sym, ap, subst, ◌∙◌}
 use Rattle.nddl_reading.specs.declared.sort.Sort.{Sort}
+use Rattle.eu_name.specs.declared.word.Reserved.TheVariants as keywords
 use Rattle.nddl_reading.specs.declared.sort.Sort.TheVariants as sorts
 use Rattle.nddl_reading.specs.Sorts.{same}
 use Rattle.nddl_reading.specs.Symbols.{PlainSymbol}
@@ -53,7 +54,7 @@ still test (c ∷ word) after p q = p
 
 -- ---- types
 
-value_begins : (test : Sort → Bool) → test sorts.Name ≡ true → test sorts.Number ≡ true → test sorts.Decimal ≡ true → test sorts.True ≡ true → test sorts.False ≡ true → BeginsWith IsWrittenValue test
+value_begins : (test : Sort → Bool) → test sorts.Name ≡ true → test sorts.Number ≡ true → test sorts.Decimal ≡ true → test (sorts.Word keywords.True) ≡ true → test (sorts.Word keywords.False) ≡ true → BeginsWith IsWrittenValue test
 value_begins test a n d t f (values.Name p) word h = name_begins test a p word h
 value_begins test a n d t f (values.Literal l) word h = literal_begins test n d t f l word h
 
@@ -125,7 +126,7 @@ unfolding type_of
 type_exact = mapped_exact IsType no_blocks (λ p. record { at = p.0.0; base = p.0.1; bounds = p.1 }) (base_exact >> bounds_exact)
     (λ p word h. h) (λ t word h. (((t.at, t.base), t.bounds), refl, h)) (λ p. refl)
 
-pub type_begins : (test : Sort → Bool) → test sorts.Int ≡ true → test sorts.Float ≡ true → test sorts.Bool ≡ true → test sorts.Text ≡ true → test sorts.Name ≡ true → BeginsWith IsType test
+pub type_begins : (test : Sort → Bool) → test (sorts.Word keywords.Int) ≡ true → test (sorts.Word keywords.Float) ≡ true → test (sorts.Word keywords.Bool) ≡ true → test (sorts.Word keywords.Str) ≡ true → test sorts.Name ≡ true → BeginsWith IsType test
 type_begins test i f b s n t word h = front_starts test (IsBase t.at t.base) (IsBounds t.bounds) (base_begins test i f b s n t.at t.base) word h
 
 pub typed_exact : IsExact IsTyped no_blocks no_more typed
@@ -141,10 +142,10 @@ pub field_exact : IsExact IsField no_blocks no_more field
 unfolding field
 field_exact = mapped_exact IsField no_blocks (λ p. p.0) (typed_exact >> mark_exact sorts.Semicolon) (λ p word h. h) (λ t word h. ((t, tt), refl, h)) (λ p. refl)
 
-pub typed_begins : (test : Sort → Bool) → test sorts.Int ≡ true → test sorts.Float ≡ true → test sorts.Bool ≡ true → test sorts.Text ≡ true → test sorts.Name ≡ true → BeginsWith IsTyped test
+pub typed_begins : (test : Sort → Bool) → test (sorts.Word keywords.Int) ≡ true → test (sorts.Word keywords.Float) ≡ true → test (sorts.Word keywords.Bool) ≡ true → test (sorts.Word keywords.Str) ≡ true → test sorts.Name ≡ true → BeginsWith IsTyped test
 typed_begins test i f b s n t word h = front_starts test (IsType t.declared) (IsWrittenName t.name) (type_begins test i f b s n t.declared) word h
 
-pub field_begins : (test : Sort → Bool) → test sorts.Int ≡ true → test sorts.Float ≡ true → test sorts.Bool ≡ true → test sorts.Text ≡ true → test sorts.Name ≡ true → BeginsWith IsField test
+pub field_begins : (test : Sort → Bool) → test (sorts.Word keywords.Int) ≡ true → test (sorts.Word keywords.Float) ≡ true → test (sorts.Word keywords.Bool) ≡ true → test (sorts.Word keywords.Str) ≡ true → test sorts.Name ≡ true → BeginsWith IsField test
 field_begins test i f b s n t word h = front_starts test (IsTyped t) (IsMark sorts.Semicolon) (typed_begins test i f b s n t) word h
 
 -- ---- variables
@@ -177,7 +178,7 @@ variable_exact = mapped_exact IsVariable no_blocks (λ p. record { declared = p.
     (closed type_exact (name_exact >> closed start_exact (mark_exact sorts.Semicolon) (mark_begins sorts.Semicolon (refuses more_start) refl)) (pair_begins (Paired IsStart (MarkOf sorts.Semicolon)) (refuses more_bounds) (name_begins (refuses more_bounds) refl)))
     (λ p word h. h) (λ v word h. ((v.declared, (v.name, (v.init, tt))), refl, h)) (λ p. refl)
 
-pub variable_begins : (test : Sort → Bool) → test sorts.Int ≡ true → test sorts.Float ≡ true → test sorts.Bool ≡ true → test sorts.Text ≡ true → test sorts.Name ≡ true → BeginsWith IsVariable test
+pub variable_begins : (test : Sort → Bool) → test (sorts.Word keywords.Int) ≡ true → test (sorts.Word keywords.Float) ≡ true → test (sorts.Word keywords.Bool) ≡ true → test (sorts.Word keywords.Str) ≡ true → test sorts.Name ≡ true → BeginsWith IsVariable test
 variable_begins test i f b s n v word h = front_starts test (IsType v.declared) _ (type_begins test i f b s n v.declared) word h
 
 abbrev pub VariableParts : Bounds × (Name × (Option Init × Unit {0})) → List PlainSymbol → Type 0

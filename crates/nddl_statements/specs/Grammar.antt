@@ -1,5 +1,7 @@
--- The grammar of statements and of what stands in them: of which symbols each part is made. One definition a line of the grammar, places included.
+-- The grammar of statements and of what stands in them: of which symbols each part is made. One definition a line of
+-- the grammar, places included.
 use Rattle.std.specs.Prelude.{◌≡◌, ℕ, zero, suc, true, false, ◌⊎◌, Option, Some, None, List, [], ◌∷◌}
+use Rattle.eu_name.specs.declared.word.Reserved.TheVariants as keywords
 use Rattle.nddl_reading.specs.declared.sort.Sort.TheVariants as sorts
 use Rattle.nddl_reading.specs.Symbols.{PlainSymbol}
 use Rattle.nddl_reading.specs.Exact.{◌·◌, IsPlaced, IsMark, IsNothing, AreFollowing, AreSeparated, AreListed, MayMark, earlier}
@@ -43,9 +45,10 @@ IsPath path = IsWrittenName path.first · AreFollowing sorts.Point IsWrittenName
 -- the symbol writes the constant
 abbrev pub Writes : PlainSymbol → Constant → Type 0
 Writes symbol (constants.Number value) = (symbol.sort ≡ sorts.Number) × (value ≡ symbol.value)
-Writes symbol (constants.Decimal thousandths) = (symbol.sort ≡ sorts.Decimal) × (thousandths ≡ record { 0 = symbol.value })
-Writes symbol (constants.Truth true) = symbol.sort ≡ sorts.True
-Writes symbol (constants.Truth false) = symbol.sort ≡ sorts.False
+Writes symbol (constants.Decimal thousandths) =
+    (symbol.sort ≡ sorts.Decimal) × (thousandths ≡ record { 0 = symbol.value })
+Writes symbol (constants.Truth true) = symbol.sort ≡ (sorts.Word keywords.True)
+Writes symbol (constants.Truth false) = symbol.sort ≡ (sorts.Word keywords.False)
 
 pub record IsLiteral (literal : Literal) (symbols : List PlainSymbol) : Type 0 where
   pub symbol : PlainSymbol
@@ -65,7 +68,9 @@ abbrev pub AreArguments : List Expr → List PlainSymbol → Type 0
 AreArguments = AreListed sorts.Comma IsExpr
 
 abbrev pub IsCreation : Creation → List PlainSymbol → Type 0
-IsCreation creation = IsPlaced sorts.New creation.at · IsWrittenName creation.class · IsMark sorts.ParenOpen · AreArguments creation.arguments · IsMark sorts.ParenClose
+IsCreation creation =
+    IsPlaced (sorts.Word keywords.New) creation.at · IsWrittenName creation.class · IsMark sorts.ParenOpen
+    · AreArguments creation.arguments · IsMark sorts.ParenClose
 
 abbrev pub IsInit : Init → List PlainSymbol → Type 0
 IsInit (inits.Expr expr) = IsExpr expr
@@ -75,16 +80,19 @@ IsInit (inits.New creation) = IsCreation creation
 
 -- what the values of a type are, at the place where the type begins
 abbrev pub IsBase : ℕ → BaseType → List PlainSymbol → Type 0
-IsBase at bases.Int symbols = IsPlaced sorts.Int at symbols
-IsBase at bases.Float symbols = IsPlaced sorts.Float at symbols
-IsBase at bases.Bool symbols = IsPlaced sorts.Bool at symbols
-IsBase at bases.Str symbols = IsPlaced sorts.Text at symbols
+IsBase at bases.Int symbols = IsPlaced (sorts.Word keywords.Int) at symbols
+IsBase at bases.Float symbols = IsPlaced (sorts.Word keywords.Float) at symbols
+IsBase at bases.Bool symbols = IsPlaced (sorts.Word keywords.Bool) at symbols
+IsBase at bases.Str symbols = IsPlaced (sorts.Word keywords.Str) at symbols
 IsBase at (bases.Named name) symbols = IsWrittenName name symbols × (at ≡ name.at)
 
 abbrev pub IsBounds : Bounds → List PlainSymbol → Type 0
 IsBounds bounds.All = IsNothing
-IsBounds (bounds.Range at least greatest) = IsPlaced sorts.BracketOpen at · IsWrittenValue least · MayMark sorts.Comma · IsWrittenValue greatest · IsMark sorts.BracketClose
-IsBounds (bounds.Set at values) = IsPlaced sorts.BraceOpen at · AreSeparated sorts.Comma IsWrittenValue values · IsMark sorts.BraceClose
+IsBounds (bounds.Range at least greatest) =
+    IsPlaced sorts.BracketOpen at · IsWrittenValue least · MayMark sorts.Comma · IsWrittenValue greatest
+    · IsMark sorts.BracketClose
+IsBounds (bounds.Set at values) =
+    IsPlaced sorts.BraceOpen at · AreSeparated sorts.Comma IsWrittenValue values · IsMark sorts.BraceClose
 
 abbrev pub IsType : types.Type → List PlainSymbol → Type 0
 IsType of = IsBase of.at of.base · IsBounds of.bounds
@@ -99,13 +107,17 @@ IsStart None = IsNothing
 IsStart (Some init) = IsMark sorts.Assign · IsInit init
 
 abbrev pub IsVariable : Variable → List PlainSymbol → Type 0
-IsVariable variable = IsType variable.declared · IsWrittenName variable.name · IsStart variable.init · IsMark sorts.Semicolon
+IsVariable variable =
+    IsType variable.declared · IsWrittenName variable.name · IsStart variable.init · IsMark sorts.Semicolon
 
 abbrev pub IsCall : Call → List PlainSymbol → Type 0
-IsCall call = IsPath call.path · IsMark sorts.ParenOpen · AreArguments call.arguments · IsMark sorts.ParenClose · IsMark sorts.Semicolon
+IsCall call =
+    IsPath call.path · IsMark sorts.ParenOpen · AreArguments call.arguments · IsMark sorts.ParenClose
+    · IsMark sorts.Semicolon
 
 abbrev pub IsAsk : Ask → List PlainSymbol → Type 0
-IsAsk ask = IsWrittenName ask.word · IsMark sorts.ParenOpen · IsPath ask.path · IsWrittenName ask.label · IsMark sorts.ParenClose · IsMark sorts.Semicolon
+IsAsk ask = IsWrittenName ask.word · IsMark sorts.ParenOpen · IsPath ask.path · IsWrittenName ask.label
+    · IsMark sorts.ParenClose · IsMark sorts.Semicolon
 
 abbrev pub IsCondition : Condition → List PlainSymbol → Type 0
 IsCondition (conditions.Truth expr) = IsExpr expr
@@ -129,12 +141,18 @@ AreStatements (Declares variable more) = IsVariable variable · AreStatements mo
 AreStatements (Calls call more) = IsCall call · AreStatements more
 AreStatements (Asks ask more) = IsAsk ask · AreStatements more
 AreStatements (Tests at condition then_at then more) =
-    (IsPlaced sorts.If at · IsMark sorts.ParenOpen · IsCondition condition · IsMark sorts.ParenClose · Encloses then_at (AreStatements then)) · AreStatements more
+    (IsPlaced (sorts.Word keywords.If) at · IsMark sorts.ParenOpen · IsCondition condition · IsMark sorts.ParenClose
+    · Encloses then_at (AreStatements then)) · AreStatements more
 AreStatements (Chooses at condition then_at then else_at else more) =
-    (IsPlaced sorts.If at · IsMark sorts.ParenOpen · IsCondition condition · IsMark sorts.ParenClose · Encloses then_at (AreStatements then)
-    · IsMark sorts.Else · (λ symbols. Encloses else_at (AreStatements else) symbols ⊎ (IsLoneIf else_at else × AreStatements else symbols))) · AreStatements more
+    (IsPlaced (sorts.Word keywords.If) at · IsMark sorts.ParenOpen · IsCondition condition · IsMark sorts.ParenClose
+    · Encloses then_at (AreStatements then)
+    · IsMark (sorts.Word keywords.Else)
+    · (λ symbols. Encloses else_at (AreStatements else) symbols
+    ⊎ (IsLoneIf else_at else × AreStatements else symbols))) · AreStatements more
 AreStatements (Repeats at name class body_at body more) =
-    (IsPlaced sorts.Foreach at · IsMark sorts.ParenOpen · IsWrittenName name · IsMark sorts.In · IsWrittenName class · IsMark sorts.ParenClose · Encloses body_at (AreStatements body)) · AreStatements more
+    (IsPlaced (sorts.Word keywords.Foreach) at · IsMark sorts.ParenOpen · IsWrittenName name
+    · IsMark (sorts.Word keywords.In) · IsWrittenName class · IsMark sorts.ParenClose
+    · Encloses body_at (AreStatements body)) · AreStatements more
 
 abbrev pub IsBlock : Braces → List PlainSymbol → Type 0
 IsBlock block = Encloses block.at (AreStatements block.statements)
@@ -152,10 +170,13 @@ deep_statements Nothing left = None
 deep_statements (Declares variable more) left = deep_statements more left
 deep_statements (Calls call more) left = deep_statements more left
 deep_statements (Asks ask more) left = deep_statements more left
-deep_statements (Tests at condition then_at then more) left = earlier (deep_enclosed left then_at (deep_statements then)) (deep_statements more left)
+deep_statements (Tests at condition then_at then more) left =
+    earlier (deep_enclosed left then_at (deep_statements then)) (deep_statements more left)
 deep_statements (Chooses at condition then_at then else_at else more) left =
-    earlier (earlier (deep_enclosed left then_at (deep_statements then)) (deep_enclosed left else_at (deep_statements else))) (deep_statements more left)
-deep_statements (Repeats at name class body_at body more) left = earlier (deep_enclosed left body_at (deep_statements body)) (deep_statements more left)
+    earlier (earlier (deep_enclosed left then_at (deep_statements then))
+    (deep_enclosed left else_at (deep_statements else))) (deep_statements more left)
+deep_statements (Repeats at name class body_at body more) left =
+    earlier (deep_enclosed left body_at (deep_statements body)) (deep_statements more left)
 
 abbrev pub deep_block : ℕ → Braces → Option ℕ
 deep_block left block = deep_enclosed left block.at (deep_statements block.statements)

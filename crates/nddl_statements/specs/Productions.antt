@@ -1,6 +1,8 @@
--- What the functions that read statements and their parts find at the front of a list of symbols. That they find exactly what the grammar has is proved of them.
+-- What the functions that read statements and their parts find at the front of a list of symbols. That they find
+-- exactly what the grammar has is proved of them.
 use Rattle.std.specs.Prelude.{ℕ, zero, suc, Bool, true, false, if◌then◌else◌, Option, Some, None, List, [], ◌∷◌, ◌++◌}
 use Rattle.nddl_reading.specs.declared.sort.Sort.{Sort}
+use Rattle.eu_name.specs.declared.word.Reserved.TheVariants as keywords
 use Rattle.nddl_reading.specs.declared.sort.Sort.TheVariants as sorts
 use Rattle.nddl_reading.specs.Symbols.{PlainSymbol}
 use Rattle.nddl_reading.specs.Readers.{stuck, deep, Reader, and_then, is, symbol_of, mark_place, mark, may_mark, nothing, mapped, sequence, choice, many, after, following, separated, listed}
@@ -55,7 +57,8 @@ abbrev pub truth_of : Bool → ℕ → Literal
 truth_of truth at = record { constant = constants.Truth truth; at = at }
 
 abbrev pub truth : Reader Literal
-truth = choice (is sorts.True) (mapped (truth_of true) (mark_place sorts.True)) (mapped (truth_of false) (mark_place sorts.False))
+truth = choice (is (sorts.Word keywords.True)) (mapped (truth_of true) (mark_place (sorts.Word keywords.True)))
+    (mapped (truth_of false) (mark_place (sorts.Word keywords.False)))
 
 unfoldable pub literal : Reader Literal
 literal =
@@ -73,8 +76,8 @@ abbrev pub begins_value : Sort → Bool
 begins_value sorts.Name = true
 begins_value sorts.Number = true
 begins_value sorts.Decimal = true
-begins_value sorts.True = true
-begins_value sorts.False = true
+begins_value (sorts.Word keywords.True) = true
+begins_value (sorts.Word keywords.False) = true
 begins_value other = false
 
 unfoldable pub arguments : Reader (List Expr)
@@ -82,10 +85,11 @@ arguments = listed begins_value sorts.Comma expr
 
 unfoldable pub creation : Reader Creation
 creation = mapped (λ p. record { at = p.0; class = p.1.0; arguments = p.1.1.1.0 })
-    (sequence (mark_place sorts.New) (sequence name (sequence (mark sorts.ParenOpen) (sequence arguments (mark sorts.ParenClose)))))
+    (sequence (mark_place (sorts.Word keywords.New))
+    (sequence name (sequence (mark sorts.ParenOpen) (sequence arguments (mark sorts.ParenClose)))))
 
 unfoldable pub init : Reader Init
-init = choice (is sorts.New) (mapped inits.New creation) (mapped inits.Expr expr)
+init = choice (is (sorts.Word keywords.New)) (mapped inits.New creation) (mapped inits.Expr expr)
 
 -- ---- types
 
@@ -96,20 +100,25 @@ abbrev pub named : Name → ℕ × BaseType
 named name = (name.at, bases.Named name)
 
 abbrev pub base_behind : Reader (ℕ × BaseType)
-base_behind = choice (is sorts.Text) (mapped (placed bases.Str) (mark_place sorts.Text)) (mapped named name)
+base_behind =
+    choice (is (sorts.Word keywords.Str)) (mapped (placed bases.Str) (mark_place (sorts.Word keywords.Str)))
+    (mapped named name)
 
 unfoldable pub base : Reader (ℕ × BaseType)
 base =
-    choice (is sorts.Int) (mapped (placed bases.Int) (mark_place sorts.Int))
-    (choice (is sorts.Float) (mapped (placed bases.Float) (mark_place sorts.Float))
-    (choice (is sorts.Bool) (mapped (placed bases.Bool) (mark_place sorts.Bool)) base_behind))
+    choice (is (sorts.Word keywords.Int)) (mapped (placed bases.Int) (mark_place (sorts.Word keywords.Int)))
+    (choice (is (sorts.Word keywords.Float)) (mapped (placed bases.Float) (mark_place (sorts.Word keywords.Float)))
+    (choice (is (sorts.Word keywords.Bool))
+    (mapped (placed bases.Bool) (mark_place (sorts.Word keywords.Bool))) base_behind))
 
 unfoldable pub range : Reader Bounds
 range = mapped (λ p. bounded.Range p.0 p.1.0 p.1.1.1.0)
-    (sequence (mark_place sorts.BracketOpen) (sequence value (sequence (may_mark sorts.Comma) (sequence value (mark sorts.BracketClose)))))
+    (sequence (mark_place sorts.BracketOpen)
+    (sequence value (sequence (may_mark sorts.Comma) (sequence value (mark sorts.BracketClose)))))
 
 unfoldable pub set : Reader Bounds
-set = mapped (λ p. bounded.Set p.0 p.1.0) (sequence (mark_place sorts.BraceOpen) (sequence (separated sorts.Comma value) (mark sorts.BraceClose)))
+set = mapped (λ p. bounded.Set p.0 p.1.0)
+    (sequence (mark_place sorts.BraceOpen) (sequence (separated sorts.Comma value) (mark sorts.BraceClose)))
 
 unfoldable pub bounds : Reader Bounds
 bounds = choice (is sorts.BracketOpen) range (choice (is sorts.BraceOpen) set (nothing bounded.All))
@@ -129,7 +138,8 @@ unfoldable pub start : Reader (Option Init)
 start = choice (is sorts.Assign) (mapped Some (after sorts.Assign init)) (nothing None)
 
 unfoldable pub variable : Reader Variable
-variable = mapped (λ p. record { declared = p.0; name = p.1.0; init = p.1.1.0 }) (sequence type_of (sequence name (sequence start (mark sorts.Semicolon))))
+variable = mapped (λ p. record { declared = p.0; name = p.1.0; init = p.1.1.0 })
+    (sequence type_of (sequence name (sequence start (mark sorts.Semicolon))))
 
 -- the type that begins with the name
 abbrev pub type_named : Name → Bounds → types.Type
@@ -137,22 +147,30 @@ type_named first bounds = record { at = first.at; base = bases.Named first; boun
 
 -- what a variable is behind the first name of its type
 unfoldable pub variable_after : Name → Reader Variable
-variable_after first = mapped (λ p. record { declared = type_named first p.0; name = p.1.0; init = p.1.1.0 }) (sequence bounds (sequence name (sequence start (mark sorts.Semicolon))))
+variable_after first =
+    mapped (λ p. record { declared = type_named first p.0; name = p.1.0; init = p.1.1.0 })
+    (sequence bounds (sequence name (sequence start (mark sorts.Semicolon))))
 
 unfoldable pub field_after : Name → Reader Typed
-field_after first = mapped (λ p. record { declared = type_named first p.0; name = p.1.0 }) (sequence bounds (sequence name (mark sorts.Semicolon)))
+field_after first =
+    mapped (λ p. record { declared = type_named first p.0; name = p.1.0 })
+    (sequence bounds (sequence name (mark sorts.Semicolon)))
 
 -- arguments between parentheses, and `;`
 unfoldable pub call_end : Reader (List Expr)
-call_end = mapped (λ p. p.1.0) (sequence (mark sorts.ParenOpen) (sequence arguments (sequence (mark sorts.ParenClose) (mark sorts.Semicolon))))
+call_end = mapped (λ p. p.1.0)
+    (sequence (mark sorts.ParenOpen) (sequence arguments (sequence (mark sorts.ParenClose) (mark sorts.Semicolon))))
 
 -- a call behind the first name of its path, where the path goes on
 unfoldable pub dotted_after : Name → Reader Call
-dotted_after first = mapped (λ p. record { path = record { first = first; rest = p.0 }; arguments = p.1 }) (sequence (after sorts.Point (separated sorts.Point name)) call_end)
+dotted_after first =
+    mapped (λ p. record { path = record { first = first; rest = p.0 }; arguments = p.1 })
+    (sequence (after sorts.Point (separated sorts.Point name)) call_end)
 
 -- a call behind its one name
 unfoldable pub call_after : Name → Reader Call
-call_after first = mapped (λ arguments. record { path = record { first = first; rest = [] }; arguments = arguments }) call_end
+call_after first =
+    mapped (λ arguments. record { path = record { first = first; rest = [] }; arguments = arguments }) call_end
 
 -- the ends of a call or of what asks for something, between the parentheses, behind a path
 abbrev pub asks : Name → Path → Name → SimpleStmt
@@ -163,7 +181,8 @@ calls word arguments = plains.Call (record { path = record { first = word; rest 
 
 unfoldable pub behind_path : Name → Path → Reader SimpleStmt
 behind_path word path =
-    choice (is sorts.Name) (mapped (asks word path) name) (mapped (calls word) (mapped (λ more. (exprs.Path path ∷ []) ++ more) (following sorts.Comma expr)))
+    choice (is sorts.Name) (mapped (asks word path) name)
+    (mapped (calls word) (mapped (λ more. (exprs.Path path ∷ []) ++ more) (following sorts.Comma expr)))
 
 unfoldable pub inside_path : Name → Reader SimpleStmt
 inside_path word symbols = and_then (path symbols) (behind_path word)
@@ -173,7 +192,9 @@ inside word = choice (is sorts.Name) (inside_path word) (mapped (calls word) arg
 
 -- what stands between parentheses behind the word, and `;`
 unfoldable pub parens_after : Name → Reader SimpleStmt
-parens_after word = mapped (λ p. p.1.0) (sequence (mark sorts.ParenOpen) (sequence (inside word) (sequence (mark sorts.ParenClose) (mark sorts.Semicolon))))
+parens_after word =
+    mapped (λ p. p.1.0)
+    (sequence (mark sorts.ParenOpen) (sequence (inside word) (sequence (mark sorts.ParenClose) (mark sorts.Semicolon))))
 
 -- what can stand behind a name
 unfoldable pub plain_after : Name → Reader SimpleStmt
@@ -193,7 +214,8 @@ plain = choice (is sorts.Name) plain_named (mapped plains.Variable variable)
 unfoldable pub condition_behind : Expr → Reader Condition
 condition_behind one =
     choice (is sorts.Equal) (mapped (conditions.Equal one) (after sorts.Equal expr))
-    (choice (is sorts.NotEqual) (mapped (conditions.NotEqual one) (after sorts.NotEqual expr)) (nothing (conditions.Truth one)))
+    (choice (is sorts.NotEqual) (mapped (conditions.NotEqual one) (after sorts.NotEqual expr))
+    (nothing (conditions.Truth one)))
 
 unfoldable pub condition : Reader Condition
 condition symbols = and_then (expr symbols) condition_behind
@@ -205,15 +227,15 @@ stmt_of (plains.Ask ask) = stmts.Ask ask
 
 abbrev pub begins_type : Sort → Bool
 begins_type sorts.Name = true
-begins_type sorts.Int = true
-begins_type sorts.Float = true
-begins_type sorts.Bool = true
-begins_type sorts.Text = true
+begins_type (sorts.Word keywords.Int) = true
+begins_type (sorts.Word keywords.Float) = true
+begins_type (sorts.Word keywords.Bool) = true
+begins_type (sorts.Word keywords.Str) = true
 begins_type other = false
 
 abbrev pub begins_stmt : Sort → Bool
-begins_stmt sorts.If = true
-begins_stmt sorts.Foreach = true
+begins_stmt (sorts.Word keywords.If) = true
+begins_stmt (sorts.Word keywords.Foreach) = true
 begins_stmt other = begins_type other
 
 -- the one statement as a block, at its place
@@ -230,18 +252,26 @@ abbrev pub Inner : Type 0
 Inner = Reader Braces × Reader Braces
 
 abbrev pub otherwise_with : Inner → Reader (Option Braces)
-otherwise_with inner = choice (is sorts.Else) (mapped Some (after sorts.Else inner.1)) (nothing None)
+otherwise_with inner =
+    choice (is (sorts.Word keywords.Else)) (mapped Some (after (sorts.Word keywords.Else) inner.1)) (nothing None)
 
 abbrev pub if_with : Inner → Reader Stmt
 if_with inner = mapped (λ p. stmts.If p.0 p.1.1.0 p.1.1.1.1.0 p.1.1.1.1.1)
-    (sequence (mark_place sorts.If) (sequence (mark sorts.ParenOpen) (sequence condition (sequence (mark sorts.ParenClose) (sequence inner.0 (otherwise_with inner))))))
+    (sequence (mark_place (sorts.Word keywords.If))
+    (sequence (mark sorts.ParenOpen)
+    (sequence condition (sequence (mark sorts.ParenClose) (sequence inner.0 (otherwise_with inner))))))
 
 abbrev pub foreach_with : Inner → Reader Stmt
 foreach_with inner = mapped (λ p. stmts.Foreach p.0 p.1.1.0 p.1.1.1.1.0 p.1.1.1.1.1.1)
-    (sequence (mark_place sorts.Foreach) (sequence (mark sorts.ParenOpen) (sequence name (sequence (mark sorts.In) (sequence name (sequence (mark sorts.ParenClose) inner.0))))))
+    (sequence (mark_place (sorts.Word keywords.Foreach))
+    (sequence (mark sorts.ParenOpen)
+    (sequence name
+    (sequence (mark (sorts.Word keywords.In)) (sequence name (sequence (mark sorts.ParenClose) inner.0))))))
 
 abbrev pub stmt_with : Inner → Reader Stmt
-stmt_with inner = choice (is sorts.If) (if_with inner) (choice (is sorts.Foreach) (foreach_with inner) (mapped stmt_of plain))
+stmt_with inner =
+    choice (is (sorts.Word keywords.If)) (if_with inner)
+    (choice (is (sorts.Word keywords.Foreach)) (foreach_with inner) (mapped stmt_of plain))
 
 -- a block in which the others are read
 abbrev pub block_with : Inner → Reader Braces
@@ -250,8 +280,16 @@ block_with inner = mapped (λ p. record { at = p.0; statements = statements_of p
 
 -- the blocks where so many may be nested
 unfoldable pub blocks : ℕ → Inner
-blocks zero = (too_deep sorts.BraceOpen, choice (is sorts.If) (too_deep sorts.If) (too_deep sorts.BraceOpen))
-blocks (suc left) = (block_with (blocks left), choice (is sorts.If) (mapped lone (if_with (blocks left))) (block_with (blocks left)))
+blocks zero = (
+  too_deep sorts.BraceOpen,
+  choice (is (sorts.Word keywords.If)) (too_deep (sorts.Word keywords.If))
+      (too_deep sorts.BraceOpen),
+)
+blocks (suc left) = (
+  block_with (blocks left),
+  choice (is (sorts.Word keywords.If)) (mapped lone (if_with (blocks left)))
+      (block_with (blocks left)),
+)
 
 unfoldable pub block : ℕ → Reader Braces
 block left = (blocks left).0
@@ -276,7 +314,9 @@ statements left = many begins_stmt (stmt left)
 
 -- a block in which so many may be nested
 unfoldable pub braces : ℕ → Reader Braces
-braces left = mapped (λ p. record { at = p.0; statements = statements_of p.1.0 }) (sequence (mark_place sorts.BraceOpen) (sequence (statements left) (mark sorts.BraceClose)))
+braces left =
+    mapped (λ p. record { at = p.0; statements = statements_of p.1.0 })
+    (sequence (mark_place sorts.BraceOpen) (sequence (statements left) (mark sorts.BraceClose)))
 
 -- an `if` behind an `else`
 unfoldable pub lone_if : ℕ → Reader Braces

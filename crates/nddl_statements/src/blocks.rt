@@ -2,6 +2,7 @@
 
 ghost use Rattle.std.specs.Prelude.{◌≡◌};
 ghost use Rattle.nddl_reading.specs.Readers.{begins, sequence, mark, IsFound};
+ghost use Rattle.eu_name.specs.declared.word.Reserved.TheVariants as keywords;
 ghost use Rattle.nddl_reading.specs.declared.sort.Sort.TheVariants as sorts;
 ghost use Rattle.nddl_statements.specs.Productions.{name, condition, condition_behind, begins_stmt, stmt_of, too_deep, braces, block, lone_if, else_block, otherwise, if_stmt, foreach, stmt, statements};
 
@@ -10,9 +11,10 @@ use super::list;
 use super::statements::{SimpleStmt, plain};
 use super::types::begins_type;
 use eu_name::sequence::Sequence;
+use eu_name::word::Reserved;
 use nddl_ast::expression::Expr;
-use nddl_ast::statement::{StmtBlock, Condition, Stmt};
 use nddl_ast::name::Name;
+use nddl_ast::statement::{Condition, Stmt, StmtBlock};
 use nddl_reading::cursor::{Cursor, Stop};
 use nddl_reading::joining::{behind, joined};
 use nddl_reading::sort::Sort;
@@ -59,7 +61,7 @@ fn begins_stmt(sort: Sort) -> bool
     ensures { result ≡ begins_stmt sort }
 {
     match sort {
-        Sort::If | Sort::Foreach => true,
+        Sort::Word(Reserved::If) | Sort::Word(Reserved::Foreach) => true,
         _ => begins_type(sort),
     }
 }
@@ -133,11 +135,11 @@ fn lone_if(cursor: &mut Cursor<'_>, left: u8) -> Result<StmtBlock, Stop>
 fn else_block(cursor: &mut Cursor<'_>, left: u8) -> Result<StmtBlock, Stop>
     ensures { IsFound result cursor.new (else_block left cursor.old) }
 {
-    if !cursor.is_at(Sort::If) {
+    if !cursor.is_at(Sort::Word(Reserved::If)) {
         return block(cursor, left);
     }
     if left == 0 {
-        return too_deep(cursor, Sort::If);
+        return too_deep(cursor, Sort::Word(Reserved::If));
     }
     lone_if(cursor, left - 1)
 }
@@ -148,8 +150,8 @@ fn else_block(cursor: &mut Cursor<'_>, left: u8) -> Result<StmtBlock, Stop>
 fn otherwise(cursor: &mut Cursor<'_>, left: u8) -> Result<Option<StmtBlock>, Stop>
     ensures { IsFound result cursor.new (otherwise left cursor.old) }
 {
-    if cursor.is_at(Sort::Else) {
-        cursor.mark(Sort::Else)?;
+    if cursor.is_at(Sort::Word(Reserved::Else)) {
+        cursor.mark(Sort::Word(Reserved::Else))?;
         return Ok(Some(else_block(cursor, left)?));
     }
     Ok(None)
@@ -159,7 +161,8 @@ fn otherwise(cursor: &mut Cursor<'_>, left: u8) -> Result<Option<StmtBlock>, Sto
 #[cycle(blocks)]
 #[tactic(auto, unfolding(crate::specs::Productions::otherwise))]
 fn branches(cursor: &mut Cursor<'_>, left: u8) -> Result<((), (StmtBlock, Option<StmtBlock>)), Stop>
-    ensures { IsFound result cursor.new (sequence (mark sorts.ParenClose) (sequence (block left) (otherwise left)) cursor.old) }
+    ensures { IsFound result cursor.new
+        (sequence (mark sorts.ParenClose) (sequence (block left) (otherwise left)) cursor.old) }
 {
     cursor.mark(Sort::ParenClose)?;
     let then = block(cursor, left)?;
@@ -174,7 +177,7 @@ fn branches(cursor: &mut Cursor<'_>, left: u8) -> Result<((), (StmtBlock, Option
 fn if_stmt(cursor: &mut Cursor<'_>, left: u8) -> Result<Stmt, Stop>
     ensures { IsFound result cursor.new (if_stmt left cursor.old) }
 {
-    let at = cursor.mark_place(Sort::If)?;
+    let at = cursor.mark_place(Sort::Word(Reserved::If))?;
     cursor.mark(Sort::ParenOpen)?;
     let condition = condition(cursor)?;
     let rest = branches(cursor, left);
@@ -190,9 +193,10 @@ fn if_stmt(cursor: &mut Cursor<'_>, left: u8) -> Result<Stmt, Stop>
 /// `"in" Name ")" Block`
 #[cycle(blocks)]
 fn class_body(cursor: &mut Cursor<'_>, left: u8) -> Result<((), (Name, ((), StmtBlock))), Stop>
-    ensures { IsFound result cursor.new (sequence (mark sorts.In) (sequence name (sequence (mark sorts.ParenClose) (block left))) cursor.old) }
+    ensures { IsFound result cursor.new
+        (sequence (mark (sorts.Word keywords.In)) (sequence name (sequence (mark sorts.ParenClose) (block left))) cursor.old) }
 {
-    cursor.mark(Sort::In)?;
+    cursor.mark(Sort::Word(Reserved::In))?;
     let class = name(cursor)?;
     let done = cursor.mark(Sort::ParenClose);
     let class = behind(done, class)?;
@@ -207,7 +211,7 @@ fn class_body(cursor: &mut Cursor<'_>, left: u8) -> Result<((), (Name, ((), Stmt
 fn foreach(cursor: &mut Cursor<'_>, left: u8) -> Result<Stmt, Stop>
     ensures { IsFound result cursor.new (foreach left cursor.old) }
 {
-    let at = cursor.mark_place(Sort::Foreach)?;
+    let at = cursor.mark_place(Sort::Word(Reserved::Foreach))?;
     cursor.mark(Sort::ParenOpen)?;
     let variable = name(cursor)?;
     let rest = class_body(cursor, left);
@@ -226,10 +230,10 @@ fn foreach(cursor: &mut Cursor<'_>, left: u8) -> Result<Stmt, Stop>
 fn stmt(cursor: &mut Cursor<'_>, left: u8) -> Result<Stmt, Stop>
     ensures { IsFound result cursor.new (stmt left cursor.old) }
 {
-    if cursor.is_at(Sort::If) {
+    if cursor.is_at(Sort::Word(Reserved::If)) {
         return if_stmt(cursor, left);
     }
-    if cursor.is_at(Sort::Foreach) {
+    if cursor.is_at(Sort::Word(Reserved::Foreach)) {
         return foreach(cursor, left);
     }
     Ok(stmt_of(plain(cursor)?))

@@ -8,6 +8,7 @@ ghost use Rattle.nddl_statements.specs.Productions.{name, path, truth, literal, 
 use super::list;
 use super::list::Item;
 use eu_name::sequence::Sequence;
+use eu_name::word::Reserved;
 use nddl_ast::expression::{Constant, Creation, Expr, Init, Literal, Thousandths, Value};
 use nddl_ast::name::{Name, Path};
 use nddl_reading::cursor::{Cursor, Stop};
@@ -63,14 +64,14 @@ pub fn path(cursor: &mut Cursor<'_>) -> Result<Path, Stop>
 fn truth(cursor: &mut Cursor<'_>) -> Result<Literal, Stop>
     ensures { IsFound result cursor.new (truth cursor.old) }
 {
-    if cursor.is_at(Sort::True) {
-        let at = cursor.mark_place(Sort::True)?;
+    if cursor.is_at(Sort::Word(Reserved::True)) {
+        let at = cursor.mark_place(Sort::Word(Reserved::True))?;
         return Ok(Literal {
             constant: Constant::Truth(true),
             at,
         });
     }
-    let at = cursor.mark_place(Sort::False)?;
+    let at = cursor.mark_place(Sort::Word(Reserved::False))?;
     Ok(Literal {
         constant: Constant::Truth(false),
         at,
@@ -126,7 +127,11 @@ fn begins_value(sort: Sort) -> bool
     ensures { result ≡ begins_value sort }
 {
     match sort {
-        Sort::Name | Sort::Number | Sort::Decimal | Sort::True | Sort::False => true,
+        Sort::Name
+        | Sort::Number
+        | Sort::Decimal
+        | Sort::Word(Reserved::True)
+        | Sort::Word(Reserved::False) => true,
         _ => false,
     }
 }
@@ -183,7 +188,8 @@ pub fn arguments(cursor: &mut Cursor<'_>) -> Result<Sequence<Expr>, Stop>
 
 /// `"(" [ Args ] ")"`
 fn enclosed(cursor: &mut Cursor<'_>) -> Result<((), (Sequence<Expr>, ())), Stop>
-    ensures { IsFound result cursor.new (sequence (mark sorts.ParenOpen) (sequence arguments (mark sorts.ParenClose)) cursor.old) }
+    ensures { IsFound result cursor.new
+        (sequence (mark sorts.ParenOpen) (sequence arguments (mark sorts.ParenClose)) cursor.old) }
 {
     cursor.mark(Sort::ParenOpen)?;
     let arguments = arguments(cursor)?;
@@ -197,7 +203,7 @@ fn enclosed(cursor: &mut Cursor<'_>) -> Result<((), (Sequence<Expr>, ())), Stop>
 fn creation(cursor: &mut Cursor<'_>) -> Result<Creation, Stop>
     ensures { IsFound result cursor.new (creation cursor.old) }
 {
-    let at = cursor.mark_place(Sort::New)?;
+    let at = cursor.mark_place(Sort::Word(Reserved::New))?;
     let class = name(cursor)?;
     let rest = enclosed(cursor);
     let (class, ((), (arguments, ()))) = joined(class, rest)?;
@@ -213,7 +219,7 @@ fn creation(cursor: &mut Cursor<'_>) -> Result<Creation, Stop>
 pub fn init(cursor: &mut Cursor<'_>) -> Result<Init, Stop>
     ensures { IsFound result cursor.new (init cursor.old) }
 {
-    if cursor.is_at(Sort::New) {
+    if cursor.is_at(Sort::Word(Reserved::New)) {
         return Ok(Init::New(creation(cursor)?));
     }
     Ok(Init::Expr(expr(cursor)?))

@@ -1,4 +1,5 @@
-// What the body of a rule is made of, read from symbols: names, expressions, types, statements and blocks.
+//! What the body of a rule is made of, read from symbols: names, expressions, types, statements and blocks.
+//! `blocks::block(&mut cursor, 16)?` reads a block in which others may be nested, so that there are 16 levels with it.
 #![tactic(auto)]
 
 pub mod blocks;

@@ -72,7 +72,8 @@ pub fn variable(cursor: &mut Cursor<'_>) -> Result<Variable, Stop>
 
 // What the bounds of a type are, and the same.
 fn bounded_start(cursor: &mut Cursor<'_>) -> Result<(Bounds, (Name, (Option<Init>, ()))), Stop>
-    ensures { IsFound result cursor.new (sequence bounds (sequence name (sequence start (mark sorts.Semicolon))) cursor.old) }
+    ensures { IsFound result cursor.new
+        (sequence bounds (sequence name (sequence start (mark sorts.Semicolon))) cursor.old) }
 {
     let bounds = bounds(cursor)?;
     let rest = named_start(cursor);
@@ -143,7 +144,8 @@ pub fn call_after(cursor: &mut Cursor<'_>, first: Name) -> Result<Call, Stop>
 
 // Arguments of which the first is the path.
 fn arguments_from(cursor: &mut Cursor<'_>, path: Path) -> Result<Sequence<Expr>, Stop>
-    ensures { IsFound result cursor.new (mapped (λ more. (exprs.Path path ∷ []) ++ more) (following sorts.Comma expr) cursor.old) }
+    ensures { IsFound result cursor.new
+        (mapped (λ more. (exprs.Path path ∷ []) ++ more) (following sorts.Comma expr) cursor.old) }
 {
     let mut first = Sequence::new(cursor.allocator());
     first.push(Expr::Path(path))?;
@@ -187,7 +189,8 @@ fn inside(cursor: &mut Cursor<'_>, word: Name) -> Result<SimpleStmt, Stop>
 
 // `")" ";"`
 fn call_closed(cursor: &mut Cursor<'_>) -> Result<(), Stop>
-    ensures { IsFound result cursor.new (mapped (λ p. tt) (sequence (mark sorts.ParenClose) (mark sorts.Semicolon)) cursor.old) }
+    ensures { IsFound result cursor.new
+        (mapped (λ p. tt) (sequence (mark sorts.ParenClose) (mark sorts.Semicolon)) cursor.old) }
 {
     cursor.mark(Sort::ParenClose)?;
     cursor.mark(Sort::Semicolon)

@@ -8,6 +8,7 @@ ghost use Rattle.nddl_statements.specs.Productions.{name, value, base_behind, ba
 use super::expressions::{Values, name, value};
 use super::list;
 use super::list::Item;
+use eu_name::word::Reserved;
 use nddl_ast::declaration::Typed;
 use nddl_ast::expression::{BaseType, Bounds, Type, Value};
 use nddl_ast::name::Name;
@@ -19,8 +20,8 @@ use nddl_reading::sort::Sort;
 fn base_behind(cursor: &mut Cursor<'_>) -> Result<(u32, BaseType), Stop>
     ensures { IsFound result cursor.new (base_behind cursor.old) }
 {
-    if cursor.is_at(Sort::Text) {
-        return Ok((cursor.mark_place(Sort::Text)?, BaseType::Str));
+    if cursor.is_at(Sort::Word(Reserved::Str)) {
+        return Ok((cursor.mark_place(Sort::Word(Reserved::Str))?, BaseType::Str));
     }
     let name = name(cursor)?;
     Ok((name.at, BaseType::Named(name)))
@@ -31,21 +32,28 @@ fn base_behind(cursor: &mut Cursor<'_>) -> Result<(u32, BaseType), Stop>
 fn base(cursor: &mut Cursor<'_>) -> Result<(u32, BaseType), Stop>
     ensures { IsFound result cursor.new (base cursor.old) }
 {
-    if cursor.is_at(Sort::Int) {
-        return Ok((cursor.mark_place(Sort::Int)?, BaseType::Int));
+    if cursor.is_at(Sort::Word(Reserved::Int)) {
+        return Ok((cursor.mark_place(Sort::Word(Reserved::Int))?, BaseType::Int));
     }
-    if cursor.is_at(Sort::Float) {
-        return Ok((cursor.mark_place(Sort::Float)?, BaseType::Float));
+    if cursor.is_at(Sort::Word(Reserved::Float)) {
+        return Ok((
+            cursor.mark_place(Sort::Word(Reserved::Float))?,
+            BaseType::Float,
+        ));
     }
-    if cursor.is_at(Sort::Bool) {
-        return Ok((cursor.mark_place(Sort::Bool)?, BaseType::Bool));
+    if cursor.is_at(Sort::Word(Reserved::Bool)) {
+        return Ok((
+            cursor.mark_place(Sort::Word(Reserved::Bool))?,
+            BaseType::Bool,
+        ));
     }
     base_behind(cursor)
 }
 
 /// `[","] Lit "]"`
 fn range_end(cursor: &mut Cursor<'_>) -> Result<((), (Value, ())), Stop>
-    ensures { IsFound result cursor.new (sequence (may_mark sorts.Comma) (sequence value (mark sorts.BracketClose)) cursor.old) }
+    ensures { IsFound result cursor.new
+        (sequence (may_mark sorts.Comma) (sequence value (mark sorts.BracketClose)) cursor.old) }
 {
     cursor.may_mark(Sort::Comma)?;
     let greatest = value(cursor)?;
@@ -123,7 +131,11 @@ pub fn begins_type(sort: Sort) -> bool
     ensures { result ≡ begins_type sort }
 {
     match sort {
-        Sort::Name | Sort::Int | Sort::Float | Sort::Bool | Sort::Text => true,
+        Sort::Name
+        | Sort::Word(Reserved::Int)
+        | Sort::Word(Reserved::Float)
+        | Sort::Word(Reserved::Bool)
+        | Sort::Word(Reserved::Str) => true,
         _ => false,
     }
 }

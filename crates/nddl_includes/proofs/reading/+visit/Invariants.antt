@@ -1,17 +1,24 @@
-use Rattle.std.proofs.Common.{◌≡◌, ◌-◌, drop}
+-- The levels that are left fall, or one include is read of those that are followed.
+use Rattle.std.proofs.Common.{◌≡◌, ◌*◌, ◌+◌, drop}
 use Rattle.nddl_includes.specs.Outcomes.{Outcome}
 use Rattle.nddl_includes.specs.Visits.{Visits, Follows}
 use Rattle.nddl_includes.proofs.reading.+visit.Given as goal
 
 abbrev pub decreases-visit : goal.decreases-visit
-decreases-visit g l = l.levels
+decreases-visit g l = 3 * l.levels
+
+abbrev pub decreases-follow : goal.decreases-follow
+decreases-follow g l = 3 * l.levels + 2
+
+abbrev pub decreases-enter : goal.decreases-enter
+decreases-enter g l = 3 * l.levels + 1
 
 -- what comes of the includes from here on comes of all of them
-abbrev pub invariant-loop-include : goal.invariant-loop-include
-invariant-loop-include g l = record {
+abbrev pub invariant-follow-loop-include : goal.invariant-follow-loop-include
+invariant-follow-loop-include g l = record {
   goes_on : (outcome : Outcome)
-      → Follows (Visits (g.R.TextReader.reads l.reader) (g.F.Shelf.files l.fn.shelf) (l.levels - 1)) l.ask.name (drop l.include-index l.include-items) l.read outcome
-      → Visits (g.R.TextReader.reads l.reader) (g.F.Shelf.files l.fn.shelf) l.levels l.ask l.fn.before outcome;
+      → Follows (Visits (g.R.TextReader.reads l.reader) (g.F.Shelf.files l.fn.shelf) l.levels) l.file (drop l.include-index l.includes) l.read outcome
+      → Follows (Visits (g.R.TextReader.reads l.reader) (g.F.Shelf.files l.fn.shelf) l.levels) l.file l.includes l.fn.before outcome;
   kept : g.F.Shelf.files l.shelf ≡ g.F.Shelf.files l.fn.shelf;
   counted : g.F.Shelf.faults l.shelf ≡ g.F.Shelf.faults l.fn.shelf;
 }

@@ -1,7 +1,7 @@
 use Rattle.nddl_print.specs.Words.{spaced}
 use Rattle.nddl_print.specs.Canonical.{following_words}
 use Rattle.nddl_print.proofs.Spaced.{spaced_then, spaced_none}
-use Rattle.nddl_print.proofs.Printing.{item_printed, all_printed, both_printed}
+use Rattle.nddl_print.proofs.Printed.{item_printed, all_printed, both_printed}
 use Rattle.nddl_print.proofs.lists.print_following.Goals as goal
 
 pub loop-item-preserved : goal.loop-item-preserved

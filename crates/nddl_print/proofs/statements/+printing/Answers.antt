@@ -2,7 +2,7 @@ use Rattle.nddl_ast.specs.Block.{statements_of}
 use Rattle.nddl_print.specs.Words.{spaced}
 use Rattle.nddl_print.specs.Canonical.{statements_words}
 use Rattle.nddl_print.proofs.Spaced.{spaced_none}
-use Rattle.nddl_print.proofs.Printing.{item_printed, all_printed, first_statement}
+use Rattle.nddl_print.proofs.Printed.{item_printed, all_printed, first_statement}
 use Rattle.nddl_print.proofs.statements.+printing.Goals as goal
 
 pub print_stmts-loop-stmt-preserved : goal.print_stmts-loop-stmt-preserved

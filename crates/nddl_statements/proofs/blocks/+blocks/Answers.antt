@@ -1,6 +1,7 @@
 -- The depth that is left decides how a block is read.
 use Rattle.std.proofs.Common.{◌≡◌, ◌+◌, ◌-◌, ◌<◌, suc, true, false, sym, subst, ◌∙◌, arith}
 use Rattle.nddl_ast.specs.Tree.{Braces}
+use Rattle.eu_name.specs.declared.word.Reserved.TheVariants as keywords
 use Rattle.nddl_reading.specs.declared.sort.Sort.TheVariants as sorts
 use Rattle.nddl_reading.specs.Readers.{Outcome, begins, is, IsFound}
 use Rattle.nddl_statements.specs.Productions.{begins_stmt, stmt, statements}
@@ -19,17 +20,17 @@ block-returns t c =
 
 pub else_block-returns-then-not-is_at : goal.else_block-returns-then-not-is_at
 else_block-returns-then-not-is_at t c =
-    let other : begins (is sorts.If) c.args.cursor.now ≡ false = cc in
+    let other : begins (is (sorts.Word keywords.If)) c.args.cursor.now ≡ false = cc in
     subst (λ (o : Outcome Braces). IsFound c.block.result c.block.new.cursor o) (sym (else_other c.args.left c.args.cursor.now other)) c.block.ensures
 
 pub else_block-returns-then-left-eq0 : goal.else_block-returns-then-left-eq0
 else_block-returns-then-left-eq0 t c =
-    let there : begins (is sorts.If) c.args.cursor.now ≡ true = cc in
+    let there : begins (is (sorts.Word keywords.If)) c.args.cursor.now ≡ true = cc in
     subst (λ (o : Outcome Braces). IsFound c.too_deep.result c.too_deep.new.cursor o) (sym (else_deep c.args.left c.args.cursor.now c.if-left-eq0.true there)) c.too_deep.ensures
 
 pub else_block-returns : goal.else_block-returns
 else_block-returns t c =
-    let there : begins (is sorts.If) c.args.cursor.now ≡ true = cc in
+    let there : begins (is (sorts.Word keywords.If)) c.args.cursor.now ≡ true = cc in
     let some : 0 < c.args.left = omega arith in
     subst (λ (o : Outcome Braces). IsFound c.lone_if.result c.lone_if.new.cursor o) (sym (else_some c.args.left c.args.cursor.now some there)) c.lone_if.ensures
 

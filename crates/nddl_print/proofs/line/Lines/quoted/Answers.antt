@@ -2,7 +2,7 @@ use Rattle.std.proofs.Common.{◌++◌, ap, ◌∙◌, sym}
 use Rattle.std.proofs.lemmas.Result.{on_ok_weaker}
 use Rattle.nddl_print.specs.Words.{Quoted}
 use Rattle.nddl_print.proofs.Spaced.{spaced_one}
-use Rattle.nddl_print.proofs.Printing.{quoted_text}
+use Rattle.nddl_print.proofs.Printed.{quoted_text}
 use Rattle.nddl_print.proofs.line.Lines.quoted.Goals as goal
 
 pub returns : goal.returns
