@@ -107,7 +107,6 @@ undone_once old one other new last p q =
     let same = database_same new last (q.0 ∙ sym p.0) (ap former (sym q.1 ∙ p.1)) in
     (outcome_at one other new last same p.2 q.2, same)
 
-<<<<<<< HEAD
 told_once : (database : Database) (name reply other : List ℕ) → TellsDomain database name reply → TellsDomain database name other → other ≡ reply
 told_once database name reply other (inl p) (inl q) = q.1 ∙ sym p.1
 told_once database name reply other (inl p) (inr q) = absurd (never_leaves_both database q.3.0 q.3.1 p.0)
@@ -143,19 +142,3 @@ pub one_reply : HasOneReply AnswersLine
 one_reply old text answer other new next p q =
     let same = replied_once old text answer.reply other.reply new next p.0 q.0 in
     (answer_same answer other same.0 (q.1 ∙ sym p.1), same.1)
-=======
-pub domain_once : (model : Model) (history : History) (variable : List ℕ) (lines others : List (List ℕ)) (after then' : History)
-    → DomainReplies model history variable lines after → DomainReplies model history variable others then' → AreSame lines others after then'
-domain_once model history variable lines others after then' (inl p) (inl q) = (q.1 ∙ sym p.1, q.2 ∙ sym p.2)
-domain_once model history variable lines others after then' (inl p) (inr q) = absurd (least_not_collapsed model (standing history) q.0 q.1 p.0)
-domain_once model history variable lines others after then' (inr p) (inl q) = absurd (least_not_collapsed model (standing history) p.0 p.1 q.0)
-domain_once model history variable lines others after then' (inr p) (inr q) =
-    let same = least_same model (standing history) p.0 q.0 p.1 q.1 in
-    by_option (AreSame lines others after then') (Refuses (codes "unknown") history lines after) (Refuses (codes "unknown") history others then')
-    (TellsDomain history variable lines after p.0) (TellsDomain history variable others then' q.0)
-    (global_named model variable)
-    (refused_once (codes "unknown") history lines others after then')
-    (λ number a b.
-    let domains = gives_same p.0 p.1.closed.consistent.is_state.order (Global number) a.0 b.0 a.1 (subst (λ s. Gives s (Global number) b.0) (sym same) b.1) in
-    (b.2 ∙ sym (a.2 ∙ ap (λ d. domain_line variable d ∷ []) domains), b.3 ∙ sym a.3)) p.2 q.2
->>>>>>> 3b984af52fa3247bf79d4d4692dfa912a9a735c8
