@@ -68,7 +68,7 @@ abbrev pub RaisesEnd : ℕ → ℤ → ℕ → List ℤ → List ℕ → Bool �
 RaisesEnd point raised fixed old queue true new later =
     ((raised ≤ℤ value_at old point) × (new ≡ old) × (later ≡ queue))
     ⊎ ((value_at old point <ℤ raised) × (point ≢ fixed) × (new ≡ slice_set old point raised)
-        × (later ≡ queue ++ point ∷ []))
+    × (later ≡ queue ++ point ∷ []))
 RaisesEnd point raised fixed old queue false new later = (point ≡ fixed) × (value_at old point <ℤ raised)
 
 -- an edge from one point to the other has raised the value there
