@@ -137,6 +137,7 @@ pub record AreSettled (points : ℕ) (edges : List Edge) (values : List ℤ) : T
   pub walked : (point : ℕ) → point < points
       → (first : ℕ) × (walk : Walk edges first point) × (value_at values point ≡ gap_sum walk.steps)
 
+-- the edges among so many points, linked in a graph, with values that keep them
 pub record IsSettledGraph (points : ℕ) (edges : List Edge) (settled : Settled) : Type 0 where
   pub few : points ≤ 65536
   pub graph : IsGraph points edges settled.graph
