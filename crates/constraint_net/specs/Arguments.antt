@@ -15,6 +15,7 @@ abbrev pub domain_of : List Domain → NetArg → Domain
 domain_of domains (Var variable) = slice_index_or domains variable (Range (pos 0) (pos 0))
 domain_of domains (Lit value) = Range value value
 
+-- the domains of the arguments, in their order
 abbrev pub domains_of : List Domain → List NetArg → List Domain
 domains_of domains args = map (domain_of domains) args
 

@@ -78,7 +78,8 @@ fn post_at_most_two(net: &mut Net, b: usize, x: usize) -> bool {
 
 /// A range and a set that are equal.
 fn make_equal(net: &mut Net, alloc: Global) -> bool {
-    let added = add(net, alloc, Ends(0, 10)) == Some(0) && add(net, alloc, Members([2, 5, 9])) == Some(1);
+    let added = add(net, alloc, Ends(0, 10)) == Some(0)
+        && add(net, alloc, Members([2, 5, 9])) == Some(1);
     added && post_eq(net, 0, 1)
 }
 
@@ -97,9 +98,9 @@ fn equal_run(alloc: Global) -> (bool, [Option<Shape>; 2], Option<Change>, [Optio
 fn a_range_and_a_set_are_equal(rt: HostRuntime) {
     let (settled, before, change, after) = equal_run(rt.alloc());
     assert!(rt; settled);
-    assert_eq!(rt; before, [Some((true, 2, 9, 8)), Some((false, 2, 9, 3))]);
-    assert_eq!(rt; change, Some(Change::Smaller));
-    assert_eq!(rt; after, [Some((true, 5, 5, 1)), Some((false, 5, 5, 1))]);
+    assert!(rt; before == [Some((true, 2, 9, 8)), Some((false, 2, 9, 3))]);
+    assert!(rt; change == Some(Change::Smaller));
+    assert!(rt; after == [Some((true, 5, 5, 1)), Some((false, 5, 5, 1))]);
 }
 
 /// z is three times x, and b says whether x is at most 2.
@@ -124,10 +125,18 @@ fn product_run(alloc: Global) -> (bool, [Option<Shape>; 3], [Option<Shape>; 3]) 
 fn a_product_is_settled_before_and_after_a_test_is_false(rt: HostRuntime) {
     let (settled, before, after) = product_run(rt.alloc());
     assert!(rt; settled);
-    let open = [(true, 0, 3, 4), (true, 0, 9, 10), (false, 0, 1, 2)];
-    assert_eq!(rt; before, [Some(open[0]), Some(open[1]), Some(open[2])]);
-    let decided = [(true, 3, 3, 1), (true, 9, 9, 1), (false, 0, 0, 1)];
-    assert_eq!(rt; after, [Some(decided[0]), Some(decided[1]), Some(decided[2])]);
+    let open = [
+        Some((true, 0, 3, 4)),
+        Some((true, 0, 9, 10)),
+        Some((false, 0, 1, 2)),
+    ];
+    assert!(rt; before == open);
+    let decided = [
+        Some((true, 3, 3, 1)),
+        Some((true, 9, 9, 1)),
+        Some((false, 0, 0, 1)),
+    ];
+    assert!(rt; after == decided);
 }
 
 /// Each of two variables is less than the other.
@@ -146,7 +155,10 @@ fn contradiction_run(alloc: Global) -> (bool, Option<NetFault>) {
 
 #[test]
 fn orders_that_contradict_each_other_collapse(rt: HostRuntime) {
-    assert_eq!(rt; contradiction_run(rt.alloc()), (true, Some(NetFault::Collapsed)));
+    assert_eq!(rt;
+        contradiction_run(rt.alloc()),
+        (true, Some(NetFault::Collapsed))
+    );
 }
 
 /// Objects with 5 in a field.
@@ -159,7 +171,8 @@ fn post_field(net: &mut Net, objects: Dom) -> bool
     let Ok(object) = net.add_var(objects) else {
         return false;
     };
-    net.post(Kind::Field(capacity), &[Var(object), Lit(5)]).is_ok()
+    net.post(Kind::Field(capacity), &[Var(object), Lit(5)])
+        .is_ok()
 }
 
 /// What is left of the objects.

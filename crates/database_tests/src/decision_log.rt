@@ -24,7 +24,8 @@ fn former(log: &Log) -> Option<(u32, i32)> {
 
 /// Whether the variable of this number is decided.
 fn decided(log: &mut Log, number: u32, value: i32) -> bool {
-    log.push(Decision::Specify(VarName::Global(number), value)).is_ok()
+    log.push(Decision::Specify(VarName::Global(number), value))
+        .is_ok()
 }
 
 /// Whether undo answers that nothing was decided.
@@ -36,7 +37,17 @@ fn is_nothing(log: &mut Log) -> bool {
 }
 
 /// What two decisions leave, and what taking them back does.
-fn run(alloc: Global) -> (bool, u64, Option<(u32, i32)>, bool, Option<(u32, i32)>, bool, bool) {
+fn run(
+    alloc: Global,
+) -> (
+    bool,
+    u64,
+    Option<(u32, i32)>,
+    bool,
+    Option<(u32, i32)>,
+    bool,
+    bool,
+) {
     let mut log = Log::new(alloc);
     let both = decided(&mut log, 1, 5) && decided(&mut log, 2, 6);
     let count = log.len();

@@ -22,7 +22,11 @@ fn narrowed_pair<C: Narrow>(constraint: &C, domains: [Dom; 2]) -> (Change, [Shap
 }
 
 /// The same of two that are written.
-fn pair<C: Narrow>(alloc: Global, constraint: &C, args: [Written; 2]) -> Option<(Change, [Shape; 2])>
+fn pair<C: Narrow>(
+    alloc: Global,
+    constraint: &C,
+    args: [Written; 2],
+) -> Option<(Change, [Shape; 2])>
     requires { C.count constraint.now ≡ 2 }
 {
     match (made(alloc, args[0]), made(alloc, args[1])) {
@@ -42,7 +46,11 @@ enum OfTwo {
     MinusThrice,
 }
 
-fn narrowed_two(alloc: Global, constraint: OfTwo, args: [Written; 2]) -> Option<(Change, [Shape; 2])> {
+fn narrowed_two(
+    alloc: Global,
+    constraint: OfTwo,
+    args: [Written; 2],
+) -> Option<(Change, [Shape; 2])> {
     match constraint {
         OfTwo::Equal => pair(alloc, &Eq, args),
         OfTwo::Apart => pair(alloc, &Neq, args),
@@ -115,7 +123,7 @@ const PAIRS: [(OfTwo, [Written; 2], Change, [Shape; 2]); 9] = [
 fn two_arguments_are_narrowed(rt: HostRuntime) {
     for (place, (constraint, args, answer, left)) in PAIRS.iter().enumerate() {
         let found = narrowed_two(rt.alloc(), *constraint, *args);
-        assert_eq!(rt; found, Some((*answer, *left)), "{place}");
+        assert!(rt; found == Some((*answer, *left)), "{place}");
     }
 }
 
@@ -125,14 +133,25 @@ fn narrowed_triple<C: Narrow>(constraint: &C, domains: [Dom; 3]) -> (Change, [Sh
 {
     let mut domains = domains;
     let change = constraint.narrow(&mut domains);
-    (change, [shape(&domains[0]), shape(&domains[1]), shape(&domains[2])])
+    (
+        change,
+        [shape(&domains[0]), shape(&domains[1]), shape(&domains[2])],
+    )
 }
 
 /// The same of three that are written.
-fn triple<C: Narrow>(alloc: Global, constraint: &C, args: [Written; 3]) -> Option<(Change, [Shape; 3])>
+fn triple<C: Narrow>(
+    alloc: Global,
+    constraint: &C,
+    args: [Written; 3],
+) -> Option<(Change, [Shape; 3])>
     requires { C.count constraint.now ≡ 3 }
 {
-    match (made(alloc, args[0]), made(alloc, args[1]), made(alloc, args[2])) {
+    match (
+        made(alloc, args[0]),
+        made(alloc, args[1]),
+        made(alloc, args[2]),
+    ) {
         (Some(x), Some(y), Some(z)) => Some(narrowed_triple(constraint, [x, y, z])),
         _ => None,
     }
@@ -146,7 +165,11 @@ enum OfThree {
     WhetherAtMost,
 }
 
-fn narrowed_three(alloc: Global, constraint: OfThree, args: [Written; 3]) -> Option<(Change, [Shape; 3])> {
+fn narrowed_three(
+    alloc: Global,
+    constraint: OfThree,
+    args: [Written; 3],
+) -> Option<(Change, [Shape; 3])> {
     match constraint {
         OfThree::Sum => triple(alloc, &AddEq, args),
         OfThree::WhetherEqual => triple(alloc, &TestEq, args),
@@ -192,16 +215,25 @@ const TRIPLES: [(OfThree, [Written; 3], Change, [Shape; 3]); 5] = [
 fn three_arguments_are_narrowed(rt: HostRuntime) {
     for (place, (constraint, args, answer, left)) in TRIPLES.iter().enumerate() {
         let found = narrowed_three(rt.alloc(), *constraint, *args);
-        assert_eq!(rt; found, Some((*answer, *left)), "{place}");
+        assert!(rt; found == Some((*answer, *left)), "{place}");
     }
 }
 
 /// A field of three objects.
 fn field(alloc: Global) -> Option<Field> {
     let entries = [
-        FieldEntry { object: 0, value: 20 },
-        FieldEntry { object: 1, value: 30 },
-        FieldEntry { object: 2, value: 20 },
+        FieldEntry {
+            object: 0,
+            value: 20,
+        },
+        FieldEntry {
+            object: 1,
+            value: 30,
+        },
+        FieldEntry {
+            object: 2,
+            value: 20,
+        },
     ];
     match Vec::from_slice(alloc, entries.as_slice()) {
         Ok(entries) => Field::new(entries).ok(),
@@ -244,6 +276,6 @@ const FIELDS: [([Written; 2], Change, [Shape; 2]); 4] = [
 fn a_field_is_narrowed(rt: HostRuntime) {
     for (place, (args, answer, left)) in FIELDS.iter().enumerate() {
         let found = field_narrowed(rt.alloc(), *args);
-        assert_eq!(rt; found, Some((*answer, *left)), "{place}");
+        assert!(rt; found == Some((*answer, *left)), "{place}");
     }
 }

@@ -11,6 +11,7 @@ abbrev pub side_of : FieldEntry → Side → ℤ
 side_of entry Object = entry.object
 side_of entry Value = entry.value
 
+-- the other side
 abbrev pub opposite : Side → Side
 opposite Object = Value
 opposite Value = Object

@@ -8,6 +8,7 @@ use Rattle.temporal_core.specs.Settled.{IsNear}
 abbrev pub reversed_edge : Edge → Edge
 reversed_edge edge = record { from = edge.to; to = edge.from; gap = edge.gap }
 
+-- the negative of the number, if there is one
 abbrev pub negative_of : Option ℤ → Option ℤ
 negative_of None = None
 negative_of (Some number) = Some (neg_ℤ number)

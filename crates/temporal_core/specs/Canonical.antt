@@ -6,6 +6,7 @@ use Rattle.temporal_core.specs.Schedule.{IsSchedule, HasNoSchedule}
 use Rattle.temporal_core.specs.Cycle.{edges_at, LeavesNeeded, IsPositiveCycle, BeginsLeast}
 use Rattle.temporal_core.specs.Settled.{HasPositiveCycle}
 
+-- the edge at the place
 abbrev pub edge_at : List Edge → ℕ → Edge
 edge_at edges place = slice_index_or edges place (record { from = 0; to = 0; gap = pos 0 })
 

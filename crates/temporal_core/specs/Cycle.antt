@@ -10,6 +10,7 @@ abbrev pub edges_at : List Edge → List ℕ → List Edge
 edges_at edges [] = []
 edges_at edges (place ∷ places) = option_to_list (slice_get edges place) ++ edges_at edges places
 
+-- the sum of the gaps of the edges
 abbrev pub gap_sum : List Edge → ℤ
 gap_sum [] = pos 0
 gap_sum (edge ∷ edges) = edge.gap +ℤ gap_sum edges

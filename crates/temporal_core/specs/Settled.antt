@@ -68,7 +68,7 @@ abbrev pub RaisesEnd : ℕ → ℤ → ℕ → List ℤ → List ℕ → Bool �
 RaisesEnd point raised fixed old queue true new later =
     ((raised ≤ℤ value_at old point) × (new ≡ old) × (later ≡ queue))
     ⊎ ((value_at old point <ℤ raised) × (point ≢ fixed) × (new ≡ slice_set old point raised)
-        × (later ≡ queue ++ point ∷ []))
+    × (later ≡ queue ++ point ∷ []))
 RaisesEnd point raised fixed old queue false new later = (point ≡ fixed) × (value_at old point <ℤ raised)
 
 -- an edge from one point to the other has raised the value there
@@ -137,6 +137,7 @@ pub record AreSettled (points : ℕ) (edges : List Edge) (values : List ℤ) : T
   pub walked : (point : ℕ) → point < points
       → (first : ℕ) × (walk : Walk edges first point) × (value_at values point ≡ gap_sum walk.steps)
 
+-- the edges among so many points, linked in a graph, with values that keep them
 pub record IsSettledGraph (points : ℕ) (edges : List Edge) (settled : Settled) : Type 0 where
   pub few : points ≤ 65536
   pub graph : IsGraph points edges settled.graph

@@ -5,7 +5,7 @@ ghost use Rattle.std.specs.Prelude.{IfOk};
 ghost use Rattle.std.specs.Prelude.{IfErr, MatchOption, ⊤};
 ghost use Rattle.temporal_core.specs.Network.{IsEdge};
 ghost use Rattle.temporal_core.specs.Schedule.{IsSchedule, AreLeastValues, AreGreatestValues};
-ghost use Rattle.temporal_core.specs.Settled.{value_at, IsNear, far, IsSettledGraph};
+ghost use Rattle.temporal_core.specs.Settled.{value_at, IsNear, far, IsSettledGraph, HasPositiveCycle};
 ghost use Rattle.temporal_core.specs.TimeBounds.{AreBounds, IsNoBounds};
 ghost use Rattle.temporal_core.specs.Bounds.{far_below, reversed_edge, negative_of, TellsPoint, AreNear};
 
@@ -94,7 +94,7 @@ fn told_all(
     ensures count { IfOk result (λ all. length all.items ≡ length settled.now) }
     ensures each { IfOk result (λ all. (point : ℕ) → point < length settled.now
         → TellsPoint (value_at values.now point) (value_at settled.now point) origin
-            (slice_index_or all.items point None)) }
+        (slice_index_or all.items point None)) }
 {
     let mut all = Vec::with_capacity(alloc, settled.len())?;
     for point in 0..settled.len() {
@@ -120,6 +120,21 @@ fn least_values(alloc: Global, settled: &Settled) -> Result<Vec<Option<i64>>, Al
     }
     let least = told_all(alloc, &values, first, origin)?;
     Ok(least)
+}
+
+// The least value of each point, where there is a schedule.
+fn least_of(alloc: Global, points: usize, edges: &[Edge]) -> Result<Vec<Option<i64>>, AllocError>
+    requires some { 0 < points }
+    requires few { points ≤ 65536 }
+    requires edges { All (IsEdge points) edges.now }
+    requires schedule { HasPositiveCycle edges.now → ⊥ }
+    ensures values { IfOk result (λ least. AreLeastValues points edges.now least.items) }
+    ensures near { IfOk result (λ least. AreNear least.items) }
+{
+    let Some(settled) = settle(alloc, points, edges)? else {
+        unreachable!();
+    };
+    least_values(alloc, &settled)
 }
 
 // The edges with the flow of time turned round.
@@ -173,12 +188,8 @@ fn greatest_values(
     ensures { IfOk result (λ greatest. AreGreatestValues points edges.now greatest.items) }
 {
     let turned = reversed(alloc, edges)?;
-    let Some(settled) = settle(alloc, points, &turned)? else {
-        unreachable!();
-    };
-    let least = least_values(alloc, &settled)?;
-    let greatest = negatives(alloc, &least)?;
-    Ok(greatest)
+    let least = least_of(alloc, points, &turned)?;
+    negatives(alloc, &least)
 }
 
 /// The least and the greatest value of each point over all schedules of the edges.

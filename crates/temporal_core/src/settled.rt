@@ -57,7 +57,7 @@ fn raise_from(
     requires modest { AreModest values.old }
     ensures { IfOk result (λ done. MatchBool done
         (RaisesFrom graph.now.edges.items (λ place. ⊤) point fixed
-            values.old queue.old.items values.new queue.new.items)
+        values.old queue.old.items values.new queue.new.items)
         (IsStopped graph.now.edges.items point fixed values.old)) }
 {
     let base = values[point];

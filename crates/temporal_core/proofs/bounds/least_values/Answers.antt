@@ -1,5 +1,4 @@
 use Rattle.std.proofs.Common.{◌≡◌, ℕ, ◌<◌, ℤ, pos, neg_ℤ, ◌≤ℤ◌, w64, to_z, of_z, MatchBool, List, ◌++◌, length, map, take, drop, None, get_or, sym, ap, ◌∙◌, subst, arith}
-use Rattle.std.proofs.lemmas.Int.{ints}
 use lib.Seq.{take-append_seam}
 use Rattle.temporal_core.specs.Settled.{value_at, Raises, Exceeds}
 use Rattle.temporal_core.specs.Bounds.{far_below, TellsPoint}
