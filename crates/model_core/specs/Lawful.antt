@@ -16,9 +16,6 @@ use Rattle.model_core.specs.declared.decision.Decision.{Decision}
 use Rattle.model_core.specs.declared.decision.Decision.TheVariants.{Specify, Activate, Merge, Reject, Order}
 use Rattle.model_core.specs.declared.item.Item.{Item}
 use Rattle.model_core.specs.declared.item.Item.TheVariants.{Constraint, Relation}
-use Rattle.model_core.specs.declared.item.Kind.TheVariants.{Field}
-use Rattle.model_core.specs.declared.item.Term.{Term}
-use Rattle.model_core.specs.declared.item.Term.TheVariants.{Lit, Global}
 use Rattle.model_core.specs.declared.model.Model.{Model}
 use Rattle.model_core.specs.declared.model.Problem.{Problem}
 use Rattle.model_core.specs.declared.model.Root.{Root}

@@ -1,5 +1,5 @@
 -- Which token and which variable of a model a text names.
-use Rattle.std.specs.Prelude.{◌≡◌, ℕ, List, [], Some, slice_get, codes}
+use Rattle.std.specs.Prelude.{◌≡◌, ℕ, List, [], codes}
 use Rattle.eu_name.specs.declared.name.Part.{Part}
 use Rattle.eu_name.specs.declared.name.Part.TheVariants.{Start, End, Duration, Object, Param}
 use Rattle.eu_name.specs.declared.name.Step.{Step}

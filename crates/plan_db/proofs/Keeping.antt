@@ -1,6 +1,6 @@
 -- What the database keeps, through its calls.
 use Rattle.std.proofs.Common.{◌≡◌, ◌<◌, true, false, List, [], ◌∷◌, ◌++◌, length, Option, Some, None, Ok, Err, inl, refl, sym, ap, ◌∙◌, subst, arith}
-use Rattle.std.specs.Prelude.{MatchOption, MatchBool, is_some, slice_get, ◌≤◌, ℕ}
+use Rattle.std.specs.Prelude.{MatchBool, is_some, slice_get, ◌≤◌, ℕ}
 use Rattle.constraint_net.specs.Networks.{Network}
 use Rattle.domain_core.specs.Domain.{Domain}
 use Rattle.model_core.specs.declared.decision.Decision.{Decision}

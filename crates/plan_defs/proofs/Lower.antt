@@ -1,9 +1,9 @@
 -- What is asked for in one situation is asked for in each that goes further.
-use Rattle.std.proofs.Common.{List, [], ◌∷◌, ◌++◌, inl, inr, ⊎_elim, ℤ, ◌≤ℤ◌, subst, arith}
-use Rattle.std.specs.Prelude.{Contains, All, ◌⊎◌}
+use Rattle.std.proofs.Common.{List, [], ◌∷◌, ◌++◌, inl, inr, ℤ, ◌≤ℤ◌, subst, arith}
+use Rattle.std.specs.Prelude.{Contains}
 use Rattle.std.proofs.lemmas.Int.{ints}
 use Rattle.std.proofs.lemmas.List.Elements.{All-weaker, Contains-append_left}
-use Rattle.domain_core.specs.Domain.{Domain, IsDomain, IsWithin, IsSingle, Has, least, greatest}
+use Rattle.domain_core.specs.Domain.{Domain, IsDomain, IsWithin, Has, least, greatest}
 use Rattle.domain_core.proofs.Words.{IsWithin-refl, has_least, has_greatest, between_ends}
 use Rattle.eu_name.specs.declared.name.Part.TheVariants.{Start, End, Object}
 use Rattle.eu_name.specs.declared.name.Step.{Step}
@@ -21,9 +21,9 @@ use Rattle.model_core.specs.declared.rule.Turn.{Turn}
 use Rattle.model_core.specs.Blocks.{TokenBlock, Follows, HasBlock, chosen}
 use Rattle.model_core.specs.Decided.{IsActivated, IsTaken, IsActive}
 use Rattle.model_core.specs.Entries.{Entries}
-use Rattle.model_core.specs.State.{State, Gives, IsState, IsBelow}
+use Rattle.model_core.specs.State.{State, IsState, IsBelow}
 use Rattle.plan_defs.specs.Claims.{Claim, IsClaim, ItemSays, IsOfProblem, IsOfBlock}
-use Rattle.plan_defs.specs.Closure.{IsConsistentState, IsClosed}
+use Rattle.plan_defs.specs.Closure.{IsConsistentState}
 use Rattle.plan_defs.specs.Laws.{AsksAsMuch, HaveToTurn, HasWhatIsAsked}
 use Rattle.plan_defs.specs.Situations.{Situation, situation_of}
 use Rattle.plan_defs.specs.Support.{MayBe, Opens, IsOpen, AsksFor, IsSupportedToken, IsSupportedBlock, one_side, other_side}

@@ -1,5 +1,5 @@
 -- When a claim is consistent in a state.
-use Rattle.std.specs.Prelude.{◌≡◌, ℕ, ℤ, pos, List, Some, slice_get}
+use Rattle.std.specs.Prelude.{◌≡◌, ℕ, ℤ, List, Some, slice_get}
 use Rattle.std.specs.List.{AllZip}
 use Rattle.domain_core.specs.Domain.{Domain}
 use Rattle.model_core.specs.declared.class.Object.{Object}

@@ -3,7 +3,6 @@ use Rattle.std.specs.Prelude.{◌≡◌, ◌≢◌, ℕ, ◌<◌, ◌≤◌, ℤ
 use Rattle.domain_core.specs.Domain.{Domain, Has}
 use Rattle.eu_name.specs.declared.name.TokenName.{TokenName}
 use Rattle.eu_name.specs.declared.name.VarName.{VarName}
-use Rattle.eu_name.specs.declared.name.VarName.TheVariants.{Token, Local, Global}
 use Rattle.model_core.specs.declared.decision.Decision.{Decision}
 use Rattle.model_core.specs.declared.decision.Decision.TheVariants.{Specify, Activate, Merge, Reject, Order}
 use Rattle.model_core.specs.declared.model.Model.{Model}
@@ -11,7 +10,7 @@ use Rattle.model_core.specs.declared.rule.Slot.{Slot}
 use Rattle.model_core.specs.declared.variable.Base.TheVariants.{Given}
 use Rattle.model_core.specs.Decided.{IsTaken, IsActive, IsDecided}
 use Rattle.model_core.specs.State.{State, Gives}
-use Rattle.model_core.specs.Tokens.{HasToken, IsFact, IsRejectable}
+use Rattle.model_core.specs.Tokens.{HasToken, IsRejectable}
 use Rattle.model_core.specs.Variables.{HasBase}
 use Rattle.plan_defs.specs.Closure.{IsLeast}
 use Rattle.plan_defs.specs.Terms.{Counts}

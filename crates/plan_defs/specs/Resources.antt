@@ -1,5 +1,5 @@
 -- Tokens don't use more of a reusable than it has, and the level of a reservoir stays within its limits.
-use Rattle.std.specs.Prelude.{◌≡◌, ◌⊎◌, ℤ, pos, ◌+ℤ◌, ◌≤ℤ◌, ◌<ℤ◌, List, [], ◌∷◌, Some, slice_get, Contains}
+use Rattle.std.specs.Prelude.{◌≡◌, ◌⊎◌, ℤ, pos, ◌+ℤ◌, ◌≤ℤ◌, ◌<ℤ◌, List, Some, slice_get, Contains}
 use Rattle.std.specs.List.{AllZip}
 use Rattle.domain_core.specs.Domain.{Domain, Has, least, greatest}
 use Rattle.eu_name.specs.declared.name.Part.TheVariants.{Start, End, Object, Param}
@@ -23,7 +23,7 @@ use Rattle.model_core.specs.Decided.{IsActive, IsRejected, IsDecided}
 use Rattle.model_core.specs.Entries.{Entries}
 use Rattle.model_core.specs.Kinds.{IsObject}
 use Rattle.model_core.specs.State.{State, Gives}
-use Rattle.model_core.specs.Tokens.{HasToken, IsFact, IsRejectable, root_token}
+use Rattle.model_core.specs.Tokens.{HasToken, IsRejectable, root_token}
 use Rattle.plan_defs.specs.Situations.{situation_of}
 use Rattle.plan_defs.specs.Sums.{sum_of}
 use Rattle.plan_defs.specs.Support.{Opens, IsSupportedToken, IsSupportedBlock, one_side, other_side}

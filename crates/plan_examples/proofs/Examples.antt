@@ -33,7 +33,7 @@ use Rattle.model_core.specs.Constraints.{HoldsOf, AgreeOn}
 use Rattle.model_core.specs.Decided.{IsActivated, IsDecided}
 use Rattle.model_core.specs.Entries.{Entries, NoEntry}
 use Rattle.model_core.specs.State.{State, Gives, AreInOrder}
-use Rattle.model_core.specs.Tokens.{HasToken, HasRule, IsFact, root_token}
+use Rattle.model_core.specs.Tokens.{HasToken, HasRule, root_token}
 use Rattle.plan_defs.specs.Claims.{part_of}
 use Rattle.plan_defs.specs.Closure.{IsClosed}
 use Rattle.plan_defs.specs.Consistency.{HasField}

@@ -1,13 +1,11 @@
-use Rattle.std.proofs.Common.{◌≡◌, Ok, Err, refl, sym, ap, subst}
+use Rattle.std.proofs.Common.{Ok, Err, refl, sym, subst}
 use Rattle.std.proofs.lemmas.Result.{err_from_is_err_and}
-use Rattle.model_core.specs.History.{standing, accepted}
-use Rattle.model_core.specs.State.{State}
-use Rattle.plan_defs.specs.Closure.{IsLeast}
+use Rattle.model_core.specs.History.{standing}
 use Rattle.plan_defs.specs.History.{IsHistory}
 use Rattle.plan_defs.specs.Refusals.{IsAdmissible}
 use Rattle.plan_db.specs.Database.{Database, Finds, Applies}
 use Rattle.plan_db.specs.Kept.{KeepsLeast}
-use Rattle.plan_db.proofs.Keeping.{collapsed_where, least_where, refused, admissible, IsHistory-accepted, outcome_is}
+use Rattle.plan_db.proofs.Keeping.{collapsed_where, least_where, refused, admissible, IsHistory-accepted}
 use Rattle.plan_db.proofs.database.Db.apply.Goals as goal
 use Rattle.plan_db.proofs.database.Db.apply.Goals.{In_ok-outcome}
 

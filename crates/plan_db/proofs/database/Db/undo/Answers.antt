@@ -1,5 +1,4 @@
-use Rattle.std.proofs.Common.{◌≡◌, ◌∷◌, refl, sym, subst}
-use Rattle.model_core.specs.History.{standing}
+use Rattle.std.proofs.Common.{refl, sym, subst}
 use Rattle.plan_db.specs.Database.{Database, OutcomeIs}
 use Rattle.plan_db.specs.Kept.{KeepsLeast, IsLeastNet}
 use Rattle.plan_db.proofs.Keeping.{outcome_is, standing_below, IsHistory-below}
