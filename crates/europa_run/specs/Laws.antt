@@ -13,5 +13,7 @@ HasOneOutput = (words : List (List ℕ)) (given : Given) (out other : List ℕ) 
 
 -- what was written before a fault comes first in the defined output, whatever that is
 abbrev pub LeavesFront : Type 0
-LeavesFront = (words : List (List ℕ)) (given : Given) (leavings : Leavings) (fault : RunFault) → Leaves words given leavings (Err fault)
+LeavesFront =
+    (words : List (List ℕ)) (given : Given) (leavings : Leavings) (fault : RunFault)
+    → Leaves words given leavings (Err fault)
     → (whole : List ℕ) (end : RunEnd) → Output words given whole end → IsFront leavings.out whole

@@ -15,7 +15,8 @@ printed line = line ++ 10 ∷ []
 
 -- what is printed where the words are no command line
 abbrev pub usage_line : List ℕ
-usage_line = codes "usage: europa plan FILE [--steps N] [--tokens N] | script FILE | check FILE PLAN | show FILE | gen N | try N"
+usage_line =
+    codes "usage: europa plan FILE [--steps N] [--tokens N] | script FILE | check FILE PLAN | show FILE | gen N | try N"
 
 -- the line that says what is wrong with a file, and at which byte
 abbrev pub fault_line : List ℕ → List ℕ → ℕ → List ℕ

@@ -1,5 +1,5 @@
 -- A line is answered as the command that it asks for.
-use Rattle.std.proofs.Common.{◌≡◌, ℕ, ◌<◌, true, List, Err, inl, inr, refl, subst, arith}
+use Rattle.std.proofs.Common.{ℕ, ◌<◌, true, List, Err, inl, inr, refl, subst, arith}
 use Rattle.line_session.specs.Answering.{LeavesUnanswered}
 use Rattle.plan_db.specs.Database.{Database}
 use Rattle.script_lang.specs.declared.line.Command.{Command}
@@ -9,8 +9,8 @@ use Rattle.script_lang.specs.Line.{ReadsLine}
 use Rattle.script_lang.proofs.Commands.{lines_ask_once}
 use Rattle.session_core.specs.declared.reason.RefusalReason.{RefusalReason}
 use Rattle.session_core.specs.declared.reason.RefusalReason.TheVariants.{Long, Syntax, Inconsistent, Unknown, Decided, NotInDomain, Nothing}
-use Rattle.session_core.specs.Reasons.{rank_of, refusal, IsFirstReason}
-use Rattle.session_core.specs.Replies.{StopsCommand, CarriesOut, AsksFor, StopsLine, Replies, RepliesTo, AnswersLine, IsLost}
+use Rattle.session_core.specs.Reasons.{rank_of, IsFirstReason}
+use Rattle.session_core.specs.Replies.{StopsCommand, AsksFor, StopsLine, Replies, RepliesTo, AnswersLine, IsLost}
 
 -- no command is too long or none
 never_long : (old : Database) (command : Command) → StopsCommand old command Long → ⊥

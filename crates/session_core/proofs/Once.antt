@@ -1,8 +1,7 @@
 -- Each line has one answer, and leaves one database.
-use Rattle.std.proofs.Common.{◌≡◌, ℕ, ◌<◌, ◌≤◌, zero, suc, ℤ, List, [], ◌∷◌, ◌⊎◌, Some, Ok, inl, inr, refl, sym, ap, ◌∙◌, subst, arith}
+use Rattle.std.proofs.Common.{◌≡◌, ℕ, ◌<◌, ◌≤◌, zero, suc, ℤ, List, [], ◌∷◌, ◌⊎◌, Ok, inl, inr, refl, sym, ap, ◌∙◌, subst}
 use Rattle.std.proofs.lemmas.Bool.{cases_lt}
 use Rattle.std.proofs.Math.Nat.{eq-or-lt_of_le}
-use Rattle.domain_core.specs.Domain as domains
 use Rattle.eu_name.specs.declared.name.VarName.TheVariants.{Global}
 use Rattle.line_session.specs.declared.reply.Answer.{Answer}
 use Rattle.line_session.specs.Laws.{HasOneReply}
@@ -13,7 +12,7 @@ use Rattle.model_core.specs.Lookup.{global_named}
 use Rattle.model_core.specs.State.{State, Gives}
 use Rattle.plan_defs.proofs.Settling.{least_same}
 use Rattle.plan_defs.proofs.States.{gives_same}
-use Rattle.plan_db.specs.Database.{Database, OutcomeIs, Applies, TakesBack, IsTold}
+use Rattle.plan_db.specs.Database.{Database, OutcomeIs, Applies, IsTold}
 use Rattle.plan_db.specs.declared.fault.Outcome.{Outcome}
 use Rattle.plan_db.specs.declared.fault.Outcome.TheVariants.{Consistent, Inconsistent}
 use Rattle.script_lang.specs.declared.line.Command.{Command}
@@ -52,9 +51,11 @@ reason_once Stops one other p q = by_rank (cases_lt (rank_of one) (rank_of other
   where
     of_rank : rank_of other ≡ rank_of one → other ≡ one
     of_rank e = sym (ranked_back other) ∙ ap ranked e ∙ ranked_back one
+
     not_above : (rank_of other ≡ rank_of one) ⊎ (rank_of other < rank_of one) → other ≡ one
     not_above (inl e) = of_rank e
     not_above (inr below) = absurd (p.first other below q.stops)
+
     by_rank : (rank_of one < rank_of other) ⊎ (rank_of other ≤ rank_of one) → other ≡ one
     by_rank (inl above) = absurd (q.first one above p.stops)
     by_rank (inr within) = not_above (eq-or-lt_of_le within)

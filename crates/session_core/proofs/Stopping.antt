@@ -1,5 +1,5 @@
 -- When a reason stops a command, in the words of the database, and which reason is the first.
-use Rattle.std.proofs.Common.{◌≡◌, ℕ, ◌+◌, ◌<◌, ◌≤◌, ℤ, List, [], ◌∷◌, length, Option, Some, None, Result, Ok, Err, inl, inr, refl, sym, ap, ◌∙◌, subst, arith}
+use Rattle.std.proofs.Common.{◌≡◌, ℕ, ◌+◌, ◌<◌, ℤ, List, [], ◌∷◌, length, Option, Some, None, Result, Ok, Err, inl, inr, refl, sym, subst, arith}
 use Rattle.std.specs.Prelude.{Bool, true, false, bytes_eq, cond, OnErr}
 use Rattle.domain_core.specs.Domain.{Domain, IsValue}
 use Rattle.domain_core.proofs.Words.{has_value}

@@ -62,7 +62,8 @@ RefusedOr Stops CarriesOut old reply new =
     ⊎ (IsFree Stops × CarriesOut reply new)
 
 -- The same of a step that has an outcome in place of a reply, and may lack memory, where nothing changes either.
-abbrev pub StepsOr : (RefusalReason → Type 0) → (Outcome → Database → Type 0) → Database → Result Outcome StepStop → Database → Type 0
+abbrev pub StepsOr : (RefusalReason → Type 0) → (Outcome → Database → Type 0) → Database → Result Outcome StepStop
+    → Database → Type 0
 StepsOr Stops CarriesOut old (Ok outcome) new = IsFree Stops × CarriesOut outcome new
 StepsOr Stops CarriesOut old (Err (Refused reason)) new = IsFirstReason Stops reason × (new ≡ old)
 StepsOr Stops CarriesOut old (Err Memory) new = new ≡ old

@@ -1,5 +1,4 @@
-use Rattle.std.proofs.Common.{◌≡◌, refl, sym, subst}
-use Rattle.plan_db.specs.Database.{Database}
+use Rattle.std.proofs.Common.{refl, sym, subst}
 use Rattle.script_lang.specs.declared.line.Command.{Command}
 use Rattle.script_lang.specs.declared.line.Command.TheVariants.{Specify, Undo}
 use Rattle.script_lang.specs.Number.{signed_value}
