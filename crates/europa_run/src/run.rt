@@ -116,13 +116,13 @@ fn run_script<S: Source, O: Sink>(
     ensures writes { O.faults out.new ≡ counted (is_write result) (O.faults out.old) }
 {
     match Db::new(alloc, model) {
-        Ok(db) => edit(alloc, db, input, out),
+        Ok(db) => edit_new(alloc, db, input, out),
         Err(_none) => Err(RunFault::Memory),
     }
 }
 
 // Answers the input's lines over the database.
-fn edit<S: Source, O: Sink>(
+fn edit_new<S: Source, O: Sink>(
     alloc: Global,
     db: Db,
     input: &mut S,
@@ -134,7 +134,22 @@ fn edit<S: Source, O: Sink>(
     ensures writes { O.faults out.new ≡ counted (is_write result) (O.faults out.old) }
 {
     let mut editor = Editor::new(alloc, db);
-    let end = session(alloc, &mut editor, input, out);
+    edit(alloc, &mut editor, input, out)
+}
+
+// Answers the input's lines by the editor, which has the database then.
+fn edit<S: Source, O: Sink>(
+    alloc: Global,
+    editor: &mut Editor,
+    input: &mut S,
+    out: &mut O,
+) -> Result<RunEnd, RunFault>
+    ensures told { EditTells editor.old (record { left = S.left input.old; written = O.written out.old })
+        (record { left = S.left input.new; written = O.written out.new }) result }
+    ensures reads { S.faults input.new ≡ counted (is_read result) (S.faults input.old) }
+    ensures writes { O.faults out.new ≡ counted (is_write result) (O.faults out.old) }
+{
+    let end = session(alloc, editor, input, out);
     ended_by(end)
 }
 
