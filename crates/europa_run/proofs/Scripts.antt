@@ -20,7 +20,7 @@ use Rattle.europa_run.specs.CommandLine.{Asks}
 use Rattle.europa_run.specs.Output.{Given, start_of, end_of, ScriptOutput, FileOutput, Output}
 use Rattle.europa_run.specs.Pieces.{ended_by, Streams, EditTells, ScriptTells, RunsScript, PrintsFault, GivesContent}
 use Rattle.europa_run.specs.Printed.{FaultOutput, file_limit}
-use Rattle.europa_run.specs.Runs.{StopsScript, Leaves, Outside, RunsTo}
+use Rattle.europa_run.specs.Runs.{StopsScript, RunLeaves, Outside, RunsTo}
 use Rattle.europa_run.proofs.Written.{given_by, named_content, nothing_runs, written_runs, writes_fault, text_no_done}
 
 -- what is told of the session is told of the script
@@ -94,7 +94,7 @@ module _ (words : List (List ℕ)) (file bytes : List ℕ) (model : Model) (asks
 
   -- however the session ended, this is what the run leaves
   leaves : (given : Given) (passage : Passage Database) (end : Result SessionEnd SessionFault) → given.content_of file ≡ Some bytes → given.input ≡ input_of passage
-      → Ends AnswersLine (begun (start_of model)) passage end → Leaves words given (record { left = passage.left; out = passage.out }) (ended_by end)
+      → Ends AnswersLine (begun (start_of model)) passage end → RunLeaves words given (record { left = passage.left; out = passage.out }) (ended_by end)
   leaves given passage (Ok OfInput) content is ends =
       let whole : passage.taken ≡ given.input = sym (is ∙ ap (λ l. passage.taken ++ l) ends.0 ∙ append-nil passage.taken) in (
         session_output given passage AtEnd content (subst (λ l. Session AnswersLine (begun (start_of model)) (lines_of l) (course_of passage AtEnd)) whole ends.1),
@@ -116,7 +116,7 @@ module _ (words : List (List ℕ)) (file bytes : List ℕ) (model : Model) (asks
         record { left = passage.left; out = passage.out },
         p.2,
         p.3,
-        subst (Leaves words (given_by files input) (record { left = passage.left; out = passage.out })) (sym t.2) (leaves (given_by files input) passage t.1 content p.1 p.5),
+        subst (RunLeaves words (given_by files input) (record { left = passage.left; out = passage.out })) (sym t.2) (leaves (given_by files input) passage t.1 content p.1 p.5),
       )
 
 module _ (file : List ℕ) (old new : Outside) (ended : Result RunEnd RunFault) where

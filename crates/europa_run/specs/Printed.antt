@@ -6,8 +6,8 @@ use Rattle.europa_run.specs.declared.status.RunEnd.{RunEnd}
 use Rattle.europa_run.specs.declared.status.RunEnd.TheVariants.{Text}
 
 -- the byte doesn't end a line
-abbrev pub is_in_line : ℕ → Bool
-is_in_line byte = not (byte == 10)
+abbrev pub is_before_feed : ℕ → Bool
+is_before_feed byte = not (byte == 10)
 
 -- the line with its line feed
 abbrev pub printed : List ℕ → List ℕ

@@ -53,16 +53,17 @@ pub record StopsScript (words : List (List ℕ)) (given : Given) (leavings : Lea
 -- failed read either nothing was done, or the script's session stopped there; after a failed write a front of the
 -- output was written, or the session stopped there; and where memory ran out nothing was done, or the session stopped
 -- there.
-abbrev pub Leaves : List (List ℕ) → Given → Leavings → Result RunEnd RunFault → Type 0
-Leaves words given leavings (Ok Done) =
+abbrev pub RunLeaves : List (List ℕ) → Given → Leavings → Result RunEnd RunFault → Type 0
+RunLeaves words given leavings (Ok Done) =
     Output words given leavings.out Done × ((file : List ℕ) → Asks words (Script file) → leavings.left ≡ [])
-Leaves words given leavings (Ok Usage) = Output words given leavings.out Usage
-Leaves words given leavings (Ok Text) = Output words given leavings.out Text
-Leaves words given leavings (Ok LinesSpent) = Output words given leavings.out LinesSpent
-Leaves words given leavings (Err Read) = LeavesAll given leavings ⊎ StopsScript words given leavings session.ReadFault
-Leaves words given leavings (Err Write) =
+RunLeaves words given leavings (Ok Usage) = Output words given leavings.out Usage
+RunLeaves words given leavings (Ok Text) = Output words given leavings.out Text
+RunLeaves words given leavings (Ok LinesSpent) = Output words given leavings.out LinesSpent
+RunLeaves words given leavings (Err Read) =
+    LeavesAll given leavings ⊎ StopsScript words given leavings session.ReadFault
+RunLeaves words given leavings (Err Write) =
     LosesRest words given leavings ⊎ StopsScript words given leavings session.WriteFault
-Leaves words given leavings (Err Memory) = LeavesAll given leavings ⊎ StopsScript words given leavings session.Memory
+RunLeaves words given leavings (Err Memory) = LeavesAll given leavings ⊎ StopsScript words given leavings session.Memory
 
 -- the files, the bytes that the input has left and those that the output has so far, where these are told
 pub record Outside : Type 0 where
@@ -76,7 +77,7 @@ RunsTo words old new ended =
     (files : List FileEntry) (input before : List ℕ) → old.files ≡ Some files → old.left ≡ Some input
     → old.written ≡ Some before
     → (leavings : Leavings) × (new.left ≡ Some leavings.left) × (new.written ≡ Some (before ++ leavings.out))
-    × Leaves words (record { content_of = λ name. file_named name files; input = input }) leavings ended
+    × RunLeaves words (record { content_of = λ name. file_named name files; input = input }) leavings ended
 
 -- the same of a run by its status
 abbrev pub Runs : List (List ℕ) → Outside → Outside → Status → Type 0

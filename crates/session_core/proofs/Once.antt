@@ -22,7 +22,7 @@ use Rattle.script_lang.proofs.Commands.{lines_ask_once}
 use Rattle.session_core.specs.declared.reason.RefusalReason.{RefusalReason}
 use Rattle.session_core.specs.declared.reason.RefusalReason.TheVariants as reason
 use Rattle.session_core.specs.Reasons.{rank_of, refusal, IsFirstReason, RefusedOr}
-use Rattle.session_core.specs.Replies.{outcome_line, domain_line, Specifies, Undoes, TellsDomain, CarriesOut, StopsLine, AsksFor, Replies, AnswersLine}
+use Rattle.session_core.specs.Replies.{outcome_line, domain_line, Specifies, UndoesLast, TellsDomain, CarriesOut, StopsLine, LineAsksFor, Replies, AnswersLine}
 use Rattle.session_core.proofs.Stopping.{one_named, never_leaves_both}
 
 -- ---- the first reason is one
@@ -102,7 +102,7 @@ former (top ∷ below) = below
 database_same : (one other : Database) → other.model ≡ one.model → other.history ≡ one.history → other ≡ one
 database_same one other model history = λ i. record { model = model i; history = history i }
 
-undone_once : (old : Database) (one other : Outcome) (new last : Database) → Undoes old one new → Undoes old other last → AreSame one other new last
+undone_once : (old : Database) (one other : Outcome) (new last : Database) → UndoesLast old one new → UndoesLast old other last → AreSame one other new last
 unfolding former
 undone_once old one other new last p q =
     let same = database_same new last (q.0 ∙ sym p.0) (ap former (sym q.1 ∙ p.1)) in
@@ -132,7 +132,7 @@ carried_out_once old (Domain name) reply other new last p q = (told_once old nam
 
 replied_once : (old : Database) (text reply other : List ℕ) (new last : Database) → Replies old text reply new → Replies old text other last → AreSame reply other new last
 replied_once old text reply other new last =
-    refused_once (StopsLine old text) (λ said after. (command : Command) × AsksFor text command × CarriesOut old command said after) old reply other new last
+    refused_once (StopsLine old text) (λ said after. (command : Command) × LineAsksFor text command × CarriesOut old command said after) old reply other new last
     (λ p q. carried_out_once old p.0 reply other new last p.2
     (subst (λ (c : Command). CarriesOut old c other last) (lines_ask_once text q.0 p.0 q.1 p.1) q.2))
 
