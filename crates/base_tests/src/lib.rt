@@ -1,12 +1,15 @@
 //! Tests of the crates at the bottom: what no clause says of them, as that a call succeeds where memory suffices,
-//! and what the answers are for cases that were worked out by hand.
+//! what the system's own files, readers and writers do, and what the answers are for cases worked out by hand.
+//! There is nothing to call here: `rt test` proves and runs the tests.
 #![tactic(auto)]
 
 #[cfg(test)]
-mod domain_core;
+mod domains;
 #[cfg(test)]
-mod eu_name;
+mod names;
 #[cfg(test)]
-mod resource_profile;
+mod profiles;
 #[cfg(test)]
-mod temporal_core;
+mod streams;
+#[cfg(test)]
+mod times;

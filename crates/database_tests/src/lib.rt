@@ -1,17 +1,18 @@
 //! Tests of the crates of the plan database: what no clause says of them, as that a call succeeds where memory
-//! suffices, and what the answers are for cases that were worked out by hand.
+//! suffices, and what the answers are for cases worked out by hand.
+//! There is nothing to call here: `rt test` proves and runs the tests.
 #![tactic(auto)]
 
 #[cfg(test)]
-mod constraint_net;
-#[cfg(test)]
 mod database;
 #[cfg(test)]
-mod decision_log;
+mod logs;
 #[cfg(test)]
 mod names;
 #[cfg(test)]
-mod narrow_core;
+mod narrowing;
+#[cfg(test)]
+mod networks;
 #[cfg(test)]
 mod sample;
 #[cfg(test)]

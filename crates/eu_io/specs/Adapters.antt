@@ -10,4 +10,5 @@ pub record Counted (Inner : Type 0) : Type 0 where
 -- it is stored as the pair of its fields
 abbrev pub counted_code : {Inner : Type 0} → Coded Inner → Coded (Counted Inner)
 counted_code {Inner} code =
-    code_by (Inner × ℕ) (coded× code coded_ℕ) (λ s. (s.inner, s.faults)) (λ p. record { inner = p.0; faults = p.1 }) (λ _. refl)
+    code_by (Inner
+        × ℕ) (coded× code coded_ℕ) (λ s. (s.inner, s.faults)) (λ p. record { inner = p.0; faults = p.1 }) (λ _. refl)

@@ -1,9 +1,9 @@
-//! Files, input and output behind the traits `Shelf`, `Source` and `Sink`: what each call does to the bytes, and a count
-//! of the calls that failed. What is written against the traits is proved for the system's files and streams (`adapters`),
-//! and tried over objects in memory, which fail where they are told to (`memory`) or never (`calm`).
+//! Files, input and output behind the traits `Shelf`, `Source` and `Sink`: what each call does to the bytes, and a
+//! count of the calls that failed. What is written against the traits is proved for the system's files and streams
+//! (`adapters`), and tried over objects in memory, which fail where they are told to (`memory`) or never (`calm`).
 //!
-//! With `let mut input = StdSource::new(rt.stdin());` the call `input.read(&mut buffer)` answers how many bytes it put at
-//! the front of the buffer, or `Failed`, and then `input.faults()` is one more.
+//! With `let mut input = StdSource::new(rt.stdin());` the call `input.read(&mut buffer)` answers how many bytes it
+//! put at the front of the buffer, or `Failed`, and then `input.faults()` is one more.
 #![tactic(auto)]
 
 pub mod adapters;

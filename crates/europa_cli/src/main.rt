@@ -1,4 +1,5 @@
-// The program over the system's words, files, input and output.
+//! The program over the system's words, files, input and output. It makes the one call
+//! `europa(rt.alloc(), words, &mut shelf, &mut input, &mut out)` and ends with the number of its status.
 #![tactic(auto)]
 
 use eu_io::adapters::file_shelf::FileShelf;

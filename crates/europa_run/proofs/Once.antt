@@ -1,5 +1,5 @@
 -- Words have one output, and what was written before a fault comes first in it.
-use Rattle.std.proofs.Common.{◌≡◌, ℕ, ◌<◌, ◌≤◌, List, [], ◌++◌, length, Option, Some, None, Err, inl, inr, refl, sym, ap, ◌∙◌, subst, arith}
+use Rattle.std.proofs.Common.{◌≡◌, ℕ, List, [], ◌++◌, Option, Some, None, inl, inr, sym, ap, ◌∙◌, subst, arith}
 use Rattle.line_session.specs.declared.fault.SessionFault.{SessionFault}
 use Rattle.line_session.specs.declared.fault.SessionFault.TheVariants as fault
 use Rattle.line_session.specs.Ends.{begun}
@@ -15,12 +15,11 @@ use Rattle.session_core.proofs.Once.{one_reply}
 use Rattle.europa_run.specs.declared.command_line.Request.{Request}
 use Rattle.europa_run.specs.declared.command_line.Request.TheVariants.{Script, Show}
 use Rattle.europa_run.specs.declared.status.RunEnd.{RunEnd}
-use Rattle.europa_run.specs.declared.status.RunFault.{RunFault}
 use Rattle.europa_run.specs.declared.status.RunFault.TheVariants.{Read, Write, Memory}
 use Rattle.europa_run.specs.Laws.{HasOneOutput, LeavesFront}
 use Rattle.europa_run.specs.Output.{Given, start_of, end_of, ScriptOutput, FileOutput, RequestOutput, Output}
 use Rattle.europa_run.specs.Printed.{FaultOutput}
-use Rattle.europa_run.specs.Runs.{Leavings, StopsScript, Leaves}
+use Rattle.europa_run.specs.Runs.{Leavings, StopsScript}
 use Rattle.europa_run.proofs.Requests.{only_output}
 use Rattle.europa_run.proofs.Shows.{shown_once}
 

@@ -1,5 +1,5 @@
 -- The words ask for one thing, so that their output is what that gives.
-use Rattle.std.proofs.Common.{◌≡◌, ℕ, List, [], ◌∷◌, sym, ap, ◌∙◌, subst, refl, inl, inr, get_or}
+use Rattle.std.proofs.Common.{◌≡◌, ℕ, List, [], ◌∷◌, sym, ap, ◌∙◌, subst, inl, inr, get_or}
 use Rattle.europa_run.specs.declared.command_line.Request.{Request}
 use Rattle.europa_run.specs.declared.command_line.Request.TheVariants.{Script, Show}
 use Rattle.europa_run.specs.declared.status.RunEnd.{RunEnd}

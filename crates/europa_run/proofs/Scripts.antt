@@ -1,7 +1,6 @@
 -- What the session with a file's problem leaves is what the run of the words leaves.
-use Rattle.std.proofs.Common.{◌≡◌, ℕ, ◌<◌, ◌≤◌, Bool, true, false, List, [], ◌∷◌, ◌++◌, length, Option, Some, None, Result, Ok, Err, inl, inr, refl, sym, ap, ◌∙◌, subst, append-nil, codes, arith}
-use Rattle.eu_io.specs.Files.{file_named, HasContent}
-use Rattle.eu_io.specs.declared.shelf.FileEntry.{FileEntry}
+use Rattle.std.proofs.Common.{◌≡◌, ℕ, ◌<◌, ◌≤◌, Bool, true, false, List, [], ◌∷◌, ◌++◌, length, Option, Some, None, Result, Ok, Err, inl, inr, refl, sym, ap, ◌∙◌, subst, append-nil, codes}
+use Rattle.eu_io.specs.Files.{HasContent}
 use Rattle.line_session.specs.declared.fault.SessionFault.{SessionFault}
 use Rattle.line_session.specs.declared.fault.SessionFault.TheVariants as fault
 use Rattle.line_session.specs.declared.talk.SessionEnd.{SessionEnd}
@@ -15,21 +14,20 @@ use Rattle.range_problem.specs.Spelling.{Spells}
 use Rattle.session_core.specs.Replies.{AnswersLine}
 use Rattle.europa_run.specs.declared.command_line.Request.TheVariants.{Script}
 use Rattle.europa_run.specs.declared.status.RunEnd.{RunEnd}
-use Rattle.europa_run.specs.declared.status.RunEnd.TheVariants.{Done, Text, LinesSpent}
 use Rattle.europa_run.specs.declared.status.RunFault.{RunFault}
 use Rattle.europa_run.specs.declared.status.RunFault.TheVariants as run
 use Rattle.europa_run.specs.CommandLine.{Asks}
 use Rattle.europa_run.specs.Output.{Given, start_of, end_of, ScriptOutput, FileOutput, Output}
-use Rattle.europa_run.specs.Pieces.{ended_by, Streams, ScriptTells, RunsScript, PrintsFault, GivesContent}
+use Rattle.europa_run.specs.Pieces.{ended_by, Streams, EditTells, ScriptTells, RunsScript, PrintsFault, GivesContent}
 use Rattle.europa_run.specs.Printed.{FaultOutput, file_limit}
-use Rattle.europa_run.specs.Runs.{Leavings, StopsScript, Leaves, Outside, RunsTo}
+use Rattle.europa_run.specs.Runs.{StopsScript, RunLeaves, Outside, RunsTo}
 use Rattle.europa_run.proofs.Written.{given_by, named_content, nothing_runs, written_runs, writes_fault, text_no_done}
 
 -- what is told of the session is told of the script
-pub script_tells : (model : Model) (start last : Database) (old new : Streams) (end : Result SessionEnd SessionFault) → start ≡ start_of model
-    → SessionTells AnswersLine (record { responder = start; left = old.left; written = old.written }) (record { responder = last; left = new.left; written = new.written }) end
-    → ScriptTells model old new (ended_by end)
-script_tells model start last old new end is tells = (
+pub edit_tells : (start begun_with last : Database) (old new : Streams) (end : Result SessionEnd SessionFault) → begun_with ≡ start
+    → SessionTells AnswersLine (record { responder = begun_with; left = old.left; written = old.written }) (record { responder = last; left = new.left; written = new.written }) end
+    → EditTells start old new (ended_by end)
+edit_tells start begun_with last old new end is tells = (
   last,
   end,
   refl,
@@ -96,7 +94,7 @@ module _ (words : List (List ℕ)) (file bytes : List ℕ) (model : Model) (asks
 
   -- however the session ended, this is what the run leaves
   leaves : (given : Given) (passage : Passage Database) (end : Result SessionEnd SessionFault) → given.content_of file ≡ Some bytes → given.input ≡ input_of passage
-      → Ends AnswersLine (begun (start_of model)) passage end → Leaves words given (record { left = passage.left; out = passage.out }) (ended_by end)
+      → Ends AnswersLine (begun (start_of model)) passage end → RunLeaves words given (record { left = passage.left; out = passage.out }) (ended_by end)
   leaves given passage (Ok OfInput) content is ends =
       let whole : passage.taken ≡ given.input = sym (is ∙ ap (λ l. passage.taken ++ l) ends.0 ∙ append-nil passage.taken) in (
         session_output given passage AtEnd content (subst (λ l. Session AnswersLine (begun (start_of model)) (lines_of l) (course_of passage AtEnd)) whole ends.1),
@@ -118,7 +116,7 @@ module _ (words : List (List ℕ)) (file bytes : List ℕ) (model : Model) (asks
         record { left = passage.left; out = passage.out },
         p.2,
         p.3,
-        subst (Leaves words (given_by files input) (record { left = passage.left; out = passage.out })) (sym t.2) (leaves (given_by files input) passage t.1 content p.1 p.5),
+        subst (RunLeaves words (given_by files input) (record { left = passage.left; out = passage.out })) (sym t.2) (leaves (given_by files input) passage t.1 content p.1 p.5),
       )
 
 module _ (file : List ℕ) (old new : Outside) (ended : Result RunEnd RunFault) where
@@ -131,8 +129,12 @@ module _ (file : List ℕ) (old new : Outside) (ended : Result RunEnd RunFault) 
       → new.left ≡ old.left → HasContent old.files file content → PrintsFault kind file 0 old.written new.written ended → RunsScript file old new ended
   fault_runs kind content gives unread holds w = λ words asks.
       written_runs words old new unread (FaultOutput kind file 0)
-      (λ files input out end told is. inr (Script file, asks, subst (λ (c : Option (List ℕ)). FileOutput file c input out end)
-      (named_content old.files file content files holds told) (gives input out end is)))
+      (λ files input out end told is. inr (
+        Script file,
+        asks,
+        subst (λ (c : Option (List ℕ)). FileOutput file c input out end)
+            (named_content old.files file content files holds told) (gives input out end is),
+      ))
       (λ out is name asked. text_no_done kind file 0 out is) ended (writes_fault kind file 0 old.written new.written ended w)
 
   pub absent_runs : new.left ≡ old.left → HasContent old.files file None → PrintsFault (codes "Absent") file 0 old.written new.written ended → RunsScript file old new ended

@@ -75,6 +75,7 @@ show_runs words file old new ended asks unread w = by_end ended w
         written_runs words old new unread (ShowOutput file w.0)
         (λ files input out end told is. inr (Show file, asks, subst (λ (c : Option (List ℕ)). ShowOutput file c out end) (named_content old.files file w.0 files w.1 told) is))
         (λ out is name asked. shows_no_script words file name asks asked) ended w.2
+
     by_end : (ended : Result RunEnd RunFault) → Shows old.files file old.written new.written ended → RunsTo words old new ended
     by_end (Ok end) w = of_content (Ok end) w
     by_end (Err Write) w = of_content (Err Write) w

@@ -1,5 +1,5 @@
 -- What the program writes of its own is the output of the words, or a front of it.
-use Rattle.std.proofs.Common.{◌≡◌, ℕ, List, [], ◌++◌, Option, Some, None, Result, Ok, Err, refl, sym, ap, ◌∙◌, subst, inl, inr, append-nil}
+use Rattle.std.proofs.Common.{◌≡◌, ℕ, List, [], ◌++◌, Option, Some, None, Result, Ok, Err, refl, sym, ap, ◌∙◌, subst, inl, append-nil}
 use Rattle.std.specs.Io.KnownBytes.{Appends}
 use Rattle.eu_io.specs.Files.{file_named, HasContent}
 use Rattle.eu_io.specs.declared.shelf.FileEntry.{FileEntry}
@@ -12,7 +12,7 @@ use Rattle.europa_run.specs.CommandLine.{Asks, AreNoCommand}
 use Rattle.europa_run.specs.Output.{Given, Output}
 use Rattle.europa_run.specs.Pieces.{PrintsFault, UsageOutput, WritesText}
 use Rattle.europa_run.specs.Printed.{printed, fault_line, FaultOutput}
-use Rattle.europa_run.specs.Runs.{Leavings, Leaves, Outside, RunsTo}
+use Rattle.europa_run.specs.Runs.{RunLeaves, Outside, RunsTo}
 
 -- what is appended to what is told is told
 appended : (old new : Option (List ℕ)) (before bytes : List ℕ) → old ≡ Some before → Appends old new bytes → new ≡ Some (before ++ bytes)
@@ -45,7 +45,7 @@ module _ (words : List (List ℕ)) (old new : Outside) (unread : new.left ≡ ol
       (gives : (files : List FileEntry) (input out : List ℕ) (end : RunEnd) → old.files ≡ Some files → IsPrinted out end → Output words (given_by files input) out end)
       (no_script : (out : List ℕ) → IsPrinted out Done → (file : List ℕ) → Asks words (Script file) → ⊥) where
     leaves : (files : List FileEntry) (input text : List ℕ) (end : RunEnd) → old.files ≡ Some files → IsPrinted text end
-        → Leaves words (given_by files input) (record { left = input; out = text }) (Ok end)
+        → RunLeaves words (given_by files input) (record { left = input; out = text }) (Ok end)
     leaves files input text Done told is = (gives files input text Done told is, λ file asks. absurd (no_script text is file asks))
     leaves files input text Usage told is = gives files input text Usage told is
     leaves files input text Text told is = gives files input text Text told is

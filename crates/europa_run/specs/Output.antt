@@ -1,4 +1,5 @@
--- What the program prints and how its run ends, as a relation between what is asked for, the files, the input and the output.
+-- What the program prints and how its run ends, as a relation between what is asked for, the files, the input and the
+-- output.
 use Rattle.std.specs.Prelude.{◌≡◌, ℕ, ◌<◌, ◌≤◌, List, [], ◌∷◌, ◌⊎◌, length, Option, Some, None, codes}
 use Rattle.line_session.specs.Ends.{begun}
 use Rattle.line_session.specs.Lines.{lines_of}
@@ -33,14 +34,17 @@ end_of AtLimit = LinesSpent
 -- the session of the input's lines with the model
 abbrev pub ScriptOutput : Model → List ℕ → List ℕ → RunEnd → Type 0
 ScriptOutput model input out end =
-    (course : Course Database) × Session AnswersLine (begun (start_of model)) (lines_of input) course × (out ≡ course.out) × (end ≡ end_of course.ending)
+    (course : Course Database) × Session AnswersLine (begun (start_of model)) (lines_of input) course
+    × (out ≡ course.out) × (end ≡ end_of course.ending)
 
--- what a script's file with this content gives: a fault where it is absent, too long or spells no problem, and else its session
+-- what a script's file with this content gives: a fault where it is absent, too long or spells no problem, and else
+-- its session
 abbrev pub FileOutput : List ℕ → Option (List ℕ) → List ℕ → List ℕ → RunEnd → Type 0
 FileOutput file None input out end = FaultOutput (codes "Absent") file 0 out end
 FileOutput file (Some bytes) input out end =
     ((file_limit < length bytes) × FaultOutput (codes "Limit:bytes") file 0 out end)
-    ⊎ ((length bytes ≤ file_limit) × ((model : Model) → Spells bytes model → ⊥) × FaultOutput (codes "NotBuilt") file 0 out end)
+    ⊎ ((length bytes ≤ file_limit) × ((model : Model) → Spells bytes model → ⊥)
+    × FaultOutput (codes "NotBuilt") file 0 out end)
     ⊎ ((length bytes ≤ file_limit) × ((model : Model) × Spells bytes model × ScriptOutput model input out end))
 
 -- what is asked for gives this output and ends so

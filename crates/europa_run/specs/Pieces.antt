@@ -27,10 +27,13 @@ use Rattle.europa_run.specs.Showing.{ShowOutput}
 -- what a file of this name has
 abbrev pub GivesContent : Option (List FileEntry) → List ℕ → Result FileContent RunFault → Type 0
 GivesContent files name (Ok Absent) = HasContent files name None
-GivesContent files name (Ok TooLong) = (bytes : List ℕ) × HasContent files name (Some bytes) × (file_limit < length bytes)
+GivesContent files name (Ok TooLong) =
+    (bytes : List ℕ) × HasContent files name (Some bytes) × (file_limit < length bytes)
 GivesContent files name (Ok NotBuilt) =
-    (bytes : List ℕ) × HasContent files name (Some bytes) × (length bytes ≤ file_limit) × ((model : Model) → Spells bytes model → ⊥)
-GivesContent files name (Ok (Problem model)) = (bytes : List ℕ) × HasContent files name (Some bytes) × (length bytes ≤ file_limit) × Spells bytes model
+    (bytes : List ℕ) × HasContent files name (Some bytes) × (length bytes ≤ file_limit)
+    × ((model : Model) → Spells bytes model → ⊥)
+GivesContent files name (Ok (Problem model)) =
+    (bytes : List ℕ) × HasContent files name (Some bytes) × (length bytes ≤ file_limit) × Spells bytes model
 GivesContent files name (Err Read) = ⊤
 GivesContent files name (Err Write) = ⊥
 GivesContent files name (Err Memory) = ⊤
@@ -48,12 +51,16 @@ pub record Streams : Type 0 where
   pub left : Option (List ℕ)
   pub written : Option (List ℕ)
 
--- a session over the model ended so
-abbrev pub ScriptTells : Model → Streams → Streams → Result RunEnd RunFault → Type 0
-ScriptTells model old new ended =
+-- a session that begins with this database ended so
+abbrev pub EditTells : Database → Streams → Streams → Result RunEnd RunFault → Type 0
+EditTells start old new ended =
     (last : Database) × (end : Result SessionEnd SessionFault) × (ended ≡ ended_by end)
-    × SessionTells AnswersLine (record { responder = start_of model; left = old.left; written = old.written })
+    × SessionTells AnswersLine (record { responder = start; left = old.left; written = old.written })
     (record { responder = last; left = new.left; written = new.written }) end
+
+-- the same with a new database of the model
+abbrev pub ScriptTells : Model → Streams → Streams → Result RunEnd RunFault → Type 0
+ScriptTells model old new ended = EditTells (start_of model) old new ended
 
 -- whatever words ask for this script, this is what their run leaves
 abbrev pub RunsScript : List ℕ → Outside → Outside → Result RunEnd RunFault → Type 0
@@ -71,15 +78,19 @@ PrintsFault kind name place old new (Err Write) =
 PrintsFault kind name place old new (Err Memory) = new ≡ old
 PrintsFault kind name place old new _ = ⊥
 
--- a text was appended that may be printed by a run that ends so; or, where a write failed, a front of such a text; or nothing for want of memory
+-- a text was appended that may be printed by a run that ends so; or, where a write failed, a front of such a text; or
+-- nothing for want of memory
 abbrev pub WritesText : (List ℕ → RunEnd → Type 0) → Option (List ℕ) → Option (List ℕ) → Result RunEnd RunFault → Type 0
 WritesText IsPrinted old new (Ok end) = (text : List ℕ) × Appends old new text × IsPrinted text end
 WritesText IsPrinted old new (Err Read) = ⊥
-WritesText IsPrinted old new (Err Write) = (front lost : List ℕ) × (end : RunEnd) × Appends old new front × IsPrinted (front ++ lost) end
+WritesText IsPrinted old new (Err Write) =
+    (front lost : List ℕ) × (end : RunEnd) × Appends old new front × IsPrinted (front ++ lost) end
 WritesText IsPrinted old new (Err Memory) = new ≡ old
 
 -- the file was shown as its content asks, or nothing was written after a failed read
-abbrev pub Shows : Option (List FileEntry) → List ℕ → Option (List ℕ) → Option (List ℕ) → Result RunEnd RunFault → Type 0
+abbrev pub Shows : Option (List FileEntry) → List ℕ → Option (List ℕ) → Option (List ℕ) → Result RunEnd RunFault
+    → Type 0
 Shows files name old new (Err Read) = new ≡ old
 Shows files name old new (Err Memory) = new ≡ old
-Shows files name old new ended = (content : Option (List ℕ)) × HasContent files name content × WritesText (ShowOutput name content) old new ended
+Shows files name old new ended =
+    (content : Option (List ℕ)) × HasContent files name content × WritesText (ShowOutput name content) old new ended

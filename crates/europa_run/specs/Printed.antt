@@ -6,8 +6,8 @@ use Rattle.europa_run.specs.declared.status.RunEnd.{RunEnd}
 use Rattle.europa_run.specs.declared.status.RunEnd.TheVariants.{Text}
 
 -- the byte doesn't end a line
-abbrev pub is_in_line : ℕ → Bool
-is_in_line byte = not (byte == 10)
+abbrev pub is_before_feed : ℕ → Bool
+is_before_feed byte = not (byte == 10)
 
 -- the line with its line feed
 abbrev pub printed : List ℕ → List ℕ
@@ -15,7 +15,8 @@ printed line = line ++ 10 ∷ []
 
 -- what is printed where the words are no command line
 abbrev pub usage_line : List ℕ
-usage_line = codes "usage: europa plan FILE [--steps N] [--tokens N] | script FILE | check FILE PLAN | show FILE | gen N | try N"
+usage_line =
+    codes "usage: europa plan FILE [--steps N] [--tokens N] | script FILE | check FILE PLAN | show FILE | gen N | try N"
 
 -- the line that says what is wrong with a file, and at which byte
 abbrev pub fault_line : List ℕ → List ℕ → ℕ → List ℕ

@@ -16,7 +16,7 @@ use Rattle.europa_run.specs.declared.status.RunEnd.TheVariants.{Done, Usage, Tex
 use Rattle.europa_run.specs.declared.status.RunFault.{RunFault}
 use Rattle.europa_run.specs.declared.status.RunFault.TheVariants.{Read, Write, Memory}
 use Rattle.europa_run.specs.declared.status.Status.{Status}
-use Rattle.europa_run.specs.CommandLine.{Asks, AreNoCommand}
+use Rattle.europa_run.specs.CommandLine.{Asks}
 use Rattle.europa_run.specs.Output.{Given, start_of, Output}
 use Rattle.europa_run.specs.Printed.{file_limit}
 use Rattle.europa_run.specs.Statuses.{status_of}
@@ -49,17 +49,21 @@ pub record StopsScript (words : List (List ℕ)) (given : Given) (leavings : Lea
   pub out : leavings.out ≡ passage.out
   pub ends : Ends AnswersLine (begun (start_of model)) passage (Err fault)
 
--- What a run leaves that ends so: the defined output, and of a script that is done nothing of the input; after a failed read
--- either nothing was done, or the script's session stopped there; after a failed write a front of the output was written, or the
--- session stopped there; and where memory ran out nothing was done, or the session stopped there.
-abbrev pub Leaves : List (List ℕ) → Given → Leavings → Result RunEnd RunFault → Type 0
-Leaves words given leavings (Ok Done) = Output words given leavings.out Done × ((file : List ℕ) → Asks words (Script file) → leavings.left ≡ [])
-Leaves words given leavings (Ok Usage) = Output words given leavings.out Usage
-Leaves words given leavings (Ok Text) = Output words given leavings.out Text
-Leaves words given leavings (Ok LinesSpent) = Output words given leavings.out LinesSpent
-Leaves words given leavings (Err Read) = LeavesAll given leavings ⊎ StopsScript words given leavings session.ReadFault
-Leaves words given leavings (Err Write) = LosesRest words given leavings ⊎ StopsScript words given leavings session.WriteFault
-Leaves words given leavings (Err Memory) = LeavesAll given leavings ⊎ StopsScript words given leavings session.Memory
+-- What a run leaves that ends so: the defined output, and of a script that is done nothing of the input; after a
+-- failed read either nothing was done, or the script's session stopped there; after a failed write a front of the
+-- output was written, or the session stopped there; and where memory ran out nothing was done, or the session stopped
+-- there.
+abbrev pub RunLeaves : List (List ℕ) → Given → Leavings → Result RunEnd RunFault → Type 0
+RunLeaves words given leavings (Ok Done) =
+    Output words given leavings.out Done × ((file : List ℕ) → Asks words (Script file) → leavings.left ≡ [])
+RunLeaves words given leavings (Ok Usage) = Output words given leavings.out Usage
+RunLeaves words given leavings (Ok Text) = Output words given leavings.out Text
+RunLeaves words given leavings (Ok LinesSpent) = Output words given leavings.out LinesSpent
+RunLeaves words given leavings (Err Read) =
+    LeavesAll given leavings ⊎ StopsScript words given leavings session.ReadFault
+RunLeaves words given leavings (Err Write) =
+    LosesRest words given leavings ⊎ StopsScript words given leavings session.WriteFault
+RunLeaves words given leavings (Err Memory) = LeavesAll given leavings ⊎ StopsScript words given leavings session.Memory
 
 -- the files, the bytes that the input has left and those that the output has so far, where these are told
 pub record Outside : Type 0 where
@@ -70,9 +74,10 @@ pub record Outside : Type 0 where
 -- where all is told, this is what the run leaves
 abbrev pub RunsTo : List (List ℕ) → Outside → Outside → Result RunEnd RunFault → Type 0
 RunsTo words old new ended =
-    (files : List FileEntry) (input before : List ℕ) → old.files ≡ Some files → old.left ≡ Some input → old.written ≡ Some before
+    (files : List FileEntry) (input before : List ℕ) → old.files ≡ Some files → old.left ≡ Some input
+    → old.written ≡ Some before
     → (leavings : Leavings) × (new.left ≡ Some leavings.left) × (new.written ≡ Some (before ++ leavings.out))
-    × Leaves words (record { content_of = λ name. file_named name files; input = input }) leavings ended
+    × RunLeaves words (record { content_of = λ name. file_named name files; input = input }) leavings ended
 
 -- the same of a run by its status
 abbrev pub Runs : List (List ℕ) → Outside → Outside → Status → Type 0

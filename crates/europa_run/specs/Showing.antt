@@ -32,7 +32,8 @@ ReadingOutput file (Err fault) out end = FaultOutput (kind_of fault) file (place
 
 -- what the text is read as is printed
 abbrev pub TextOutput : List ℕ → List ℕ → List ℕ → RunEnd → Type 0
-TextOutput file bytes out end = (reading : Result (List Decl) TextFault) × ReadsAs bytes reading × ReadingOutput file reading out end
+TextOutput file bytes out end =
+    (reading : Result (List Decl) TextFault) × ReadsAs bytes reading × ReadingOutput file reading out end
 
 -- what a file with this content gives: a fault where it is absent or too long, and else what its text is read as
 abbrev pub ShowOutput : List ℕ → Option (List ℕ) → List ℕ → RunEnd → Type 0

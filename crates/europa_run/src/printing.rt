@@ -4,7 +4,7 @@ ghost use Rattle.std.specs.Prelude.{◌≡◌, ◌+◌, ◌≤◌, false, IfOk, 
 ghost use Rattle.std.specs.List.{prefix_len};
 ghost use Rattle.eu_io.specs.Faults.{CountsFailures, counted};
 ghost use Rattle.line_session.specs.Writing.{WritesWhole};
-ghost use Rattle.europa_run.specs.Printed.{is_in_line, printed, fault_line};
+ghost use Rattle.europa_run.specs.Printed.{is_before_feed, printed, fault_line};
 ghost use Rattle.europa_run.specs.Pieces.{PrintsFault, UsageOutput, WritesText};
 ghost use Rattle.europa_run.specs.Statuses.{is_read, is_write};
 
@@ -69,7 +69,7 @@ pub fn print_fault<O: Sink>(
 
 // How many bytes stand before the first line feed.
 fn inside_len(text: &[u8]) -> usize
-    ensures exact { result ≡ prefix_len is_in_line text.now }
+    ensures exact { result ≡ prefix_len is_before_feed text.now }
     ensures within { result ≤ length text.now }
 {
     text.iter().take_while(|byte| **byte != b'\n').count()
@@ -77,7 +77,7 @@ fn inside_len(text: &[u8]) -> usize
 
 // How long the first line is, with its line feed.
 fn line_len(text: &[u8]) -> usize
-    ensures { result ≡ min (prefix_len is_in_line text.now + 1) (length text.now) }
+    ensures { result ≡ min (prefix_len is_before_feed text.now + 1) (length text.now) }
 {
     let inside = inside_len(text);
     if inside < text.len() {

@@ -5,7 +5,7 @@ ghost use Rattle.eu_io.specs.Faults.{counted};
 ghost use Rattle.model_core.specs.Lawful.{IsLawful};
 ghost use Rattle.plan_db.specs.Built.{IsBuilt};
 ghost use Rattle.europa_run.specs.CommandLine.{AreNoScript, AreNoCommand};
-ghost use Rattle.europa_run.specs.Pieces.{ScriptTells, RunsScript, ended_by};
+ghost use Rattle.europa_run.specs.Pieces.{EditTells, ScriptTells, RunsScript, ended_by};
 ghost use Rattle.europa_run.specs.Runs.{Runs, RunsTo, RaisesReads};
 ghost use Rattle.europa_run.specs.Statuses.{is_read, is_write, is_read_status, is_write_status};
 
@@ -25,8 +25,8 @@ use plan_db::database::Db;
 use session_core::editor::Editor;
 use std::alloc::Global;
 
-/// Runs the program on the words after its name: carries out the command that they ask for, over the file that they name,
-/// and says how it ended. After a fault nothing more is read or written.
+/// Runs the program on the words after its name: carries out the command that they ask for, over the file that they
+/// name, and says how it ended. After a fault nothing more is read or written.
 pub fn europa<F: Shelf, S: Source, O: Sink>(
     alloc: Global,
     words: &[Text],
@@ -116,11 +116,41 @@ fn run_script<S: Source, O: Sink>(
     ensures reads { S.faults input.new ≡ counted (is_read result) (S.faults input.old) }
     ensures writes { O.faults out.new ≡ counted (is_write result) (O.faults out.old) }
 {
-    let Ok(db) = Db::new(alloc, model) else {
-        return Err(RunFault::Memory);
-    };
+    match Db::new(alloc, model) {
+        Ok(db) => edit_new(alloc, db, input, out),
+        Err(_none) => Err(RunFault::Memory),
+    }
+}
+
+// Answers the input's lines over the database.
+fn edit_new<S: Source, O: Sink>(
+    alloc: Global,
+    db: Db,
+    input: &mut S,
+    out: &mut O,
+) -> Result<RunEnd, RunFault>
+    ensures told { EditTells db (record { left = S.left input.old; written = O.written out.old })
+        (record { left = S.left input.new; written = O.written out.new }) result }
+    ensures reads { S.faults input.new ≡ counted (is_read result) (S.faults input.old) }
+    ensures writes { O.faults out.new ≡ counted (is_write result) (O.faults out.old) }
+{
     let mut editor = Editor::new(alloc, db);
-    let end = session(alloc, &mut editor, input, out);
+    edit(alloc, &mut editor, input, out)
+}
+
+// Answers the input's lines by the editor, which has the database then.
+fn edit<S: Source, O: Sink>(
+    alloc: Global,
+    editor: &mut Editor,
+    input: &mut S,
+    out: &mut O,
+) -> Result<RunEnd, RunFault>
+    ensures told { EditTells editor.old (record { left = S.left input.old; written = O.written out.old })
+        (record { left = S.left input.new; written = O.written out.new }) result }
+    ensures reads { S.faults input.new ≡ counted (is_read result) (S.faults input.old) }
+    ensures writes { O.faults out.new ≡ counted (is_write result) (O.faults out.old) }
+{
+    let end = session(alloc, editor, input, out);
     ended_by(end)
 }
 

@@ -20,8 +20,14 @@ use nddl_includes::reader::TextReader;
 use nddl_print::print::print;
 use std::alloc::Global;
 
-/// Prints the file of this name in the canonical spelling, or what is wrong with it first. Its includes aren't followed.
-pub fn show<F: Shelf, O: Sink>(alloc: Global, shelf: &mut F, out: &mut O, file: &Text) -> Result<RunEnd, RunFault>
+/// Prints the file of this name in the canonical spelling, or what is wrong with it first. Its includes aren't
+/// followed.
+pub fn show<F: Shelf, O: Sink>(
+    alloc: Global,
+    shelf: &mut F,
+    out: &mut O,
+    file: &Text,
+) -> Result<RunEnd, RunFault>
     ensures shown { Shows (F.files shelf.old) file.now (O.written out.old) (O.written out.new) result }
     ensures reads { F.faults shelf.new ≡ counted (is_read result) (F.faults shelf.old) }
     ensures writes { O.faults out.new ≡ counted (is_write result) (O.faults out.old) }
@@ -36,7 +42,12 @@ pub fn show<F: Shelf, O: Sink>(alloc: Global, shelf: &mut F, out: &mut O, file: 
 }
 
 // Prints the text of the file in the canonical spelling, or its first fault.
-fn show_text<O: Sink>(alloc: Global, out: &mut O, file: &Text, text: &[u8]) -> Result<RunEnd, RunFault>
+fn show_text<O: Sink>(
+    alloc: Global,
+    out: &mut O,
+    file: &Text,
+    text: &[u8],
+) -> Result<RunEnd, RunFault>
     requires { length text.now ≤ file_limit }
     ensures shown { WritesText (TextOutput file.now text.now) (O.written out.old) (O.written out.new) result }
     ensures writes { O.faults out.new ≡ counted (is_write result) (O.faults out.old) }

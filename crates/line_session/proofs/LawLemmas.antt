@@ -6,7 +6,7 @@ use Rattle.line_session.specs.declared.fault.SessionFault.{SessionFault}
 use Rattle.line_session.specs.declared.fault.SessionFault.TheVariants.{ReadFault, WriteFault, LinesSpent, Memory}
 use Rattle.line_session.specs.declared.reply.Answer.{Answer}
 use Rattle.line_session.specs.Answering.{Answering}
-use Rattle.line_session.specs.Ends.{Passage, input_of, StopsInReply, Ends, begun, Scene, SessionTells}
+use Rattle.line_session.specs.Ends.{Passage, input_of, StopsInReply, Ends, begun}
 use Rattle.line_session.specs.Laws.{HasOneReply, HasSomeReply, IsFront, HasOneSession, HasSomeSession, WritesFront, TellsFront}
 use Rattle.line_session.specs.Lines.{lines_of, ended_lines, cost_of, most}
 use Rattle.line_session.specs.Sessions.{Standing, Ending, AtEnd, AtAnswer, AtLimit, Course, stopped, preceded, IsAnswered, GoesOn, Session}
@@ -91,6 +91,7 @@ module _ {R : Type 0} (answers : Answering R) (only : HasOneReply answers) where
     where
       Given : Type 0
       Given = (rest : Course R) × Session answers between back rest × (whole ≡ preceded before rest)
+
       behind : (answer : Answer) (next : Standing R)
           → GoesOn (Session answers next front) answer next (record { out = before; ending = AtEnd; last = between })
           → GoesOn (Session answers next (front ++ back)) answer next whole

@@ -1,5 +1,5 @@
 -- Lemmas on a line that is answered.
-use Rattle.std.proofs.Common.{◌≡◌, ℕ, ◌+◌, ◌/◌, ◌≤◌, max, List, ◌⊎◌, Option, length, take, Err, refl, subst, inl, inr}
+use Rattle.std.proofs.Common.{◌≡◌, ℕ, ◌+◌, ◌/◌, ◌≤◌, max, List, Option, length, take, Err, refl, subst, inl, inr}
 use Rattle.std.proofs.KnownBytes.{Keeps-refl}
 use Rattle.line_session.specs.declared.fault.SessionFault.TheVariants.{Memory}
 use Rattle.line_session.specs.declared.reply.Answer.{Answer}

@@ -142,6 +142,7 @@ module _ {R : Type 0} (answers : Answering R) where
     where
       kept : Appends old.written new.written []
       kept = Appends-kept old.written old.written new.written [] (Appends-nil old.written) t.0
+
       unanswered : (new.responder ≡ old.responder) ⊎ ((answer : Answer) × IsAnsweredTo answers count line old new answer) → FaultAt count text rest old new Memory
       unanswered (inl same) = (
         [],

@@ -4,7 +4,7 @@ use Rattle.std.specs.declared.result.Result.{Result}
 use Rattle.line_session.specs.declared.fault.SessionFault.{SessionFault}
 use Rattle.line_session.specs.declared.talk.SessionEnd.{SessionEnd}
 use Rattle.line_session.specs.Answering.{Answering}
-use Rattle.line_session.specs.Ends.{Scene, SessionTells}
+use Rattle.line_session.specs.Ends.{SessionTells}
 use Rattle.line_session.specs.Pieces.{Talks}
 
 pub tells_from_talks : {R : Type 0} (answers : Answering R) (old new : R) (a b w v : Option (List ℕ)) (end : Result SessionEnd SessionFault)

@@ -31,8 +31,8 @@ pub record StopsBetween {R : Type 0} (answers : Answering R) (start : Standing R
   pub split : lines_of (input_of passage) ≡ answered ++ later
   pub session : Session answers start answered (course_of passage AtEnd)
 
--- The session stopped in a reply: some lines were answered in full, the next one has this answer, of whose reply a front was
--- written and the rest was lost, and the responder is that behind this answer.
+-- The session stopped in a reply: some lines were answered in full, the next one has this answer, of whose reply a
+-- front was written and the rest was lost, and the responder is that behind this answer.
 pub record StopsInReply {R : Type 0} (answers : Answering R) (start : Standing R) (passage : Passage R) : Type 0 where
   pub answered : List (List ℕ)
   pub line : List ℕ
@@ -48,13 +48,17 @@ pub record StopsInReply {R : Type 0} (answers : Answering R) (start : Standing R
   pub cut : answer.reply ≡ written ++ lost
   pub out : passage.out ≡ before ++ written
 
--- What an end says: OfInput, that nothing is left, and all lines were answered; ByAnswer and LinesSpent, that the session of all
--- the lines ends so; ReadFault, that exactly the lines were answered that a line feed ended; WriteFault, that it stopped in a
--- reply; Memory, that it stopped between two lines, or in a reply of which nothing was written.
+-- What an end says: OfInput, that nothing is left, and all lines were answered; ByAnswer and LinesSpent, that the
+-- session of all the lines ends so; ReadFault, that exactly the lines were answered that a line feed ended;
+-- WriteFault, that it stopped in a reply; Memory, that it stopped between two lines, or in a reply of which nothing
+-- was written.
 abbrev pub Ends : {R : Type 0} → Answering R → Standing R → Passage R → Result SessionEnd SessionFault → Type 0
-Ends answers start passage (Ok OfInput) = (passage.left ≡ []) × Session answers start (lines_of passage.taken) (course_of passage AtEnd)
-Ends answers start passage (Ok ByAnswer) = Session answers start (lines_of (input_of passage)) (course_of passage AtAnswer)
-Ends answers start passage (Err LinesSpent) = Session answers start (lines_of (input_of passage)) (course_of passage AtLimit)
+Ends answers start passage (Ok OfInput) =
+    (passage.left ≡ []) × Session answers start (lines_of passage.taken) (course_of passage AtEnd)
+Ends answers start passage (Ok ByAnswer) =
+    Session answers start (lines_of (input_of passage)) (course_of passage AtAnswer)
+Ends answers start passage (Err LinesSpent) =
+    Session answers start (lines_of (input_of passage)) (course_of passage AtLimit)
 Ends answers start passage (Err ReadFault) = Session answers start (ended_lines passage.taken) (course_of passage AtEnd)
 Ends answers start passage (Err WriteFault) = StopsInReply answers start passage
 Ends answers start passage (Err Memory) =
@@ -70,12 +74,13 @@ pub record Scene (R : Type 0) : Type 0 where
 abbrev pub begun : {R : Type 0} → R → Standing R
 begun responder = record { responder = responder; count = 0 }
 
--- Where the input is told, and what was written before: a front of the input was taken and the rest is left, output was appended,
--- and this is what the end says of them.
+-- Where the input is told, and what was written before: a front of the input was taken and the rest is left, output
+-- was appended, and this is what the end says of them.
 abbrev pub SessionTells : {R : Type 0} → Answering R → Scene R → Scene R → Result SessionEnd SessionFault → Type 0
 SessionTells {R} answers old new end =
     (input before : List ℕ) → old.left ≡ Some input → old.written ≡ Some before
-    → (passage : Passage R) × (input ≡ input_of passage) × (new.left ≡ Some passage.left) × (new.written ≡ Some (before ++ passage.out))
+    → (passage : Passage R) × (input ≡ input_of passage) × (new.left ≡ Some passage.left)
+    × (new.written ≡ Some (before ++ passage.out))
     × (new.responder ≡ passage.last.responder) × Ends answers (begun old.responder) passage end
 
 -- whether a read ended the session

@@ -28,16 +28,20 @@ Fills old new (Err fault) bytes = Keeps old new
 
 -- there were bytes held, or else they were consumed; there are none where the input is at its end
 abbrev pub Refills : {F : Type 0} → Option (List ℕ) → Option (List ℕ) → List ℕ → List ℕ → Result Bool F → Type 0
-Refills old new held_old held_new (Ok true) = (taken : List ℕ) × Consumes old new taken × (held_new ≡ held_old ++ taken) × (held_new ≢ [])
+Refills old new held_old held_new (Ok true) =
+    (taken : List ℕ) × Consumes old new taken × (held_new ≡ held_old ++ taken) × (held_new ≢ [])
 Refills old new held_old held_new (Ok false) = Keeps old new × IsAtEnd new × (held_old ≡ []) × (held_new ≡ [])
 Refills old new held_old held_new (Err fault) = Keeps old new × (held_old ≡ [])
 
--- bytes without a line feed went from what is held to the line: those before the first line feed, which is dropped, or all
+-- bytes without a line feed went from what is held to the line: those before the first line feed, which is dropped,
+-- or all
 abbrev pub MovesLine : List ℕ → List ℕ → Line → Line → Bool → Type 0
 MovesLine held_old held_new line_old line_new true = (piece : List ℕ) × IsOneLine piece
-    × ((whole : List ℕ) → HoldsLine line_old whole → HoldsLine line_new (whole ++ piece)) × (held_old ≡ piece ++ 10 ∷ held_new)
+    × ((whole : List ℕ) → HoldsLine line_old whole → HoldsLine line_new (whole ++ piece))
+    × (held_old ≡ piece ++ 10 ∷ held_new)
 MovesLine held_old held_new line_old line_new false = (piece : List ℕ) × IsOneLine piece
-    × ((whole : List ℕ) → HoldsLine line_old whole → HoldsLine line_new (whole ++ piece)) × (held_old ≡ piece) × (held_new ≡ [])
+    × ((whole : List ℕ) → HoldsLine line_old whole → HoldsLine line_new (whole ++ piece)) × (held_old ≡ piece)
+    × (held_new ≡ [])
 
 -- while lines are cut: the bytes that the source has left, and those that are held
 pub record Flow : Type 0 where
@@ -50,8 +54,10 @@ CutsLine old new line longest (Ok Feed) = (taken whole : List ℕ) × Consumes o
     × IsOneLine whole × HoldsLine line whole × (old.held ++ taken ≡ whole ++ 10 ∷ new.held)
 CutsLine old new line longest (Ok Last) = (taken whole : List ℕ) × Consumes old.left new.left taken
     × IsOneLine whole × HoldsLine line whole × (old.held ++ taken ≡ whole) × (whole ≢ []) × IsAtEnd new.left
-CutsLine old new line longest (Ok End) = (taken : List ℕ) × Consumes old.left new.left taken × (old.held ++ taken ≡ []) × IsAtEnd new.left
-CutsLine old new line longest (Err ReadFault) = (taken : List ℕ) × Consumes old.left new.left taken × IsOneLine (old.held ++ taken)
+CutsLine old new line longest (Ok End) =
+    (taken : List ℕ) × Consumes old.left new.left taken × (old.held ++ taken ≡ []) × IsAtEnd new.left
+CutsLine old new line longest (Err ReadFault) =
+    (taken : List ℕ) × Consumes old.left new.left taken × IsOneLine (old.held ++ taken)
 CutsLine old new line longest (Err LinesSpent) = (taken whole : List ℕ) × Consumes old.left new.left taken
     × IsOneLine whole × (old.held ++ taken ≡ whole ++ new.held) × (longest < length whole)
 CutsLine old new line longest (Err Memory) = (taken : List ℕ) × Consumes old.left new.left taken
@@ -79,15 +85,18 @@ counting desk count = record { responder = desk.responder; count = count }
 
 -- the line was answered so, and counts so much with those before it
 abbrev pub IsAnsweredTo : {R : Type 0} → Answering R → ℕ → List ℕ → Desk R → Desk R → Answer → Type 0
-IsAnsweredTo answers count line old new answer = IsAnswered answers (counting old count) line answer (counting new (count + cost_of line))
+IsAnsweredTo answers count line old new answer =
+    IsAnswered answers (counting old count) line answer (counting new (count + cost_of line))
 
 -- the line was answered and its reply written; or why not
 abbrev pub TakesTurn : {R : Type 0} → Answering R → ℕ → List ℕ → Desk R → Desk R → Result Answered SessionFault → Type 0
 TakesTurn answers count line old new (Ok done) = (answer : Answer) × IsAnsweredTo answers count line old new answer
-    × Appends old.written new.written answer.reply × (answer.goes_on ≡ done.goes_on) × (done.count ≡ count + cost_of line)
+    × Appends old.written new.written answer.reply × (answer.goes_on ≡ done.goes_on)
+    × (done.count ≡ count + cost_of line)
 TakesTurn answers count line old new (Err LinesSpent) =
     (most < count + cost_of line) × Keeps old.written new.written × (new.responder ≡ old.responder)
-TakesTurn answers count line old new (Err WriteFault) = (answer : Answer) × IsAnsweredTo answers count line old new answer
+TakesTurn answers count line old new (Err WriteFault) =
+    (answer : Answer) × IsAnsweredTo answers count line old new answer
     × ((front lost : List ℕ) × Appends old.written new.written front × (answer.reply ≡ front ++ lost))
 TakesTurn answers count line old new (Err Memory) = Keeps old.written new.written
     × ((new.responder ≡ old.responder) ⊎ ((answer : Answer) × IsAnsweredTo answers count line old new answer))

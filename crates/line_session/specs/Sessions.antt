@@ -9,7 +9,8 @@ pub record Standing (R : Type 0) : Type 0 where
   pub responder : R
   pub count : ℕ
 
--- how a session over lines ends: past the last of them, at an answer that ends it, or at a line that brings the count above the most
+-- how a session over lines ends: past the last of them, at an answer that ends it, or at a line that brings the count
+-- above the most
 pub data Ending : Type 0 where
   AtEnd : Ending
   AtAnswer : Ending
@@ -41,8 +42,8 @@ GoesOn {R} IsOfRest answer next course =
     ((answer.goes_on ≡ false) × (course ≡ record { out = answer.reply; ending = AtAnswer; last = next }))
     ⊎ ((answer.goes_on ≡ true) × ((rest : Course R) × IsOfRest rest × (course ≡ preceded answer.reply rest)))
 
--- The session of these lines from where it stands: a line that brings the count above the most ends it, any other is answered,
--- and the lines after it have their session where its answer doesn't end this one.
+-- The session of these lines from where it stands: a line that brings the count above the most ends it, any other is
+-- answered, and the lines after it have their session where its answer doesn't end this one.
 abbrev pub Session : {R : Type 0} → Answering R → Standing R → List (List ℕ) → Course R → Type 0
 Session answers old [] course = course ≡ stopped old AtEnd
 Session {R} answers old (line ∷ lines) course =

@@ -37,7 +37,8 @@ fn find_feed(bytes: &[u8]) -> usize
     bytes.len()
 }
 
-/// Moves the bytes before the first line feed to the line, or all where there is none, and answers whether there was one.
+/// Moves the bytes before the first line feed to the line, or all where there is none, and answers whether there was
+/// one.
 fn move_line(inflow: &mut Inflow, line: &mut Line) -> Result<bool, AllocError>
     requires { line.old.length + 8192 < 2 ^ 64 }
     ensures moved { IfOk result (λ fed. MovesLine inflow.old inflow.new line.old line.new fed) }

@@ -1,8 +1,9 @@
-//! A session: lines are cut from a source, each is answered by a `Responder`, and each reply is written whole to a sink,
-//! until the input ends, an answer ends it, or a fault does. After a failed call nothing more is read or written.
+//! A session: lines are cut from a source, each is answered by a `Responder`, and each reply is written whole to a
+//! sink, until the input ends, an answer ends it, or a fault does. After a failed call nothing more is read or
+//! written.
 //!
-//! `let end = session(alloc, &mut responder, &mut input, &mut out);` answers all the lines of `input`. Afterwards `responder`
-//! is as its last answer left it, and `end` says how the session ended.
+//! `let end = session(alloc, &mut responder, &mut input, &mut out);` answers all the lines of `input`. Afterwards
+//! `responder` is as its last answer left it, and `end` says how the session ended.
 #![tactic(auto)]
 
 mod answering;

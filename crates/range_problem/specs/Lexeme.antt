@@ -26,7 +26,8 @@ IsInfinity bytes value =
 
 -- the bytes spell a number: decimal digits, with a sign directly before them or none, or an infinity
 abbrev pub IsNumber : List ℕ → ℤ → Type 0
-IsNumber bytes value = (IsNumeral 10 (without_leading_sign bytes) × (value ≡ signed_digits_value 10 bytes)) ⊎ IsInfinity bytes value
+IsNumber bytes value =
+    (IsNumeral 10 (without_leading_sign bytes) × (value ≡ signed_digits_value 10 bytes)) ⊎ IsInfinity bytes value
 
 -- the bytes spell the lexeme
 abbrev pub IsSpelling : Lexeme → List ℕ → Type 0
@@ -39,7 +40,8 @@ pub record Starts (text : List ℕ) (lexeme : Lexeme) (rest : List ℕ) : Type 0
   pub spelling : List ℕ
   pub whole : text ≡ spelling ++ rest
   pub spelled : IsSpelling lexeme spelling
-  pub longest : (other : Lexeme) (bytes left : List ℕ) → text ≡ bytes ++ left → IsSpelling other bytes → length bytes ≤ length spelling
+  pub longest : (other : Lexeme) (bytes left : List ℕ) → text ≡ bytes ++ left → IsSpelling other bytes
+      → length bytes ≤ length spelling
 
 -- the text goes on with the lexeme after blanks, or at once, and then with the rest
 pub record Begins (text : List ℕ) (lexeme : Lexeme) (rest : List ℕ) : Type 0 where

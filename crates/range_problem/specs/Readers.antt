@@ -11,7 +11,8 @@ use Rattle.range_problem.specs.Spelling.{declaration_of, constraint_of}
 
 -- no declaration of one variable begins the text
 abbrev pub DeclaresNone : List ℕ → Type 0
-DeclaresNone text = (variable : VarDecl) (rest : List ℕ) → IsDeclarable variable → Leads text (declaration_of variable) rest → ⊥
+DeclaresNone text =
+    (variable : VarDecl) (rest : List ℕ) → IsDeclarable variable → Leads text (declaration_of variable) rest → ⊥
 
 -- the text declares these globals and then no further one
 pub record DeclaresGlobals (text : List ℕ) (globals : List VarDecl) (rest : List ℕ) : Type 0 where

@@ -48,7 +48,8 @@ model_of globals items = record {
   problem = record { start = pos 0; end = pos 1000; steps = 1000; roots = []; globals = globals; items = items; decisions = [] };
 }
 
--- the text spells the model, which is lawful and built from ranges and `leq` alone, and whose globals have names of their own
+-- the text spells the model, which is lawful and built from ranges and `leq` alone, and whose globals have names of
+-- their own
 pub record Spells (text : List ℕ) (model : Model) : Type 0 where
   pub whole : model ≡ model_of model.problem.globals model.problem.items
   pub names : All IsName (global_names model)

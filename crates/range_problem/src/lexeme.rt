@@ -1,4 +1,5 @@
-//! The lexemes of a problem's text. Each reader takes one from the front of a text, after blanks, and gives what is left.
+//! The lexemes of a problem's text. Each reader takes one from the front of a text, after blanks, and gives what is
+//! left.
 
 ghost use Rattle.std.specs.Prelude.{◌≡◌, ◌+◌, ◌-◌, ◌≤◌, ◌↔◌, ℕ, ℤ, [], ◌∷◌, All, Contains, FitsSigned, IfNone, IfOk, IfSome, IsTrue, List, MatchOption, drop, length, take};
 ghost use Rattle.std.specs.Char.{is_ascii_digit};

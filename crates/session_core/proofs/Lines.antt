@@ -1,5 +1,5 @@
 -- A line is answered as the command that it asks for.
-use Rattle.std.proofs.Common.{◌≡◌, ℕ, ◌<◌, true, List, Err, inl, inr, refl, subst, arith}
+use Rattle.std.proofs.Common.{ℕ, ◌<◌, true, List, Err, inl, inr, refl, subst, arith}
 use Rattle.line_session.specs.Answering.{LeavesUnanswered}
 use Rattle.plan_db.specs.Database.{Database}
 use Rattle.script_lang.specs.declared.line.Command.{Command}
@@ -9,8 +9,8 @@ use Rattle.script_lang.specs.Line.{ReadsLine}
 use Rattle.script_lang.proofs.Commands.{lines_ask_once}
 use Rattle.session_core.specs.declared.reason.RefusalReason.{RefusalReason}
 use Rattle.session_core.specs.declared.reason.RefusalReason.TheVariants.{Long, Syntax, Inconsistent, Unknown, Decided, NotInDomain, Nothing}
-use Rattle.session_core.specs.Reasons.{rank_of, refusal, IsFirstReason}
-use Rattle.session_core.specs.Replies.{StopsCommand, CarriesOut, AsksFor, StopsLine, Replies, RepliesTo, AnswersLine, IsLost}
+use Rattle.session_core.specs.Reasons.{rank_of, IsFirstReason}
+use Rattle.session_core.specs.Replies.{StopsCommand, LineAsksFor, StopsLine, Replies, RepliesTo, AnswersLine, IsLost}
 
 -- no command is too long or none
 never_long : (old : Database) (command : Command) → StopsCommand old command Long → ⊥
@@ -25,9 +25,9 @@ never_syntax old (Specify name number) stops = stops
 never_syntax old Undo stops = stops
 never_syntax old (Domain name) stops = stops
 
-module _ (old : Database) (text : List ℕ) (command : Command) (asks : AsksFor text command) where
+module _ (old : Database) (text : List ℕ) (command : Command) (asks : LineAsksFor text command) where
   -- what stops the line stops its command, and the other way round
-  pub same_command : (reason : RefusalReason) → (other : Command) × AsksFor text other × StopsCommand old other reason → StopsCommand old command reason
+  pub same_command : (reason : RefusalReason) → (other : Command) × LineAsksFor text other × StopsCommand old other reason → StopsCommand old command reason
   same_command reason stops = subst (λ (c : Command). StopsCommand old c reason) (lines_ask_once text stops.0 command stops.1 asks) stops.2
 
   pub stops_command : (reason : RefusalReason) → StopsLine old text reason → StopsCommand old command reason

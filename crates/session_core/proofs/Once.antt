@@ -1,8 +1,7 @@
 -- Each line has one answer, and leaves one database.
-use Rattle.std.proofs.Common.{◌≡◌, ℕ, ◌<◌, ◌≤◌, zero, suc, ℤ, List, [], ◌∷◌, ◌⊎◌, Some, Ok, inl, inr, refl, sym, ap, ◌∙◌, subst, arith}
+use Rattle.std.proofs.Common.{◌≡◌, ℕ, ◌<◌, ◌≤◌, zero, suc, ℤ, List, [], ◌∷◌, ◌⊎◌, Ok, inl, inr, refl, sym, ap, ◌∙◌, subst}
 use Rattle.std.proofs.lemmas.Bool.{cases_lt}
 use Rattle.std.proofs.Math.Nat.{eq-or-lt_of_le}
-use Rattle.domain_core.specs.Domain as domains
 use Rattle.eu_name.specs.declared.name.VarName.TheVariants.{Global}
 use Rattle.line_session.specs.declared.reply.Answer.{Answer}
 use Rattle.line_session.specs.Laws.{HasOneReply}
@@ -13,7 +12,7 @@ use Rattle.model_core.specs.Lookup.{global_named}
 use Rattle.model_core.specs.State.{State, Gives}
 use Rattle.plan_defs.proofs.Settling.{least_same}
 use Rattle.plan_defs.proofs.States.{gives_same}
-use Rattle.plan_db.specs.Database.{Database, OutcomeIs, Applies, TakesBack, IsTold}
+use Rattle.plan_db.specs.Database.{Database, OutcomeIs, Applies, IsTold}
 use Rattle.plan_db.specs.declared.fault.Outcome.{Outcome}
 use Rattle.plan_db.specs.declared.fault.Outcome.TheVariants.{Consistent, Inconsistent}
 use Rattle.script_lang.specs.declared.line.Command.{Command}
@@ -23,7 +22,7 @@ use Rattle.script_lang.proofs.Commands.{lines_ask_once}
 use Rattle.session_core.specs.declared.reason.RefusalReason.{RefusalReason}
 use Rattle.session_core.specs.declared.reason.RefusalReason.TheVariants as reason
 use Rattle.session_core.specs.Reasons.{rank_of, refusal, IsFirstReason, RefusedOr}
-use Rattle.session_core.specs.Replies.{outcome_line, domain_line, Specifies, Undoes, TellsDomain, CarriesOut, StopsLine, AsksFor, Replies, AnswersLine}
+use Rattle.session_core.specs.Replies.{outcome_line, domain_line, Specifies, UndoesLast, TellsDomain, CarriesOut, StopsLine, LineAsksFor, Replies, AnswersLine}
 use Rattle.session_core.proofs.Stopping.{one_named, never_leaves_both}
 
 -- ---- the first reason is one
@@ -52,9 +51,11 @@ reason_once Stops one other p q = by_rank (cases_lt (rank_of one) (rank_of other
   where
     of_rank : rank_of other ≡ rank_of one → other ≡ one
     of_rank e = sym (ranked_back other) ∙ ap ranked e ∙ ranked_back one
+
     not_above : (rank_of other ≡ rank_of one) ⊎ (rank_of other < rank_of one) → other ≡ one
     not_above (inl e) = of_rank e
     not_above (inr below) = absurd (p.first other below q.stops)
+
     by_rank : (rank_of one < rank_of other) ⊎ (rank_of other ≤ rank_of one) → other ≡ one
     by_rank (inl above) = absurd (q.first one above p.stops)
     by_rank (inr within) = not_above (eq-or-lt_of_le within)
@@ -101,7 +102,7 @@ former (top ∷ below) = below
 database_same : (one other : Database) → other.model ≡ one.model → other.history ≡ one.history → other ≡ one
 database_same one other model history = λ i. record { model = model i; history = history i }
 
-undone_once : (old : Database) (one other : Outcome) (new last : Database) → Undoes old one new → Undoes old other last → AreSame one other new last
+undone_once : (old : Database) (one other : Outcome) (new last : Database) → UndoesLast old one new → UndoesLast old other last → AreSame one other new last
 unfolding former
 undone_once old one other new last p q =
     let same = database_same new last (q.0 ∙ sym p.0) (ap former (sym q.1 ∙ p.1)) in
@@ -131,7 +132,7 @@ carried_out_once old (Domain name) reply other new last p q = (told_once old nam
 
 replied_once : (old : Database) (text reply other : List ℕ) (new last : Database) → Replies old text reply new → Replies old text other last → AreSame reply other new last
 replied_once old text reply other new last =
-    refused_once (StopsLine old text) (λ said after. (command : Command) × AsksFor text command × CarriesOut old command said after) old reply other new last
+    refused_once (StopsLine old text) (λ said after. (command : Command) × LineAsksFor text command × CarriesOut old command said after) old reply other new last
     (λ p q. carried_out_once old p.0 reply other new last p.2
     (subst (λ (c : Command). CarriesOut old c other last) (lines_ask_once text q.0 p.0 q.1 p.1) q.2))
 

@@ -1,5 +1,5 @@
 -- When a reason stops a command, in the words of the database, and which reason is the first.
-use Rattle.std.proofs.Common.{◌≡◌, ℕ, ◌+◌, ◌<◌, ◌≤◌, ℤ, List, [], ◌∷◌, length, Option, Some, None, Result, Ok, Err, inl, inr, refl, sym, ap, ◌∙◌, subst, arith}
+use Rattle.std.proofs.Common.{◌≡◌, ℕ, ◌+◌, ◌<◌, ℤ, List, [], ◌∷◌, length, Option, Some, None, Result, Ok, Err, inl, inr, refl, sym, subst, arith}
 use Rattle.std.specs.Prelude.{Bool, true, false, bytes_eq, cond, OnErr}
 use Rattle.domain_core.specs.Domain.{Domain, IsValue}
 use Rattle.domain_core.proofs.Words.{has_value}
@@ -25,7 +25,7 @@ use Rattle.session_core.specs.declared.reason.RefusalReason.{RefusalReason}
 use Rattle.session_core.specs.declared.reason.RefusalReason.TheVariants.{Long, Syntax, Inconsistent, Unknown, Decided, NotInDomain, Nothing}
 use Rattle.session_core.specs.declared.reason.StepStop.{StepStop}
 use Rattle.session_core.specs.declared.reason.StepStop.TheVariants as stop
-use Rattle.session_core.specs.Reasons.{rank_of, stop_of, refusal, IsFirstReason, IsFree, RefusedOr, StepsOr}
+use Rattle.session_core.specs.Reasons.{rank_of, stop_of, refusal, IsFirstReason, NothingStops, RefusedOr, StepsOr}
 use Rattle.session_core.specs.Replies.{IsGlobalNamed, HindersValue, StopsSpecify, Specifies, StopsDomain, TellsDomain, outcome_line, domain_line, StandsFor, IsLost}
 
 -- the number that a name means is that of a global
@@ -114,7 +114,7 @@ module _ (old : Database) (name : List ℕ) (value : ℤ) where
         first Long before stops = stops
         first Syntax before stops = stops
 
-    applied_free : (outcome : Outcome) (new : Database) → Applies old (Specify (Global number) value) (Ok outcome) new → IsFree (StopsSpecify old name value)
+    applied_free : (outcome : Outcome) (new : Database) → Applies old (Specify (Global number) value) (Ok outcome) new → NothingStops (StopsSpecify old name value)
     applied_free outcome new applies Inconsistent stops = never_leaves_both old applies.0.state applies.0.least stops
     applied_free outcome new applies Unknown stops = never_both (global_named old.model name) number named stops
     applied_free outcome new applies Decided stops = applies.0.free refusals.Decided (hinders_at refusals.Decided number applies.0.state named applies.0.least stops)
@@ -185,7 +185,7 @@ RepliesDomain database name reply =
     RefusedOr (StopsDomain database name) (λ text new. TellsDomain database name text × (new ≡ database)) database reply database
 
 domain_free : (database : Database) (name : List ℕ) → (((state : State) × HasLeast database state) × (global_named database.model name ≡ None) → ⊥)
-    → IsFree (StopsDomain database name)
+    → NothingStops (StopsDomain database name)
 domain_free database name known Unknown stops = known stops
 domain_free database name known Inconsistent stops = stops
 domain_free database name known Decided stops = stops

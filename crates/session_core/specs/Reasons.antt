@@ -39,12 +39,12 @@ stop_of fault.Nothing = Refused Nothing
 stop_of fault.Memory = Memory
 
 -- a line as it is printed, with its line feed
-abbrev pub line_of : List ℕ → List ℕ
-line_of text = text ++ 10 ∷ []
+abbrev pub with_line_feed : List ℕ → List ℕ
+with_line_feed text = text ++ 10 ∷ []
 
 -- the reply that refuses for this reason
 abbrev pub refusal : RefusalReason → List ℕ
-refusal reason = line_of (codes "refused " ++ reason_word reason)
+refusal reason = with_line_feed (codes "refused " ++ reason_word reason)
 
 -- of the reasons that stop it this is the first
 pub record IsFirstReason (Stops : RefusalReason → Type 0) (reason : RefusalReason) : Type 0 where
@@ -52,17 +52,18 @@ pub record IsFirstReason (Stops : RefusalReason → Type 0) (reason : RefusalRea
   pub first : (earlier : RefusalReason) → rank_of earlier < rank_of reason → Stops earlier → ⊥
 
 -- no reason stops it
-abbrev pub IsFree : (RefusalReason → Type 0) → Type 0
-IsFree Stops = (reason : RefusalReason) → Stops reason → ⊥
+abbrev pub NothingStops : (RefusalReason → Type 0) → Type 0
+NothingStops Stops = (reason : RefusalReason) → Stops reason → ⊥
 
 -- it is refused for the first reason that stops it, and nothing changes; or no reason stops it, and it is carried out
 abbrev pub RefusedOr : (RefusalReason → Type 0) → (List ℕ → Database → Type 0) → Database → List ℕ → Database → Type 0
 RefusedOr Stops CarriesOut old reply new =
     ((reason : RefusalReason) × IsFirstReason Stops reason × (reply ≡ refusal reason) × (new ≡ old))
-    ⊎ (IsFree Stops × CarriesOut reply new)
+    ⊎ (NothingStops Stops × CarriesOut reply new)
 
 -- The same of a step that has an outcome in place of a reply, and may lack memory, where nothing changes either.
-abbrev pub StepsOr : (RefusalReason → Type 0) → (Outcome → Database → Type 0) → Database → Result Outcome StepStop → Database → Type 0
-StepsOr Stops CarriesOut old (Ok outcome) new = IsFree Stops × CarriesOut outcome new
+abbrev pub StepsOr : (RefusalReason → Type 0) → (Outcome → Database → Type 0) → Database → Result Outcome StepStop
+    → Database → Type 0
+StepsOr Stops CarriesOut old (Ok outcome) new = NothingStops Stops × CarriesOut outcome new
 StepsOr Stops CarriesOut old (Err (Refused reason)) new = IsFirstReason Stops reason × (new ≡ old)
 StepsOr Stops CarriesOut old (Err Memory) new = new ≡ old

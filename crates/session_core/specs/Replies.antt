@@ -1,12 +1,11 @@
--- What the lines of a script are answered, and the database afterwards: when each reason stops a command, and what it does where none does.
--- Nothing is read but the model, the history, and what the decisions in it leave possible.
-use Rattle.std.specs.Prelude.{◌≡◌, ℕ, ℤ, true, List, [], ◌∷◌, ◌++◌, ◌⊎◌, Option, Some, None, codes, Result, Ok, Err, ⊤}
+-- What the lines of a script are answered, and the database afterwards: when each reason stops a command, and what it
+-- does where none does. Nothing is read but the model, the history, and what the decisions in it leave possible.
+use Rattle.std.specs.Prelude.{◌≡◌, ℕ, ℤ, true, List, [], ◌∷◌, ◌++◌, ◌⊎◌, Some, None, codes, Result, Ok, Err, ⊤}
 use Rattle.std.specs.Fmt.{signed_decimal}
 use Rattle.domain_core.specs.Domain.{IsValue, least, greatest}
 use Rattle.domain_core.specs.Domain as domains
 use Rattle.eu_name.specs.declared.name.VarName.TheVariants.{Global}
 use Rattle.line_session.specs.declared.reply.Answer.{Answer}
-use Rattle.model_core.specs.declared.decision.Decision.{Decision}
 use Rattle.model_core.specs.declared.decision.Decision.TheVariants.{Specify}
 use Rattle.model_core.specs.History.{standing}
 use Rattle.model_core.specs.Lookup.{global_named}
@@ -27,7 +26,7 @@ use Rattle.session_core.specs.declared.reason.RefusalReason.TheVariants.{Long, S
 use Rattle.session_core.specs.declared.reason.RefusalReason.TheVariants as reason
 use Rattle.session_core.specs.declared.reason.StepStop.{StepStop}
 use Rattle.session_core.specs.declared.reason.StepStop.TheVariants as stop
-use Rattle.session_core.specs.Reasons.{line_of, refusal, RefusedOr}
+use Rattle.session_core.specs.Reasons.{with_line_feed, refusal, RefusedOr}
 
 -- the name is that of this global
 abbrev pub IsGlobalNamed : Database → List ℕ → ℕ → Type 0
@@ -49,7 +48,8 @@ StopsSpecify database name value reason = ⊥
 
 -- what `specify` does otherwise: the decision is applied, with this outcome
 abbrev pub Specifies : Database → List ℕ → ℤ → Outcome → Database → Type 0
-Specifies old name value outcome new = (number : ℕ) × IsGlobalNamed old name number × Applies old (Specify (Global number) value) (Ok outcome) new
+Specifies old name value outcome new =
+    (number : ℕ) × IsGlobalNamed old name number × Applies old (Specify (Global number) value) (Ok outcome) new
 
 -- when a reason stops `undo`
 abbrev pub StopsUndo : Database → RefusalReason → Type 0
@@ -57,29 +57,31 @@ StopsUndo database Nothing = database.history ≡ [] ∷ []
 StopsUndo database reason = ⊥
 
 -- what `undo` does otherwise: the last decision is taken back, with this outcome
-abbrev pub Undoes : Database → Outcome → Database → Type 0
-Undoes old outcome new = TakesBack old (Ok outcome) new
+abbrev pub UndoesLast : Database → Outcome → Database → Type 0
+UndoesLast old outcome new = TakesBack old (Ok outcome) new
 
 -- when a reason stops `domain`: after a collapse none does
 abbrev pub StopsDomain : Database → List ℕ → RefusalReason → Type 0
-StopsDomain database name Unknown = ((state : State) × HasLeast database state) × (global_named database.model name ≡ None)
+StopsDomain database name Unknown =
+    ((state : State) × HasLeast database state) × (global_named database.model name ≡ None)
 StopsDomain database name reason = ⊥
 
 -- how an outcome is printed
 abbrev pub outcome_line : Outcome → List ℕ
-outcome_line Consistent = line_of (codes "ok")
-outcome_line Inconsistent = line_of (codes "inconsistent")
+outcome_line Consistent = with_line_feed (codes "ok")
+outcome_line Inconsistent = with_line_feed (codes "inconsistent")
 
 -- how a variable is printed with its domain: a range by its ends
 abbrev pub domain_line : List ℕ → domains.Domain → List ℕ
 domain_line name domain =
-    line_of (name ++ (codes " [" ++ (signed_decimal (least domain) ++ (codes " " ++ (signed_decimal (greatest domain) ++ codes "]")))))
+    with_line_feed (name ++ (codes " [" ++ (signed_decimal (least domain) ++ (codes " " ++ (signed_decimal (greatest domain) ++ codes "]")))))
 
 -- what `domain` tells otherwise: that nothing is possible, or the variable's domain in the least state
 abbrev pub TellsDomain : Database → List ℕ → List ℕ → Type 0
 TellsDomain database name reply =
     (HasCollapsed database × (reply ≡ outcome_line Inconsistent))
-    ⊎ ((number : ℕ) × (domain : domains.Domain) × IsGlobalNamed database name number × IsTold database (Global number) domain
+    ⊎ ((number : ℕ) × (domain : domains.Domain) × IsGlobalNamed database name number
+    × IsTold database (Global number) domain
     × (reply ≡ domain_line name domain))
 
 -- when a reason stops a command
@@ -92,24 +94,26 @@ StopsCommand database (Domain name) reason = StopsDomain database name reason
 -- what a command replies and does otherwise
 abbrev pub CarriesOut : Database → Command → List ℕ → Database → Type 0
 CarriesOut old Empty reply new = (reply ≡ []) × (new ≡ old)
-CarriesOut old (command.Specify name number) reply new = (outcome : Outcome) × Specifies old name (signed_value number) outcome new × (reply ≡ outcome_line outcome)
-CarriesOut old Undo reply new = (outcome : Outcome) × Undoes old outcome new × (reply ≡ outcome_line outcome)
+CarriesOut old (command.Specify name number) reply new =
+    (outcome : Outcome) × Specifies old name (signed_value number) outcome new × (reply ≡ outcome_line outcome)
+CarriesOut old Undo reply new = (outcome : Outcome) × UndoesLast old outcome new × (reply ≡ outcome_line outcome)
 CarriesOut old (Domain name) reply new = TellsDomain old name reply × (new ≡ old)
 
 -- the line asks for this command
-abbrev pub AsksFor : List ℕ → Command → Type 0
-AsksFor text command = ReadsLine text (Ok command)
+abbrev pub LineAsksFor : List ℕ → Command → Type 0
+LineAsksFor text command = ReadsLine text (Ok command)
 
 -- when a reason stops a line: it is too long, or no command, or the command that it asks for is stopped
 abbrev pub StopsLine : Database → List ℕ → RefusalReason → Type 0
 StopsLine database text Long = ReadsLine text (Err line.TooLong)
 StopsLine database text Syntax = ReadsLine text (Err line.Syntax)
-StopsLine database text reason = (command : Command) × AsksFor text command × StopsCommand database command reason
+StopsLine database text reason = (command : Command) × LineAsksFor text command × StopsCommand database command reason
 
 -- the reply to a line, and the database then
 abbrev pub Replies : Database → List ℕ → List ℕ → Database → Type 0
 Replies old text =
-    RefusedOr (StopsLine old text) (λ reply new. (command : Command) × AsksFor text command × CarriesOut old command reply new) old
+    RefusedOr (StopsLine old text) (λ reply new. (command : Command) × LineAsksFor text command
+        × CarriesOut old command reply new) old
 
 -- the reply to a command by itself
 abbrev pub RepliesTo : Database → Command → List ℕ → Database → Type 0

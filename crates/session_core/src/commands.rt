@@ -5,7 +5,7 @@ ghost use Rattle.model_core.specs.Lawful.{IsLawful};
 ghost use Rattle.plan_db.specs.Database.{Applies};
 ghost use Rattle.script_lang.specs.Number.{IsSignedNumber, signed_value};
 ghost use Rattle.session_core.specs.Reasons.{RefusedOr, StepsOr};
-ghost use Rattle.session_core.specs.Replies.{StopsSpecify, Specifies, StopsUndo, Undoes, StopsDomain, TellsDomain, StandsFor};
+ghost use Rattle.session_core.specs.Replies.{StopsSpecify, Specifies, StopsUndo, UndoesLast, StopsDomain, TellsDomain, StandsFor};
 
 use super::reason::{RefusalReason, StepStop, stop_of};
 use super::replies::{domain_reply, outcome_reply, refused};
@@ -70,7 +70,7 @@ fn apply_value(db: &mut Db, number: u32, value: i32) -> Result<Outcome, DbFault>
 
 /// Takes the last decision back.
 pub fn undo(db: &mut Db) -> Result<Outcome, StepStop>
-    ensures { StepsOr (StopsUndo db.old) (Undoes db.old) db.old result db.new }
+    ensures { StepsOr (StopsUndo db.old) (UndoesLast db.old) db.old result db.new }
 {
     db.undo().map_err(stop_of)
 }

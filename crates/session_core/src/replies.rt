@@ -1,7 +1,7 @@
 //! The bytes of replies.
 
 ghost use Rattle.std.specs.Prelude.{◌≡◌, IfOk, string_bytes};
-ghost use Rattle.session_core.specs.Reasons.{line_of, refusal};
+ghost use Rattle.session_core.specs.Reasons.{with_line_feed, refusal};
 ghost use Rattle.session_core.specs.Replies.{outcome_line, domain_line, SaysStep};
 
 use super::reason::{RefusalReason, StepStop, word_of};
@@ -52,7 +52,7 @@ pub fn domain_reply(alloc: Global, variable: &Text, domain: &Dom) -> Result<Byte
 
 /// A reply of one line.
 fn one_line(mut line: String) -> Result<Bytes, AllocError>
-    ensures { IfOk result (λ reply. reply ≡ line_of (string_bytes line)) }
+    ensures { IfOk result (λ reply. reply ≡ with_line_feed (string_bytes line)) }
 {
     line.push('\n')?;
     Ok(Bytes::from_vec(line.into_bytes()))

@@ -1,9 +1,8 @@
-use Rattle.std.proofs.Common.{◌≡◌, refl, sym, subst}
-use Rattle.plan_db.specs.Database.{Database}
+use Rattle.std.proofs.Common.{refl, sym, subst}
 use Rattle.script_lang.specs.declared.line.Command.{Command}
 use Rattle.script_lang.specs.declared.line.Command.TheVariants.{Specify, Undo}
 use Rattle.script_lang.specs.Number.{signed_value}
-use Rattle.session_core.specs.Replies.{StopsSpecify, Specifies, StopsUndo, Undoes, CarriesOut, RepliesTo, IsLost}
+use Rattle.session_core.specs.Replies.{StopsSpecify, Specifies, StopsUndo, UndoesLast, CarriesOut, RepliesTo, IsLost}
 use Rattle.session_core.proofs.Stopping.{on_err, step_lost}
 use Rattle.session_core.proofs.editor.carry_out.Goals as goal
 
@@ -24,5 +23,5 @@ returns-in-Undo-clause-memory c =
     let new = c.undo-step.new.db in
     on_err c.step_reply-in-Undo.result (IsLost (RepliesTo old c.args.command.now) old new)
     (subst (λ (asked : Command). IsLost (RepliesTo old asked) old new) (sym c.in-Undo.is)
-    (step_lost (StopsUndo old) (Undoes old) (CarriesOut old Undo) old new c.undo-step.result
+    (step_lost (StopsUndo old) (UndoesLast old) (CarriesOut old Undo) old new c.undo-step.result
     (λ outcome does. (outcome, does, refl)) c.undo-step.ensures))
