@@ -1,5 +1,5 @@
 -- What `show` writes is the output of the words, or a front of it.
-use Rattle.std.proofs.Common.{◌≡◌, ℕ, ◌<◌, ◌≤◌, List, [], length, Option, Some, None, Result, Ok, Err, inl, inr, sym, ap, ◌∙◌, subst, codes, arith}
+use Rattle.std.proofs.Common.{◌≡◌, ℕ, ◌<◌, ◌≤◌, List, [], length, Option, Some, None, Result, Ok, Err, inl, inr, sym, ap, ◌∙◌, subst, arith}
 use Rattle.eu_io.specs.Files.{Holds}
 use Rattle.eu_io.specs.declared.shelf.FileEntry.{FileEntry}
 use Rattle.nddl_ast.specs.declared.declaration.Decl.{Decl}
