@@ -1,6 +1,6 @@
 -- Reserved words are found exactly where they are spelled.
-use Rattle.std.proofs.Common.{◌≡◌, ℕ, suc, zero, ◌<◌, Bool, true, false, cond, Contains, IsTrue, List, [], ◌∷◌, length, map, get_or, refl, sym, ◌∙◌, subst, arith}
-use Rattle.std.specs.Prelude.{Option, Some, is_some}
+use Rattle.std.proofs.Common.{◌≡◌, ℕ, suc, zero, ◌<◌, Bool, true, false, cond, Contains, List, [], ◌∷◌, length, map, get_or, refl, arith}
+use Rattle.std.specs.Prelude.{Some, is_some}
 use Rattle.std.specs.List.{find}
 use Rattle.std.specs.Str.{bytes_eq}
 use Rattle.std.proofs.lemmas.Bool.{both_ways}
@@ -9,6 +9,7 @@ use Rattle.eu_name.specs.Word.{reserved_word, all_reserved, reserved_of, reserve
 use Rattle.eu_name.specs.declared.word.Reserved.{Reserved}
 use Rattle.eu_name.specs.declared.word.Reserved.TheVariants as words
 
+-- whether the word is spelled so
 abbrev spells : List ℕ → Reserved → Bool
 spells bytes word = bytes_eq (reserved_word word) bytes
 

@@ -3,7 +3,7 @@
 ghost use Rattle.eu_io.specs.Faults.{counted};
 ghost use Rattle.std.specs.Prelude.{◌≡◌, ◌≤◌, [], Ok, length};
 ghost use Rattle.europa_run.specs.Printed.{file_limit};
-ghost use Rattle.europa_run.specs.Showing.{kind_of, place_of, ReadingOutput, TextOutput};
+ghost use Rattle.europa_run.specs.Showing.{FailOutput, ReadingOutput, TextOutput};
 ghost use Rattle.europa_run.specs.Pieces.{WritesText, Shows};
 ghost use Rattle.europa_run.specs.Statuses.{is_read, is_write};
 
@@ -14,10 +14,11 @@ use eu_io::shelf::{Shelf, ShelfFail};
 use eu_io::sink::Sink;
 use eu_name::text::Text;
 use nddl_ast::declaration::Decl;
+use nddl_ast::kind::TextKind;
 use nddl_files::language::Language;
-use nddl_includes::fault::{TextFail, TextFault};
+use nddl_includes::fault::TextFail;
 use nddl_includes::reader::TextReader;
-use nddl_print::print::print;
+use nddl_print::print;
 use std::alloc::Global;
 
 /// Prints the file of this name in the canonical spelling, or what is wrong with it first. Its includes aren't
@@ -34,8 +35,8 @@ pub fn show<F: Shelf, O: Sink>(
 {
     match shelf.get(file.as_str(), FILE_LIMIT) {
         Ok(bytes) => return show_text(alloc, out, file, bytes.as_slice()),
-        Err(ShelfFail::Absent) => return print_fault(alloc, out, "Absent", file, 0),
-        Err(ShelfFail::TooLong) => return print_fault(alloc, out, "Limit:bytes", file, 0),
+        Err(ShelfFail::Absent) => return print_fault(alloc, out, TextKind::Absent.word(), file, 0),
+        Err(ShelfFail::TooLong) => return print_fault(alloc, out, TextKind::LimitBytes.word(), file, 0),
         Err(ShelfFail::Failed) => return Err(RunFault::Read),
         Err(ShelfFail::Memory) => return Err(RunFault::Memory),
     }
@@ -54,10 +55,7 @@ fn show_text<O: Sink>(
 {
     match Language.read(alloc, text) {
         Ok(tree) => return print_tree(alloc, out, tree.as_slice()),
-        Err(TextFail::Fault(fault)) => {
-            return print_fault(alloc, out, kind_of(fault), file, place_of(fault));
-        }
-        Err(TextFail::Memory) => return Err(RunFault::Memory),
+        Err(fail) => return print_fail(alloc, out, file, fail),
     }
 }
 
@@ -75,28 +73,18 @@ fn print_tree<O: Sink>(alloc: Global, out: &mut O, tree: &[Decl]) -> Result<RunE
     }
 }
 
-// The word for what is wrong in a text.
-fn kind_of(fault: TextFault) -> &'static str
-    ensures { result.now ≡ kind_of fault }
+// Prints what is wrong in the text of the file, and where.
+fn print_fail<O: Sink>(
+    alloc: Global,
+    out: &mut O,
+    file: &Text,
+    fail: TextFail,
+) -> Result<RunEnd, RunFault>
+    ensures printed { WritesText (FailOutput fail file.now) (O.written out.old) (O.written out.new) result }
+    ensures writes { O.faults out.new ≡ counted (is_write result) (O.faults out.old) }
 {
-    match fault {
-        TextFault::BadByte(_) => "BadByte",
-        TextFault::OpenComment(_) => "OpenComment",
-        TextFault::OutOfRange(_) => "OutOfRange",
-        TextFault::Syntax(_) => "Syntax",
-        TextFault::TooDeep(_) => "Limit:nesting",
-    }
-}
-
-// The byte at which it is.
-fn place_of(fault: TextFault) -> u32
-    ensures { result ≡ place_of fault }
-{
-    match fault {
-        TextFault::BadByte(place)
-        | TextFault::OpenComment(place)
-        | TextFault::OutOfRange(place)
-        | TextFault::Syntax(place)
-        | TextFault::TooDeep(place) => place,
+    match (fail.kind(), fail.at()) {
+        (Some(kind), Some(place)) => return print_fault(alloc, out, kind.word(), file, place),
+        _ => return Err(RunFault::Memory),
     }
 }

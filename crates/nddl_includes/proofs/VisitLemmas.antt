@@ -11,7 +11,7 @@ use Rattle.nddl_includes.specs.declared.fault.ReadAllFault.TheVariants as all
 use Rattle.nddl_includes.specs.Includes.{includes_of, is_skipped, ask_in, NamesText}
 use Rattle.nddl_includes.specs.Outcomes.{Reading, Outcome, TellsOutcome}
 use Rattle.nddl_includes.specs.Taking.{HasDecls, TakesFile}
-use Rattle.nddl_includes.specs.Visits.{Stops, Visit, Enters, Passes, Follows, Visits}
+use Rattle.nddl_includes.specs.Visits.{Stops, Visit, Enters, ComesOf, Follows, Visits}
 
 -- what follows from what an answer says is said by the answer
 pub says_more : (P Q : Outcome → Type 0) (outcome : Outcome) → (P outcome → Q outcome) → TellsOutcome P outcome → TellsOutcome Q outcome
@@ -71,7 +71,7 @@ declared_fault reads files levels ask old new all.ReadFault stops = tt
 declared_fault reads files levels ask old new all.Memory stops = tt
 
 -- an include that is passed over
-pub passes_over : (visit : Visit) (file : List ℕ) (include : Include) (read : List FileDecls) → is_skipped include.name read ≡ true → Passes visit file include read (Ok read)
+pub passes_over : (visit : Visit) (file : List ℕ) (include : Include) (read : List FileDecls) → is_skipped include.name read ≡ true → ComesOf visit file include read (Ok read)
 passes_over visit file include read skipped =
     let met : Outcome = Ok read in
     let same : met ≡ met = refl in
@@ -80,14 +80,14 @@ passes_over visit file include read skipped =
 
 -- an include that is followed
 pub passes_in : (visit : Visit) (file : List ℕ) (include : Include) (read : List FileDecls) (met : Outcome)
-    → is_skipped include.name read ≡ false → Enters visit (ask_in file include) read met → Passes visit file include read met
+    → is_skipped include.name read ≡ false → Enters visit (ask_in file include) read met → ComesOf visit file include read met
 passes_in visit file include read met followed inner =
     let P : Bool → Type 0 = λ b. MatchBool b (met ≡ Ok read) (Enters visit (ask_in file include) read met) in
     subst P (sym followed) inner
 
 -- an include whose name isn't text
 pub unnamed : (visit : Visit) (file : List ℕ) (include : Include) (read : List FileDecls) (fault : ReadAllFault)
-    → is_skipped include.name read ≡ false → NamesText file include (Err fault) → TellsOutcome (Passes visit file include read) (Err fault)
+    → is_skipped include.name read ≡ false → NamesText file include (Err fault) → TellsOutcome (ComesOf visit file include read) (Err fault)
 unnamed visit file include read (all.Absent at_file at) followed names =
     let same : all.Absent at_file at ≡ all.Absent file include.at = λ i. all.Absent (names.0 i) (names.1 i) in
     passes_in visit file include read (Err (all.Absent at_file at)) followed (inr (names.2, ap Err same))
@@ -101,7 +101,7 @@ unnamed visit file include read all.Memory followed names = tt
 
 -- what comes of one include, and then of the others
 pub passed : (visit : Visit) (file : List ℕ) (include : Include) (includes : List Include) (read : List FileDecls) (outcome met : Outcome)
-    → Passes visit file include read met → MatchResult met (λ between. Follows visit file includes between outcome) (λ fault. outcome ≡ Err fault)
+    → ComesOf visit file include read met → MatchResult met (λ between. Follows visit file includes between outcome) (λ fault. outcome ≡ Err fault)
     → Follows visit file (include ∷ includes) read outcome
 passed visit file include includes read outcome met pass ends = chosen (is_skipped include.name read) pass where
   chosen : (skipped : Bool) → MatchBool skipped (met ≡ Ok read) (Enters visit (ask_in file include) read met)

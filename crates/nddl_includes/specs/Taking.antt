@@ -15,7 +15,7 @@ use Rattle.nddl_includes.specs.declared.fault.ReadAllFault.{ReadAllFault}
 use Rattle.nddl_includes.specs.declared.fault.ReadAllFault.TheVariants as all
 use Rattle.nddl_includes.specs.Includes.{includes_of}
 use Rattle.nddl_includes.specs.Outcomes.{Reading}
-use Rattle.nddl_includes.specs.Visits.{Faults, Loads, Stops, Takes, with_file}
+use Rattle.nddl_includes.specs.Visits.{HasFault, Loads, Stops, Takes, with_file}
 
 -- what the answer of a shelf says of a file
 abbrev pub fail_of : ShelfFail → FetchFail
@@ -40,7 +40,7 @@ Fetches files count levels name (Err fetch.Memory) = ⊤
 abbrev pub ParsesFile : Reading → List ℕ → List ℕ → Result (List Decl) ReadAllFault → Type 0
 ParsesFile reads name text (Ok decls) = reads text (Ok decls)
 ParsesFile reads name text (Err all.Memory) = ⊤
-ParsesFile reads name text (Err fault) = Faults reads name text fault
+ParsesFile reads name text (Err fault) = HasFault reads name text fault
 
 -- the file that is asked for has these declarations, or why none are read
 abbrev pub HasDecls : Reading → Option (List FileEntry) → ℕ → ℕ → Ask → Result (List Decl) ReadAllFault → Type 0

@@ -31,15 +31,15 @@ Loads files count levels name (Ok text) =
     HasContent files name (Some text) × (length text ≤ most_bytes) × (count < most_files) × (0 < levels)
 
 -- the text of this file has this fault first, which isn't want of memory
-abbrev pub Faults : Reading → List ℕ → List ℕ → ReadAllFault → Type 0
-Faults reads name text fault =
+abbrev pub HasFault : Reading → List ℕ → List ℕ → ReadAllFault → Type 0
+HasFault reads name text fault =
     (wrong : TextFail) × reads text (Err wrong) × IsSome (fail_kind wrong) × (fault ≡ faulty name wrong)
 
 -- the file isn't read, or there is this fault in its text
 abbrev pub Stops : Reading → Option (List FileEntry) → ℕ → ℕ → Ask → ReadAllFault → Type 0
 Stops reads files count levels ask fault =
     ((refusal : Refusal) × Loads files count levels ask.name (Err refusal) × (fault ≡ fault_at refusal ask))
-    ⊎ ((text : List ℕ) × Loads files count levels ask.name (Ok text) × Faults reads ask.name text fault)
+    ⊎ ((text : List ℕ) × Loads files count levels ask.name (Ok text) × HasFault reads ask.name text fault)
 
 -- the file is read, and its text has these declarations
 abbrev pub Takes : Reading → Option (List FileEntry) → ℕ → ℕ → Ask → List Decl → Type 0
@@ -56,8 +56,8 @@ Enters visit ask read outcome =
     (IsUtf8 ask.name × visit ask read outcome) ⊎ (¬ (IsUtf8 ask.name) × (outcome ≡ Err (all.Absent ask.file ask.at)))
 
 -- what comes of one include of this file: it is passed over, or the file that it asks for is visited
-abbrev pub Passes : Visit → List ℕ → Include → List FileDecls → Outcome → Type 0
-Passes visit file include read outcome =
+abbrev pub ComesOf : Visit → List ℕ → Include → List FileDecls → Outcome → Type 0
+ComesOf visit file include read outcome =
     MatchBool (is_skipped include.name read) (outcome ≡ Ok read) (Enters visit (ask_in file include) read outcome)
 
 -- the includes of this file are visited one after another, but for those that are passed over; the first fault ends it

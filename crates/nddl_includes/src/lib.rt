@@ -8,7 +8,7 @@ pub mod laws;
 mod names;
 pub mod reader;
 pub mod reading;
-pub mod taking;
+mod taking;
 
 pub use fault::{ReadAllFault, TextFail};
 pub use reader::TextReader;

@@ -2,7 +2,7 @@
 
 ghost use Rattle.std.specs.Prelude.{◌≡◌};
 ghost use Rattle.nddl_includes.specs.Outcomes.{CountsReads, TellsOutcome};
-ghost use Rattle.nddl_includes.specs.Visits.{Passes, Follows, Visits, ReadsAll};
+ghost use Rattle.nddl_includes.specs.Visits.{ComesOf, Follows, Visits, ReadsAll};
 
 use super::fault::ReadAllFault;
 use super::include::{Ask, Include};
@@ -71,7 +71,8 @@ fn follow<F: Shelf, R: TextReader>(
     includes: &[Include],
     levels: usize,
 ) -> Result<Sequence<FileDecls>, ReadAllFault>
-    ensures told { TellsOutcome (Follows (Visits (R.reads reader.now) (F.files shelf.old) levels) file.now includes.now before) result }
+    ensures told { TellsOutcome
+        (Follows (Visits (R.reads reader.now) (F.files shelf.old) levels) file.now includes.now before) result }
     ensures kept { F.files shelf.new ≡ F.files shelf.old }
     ensures counted { CountsReads result (F.faults shelf.old) (F.faults shelf.new) }
 {
@@ -93,7 +94,8 @@ fn enter<F: Shelf, R: TextReader>(
     include: &Include,
     levels: usize,
 ) -> Result<Sequence<FileDecls>, ReadAllFault>
-    ensures told { TellsOutcome (Passes (Visits (R.reads reader.now) (F.files shelf.old) levels) file.now include.now read) result }
+    ensures told { TellsOutcome
+        (ComesOf (Visits (R.reads reader.now) (F.files shelf.old) levels) file.now include.now read) result }
     ensures kept { F.files shelf.new ≡ F.files shelf.old }
     ensures counted { CountsReads result (F.faults shelf.old) (F.faults shelf.new) }
 {

@@ -2,8 +2,8 @@
 
 ghost use Rattle.nddl_print.specs.Laws.{PrintsAreLasting, PrintsAreReadAsNoOther, PrintsAreReadBack, SameTreesAreSpelledAlike};
 
-/// The spelling of a tree that some text without a fault has is read again: its lexemes are the words of the tree, and their tree is the same
-/// up to places.
+/// The spelling of a tree that some text without a fault has is read again: its lexemes are the words of the tree, and
+/// their tree is the same up to places.
 pub fn prints_are_read_back()
     ensures { PrintsAreReadBack }
 {}

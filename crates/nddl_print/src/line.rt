@@ -138,7 +138,8 @@ impl Lines {
 
     /// A line feed in place of the last space.
     pub fn end_line(&mut self) -> Result<(), AllocError>
-        ensures { OnOk result ((before : List ℕ) (words : List Word) → words ≢ [] → self.old ≡ before ++ spaced words → self.new ≡ before ++ line_of words) }
+        ensures { OnOk result ((before : List ℕ) (words : List Word) → words ≢ []
+            → self.old ≡ before ++ spaced words → self.new ≡ before ++ line_of words) }
     {
         self.bytes.pop();
         self.bytes.push(b'\n')?;

@@ -28,10 +28,10 @@ number_of sorts.NotEqual = 17
 number_of sorts.DoubleColon = 18
 
 -- by what reserved words are told from each other: how they are spelled
-abbrev pub word_of : Sort → List ℕ
-word_of (sorts.Word word) = reserved_word word
-word_of other = []
+abbrev pub word_spelling : Sort → List ℕ
+word_spelling (sorts.Word word) = reserved_word word
+word_spelling other = []
 
 -- whether the two are one sort
 unfoldable pub same : Sort → Sort → Bool
-same one other = number_of one == number_of other && bytes_eq (word_of one) (word_of other)
+same one other = number_of one == number_of other && bytes_eq (word_spelling one) (word_spelling other)

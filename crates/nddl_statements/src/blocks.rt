@@ -194,7 +194,8 @@ fn if_stmt(cursor: &mut Cursor<'_>, left: u8) -> Result<Stmt, Stop>
 #[cycle(blocks)]
 fn class_body(cursor: &mut Cursor<'_>, left: u8) -> Result<((), (Name, ((), StmtBlock))), Stop>
     ensures { IsFound result cursor.new
-        (sequence (mark (sorts.Word keywords.In)) (sequence name (sequence (mark sorts.ParenClose) (block left))) cursor.old) }
+        (sequence (mark (sorts.Word keywords.In)) (sequence name (sequence (mark sorts.ParenClose) (block left)))
+        cursor.old) }
 {
     cursor.mark(Sort::Word(Reserved::In))?;
     let class = name(cursor)?;

@@ -4,7 +4,7 @@ use Rattle.std.proofs.lemmas.Result.{err_from_is_err_and}
 use Rattle.eu_io.specs.declared.shelf.FileEntry.{FileEntry}
 use Rattle.nddl_includes.specs.declared.include.Include.{Include}
 use Rattle.nddl_includes.specs.Outcomes.{TellsOutcome}
-use Rattle.nddl_includes.specs.Visits.{Passes, Visits, Follows}
+use Rattle.nddl_includes.specs.Visits.{ComesOf, Visits, Follows}
 use Rattle.nddl_includes.proofs.VisitLemmas.{says_more, takes_on, taken_fault, passed, follows_left}
 use Rattle.nddl_includes.proofs.reading.+visit.Goals as goal
 
@@ -39,8 +39,8 @@ follow-returns-in_err-read-clause-told g t c =
     let rest = drop (c.loop-include.include-index + 1) items in
     let read = c.loop-include.read in
     let fault = c.in_err-read.field-0.0 in
-    let P : Option (List FileEntry) → Type 0 = λ held. TellsOutcome (Passes (Visits reads held c.args.levels) file include read) (Err fault) in
-    rw (p.1, p.2) (says_more (Passes inner file include read) (Follows inner file items c.args.before) (Err fault)
+    let P : Option (List FileEntry) → Type 0 = λ held. TellsOutcome (ComesOf (Visits reads held c.args.levels) file include read) (Err fault) in
+    rw (p.1, p.2) (says_more (ComesOf inner file include read) (Follows inner file items c.args.before) (Err fault)
     (λ pass. c.loop-include.invariant.goes_on (Err fault)
     (follows_left inner file items c.loop-include.include-index include read (Err fault) c.loop-include-test.true c.include-item.is
     (passed inner file include rest read (Err fault) (Err fault) pass refl)))
