@@ -5,7 +5,7 @@ use Rattle.nddl_includes.specs.declared.fault.TextFail.{TextFail}
 use Rattle.nddl_includes.specs.declared.fault.TextFail.TheVariants as text
 use Rattle.std.specs.Prelude.{IfErr, IsSome}
 use Rattle.nddl_includes.specs.Faults.{fail_kind}
-use Rattle.nddl_includes.specs.Laws.{IsOne, HasOneReading}
+use Rattle.nddl_includes.specs.Laws.{HasOneReading}
 use Rattle.nddl_lexer.specs.declared.kinds.LexFault.{LexFault}
 use Rattle.nddl_lexer.specs.declared.kinds.LexFault.TheVariants as lexer
 use Rattle.nddl_lexer.specs.declared.kinds.LexKind.{LexKind}

@@ -17,7 +17,7 @@ use Rattle.nddl_includes.specs.declared.fault.ReadAllFault.{ReadAllFault}
 use Rattle.nddl_includes.specs.declared.fault.ReadAllFault.TheVariants as all
 use Rattle.nddl_includes.specs.Faults.{fail_kind, faulty, fault_at}
 use Rattle.nddl_includes.specs.Includes.{includes_of, is_skipped, ask_in}
-use Rattle.nddl_includes.specs.Laws.{IsOne, HasOneReading, HasOneOutcome}
+use Rattle.nddl_includes.specs.Laws.{HasOneReading, HasOneOutcome}
 use Rattle.nddl_includes.specs.Limits.{most_bytes, most_files, deepest}
 use Rattle.nddl_includes.specs.Outcomes.{Reading, Outcome}
 use Rattle.nddl_includes.specs.Visits.{Loads, Stops, Takes, Visit, Enters, Follows, VisitsBy, Visits, first_ask, with_file}
