@@ -174,15 +174,22 @@ fn broken_reads() -> (Result<usize, Failed>, Result<usize, Failed>, u64) {
     answers
 }
 
+/// What three reads of two bytes answer, the first two bytes, and how many have failed.
+fn slice_reads(bytes: &[u8]) -> ([Result<usize, Failed>; 3], [u8; 2], u64) {
+    let mut source = StdSource::new(bytes);
+    let mut first = [0; 2];
+    let mut other = [0; 2];
+    let answers = [
+        source.read(&mut first),
+        source.read(&mut other),
+        source.read(&mut other),
+    ];
+    (answers, first, source.faults())
+}
+
 #[test]
 fn a_reader_is_a_source(rt: HostRuntime) {
-    let mut source = StdSource::new(b"abc".as_slice());
-    let mut buffer = [0; 2];
-    assert_eq!(rt; source.read(&mut buffer), Ok(2));
-    assert_eq!(rt; buffer, *b"ab");
-    assert_eq!(rt; source.read(&mut buffer), Ok(1));
-    assert_eq!(rt; source.read(&mut buffer), Ok(0));
-    assert_eq!(rt; source.faults(), 0);
+    assert_eq!(rt; slice_reads(b"abc"), ([Ok(2), Ok(1), Ok(0)], *b"ab", 0));
     assert_eq!(rt; broken_reads(), (Err(Failed), Err(Failed), 2));
 }
 
@@ -219,22 +226,39 @@ fn file_answer<R: Files + AllocGlobal + Drop>(
     (answer, shelf.faults())
 }
 
-#[test]
-fn a_shelf_reads_files(rt: HostRuntime) -> Result<(), Fail> {
-    let folder = env::temp_dir(&rt)?;
+/// A path in the folder for what doesn't last.
+fn path_of(rt: &HostRuntime) -> io::Result<String> {
+    let folder = env::temp_dir(rt)?;
     let path = format!(in rt.alloc();
         "{}/shelf-test-{}",
         folder.to_string_lossy(),
         process::id(rt.process())
     )?;
-    fs::write(&rt, path.as_str(), "abc")?;
-    let whole = file_answer(&rt, path.as_str(), 3);
-    let longer = file_answer(&rt, path.as_str(), 2);
-    fs::remove_file(&rt, path.as_str())?;
-    let absent = file_answer(&rt, path.as_str(), 3);
-    assert_eq!(rt; whole, (Ok(true), 0));
-    assert_eq!(rt; longer, (Err(ShelfFail::TooLong), 0));
-    assert_eq!(rt; absent, (Err(ShelfFail::Absent), 0));
+    Ok(path)
+}
+
+/// What shelves answer about a file of three bytes: whole, where fewer are allowed, and once it is gone.
+fn file_answers(rt: &HostRuntime, path: &str) -> io::Result<[(Result<bool, ShelfFail>, u64); 3]> {
+    fs::write(rt, path, "abc")?;
+    let whole = file_answer(rt, path, 3);
+    let longer = file_answer(rt, path, 2);
+    fs::remove_file(rt, path)?;
+    Ok([whole, longer, file_answer(rt, path, 3)])
+}
+
+fn temporary_answers(rt: &HostRuntime) -> io::Result<[(Result<bool, ShelfFail>, u64); 3]> {
+    let path = path_of(rt)?;
+    file_answers(rt, path.as_str())
+}
+
+#[test]
+fn a_shelf_reads_files(rt: HostRuntime) -> Result<(), Fail> {
+    let expected = [
+        (Ok(true), 0),
+        (Err(ShelfFail::TooLong), 0),
+        (Err(ShelfFail::Absent), 0),
+    ];
+    assert_eq!(rt; temporary_answers(&rt)?, expected);
     assert_eq!(rt; file_answer(&rt, "", 3), (Err(ShelfFail::Absent), 0));
     assert_eq!(rt;
         file_answer(&rt, ".", u64::MAX),
