@@ -11,4 +11,4 @@ pub record Counted (Inner : Type 0) : Type 0 where
 abbrev pub counted_code : {Inner : Type 0} → Coded Inner → Coded (Counted Inner)
 counted_code {Inner} code =
     code_by (Inner
-        × ℕ) (coded× code coded_ℕ) (λ s. (s.inner, s.faults)) (λ p. record { inner = p.0; faults = p.1 }) (λ _. refl)
+    × ℕ) (coded× code coded_ℕ) (λ s. (s.inner, s.faults)) (λ p. record { inner = p.0; faults = p.1 }) (λ _. refl)

@@ -36,7 +36,13 @@ pub fn show<F: Shelf, O: Sink>(
     match shelf.get(file.as_str(), FILE_LIMIT) {
         Ok(bytes) => return show_text(alloc, out, file, bytes.as_slice()),
         Err(ShelfFail::Absent) => return print_fault(alloc, out, TextKind::Absent.word(), file, 0),
-        Err(ShelfFail::TooLong) => return print_fault(alloc, out, TextKind::LimitBytes.word(), file, 0),
+        Err(ShelfFail::TooLong) => return print_fault(
+            alloc,
+            out,
+            TextKind::LimitBytes.word(),
+            file,
+            0,
+        ),
         Err(ShelfFail::Failed) => return Err(RunFault::Read),
         Err(ShelfFail::Memory) => return Err(RunFault::Memory),
     }

@@ -57,7 +57,15 @@ fn visit<F: Shelf, R: TextReader>(
 {
     let mut read = before;
     let includes = take_file(alloc, shelf, reader, &mut read, ask, levels)?;
-    follow(alloc, shelf, reader, read, &ask.name, includes.as_slice(), levels - 1)
+    follow(
+        alloc,
+        shelf,
+        reader,
+        read,
+        &ask.name,
+        includes.as_slice(),
+        levels - 1,
+    )
 }
 
 /// Reads what the includes of the file ask for, one after another, after what was read before.

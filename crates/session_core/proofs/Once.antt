@@ -115,7 +115,7 @@ told_once database name reply other (inr p) (inl q) = absurd (never_leaves_both 
 told_once database name reply other (inr p) (inr q) =
     let told = subst (λ (n : ℕ). IsTold database (Global n) q.1) (one_named (global_named database.model name) p.0 q.0 p.2 q.2) q.3 in
     let same = least_same database.model (standing database.history) p.3.0 told.0 p.3.1 told.1 in
-    let domains = gives_same p.3.0 p.3.1.closed.is_state.order (Global p.0) p.1 q.1 p.3.2
+    let domains = gives_same p.3.0 p.3.1.closed.consistent.is_state.order (Global p.0) p.1 q.1 p.3.2
     (subst (λ (s : State). Gives s (Global p.0) q.1) (sym same) told.2) in
     q.4 ∙ sym (p.4 ∙ ap (domain_line name) domains)
 

@@ -8,7 +8,7 @@ use Rattle.model_core.specs.declared.decision.Decision.TheVariants.{Specify}
 use Rattle.model_core.specs.declared.model.Model.{Model}
 use Rattle.model_core.specs.declared.variable.VarDecl.{VarDecl}
 use Rattle.model_core.specs.History.{standing}
-use Rattle.model_core.specs.Lawful.{IsLawful, IsLawfulVariable, IsBase}
+use Rattle.model_core.specs.Lawful.{IsLawful, IsLawfulVariable, IsLawfulBase}
 use Rattle.model_core.specs.Lookup.{first_named, global_named}
 use Rattle.model_core.specs.State.{State}
 use Rattle.plan_defs.specs.Refusals.{Refusal, IsDeclared, Hinders}
@@ -46,11 +46,11 @@ named_within model name number e = omega (arith, named_from 0 name model.problem
 -- a global that is there is never unknown
 never_unknown : (database : Database) (number : ℕ) (value : ℤ) → number < length database.model.problem.globals
     → RefusesFor database (Specify (Global number) value) refusals.Unknown → ⊥
-never_unknown database number value within refused = refused.refusal.hinders ((refused.least.closed.is_state.variables (Global number)).0 within)
+never_unknown database number value within refused = refused.refusal.hinders ((refused.least.closed.consistent.is_state.variables (Global number)).0 within)
 
 pub never_untold : (database : Database) (number : ℕ) → number < length database.model.problem.globals → IsUntold database (Global number) query.Unknown → ⊥
 never_untold database number within untold =
-    let given = (untold.1.closed.is_state.variables (Global number)).0 within in
+    let given = (untold.1.closed.consistent.is_state.variables (Global number)).0 within in
     untold.2 given.0 given.1
 
 -- a name is that of one global at most
@@ -136,7 +136,7 @@ module _ (old : Database) (name : List ℕ) (value : ℤ) where
     not_applied state least new fault.Decided applies = (decided_first applies.1, applies.0)
     not_applied state least new fault.NotInDomain applies = (outside_first applies.1, applies.0)
     not_applied state least new fault.Nothing applies = absurd applies
-    not_applied state least new fault.Memory applies = applies
+    not_applied state least new fault.Memory applies = applies.0
 
 -- ---- all numbers outside the range of values are answered alike
 
@@ -144,7 +144,7 @@ module _ (old : Database) (name : List ℕ) (value : ℤ) where
 declared_value : (model : Model) (number : ℕ) (value : ℤ) → IsLawful model → IsDeclared model (Global number) value → IsValue value
 declared_value model number value lawful is =
     let base = is.1 in
-    let ok = subst IsBase (sym base.2) (get_all (IsLawfulVariable model) model.problem.globals number base.0 lawful.globals base.1).base in
+    let ok = subst IsLawfulBase (sym base.2) (get_all (IsLawfulVariable model) model.problem.globals number base.0 lawful.globals base.1).base in
     has_value is.0 value ok is.2
 
 stops_beyond : (old : Database) (name : List ℕ) (value other : ℤ) → IsLawful old.model → (IsValue other → ⊥)

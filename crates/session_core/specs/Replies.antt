@@ -113,7 +113,7 @@ StopsLine database text reason = (command : Command) × LineAsksFor text command
 abbrev pub Replies : Database → List ℕ → List ℕ → Database → Type 0
 Replies old text =
     RefusedOr (StopsLine old text) (λ reply new. (command : Command) × LineAsksFor text command
-        × CarriesOut old command reply new) old
+    × CarriesOut old command reply new) old
 
 -- the reply to a command by itself
 abbrev pub RepliesTo : Database → Command → List ℕ → Database → Type 0
