@@ -9,8 +9,8 @@ use Rattle.cell_store.specs.declared.trail.Cell.{Cell}
 use Rattle.cell_store.specs.declared.trail.Entry.{Entry}
 use Rattle.cell_store.specs.declared.trail.Entry.TheVariants.{Added, Narrowed}
 use Rattle.cell_store.specs.Cells.{Celled, domain_at, present, stamped, FollowsDomain, GoesBack}
-use Rattle.cell_store.specs.Kept.{before, past_of, saved_at, CanLead, IsTrail, domains_of, view_of, IsKept}
-use Rattle.cell_store.specs.Writing.{TakesBack, StepsBack, ReturnsTo}
+use Rattle.cell_store.specs.Kept.{domains_before, past_of, saved_at, CanBeEntry, IsTrail, cell_domains, view_of, IsKept}
+use Rattle.cell_store.specs.Writing.{UndoesEntry, StepsBack, ReturnsTo}
 use Rattle.cell_store.proofs.Rewriting.{equal_cases, length-past_of}
 use Rattle.cell_store.proofs.Views.{present-view, domain-stood, stamp-stood, get-set_other, get-set_same, get-append_left, domains-set, stamps-set}
 
@@ -38,10 +38,10 @@ rises_follow old new stamp next (inr more) = inr ((λ same. absurd (omega (arith
 pub record IsReturning (cells : List Cell) (trail : List Entry) (now : List Cell) (left : List Entry) : Type 0 where
   pub kept : IsKept now left
   pub newer : List (List Domain)
-  pub past : past_of (domains_of cells) trail ≡ newer ++ past_of (domains_of now) left
+  pub past : past_of (cell_domains cells) trail ≡ newer ++ past_of (cell_domains now) left
   pub fewer : length now ≤ length cells
   pub rises : (cell : ℕ) → cell < length now
-      → Rises (domain_at (domains_of cells) cell) (slice_index_or (map (λ c. c.stamp) cells) cell 0) (domain_at (domains_of now) cell) (slice_index_or (map (λ c. c.stamp) now) cell 0)
+      → Rises (domain_at (cell_domains cells) cell) (slice_index_or (map (λ c. c.stamp) cells) cell 0) (domain_at (cell_domains now) cell) (slice_index_or (map (λ c. c.stamp) now) cell 0)
 
 pub returning_none : (cells : List Cell) (trail : List Entry) → IsKept cells trail → IsReturning cells trail cells trail
 returning_none cells trail is = record {
@@ -71,13 +71,13 @@ index-append_left (x ∷ list) more (suc place) other below = index-append_left 
 returning_added : (cells : List Cell) (trail : List Entry) (now : List Cell) (left : List Entry) (new : List Cell) (last : Cell)
     → IsReturning cells trail now (Added ∷ left) → now ≡ new ++ last ∷ [] → IsReturning cells trail new left
 returning_added cells trail now left new last is split =
-    let whole : domains_of now ≡ domains_of new ++ last.domain ∷ [] = ap domains_of split ∙ map-append (λ c. c.domain) new (last ∷ []) in
+    let whole : cell_domains now ≡ cell_domains new ++ last.domain ∷ [] = ap cell_domains split ∙ map-append (λ c. c.domain) new (last ∷ []) in
     let stamped_whole : map (λ c. c.stamp) now ≡ map (λ c. c.stamp) new ++ last.stamp ∷ [] = ap (map (λ c. c.stamp)) split ∙ map-append (λ c. c.stamp) new (last ∷ []) in
     let count = length-map new (λ c. c.domain) in
     let count_stamps = length-map new (λ c. c.stamp) in
-    let front : take (length (domains_of now) - 1) (domains_of now) ≡ domains_of new =
-    (λ i. take (length (whole i) - 1) (whole i)) ∙ ap (λ n. take n (domains_of new ++ last.domain ∷ [])) (omega (arith, length-append (domains_of new) (last.domain ∷ [])))
-    ∙ take-append_seam (domains_of new) (last.domain ∷ []) in
+    let front : take (length (cell_domains now) - 1) (cell_domains now) ≡ cell_domains new =
+    (λ i. take (length (whole i) - 1) (whole i)) ∙ ap (λ n. take n (cell_domains new ++ last.domain ∷ [])) (omega (arith, length-append (cell_domains new) (last.domain ∷ [])))
+    ∙ take-append_seam (cell_domains new) (last.domain ∷ []) in
     let long : length now ≡ length new + 1 = ap length split ∙ length-append new (last ∷ []) in
     record {
       kept = record {
@@ -87,13 +87,13 @@ returning_added cells trail now left new last is split =
             is.kept.saved number found (ap (λ list. slice_get list number) split ∙ get-append_left new (last ∷ []) number below ∙ stands)
             ∙ saved_before now new left number long below;
       };
-      newer = is.newer ++ domains_of now ∷ [];
-      past = is.past ∙ ap (λ list. is.newer ++ domains_of now ∷ past_of list left) front ∙ sym (append_assoc is.newer (domains_of now ∷ []) (past_of (domains_of new) left));
+      newer = is.newer ++ cell_domains now ∷ [];
+      past = is.past ∙ ap (λ list. is.newer ++ cell_domains now ∷ past_of list left) front ∙ sym (append_assoc is.newer (cell_domains now ∷ []) (past_of (cell_domains new) left));
       fewer = omega (arith, is.fewer, long);
       rises = λ cell below.
-          subst (λ d. Rises (domain_at (domains_of cells) cell) (slice_index_or (map (λ c. c.stamp) cells) cell 0) d (slice_index_or (map (λ c. c.stamp) new) cell 0))
-          (ap (λ list. domain_at list cell) whole ∙ index-append_left (domains_of new) (last.domain ∷ []) cell (Range (pos 0) (pos 0)) (omega (arith, count)))
-          (subst (λ s. Rises (domain_at (domains_of cells) cell) (slice_index_or (map (λ c. c.stamp) cells) cell 0) (domain_at (domains_of now) cell) s)
+          subst (λ d. Rises (domain_at (cell_domains cells) cell) (slice_index_or (map (λ c. c.stamp) cells) cell 0) d (slice_index_or (map (λ c. c.stamp) new) cell 0))
+          (ap (λ list. domain_at list cell) whole ∙ index-append_left (cell_domains new) (last.domain ∷ []) cell (Range (pos 0) (pos 0)) (omega (arith, count)))
+          (subst (λ s. Rises (domain_at (cell_domains cells) cell) (slice_index_or (map (λ c. c.stamp) cells) cell 0) (domain_at (cell_domains now) cell) s)
           (ap (λ list. slice_index_or list cell 0) stamped_whole ∙ index-append_left (map (λ c. c.stamp) new) (last.stamp ∷ []) cell 0 (omega (arith, count_stamps)))
           (is.rises cell (omega (arith, long))));
     }
@@ -109,7 +109,7 @@ returning_narrowed cells trail now left cell former saved was new is stood domai
     let count_stamps = length-map now (λ c. c.stamp) in
     let cells_new = slice_set now cell new in
     let long = length-set now cell new in
-    let written : domains_of cells_new ≡ slice_set (domains_of now) cell former = domains-set now cell new ∙ ap (slice_set (domains_of now) cell) domain in
+    let written : cell_domains cells_new ≡ slice_set (cell_domains now) cell former = domains-set now cell new ∙ ap (slice_set (cell_domains now) cell) domain in
     let stamps : map (λ c. c.stamp) cells_new ≡ slice_set (map (λ c. c.stamp) now) cell (stamped was.stamp) =
     stamps-set now cell new ∙ ap (slice_set (map (λ c. c.stamp) now) cell) stamp in
     record {
@@ -126,27 +126,27 @@ returning_narrowed cells trail now left cell former saved was new is stood domai
               ∙ ap (λ n. saved_at n left number) (sym long)
         ];
       };
-      newer = is.newer ++ domains_of now ∷ [];
-      past = is.past ∙ ap (λ list. is.newer ++ domains_of now ∷ past_of list left) (sym written) ∙ sym (append_assoc is.newer (domains_of now ∷ []) (past_of (domains_of cells_new) left));
+      newer = is.newer ++ cell_domains now ∷ [];
+      past = is.past ∙ ap (λ list. is.newer ++ cell_domains now ∷ past_of list left) (sym written) ∙ sym (append_assoc is.newer (cell_domains now ∷ []) (past_of (cell_domains cells_new) left));
       fewer = omega (arith, is.fewer, long);
       rises = λ number lower. elim (equal_cases number cell) [
         | inl same ↦
-            let here : domain_at (domains_of cells_new) number ≡ former =
-            (λ i. domain_at (written i) (same.1 i)) ∙ get_or-set_same (domains_of now) cell former (Range (pos 0) (pos 0)) (omega (arith, count)) in
+            let here : domain_at (cell_domains cells_new) number ≡ former =
+            (λ i. domain_at (written i) (same.1 i)) ∙ get_or-set_same (cell_domains now) cell former (Range (pos 0) (pos 0)) (omega (arith, count)) in
             let next : slice_index_or (map (λ c. c.stamp) cells_new) number 0 ≡ stamped was.stamp =
             (λ i. slice_index_or (stamps i) (same.1 i) 0) ∙ get_or-set_same (map (λ c. c.stamp) now) cell (stamped was.stamp) 0 (omega (arith, count_stamps)) in
             let last : slice_index_or (map (λ c. c.stamp) now) number 0 ≡ was.stamp =
             ap (λ n. slice_index_or (map (λ c. c.stamp) now) n 0) same.1 ∙ stamp-stood now cell was stood in
-            let before_it = subst (λ s. Rises (domain_at (domains_of cells) number) (slice_index_or (map (λ c. c.stamp) cells) number 0) (domain_at (domains_of now) number) s) last
+            let before_it = subst (λ s. Rises (domain_at (cell_domains cells) number) (slice_index_or (map (λ c. c.stamp) cells) number 0) (domain_at (cell_domains now) number) s) last
             (is.rises number (omega (arith, long))) in
-            let more : slack (domain_at (domains_of now) number) < slack former = omega (arith, is.kept.led.0.1.0, ap (λ n. slack (domain_at (domains_of now) n)) same.1) in
-            subst (λ d. Rises (domain_at (domains_of cells) number) (slice_index_or (map (λ c. c.stamp) cells) number 0) d (slice_index_or (map (λ c. c.stamp) cells_new) number 0)) (sym here)
-            (subst (λ s. Rises (domain_at (domains_of cells) number) (slice_index_or (map (λ c. c.stamp) cells) number 0) former s) (sym next)
-            (rises_on _ (domain_at (domains_of now) number) former _ was.stamp before_it more))
+            let more : slack (domain_at (cell_domains now) number) < slack former = omega (arith, is.kept.led.0.1.0, ap (λ n. slack (domain_at (cell_domains now) n)) same.1) in
+            subst (λ d. Rises (domain_at (cell_domains cells) number) (slice_index_or (map (λ c. c.stamp) cells) number 0) d (slice_index_or (map (λ c. c.stamp) cells_new) number 0)) (sym here)
+            (subst (λ s. Rises (domain_at (cell_domains cells) number) (slice_index_or (map (λ c. c.stamp) cells) number 0) former s) (sym next)
+            (rises_on _ (domain_at (cell_domains now) number) former _ was.stamp before_it more))
         | inr differ ↦
-            subst (λ d. Rises (domain_at (domains_of cells) number) (slice_index_or (map (λ c. c.stamp) cells) number 0) d (slice_index_or (map (λ c. c.stamp) cells_new) number 0))
-            (sym (ap (λ list. domain_at list number) written ∙ get_or-set_other (domains_of now) cell number former (Range (pos 0) (pos 0)) differ.1))
-            (subst (λ s. Rises (domain_at (domains_of cells) number) (slice_index_or (map (λ c. c.stamp) cells) number 0) (domain_at (domains_of now) number) s)
+            subst (λ d. Rises (domain_at (cell_domains cells) number) (slice_index_or (map (λ c. c.stamp) cells) number 0) d (slice_index_or (map (λ c. c.stamp) cells_new) number 0))
+            (sym (ap (λ list. domain_at list number) written ∙ get_or-set_other (cell_domains now) cell number former (Range (pos 0) (pos 0)) differ.1))
+            (subst (λ s. Rises (domain_at (cell_domains cells) number) (slice_index_or (map (λ c. c.stamp) cells) number 0) (domain_at (cell_domains now) number) s)
             (sym (ap (λ list. slice_index_or list number 0) stamps ∙ get_or-set_other (map (λ c. c.stamp) now) cell number (stamped was.stamp) 0 differ.1))
             (is.rises number (omega (arith, long))))
       ];
@@ -154,7 +154,7 @@ returning_narrowed cells trail now left cell former saved was new is stood domai
 
 -- one entry more is taken back
 pub returning_more : (cells : List Cell) (trail : List Entry) (now : List Cell) (left : List Entry) (entry : Entry) (new : List Cell)
-    → IsReturning cells trail now (entry ∷ left) → TakesBack entry now new → IsReturning cells trail new left
+    → IsReturning cells trail now (entry ∷ left) → UndoesEntry entry now new → IsReturning cells trail new left
 returning_more cells trail now left Added new is back = returning_added cells trail now left new back.0 is back.1
 returning_more cells trail now left (Narrowed cell former saved) new is back =
     subst (λ list. IsReturning cells trail list left) (sym back.1.1)
@@ -170,10 +170,10 @@ goes_back cells trail now left is =
     record {
       newer = is.newer;
       past = is.past;
-      count = length-past_of (domains_of now) left;
+      count = length-past_of (cell_domains now) left;
       stamps = length-map now (λ c. c.stamp) ∙ sym (ap length here ∙ count);
       follow = λ cell below.
           subst (λ list. FollowsDomain (domain_at list cell) (slice_index_or (map (λ c. c.stamp) cells) cell 0) (domain_at (present (view_of now left)) cell) (slice_index_or (map (λ c. c.stamp) now) cell 0)) (sym there)
-          (subst (λ list. FollowsDomain (domain_at (domains_of cells) cell) (slice_index_or (map (λ c. c.stamp) cells) cell 0) (domain_at list cell) (slice_index_or (map (λ c. c.stamp) now) cell 0)) (sym here)
+          (subst (λ list. FollowsDomain (domain_at (cell_domains cells) cell) (slice_index_or (map (λ c. c.stamp) cells) cell 0) (domain_at list cell) (slice_index_or (map (λ c. c.stamp) now) cell 0)) (sym here)
           (rises_follow _ _ _ _ (is.rises cell (omega (arith, ap length here, count)))));
     }

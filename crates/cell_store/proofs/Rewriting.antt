@@ -7,7 +7,7 @@ use Rattle.domain_core.specs.Domain.{Domain, Range, slack}
 use Rattle.cell_store.specs.declared.trail.Entry.{Entry}
 use Rattle.cell_store.specs.declared.trail.Entry.TheVariants.{Added, Narrowed}
 use Rattle.cell_store.specs.Cells.{domain_at}
-use Rattle.cell_store.specs.Kept.{before, past_of, count_before, is_about, saved_at, CanLead, IsTrail}
+use Rattle.cell_store.specs.Kept.{domains_before, past_of, count_before, is_about, saved_at, CanBeEntry, IsTrail}
 use Rattle.cell_store.proofs.Lists.{set-set, set-swap}
 
 -- both lists of lists end alike, with so many
@@ -30,12 +30,12 @@ equal_cases one other = eqb_tells one other
 
 pub length-past_of : (domains : List Domain) (trail : List Entry) → length (past_of domains trail) ≡ length trail + 1
 length-past_of domains [] = refl
-length-past_of domains (entry ∷ older) = omega (arith, length-past_of (before entry domains) older)
+length-past_of domains (entry ∷ older) = omega (arith, length-past_of (domains_before entry domains) older)
 
 -- the first entry is about another cell: what is rewritten before it is rewritten
 one_more : (domains before_it : List Domain) (entry : Entry) (older : List Entry) (cell : ℕ) (left : Domain) (count : ℕ)
-    → before entry domains ≡ before_it → before entry (slice_set domains cell left) ≡ slice_set before_it cell left
-    → CanLead entry (slice_set domains cell left) older → IsRewritten before_it (slice_set before_it cell left) older count
+    → domains_before entry domains ≡ before_it → domains_before entry (slice_set domains cell left) ≡ slice_set before_it cell left
+    → CanBeEntry entry (slice_set domains cell left) older → IsRewritten before_it (slice_set before_it cell left) older count
     → IsRewritten domains (slice_set domains cell left) (entry ∷ older) count
 one_more domains before_it entry older cell left count is written can rest = record {
   led = (can, subst (λ list. IsTrail list older) (sym written) rest.led);
@@ -49,16 +49,16 @@ one_more domains before_it entry older cell left count is written can rest = rec
 
 -- the first entry is about this cell: before it the cells are the same
 right_here : (domains : List Domain) (entry : Entry) (older : List Entry) (cell : ℕ) (left : Domain)
-    → before entry (slice_set domains cell left) ≡ before entry domains → CanLead entry (slice_set domains cell left) older
-    → IsTrail (before entry domains) older → IsRewritten domains (slice_set domains cell left) (entry ∷ older) (length older + 1)
+    → domains_before entry (slice_set domains cell left) ≡ domains_before entry domains → CanBeEntry entry (slice_set domains cell left) older
+    → IsTrail (domains_before entry domains) older → IsRewritten domains (slice_set domains cell left) (entry ∷ older) (length older + 1)
 right_here domains entry older cell left same can led = record {
   led = (can, subst (λ list. IsTrail list older) (sym same) led);
   newer = domains ∷ [];
   newest = slice_set domains cell left ∷ [];
-  kept = past_of (before entry domains) older;
+  kept = past_of (domains_before entry domains) older;
   old = refl;
   new = ap (λ list. slice_set domains cell left ∷ past_of list older) same;
-  count_is = length-past_of (before entry domains) older;
+  count_is = length-past_of (domains_before entry domains) older;
 }
 
 pub rewritten : (domains : List Domain) (trail : List Entry) (cell : ℕ) (left : Domain) → IsTrail domains trail → cell < length domains

@@ -13,17 +13,17 @@ use Rattle.cell_store.specs.declared.trail.Cell.{Cell}
 use Rattle.cell_store.specs.declared.trail.Entry.{Entry}
 use Rattle.cell_store.specs.declared.trail.Entry.TheVariants.{Added, Narrowed}
 use Rattle.cell_store.specs.Cells.{Celled, domain_at, present, stamped, IsPlace, KeepsPast, WritesCell, NarrowsCell, AddsCell}
-use Rattle.cell_store.specs.Kept.{before, past_of, saved_at, CanLead, IsTrail, domains_of, view_of, IsKept}
+use Rattle.cell_store.specs.Kept.{domains_before, past_of, saved_at, CanBeEntry, IsTrail, cell_domains, view_of, IsKept}
 use Rattle.cell_store.specs.Writing.{MeetsCell, MeetsBehind, MeetsAt, SavesCell, SavesAt, StaysAt}
 use Rattle.cell_store.proofs.Lists.{set-set}
 use Rattle.cell_store.proofs.Rewriting.{IsRewritten, rewritten, equal_cases, length-past_of}
 
-pub present-view : (cells : List Cell) (trail : List Entry) → present (view_of cells trail) ≡ domains_of cells
+pub present-view : (cells : List Cell) (trail : List Entry) → present (view_of cells trail) ≡ cell_domains cells
 present-view cells [] = refl
 present-view cells (entry ∷ older) = refl
 
 -- a cell that stands there has a number below the count, and its domain is the one at that number
-pub domain-stood : (cells : List Cell) (cell : ℕ) (was : Cell) → slice_get cells cell ≡ Some was → domain_at (domains_of cells) cell ≡ was.domain
+pub domain-stood : (cells : List Cell) (cell : ℕ) (was : Cell) → slice_get cells cell ≡ Some was → domain_at (cell_domains cells) cell ≡ was.domain
 domain-stood [] cell was stood = cc
 domain-stood (first ∷ cells) zero was stood = ap (λ c. c.domain) (some_of first was stood)
   where
@@ -94,7 +94,7 @@ pub same_view : (old new : Celled) → new.past ≡ old.past → new.stamps ≡ 
 same_view old new past stamps = λ i. record { past = past i; stamps = stamps i }
 
 -- what a written cell makes of the domains and of the stamps
-pub domains-set : (cells : List Cell) (place : ℕ) (x : Cell) → domains_of (slice_set cells place x) ≡ slice_set (domains_of cells) place x.domain
+pub domains-set : (cells : List Cell) (place : ℕ) (x : Cell) → cell_domains (slice_set cells place x) ≡ slice_set (cell_domains cells) place x.domain
 domains-set cells place x = map-set (λ c. c.domain) cells place x
 
 pub stamps-set : (cells : List Cell) (place : ℕ) (x : Cell) → map (λ c. c.stamp) (slice_set cells place x) ≡ slice_set (map (λ c. c.stamp) cells) place x.stamp
@@ -112,9 +112,9 @@ written_again cells trail cell since to was left is stood meets after =
     let below = slice_get_within cells cell was stood in
     let at = domain-stood cells cell was stood in
     let count = length-map cells (λ c. c.domain) in
-    let again = rewritten (domains_of cells) trail cell left.domain is.led (omega (arith, count))
+    let again = rewritten (cell_domains cells) trail cell left.domain is.led (omega (arith, count))
     (omega (arith, meets.kept.1, ap slack at)) in
-    let known : was.saved ≡ saved_at (length (domains_of cells)) trail cell = is.saved cell was stood ∙ ap (λ n. saved_at n trail cell) (sym count) in
+    let known : was.saved ≡ saved_at (length (cell_domains cells)) trail cell = is.saved cell was stood ∙ ap (λ n. saved_at n trail cell) (sym count) in
     let written = domains-set cells cell left in
     record {
       kept = record {
@@ -169,17 +169,17 @@ saved_once cells trail cell since to was left new is stood keeps after domain st
     let below = slice_get_within cells cell was stood in
     let at = domain-stood cells cell was stood in
     let count = length-map cells (λ c. c.domain) in
-    let domains = domains_of cells in
+    let domains = cell_domains cells in
     let entry = Narrowed cell was.domain was.saved in
     let cells_new = slice_set cells cell new in
-    let written : domains_of cells_new ≡ slice_set domains cell left = domains-set cells cell new ∙ ap (slice_set domains cell) domain in
-    let long : length (domains_of cells_new) ≡ length domains = ap length written ∙ length-set domains cell left in
-    let back : slice_set (domains_of cells_new) cell was.domain ≡ domains =
+    let written : cell_domains cells_new ≡ slice_set domains cell left = domains-set cells cell new ∙ ap (slice_set domains cell) domain in
+    let long : length (cell_domains cells_new) ≡ length domains = ap length written ∙ length-set domains cell left in
+    let back : slice_set (cell_domains cells_new) cell was.domain ≡ domains =
     ap (λ list. slice_set list cell was.domain) written ∙ set-set domains cell left was.domain
     ∙ ap (slice_set domains cell) (sym at) ∙ set-get_or domains cell (Range (pos 0) (pos 0)) in
-    let here : domain_at (domains_of cells_new) cell ≡ left = ap (λ list. domain_at list cell) written ∙ get_or-set_same domains cell left (Range (pos 0) (pos 0)) (omega (arith, count)) in
-    let past_new : past_of (domains_of cells_new) (entry ∷ trail) ≡ domains_of cells_new ∷ past_of domains trail =
-    ap (λ list. domains_of cells_new ∷ past_of list trail) back in (
+    let here : domain_at (cell_domains cells_new) cell ≡ left = ap (λ list. domain_at list cell) written ∙ get_or-set_same domains cell left (Range (pos 0) (pos 0)) (omega (arith, count)) in
+    let past_new : past_of (cell_domains cells_new) (entry ∷ trail) ≡ cell_domains cells_new ∷ past_of domains trail =
+    ap (λ list. cell_domains cells_new ∷ past_of list trail) back in (
       record {
         led = (
           (
@@ -206,7 +206,7 @@ saved_once cells trail cell since to was left new is stood keeps after domain st
         kept = subst (λ d. Keeps (Has to) d Smaller left) (sym (ap (λ list. domain_at list cell) (present-view cells trail) ∙ at)) keeps;
         domains = written ∙ ap (λ list. slice_set list cell left) (sym (present-view cells trail));
         stamps = stamps-set cells cell new ∙ ap (slice_set (map (λ c. c.stamp) cells) cell) (stamp ∙ ap stamped (sym (stamp-stood cells cell was stood)));
-        past = keeps_past since (length trail + 1) _ _ [] (domains_of cells_new ∷ []) (past_of domains trail) refl past_new (length-past_of domains trail) after;
+        past = keeps_past since (length trail + 1) _ _ [] (cell_domains cells_new ∷ []) (past_of domains trail) refl past_new (length-past_of domains trail) after;
       },
     )
 
@@ -215,11 +215,11 @@ pub added_one : (cells : List Cell) (trail : List Entry) (new : Cell) → IsKept
     → IsKept (cells ++ new ∷ []) (Added ∷ trail)
     × AddsCell new.domain (view_of cells trail) (Ok (length cells)) (view_of (cells ++ new ∷ []) (Added ∷ trail))
 added_one cells trail new is saved stamp =
-    let domains = domains_of cells in
-    let whole : domains_of (cells ++ new ∷ []) ≡ domains ++ new.domain ∷ [] = map-append (λ c. c.domain) cells (new ∷ []) in
+    let domains = cell_domains cells in
+    let whole : cell_domains (cells ++ new ∷ []) ≡ domains ++ new.domain ∷ [] = map-append (λ c. c.domain) cells (new ∷ []) in
     let count = length-map cells (λ c. c.domain) in
     let long = length-append domains (new.domain ∷ []) in
-    let front : take (length (domains_of (cells ++ new ∷ [])) - 1) (domains_of (cells ++ new ∷ [])) ≡ domains =
+    let front : take (length (cell_domains (cells ++ new ∷ [])) - 1) (cell_domains (cells ++ new ∷ [])) ≡ domains =
     (λ i. take (length (whole i) - 1) (whole i)) ∙ ap (λ n. take n (domains ++ new.domain ∷ [])) (omega arith) ∙ take-append_seam domains (new.domain ∷ []) in (
       record {
         led = (omega (arith, ap length whole, long), subst (λ list. IsTrail list trail) (sym front) is.led);
@@ -251,7 +251,7 @@ added_one cells trail new is saved stamp =
 -- what the cells show now stands at the end of the trail
 pub place-view : (cells : List Cell) (trail : List Entry) (count : ℕ) → count ≡ length trail → IsPlace (view_of cells trail) count (present (view_of cells trail))
 place-view cells [] count is = ([], [], (refl, sym is))
-place-view cells (entry ∷ older) count is = ([], past_of (before entry (domains_of cells)) older, (refl, omega (arith, length-past_of (before entry (domains_of cells)) older)))
+place-view cells (entry ∷ older) count is = ([], past_of (domains_before entry (cell_domains cells)) older, (refl, omega (arith, length-past_of (domains_before entry (cell_domains cells)) older)))
 
 -- what a cell that stays answers
 stays : (cells : List Cell) (trail : List Entry) (cell since : ℕ) (to : Domain) (new : List Cell × List Entry) (change : Change)
@@ -279,7 +279,7 @@ narrows_saving cells trail cell since to (Ok Smaller) new is after saves =
     let behind : Cell = record { domain = saves.left; stamp = stamped saves.was.stamp; saved = length trail + 1 } in
     let long = length-reverse trail in
     let both = saved_once cells (reverse trail) cell since to saves.was saves.left behind is saves.stood saves.kept
-    (omega (arith, length-past_of (domains_of cells) (reverse trail))) refl refl (omega (arith, long)) in
+    (omega (arith, length-past_of (cell_domains cells) (reverse trail))) refl refl (omega (arith, long)) in
     let turned : reverse new.1 ≡ Narrowed cell saves.was.domain saves.was.saved ∷ reverse trail =
     ap reverse saves.trail ∙ reverse-append trail (Narrowed cell saves.was.domain saves.was.saved ∷ []) in
     let P : List Cell → List Entry → Type 0 = λ list entries. IsKept list entries × WritesCell cell to since (view_of cells (reverse trail)) (view_of list entries) in
@@ -297,20 +297,20 @@ one_found cells cell was found below stood read =
     cc
 
 -- the domains that are shown are those of the cells
-pub shown-domains : (cells : List Cell) (trail : List Entry) (shown : Celled) → view_of cells trail ≡ shown → present shown ≡ domains_of cells
+pub shown-domains : (cells : List Cell) (trail : List Entry) (shown : Celled) → view_of cells trail ≡ shown → present shown ≡ cell_domains cells
 shown-domains cells trail shown is = sym (ap present is) ∙ present-view cells trail
 
 -- what was read of a cell is its domain
-pub get-read : (cells : List Cell) (shown : Celled) (cell : ℕ) (found : Cell) (domain : Domain) → present shown ≡ domains_of cells → cell < length cells
+pub get-read : (cells : List Cell) (shown : Celled) (cell : ℕ) (found : Cell) (domain : Domain) → present shown ≡ cell_domains cells → cell < length cells
     → found ≡ slice_index_or cells cell found → domain ≡ found.domain → Some domain ≡ slice_get (present shown) cell
 get-read cells shown cell found domain is below read one =
-    let e : slice_get (domains_of cells) cell ≡ Some (slice_index_or (domains_of cells) cell domain) =
-    slice_get-get_or (domains_of cells) cell domain (omega (arith, length-map cells (λ c. c.domain))) in
-    let same : slice_index_or (domains_of cells) cell domain ≡ found.domain =
+    let e : slice_get (cell_domains cells) cell ≡ Some (slice_index_or (cell_domains cells) cell domain) =
+    slice_get-get_or (cell_domains cells) cell domain (omega (arith, length-map cells (λ c. c.domain))) in
+    let same : slice_index_or (cell_domains cells) cell domain ≡ found.domain =
     get_or-map (λ c. c.domain) cells cell found domain below ∙ ap (λ c. c.domain) (sym read) in
     ap Some (one ∙ sym same) ∙ sym e ∙ ap (λ list. slice_get list cell) (sym is)
 
-pub get-missed : (cells : List Cell) (shown : Celled) (cell : ℕ) → present shown ≡ domains_of cells → (cell < length cells → ⊥) → None ≡ slice_get (present shown) cell
+pub get-missed : (cells : List Cell) (shown : Celled) (cell : ℕ) → present shown ≡ cell_domains cells → (cell < length cells → ⊥) → None ≡ slice_get (present shown) cell
 get-missed cells shown cell is past = elim (cases_lt cell (length cells)) [
   | inl below ↦ absurd (past below)
   | inr above ↦ sym (slice_get_past (present shown) cell (omega (arith, above, ap length is, length-map cells (λ c. c.domain))))

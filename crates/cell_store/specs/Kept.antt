@@ -7,14 +7,14 @@ use Rattle.cell_store.specs.declared.trail.Entry.{Entry}
 use Rattle.cell_store.specs.declared.trail.Entry.TheVariants.{Added, Narrowed}
 
 -- the domains before the entry was made
-abbrev pub before : Entry → List Domain → List Domain
-before Added domains = take (length domains - 1) domains
-before (Narrowed cell former saved) domains = slice_set domains cell former
+abbrev pub domains_before : Entry → List Domain → List Domain
+domains_before Added domains = take (length domains - 1) domains
+domains_before (Narrowed cell former saved) domains = slice_set domains cell former
 
 -- the lists of domains from these back along the trail, whose last entry comes first
 abbrev pub past_of : List Domain → List Entry → List (List Domain)
 past_of domains [] = domains ∷ []
-past_of domains (entry ∷ older) = domains ∷ past_of (before entry domains) older
+past_of domains (entry ∷ older) = domains ∷ past_of (domains_before entry domains) older
 
 -- how many cells there were before the entry was made
 abbrev pub count_before : Entry → ℕ → ℕ
@@ -32,24 +32,24 @@ saved_at count [] cell = 0
 saved_at count (entry ∷ older) cell = if is_about count entry cell then length older + 1 else saved_at (count_before entry count) older cell
 
 -- the entry can have led to these domains: it added the last cell, or took something from a cell
-abbrev pub CanLead : Entry → List Domain → List Entry → Type 0
-CanLead Added domains older = 0 < length domains
-CanLead (Narrowed cell former saved) domains older =
+abbrev pub CanBeEntry : Entry → List Domain → List Entry → Type 0
+CanBeEntry Added domains older = 0 < length domains
+CanBeEntry (Narrowed cell former saved) domains older =
     (cell < length domains) × ((slack (domain_at domains cell) < slack former) × (saved ≡ saved_at (length domains) older cell))
 
 -- each entry can have led to its domains, and before all there was no cell
 abbrev pub IsTrail : List Domain → List Entry → Type 0
 IsTrail domains [] = domains ≡ []
-IsTrail domains (entry ∷ older) = CanLead entry domains older × IsTrail (before entry domains) older
+IsTrail domains (entry ∷ older) = CanBeEntry entry domains older × IsTrail (domains_before entry domains) older
 
-abbrev pub domains_of : List Cell → List Domain
-domains_of cells = map (λ cell. cell.domain) cells
+abbrev pub cell_domains : List Cell → List Domain
+cell_domains cells = map (λ cell. cell.domain) cells
 
 -- what the cells and their trail show
 abbrev pub view_of : List Cell → List Entry → Celled
-view_of cells trail = record { past = past_of (domains_of cells) trail; stamps = map (λ cell. cell.stamp) cells }
+view_of cells trail = record { past = past_of (cell_domains cells) trail; stamps = map (λ cell. cell.stamp) cells }
 
 -- the trail led to the cells, and each of them knows the last entry about it
 pub record IsKept (cells : List Cell) (trail : List Entry) : Type 0 where
-  pub led : IsTrail (domains_of cells) trail
+  pub led : IsTrail (cell_domains cells) trail
   pub saved : (number : ℕ) (cell : Cell) → slice_get cells number ≡ Some cell → cell.saved ≡ saved_at (length cells) trail number

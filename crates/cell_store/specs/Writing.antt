@@ -68,16 +68,16 @@ SavesAt cell to old (Ok Empty) new = StaysAt cell to Empty old new
 SavesAt cell to old (Err none) new = (new.0 ≡ old.0) × (new.1 ≡ old.1)
 
 -- the entry is taken back: the last cell goes, or a cell has its former domain, and one write more
-abbrev pub TakesBack : Entry → List Cell → List Cell → Type 0
-TakesBack Added old new = (last : Cell) × (old ≡ new ++ last ∷ [])
-TakesBack (Narrowed cell former saved) old new =
+abbrev pub UndoesEntry : Entry → List Cell → List Cell → Type 0
+UndoesEntry Added old new = (last : Cell) × (old ≡ new ++ last ∷ [])
+UndoesEntry (Narrowed cell former saved) old new =
     (was : Cell) × ((slice_get old cell ≡ Some was) × (new ≡ slice_set old cell (record { domain = former; stamp = stamped was.stamp; saved = saved })))
 
 -- the last entry of the trail is taken back
 pub record StepsBack (old new : List Cell × List Entry) : Type 0 where
   pub entry : Entry
   pub trail : old.1 ≡ new.1 ++ entry ∷ []
-  pub cells : TakesBack entry old.0 new.0
+  pub cells : UndoesEntry entry old.0 new.0
 
 -- the cells and their trail went back until the trail had this length
 pub record ReturnsTo (behind : ℕ) (old new : List Cell × List Entry) : Type 0 where

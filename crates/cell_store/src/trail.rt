@@ -2,7 +2,7 @@
 
 ghost use Rattle.std.specs.Prelude.{◌<◌, ◌≤◌, length, reverse, vec_len};
 ghost use Rattle.cell_store.specs.Kept.{IsKept};
-ghost use Rattle.cell_store.specs.Writing.{MeetsCell, MeetsBehind, MeetsAt, SavesAt, StepsBack, TakesBack, ReturnsTo};
+ghost use Rattle.cell_store.specs.Writing.{MeetsCell, MeetsBehind, MeetsAt, SavesAt, StepsBack, UndoesEntry, ReturnsTo};
 ghost use Rattle.cell_store.specs.declared.trail.Entry.TheVariants.{Narrowed};
 
 use domain_core::Change;
@@ -128,7 +128,7 @@ fn step_back(cells: &mut Vec<Cell>, trail: &mut Vec<Entry>)
 // Gives the cell a former domain again.
 fn restore(cells: &mut Vec<Cell>, cell: usize, former: Dom, saved: usize)
     requires { cell < length cells.old.items }
-    ensures { TakesBack (Narrowed cell former saved) cells.old.items cells.new.items }
+    ensures { UndoesEntry (Narrowed cell former saved) cells.old.items cells.new.items }
 {
     let found = &mut cells[cell];
     found.domain = former;

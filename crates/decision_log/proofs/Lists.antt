@@ -7,7 +7,7 @@ use Rattle.model_core.specs.History.{History, standing, accepted}
 use Rattle.decision_log.specs.declared.steps.Step.{Step}
 use Rattle.decision_log.specs.declared.steps.Step.TheVariants.{Push, Take}
 use Rattle.decision_log.specs.declared.steps.Taken.{Taken}
-use Rattle.decision_log.specs.Kept.{put_back, HavePlaces, before, lists_of, CanLead, AreSteps}
+use Rattle.decision_log.specs.Kept.{put_back, HavePlaces, list_before, lists_of, CanLeadTo, AreLogSteps}
 use Rattle.decision_log.specs.Undoing.{Undoes, Pops, IsFormer, CopiesFormer}
 use Rattle.decision_log.specs.declared.LogFault.{LogFault}
 use Rattle.decision_log.specs.declared.LogFault.TheVariants.{Memory}
@@ -20,12 +20,12 @@ standing-lists_of decisions (step ∷ older) = refl
 
 pub length-lists_of : (decisions : List Decision) (steps : List Step) → length (lists_of decisions steps) ≡ length steps + 1
 length-lists_of decisions [] = refl
-length-lists_of decisions (step ∷ older) = omega (arith, length-lists_of (before step decisions) older)
+length-lists_of decisions (step ∷ older) = omega (arith, length-lists_of (list_before step decisions) older)
 
 -- a list of lists begins with its standing one
 pub lists_on : (decisions : List Decision) (steps : List Step) → (rest : History) × (lists_of decisions steps ≡ decisions ∷ rest)
 lists_on decisions [] = ([], refl)
-lists_on decisions (step ∷ older) = (lists_of (before step decisions) older, refl)
+lists_on decisions (step ∷ older) = (lists_of (list_before step decisions) older, refl)
 
 -- what was put at the end is taken off
 pub before-push : (decisions : List Decision) (decision : Decision) → take (length (decisions ++ decision ∷ []) - 1) (decisions ++ decision ∷ []) ≡ decisions
@@ -34,14 +34,14 @@ before-push decisions decision =
     ap (λ n. take n (decisions ++ decision ∷ [])) one ∙ take-append_seam decisions (decision ∷ [])
 
 -- there is room for the list itself
-pub room_for : (room : ℕ) (decisions : List Decision) (steps : List Step) → AreSteps room decisions steps → length decisions ≤ room
+pub room_for : (room : ℕ) (decisions : List Decision) (steps : List Step) → AreLogSteps room decisions steps → length decisions ≤ room
 room_for room decisions [] are = omega (arith, ap length are)
 room_for room decisions (step ∷ older) are = are.1
 
 -- more room is enough too
-pub more_room : (room more : ℕ) (decisions : List Decision) (steps : List Step) → room ≤ more → AreSteps room decisions steps → AreSteps more decisions steps
+pub more_room : (room more : ℕ) (decisions : List Decision) (steps : List Step) → room ≤ more → AreLogSteps room decisions steps → AreLogSteps more decisions steps
 more_room room more decisions [] le are = are
-more_room room more decisions (step ∷ older) le are = (are.0, omega arith, more_room room more (before step decisions) older le are.2)
+more_room room more decisions (step ∷ older) le are = (are.0, omega arith, more_room room more (list_before step decisions) older le are.2)
 
 -- the last step is the first of those that are gone back
 pub reverse-last : (steps : List Step) (step : Step) → reverse (steps ++ step ∷ []) ≡ step ∷ reverse steps
@@ -56,46 +56,46 @@ pushed_lists decisions steps decision =
     ∙ ap (λ list. (list ++ decision ∷ []) ∷ lists_of decisions (reverse steps)) (sym (standing-lists_of decisions (reverse steps)))
 
 pub pushed_steps : (room more : ℕ) (decisions : List Decision) (steps : List Step) (decision : Decision)
-    → AreSteps room decisions (reverse steps) → room ≤ more → length (decisions ++ decision ∷ []) ≤ more
-    → AreSteps more (decisions ++ decision ∷ []) (reverse (steps ++ Push ∷ []))
+    → AreLogSteps room decisions (reverse steps) → room ≤ more → length (decisions ++ decision ∷ []) ≤ more
+    → AreLogSteps more (decisions ++ decision ∷ []) (reverse (steps ++ Push ∷ []))
 pushed_steps room more decisions steps decision are le fits =
-    subst (AreSteps more (decisions ++ decision ∷ [])) (sym (reverse-last steps Push))
-    (omega (arith, length-append decisions (decision ∷ [])), fits, subst (λ list. AreSteps more list (reverse steps)) (sym (before-push decisions decision)) (more_room room more decisions (reverse steps) le are))
+    subst (AreLogSteps more (decisions ++ decision ∷ [])) (sym (reverse-last steps Push))
+    (omega (arith, length-append decisions (decision ∷ [])), fits, subst (λ list. AreLogSteps more list (reverse steps)) (sym (before-push decisions decision)) (more_room room more decisions (reverse steps) le are))
 
 -- a list that taking decisions out led to
-pub taken_lists : (old decisions : List Decision) (steps : List Step) (step : Step) → before step decisions ≡ old
+pub taken_lists : (old decisions : List Decision) (steps : List Step) (step : Step) → list_before step decisions ≡ old
     → lists_of decisions (reverse (steps ++ step ∷ [])) ≡ decisions ∷ lists_of old (reverse steps)
 taken_lists old decisions steps step back =
     ap (lists_of decisions) (reverse-last steps step) ∙ ap (λ list. decisions ∷ lists_of list (reverse steps)) back
 
-pub taken_steps : (room : ℕ) (old decisions : List Decision) (steps : List Step) (step : Step) → before step decisions ≡ old
-    → CanLead step decisions → length decisions ≤ room → AreSteps room old (reverse steps)
-    → AreSteps room decisions (reverse (steps ++ step ∷ []))
+pub taken_steps : (room : ℕ) (old decisions : List Decision) (steps : List Step) (step : Step) → list_before step decisions ≡ old
+    → CanLeadTo step decisions → length decisions ≤ room → AreLogSteps room old (reverse steps)
+    → AreLogSteps room decisions (reverse (steps ++ step ∷ []))
 taken_steps room old decisions steps step back can fits are =
-    subst (AreSteps room decisions) (sym (reverse-last steps step)) (can, fits, subst (λ list. AreSteps room list (reverse steps)) (sym back) are)
+    subst (AreLogSteps room decisions) (sym (reverse-last steps step)) (can, fits, subst (λ list. AreLogSteps room list (reverse steps)) (sym back) are)
 
 -- what a list was led to by, and from where
 pub record IsLed (room : ℕ) (decisions : List Decision) (steps left : List Step) (step : Step) : Type 0 where
-  pub lists : lists_of decisions (reverse steps) ≡ decisions ∷ lists_of (before step decisions) (reverse left)
-  pub can : CanLead step decisions
-  pub are : AreSteps room (before step decisions) (reverse left)
-  pub fits : length (before step decisions) ≤ room
+  pub lists : lists_of decisions (reverse steps) ≡ decisions ∷ lists_of (list_before step decisions) (reverse left)
+  pub can : CanLeadTo step decisions
+  pub are : AreLogSteps room (list_before step decisions) (reverse left)
+  pub fits : length (list_before step decisions) ≤ room
 
 pub led_by : (room : ℕ) (decisions : List Decision) (steps left : List Step) (step : Step) → steps ≡ left ++ step ∷ []
-    → AreSteps room decisions (reverse steps) → IsLed room decisions steps left step
+    → AreLogSteps room decisions (reverse steps) → IsLed room decisions steps left step
 led_by room decisions steps left step split are =
     let turned : reverse steps ≡ step ∷ reverse left = ap reverse split ∙ reverse-last left step in
-    let led = subst (AreSteps room decisions) turned are in
+    let led = subst (AreLogSteps room decisions) turned are in
     record {
       lists = ap (lists_of decisions) turned;
       can = led.0;
       are = led.2;
-      fits = room_for room (before step decisions) (reverse left) led.2;
+      fits = room_for room (list_before step decisions) (reverse left) led.2;
     }
 
 -- so undoing the step brings the list before it back
 pub undoes_to : (room : ℕ) (decisions : List Decision) (steps left : List Step) (step : Step) (new : List Decision)
-    → IsLed room decisions steps left step → new ≡ before step decisions
+    → IsLed room decisions steps left step → new ≡ list_before step decisions
     → Undoes (lists_of decisions (reverse steps)) (Ok tt) (lists_of new (reverse left))
 undoes_to room decisions steps left step new led is =
     let on = lists_on new (reverse left) in
@@ -105,8 +105,8 @@ undoes_to room decisions steps left step new led is =
 
 -- what popping leaves is the front
 pub popped : (decisions new : List Decision) (last : Option Decision) → decisions ≡ new ++ option_to_list last → (last ≡ None → length decisions ≡ 0)
-    → 0 < length decisions → new ≡ before Push decisions
-popped decisions new (Some decision) split none some = sym (ap (before Push) split ∙ before-push new decision)
+    → 0 < length decisions → new ≡ list_before Push decisions
+popped decisions new (Some decision) split none some = sym (ap (list_before Push) split ∙ before-push new decision)
 popped decisions new None split none some = absurd (omega (arith, none refl))
 
 -- and what comes off is the decision that was accepted
@@ -152,12 +152,12 @@ ends_with (first ∷ second ∷ more) last is =
 
 -- the list before the last step is the one before the standing one
 pub former_by : (room : ℕ) (decisions : List Decision) (steps left : List Step) (step : Step) → IsLed room decisions steps left step
-    → IsFormer (lists_of decisions (reverse steps)) (before step decisions)
+    → IsFormer (lists_of decisions (reverse steps)) (list_before step decisions)
 former_by room decisions steps left step led =
-    let on = lists_on (before step decisions) (reverse left) in (
+    let on = lists_on (list_before step decisions) (reverse left) in (
       on.0,
       led.lists ∙ ap (λ lists. decisions ∷ lists) on.1
-          ∙ ap (λ list. list ∷ before step decisions ∷ on.0) (sym (standing-lists_of decisions (reverse steps))),
+          ∙ ap (λ list. list ∷ list_before step decisions ∷ on.0) (sym (standing-lists_of decisions (reverse steps))),
     )
 
 -- what a list of copies is, by an equal list

@@ -7,8 +7,8 @@ use Rattle.model_core.specs.History.{History}
 use Rattle.decision_log.specs.declared.steps.Step.{Step}
 use Rattle.decision_log.specs.declared.steps.Step.TheVariants.{Push, Take}
 use Rattle.decision_log.specs.declared.steps.Taken.{Taken}
-use Rattle.decision_log.specs.Kept.{put_back, AreBelow, HavePlaces, before, lists_of, CanLead, AreSteps}
-use Rattle.decision_log.specs.Taking.{kept_of, LeadsFrom, TakesFirst, TellsStep}
+use Rattle.decision_log.specs.Kept.{put_back, AreBelow, HavePlaces, list_before, lists_of, CanLeadTo, AreLogSteps}
+use Rattle.decision_log.specs.Taking.{kept_of, LedByStep, TakesFirst, TellsStep}
 use Rattle.decision_log.specs.declared.log.LogStep.TheVariants as seen
 use Rattle.decision_log.proofs.Places.{IsCut, cut_at, AreFrom, places_left, put_back-last}
 use Rattle.decision_log.proofs.Lists.{lists_on, length-lists_of}
@@ -16,20 +16,20 @@ use Rattle.decision_log.proofs.Lists.{lists_on, length-lists_of}
 -- a step of the log with the lists that it leads between
 pub record IsStepBetween (history : History) (number : ℕ) (step : Step) : Type 0 where
   pub after : List Decision
-  pub can : CanLead step after
-  pub leads : LeadsFrom history number (before step after) after
+  pub can : CanLeadTo step after
+  pub leads : LedByStep history number (list_before step after) after
 
 pub leads_between : (room : ℕ) (decisions : List Decision) (newer : List Step) (step : Step) (older : List Step)
-    → AreSteps room decisions (newer ++ step ∷ older) → IsStepBetween (lists_of decisions (newer ++ step ∷ older)) (length older) step
+    → AreLogSteps room decisions (newer ++ step ∷ older) → IsStepBetween (lists_of decisions (newer ++ step ∷ older)) (length older) step
 leads_between room decisions [] step older are =
-    let on = lists_on (before step decisions) older in
+    let on = lists_on (list_before step decisions) older in
     record {
       after = decisions;
       can = are.0;
-      leads = ([], on.0, (ap (λ lists. decisions ∷ lists) on.1, omega (arith, ap length on.1, length-lists_of (before step decisions) older)));
+      leads = ([], on.0, (ap (λ lists. decisions ∷ lists) on.1, omega (arith, ap length on.1, length-lists_of (list_before step decisions) older)));
     }
 leads_between room decisions (first ∷ newer) step older are =
-    let rest = leads_between room (before first decisions) newer step older are.2 in
+    let rest = leads_between room (list_before first decisions) newer step older are.2 in
     record {
       after = rest.after;
       can = rest.can;
@@ -38,7 +38,7 @@ leads_between room decisions (first ∷ newer) step older are =
 
 -- the step at a place, counted from the oldest
 pub step_between : (room : ℕ) (decisions : List Decision) (steps : List Step) (number : ℕ) → (cut : IsCut steps number) → number < length steps
-    → AreSteps room decisions (reverse steps) → IsStepBetween (lists_of decisions (reverse steps)) number cut.here
+    → AreLogSteps room decisions (reverse steps) → IsStepBetween (lists_of decisions (reverse steps)) number cut.here
 step_between room decisions steps number cut below are =
     let older = take number steps in
     let newer = drop (number + 1) steps in
@@ -49,7 +49,7 @@ step_between room decisions steps number cut below are =
     let long : length (reverse older) ≡ number = length-reverse older ∙ length-take number steps ∙ omega arith in
     subst (λ n. IsStepBetween (lists_of decisions (reverse steps)) n cut.here) long
     (subst (λ list. IsStepBetween (lists_of decisions list) (length (reverse older)) cut.here) (sym turned)
-    (leads_between room decisions (reverse newer) cut.here (reverse older) (subst (AreSteps room decisions) turned are)))
+    (leads_between room decisions (reverse newer) cut.here (reverse older) (subst (AreLogSteps room decisions) turned are)))
 
 -- with each flag set all are kept
 pub kept-all : (decisions : List Decision) → kept_of (replicate (length decisions) true) decisions ≡ decisions
@@ -150,18 +150,18 @@ tells_push history number between =
     let after = between.after in
     let last = slice_index_or after (length after - 1) (some_last after between.can) in
     let whole = ends_at after (some_last after between.can) between.can in
-    (take (length after - 1) after, (last, subst (LeadsFrom history number (take (length after - 1) after)) whole between.leads))
+    (take (length after - 1) after, (last, subst (LedByStep history number (take (length after - 1) after)) whole between.leads))
 
 -- and one that took decisions out, by the last of them that it keeps
 pub tells_take : (history : History) (number : ℕ) (taken : Vec Taken Global) (last : Taken)
     → IsStepBetween history number (Take taken) → last ≡ slice_index_or taken.items (length taken.items - 1) last
-    → (one after : List Decision) × (LeadsFrom history number one after × TakesFirst one last.decision after)
+    → (one after : List Decision) × (LedByStep history number one after × TakesFirst one last.decision after)
 tells_take history number taken last between is =
     let more = take (length taken.items - 1) taken.items in
     let whole : taken.items ≡ more ++ last ∷ [] = ends_at taken.items last between.can.0 ∙ ap (λ t. more ++ t ∷ []) (sym is) in
     let after = between.after in
     let takes = takes_first more last after (subst (λ list. HavePlaces list after) whole between.can.1) in (
-      before (Take taken) after,
+      list_before (Take taken) after,
       after,
       (
         between.leads,

@@ -12,14 +12,14 @@ put_back [] decisions = decisions
 put_back (taken ∷ more) decisions = insert (put_back more decisions) taken.place taken.decision
 
 -- the list before the step that led to this one
-abbrev pub before : Step → List Decision → List Decision
-before Push decisions = take (length decisions - 1) decisions
-before (Take taken) decisions = put_back taken.items decisions
+abbrev pub list_before : Step → List Decision → List Decision
+list_before Push decisions = take (length decisions - 1) decisions
+list_before (Take taken) decisions = put_back taken.items decisions
 
 -- the lists that stood, from the standing one back along the steps, the last of which comes first
 abbrev pub lists_of : List Decision → List Step → History
 lists_of decisions [] = decisions ∷ []
-lists_of decisions (step ∷ older) = decisions ∷ lists_of (before step decisions) older
+lists_of decisions (step ∷ older) = decisions ∷ lists_of (list_before step decisions) older
 
 -- they have lower places than this one
 abbrev pub AreBelow : ℕ → List Taken → Type 0
@@ -33,11 +33,11 @@ HavePlaces (taken ∷ more) decisions =
     (taken.place ≤ length (put_back more decisions)) × (AreBelow taken.place more × HavePlaces more decisions)
 
 -- the step can have led to the list
-abbrev pub CanLead : Step → List Decision → Type 0
-CanLead Push decisions = 0 < length decisions
-CanLead (Take taken) decisions = (0 < length taken.items) × HavePlaces taken.items decisions
+abbrev pub CanLeadTo : Step → List Decision → Type 0
+CanLeadTo Push decisions = 0 < length decisions
+CanLeadTo (Take taken) decisions = (0 < length taken.items) × HavePlaces taken.items decisions
 
 -- each step can have led to its list, at the bottom nothing is decided, and there is room for each of the lists
-abbrev pub AreSteps : ℕ → List Decision → List Step → Type 0
-AreSteps room decisions [] = decisions ≡ []
-AreSteps room decisions (step ∷ older) = CanLead step decisions × (length decisions ≤ room) × AreSteps room (before step decisions) older
+abbrev pub AreLogSteps : ℕ → List Decision → List Step → Type 0
+AreLogSteps room decisions [] = decisions ≡ []
+AreLogSteps room decisions (step ∷ older) = CanLeadTo step decisions × (length decisions ≤ room) × AreLogSteps room (list_before step decisions) older

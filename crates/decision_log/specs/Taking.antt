@@ -13,8 +13,8 @@ kept_of (true ∷ flags) (decision ∷ decisions) = decision ∷ kept_of flags d
 kept_of (false ∷ flags) (decision ∷ decisions) = kept_of flags decisions
 
 -- the step of this number, counted from the oldest, led from the one list to the other
-abbrev pub LeadsFrom : History → ℕ → List Decision → List Decision → Type 0
-LeadsFrom history number before after =
+abbrev pub LedByStep : History → ℕ → List Decision → List Decision → Type 0
+LedByStep history number before after =
     (newer older : History) × ((history ≡ newer ++ after ∷ before ∷ older) × (length older ≡ number))
 
 -- some decisions were taken out of a list, of which this one stood first
@@ -27,6 +27,6 @@ TakesFirst before decision after =
 abbrev pub TellsStep : History → ℕ → Option LogStep → Type 0
 TellsStep history number None = length history ≤ number + 1
 TellsStep history number (Some Push) =
-    (before : List Decision) × ((decision : Decision) × LeadsFrom history number before (before ++ decision ∷ []))
+    (before : List Decision) × ((decision : Decision) × LedByStep history number before (before ++ decision ∷ []))
 TellsStep history number (Some (Take decision)) =
-    (before after : List Decision) × (LeadsFrom history number before after × TakesFirst before decision.now after)
+    (before after : List Decision) × (LedByStep history number before after × TakesFirst before decision.now after)

@@ -34,13 +34,13 @@ pub enum LogStep<'a> {
 impl Model for Log {
     ghost use Rattle.std.specs.Prelude.{reverse, vec_capacity};
     ghost use Rattle.model_core.specs.History.{History};
-    ghost use Rattle.decision_log.specs.Kept.{lists_of, AreSteps};
+    ghost use Rattle.decision_log.specs.Kept.{lists_of, AreLogSteps};
 
     ghost Value = { History };
 
     ghost view = { λ log. lists_of log.decisions.items (reverse log.steps.items) };
 
-    ghost invariant = { λ log. AreSteps (vec_capacity log.decisions) log.decisions.items (reverse log.steps.items) };
+    ghost invariant = { λ log. AreLogSteps (vec_capacity log.decisions) log.decisions.items (reverse log.steps.items) };
 }
 
 impl Log {

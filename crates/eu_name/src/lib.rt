@@ -1,7 +1,7 @@
 //! Texts, bytes and lists as contracts see them, and the names of tokens and variables with their order and their
 //! spelling.
 //!
-//! `read_name(alloc, b"g/0:2.start")?` is the name of the start of the token in slot 2 of rule 0 of `g`, and
+//! `read_name(alloc, b"g/0:2.start")?` is the name of the start of a subgoal of `g`, that of slot 2 in its first rule, and
 //! `write_name(alloc, &name)?` gives these bytes back.
 #![tactic(auto)]
 

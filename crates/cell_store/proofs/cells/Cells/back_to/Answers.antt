@@ -1,7 +1,7 @@
 use Rattle.std.proofs.Common.{◌≡◌, ◌<◌, ◌+◌, reverse, length, sym, ap, ◌∙◌, subst, arith}
 use Rattle.std.proofs.lemmas.List.{length-reverse}
 use Rattle.cell_store.specs.Cells.{GoesBack}
-use Rattle.cell_store.specs.Kept.{view_of, domains_of}
+use Rattle.cell_store.specs.Kept.{view_of, cell_domains}
 use Rattle.cell_store.proofs.Rewriting.{length-past_of}
 use Rattle.cell_store.proofs.cells.Cells.back_to.Goals as goal
 
@@ -12,7 +12,7 @@ go_back-requires-clause-long c =
       arith,
       c.requires,
       ap (λ view. length view.past) c.self.view_is,
-      length-past_of (domains_of c.self.inside.cells.items) (reverse trail),
+      length-past_of (cell_domains c.self.inside.cells.items) (reverse trail),
       length-reverse trail,
       c.self.inside.trail.ok.0,
       c.mark.view_is,

@@ -1,6 +1,6 @@
 use Rattle.std.proofs.Common.{◌≡◌, ◌<◌, ◌+◌, ◌++◌, ◌∷◌, [], None, length, refl, sym, ap, ◌∙◌, subst, reverse, arith}
 use Rattle.decision_log.specs.declared.steps.Step.TheVariants.{Push, Take}
-use Rattle.decision_log.specs.Kept.{before, lists_of, put_back}
+use Rattle.decision_log.specs.Kept.{list_before, lists_of, put_back}
 use Rattle.decision_log.proofs.Lists.{led_by, pops_to, popped, not_pushed, lists_on}
 use Rattle.decision_log.proofs.Places.{length-put_back}
 use Rattle.decision_log.proofs.log.Log.pop.Goals as goal
@@ -16,7 +16,7 @@ returns-in-Some-Push c =
     let none : c.pop-in-Some-Push.result ≡ None → length decisions ≡ 0 = λ none.
     let both = rw none at c.pop-in-Some-Push.ensures.cases in
     omega (arith, both.0, c.self.inside.decisions.ok.0) in
-    let is : new ≡ before Push decisions = popped decisions new c.pop-in-Some-Push.result c.pop-in-Some-Push.ensures.items none led.can in
+    let is : new ≡ list_before Push decisions = popped decisions new c.pop-in-Some-Push.result c.pop-in-Some-Push.ensures.items none led.can in
     rw (← c.self.view_is)
     (pops_to decisions new c.self.inside.steps.items left c.pop-in-Some-Push.result c.pop-in-Some-Push.ensures.items none led.can
     (led.lists ∙ ap (λ list. decisions ∷ lists_of list (reverse left)) (sym is)))
