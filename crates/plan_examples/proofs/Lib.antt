@@ -1,6 +1,7 @@
 pub mod Lists
 pub mod Tuples
 pub mod Scenes
+pub mod Rows
 pub mod Closed
 pub mod Variables
 pub mod Casts

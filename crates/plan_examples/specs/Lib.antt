@@ -1,3 +1,4 @@
 pub mod Globals
 pub mod Scenes
 pub mod Cases
+pub mod Relations

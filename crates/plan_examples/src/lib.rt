@@ -4,4 +4,5 @@
 #![tactic(auto)]
 
 pub mod globals;
+pub mod relations;
 pub mod tokens;
