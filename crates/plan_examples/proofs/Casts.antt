@@ -11,6 +11,7 @@ use Rattle.model_core.specs.declared.class.Pred.{Pred}
 use Rattle.model_core.specs.declared.class.PredKind.{PredKind}
 use Rattle.model_core.specs.declared.decision.Decision.{Decision}
 use Rattle.model_core.specs.declared.decision.Decision.TheVariants.{Activate}
+use Rattle.model_core.specs.declared.item.Item.{Item}
 use Rattle.model_core.specs.declared.model.Model.{Model}
 use Rattle.model_core.specs.declared.model.RootKind.{RootKind}
 use Rattle.model_core.specs.declared.rule.Rule.{Rule}
@@ -24,7 +25,7 @@ use Rattle.plan_defs.specs.Situations.{situation_of}
 use Rattle.plan_defs.specs.Support.{IsSupportedToken, IsSupportedBlock}
 use Rattle.plan_defs.specs.Timelines.{FitTimelines}
 use Rattle.plan_defs.proofs.Ordered.{contains_none}
-use Rattle.plan_examples.specs.Scenes.{predicate_of, root_of, scene, Moment, exactly, guarded}
+use Rattle.plan_examples.specs.Scenes.{predicate_of, root_of, scene_with, Moment, exactly, guarded}
 use Rattle.plan_examples.specs.Globals.{up_to}
 use Rattle.plan_examples.proofs.Closed.{IsMoment, IsPlain}
 use Rattle.plan_examples.proofs.Lists.{only_member, same_some}
@@ -65,9 +66,9 @@ one_decided one plain decision c = subst IsPlain (only_member one decision c) pl
 
 -- ---- scenes
 
-module _ (object_kind : ObjectKind) (pred_kind : PredKind) (numbers : List ℕ) (rules : List Rule) (kinds : List RootKind) where
+module _ (items : List Item) (object_kind : ObjectKind) (pred_kind : PredKind) (numbers : List ℕ) (rules : List Rule) (kinds : List RootKind) where
   abbrev model : Model
-  model = scene object_kind pred_kind numbers rules kinds
+  model = scene_with items object_kind pred_kind numbers rules kinds
 
   -- there is one object
   pub kind_of : (value : ℤ) (object : classes.Object) → IsObject model value object → object.kind ≡ object_kind
@@ -97,14 +98,17 @@ module _ (object_kind : ObjectKind) (pred_kind : PredKind) (numbers : List ℕ) 
     asked = λ front step back e. absurd (omega (arith, ap length e, length-append front (step ∷ back)));
   }
 
-pub no_rule : (object_kind : ObjectKind) (pred_kind : PredKind) (rules : List Rule) (kinds : List RootKind) (number : ℕ) (rule : Rule) → HasRule (scene object_kind pred_kind [] rules kinds) 0 number rule → rule ≡ guarded
-no_rule object_kind pred_kind rules kinds number rule p =
+pub nothing_listed : (items : List Item) (object_kind : ObjectKind) (pred_kind : PredKind) (rules : List Rule) (kinds : List RootKind) (number : ℕ) (rule : Rule) → HasRule (scene_with items object_kind pred_kind [] rules kinds) 0 number rule → ⊥
+nothing_listed items object_kind pred_kind rules kinds number rule p =
     let predicate : predicate_of pred_kind [] ≡ p.predicate = same_some (predicate_of pred_kind []) p.predicate p.is_predicate in
     let listed = subst (λ (q : Pred). slice_get q.rules number ≡ Some p.place) (sym predicate) p.listed in
     absurd (cc)
 
-pub one_rule : (object_kind : ObjectKind) (pred_kind : PredKind) (kinds : List RootKind) (number : ℕ) (rule : Rule) → HasRule (scene object_kind pred_kind (0 ∷ []) (guarded ∷ []) kinds) 0 number rule → (rule ≡ guarded) × (number ≡ 0)
-one_rule object_kind pred_kind kinds number rule p =
+pub no_rule : (items : List Item) (object_kind : ObjectKind) (pred_kind : PredKind) (rules : List Rule) (kinds : List RootKind) (number : ℕ) (rule : Rule) → HasRule (scene_with items object_kind pred_kind [] rules kinds) 0 number rule → rule ≡ guarded
+no_rule items object_kind pred_kind rules kinds number rule p = absurd (nothing_listed items object_kind pred_kind rules kinds number rule p)
+
+pub one_rule : (items : List Item) (object_kind : ObjectKind) (pred_kind : PredKind) (kinds : List RootKind) (number : ℕ) (rule : Rule) → HasRule (scene_with items object_kind pred_kind (0 ∷ []) (guarded ∷ []) kinds) 0 number rule → (rule ≡ guarded) × (number ≡ 0)
+one_rule items object_kind pred_kind kinds number rule p =
     let predicate : predicate_of pred_kind (0 ∷ []) ≡ p.predicate = same_some (predicate_of pred_kind (0 ∷ [])) p.predicate p.is_predicate in
     at number p.place (subst (λ (q : Pred). slice_get q.rules number ≡ Some p.place) (sym predicate) p.listed) p.is_rule
   where

@@ -16,6 +16,7 @@ use Rattle.model_core.specs.declared.class.Pred.{Pred}
 use Rattle.model_core.specs.declared.class.PredKind.{PredKind}
 use Rattle.model_core.specs.declared.decision.Decision.{Decision}
 use Rattle.model_core.specs.declared.decision.Decision.TheVariants.{Specify, Activate, Merge, Reject, Order}
+use Rattle.model_core.specs.declared.item.Item.{Item}
 use Rattle.model_core.specs.declared.item.Kind.TheVariants.{AddEq}
 use Rattle.model_core.specs.declared.model.Model.{Model}
 use Rattle.model_core.specs.declared.model.RootKind.{RootKind}
@@ -34,7 +35,8 @@ use Rattle.model_core.specs.Entries.{Entries, NoEntry}
 use Rattle.model_core.specs.State.{State, VarDomain, Gives, IsAbout, IsState}
 use Rattle.model_core.specs.Tokens.{HasToken, HasRule, root_token, slot_of}
 use Rattle.model_core.specs.Variables.{HasBase, HasPartBase, IsInBase}
-use Rattle.plan_defs.specs.Claims.{Claim, IsClaim, lasts}
+use Rattle.model_core.specs.Decided.{IsTaken}
+use Rattle.plan_defs.specs.Claims.{Claim, IsClaim, IsOfProblem, IsOfMerge, IsOfOrder, lasts}
 use Rattle.plan_defs.specs.Closure.{IsClosed, AreInBase, IsRespected}
 use Rattle.plan_defs.specs.Consistency.{IsClaimConsistent}
 use Rattle.plan_defs.specs.Resources.{FitReusables, FitReservoirs}
@@ -43,7 +45,7 @@ use Rattle.plan_defs.specs.Support.{Opens, IsSupportedToken, IsSupportedBlock}
 use Rattle.plan_defs.specs.Terms.{InRule}
 use Rattle.plan_defs.specs.Timelines.{FitTimelines}
 use Rattle.plan_defs.proofs.Ordered.{contains_none}
-use Rattle.plan_examples.specs.Scenes.{the_object, predicate_of, root_of, scene, Moment, exactly, tokens_of, scene_entries, scene_state, guarded}
+use Rattle.plan_examples.specs.Scenes.{the_object, predicate_of, root_of, scene, scene_with, Moment, exactly, tokens_of, scene_entries, scene_state, guarded}
 use Rattle.plan_examples.proofs.Lists.{all_members, only_member, same_some, get_map, map_get, get_alike}
 use Rattle.plan_examples.proofs.Scenes.{tokens_in_order, entries_in_order, HasPartDomain, entry_of, entry_there, token_of, token_there}
 use Rattle.plan_examples.proofs.Tuples.{three_consistent}
@@ -85,11 +87,11 @@ only_guards entries item (inl top) c =
     (_, (NoEntry, NoEntry, sym same))
 only_guards entries item (inr none) c = absurd (contains_none item (subst (λ e. Contains (direct e) item) none c))
 
-module _ (object_kind : ObjectKind) (pred_kind : PredKind) (numbers : List ℕ) (rules : List Rule) (kinds : List RootKind) where
+module _ (items : List Item) (object_kind : ObjectKind) (pred_kind : PredKind) (numbers : List ℕ) (rules : List Rule) (kinds : List RootKind) where
   abbrev model : Model
-  model = scene object_kind pred_kind numbers rules kinds
+  model = scene_with items object_kind pred_kind numbers rules kinds
 
-  abbrev the_slot : Slot
+  abbrev pub the_slot : Slot
   the_slot = record { pred = 0; object = Given the_object }
 
   -- what a token of the scene is, is always the same
@@ -118,7 +120,7 @@ module _ (object_kind : ObjectKind) (pred_kind : PredKind) (numbers : List ℕ) 
   has_part_base moment (Param (suc number)) domain is = absurd is
 
   -- a part that has a base has a domain at each moment
-  part_domain : (moment : Moment) (part : Part) (base : Base) → HasPartBase model the_slot part base → (domain : Domain) × HasPartDomain moment part domain
+  pub part_domain : (moment : Moment) (part : Part) (base : Base) → HasPartBase model the_slot part base → (domain : Domain) × HasPartDomain moment part domain
   part_domain moment Object base is = (the_object, refl)
   part_domain moment Start base is = (exactly moment.start, refl)
   part_domain moment End base is = (exactly (moment.start + moment.duration), refl)
@@ -151,7 +153,7 @@ module _ (object_kind : ObjectKind) (pred_kind : PredKind) (numbers : List ℕ) 
     few = omega arith;
   }
 
-  part_is_domain : (moment : Moment) (part : Part) (domain : Domain) → IsMoment moment → HasPartDomain moment part domain → IsDomain domain
+  pub part_is_domain : (moment : Moment) (part : Part) (domain : Domain) → IsMoment moment → HasPartDomain moment part domain → IsDomain domain
   part_is_domain moment Object domain ok is = subst IsDomain (sym is) object_domain
   part_is_domain moment Start domain ok is = subst IsDomain (sym is) (only_domain moment.start (omega (arith, ok.ends)))
   part_is_domain moment End domain ok is = subst IsDomain (sym is) (only_domain (moment.start + moment.duration) (omega (arith, ok.ends)))
@@ -275,40 +277,69 @@ module _ (object_kind : ObjectKind) (pred_kind : PredKind) (numbers : List ℕ) 
         one_value number v (inl e) P p = subst P (sym e) p
         one_value number v (inr e) P p = subst P (sym e) p
 
-    claims : (decisions : List Decision) → ((decision : Decision) → Contains decisions decision → IsPlain decision) → All (HasItsBlock moments) blocks → (claim : Claim) → IsClaim model decisions state claim → IsClaimConsistent model state claim
-    claims decisions quiet blocks_ok claim (inl p) = absurd (contains_none p.item p.stands)
-    claims decisions quiet blocks_ok claim (inr (inl p)) =
+    -- what else the decisions and the problem ask for: the values that are specified, and what constraints, merges and orders say
+    pub record Grants (decisions : List Decision) : Type 0 where
+      pub respected : (decision : Decision) → Contains decisions decision → IsRespected decision state
+      pub said : (claim : Claim) → IsOfProblem model (IsTaken decisions) claim → IsClaimConsistent model state claim
+      pub merged : (claim : Claim) → IsOfMerge model decisions claim → IsClaimConsistent model state claim
+      pub ordered : (claim : Claim) → IsOfOrder decisions claim → IsClaimConsistent model state claim
+
+    claims : (decisions : List Decision) → Grants decisions → All (HasItsBlock moments) blocks → (claim : Claim) → IsClaim model decisions state claim → IsClaimConsistent model state claim
+    claims decisions granted blocks_ok claim (inl p) = granted.said claim p
+    claims decisions granted blocks_ok claim (inr (inl p)) =
         let place : HasItsBlock moments p.block = All-contains (HasItsBlock moments) blocks p.block blocks_ok p.is_open in
         let is = token_of 0 moments p.block.token place.0 in
         let none = only_guards p.entries (OfItem p.item) (stands_in (λ guard side. ⊤) p.block p.entries is.place (is.named ∙ ap root_token (no_shift is.place)) p.has_block) p.stands in
         let e = none.1.2 in absurd (cc)
-    claims decisions quiet blocks_ok claim (inr (inr (inl p))) =
+    claims decisions granted blocks_ok claim (inr (inr (inl p))) =
         let is = token_of 0 moments p.token p.there in
         subst (IsClaimConsistent model state) (sym (p.says ∙ ap lasts (is.named ∙ ap root_token (no_shift is.place)))) (lasts_at is.place is.moment is.at)
-    claims decisions quiet blocks_ok claim (inr (inr (inr (inl p)))) = absurd (quiet (Merge p.token p.target) p.merged)
-    claims decisions quiet blocks_ok claim (inr (inr (inr (inr p)))) = absurd (quiet (Order p.one p.other) p.ordered)
-
-    respected_of : (state' : State) (decision : Decision) → IsPlain decision → IsRespected decision state'
-    respected_of state' (Activate token) plain = tt
-    respected_of state' (Reject token) plain = tt
-    respected_of state' (Specify name value) plain = absurd plain
-    respected_of state' (Merge token target) plain = tt
-    respected_of state' (Order one other) plain = tt
+    claims decisions granted blocks_ok claim (inr (inr (inr (inl p)))) = granted.merged claim p
+    claims decisions granted blocks_ok claim (inr (inr (inr (inr p)))) = granted.ordered claim p
 
     -- so the state is closed where timelines and resources fit, and no block is missing
-    pub closed : (decisions : List Decision) → ((decision : Decision) → Contains decisions decision → IsPlain decision) → AllPairs IsBlockBefore blocks → All (HasItsBlock moments) blocks
+    pub closed_with : (decisions : List Decision) → Grants decisions → AllPairs IsBlockBefore blocks → All (HasItsBlock moments) blocks
         → ((block : TokenBlock) (entries : Entries) → IsSupportedBlock model (situation_of decisions state) block entries → Contains blocks block)
         → FitTimelines model decisions state → FitReusables model decisions state → FitReservoirs model decisions state → IsClosed model decisions state
-    closed decisions quiet ordered blocks_ok complete timelines reusables reservoirs = record {
+    closed_with decisions granted ordered blocks_ok complete timelines reusables reservoirs = record {
       consistent = record {
         is_state = is_state ordered blocks_ok;
         tokens = supported decisions;
         blocks = complete;
         in_base = in_base;
-        respected = λ decision there. respected_of state decision (quiet decision there);
-        claims = claims decisions quiet blocks_ok;
+        respected = granted.respected;
+        claims = claims decisions granted blocks_ok;
         timelines = timelines;
       };
       reusables = reusables;
       reservoirs = reservoirs;
     }
+
+    respected_of : (decision : Decision) → IsPlain decision → IsRespected decision state
+    respected_of (Activate token) plain = tt
+    respected_of (Reject token) plain = tt
+    respected_of (Specify name value) plain = absurd plain
+    respected_of (Merge token target) plain = tt
+    respected_of (Order one other) plain = tt
+
+    -- plain decisions ask for nothing else
+    pub plain_grants : (decisions : List Decision) → ((decision : Decision) → Contains decisions decision → IsPlain decision)
+        → ((claim : Claim) → IsOfProblem model (IsTaken decisions) claim → IsClaimConsistent model state claim) → Grants decisions
+    plain_grants decisions quiet said = record {
+      respected = λ decision there. respected_of decision (quiet decision there);
+      said = said;
+      merged = λ claim p. absurd (quiet (Merge p.token p.target) p.merged);
+      ordered = λ claim p. absurd (quiet (Order p.one p.other) p.ordered);
+    }
+
+-- where the problem has no constraints either nothing else is asked for
+module _ (object_kind : ObjectKind) (pred_kind : PredKind) (numbers : List ℕ) (rules : List Rule) (kinds : List RootKind)
+    (blocks : List TokenBlock) (moments : List Moment) (lengths : length moments ≡ length kinds) (are : (place : ℕ) (moment : Moment) → slice_get moments place ≡ Some moment → IsMoment moment)
+    (plain : (number : ℕ) (rule : Rule) → HasRule (scene object_kind pred_kind numbers rules kinds) 0 number rule → rule ≡ guarded) (decisions : List Decision) where
+  pub closed : ((decision : Decision) → Contains decisions decision → IsPlain decision) → AllPairs IsBlockBefore blocks → All (HasItsBlock [] object_kind pred_kind numbers rules kinds moments) blocks
+      → ((block : TokenBlock) (entries : Entries) → IsSupportedBlock (scene object_kind pred_kind numbers rules kinds) (situation_of decisions (scene_state blocks moments)) block entries → Contains blocks block)
+      → FitTimelines (scene object_kind pred_kind numbers rules kinds) decisions (scene_state blocks moments) → FitReusables (scene object_kind pred_kind numbers rules kinds) decisions (scene_state blocks moments)
+      → FitReservoirs (scene object_kind pred_kind numbers rules kinds) decisions (scene_state blocks moments) → IsClosed (scene object_kind pred_kind numbers rules kinds) decisions (scene_state blocks moments)
+  closed quiet =
+      closed_with [] object_kind pred_kind numbers rules kinds blocks moments lengths are plain decisions
+      (plain_grants [] object_kind pred_kind numbers rules kinds blocks moments lengths are plain decisions quiet (λ claim p. absurd (contains_none p.item p.stands)))

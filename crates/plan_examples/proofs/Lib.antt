@@ -1,8 +1,10 @@
 pub mod Lists
 pub mod Tuples
+pub mod Pairs
 pub mod Scenes
 pub mod Rows
 pub mod Closed
 pub mod Variables
 pub mod Casts
 pub mod Examples
+pub mod Choices

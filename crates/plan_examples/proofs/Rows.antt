@@ -25,37 +25,7 @@ use Rattle.plan_defs.proofs.States.{gives_same}
 use Rattle.plan_examples.specs.Globals.{problem_of}
 use Rattle.plan_examples.specs.Relations.{Times, token_a, token_b, beside_a, IsMark}
 use Rattle.plan_examples.specs.Scenes.{exactly}
-use Rattle.plan_examples.proofs.Tuples.{two_consistent}
-
--- ---- two single numbers are consistent exactly where the constraint holds of them
-
-admits : (reach : Reach) (x : ℕ) → Admits reach (exactly x) (pos x)
-admits Values x = (omega (arith, ints), omega (arith, ints))
-admits Ends x = (omega (arith, ints), omega (arith, ints))
-
-only_admits : (reach : Reach) (x : ℕ) (v : ℤ) → Admits reach (exactly x) v → v ≡ pos x
-only_admits Values x v p = omega (arith, ints, p.0, p.1)
-only_admits Ends x v p = omega (arith, ints, p.0, p.1)
-
-only_tested : (x : ℕ) (v : ℤ) → IsTested (exactly x) v → pos x ≡ v
-only_tested x v (inl e) = sym e
-only_tested x v (inr e) = sym e
-
-module _ (reach : Reach) (holds : List ℤ → Type 0) (x y : ℕ) where
-  pub pair_consistent : holds (pos x ∷ pos y ∷ []) → AreConsistent reach holds (exactly x ∷ exactly y ∷ [])
-  pair_consistent h =
-      two_consistent reach holds (exactly x) (exactly y)
-      (λ v tested. ([], pos y ∷ [], tt, (admits reach y, tt), subst (λ w. holds (w ∷ pos y ∷ [])) (only_tested x v tested) h))
-      (λ v tested. (pos x ∷ [], [], (admits reach x, tt), tt, subst (λ w. holds (pos x ∷ w ∷ [])) (only_tested y v tested) h))
-
-  only_tuple : (left right : List ℤ) → AllZip (Admits reach) [] left → AllZip (Admits reach) (exactly y ∷ []) right → holds (left ++ pos x ∷ right) → holds (pos x ∷ pos y ∷ [])
-  only_tuple (v ∷ left) right before after h = absurd before
-  only_tuple [] [] before after h = absurd after
-  only_tuple [] (w ∷ more ∷ right) before after h = absurd after.1
-  only_tuple [] (w ∷ []) before after h = subst (λ v. holds (pos x ∷ v ∷ [])) (only_admits reach y w after.0) h
-
-  pub pair_holds : AreConsistent reach holds (exactly x ∷ exactly y ∷ []) → holds (pos x ∷ pos y ∷ [])
-  pair_holds agree = let found = agree [] (exactly x) (exactly y ∷ []) (pos x) refl (inl refl) in only_tuple found.0 found.1 found.2 found.3 found.4
+use Rattle.plan_examples.proofs.Pairs.{at_most_holds, at_most_says, equal_holds, equal_says}
 
 -- ---- the starts and ends, and what the relations say of them
 
@@ -153,42 +123,13 @@ module _ (times : Times) where
   gives BStart = (2, omega arith, refl)
   gives BEnd = (3, omega arith, refl)
 
-  domain_is : (p : Point) (domain : Domain) → Gives (beside_a times) (name_at p) domain → domain ≡ exactly (value_at times p)
-  domain_is p domain given = gives_same (beside_a times) in_order (name_at p) domain (exactly (value_at times p)) given (gives p)
-
-  -- what is said of two points is consistent exactly where it is true
-  module _ (kind : Kind) (p q : Point) where
-    abbrev said : Claim
-    said = record { kind = kind; arguments = Variable (name_at p) ∷ Variable (name_at q) ∷ [] }
-
-    said_consistent : AgreeOn (HasField (problem_of [] [])) kind (exactly (value_at times p) ∷ exactly (value_at times q) ∷ []) → IsClaimConsistent (problem_of [] []) (beside_a times) said
-    said_consistent agree = record {
-      domains = exactly (value_at times p) ∷ exactly (value_at times q) ∷ [];
-      have = (gives p, (gives q, tt));
-      agree = agree;
-    }
-
-    domains_agree : (domains : List Domain) → AllZip (HasDomain (Gives (beside_a times))) said.arguments domains → AgreeOn (HasField (problem_of [] [])) kind domains
-        → AgreeOn (HasField (problem_of [] [])) kind (exactly (value_at times p) ∷ exactly (value_at times q) ∷ [])
-    domains_agree [] have agree = absurd have
-    domains_agree (one ∷ []) have agree = absurd have.1
-    domains_agree (one ∷ other ∷ more ∷ rest) have agree = absurd have.1.1
-    domains_agree (one ∷ other ∷ []) have agree =
-        let first = domain_is p one have.0 in
-        let second = domain_is q other have.1.0 in
-        subst (AgreeOn (HasField (problem_of [] [])) kind) (λ i. first i ∷ second i ∷ []) agree
-
   true_consistent : (edge : Edge) → IsTrue times edge → IsClaimConsistent (problem_of [] []) (beside_a times) (claim_of edge)
-  true_consistent (Most p q) t = said_consistent Leq p q (pair_consistent Ends (HoldsOf Leq) (value_at times p) (value_at times q) (omega (arith, ints, t)))
-  true_consistent (Same p q) t = said_consistent Eq p q (pair_consistent Values (HoldsOf Eq) (value_at times p) (value_at times q) (omega (arith, ints, t)))
+  true_consistent (Most p q) t = at_most_holds (problem_of [] []) (beside_a times) in_order (Variable (name_at p)) (Variable (name_at q)) (value_at times p) (value_at times q) (gives p) (gives q) t
+  true_consistent (Same p q) t = equal_holds (problem_of [] []) (beside_a times) in_order (Variable (name_at p)) (Variable (name_at q)) (value_at times p) (value_at times q) (gives p) (gives q) t
 
   consistent_true : (edge : Edge) → IsClaimConsistent (problem_of [] []) (beside_a times) (claim_of edge) → IsTrue times edge
-  consistent_true (Most p q) c =
-      let h = pair_holds Ends (HoldsOf Leq) (value_at times p) (value_at times q) (domains_agree Leq p q c.domains c.have c.agree) in
-      omega (arith, ints, h)
-  consistent_true (Same p q) c =
-      let h = pair_holds Values (HoldsOf Eq) (value_at times p) (value_at times q) (domains_agree Eq p q c.domains c.have c.agree) in
-      omega (arith, ints, h)
+  consistent_true (Most p q) c = at_most_says (problem_of [] []) (beside_a times) in_order (Variable (name_at p)) (Variable (name_at q)) (value_at times p) (value_at times q) (gives p) (gives q) c
+  consistent_true (Same p q) c = equal_says (problem_of [] []) (beside_a times) in_order (Variable (name_at p)) (Variable (name_at q)) (value_at times p) (value_at times q) (gives p) (gives q) c
 
 -- ---- decided
 

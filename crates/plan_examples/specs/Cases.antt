@@ -1,16 +1,22 @@
 -- The problems and moments of the examples.
 use Rattle.std.specs.Prelude.{ℕ, pos, List, [], ◌∷◌}
 use Rattle.domain_core.specs.Domain.{Domain}
+use Rattle.eu_name.specs.declared.name.Part.TheVariants.{Param}
 use Rattle.model_core.specs.declared.class.ObjectKind.{ObjectKind}
 use Rattle.model_core.specs.declared.class.ObjectKind.TheVariants as kind
 use Rattle.model_core.specs.declared.class.PredKind.TheVariants as pred
 use Rattle.model_core.specs.declared.decision.Decision.{Decision}
-use Rattle.model_core.specs.declared.decision.Decision.TheVariants.{Activate, Reject}
+use Rattle.model_core.specs.declared.decision.Decision.TheVariants.{Activate, Merge, Reject, Order}
+use Rattle.model_core.specs.declared.item.Item.{Item}
+use Rattle.model_core.specs.declared.item.Item.TheVariants.{Constraint}
+use Rattle.model_core.specs.declared.item.Kind.TheVariants.{Leq}
+use Rattle.model_core.specs.declared.item.Term.TheVariants as term
 use Rattle.model_core.specs.declared.model.Model.{Model}
+use Rattle.model_core.specs.declared.model.RootKind.{RootKind}
 use Rattle.model_core.specs.declared.model.RootKind.TheVariants.{Goal, Rejectable, Fact}
 use Rattle.model_core.specs.State.{State}
 use Rattle.model_core.specs.Tokens.{root_token}
-use Rattle.plan_examples.specs.Scenes.{scene, Moment, exactly, scene_state, guarded}
+use Rattle.plan_examples.specs.Scenes.{scene, scene_with, Moment, exactly, scene_state, guarded}
 
 -- from 0 to 1, with a quantity in this domain
 abbrev pub short : Domain → Moment
@@ -61,3 +67,27 @@ activated = Activate (root_token 0) ∷ []
 -- the second root is rejected
 abbrev pub rejected : List Decision
 rejected = Reject (root_token 1) ∷ []
+
+-- from this instant on, for so long, with this quantity
+abbrev pub moment : ℕ → ℕ → ℕ → Moment
+moment start duration quantity = record { start = start; duration = duration; quantity = exactly quantity }
+
+-- a goal and a fact
+abbrev pub goal_and_fact : Model
+goal_and_fact = scene kind.Plain pred.Plain [] [] (Goal ∷ Fact ∷ [])
+
+-- the goal is the fact
+abbrev pub merged : List Decision
+merged = Merge (root_token 0) (root_token 1) ∷ []
+
+-- the first token ends before the second starts
+abbrev pub ordered : List Decision
+ordered = Order (root_token 0) (root_token 1) ∷ []
+
+-- `leq(g.quantity, 1);`
+abbrev pub at_most_one : Item
+at_most_one = Constraint Leq (term.Root 0 (Param 0) ∷ term.Lit (pos 1) ∷ [])
+
+-- a root of this kind, the quantity of which is at most 1
+abbrev pub limited : RootKind → Model
+limited root_kind = scene_with (at_most_one ∷ []) kind.Plain pred.Plain [] [] (root_kind ∷ [])

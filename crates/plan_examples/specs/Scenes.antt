@@ -7,13 +7,14 @@ use Rattle.eu_name.specs.declared.name.VarName.TheVariants.{Token}
 use Rattle.model_core.specs.declared.class.ObjectKind.{ObjectKind}
 use Rattle.model_core.specs.declared.class.PredKind.{PredKind}
 use Rattle.model_core.specs.declared.class.Pred.{Pred}
+use Rattle.model_core.specs.declared.item.Item.{Item}
 use Rattle.model_core.specs.declared.item.Term.TheVariants as term
 use Rattle.model_core.specs.declared.model.Model.{Model}
 use Rattle.model_core.specs.declared.model.Root.{Root}
 use Rattle.model_core.specs.declared.model.RootKind.{RootKind}
 use Rattle.model_core.specs.declared.rule.Guard.TheVariants.{Equal}
 use Rattle.model_core.specs.declared.rule.Rule.{Rule}
-use Rattle.model_core.specs.declared.rule.Side.TheVariants.{Then}
+use Rattle.model_core.specs.declared.rule.Side.TheVariants.{Then, Otherwise}
 use Rattle.model_core.specs.declared.variable.Base.TheVariants.{Given}
 use Rattle.model_core.specs.declared.variable.ValueKind.TheVariants.{Int}
 use Rattle.model_core.specs.Blocks.{TokenBlock}
@@ -38,16 +39,29 @@ predicate_of kind rules = record {
 abbrev pub root_of : RootKind → Root
 root_of kind = record { label = codes "g"; kind = kind; pred = 0; object = the_object }
 
--- a problem from 0 to 10 with an object and a predicate of these kinds, these rules of the predicate, and these roots
-abbrev pub scene : ObjectKind → PredKind → List ℕ → List Rule → List RootKind → Model
-scene object_kind pred_kind numbers rules kinds = record {
+-- a problem from 0 to 10 with these constraints, an object and a predicate of these kinds, these rules of the predicate, and
+-- these roots
+abbrev pub scene_with : List Item → ObjectKind → PredKind → List ℕ → List Rule → List RootKind → Model
+scene_with items object_kind pred_kind numbers rules kinds = record {
   enums = [];
   classes = record { name = codes "C"; parent = None; fields = [] } ∷ [];
   objects = record { name = codes "o"; class = 0; fields = []; kind = object_kind } ∷ [];
   preds = predicate_of pred_kind numbers ∷ [];
   rules = rules;
-  problem = record { start = pos 0; end = pos 10; steps = 1; roots = map root_of kinds; globals = []; items = []; decisions = [] };
+  problem = record {
+    start = pos 0;
+    end = pos 10;
+    steps = 1;
+    roots = map root_of kinds;
+    globals = [];
+    items = items;
+    decisions = [];
+  };
 }
+
+-- the same without constraints
+abbrev pub scene : ObjectKind → PredKind → List ℕ → List Rule → List RootKind → Model
+scene = scene_with []
 
 -- when a token takes place, and how much it uses, produces or consumes
 pub record Moment : Type 0 where
@@ -84,9 +98,12 @@ scene_state blocks moments = record { tokens = tokens_of 0 moments; blocks = blo
 abbrev pub guarded : Rule
 guarded = record { top = WithBranch (Equal (term.Here (Param 0)) (term.Lit (pos 1))) NoEntry NoEntry NoEntry; slots = []; locals = [] }
 
--- the rule's own block, and that of the guard
+-- the rule's own block, and those of the guard
 abbrev pub top_block : TokenBlock
 top_block = record { token = root_token 0; rule = 0; path = [] }
 
 abbrev pub then_block : TokenBlock
 then_block = record { token = root_token 0; rule = 0; path = record { entry = 0; side = Then } ∷ [] }
+
+abbrev pub else_block : TokenBlock
+else_block = record { token = root_token 0; rule = 0; path = record { entry = 0; side = Otherwise } ∷ [] }
