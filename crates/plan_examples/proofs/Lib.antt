@@ -8,3 +8,5 @@ pub mod Variables
 pub mod Casts
 pub mod Examples
 pub mod Choices
+pub mod TwoVariables
+pub mod Objects

@@ -2,3 +2,4 @@ pub mod Globals
 pub mod Scenes
 pub mod Cases
 pub mod Relations
+pub mod Worlds
