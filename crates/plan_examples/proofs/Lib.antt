@@ -10,3 +10,4 @@ pub mod Examples
 pub mod Choices
 pub mod TwoVariables
 pub mod Objects
+pub mod Settling

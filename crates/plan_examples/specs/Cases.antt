@@ -2,11 +2,12 @@
 use Rattle.std.specs.Prelude.{ℕ, pos, List, [], ◌∷◌}
 use Rattle.domain_core.specs.Domain.{Domain}
 use Rattle.eu_name.specs.declared.name.Part.TheVariants.{Param}
+use Rattle.eu_name.specs.declared.name.VarName.TheVariants.{Token}
 use Rattle.model_core.specs.declared.class.ObjectKind.{ObjectKind}
 use Rattle.model_core.specs.declared.class.ObjectKind.TheVariants as kind
 use Rattle.model_core.specs.declared.class.PredKind.TheVariants as pred
 use Rattle.model_core.specs.declared.decision.Decision.{Decision}
-use Rattle.model_core.specs.declared.decision.Decision.TheVariants.{Activate, Merge, Reject, Order}
+use Rattle.model_core.specs.declared.decision.Decision.TheVariants.{Specify, Activate, Merge, Reject, Order}
 use Rattle.model_core.specs.declared.item.Item.{Item}
 use Rattle.model_core.specs.declared.item.Item.TheVariants.{Constraint}
 use Rattle.model_core.specs.declared.item.Kind.TheVariants.{Leq}
@@ -91,3 +92,11 @@ at_most_one = Constraint Leq (term.Root 0 (Param 0) ∷ term.Lit (pos 1) ∷ [])
 -- a root of this kind, the quantity of which is at most 1
 abbrev pub limited : RootKind → Model
 limited root_kind = scene_with (at_most_one ∷ []) kind.Plain pred.Plain [] [] (root_kind ∷ [])
+
+-- the first root is activated
+abbrev pub activate_it : Decision
+activate_it = Activate (root_token 0)
+
+-- its quantity is this number
+abbrev pub quantity_is : ℕ → Decision
+quantity_is number = Specify (Token (root_token 0) (Param 0)) (pos number)

@@ -3,6 +3,7 @@
 //! There is nothing to run: each function states an example, as `globals::variables_stay_in_their_bases` that a variable from 0 to 2 may not be 3.
 #![tactic(auto)]
 
+pub mod decisions;
 pub mod globals;
 pub mod relations;
 pub mod tokens;
