@@ -1,5 +1,5 @@
 -- The scenes of the examples, and what holds of them.
-use Rattle.std.proofs.Common.{◌≡◌, ℕ, suc, zero, ◌+◌, ◌≤◌, List, [], ◌∷◌, length, Some, ℤ, refl, sym, ap, ◌∙◌, subst, arith, map}
+use Rattle.std.proofs.Common.{◌≡◌, ℕ, suc, zero, ◌+◌, ◌≤◌, List, [], ◌∷◌, length, Some, ℤ, refl, sym, ap, ◌∙◌, subst, arith}
 use Rattle.std.specs.Prelude.{Contains, slice_get}
 use Rattle.std.proofs.lemmas.Int.{ints}
 use Rattle.std.proofs.lemmas.List.{length-append}
@@ -25,7 +25,7 @@ use Rattle.plan_defs.specs.Situations.{situation_of}
 use Rattle.plan_defs.specs.Support.{IsSupportedToken, IsSupportedBlock}
 use Rattle.plan_defs.specs.Timelines.{FitTimelines}
 use Rattle.plan_defs.proofs.Ordered.{contains_none}
-use Rattle.plan_examples.specs.Scenes.{predicate_of, root_of, scene_with, Moment, exactly, guarded}
+use Rattle.plan_examples.specs.Scenes.{predicate_of, root_of, roots_from, scene_with, Moment, exactly, guarded}
 use Rattle.plan_examples.specs.Globals.{up_to}
 use Rattle.plan_examples.proofs.Closed.{IsMoment, IsPlain}
 use Rattle.plan_examples.proofs.Lists.{only_member, same_some}
@@ -91,9 +91,9 @@ module _ (items : List Item) (object_kind : ObjectKind) (pred_kind : PredKind) (
   no_block state decisions blocks none block entries p = absurd (none block.token p.is_open.activated)
 
   -- roots are supported
-  pub root_supported : (decisions : List Decision) (state : State) (number : ℕ) (root_kind : RootKind) → slice_get (map root_of kinds) number ≡ Some (root_of root_kind) → IsSupportedToken model (situation_of decisions state) (root_token number)
+  pub root_supported : (decisions : List Decision) (state : State) (number : ℕ) (root_kind : RootKind) → slice_get (roots_from 0 kinds) number ≡ Some (root_of number root_kind) → IsSupportedToken model (situation_of decisions state) (root_token number)
   root_supported decisions state number root_kind at = record {
-    root = root_of root_kind;
+    root = root_of number root_kind;
     is_root = at;
     asked = λ front step back e. absurd (omega (arith, ap length e, length-append front (step ∷ back)));
   }

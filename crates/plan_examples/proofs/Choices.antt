@@ -209,7 +209,7 @@ module _ (one other : Moment) where
         target = root_token 1;
         part = part;
         merged = contains_head (Merge (root_token 0) (root_token 1)) [];
-        has_part = (record { pred = 0; object = Given the_object }, record { root = root_of Goal; is_root = refl; reached = refl }, (base, has));
+        has_part = (record { pred = 0; object = Given the_object }, record { root = root_of 0 Goal; is_root = refl; reached = refl }, (base, has));
         says = refl;
       }))))))
 
@@ -321,7 +321,7 @@ module _ (root_kind : RootKind) (number : ℕ) where
           (at_most_holds (limited root_kind) alone (orders (moment 0 1 number ∷ [])) the_quantity (Value (pos 1)) number 1 has_quantity refl (low is.1))))
 
 pub untaken_closed : IsClosed (limited Rejectable) [] (scene_state [] (moment 0 1 2 ∷ []))
-untaken_closed = limited_closed Rejectable 2 (omega arith) [] nothing_decided (λ counts. absurd (untaken (counts 0 the_quantity (omega arith) (root_token 0) refl (refl, (root_of Rejectable, refl, refl)))))
+untaken_closed = limited_closed Rejectable 2 (omega arith) [] nothing_decided (λ counts. absurd (untaken (counts 0 the_quantity (omega arith) (root_token 0) refl (refl, (root_of 0 Rejectable, refl, refl)))))
   where
     untaken : IsTaken [] (root_token 0) → ⊥
     untaken (inl activation) = contains_none (Activate (root_token 0)) activation
@@ -338,6 +338,6 @@ fact_is_high p = let low = limited_says Fact 2 [] (λ rejectable. absurd (not_re
   where
     not_rejectable : IsRejectable (limited Fact) (root_token 0) → ⊥
     not_rejectable is =
-        let root = same_some (root_of Fact) is.1.0 is.1.1 in
+        let root = same_some (root_of 0 Fact) is.1.0 is.1.1 in
         let same : Fact ≡ Rejectable = ap (λ (r : Root). r.kind) root ∙ is.1.2 in
         absurd (cc)

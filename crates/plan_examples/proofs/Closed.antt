@@ -46,7 +46,7 @@ use Rattle.plan_defs.specs.Terms.{InRule}
 use Rattle.plan_defs.specs.Timelines.{FitTimelines}
 use Rattle.plan_defs.proofs.Ordered.{contains_none}
 use Rattle.plan_examples.specs.Scenes.{the_object, predicate_of, root_of, scene, scene_with, Moment, exactly, tokens_of, scene_entries, scene_state, guarded}
-use Rattle.plan_examples.proofs.Lists.{all_members, only_member, same_some, get_map, map_get, get_alike}
+use Rattle.plan_examples.proofs.Lists.{all_members, only_member, same_some, get_root, root_get, get_alike}
 use Rattle.plan_examples.proofs.Scenes.{tokens_in_order, entries_in_order, HasPartDomain, entry_of, entry_there, token_of, token_there}
 use Rattle.plan_examples.proofs.Tuples.{three_consistent}
 
@@ -97,11 +97,11 @@ module _ (items : List Item) (object_kind : ObjectKind) (pred_kind : PredKind) (
   -- what a token of the scene is, is always the same
   pub slot_same : (number : ℕ) (slot : Slot) → HasToken model (root_token number) slot → slot ≡ the_slot
   slot_same number slot p =
-      let found = get_map root_of kinds number p.root p.is_root in
+      let found = get_root 0 kinds number p.root p.is_root in
       p.reached ∙ ap slot_of (sym found.1.1)
 
   has_token : (number : ℕ) (kind : RootKind) → slice_get kinds number ≡ Some kind → HasToken model (root_token number) the_slot
-  has_token number kind at = record { root = root_of kind; is_root = map_get root_of kinds number kind at; reached = refl }
+  has_token number kind at = record { root = root_of (0 + number) kind; is_root = root_get 0 kinds number kind at; reached = refl }
 
   -- parts of tokens, and the bases of those that there are
   abbrev part_base : Part → Base
@@ -242,7 +242,7 @@ module _ (items : List Item) (object_kind : ObjectKind) (pred_kind : PredKind) (
     -- a supported token is a root
     supported_at : (decisions : List Decision) (number : ℕ) (steps : List Step) → IsSupportedToken model (situation_of decisions state) (record { root = number; steps = steps }) → Contains (tokens_of 0 moments) (record { root = number; steps = steps })
     supported_at decisions number [] p =
-        let kind = get_map root_of kinds number p.root p.is_root in
+        let kind = get_root 0 kinds number p.root p.is_root in
         let moment = get_alike kinds moments number kind.0 (sym lengths) kind.1.0 in
         subst (λ n. Contains (tokens_of 0 moments) (root_token n)) (no_shift number) (token_there 0 moments number moment.0 moment.1)
     supported_at decisions number (step ∷ steps) p =

@@ -116,7 +116,7 @@ module _ (blocks : List TokenBlock) (quantity : Domain) where
       activated = contains_head (Activate (root_token 0)) [];
       has_block = record {
         slot = record { pred = 0; object = Given the_object };
-        has_token = record { root = root_of Goal; is_root = refl; reached = refl };
+        has_token = record { root = root_of 0 Goal; is_root = refl; reached = refl };
         rule = guarded;
         has_rule = record { predicate = predicate_of pred.Plain (0 ∷ []); place = 0; is_predicate = refl; listed = refl; is_rule = refl };
         way = way;
@@ -127,7 +127,7 @@ module _ (blocks : List TokenBlock) (quantity : Domain) where
   pub has_block : (path : List Turn) (entries : Entries) → Follows (λ guard side. ⊤) guarded.top path entries → IsBlock ruled (record { token = root_token 0; rule = 0; path = path }) entries
   has_block path entries way = record {
     slot = record { pred = 0; object = Given the_object };
-    has_token = record { root = root_of Goal; is_root = refl; reached = refl };
+    has_token = record { root = root_of 0 Goal; is_root = refl; reached = refl };
     rule = guarded;
     has_rule = record { predicate = predicate_of pred.Plain (0 ∷ []); place = 0; is_predicate = refl; listed = refl; is_rule = refl };
     way = way;
@@ -321,8 +321,8 @@ overlap_collides p =
     let moments = early ∷ late ∷ [] in
     let consistent = p.consistent.timelines (root_token 0) (root_token 1) (record {
       apart = λ same. let roots = ap (λ (t : TokenName). t.root) same in omega (arith, roots);
-      one_active = inl (refl, (root_of Fact, refl, refl));
-      other_active = inl (refl, (root_of Fact, refl, refl));
+      one_active = inl (refl, (root_of 0 Fact, refl, refl));
+      other_active = inl (refl, (root_of 1 Fact, refl, refl));
       timeline = pos 0;
       is_timeline = (_, (0, refl, refl), refl);
       one_on = is_on moments 0 early refl;
@@ -372,9 +372,9 @@ enough_closed =
 surely_uses : (capacity : ℕ) → SurelyUses (tool capacity) [] (scene_state [] (using ∷ [])) (pos 0) (pos 0) (root_token 0) (pos 2)
 surely_uses capacity = record {
   actor = record {
-    active = inl (refl, (root_of Fact, refl, refl));
+    active = inl (refl, (root_of 0 Fact, refl, refl));
     slot = record { pred = 0; object = Given the_object };
-    has_token = record { root = root_of Fact; is_root = refl; reached = refl };
+    has_token = record { root = root_of 0 Fact; is_root = refl; reached = refl };
     predicate = predicate_of pred.Uses [];
     is_predicate = refl;
     is_kind = refl;
@@ -411,7 +411,7 @@ undecided_drained_closed =
   where
     undecided : IsDecided battery [] (root_token 1) → ⊥
     undecided (inl fact) =
-        let root = same_some (root_of Rejectable) fact.1.0 fact.1.1 in
+        let root = same_some (root_of 1 Rejectable) fact.1.0 fact.1.1 in
         let same : Rejectable ≡ Fact = ap (λ (r : Root). r.kind) root ∙ fact.1.2 in
         absurd (cc)
     undecided (inr (inl (inl activated))) = contains_none (Activate (root_token 1)) activated
@@ -431,7 +431,7 @@ drained_complete = record {
         (no_rule [] (kind.Reservoir (pos 5) (pos 0) (pos 10)) pred.Consume [] (Fact ∷ Rejectable ∷ [])) rejected token p
 
     at_place : (place : ℕ) (moment : Moment) → slice_get (taking ∷ late ∷ []) place ≡ Some moment → IsDecided battery rejected (root_token (0 + place))
-    at_place zero moment at = inl (refl, (root_of Fact, refl, refl))
+    at_place zero moment at = inl (refl, (root_of 0 Fact, refl, refl))
     at_place (suc zero) moment at = inr (inr (contains_head (Reject (root_token 1)) []))
     at_place (suc (suc place)) moment at = absurd (cc)
 
@@ -441,9 +441,9 @@ drained_complete = record {
 surely_takes : SurelyChanges battery rejected drained (pos 0) (pos 0) pred.Consume (root_token 0) (pos 6)
 surely_takes = record {
   actor = record {
-    active = inl (refl, (root_of Fact, refl, refl));
+    active = inl (refl, (root_of 0 Fact, refl, refl));
     slot = record { pred = 0; object = Given the_object };
-    has_token = record { root = root_of Fact; is_root = refl; reached = refl };
+    has_token = record { root = root_of 0 Fact; is_root = refl; reached = refl };
     predicate = predicate_of pred.Consume [];
     is_predicate = refl;
     is_kind = refl;

@@ -11,3 +11,4 @@ pub mod Choices
 pub mod TwoVariables
 pub mod Objects
 pub mod Settling
+pub mod Reasons

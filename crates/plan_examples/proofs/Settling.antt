@@ -94,12 +94,12 @@ module _ (items : List Item) (decisions : List Decision) (number : ℕ) (few : n
         ];
       }
 
-free_least : IsLeast free_two [] (with_two (up_to 2) (up_to 2))
+pub free_least : IsLeast free_two [] (with_two (up_to 2) (up_to 2))
 free_least =
     reached_least [] [] 2 (omega arith) (reached_closed [] [] 2 (omega arith) (no_decision (with_two (up_to 2) (up_to 2))) (no_item free_two [] (with_two (up_to 2) (up_to 2)) refl))
     (λ other p domain gives. (x_within [] [] other p domain gives).values)
 
-zero_least : IsLeast free_two (x_is 0 ∷ []) (with_two (up_to 0) (up_to 2))
+pub zero_least : IsLeast free_two (x_is 0 ∷ []) (with_two (up_to 0) (up_to 2))
 zero_least =
     reached_least [] (x_is 0 ∷ []) 0 (omega arith)
     (reached_closed [] (x_is 0 ∷ []) 0 (omega arith) granted (no_item free_two (x_is 0 ∷ []) (with_two (up_to 0) (up_to 2)) refl))
@@ -139,13 +139,13 @@ module _ (items : List Item) (decisions : List Decision) (state : State) (least 
       free SameToken h = h
       free ActiveFull h = h
 
-x_admissible : (number : ℕ) → number ≤ 2 → IsAdmissible free_two [] (x_is number)
+pub x_admissible : (number : ℕ) → number ≤ 2 → IsAdmissible free_two [] (x_is number)
 x_admissible number few = admissible [] [] (with_two (up_to 2) (up_to 2)) free_least number (Global 0) (inl refl) few (λ value c. contains_none (Specify (Global 0) value) c)
 
 y_admissible : IsAdmissible free_two [] (y_is 1)
 y_admissible = admissible [] [] (with_two (up_to 2) (up_to 2)) free_least 1 (Global 1) (inr refl) (omega arith) (λ value c. contains_none (Specify (Global 1) value) c)
 
-y_next_admissible : IsAdmissible free_two (x_is 0 ∷ []) (y_is 1)
+pub y_next_admissible : IsAdmissible free_two (x_is 0 ∷ []) (y_is 1)
 y_next_admissible =
     admissible [] (x_is 0 ∷ []) (with_two (up_to 0) (up_to 2)) zero_least 1 (Global 1) (inr refl) (omega arith) (λ value c. let same = only_member (x_is 0) (Specify (Global 1) value) c in cc)
 
@@ -199,7 +199,7 @@ begins_with_nothing e = let lengths = ap length e in omega (arith, lengths)
 -- ---- a reset
 
 quantity_inadmissible : IsAdmissible (limited Rejectable) [] (quantity_is 1) → ⊥
-quantity_inadmissible p = p.free NotActive (λ counts. untaken (counts (root_token 0) refl (refl, (root_of Rejectable, refl, refl))))
+quantity_inadmissible p = p.free NotActive (λ counts. untaken (counts (root_token 0) refl (refl, (root_of 0 Rejectable, refl, refl))))
   where
     untaken : IsTaken [] (root_token 0) → ⊥
     untaken (inl activation) = contains_none (Activate (root_token 0)) activation

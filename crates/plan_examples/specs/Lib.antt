@@ -3,3 +3,4 @@ pub mod Scenes
 pub mod Cases
 pub mod Relations
 pub mod Worlds
+pub mod Refused

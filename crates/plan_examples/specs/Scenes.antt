@@ -1,5 +1,5 @@
 -- Problems with one object and one predicate, and states in which each token has its times and a quantity.
-use Rattle.std.specs.Prelude.{ℕ, ◌+◌, pos, List, [], ◌∷◌, None, codes, map}
+use Rattle.std.specs.Prelude.{ℕ, zero, suc, ◌+◌, pos, List, [], ◌∷◌, ◌++◌, None, codes}
 use Rattle.domain_core.specs.Domain.{Domain, Range, Set}
 use Rattle.eu_name.specs.declared.name.Part.TheVariants.{Start, End, Duration, Object, Param}
 use Rattle.eu_name.specs.declared.name.TokenName.{TokenName}
@@ -26,18 +26,32 @@ use Rattle.model_core.specs.Tokens.{root_token}
 abbrev pub the_object : Domain
 the_object = Set (pos 0 ∷ [])
 
--- the predicate: its tokens have a quantity
-abbrev pub predicate_of : PredKind → List ℕ → Pred
-predicate_of kind rules = record {
+-- a predicate of this name: its tokens have a quantity
+abbrev pub predicate_called : List ℕ → PredKind → List ℕ → Pred
+predicate_called name kind rules = record {
   class = 0;
-  name = codes "P";
+  name = name;
   params = record { name = codes "quantity"; kind = Int; base = Given (Range (pos 0) (pos 1000000)) } ∷ [];
   kind = kind;
   rules = rules;
 }
 
-abbrev pub root_of : RootKind → Root
-root_of kind = record { label = codes "g"; kind = kind; pred = 0; object = the_object }
+-- the predicate `P`
+abbrev pub predicate_of : PredKind → List ℕ → Pred
+predicate_of = predicate_called (codes "P")
+
+-- the labels of the roots are `g`, `gg` and so on
+abbrev pub label_of : ℕ → List ℕ
+label_of zero = codes "g"
+label_of (suc number) = codes "g" ++ label_of number
+
+abbrev pub root_of : ℕ → RootKind → Root
+root_of number kind = record { label = label_of number; kind = kind; pred = 0; object = the_object }
+
+-- roots of these kinds, from this number on
+abbrev pub roots_from : ℕ → List RootKind → List Root
+roots_from number [] = []
+roots_from number (kind ∷ kinds) = root_of number kind ∷ roots_from (number + 1) kinds
 
 -- a problem from 0 to 10 with these constraints, an object and a predicate of these kinds, these rules of the predicate, and
 -- these roots
@@ -52,7 +66,7 @@ scene_with items object_kind pred_kind numbers rules kinds = record {
     start = pos 0;
     end = pos 10;
     steps = 1;
-    roots = map root_of kinds;
+    roots = roots_from 0 kinds;
     globals = [];
     items = items;
     decisions = [];

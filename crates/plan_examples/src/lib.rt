@@ -5,5 +5,6 @@
 
 pub mod decisions;
 pub mod globals;
+pub mod refusals;
 pub mod relations;
 pub mod tokens;
