@@ -3,6 +3,7 @@ use Rattle.std.proofs.Common.{◌≡◌, ℕ, suc, zero, ◌+◌, ◌≤◌, Lis
 use Rattle.std.specs.Prelude.{Contains, slice_get}
 use Rattle.std.proofs.lemmas.Int.{ints}
 use Rattle.std.proofs.lemmas.List.{length-append}
+use Rattle.domain_core.proofs.Words.{IsWithin-refl}
 use Rattle.eu_name.specs.declared.name.TokenName.{TokenName}
 use Rattle.model_core.specs.declared.class.Object as classes
 use Rattle.model_core.specs.declared.class.ObjectKind.{ObjectKind}
@@ -25,28 +26,38 @@ use Rattle.plan_defs.specs.Situations.{situation_of}
 use Rattle.plan_defs.specs.Support.{IsSupportedToken, IsSupportedBlock}
 use Rattle.plan_defs.specs.Timelines.{FitTimelines}
 use Rattle.plan_defs.proofs.Ordered.{contains_none}
-use Rattle.plan_examples.specs.Scenes.{predicate_of, root_of, roots_from, scene_with, Moment, exactly, guarded}
+use Rattle.plan_examples.specs.Scenes.{the_object, both_objects, predicate_of, root_of, roots_from, scene_with, Moment, exactly, guarded}
+use Rattle.plan_examples.specs.Cases.{either}
 use Rattle.plan_examples.specs.Globals.{up_to}
 use Rattle.plan_examples.proofs.Closed.{IsMoment, IsPlain}
+use Rattle.plan_examples.proofs.Domains.{object_domain, both_domain, object_within}
 use Rattle.plan_examples.proofs.Lists.{only_member, same_some}
 
 -- ---- moments
 
-pub only_moment : (start duration quantity : ℕ) → 1 ≤ duration → start + duration ≤ 10 → quantity ≤ 10 → IsMoment (record { start = start; duration = duration; quantity = exactly quantity })
+pub only_moment : (start duration quantity : ℕ) → 1 ≤ duration → start + duration ≤ 10 → quantity ≤ 10 → IsMoment (record { start = start; duration = duration; quantity = exactly quantity; object = the_object })
 only_moment start duration quantity some ends few = record {
   some = some;
   ends = ends;
   quantity = ((omega (arith, ints), omega (arith, ints)), (omega (arith, ints), omega (arith, ints)), omega (arith, ints));
   within = record { kind = tt; values = λ v has. (omega (arith, ints, has.0), omega (arith, ints, has.1)) };
+  object = object_domain;
+  object_within = object_within;
 }
 
-pub open_moment : IsMoment (record { start = 0; duration = 1; quantity = up_to 1 })
+pub open_moment : IsMoment (record { start = 0; duration = 1; quantity = up_to 1; object = the_object })
 open_moment = record {
   some = omega arith;
   ends = omega arith;
   quantity = ((omega (arith, ints), omega (arith, ints)), (omega (arith, ints), omega (arith, ints)), omega (arith, ints));
   within = record { kind = tt; values = λ v has. (omega (arith, ints, has.0), omega (arith, ints, has.1)) };
+  object = object_domain;
+  object_within = object_within;
 }
+
+-- the same on either object
+pub either_moment : (moment : Moment) → IsMoment moment → IsMoment (either moment)
+either_moment moment ok = record { some = ok.some; ends = ok.ends; quantity = ok.quantity; within = ok.within; object = both_domain; object_within = IsWithin-refl both_objects }
 
 pub one_moment : (moment : Moment) → IsMoment moment → (place : ℕ) (found : Moment) → slice_get (moment ∷ []) place ≡ Some found → IsMoment found
 one_moment moment ok zero found at = subst IsMoment (same_some moment found at) ok
@@ -70,10 +81,11 @@ module _ (items : List Item) (object_kind : ObjectKind) (pred_kind : PredKind) (
   abbrev model : Model
   model = scene_with items object_kind pred_kind numbers rules kinds
 
-  -- there is one object
+  -- both objects are of one kind
   pub kind_of : (value : ℤ) (object : classes.Object) → IsObject model value object → object.kind ≡ object_kind
   kind_of value object (zero, is, at) = ap (λ (o : classes.Object). o.kind) (sym (same_some _ object at))
-  kind_of value object (suc number, is, at) = absurd (cc)
+  kind_of value object (suc zero, is, at) = ap (λ (o : classes.Object). o.kind) (sym (same_some _ object at))
+  kind_of value object (suc (suc number), is, at) = absurd (cc)
 
   pub fit_no_timelines : (decisions : List Decision) (state : State) → (object_kind ≡ kind.Timeline → ⊥) → FitTimelines model decisions state
   fit_no_timelines decisions state none one other share late =

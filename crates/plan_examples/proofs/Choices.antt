@@ -55,7 +55,7 @@ use Rattle.plan_defs.specs.Closure.{IsClosed, IsRespected}
 use Rattle.plan_defs.specs.Consistency.{IsClaimConsistent}
 use Rattle.plan_defs.specs.Terms.{Argument, Value, Variable, ArgumentCounts}
 use Rattle.plan_examples.specs.Cases.{short, ruled, two_facts, activated, moment, goal_and_fact, merged, ordered, at_most_one, limited}
-use Rattle.plan_examples.specs.Scenes.{the_object, predicate_of, root_of, scene_with, Moment, exactly, tokens_of, scene_state, guarded, top_block, then_block, else_block}
+use Rattle.plan_examples.specs.Scenes.{the_object, both_objects, predicate_of, root_of, scene_with, Moment, exactly, tokens_of, scene_state, guarded, top_block, then_block, else_block}
 use Rattle.plan_examples.proofs.Casts.{only_moment, one_moment, two_moments, nothing_decided, one_decided, fit_no_timelines, fit_no_reusables, fit_no_reservoirs, no_rule, nothing_listed}
 use Rattle.plan_examples.proofs.Closed.{IsMoment, IsPlain, Grants, closed_with, plain_grants, supported, slot_same, part_domain, part_is_domain, HasItsBlock}
 use Rattle.plan_examples.proofs.Examples.{plain_closed, the_guard, gives_quantity, at_way, has_block, opens_here, GoesTo, ruled_closed, in_order, has_top, part_there}
@@ -199,7 +199,7 @@ module _ (one other : Moment) where
   abbrev pair_state : State
   pair_state = scene_state [] (one ∷ other ∷ [])
 
-  merged_same : (part : Part) (base : Base) (x y : ℕ) → HasPartBase goal_and_fact (record { pred = 0; object = Given the_object }) part base → HasPartDomain one part (exactly x) → HasPartDomain other part (exactly y)
+  merged_same : (part : Part) (base : Base) (x y : ℕ) → HasPartBase goal_and_fact (record { pred = 0; object = Given both_objects }) part base → HasPartDomain one part (exactly x) → HasPartDomain other part (exactly y)
       → IsClosed goal_and_fact merged pair_state → x ≡ y
   merged_same part base x y has is_x is_y p =
       equal_says goal_and_fact pair_state (orders (one ∷ other ∷ [])) (part_of (root_token 0) part) (part_of (root_token 1) part) x y
@@ -209,7 +209,7 @@ module _ (one other : Moment) where
         target = root_token 1;
         part = part;
         merged = contains_head (Merge (root_token 0) (root_token 1)) [];
-        has_part = (record { pred = 0; object = Given the_object }, record { root = root_of 0 Goal; is_root = refl; reached = refl }, (base, has));
+        has_part = (record { pred = 0; object = Given both_objects }, record { root = root_of 0 Goal; is_root = refl; reached = refl }, (base, has));
         says = refl;
       }))))))
 

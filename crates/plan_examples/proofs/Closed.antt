@@ -45,7 +45,7 @@ use Rattle.plan_defs.specs.Support.{Opens, IsSupportedToken, IsSupportedBlock}
 use Rattle.plan_defs.specs.Terms.{InRule}
 use Rattle.plan_defs.specs.Timelines.{FitTimelines}
 use Rattle.plan_defs.proofs.Ordered.{contains_none}
-use Rattle.plan_examples.specs.Scenes.{the_object, predicate_of, root_of, scene, scene_with, Moment, exactly, tokens_of, scene_entries, scene_state, guarded}
+use Rattle.plan_examples.specs.Scenes.{the_object, both_objects, predicate_of, root_of, scene, scene_with, Moment, exactly, tokens_of, scene_entries, scene_state, guarded}
 use Rattle.plan_examples.proofs.Lists.{all_members, only_member, same_some, get_root, root_get, get_alike}
 use Rattle.plan_examples.proofs.Scenes.{tokens_in_order, entries_in_order, HasPartDomain, entry_of, entry_there, token_of, token_there}
 use Rattle.plan_examples.proofs.Tuples.{three_consistent}
@@ -56,6 +56,8 @@ pub record IsMoment (moment : Moment) : Type 0 where
   pub ends : moment.start + moment.duration ≤ 10
   pub quantity : IsDomain moment.quantity
   pub within : IsWithin moment.quantity (Range (pos 0) (pos 1000000))
+  pub object : IsDomain moment.object
+  pub object_within : IsWithin moment.object both_objects
 
 -- neither a value is specified, nor are tokens merged or put in order
 abbrev pub IsPlain : Decision → Type 0
@@ -92,7 +94,7 @@ module _ (items : List Item) (object_kind : ObjectKind) (pred_kind : PredKind) (
   model = scene_with items object_kind pred_kind numbers rules kinds
 
   abbrev pub the_slot : Slot
-  the_slot = record { pred = 0; object = Given the_object }
+  the_slot = record { pred = 0; object = Given both_objects }
 
   -- what a token of the scene is, is always the same
   pub slot_same : (number : ℕ) (slot : Slot) → HasToken model (root_token number) slot → slot ≡ the_slot
@@ -105,7 +107,7 @@ module _ (items : List Item) (object_kind : ObjectKind) (pred_kind : PredKind) (
 
   -- parts of tokens, and the bases of those that there are
   abbrev part_base : Part → Base
-  part_base Object = Given the_object
+  part_base Object = Given both_objects
   part_base Start = Given (Range (pos 0) (pos 10))
   part_base End = Given (Range (pos 0) (pos 10))
   part_base Duration = Given (Range (pos 1) (pos 10))
@@ -121,7 +123,7 @@ module _ (items : List Item) (object_kind : ObjectKind) (pred_kind : PredKind) (
 
   -- a part that has a base has a domain at each moment
   pub part_domain : (moment : Moment) (part : Part) (base : Base) → HasPartBase model the_slot part base → (domain : Domain) × HasPartDomain moment part domain
-  part_domain moment Object base is = (the_object, refl)
+  part_domain moment Object base is = (moment.object, refl)
   part_domain moment Start base is = (exactly moment.start, refl)
   part_domain moment End base is = (exactly (moment.start + moment.duration), refl)
   part_domain moment Duration base is = (exactly moment.duration, refl)
@@ -135,7 +137,7 @@ module _ (items : List Item) (object_kind : ObjectKind) (pred_kind : PredKind) (
   only_within value lo hi low high = record { kind = tt; values = λ v has. (omega (arith, ints, has.0), omega (arith, ints, has.1)) }
 
   part_within : (moment : Moment) (part : Part) (domain : Domain) → IsMoment moment → HasPartDomain moment part domain → IsInBase domain (part_base part)
-  part_within moment Object domain ok is = subst (λ d. IsWithin d the_object) (sym is) (IsWithin-refl the_object)
+  part_within moment Object domain ok is = subst (λ d. IsWithin d both_objects) (sym is) ok.object_within
   part_within moment Start domain ok is = subst (λ d. IsWithin d (Range (pos 0) (pos 10))) (sym is) (only_within moment.start 0 10 (omega arith) (omega (arith, ok.ends)))
   part_within moment End domain ok is = subst (λ d. IsWithin d (Range (pos 0) (pos 10))) (sym is) (only_within (moment.start + moment.duration) 0 10 (omega arith) (omega (arith, ok.ends)))
   part_within moment Duration domain ok is = subst (λ d. IsWithin d (Range (pos 1) (pos 10))) (sym is) (only_within moment.duration 1 10 (omega (arith, ok.some)) (omega (arith, ok.ends)))
@@ -145,16 +147,8 @@ module _ (items : List Item) (object_kind : ObjectKind) (pred_kind : PredKind) (
   only_domain : (value : ℕ) → value ≤ 10 → IsDomain (exactly value)
   only_domain value low = ((omega (arith, ints), omega (arith, ints)), (omega (arith, ints), omega (arith, ints)), omega (arith, ints))
 
-  object_domain : IsDomain the_object
-  object_domain = record {
-    ascending = λ i j d less within. absurd (omega arith);
-    values = all_members IsValue (pos 0 ∷ []) (λ x c. let same = only_member (pos 0) x c in (omega (arith, ints, same), omega (arith, ints, same)));
-    some = omega arith;
-    few = omega arith;
-  }
-
   pub part_is_domain : (moment : Moment) (part : Part) (domain : Domain) → IsMoment moment → HasPartDomain moment part domain → IsDomain domain
-  part_is_domain moment Object domain ok is = subst IsDomain (sym is) object_domain
+  part_is_domain moment Object domain ok is = subst IsDomain (sym is) ok.object
   part_is_domain moment Start domain ok is = subst IsDomain (sym is) (only_domain moment.start (omega (arith, ok.ends)))
   part_is_domain moment End domain ok is = subst IsDomain (sym is) (only_domain (moment.start + moment.duration) (omega (arith, ok.ends)))
   part_is_domain moment Duration domain ok is = subst IsDomain (sym is) (only_domain moment.duration (omega (arith, ok.ends)))

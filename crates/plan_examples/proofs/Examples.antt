@@ -3,7 +3,7 @@ use Rattle.std.proofs.Common.{◌≡◌, ℕ, suc, zero, ◌+◌, List, [], ◌�
 use Rattle.std.specs.Prelude.{Contains, All, AllPairs, slice_get, ⊤, ◌⊎◌}
 use Rattle.std.specs.List.{AllZip}
 use Rattle.std.proofs.lemmas.Int.{ints}
-use Rattle.domain_core.specs.Domain.{Domain, IsTested, Has, least}
+use Rattle.domain_core.specs.Domain.{Domain, IsTested, IsSingle, Has, least}
 use Rattle.eu_name.specs.declared.name.Part.{Part}
 use Rattle.eu_name.specs.declared.name.Part.TheVariants.{Start, End, Object, Param}
 use Rattle.eu_name.specs.declared.name.TokenName.{TokenName}
@@ -48,12 +48,13 @@ use Rattle.plan_defs.proofs.BlockOrder.{block_transitive}
 use Rattle.plan_defs.proofs.Ordered.{contains_head, contains_cases, contains_none, ordered_none, ordered_one, ordered_link}
 use Rattle.plan_defs.proofs.States.{gives_same}
 use Rattle.plan_examples.specs.Globals.{empty_state, up_to}
-use Rattle.plan_examples.specs.Cases.{short, early, late, using, taking, ruled, tool, battery, drained, activated, rejected}
-use Rattle.plan_examples.specs.Scenes.{the_object, predicate_of, root_of, scene, Moment, exactly, tokens_of, scene_state, guarded, top_block, then_block}
-use Rattle.plan_examples.proofs.Casts.{only_moment, open_moment, one_moment, two_moments, nothing_decided, one_decided, kind_of, fit_no_timelines, fit_no_reusables, fit_no_reservoirs, no_block, root_supported, no_rule, one_rule, none_activated}
+use Rattle.plan_examples.specs.Cases.{short, early, late, using, taking, ruled, either, two_facts, tool, battery, drained, activated, rejected}
+use Rattle.plan_examples.specs.Scenes.{the_object, both_objects, predicate_of, root_of, scene, Moment, exactly, tokens_of, scene_state, guarded, top_block, then_block}
+use Rattle.plan_examples.proofs.Casts.{only_moment, open_moment, either_moment, one_moment, two_moments, nothing_decided, one_decided, kind_of, fit_no_timelines, fit_no_reusables, fit_no_reservoirs, no_block, root_supported, no_rule, one_rule, none_activated}
 use Rattle.plan_examples.proofs.Closed.{IsMoment, closed, supported, slot_same, HasItsBlock}
+use Rattle.plan_examples.proofs.Domains.{both_not_single}
 use Rattle.plan_examples.proofs.Lists.{all_members, only_member, same_some}
-use Rattle.plan_examples.proofs.Scenes.{tokens_in_order, entries_in_order, HasPartDomain, entry_there, IsTokenOf, token_of}
+use Rattle.plan_examples.proofs.Scenes.{tokens_in_order, entries_in_order, HasPartDomain, entry_of, IsEntryOf, entry_there, IsTokenOf, token_of}
 
 -- a state in which nothing is decided and no block is open is closed where the object is nothing special
 pub undecided_closed : (object_kind : ObjectKind) (pred_kind : PredKind) (numbers : List ℕ) (rules : List Rule) (kinds : List RootKind) (moments : List Moment) → length moments ≡ length kinds
@@ -115,7 +116,7 @@ module _ (blocks : List TokenBlock) (quantity : Domain) where
     is_open = record {
       activated = contains_head (Activate (root_token 0)) [];
       has_block = record {
-        slot = record { pred = 0; object = Given the_object };
+        slot = record { pred = 0; object = Given both_objects };
         has_token = record { root = root_of 0 Goal; is_root = refl; reached = refl };
         rule = guarded;
         has_rule = record { predicate = predicate_of pred.Plain (0 ∷ []); place = 0; is_predicate = refl; listed = refl; is_rule = refl };
@@ -126,7 +127,7 @@ module _ (blocks : List TokenBlock) (quantity : Domain) where
 
   pub has_block : (path : List Turn) (entries : Entries) → Follows (λ guard side. ⊤) guarded.top path entries → IsBlock ruled (record { token = root_token 0; rule = 0; path = path }) entries
   has_block path entries way = record {
-    slot = record { pred = 0; object = Given the_object };
+    slot = record { pred = 0; object = Given both_objects };
     has_token = record { root = root_of 0 Goal; is_root = refl; reached = refl };
     rule = guarded;
     has_rule = record { predicate = predicate_of pred.Plain (0 ∷ []); place = 0; is_predicate = refl; listed = refl; is_rule = refl };
@@ -295,8 +296,8 @@ module _ (moments : List Moment) where
   pub part_is : (place : ℕ) (moment : Moment) (part : Part) (domain other : Domain) → slice_get moments place ≡ Some moment → HasPartDomain moment part domain → Gives calm (Token (root_token place) part) other → domain ≡ other
   part_is place moment part domain other at is gives = gives_same calm (in_order [] moments (ordered_none IsBlockBefore)) (Token (root_token place) part) domain other (part_there place moment part domain at is) gives
 
-  pub is_on : (place : ℕ) (moment : Moment) → slice_get moments place ≡ Some moment → IsOn calm (root_token place) (pos 0)
-  is_on place moment at = (the_object, part_there place moment Object the_object at refl, record { has = contains_head (pos 0) []; only = λ v c. sym (only_member (pos 0) v c) })
+  pub is_on : (place : ℕ) (moment : Moment) → slice_get moments place ≡ Some moment → the_object ≡ moment.object → IsOn calm (root_token place) (pos 0)
+  is_on place moment at on = (the_object, part_there place moment Object the_object at on, record { has = contains_head (pos 0) []; only = λ v c. sym (only_member (pos 0) v c) })
 
 -- what ends at 7 doesn't end by 0
 seven_is_late : (domains : List Domain) → AllZip (HasDomain (Gives (scene_state [] (early ∷ late ∷ [])))) (part_of (root_token 1) End ∷ part_of (root_token 0) Start ∷ []) domains
@@ -325,8 +326,8 @@ overlap_collides p =
       other_active = inl (refl, (root_of 1 Fact, refl, refl));
       timeline = pos 0;
       is_timeline = (_, (0, refl, refl), refl);
-      one_on = is_on moments 0 early refl;
-      other_on = is_on moments 1 late refl;
+      one_on = is_on moments 0 early refl refl;
+      other_on = is_on moments 1 late refl refl;
     })
     (record {
       end = exactly 5;
@@ -373,13 +374,13 @@ surely_uses : (capacity : ℕ) → SurelyUses (tool capacity) [] (scene_state []
 surely_uses capacity = record {
   actor = record {
     active = inl (refl, (root_of 0 Fact, refl, refl));
-    slot = record { pred = 0; object = Given the_object };
+    slot = record { pred = 0; object = Given both_objects };
     has_token = record { root = root_of 0 Fact; is_root = refl; reached = refl };
     predicate = predicate_of pred.Uses [];
     is_predicate = refl;
     is_kind = refl;
   };
-  on = is_on (using ∷ []) 0 using refl;
+  on = is_on (using ∷ []) 0 using refl refl;
   started = (exactly 0, part_there (using ∷ []) 0 using Start (exactly 0) refl refl, omega (arith, ints));
   not_ended = (exactly 5, part_there (using ∷ []) 0 using End (exactly 5) refl refl, omega (arith, ints));
   least = (exactly 2, part_there (using ∷ []) 0 using (Param 0) (exactly 2) refl refl, refl);
@@ -394,6 +395,57 @@ pub too_little : IsClosed (tool 1) [] (scene_state [] (using ∷ [])) → ⊥
 too_little p =
     let found = p.reusables (pos 0) _ (pos 1) (pos 0) (0, refl, refl) refl (omega (arith, ints), omega (arith, ints)) in
     two_is_more found.shares found.are_shares found.enough
+
+-- what may be on either tool surely uses neither
+pub either_tool_closed : IsClosed (tool 1) [] (scene_state [] (either using ∷ []))
+either_tool_closed =
+    undecided_closed (kind.Reusable (pos 1)) pred.Uses [] [] (Fact ∷ []) (either using ∷ []) refl (one_moment (either using) (either_moment using (only_moment 0 5 2 (omega arith) (omega arith) (omega arith))))
+    (no_rule [] (kind.Reusable (pos 1)) pred.Uses [] (Fact ∷ []))
+    (fit_no_timelines [] (kind.Reusable (pos 1)) pred.Uses [] [] (Fact ∷ []) [] (scene_state [] (either using ∷ [])) (λ e. absurd (cc)))
+    fits
+    (fit_no_reservoirs [] (kind.Reusable (pos 1)) pred.Uses [] [] (Fact ∷ []) [] (scene_state [] (either using ∷ [])) (λ initial low high e. absurd (cc)))
+  where
+    fits : FitReusables (tool 1) [] (scene_state [] (either using ∷ []))
+    fits value object capacity instant is kind_is inside =
+        let same : kind.Reusable (pos 1) ≡ kind.Reusable capacity = sym (kind_of [] (kind.Reusable (pos 1)) pred.Uses [] [] (Fact ∷ []) value object is) ∙ kind_is in
+        let one : pos 1 ≡ capacity = cc in record {
+          shares = pos 0 ∷ [];
+          are_shares = (
+            record {
+              none = omega (arith, ints);
+              enough = λ quantity uses. absurd (both_not_single value
+                  (subst (λ d. IsSingle d value) (sym (part_is (either using ∷ []) 0 (either using) Object both_objects uses.on.0 refl refl uses.on.1)) uses.on.2));
+            },
+            tt,
+          );
+          enough = omega (arith, ints, one);
+        }
+
+-- what may be on either timeline overlaps nothing
+pub either_timeline_closed : IsClosed (two_facts kind.Timeline) [] (scene_state [] (either early ∷ late ∷ []))
+either_timeline_closed =
+    undecided_closed kind.Timeline pred.Plain [] [] (Fact ∷ Fact ∷ []) (either early ∷ late ∷ []) refl
+    (two_moments (either early) late (either_moment early (only_moment 0 5 0 (omega arith) (omega arith) (omega arith))) (only_moment 4 3 0 (omega arith) (omega arith) (omega arith)))
+    (no_rule [] kind.Timeline pred.Plain [] (Fact ∷ Fact ∷ [])) fits
+    (fit_no_reusables [] kind.Timeline pred.Plain [] [] (Fact ∷ Fact ∷ []) [] (scene_state [] (either early ∷ late ∷ [])) (λ capacity e. absurd (cc)))
+    (fit_no_reservoirs [] kind.Timeline pred.Plain [] [] (Fact ∷ Fact ∷ []) [] (scene_state [] (either early ∷ late ∷ [])) (λ initial low high e. absurd (cc)))
+  where
+    -- so what is on one timeline alone is the second token
+    is_second : (token : TokenName) (value : ℤ) → IsOn (scene_state [] (either early ∷ late ∷ [])) token value → token ≡ root_token 1
+    is_second token value on = at (entry_of 0 (either early ∷ late ∷ []) (Token token Object) on.0 on.1)
+      where
+        at_place : (place : ℕ) (moment : Moment) → slice_get (either early ∷ late ∷ []) place ≡ Some moment → token ≡ root_token (0 + place) → token ≡ root_token 1
+        at_place zero moment at named =
+            let gives = subst (λ t. Gives (scene_state [] (either early ∷ late ∷ [])) (Token t Object) on.0) named on.1 in
+            absurd (both_not_single value (subst (λ d. IsSingle d value) (sym (part_is (either early ∷ late ∷ []) 0 (either early) Object both_objects on.0 refl refl gives)) on.2))
+        at_place (suc zero) moment at named = named
+        at_place (suc (suc place)) moment at named = absurd (cc)
+
+        at : IsEntryOf 0 (either early ∷ late ∷ []) (Token token Object) on.0 → token ≡ root_token 1
+        at is = let e = is.named in let named : token ≡ root_token (0 + is.place) = cc in at_place is.place is.moment is.at named
+
+    fits : FitTimelines (two_facts kind.Timeline) [] (scene_state [] (either early ∷ late ∷ []))
+    fits one other share late_end = absurd (share.apart (is_second one share.timeline share.one_on ∙ sym (is_second other share.timeline share.other_on)))
 
 -- ---- reservoirs
 
@@ -442,13 +494,13 @@ surely_takes : SurelyChanges battery rejected drained (pos 0) (pos 0) pred.Consu
 surely_takes = record {
   actor = record {
     active = inl (refl, (root_of 0 Fact, refl, refl));
-    slot = record { pred = 0; object = Given the_object };
+    slot = record { pred = 0; object = Given both_objects };
     has_token = record { root = root_of 0 Fact; is_root = refl; reached = refl };
     predicate = predicate_of pred.Consume [];
     is_predicate = refl;
     is_kind = refl;
   };
-  on = is_on (taking ∷ late ∷ []) 0 taking refl;
+  on = is_on (taking ∷ late ∷ []) 0 taking refl refl;
   started = (exactly 0, part_there (taking ∷ late ∷ []) 0 taking Start (exactly 0) refl refl, omega (arith, ints));
   least = (exactly 6, part_there (taking ∷ late ∷ []) 0 taking (Param 0) (exactly 6) refl refl, refl);
 }

@@ -1,4 +1,5 @@
 pub mod Lists
+pub mod Domains
 pub mod Tuples
 pub mod Pairs
 pub mod Scenes

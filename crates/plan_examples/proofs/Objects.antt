@@ -25,8 +25,9 @@ use Rattle.plan_defs.specs.Consistency.{IsClaimConsistent, HasField}
 use Rattle.plan_defs.specs.Terms.{Argument, Variable, ArgumentCounts}
 use Rattle.plan_defs.proofs.Ordered.{contains_head, contains_later, contains_cases, ordered_one, ordered_link}
 use Rattle.plan_examples.specs.Globals.{with_x, with_two, up_to}
-use Rattle.plan_examples.specs.Scenes.{the_object}
-use Rattle.plan_examples.specs.Worlds.{declared_c, declared_v, class_with, object_with, no_choice, one_choice, fielded, field_is, declared_field, both_objects, between}
+use Rattle.plan_examples.specs.Scenes.{the_object, both_objects}
+use Rattle.plan_examples.specs.Worlds.{declared_c, declared_v, class_with, object_with, no_choice, one_choice, fielded, field_is, declared_field, between}
+use Rattle.plan_examples.proofs.Domains.{object_domain, both_domain, object_within}
 use Rattle.plan_examples.proofs.Lists.{all_members, only_member, same_some}
 use Rattle.plan_examples.proofs.Pairs.{is_about, agreeing, only_claim}
 use Rattle.plan_examples.proofs.Tuples.{two_consistent}
@@ -42,14 +43,6 @@ void_collapses state p =
     let variable : declared_c Void ≡ found.1.0 = same_some (declared_c Void) found.1.0 found.1.1 in
     let base : found.0 ≡ Void = found.1.2 ∙ ap (λ (v : VarDecl). v.base) (sym variable) in
     subst (IsInBase given.0) base found.2
-
-object_domain : IsDomain the_object
-object_domain = record {
-  ascending = λ i j d less within. absurd (omega arith);
-  values = all_members IsValue (pos 0 ∷ []) (λ x c. let same = only_member (pos 0) x c in (omega (arith, ints, same), omega (arith, ints, same)));
-  some = omega arith;
-  few = omega arith;
-}
 
 one_is_plain : (value : ℤ) (object : Object) → IsObject one_choice value object → object.kind ≡ kind.Plain
 one_is_plain value object (zero, is, at) = ap (λ (o : Object). o.kind) (sym (same_some _ object at))
@@ -151,20 +144,6 @@ of_first other v (left, right, before, after, h) = at left right before after h
     at [] (w ∷ more ∷ right) before after h = absurd after.1
     at [] (w ∷ []) before after h = (w, after.0, h)
 
-both_domain : IsDomain both_objects
-both_domain = record {
-  ascending = λ i j d less within. pair i j d less within;
-  values = all_members IsValue (pos 0 ∷ pos 1 ∷ []) (λ x c. elim (contains_cases (pos 0) x (pos 1 ∷ []) c) [
-    | inl same ↦ (omega (arith, ints, same), omega (arith, ints, same))
-    | inr later ↦ (let same = only_member (pos 1) x later in (omega (arith, ints, same), omega (arith, ints, same)))
-  ]);
-  some = omega arith;
-  few = omega arith;
-}
-  where
-    pair : AllPairs (λ (one later : ℤ). one <ℤ later) (pos 0 ∷ pos 1 ∷ [])
-    pair = ordered_link (λ (one later : ℤ). one <ℤ later) (λ x y z less more. omega (arith, ints, less, more)) (pos 0) (pos 1) [] (omega (arith, ints)) (ordered_one (λ (one later : ℤ). one <ℤ later) (pos 1))
-
 small_domain : (low high : ℕ) → low ≤ high → high ≤ 9 → IsDomain (between low high)
 small_domain low high less few = ((omega (arith, ints), omega (arith, ints, less, few)), (omega (arith, ints), omega (arith, ints, few)), omega (arith, ints, less))
 
@@ -188,7 +167,7 @@ both_closed =
 pub first_closed : IsClosed fielded [] (with_two the_object (between 1 1))
 first_closed =
     fielded_closed the_object (between 1 1) object_domain (small_domain 1 1 (omega arith) (omega arith))
-    (record { kind = tt; values = λ v c. subst (Contains (pos 0 ∷ pos 1 ∷ [])) (only_member (pos 0) v c) (contains_head (pos 0) (pos 1 ∷ [])) }) (small_within 1 1 (omega arith))
+    object_within (small_within 1 1 (omega arith))
     (λ v c. ([], pos 1 ∷ [], tt, ((omega (arith, ints), omega (arith, ints)), tt), subst (λ w. HasField fielded 0 w (pos 1)) (only_member (pos 0) v c) has_one))
     second
   where

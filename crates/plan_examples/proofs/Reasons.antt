@@ -31,7 +31,7 @@ use Rattle.plan_defs.proofs.Ordered.{contains_head, contains_none}
 use Rattle.plan_examples.specs.Cases.{moment, two_facts, goal_and_fact, limited, at_most_one, activated, activate_it, quantity_is}
 use Rattle.plan_examples.specs.Globals.{declared_x, with_two, up_to}
 use Rattle.plan_examples.specs.Refused.{IsFree, one_token, two_tokens, merge_them, order_them, order_it, reject_it, alone, two_goals, mixed, facts_and_goal, many, many_moments, many_tokens}
-use Rattle.plan_examples.specs.Scenes.{the_object, predicate_of, root_of, scene_with, Moment, tokens_of}
+use Rattle.plan_examples.specs.Scenes.{the_object, both_objects, predicate_of, root_of, scene_with, Moment, tokens_of}
 use Rattle.plan_examples.specs.Worlds.{free_two, x_is}
 use Rattle.plan_examples.proofs.Closed.{slot_same}
 use Rattle.plan_examples.proofs.Lists.{all_members, only_member, same_some, get_root, root_get}
@@ -104,7 +104,7 @@ quantity_base : (value : ℤ) → Has (Range (pos 0) (pos 1000000)) value → Is
 quantity_base value has = (
   Range (pos 0) (pos 1000000),
   (
-    record { pred = 0; object = Given the_object },
+    record { pred = 0; object = Given both_objects },
     record { root = root_of 0 Rejectable; is_root = refl; reached = refl },
     (_, record { predicate = predicate_of pred.Plain []; is_predicate = refl; declared = refl }, refl),
   ),
@@ -277,8 +277,8 @@ target_inactive = record { hinders = inactive [] (Goal ∷ Goal ∷ []) 1 Goal r
 
 same_predicate : HaveSamePredicate goal_and_fact (root_token 0) (root_token 1)
 same_predicate = record {
-  slot = record { pred = 0; object = Given the_object };
-  other_slot = record { pred = 0; object = Given the_object };
+  slot = record { pred = 0; object = Given both_objects };
+  other_slot = record { pred = 0; object = Given both_objects };
   has_one = record { root = root_of 0 Goal; is_root = refl; reached = refl };
   has_other = record { root = root_of 1 Fact; is_root = refl; reached = refl };
   same = refl;
@@ -332,8 +332,8 @@ order_of_one = record { hinders = refl; first = first }
 
 differ : HaveSamePredicate mixed (root_token 0) (root_token 1) → ⊥
 differ p =
-    let one : p.slot ≡ record { pred = 0; object = Given the_object } = p.has_one.reached ∙ ap slot_of (sym (same_some _ p.has_one.root p.has_one.is_root)) in
-    let other : p.other_slot ≡ record { pred = 1; object = Given the_object } = p.has_other.reached ∙ ap slot_of (sym (same_some _ p.has_other.root p.has_other.is_root)) in
+    let one : p.slot ≡ record { pred = 0; object = Given both_objects } = p.has_one.reached ∙ ap slot_of (sym (same_some _ p.has_one.root p.has_one.is_root)) in
+    let other : p.other_slot ≡ record { pred = 1; object = Given both_objects } = p.has_other.reached ∙ ap slot_of (sym (same_some _ p.has_other.root p.has_other.is_root)) in
     let preds : 0 ≡ 1 = sym (ap (λ (s : Slot). s.pred) one) ∙ (p.same ∙ ap (λ (s : Slot). s.pred) other) in
     omega (arith, preds)
 

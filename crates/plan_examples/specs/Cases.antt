@@ -17,25 +17,25 @@ use Rattle.model_core.specs.declared.model.RootKind.{RootKind}
 use Rattle.model_core.specs.declared.model.RootKind.TheVariants.{Goal, Rejectable, Fact}
 use Rattle.model_core.specs.State.{State}
 use Rattle.model_core.specs.Tokens.{root_token}
-use Rattle.plan_examples.specs.Scenes.{scene, scene_with, Moment, exactly, scene_state, guarded}
+use Rattle.plan_examples.specs.Scenes.{scene, the_object, both_objects, scene_with, Moment, exactly, scene_state, guarded}
 
 -- from 0 to 1, with a quantity in this domain
 abbrev pub short : Domain → Moment
-short quantity = record { start = 0; duration = 1; quantity = quantity }
+short quantity = record { start = 0; duration = 1; quantity = quantity; object = the_object }
 
 -- from 0 to 5, and from 4 to 7
 abbrev pub early : Moment
-early = record { start = 0; duration = 5; quantity = exactly 0 }
+early = record { start = 0; duration = 5; quantity = exactly 0; object = the_object }
 
 abbrev pub late : Moment
-late = record { start = 4; duration = 3; quantity = exactly 0 }
+late = record { start = 4; duration = 3; quantity = exactly 0; object = the_object }
 
 -- from 0 to 5, with a quantity of 2 or 6
 abbrev pub using : Moment
-using = record { start = 0; duration = 5; quantity = exactly 2 }
+using = record { start = 0; duration = 5; quantity = exactly 2; object = the_object }
 
 abbrev pub taking : Moment
-taking = record { start = 0; duration = 5; quantity = exactly 6 }
+taking = record { start = 0; duration = 5; quantity = exactly 6; object = the_object }
 
 -- one goal, on an object that is nothing special
 abbrev pub lone_goal : Model
@@ -71,7 +71,16 @@ rejected = Reject (root_token 1) ∷ []
 
 -- from this instant on, for so long, with this quantity
 abbrev pub moment : ℕ → ℕ → ℕ → Moment
-moment start duration quantity = record { start = start; duration = duration; quantity = exactly quantity }
+moment start duration quantity = record { start = start; duration = duration; quantity = exactly quantity; object = the_object }
+
+-- the same on either object
+abbrev pub either : Moment → Moment
+either found = record {
+  start = found.start;
+  duration = found.duration;
+  quantity = found.quantity;
+  object = both_objects;
+}
 
 -- a goal and a fact
 abbrev pub goal_and_fact : Model

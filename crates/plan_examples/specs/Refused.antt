@@ -11,7 +11,7 @@ use Rattle.model_core.specs.State.{State}
 use Rattle.model_core.specs.Tokens.{root_token}
 use Rattle.plan_defs.specs.Refusals.{Refusal, Hinders}
 use Rattle.plan_examples.specs.Cases.{moment}
-use Rattle.plan_examples.specs.Scenes.{the_object, predicate_of, predicate_called, root_of, label_of, scene, Moment, scene_state}
+use Rattle.plan_examples.specs.Scenes.{both_objects, object_called, predicate_of, predicate_called, root_of, label_of, scene, Moment, scene_state}
 
 -- no reason speaks against the decision
 abbrev pub IsFree : Model → List Decision → State → Decision → Type 0
@@ -49,7 +49,7 @@ abbrev pub mixed : Model
 mixed = record {
   enums = [];
   classes = record { name = codes "C"; parent = None; fields = [] } ∷ [];
-  objects = record { name = codes "o"; class = 0; fields = []; kind = kind.Plain } ∷ [];
+  objects = object_called (codes "o") kind.Plain ∷ object_called (codes "p") kind.Plain ∷ [];
   preds = predicate_of pred.Plain [] ∷ predicate_called (codes "Q") pred.Plain [] ∷ [];
   rules = [];
   problem = record {
@@ -58,7 +58,7 @@ mixed = record {
     steps = 1;
     roots =
         root_of 0 Goal
-        ∷ record { label = label_of 1; kind = Fact; pred = 1; object = the_object }
+        ∷ record { label = label_of 1; kind = Fact; pred = 1; object = both_objects }
         ∷ [];
     globals = [];
     items = [];

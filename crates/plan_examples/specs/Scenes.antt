@@ -1,9 +1,11 @@
--- Problems with one object and one predicate, and states in which each token has its times and a quantity.
+-- Problems with two objects and one predicate, and states in which each token has its times and a quantity.
 use Rattle.std.specs.Prelude.{ℕ, zero, suc, ◌+◌, pos, List, [], ◌∷◌, ◌++◌, None, codes}
 use Rattle.domain_core.specs.Domain.{Domain, Range, Set}
-use Rattle.eu_name.specs.declared.name.Part.TheVariants.{Start, End, Duration, Object, Param}
+use Rattle.eu_name.specs.declared.name.Part.TheVariants as parts
+use Rattle.eu_name.specs.declared.name.Part.TheVariants.{Start, End, Duration, Param}
 use Rattle.eu_name.specs.declared.name.TokenName.{TokenName}
 use Rattle.eu_name.specs.declared.name.VarName.TheVariants.{Token}
+use Rattle.model_core.specs.declared.class.Object.{Object}
 use Rattle.model_core.specs.declared.class.ObjectKind.{ObjectKind}
 use Rattle.model_core.specs.declared.class.PredKind.{PredKind}
 use Rattle.model_core.specs.declared.class.Pred.{Pred}
@@ -22,9 +24,17 @@ use Rattle.model_core.specs.Entries.{NoEntry, WithBranch}
 use Rattle.model_core.specs.State.{State, VarDomain}
 use Rattle.model_core.specs.Tokens.{root_token}
 
--- the object, which has the number 0, alone
+-- the first object alone
 abbrev pub the_object : Domain
 the_object = Set (pos 0 ∷ [])
+
+-- both objects, which have the numbers 0 and 1
+abbrev pub both_objects : Domain
+both_objects = Set (pos 0 ∷ pos 1 ∷ [])
+
+-- an object of this name and kind
+abbrev pub object_called : List ℕ → ObjectKind → Object
+object_called name kind = record { name = name; class = 0; fields = []; kind = kind }
 
 -- a predicate of this name: its tokens have a quantity
 abbrev pub predicate_called : List ℕ → PredKind → List ℕ → Pred
@@ -46,20 +56,20 @@ label_of zero = codes "g"
 label_of (suc number) = codes "g" ++ label_of number
 
 abbrev pub root_of : ℕ → RootKind → Root
-root_of number kind = record { label = label_of number; kind = kind; pred = 0; object = the_object }
+root_of number kind = record { label = label_of number; kind = kind; pred = 0; object = both_objects }
 
 -- roots of these kinds, from this number on
 abbrev pub roots_from : ℕ → List RootKind → List Root
 roots_from number [] = []
 roots_from number (kind ∷ kinds) = root_of number kind ∷ roots_from (number + 1) kinds
 
--- a problem from 0 to 10 with these constraints, an object and a predicate of these kinds, these rules of the predicate, and
+-- a problem from 0 to 10 with these constraints, two objects and a predicate of these kinds, these rules of the predicate, and
 -- these roots
 abbrev pub scene_with : List Item → ObjectKind → PredKind → List ℕ → List Rule → List RootKind → Model
 scene_with items object_kind pred_kind numbers rules kinds = record {
   enums = [];
   classes = record { name = codes "C"; parent = None; fields = [] } ∷ [];
-  objects = record { name = codes "o"; class = 0; fields = []; kind = object_kind } ∷ [];
+  objects = object_called (codes "o") object_kind ∷ object_called (codes "p") object_kind ∷ [];
   preds = predicate_of pred_kind numbers ∷ [];
   rules = rules;
   problem = record {
@@ -77,11 +87,12 @@ scene_with items object_kind pred_kind numbers rules kinds = record {
 abbrev pub scene : ObjectKind → PredKind → List ℕ → List Rule → List RootKind → Model
 scene = scene_with []
 
--- when a token takes place, and how much it uses, produces or consumes
+-- when a token takes place, how much it uses, produces or consumes, and on which objects it may be
 pub record Moment : Type 0 where
   pub start : ℕ
   pub duration : ℕ
   pub quantity : Domain
+  pub object : Domain
 
 abbrev pub exactly : ℕ → Domain
 exactly number = Range (pos number) (pos number)
@@ -95,7 +106,7 @@ tokens_of number (moment ∷ moments) = root_token number ∷ tokens_of (number 
 abbrev pub scene_entries : ℕ → List Moment → List VarDomain
 scene_entries number [] = []
 scene_entries number (moment ∷ moments) =
-    record { name = Token (root_token number) Object; domain = the_object }
+    record { name = Token (root_token number) parts.Object; domain = moment.object }
     ∷ record { name = Token (root_token number) Start; domain = exactly moment.start }
     ∷ record { name = Token (root_token number) End; domain = exactly (moment.start + moment.duration) }
     ∷ record { name = Token (root_token number) Duration; domain = exactly moment.duration }

@@ -1,6 +1,6 @@
 -- Problems without tokens: variables that are objects, fields of objects, and two variables with decisions on them.
 use Rattle.std.specs.Prelude.{ℕ, ℤ, pos, List, [], ◌∷◌, None, codes}
-use Rattle.domain_core.specs.Domain.{Domain, Range, Set}
+use Rattle.domain_core.specs.Domain.{Domain, Range}
 use Rattle.eu_name.specs.declared.name.VarName.TheVariants.{Global}
 use Rattle.model_core.specs.declared.class.Class.{Class}
 use Rattle.model_core.specs.declared.class.Object as classes
@@ -17,7 +17,7 @@ use Rattle.model_core.specs.declared.variable.Base.TheVariants.{Given, Void}
 use Rattle.model_core.specs.declared.variable.ValueKind.TheVariants.{Int, Object}
 use Rattle.model_core.specs.declared.variable.VarDecl.{VarDecl}
 use Rattle.plan_examples.specs.Globals.{declared_x, problem_of, problem_with, at_most_1, up_to}
-use Rattle.plan_examples.specs.Scenes.{the_object}
+use Rattle.plan_examples.specs.Scenes.{the_object, both_objects}
 
 -- a class with these fields, and an object of it with these values in them
 abbrev pub class_with : List VarDecl → Class
@@ -43,10 +43,6 @@ one_choice =
 
 abbrev pub declared_field : VarDecl
 declared_field = record { name = codes "f"; kind = Int; base = Given (up_to 9) }
-
--- the objects, which have the numbers 0 and 1
-abbrev pub both_objects : Domain
-both_objects = Set (pos 0 ∷ pos 1 ∷ [])
 
 -- `int [0 9] v;`
 abbrev pub declared_v : VarDecl

@@ -5,8 +5,8 @@ ghost use Rattle.eu_name.specs.declared.name.VarName.TheVariants.{Global};
 ghost use Rattle.model_core.specs.declared.decision.Decision.TheVariants.{Specify};
 ghost use Rattle.plan_defs.specs.Closure.{IsClosed, IsCollapsed};
 ghost use Rattle.plan_examples.specs.Globals.{problem_of, free_x, low_x, empty_state, with_x, with_two, up_to};
-ghost use Rattle.plan_examples.specs.Scenes.{the_object};
-ghost use Rattle.plan_examples.specs.Worlds.{no_choice, one_choice, fielded, both_objects, between};
+ghost use Rattle.plan_examples.specs.Scenes.{the_object, both_objects};
+ghost use Rattle.plan_examples.specs.Worlds.{no_choice, one_choice, fielded, between};
 
 /// A state has each variable of the problem.
 pub fn a_state_has_all_variables()

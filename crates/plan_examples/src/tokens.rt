@@ -1,11 +1,11 @@
-//! Tokens of one predicate on one object.
+//! Tokens of one predicate on two objects of one kind.
 
 ghost use Rattle.std.specs.Prelude.{[], ◌∷◌};
 ghost use Rattle.model_core.specs.declared.class.ObjectKind.TheVariants.{Plain, Timeline};
 ghost use Rattle.model_core.specs.declared.model.RootKind.TheVariants.{Fact, Rejectable};
 ghost use Rattle.plan_defs.specs.Closure.{IsClosed};
 ghost use Rattle.plan_examples.specs.Cases.{short, early, late, using, lone_goal, ruled, two_facts, tool, battery, drained, activated, rejected};
-ghost use Rattle.plan_examples.specs.Cases.{moment, limited, goal_and_fact, merged, ordered};
+ghost use Rattle.plan_examples.specs.Cases.{moment, either, limited, goal_and_fact, merged, ordered};
 ghost use Rattle.plan_examples.specs.Globals.{empty_state, up_to};
 ghost use Rattle.plan_examples.specs.Scenes.{exactly, scene_state, top_block, then_block, else_block};
 
@@ -70,6 +70,14 @@ pub fn timelines_force_an_order()
 pub fn reusables_have_a_capacity()
     ensures enough { IsClosed (tool 2) [] (scene_state [] (using ∷ [])) }
     ensures too_little { IsClosed (tool 1) [] (scene_state [] (using ∷ [])) → ⊥ }
+{}
+
+/// What may be on another object neither uses this one nor overlaps what is on it.
+pub fn objects_count_once_decided()
+    ensures sure_use { IsClosed (tool 1) [] (scene_state [] (using ∷ [])) → ⊥ }
+    ensures open_use { IsClosed (tool 1) [] (scene_state [] (either using ∷ [])) }
+    ensures sure_overlap { IsClosed (two_facts Timeline) [] (scene_state [] (early ∷ late ∷ [])) → ⊥ }
+    ensures open_overlap { IsClosed (two_facts Timeline) [] (scene_state [] (either early ∷ late ∷ [])) }
 {}
 
 /// The level of a reservoir counts once no further token can come: 6 of 5 are taken, which is too much as soon as it is decided what becomes of the second token.
