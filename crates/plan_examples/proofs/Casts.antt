@@ -119,13 +119,13 @@ nothing_listed items object_kind pred_kind rules kinds number rule p =
 pub no_rule : (items : List Item) (object_kind : ObjectKind) (pred_kind : PredKind) (rules : List Rule) (kinds : List RootKind) (number : ℕ) (rule : Rule) → HasRule (scene_with items object_kind pred_kind [] rules kinds) 0 number rule → rule ≡ guarded
 no_rule items object_kind pred_kind rules kinds number rule p = absurd (nothing_listed items object_kind pred_kind rules kinds number rule p)
 
-pub one_rule : (items : List Item) (object_kind : ObjectKind) (pred_kind : PredKind) (kinds : List RootKind) (number : ℕ) (rule : Rule) → HasRule (scene_with items object_kind pred_kind (0 ∷ []) (guarded ∷ []) kinds) 0 number rule → (rule ≡ guarded) × (number ≡ 0)
-one_rule items object_kind pred_kind kinds number rule p =
+pub one_rule : (items : List Item) (only : Rule) (object_kind : ObjectKind) (pred_kind : PredKind) (kinds : List RootKind) (number : ℕ) (rule : Rule) → HasRule (scene_with items object_kind pred_kind (0 ∷ []) (only ∷ []) kinds) 0 number rule → (rule ≡ only) × (number ≡ 0)
+one_rule items only object_kind pred_kind kinds number rule p =
     let predicate : predicate_of pred_kind (0 ∷ []) ≡ p.predicate = same_some (predicate_of pred_kind (0 ∷ [])) p.predicate p.is_predicate in
     at number p.place (subst (λ (q : Pred). slice_get q.rules number ≡ Some p.place) (sym predicate) p.listed) p.is_rule
   where
-    at : (number place : ℕ) → slice_get (0 ∷ []) number ≡ Some place → slice_get (guarded ∷ []) place ≡ Some rule → (rule ≡ guarded) × (number ≡ 0)
-    at zero zero listed is = (sym (same_some guarded rule is), refl)
+    at : (number place : ℕ) → slice_get (0 ∷ []) number ≡ Some place → slice_get (only ∷ []) place ≡ Some rule → (rule ≡ only) × (number ≡ 0)
+    at zero zero listed is = (sym (same_some only rule is), refl)
     at zero (suc place) listed is = let e = same_some 0 (suc place) listed in absurd (omega (arith, e))
     at (suc number) place listed is = absurd (cc)
 

@@ -102,11 +102,11 @@ module _ (items : List Item) (object_kind : ObjectKind) (pred_kind : PredKind) (
       let found = get_root 0 kinds number p.root p.is_root in
       p.reached ∙ ap slot_of (sym found.1.1)
 
-  has_token : (number : ℕ) (kind : RootKind) → slice_get kinds number ≡ Some kind → HasToken model (root_token number) the_slot
+  pub has_token : (number : ℕ) (kind : RootKind) → slice_get kinds number ≡ Some kind → HasToken model (root_token number) the_slot
   has_token number kind at = record { root = root_of (0 + number) kind; is_root = root_get 0 kinds number kind at; reached = refl }
 
   -- parts of tokens, and the bases of those that there are
-  abbrev part_base : Part → Base
+  abbrev pub part_base : Part → Base
   part_base Object = Given both_objects
   part_base Start = Given (Range (pos 0) (pos 10))
   part_base End = Given (Range (pos 0) (pos 10))
@@ -144,7 +144,7 @@ module _ (items : List Item) (object_kind : ObjectKind) (pred_kind : PredKind) (
   part_within moment (Param zero) domain ok is = subst (λ d. IsWithin d (Range (pos 0) (pos 1000000))) (sym is) ok.within
   part_within moment (Param (suc number)) domain ok is = absurd is
 
-  only_domain : (value : ℕ) → value ≤ 10 → IsDomain (exactly value)
+  pub only_domain : (value : ℕ) → value ≤ 10 → IsDomain (exactly value)
   only_domain value low = ((omega (arith, ints), omega (arith, ints)), (omega (arith, ints), omega (arith, ints)), omega (arith, ints))
 
   pub part_is_domain : (moment : Moment) (part : Part) (domain : Domain) → IsMoment moment → HasPartDomain moment part domain → IsDomain domain
@@ -161,22 +161,15 @@ module _ (items : List Item) (object_kind : ObjectKind) (pred_kind : PredKind) (
 
   -- ---- a state with as many moments as there are roots
 
-  module _ (blocks : List TokenBlock) (moments : List Moment) (lengths : length moments ≡ length kinds) (are : (place : ℕ) (moment : Moment) → slice_get moments place ≡ Some moment → IsMoment moment)
-      (plain : (number : ℕ) (rule : Rule) → HasRule model 0 number rule → rule ≡ guarded) where
+  module _ (blocks : List TokenBlock) (moments : List Moment) (lengths : length moments ≡ length kinds) (are : (place : ℕ) (moment : Moment) → slice_get moments place ≡ Some moment → IsMoment moment) where
     abbrev state : State
     state = scene_state blocks moments
-
-    stands_in : (Allows : Guard → Side → Type 0) (block : TokenBlock) (entries : Entries) (number : ℕ) → block.token ≡ root_token number → HasBlock model Allows block entries → (entries ≡ guarded.top) ⊎ (entries ≡ NoEntry)
-    stands_in Allows block entries number named p =
-        let slot = slot_same number p.slot (subst (λ t. HasToken model t p.slot) named p.has_token) in
-        let rule = plain block.rule p.rule (subst (λ (s : Slot). HasRule model s.pred block.rule p.rule) slot p.has_rule) in
-        guarded_follows Allows block.path entries (subst (λ (r : Rule). Follows Allows r.top block.path entries) rule p.way)
 
     no_shift : (number : ℕ) → 0 + number ≡ number
     no_shift number = omega arith
 
     -- the variables of the state are those that it is about
-    gives_part : (token : TokenName) (part : Part) → IsAbout model state (Token token part) → (domain : Domain) × Gives state (Token token part) domain
+    pub gives_part : (token : TokenName) (part : Part) → IsAbout model state (Token token part) → (domain : Domain) × Gives state (Token token part) domain
     gives_part token part about =
         let is = token_of 0 moments token about.0 in
         let base = about.1.0 in
@@ -185,7 +178,7 @@ module _ (items : List Item) (object_kind : ObjectKind) (pred_kind : PredKind) (
         let found = part_domain is.moment part base (subst (λ (s : Slot). HasPartBase model s part base) slot about.1.1.2) in
         (found.0, subst (λ t. Gives state (Token t part) found.0) (sym is.named) (entry_there 0 moments is.place is.moment part found.0 is.at found.1))
 
-    about_part : (name : VarName) (domain : Domain) → Gives state name domain → IsAbout model state name
+    pub about_part : (name : VarName) (domain : Domain) → Gives state name domain → IsAbout model state name
     about_part name domain gives =
         let is = entry_of 0 moments name domain gives in
         let kind = get_alike moments kinds is.place is.moment lengths is.at in
@@ -194,35 +187,7 @@ module _ (items : List Item) (object_kind : ObjectKind) (pred_kind : PredKind) (
         subst (IsAbout model state) (sym named)
         (there, (part_base is.part, (the_slot, has_token is.place kind.0 kind.1, has_part_base is.moment is.part domain is.is)))
 
-    no_locals : (token : TokenName) (rule number : ℕ) → All (HasItsBlock moments) blocks → IsAbout model state (Local token rule number) → ⊥
-    no_locals token rule number blocks_ok about =
-        let block : TokenBlock = about.block in
-        let entries : Entries = about.entries in
-        let place : HasItsBlock moments block = All-contains (HasItsBlock moments) blocks block blocks_ok about.is_open in
-        let is = token_of 0 moments block.token place.0 in
-        let none = only_guards entries (OfLocal number) (stands_in (λ guard side. ⊤) block entries is.place (is.named ∙ ap root_token (no_shift is.place)) about.is_block) about.stands in
-        let e = none.1.2 in absurd (cc)
-
-    variables_of : All (HasItsBlock moments) blocks → (name : VarName) → IsAbout model state name ↔ ((domain : Domain) × Gives state name domain)
-    variables_of blocks_ok (Global number) = (λ about. absurd (omega (arith, about)), λ found. about_part (Global number) found.0 found.1)
-    variables_of blocks_ok (Token token part) = (gives_part token part, λ found. about_part (Token token part) found.0 found.1)
-    variables_of blocks_ok (Local token rule number) = (λ about. absurd (no_locals token rule number blocks_ok about), λ found. about_part (Local token rule number) found.0 found.1)
-
-    is_state : AllPairs IsBlockBefore blocks → All (HasItsBlock moments) blocks → IsState model state
-    is_state ordered blocks_ok = record {
-      order = record { tokens = tokens_in_order 0 moments; blocks = ordered; entries = entries_in_order 0 moments };
-      tokens = all_members (λ token. (slot : Slot) × HasToken model token slot) (tokens_of 0 moments) (λ token c.
-          let is = token_of 0 moments token c in
-          let kind = get_alike moments kinds is.place is.moment lengths is.at in
-          (the_slot, subst (λ t. HasToken model t the_slot) (sym (is.named ∙ ap root_token (no_shift is.place))) (has_token is.place kind.0 kind.1)));
-      blocks = blocks_ok;
-      variables = variables_of blocks_ok;
-      domains = all_members (λ (entry : VarDomain). IsDomain entry.domain) (scene_entries 0 moments) (λ entry c.
-          let is = entry_of 0 moments entry.name entry.domain c in
-          part_is_domain is.moment is.part entry.domain (are is.place is.moment is.at) is.is);
-    }
-
-    in_base : AreInBase model state
+    pub in_base : AreInBase model state
     in_base name domain gives =
         let is = entry_of 0 moments name domain gives in
         let about = about_part name domain gives in
@@ -233,22 +198,8 @@ module _ (items : List Item) (object_kind : ObjectKind) (pred_kind : PredKind) (
           part_within is.moment is.part domain (are is.place is.moment is.at) is.is,
         )
 
-    -- a supported token is a root
-    supported_at : (decisions : List Decision) (number : ℕ) (steps : List Step) → IsSupportedToken model (situation_of decisions state) (record { root = number; steps = steps }) → Contains (tokens_of 0 moments) (record { root = number; steps = steps })
-    supported_at decisions number [] p =
-        let kind = get_root 0 kinds number p.root p.is_root in
-        let moment = get_alike kinds moments number kind.0 (sym lengths) kind.1.0 in
-        subst (λ n. Contains (tokens_of 0 moments) (root_token n)) (no_shift number) (token_there 0 moments number moment.0 moment.1)
-    supported_at decisions number (step ∷ steps) p =
-        let asks = p.asked [] step steps refl in
-        let none = only_guards asks.entries (OfSlot step.slot) (stands_in (Opens model (situation_of decisions state) (InRule (root_token number) step.rule)) (record { token = root_token number; rule = step.rule; path = asks.path }) asks.entries number refl asks.is_open.has_block) asks.stands in
-        let e = none.1.2 in absurd (cc)
-
-    pub supported : (decisions : List Decision) (token : TokenName) → IsSupportedToken model (situation_of decisions state) token → Contains (tokens_of 0 moments) token
-    supported decisions token p = supported_at decisions token.root token.steps p
-
     -- a token ends its duration after its start
-    lasts_at : (number : ℕ) (moment : Moment) → slice_get moments number ≡ Some moment → IsClaimConsistent model state (lasts (root_token number))
+    pub lasts_at : (number : ℕ) (moment : Moment) → slice_get moments number ≡ Some moment → IsClaimConsistent model state (lasts (root_token number))
     lasts_at number moment at =
         let gives : (part : Part) (domain : Domain) → HasPartDomain moment part domain → Gives state (Token (root_token number) part) domain
         = λ part domain is. subst (λ n. Gives state (Token (root_token n) part) domain) (no_shift number) (entry_there 0 moments number moment part domain at is) in
@@ -271,60 +222,109 @@ module _ (items : List Item) (object_kind : ObjectKind) (pred_kind : PredKind) (
         one_value number v (inl e) P p = subst P (sym e) p
         one_value number v (inr e) P p = subst P (sym e) p
 
-    -- what else the decisions and the problem ask for: the values that are specified, and what constraints, merges and orders say
-    pub record Grants (decisions : List Decision) : Type 0 where
-      pub respected : (decision : Decision) → Contains decisions decision → IsRespected decision state
-      pub said : (claim : Claim) → IsOfProblem model (IsTaken decisions) claim → IsClaimConsistent model state claim
-      pub merged : (claim : Claim) → IsOfMerge model decisions claim → IsClaimConsistent model state claim
-      pub ordered : (claim : Claim) → IsOfOrder decisions claim → IsClaimConsistent model state claim
+    module _ (plain : (number : ℕ) (rule : Rule) → HasRule model 0 number rule → rule ≡ guarded) where
+      stands_in : (Allows : Guard → Side → Type 0) (block : TokenBlock) (entries : Entries) (number : ℕ) → block.token ≡ root_token number → HasBlock model Allows block entries → (entries ≡ guarded.top) ⊎ (entries ≡ NoEntry)
+      stands_in Allows block entries number named p =
+          let slot = slot_same number p.slot (subst (λ t. HasToken model t p.slot) named p.has_token) in
+          let rule = plain block.rule p.rule (subst (λ (s : Slot). HasRule model s.pred block.rule p.rule) slot p.has_rule) in
+          guarded_follows Allows block.path entries (subst (λ (r : Rule). Follows Allows r.top block.path entries) rule p.way)
 
-    claims : (decisions : List Decision) → Grants decisions → All (HasItsBlock moments) blocks → (claim : Claim) → IsClaim model decisions state claim → IsClaimConsistent model state claim
-    claims decisions granted blocks_ok claim (inl p) = granted.said claim p
-    claims decisions granted blocks_ok claim (inr (inl p)) =
-        let place : HasItsBlock moments p.block = All-contains (HasItsBlock moments) blocks p.block blocks_ok p.is_open in
-        let is = token_of 0 moments p.block.token place.0 in
-        let none = only_guards p.entries (OfItem p.item) (stands_in (λ guard side. ⊤) p.block p.entries is.place (is.named ∙ ap root_token (no_shift is.place)) p.has_block) p.stands in
-        let e = none.1.2 in absurd (cc)
-    claims decisions granted blocks_ok claim (inr (inr (inl p))) =
-        let is = token_of 0 moments p.token p.there in
-        subst (IsClaimConsistent model state) (sym (p.says ∙ ap lasts (is.named ∙ ap root_token (no_shift is.place)))) (lasts_at is.place is.moment is.at)
-    claims decisions granted blocks_ok claim (inr (inr (inr (inl p)))) = granted.merged claim p
-    claims decisions granted blocks_ok claim (inr (inr (inr (inr p)))) = granted.ordered claim p
+      no_locals : (token : TokenName) (rule number : ℕ) → All (HasItsBlock moments) blocks → IsAbout model state (Local token rule number) → ⊥
+      no_locals token rule number blocks_ok about =
+          let block : TokenBlock = about.block in
+          let entries : Entries = about.entries in
+          let place : HasItsBlock moments block = All-contains (HasItsBlock moments) blocks block blocks_ok about.is_open in
+          let is = token_of 0 moments block.token place.0 in
+          let none = only_guards entries (OfLocal number) (stands_in (λ guard side. ⊤) block entries is.place (is.named ∙ ap root_token (no_shift is.place)) about.is_block) about.stands in
+          let e = none.1.2 in absurd (cc)
 
-    -- so the state is closed where timelines and resources fit, and no block is missing
-    pub closed_with : (decisions : List Decision) → Grants decisions → AllPairs IsBlockBefore blocks → All (HasItsBlock moments) blocks
-        → ((block : TokenBlock) (entries : Entries) → IsSupportedBlock model (situation_of decisions state) block entries → Contains blocks block)
-        → FitTimelines model decisions state → FitReusables model decisions state → FitReservoirs model decisions state → IsClosed model decisions state
-    closed_with decisions granted ordered blocks_ok complete timelines reusables reservoirs = record {
-      consistent = record {
-        is_state = is_state ordered blocks_ok;
-        tokens = supported decisions;
-        blocks = complete;
-        in_base = in_base;
-        respected = granted.respected;
-        claims = claims decisions granted blocks_ok;
-        timelines = timelines;
-      };
-      reusables = reusables;
-      reservoirs = reservoirs;
-    }
+      variables_of : All (HasItsBlock moments) blocks → (name : VarName) → IsAbout model state name ↔ ((domain : Domain) × Gives state name domain)
+      variables_of blocks_ok (Global number) = (λ about. absurd (omega (arith, about)), λ found. about_part (Global number) found.0 found.1)
+      variables_of blocks_ok (Token token part) = (gives_part token part, λ found. about_part (Token token part) found.0 found.1)
+      variables_of blocks_ok (Local token rule number) = (λ about. absurd (no_locals token rule number blocks_ok about), λ found. about_part (Local token rule number) found.0 found.1)
 
-    respected_of : (decision : Decision) → IsPlain decision → IsRespected decision state
-    respected_of (Activate token) plain = tt
-    respected_of (Reject token) plain = tt
-    respected_of (Specify name value) plain = absurd plain
-    respected_of (Merge token target) plain = tt
-    respected_of (Order one other) plain = tt
+      is_state : AllPairs IsBlockBefore blocks → All (HasItsBlock moments) blocks → IsState model state
+      is_state ordered blocks_ok = record {
+        order = record { tokens = tokens_in_order 0 moments; blocks = ordered; entries = entries_in_order 0 moments };
+        tokens = all_members (λ token. (slot : Slot) × HasToken model token slot) (tokens_of 0 moments) (λ token c.
+            let is = token_of 0 moments token c in
+            let kind = get_alike moments kinds is.place is.moment lengths is.at in
+            (the_slot, subst (λ t. HasToken model t the_slot) (sym (is.named ∙ ap root_token (no_shift is.place))) (has_token is.place kind.0 kind.1)));
+        blocks = blocks_ok;
+        variables = variables_of blocks_ok;
+        domains = all_members (λ (entry : VarDomain). IsDomain entry.domain) (scene_entries 0 moments) (λ entry c.
+            let is = entry_of 0 moments entry.name entry.domain c in
+            part_is_domain is.moment is.part entry.domain (are is.place is.moment is.at) is.is);
+      }
 
-    -- plain decisions ask for nothing else
-    pub plain_grants : (decisions : List Decision) → ((decision : Decision) → Contains decisions decision → IsPlain decision)
-        → ((claim : Claim) → IsOfProblem model (IsTaken decisions) claim → IsClaimConsistent model state claim) → Grants decisions
-    plain_grants decisions quiet said = record {
-      respected = λ decision there. respected_of decision (quiet decision there);
-      said = said;
-      merged = λ claim p. absurd (quiet (Merge p.token p.target) p.merged);
-      ordered = λ claim p. absurd (quiet (Order p.one p.other) p.ordered);
-    }
+      -- a supported token is a root
+      supported_at : (decisions : List Decision) (number : ℕ) (steps : List Step) → IsSupportedToken model (situation_of decisions state) (record { root = number; steps = steps }) → Contains (tokens_of 0 moments) (record { root = number; steps = steps })
+      supported_at decisions number [] p =
+          let kind = get_root 0 kinds number p.root p.is_root in
+          let moment = get_alike kinds moments number kind.0 (sym lengths) kind.1.0 in
+          subst (λ n. Contains (tokens_of 0 moments) (root_token n)) (no_shift number) (token_there 0 moments number moment.0 moment.1)
+      supported_at decisions number (step ∷ steps) p =
+          let asks = p.asked [] step steps refl in
+          let none = only_guards asks.entries (OfSlot step.slot) (stands_in (Opens model (situation_of decisions state) (InRule (root_token number) step.rule)) (record { token = root_token number; rule = step.rule; path = asks.path }) asks.entries number refl asks.is_open.has_block) asks.stands in
+          let e = none.1.2 in absurd (cc)
+
+      pub supported : (decisions : List Decision) (token : TokenName) → IsSupportedToken model (situation_of decisions state) token → Contains (tokens_of 0 moments) token
+      supported decisions token p = supported_at decisions token.root token.steps p
+
+      -- what else the decisions and the problem ask for: the values that are specified, and what constraints, merges and orders say
+      pub record Grants (decisions : List Decision) : Type 0 where
+        pub respected : (decision : Decision) → Contains decisions decision → IsRespected decision state
+        pub said : (claim : Claim) → IsOfProblem model (IsTaken decisions) claim → IsClaimConsistent model state claim
+        pub merged : (claim : Claim) → IsOfMerge model decisions claim → IsClaimConsistent model state claim
+        pub ordered : (claim : Claim) → IsOfOrder decisions claim → IsClaimConsistent model state claim
+
+      claims : (decisions : List Decision) → Grants decisions → All (HasItsBlock moments) blocks → (claim : Claim) → IsClaim model decisions state claim → IsClaimConsistent model state claim
+      claims decisions granted blocks_ok claim (inl p) = granted.said claim p
+      claims decisions granted blocks_ok claim (inr (inl p)) =
+          let place : HasItsBlock moments p.block = All-contains (HasItsBlock moments) blocks p.block blocks_ok p.is_open in
+          let is = token_of 0 moments p.block.token place.0 in
+          let none = only_guards p.entries (OfItem p.item) (stands_in (λ guard side. ⊤) p.block p.entries is.place (is.named ∙ ap root_token (no_shift is.place)) p.has_block) p.stands in
+          let e = none.1.2 in absurd (cc)
+      claims decisions granted blocks_ok claim (inr (inr (inl p))) =
+          let is = token_of 0 moments p.token p.there in
+          subst (IsClaimConsistent model state) (sym (p.says ∙ ap lasts (is.named ∙ ap root_token (no_shift is.place)))) (lasts_at is.place is.moment is.at)
+      claims decisions granted blocks_ok claim (inr (inr (inr (inl p)))) = granted.merged claim p
+      claims decisions granted blocks_ok claim (inr (inr (inr (inr p)))) = granted.ordered claim p
+
+      -- so the state is closed where timelines and resources fit, and no block is missing
+      pub closed_with : (decisions : List Decision) → Grants decisions → AllPairs IsBlockBefore blocks → All (HasItsBlock moments) blocks
+          → ((block : TokenBlock) (entries : Entries) → IsSupportedBlock model (situation_of decisions state) block entries → Contains blocks block)
+          → FitTimelines model decisions state → FitReusables model decisions state → FitReservoirs model decisions state → IsClosed model decisions state
+      closed_with decisions granted ordered blocks_ok complete timelines reusables reservoirs = record {
+        consistent = record {
+          is_state = is_state ordered blocks_ok;
+          tokens = supported decisions;
+          blocks = complete;
+          in_base = in_base;
+          respected = granted.respected;
+          claims = claims decisions granted blocks_ok;
+          timelines = timelines;
+        };
+        reusables = reusables;
+        reservoirs = reservoirs;
+      }
+
+      respected_of : (decision : Decision) → IsPlain decision → IsRespected decision state
+      respected_of (Activate token) plain = tt
+      respected_of (Reject token) plain = tt
+      respected_of (Specify name value) plain = absurd plain
+      respected_of (Merge token target) plain = tt
+      respected_of (Order one other) plain = tt
+
+      -- plain decisions ask for nothing else
+      pub plain_grants : (decisions : List Decision) → ((decision : Decision) → Contains decisions decision → IsPlain decision)
+          → ((claim : Claim) → IsOfProblem model (IsTaken decisions) claim → IsClaimConsistent model state claim) → Grants decisions
+      plain_grants decisions quiet said = record {
+        respected = λ decision there. respected_of decision (quiet decision there);
+        said = said;
+        merged = λ claim p. absurd (quiet (Merge p.token p.target) p.merged);
+        ordered = λ claim p. absurd (quiet (Order p.one p.other) p.ordered);
+      }
 
 -- where the problem has no constraints either nothing else is asked for
 module _ (object_kind : ObjectKind) (pred_kind : PredKind) (numbers : List ℕ) (rules : List Rule) (kinds : List RootKind)

@@ -88,7 +88,7 @@ goal_is_missing p = contains_none (root_token 0) (p.consistent.tokens (root_toke
 -- ---- blocks
 
 ruled_rule : (number : ℕ) (rule : Rule) → HasRule ruled 0 number rule → rule ≡ guarded
-ruled_rule number rule p = (one_rule [] kind.Plain pred.Plain (Goal ∷ []) number rule p).0
+ruled_rule number rule p = (one_rule [] guarded kind.Plain pred.Plain (Goal ∷ []) number rule p).0
 
 pub inactive_closed : IsClosed ruled [] (scene_state [] (short (up_to 1) ∷ []))
 inactive_closed = plain_closed (0 ∷ []) (guarded ∷ []) (Goal ∷ []) (short (up_to 1) ∷ []) refl (one_moment (short (up_to 1)) open_moment) ruled_rule
@@ -168,7 +168,7 @@ module _ (blocks : List TokenBlock) (quantity : Domain) where
       let activation = only_member (Activate (root_token 0)) (Activate block.token) p.is_open.activated in
       let token : root_token 0 ≡ block.token = cc in
       let slot = slot_same [] kind.Plain pred.Plain (0 ∷ []) (guarded ∷ []) (Goal ∷ []) 0 has.slot (subst (λ t. HasToken ruled t has.slot) (sym token) has.has_token) in
-      let found = one_rule [] kind.Plain pred.Plain (Goal ∷ []) block.rule has.rule (subst (λ (s : Slot). HasRule ruled s.pred block.rule has.rule) slot has.has_rule) in
+      let found = one_rule [] guarded kind.Plain pred.Plain (Goal ∷ []) block.rule has.rule (subst (λ (s : Slot). HasRule ruled s.pred block.rule has.rule) slot has.has_rule) in
       let by_rule = subst (λ (r : Rule). Follows (Opens ruled (ruled_situation blocks quantity) (InRule block.token block.rule)) r.top block.path entries) found.0 has.way in
       let by_number = subst (λ n. Follows (Opens ruled (ruled_situation blocks quantity) (InRule block.token n)) guarded.top block.path entries) found.1 by_rule in (
         (λ i. record { token = sym token i; rule = found.1 i; path = block.path }),

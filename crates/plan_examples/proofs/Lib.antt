@@ -13,3 +13,4 @@ pub mod TwoVariables
 pub mod Objects
 pub mod Settling
 pub mod Reasons
+pub mod Locals

@@ -29,13 +29,13 @@ tokens_in_order number (moment ∷ []) = ordered_one IsTokenBefore (root_token n
 tokens_in_order number (moment ∷ next ∷ moments) =
     ordered_link IsTokenBefore token_order.transitive (root_token number) (root_token (number + 1)) (tokens_of (number + 1 + 1) moments) (root_before number) (tokens_in_order (number + 1) (next ∷ moments))
 
-abbrev entry : ℕ → Part → Domain → VarDomain
+abbrev pub entry : ℕ → Part → Domain → VarDomain
 entry number part domain = record { name = Token (root_token number) part; domain = domain }
 
-abbrev by_name : VarDomain → VarDomain → Type 0
+abbrev pub by_name : VarDomain → VarDomain → Type 0
 by_name one later = IsVarBefore one.name later.name
 
-link : (x y : VarDomain) (ys : List VarDomain) → IsVarBefore x.name y.name → AllPairs by_name (y ∷ ys) → AllPairs by_name (x ∷ y ∷ ys)
+pub link : (x y : VarDomain) (ys : List VarDomain) → IsVarBefore x.name y.name → AllPairs by_name (y ∷ ys) → AllPairs by_name (x ∷ y ∷ ys)
 link x y ys first rest = ordered_link by_name entry_transitive x y ys first rest
 
 -- parts of one token in the order of their places
@@ -47,22 +47,22 @@ of_next number part later = inl (root_before number)
 
 -- the variables of one token, and others behind them
 module _ (number : ℕ) (moment : Moment) (rest : List VarDomain) where
-  abbrev from_param : List VarDomain
+  abbrev pub from_param : List VarDomain
   from_param = entry number (Param 0) moment.quantity ∷ rest
 
-  abbrev from_duration : List VarDomain
+  abbrev pub from_duration : List VarDomain
   from_duration = entry number Duration (exactly moment.duration) ∷ from_param
 
-  abbrev from_end : List VarDomain
+  abbrev pub from_end : List VarDomain
   from_end = entry number End (exactly (moment.start + moment.duration)) ∷ from_duration
 
-  abbrev from_start : List VarDomain
+  abbrev pub from_start : List VarDomain
   from_start = entry number Start (exactly moment.start) ∷ from_end
 
-  abbrev from_object : List VarDomain
+  abbrev pub from_object : List VarDomain
   from_object = entry number Object moment.object ∷ from_start
 
-  five : AllPairs by_name from_param → AllPairs by_name from_object
+  pub five : AllPairs by_name from_param → AllPairs by_name from_object
   five last =
       link (entry number Object moment.object) (entry number Start (exactly moment.start)) from_end (of_one number Object Start (omega arith))
       (link (entry number Start (exactly moment.start)) (entry number End (exactly (moment.start + moment.duration))) from_duration (of_one number Start End (omega arith))

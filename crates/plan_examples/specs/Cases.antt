@@ -17,7 +17,7 @@ use Rattle.model_core.specs.declared.model.RootKind.{RootKind}
 use Rattle.model_core.specs.declared.model.RootKind.TheVariants.{Goal, Rejectable, Fact}
 use Rattle.model_core.specs.State.{State}
 use Rattle.model_core.specs.Tokens.{root_token}
-use Rattle.plan_examples.specs.Scenes.{scene, the_object, both_objects, scene_with, Moment, exactly, scene_state, guarded}
+use Rattle.plan_examples.specs.Scenes.{scene, the_object, both_objects, scene_with, Moment, exactly, scene_state, guarded, with_local}
 
 -- from 0 to 1, with a quantity in this domain
 abbrev pub short : Domain → Moment
@@ -109,3 +109,7 @@ activate_it = Activate (root_token 0)
 -- its quantity is this number
 abbrev pub quantity_is : ℕ → Decision
 quantity_is number = Specify (Token (root_token 0) (Param 0)) (pos number)
+
+-- one goal, where the predicate has a rule with a local
+abbrev pub localised : Model
+localised = scene kind.Plain pred.Plain (0 ∷ []) (with_local ∷ []) (Goal ∷ [])

@@ -4,7 +4,7 @@ use Rattle.domain_core.specs.Domain.{Domain, Range, Set}
 use Rattle.eu_name.specs.declared.name.Part.TheVariants as parts
 use Rattle.eu_name.specs.declared.name.Part.TheVariants.{Start, End, Duration, Param}
 use Rattle.eu_name.specs.declared.name.TokenName.{TokenName}
-use Rattle.eu_name.specs.declared.name.VarName.TheVariants.{Token}
+use Rattle.eu_name.specs.declared.name.VarName.TheVariants.{Token, Local}
 use Rattle.model_core.specs.declared.class.Object.{Object}
 use Rattle.model_core.specs.declared.class.ObjectKind.{ObjectKind}
 use Rattle.model_core.specs.declared.class.PredKind.{PredKind}
@@ -20,7 +20,7 @@ use Rattle.model_core.specs.declared.rule.Side.TheVariants.{Then, Otherwise}
 use Rattle.model_core.specs.declared.variable.Base.TheVariants.{Given}
 use Rattle.model_core.specs.declared.variable.ValueKind.TheVariants.{Int}
 use Rattle.model_core.specs.Blocks.{TokenBlock}
-use Rattle.model_core.specs.Entries.{NoEntry, WithBranch}
+use Rattle.model_core.specs.Entries.{NoEntry, WithLocal, WithBranch}
 use Rattle.model_core.specs.State.{State, VarDomain}
 use Rattle.model_core.specs.Tokens.{root_token}
 
@@ -132,3 +132,25 @@ then_block = record { token = root_token 0; rule = 0; path = record { entry = 0;
 
 abbrev pub else_block : TokenBlock
 else_block = record { token = root_token 0; rule = 0; path = record { entry = 0; side = Otherwise } ∷ [] }
+
+-- ---- a rule with a local
+
+-- `int [0 2] l;`, whose name no one asks for
+abbrev pub with_local : Rule
+with_local = record {
+  top = WithLocal 0 NoEntry;
+  slots = [];
+  locals = record { name = []; kind = Int; base = Given (Range (pos 0) (pos 2)) } ∷ [];
+}
+
+-- the local of the first root
+abbrev pub the_local : Domain → VarDomain
+the_local domain = record { name = Local (root_token 0) 0 0; domain = domain }
+
+-- the state in which one root takes place so, its rule is open, and the local may be what is in this domain
+abbrev pub local_state : Moment → Domain → State
+local_state moment domain = record {
+  tokens = tokens_of 0 (moment ∷ []);
+  blocks = top_block ∷ [];
+  entries = scene_entries 0 (moment ∷ []) ++ the_local domain ∷ [];
+}

@@ -5,9 +5,9 @@ ghost use Rattle.model_core.specs.declared.class.ObjectKind.TheVariants.{Plain, 
 ghost use Rattle.model_core.specs.declared.model.RootKind.TheVariants.{Fact, Rejectable};
 ghost use Rattle.plan_defs.specs.Closure.{IsClosed};
 ghost use Rattle.plan_examples.specs.Cases.{short, early, late, using, lone_goal, ruled, two_facts, tool, battery, drained, activated, rejected};
-ghost use Rattle.plan_examples.specs.Cases.{moment, either, limited, goal_and_fact, merged, ordered};
+ghost use Rattle.plan_examples.specs.Cases.{moment, either, limited, localised, goal_and_fact, merged, ordered};
 ghost use Rattle.plan_examples.specs.Globals.{empty_state, up_to};
-ghost use Rattle.plan_examples.specs.Scenes.{exactly, scene_state, top_block, then_block, else_block};
+ghost use Rattle.plan_examples.specs.Scenes.{exactly, scene_state, top_block, then_block, else_block, local_state};
 
 /// A state has each token that is asked for: here a goal.
 pub fn a_state_has_all_tokens()
@@ -33,6 +33,13 @@ pub fn else_opens_once_decided()
     ensures closed { IsClosed ruled activated (scene_state (top_block ∷ []) (short (exactly 2) ∷ [])) → ⊥ }
     ensures other { IsClosed ruled activated (scene_state (top_block ∷ then_block ∷ []) (short (exactly 2) ∷ [])) → ⊥ }
     ensures opened { IsClosed ruled activated (scene_state (top_block ∷ else_block ∷ []) (short (exactly 2) ∷ [])) }
+{}
+
+/// An open rule has its locals, each within its base.
+pub fn locals_come_with_their_rule()
+    ensures with { IsClosed localised activated (local_state (moment 0 1 1) (up_to 2)) }
+    ensures without { IsClosed localised activated (scene_state (top_block ∷ []) (moment 0 1 1 ∷ [])) → ⊥ }
+    ensures outside { IsClosed localised activated (local_state (moment 0 1 1) (up_to 3)) → ⊥ }
 {}
 
 /// What is said of a rejectable counts only while the rejectable is taken, and what is said of a fact always does.
