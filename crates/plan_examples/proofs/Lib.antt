@@ -14,3 +14,4 @@ pub mod Objects
 pub mod Settling
 pub mod Reasons
 pub mod Locals
+pub mod Lawful

@@ -72,7 +72,7 @@ in_either (y ∷ xs) ys x c = elim (contains_cases y x (xs ++ ys) c) [
 
 -- ---- the rule
 
-way_is : (Allows : Guard → Side → Type 0) (path : List Turn) (entries : Entries) → Follows Allows with_local.top path entries → (path ≡ []) × (entries ≡ with_local.top)
+pub way_is : (Allows : Guard → Side → Type 0) (path : List Turn) (entries : Entries) → Follows Allows with_local.top path entries → (path ≡ []) × (entries ≡ with_local.top)
 way_is Allows [] entries way = (refl, way)
 way_is Allows (turn ∷ path) entries way = absurd (no_branch turn.entry way.0 way.1.0 way.1.1 way.1.2.0)
   where

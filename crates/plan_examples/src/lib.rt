@@ -5,6 +5,7 @@
 
 pub mod decisions;
 pub mod globals;
+pub mod models;
 pub mod refusals;
 pub mod relations;
 pub mod tokens;

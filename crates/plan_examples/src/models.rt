@@ -1,0 +1,23 @@
+//! The problems of the examples are lawful.
+
+ghost use Rattle.std.specs.Prelude.{[]};
+ghost use Rattle.model_core.specs.Lawful.{IsLawful};
+ghost use Rattle.model_core.specs.declared.class.ObjectKind.TheVariants.{Plain, Timeline};
+ghost use Rattle.model_core.specs.declared.model.RootKind.TheVariants.{Goal, Rejectable, Fact};
+ghost use Rattle.plan_examples.specs.Cases.{lone_goal, ruled, localised, two_facts, tool, battery, goal_and_fact, limited};
+ghost use Rattle.plan_examples.specs.Globals.{problem_of, free_x, low_x};
+ghost use Rattle.plan_examples.specs.Refused.{alone, two_goals, mixed};
+ghost use Rattle.plan_examples.specs.Worlds.{no_choice, one_choice, fielded, free_two, low_two};
+
+/// Those without tokens.
+pub fn problems_of_variables_are_lawful()
+    ensures empty { IsLawful (problem_of [] []) }
+    ensures free { IsLawful free_x }
+    ensures low { IsLawful low_x }
+    ensures free_two { IsLawful free_two }
+    ensures low_two { IsLawful low_two }
+    ensures void { IsLawful no_choice }
+    ensures given { IsLawful one_choice }
+    ensures field { IsLawful fielded }
+{}
+
