@@ -31,12 +31,12 @@ use Rattle.model_core.specs.declared.variable.VarDecl.{VarDecl}
 use Rattle.model_core.specs.Blocks.{Direct, OfLocal, OfBranch, Follows, direct, chosen}
 use Rattle.model_core.specs.Entries.{Entries, NoEntry}
 use Rattle.model_core.specs.Kinds.{OfProblem, OfRule, IsOfKind, IsObjectOf}
-use Rattle.model_core.specs.Lawful.{IsLawful, IsHorizon, IsLawfulEnum, IsLawfulClass, IsLawfulObject, IsLawfulKind, IsLawfulVariable, IsLawfulItem, IsLawfulEntry, IsLawfulRule, AreFew, HasQuantity, IsLawfulPred, IsLawfulRoot, IsLawfulDecision, is_fact}
+use Rattle.model_core.specs.Lawful.{IsLawful, IsHorizon, IsLawfulEnum, IsLawfulClass, IsLawfulObject, IsLawfulKind, IsLawfulVariable, IsLawfulItem, IsLawfulEntry, IsLawfulSlot, IsLawfulRule, AreFew, HasQuantity, IsLawfulPred, IsLawfulRoot, IsLawfulDecision, is_fact}
 use Rattle.model_core.specs.Naming.{builtin_names, names_of, declared_names, file_names, IsGlobalName, IsObjectName, IsParameterName, token_part_words}
 use Rattle.model_core.specs.Standing.{StandsAt, StandsOnce, LeadsToBlock, IsTermSeen}
 use Rattle.model_core.specs.Variables.{IsGiven}
 use Rattle.model_core.proofs.Words.{is_among, not_contained, is_plain, plain_name, all_differ, differing}
-use Rattle.plan_defs.proofs.Ordered.{contains_head, contains_later, contains_cases, ordered_none, ordered_one}
+use Rattle.plan_defs.proofs.Ordered.{contains_cases, contains_none, ordered_none, ordered_one}
 use Rattle.plan_examples.specs.Cases.{lone_goal, ruled, localised, two_facts, tool, battery, goal_and_fact, limited, at_most_one}
 use Rattle.plan_examples.specs.Globals.{declared_x, problem_with, problem_of, free_x, low_x, at_most_1, up_to}
 use Rattle.plan_examples.specs.Refused.{alone, two_goals, mixed}
@@ -254,3 +254,330 @@ field_lawful =
       of_class = (declared_c (Given both_objects), refl, fielded_object);
       value_kind = (declared_v, refl, refl);
     })) refl refl
+
+-- ---- problems of tokens
+
+abbrev the_class : Class
+the_class = class_with []
+
+module _ (items : List Item) (object_kind : ObjectKind) (preds : List Pred) (rules : List Rule) (roots : List Root) where
+  abbrev tokens_world : Model
+  tokens_world = record {
+    enums = [];
+    classes = the_class ∷ [];
+    objects = object_called (codes "o") object_kind ∷ object_called (codes "p") object_kind ∷ [];
+    preds = preds;
+    rules = rules;
+    problem = record { start = pos 0; end = pos 10; steps = 1; roots = roots; globals = []; items = items; decisions = [] };
+  }
+
+  called_lawful : (name : List ℕ) → is_plain name ≡ true → IsLawfulKind object_kind → IsLawfulObject tokens_world (object_called name object_kind)
+  called_lawful name test lawful_kind = record { name = object_name name test; class = the_class; is_class = refl; fields = tt; kind = lawful_kind }
+
+  of_class : (value : ℤ) → Has both_objects value → IsObjectOf tokens_world 0 value
+  of_class value c = elim (contains_cases (pos 0) value (pos 1 ∷ []) c) [
+    | inl same ↦ (_, (0, sym same, refl), ([], refl))
+    | inr later ↦ (_, (1, sym (only_member (pos 1) value later), refl), ([], refl))
+  ]
+
+  root_lawful : (label : List ℕ) (root_kind : RootKind) (number : ℕ) (name : List ℕ) (pred_kind : PredKind) (numbers : List ℕ) → is_plain label ≡ true
+      → slice_get preds number ≡ Some (predicate_called name pred_kind numbers) → IsLawfulRoot tokens_world (record { label = label; kind = root_kind; pred = number; object = both_objects })
+  root_lawful label root_kind number name pred_kind numbers test at = record {
+    label = plain_name label test;
+    pred = predicate_called name pred_kind numbers;
+    is_pred = at;
+    given = one (λ (variable : VarDecl). IsGiven variable.base) _ (Range (pos 0) (pos 1000000), refl);
+    object = both_domain;
+    inside = record { values = λ v c. let found = of_class v c in (found.0, found.1); range = λ is. absurd is };
+    objects = of_class;
+  }
+
+  has_quantity : (pred_kind : PredKind) (name : List ℕ) (numbers : List ℕ) → HasQuantity pred_kind (predicate_called name pred_kind numbers).params
+  has_quantity pred.Plain name numbers = tt
+  has_quantity pred.Uses name numbers = refl
+  has_quantity pred.Produce name numbers = refl
+  has_quantity pred.Consume name numbers = refl
+
+  pred_lawful : (number : ℕ) (name : List ℕ) (pred_kind : PredKind) (numbers : List ℕ) (listed : List Rule) → is_plain name ≡ true → AllZip (λ place rule. slice_get rules place ≡ Some rule) numbers listed → AreFew listed
+      → All (IsLawfulRule tokens_world number) listed → IsLawfulPred tokens_world number (predicate_called name pred_kind numbers)
+  pred_lawful number name pred_kind numbers listed test are few lawful = record {
+    name = plain_name name test;
+    class = the_class;
+    is_class = refl;
+    no_field = λ c. contains_none name c;
+    params = one (IsLawfulVariable tokens_world) _ (int_variable tokens_world (codes "quantity") 1000000 (omega arith));
+    few_params = omega arith;
+    names = one IsParameterName (codes "quantity") (plain_name (codes "quantity") refl, not_contained token_part_words (codes "quantity") refl);
+    distinct = differing (codes "quantity" ∷ []) refl;
+    quantity = has_quantity pred_kind name numbers;
+    rules = listed;
+    are_rules = are;
+    few = few;
+    lawful = lawful;
+  }
+
+  tokens_lawful : IsLawfulKind object_kind → length items ≤ 10 → length preds ≤ 10 → length rules ≤ 10 → length roots ≤ 10 → count_by (λ root. is_fact root.kind) roots ≤ 512
+      → ((number : ℕ) (found : Pred) → slice_get preds number ≡ Some found → IsLawfulPred tokens_world number found)
+      → AllPairs (λ (one other : Pred). one.class ≡ other.class → one.name ≢ other.name) preds → All (IsLawfulRoot tokens_world) roots → All (IsLawfulItem tokens_world OfProblem) items
+      → none_among (declared_names tokens_world) ≡ true → all_differ (file_names tokens_world) ≡ true → IsLawful tokens_world
+  tokens_lawful lawful_kind few_items few_preds few_rules few_roots few_facts are_preds pred_names are_roots are_items builtin differ = record {
+    horizon = ten tokens_world.problem refl refl refl;
+    few_enums = small 0 (omega arith);
+    few_classes = small 1 (omega arith);
+    few_preds = small (length preds) few_preds;
+    few_rules = small (length rules) few_rules;
+    few_objects = omega arith;
+    few_roots = omega (arith, few_roots);
+    few_facts = few_facts;
+    few_globals = omega arith;
+    few_items = small (length items) few_items;
+    enums = none IsLawfulEnum;
+    classes = class_lawful tokens_world [] (none (IsLawfulVariable tokens_world)) (none IsName) no_field_names;
+    objects = two (IsLawfulObject tokens_world) _ _ (called_lawful (codes "o") refl lawful_kind) (called_lawful (codes "p") refl lawful_kind);
+    preds = are_preds;
+    pred_names = pred_names;
+    roots = are_roots;
+    globals = none (IsLawfulVariable tokens_world);
+    items = are_items;
+    decisions = none (λ placed. IsLawfulDecision tokens_world placed.decision);
+    names = λ number variable is. absurd (cc);
+    not_builtin = no_builtin (declared_names tokens_world) builtin;
+    distinct = differing (file_names tokens_world) differ;
+  }
+
+-- what is known of the rules of a scene
+record RulesAre (items : List Item) (object_kind : ObjectKind) (pred_kind : PredKind) (numbers : List ℕ) (rules : List Rule) (kinds : List RootKind) : Type 0 where
+  listed : List Rule
+  are : AllZip (λ place rule. slice_get rules place ≡ Some rule) numbers listed
+  few : AreFew listed
+  lawful : All (IsLawfulRule (scene_with items object_kind pred_kind numbers rules kinds) 0) listed
+  few_rules : length rules ≤ 10
+
+few_none : AreFew []
+few_none = record { rules = omega arith; slots = (let p : 0 ≤ 128 = omega arith in p); locals = (let p : 0 ≤ 128 = omega arith in p); items = (let p : 0 ≤ 1024 = omega arith in p); guards = (let p : 0 ≤ 1024 = omega arith in p) }
+
+no_rules : (items : List Item) (object_kind : ObjectKind) (pred_kind : PredKind) (kinds : List RootKind) → RulesAre items object_kind pred_kind [] [] kinds
+no_rules items object_kind pred_kind kinds = record {
+  listed = [];
+  are = tt;
+  few = few_none;
+  lawful = none (IsLawfulRule (scene_with items object_kind pred_kind [] [] kinds) 0);
+  few_rules = omega arith;
+}
+
+facts_one : (k : RootKind) → count_by (λ (root : Root). is_fact root.kind) (roots_from 0 (k ∷ [])) ≤ 512
+facts_one Goal = let few : 0 ≤ 512 = omega arith in few
+facts_one Rejectable = let few : 0 ≤ 512 = omega arith in few
+facts_one Fact = let few : 1 ≤ 512 = omega arith in few
+
+facts_two : (k l : RootKind) → count_by (λ (root : Root). is_fact root.kind) (roots_from 0 (k ∷ l ∷ [])) ≤ 512
+facts_two Goal Goal = let few : 0 ≤ 512 = omega arith in few
+facts_two Goal Rejectable = let few : 0 ≤ 512 = omega arith in few
+facts_two Goal Fact = let few : 1 ≤ 512 = omega arith in few
+facts_two Rejectable Goal = let few : 0 ≤ 512 = omega arith in few
+facts_two Rejectable Rejectable = let few : 0 ≤ 512 = omega arith in few
+facts_two Rejectable Fact = let few : 1 ≤ 512 = omega arith in few
+facts_two Fact Goal = let few : 1 ≤ 512 = omega arith in few
+facts_two Fact Rejectable = let few : 1 ≤ 512 = omega arith in few
+facts_two Fact Fact = let few : 2 ≤ 512 = omega arith in few
+
+module _ (items : List Item) (object_kind : ObjectKind) (pred_kind : PredKind) (numbers : List ℕ) (rules : List Rule) where
+  one_pred : (kinds : List RootKind) → RulesAre items object_kind pred_kind numbers rules kinds → (number : ℕ) (found : Pred) → slice_get (predicate_of pred_kind numbers ∷ []) number ≡ Some found
+      → IsLawfulPred (scene_with items object_kind pred_kind numbers rules kinds) number found
+  one_pred kinds known zero found at =
+      subst (IsLawfulPred (scene_with items object_kind pred_kind numbers rules kinds) 0) (same_some (predicate_of pred_kind numbers) found at)
+      (pred_lawful items object_kind (predicate_of pred_kind numbers ∷ []) rules (roots_from 0 kinds) 0 (codes "P") pred_kind numbers known.listed refl known.are known.few known.lawful)
+  one_pred kinds known (suc number) found at = absurd (cc)
+
+  one_root_lawful : (root_kind : RootKind) → IsLawfulKind object_kind → length items ≤ 10 → RulesAre items object_kind pred_kind numbers rules (root_kind ∷ [])
+      → All (IsLawfulItem (scene_with items object_kind pred_kind numbers rules (root_kind ∷ [])) OfProblem) items → IsLawful (scene_with items object_kind pred_kind numbers rules (root_kind ∷ []))
+  one_root_lawful root_kind lawful_kind few known are_items =
+      tokens_lawful items object_kind (predicate_of pred_kind numbers ∷ []) rules (roots_from 0 (root_kind ∷ [])) lawful_kind few (omega arith) known.few_rules (omega arith) (facts_one root_kind)
+      (one_pred (root_kind ∷ []) known) (ordered_one (λ (one other : Pred). one.class ≡ other.class → one.name ≢ other.name) (predicate_of pred_kind numbers))
+      (one (IsLawfulRoot (scene_with items object_kind pred_kind numbers rules (root_kind ∷ []))) (root_of 0 root_kind)
+      (root_lawful items object_kind (predicate_of pred_kind numbers ∷ []) rules (roots_from 0 (root_kind ∷ [])) (label_of 0) root_kind 0 (codes "P") pred_kind numbers refl refl))
+      are_items refl refl
+
+  two_roots_lawful : (root_kind other_kind : RootKind) → IsLawfulKind object_kind → length items ≤ 10 → RulesAre items object_kind pred_kind numbers rules (root_kind ∷ other_kind ∷ [])
+      → All (IsLawfulItem (scene_with items object_kind pred_kind numbers rules (root_kind ∷ other_kind ∷ [])) OfProblem) items → IsLawful (scene_with items object_kind pred_kind numbers rules (root_kind ∷ other_kind ∷ []))
+  two_roots_lawful root_kind other_kind lawful_kind few known are_items =
+      tokens_lawful items object_kind (predicate_of pred_kind numbers ∷ []) rules (roots_from 0 (root_kind ∷ other_kind ∷ [])) lawful_kind few (omega arith) known.few_rules (omega arith) (facts_two root_kind other_kind)
+      (one_pred (root_kind ∷ other_kind ∷ []) known) (ordered_one (λ (one other : Pred). one.class ≡ other.class → one.name ≢ other.name) (predicate_of pred_kind numbers))
+      (two (IsLawfulRoot (scene_with items object_kind pred_kind numbers rules (root_kind ∷ other_kind ∷ []))) (root_of 0 root_kind) (root_of 1 other_kind)
+      (root_lawful items object_kind (predicate_of pred_kind numbers ∷ []) rules (roots_from 0 (root_kind ∷ other_kind ∷ [])) (label_of 0) root_kind 0 (codes "P") pred_kind numbers refl refl)
+      (root_lawful items object_kind (predicate_of pred_kind numbers ∷ []) rules (roots_from 0 (root_kind ∷ other_kind ∷ [])) (label_of 1) other_kind 0 (codes "P") pred_kind numbers refl refl))
+      are_items refl refl
+
+-- without rules and constraints
+plain_one : (object_kind : ObjectKind) (pred_kind : PredKind) (root_kind : RootKind) → IsLawfulKind object_kind → IsLawful (scene_with [] object_kind pred_kind [] [] (root_kind ∷ []))
+plain_one object_kind pred_kind root_kind lawful_kind =
+    one_root_lawful [] object_kind pred_kind [] [] root_kind lawful_kind (omega arith) (no_rules [] object_kind pred_kind (root_kind ∷ [])) (none (IsLawfulItem (scene_with [] object_kind pred_kind [] [] (root_kind ∷ [])) OfProblem))
+
+plain_two : (object_kind : ObjectKind) (pred_kind : PredKind) (root_kind other_kind : RootKind) → IsLawfulKind object_kind → IsLawful (scene_with [] object_kind pred_kind [] [] (root_kind ∷ other_kind ∷ []))
+plain_two object_kind pred_kind root_kind other_kind lawful_kind =
+    two_roots_lawful [] object_kind pred_kind [] [] root_kind other_kind lawful_kind (omega arith) (no_rules [] object_kind pred_kind (root_kind ∷ other_kind ∷ []))
+    (none (IsLawfulItem (scene_with [] object_kind pred_kind [] [] (root_kind ∷ other_kind ∷ [])) OfProblem))
+
+pub lone_goal_lawful : IsLawful lone_goal
+lone_goal_lawful = plain_one kind.Plain pred.Plain Goal tt
+
+pub fact_lawful : IsLawful (alone Fact)
+fact_lawful = plain_one kind.Plain pred.Plain Fact tt
+
+pub rejectable_lawful : IsLawful (alone Rejectable)
+rejectable_lawful = plain_one kind.Plain pred.Plain Rejectable tt
+
+pub plain_facts_lawful : IsLawful (two_facts kind.Plain)
+plain_facts_lawful = plain_two kind.Plain pred.Plain Fact Fact tt
+
+pub timeline_facts_lawful : IsLawful (two_facts kind.Timeline)
+timeline_facts_lawful = plain_two kind.Timeline pred.Plain Fact Fact tt
+
+pub goal_and_fact_lawful : IsLawful goal_and_fact
+goal_and_fact_lawful = plain_two kind.Plain pred.Plain Goal Fact tt
+
+pub two_goals_lawful : IsLawful two_goals
+two_goals_lawful = plain_two kind.Plain pred.Plain Goal Goal tt
+
+pub small_tool_lawful : IsLawful (tool 1)
+small_tool_lawful = plain_one (kind.Reusable (pos 1)) pred.Uses Fact ((omega (arith, ints), omega (arith, ints)), omega (arith, ints))
+
+pub tool_lawful : IsLawful (tool 2)
+tool_lawful = plain_one (kind.Reusable (pos 2)) pred.Uses Fact ((omega (arith, ints), omega (arith, ints)), omega (arith, ints))
+
+pub battery_lawful : IsLawful battery
+battery_lawful =
+    plain_two (kind.Reservoir (pos 5) (pos 0) (pos 10)) pred.Consume Fact Rejectable
+    ((omega (arith, ints), omega (arith, ints)), (omega (arith, ints), omega (arith, ints)), omega (arith, ints), omega (arith, ints))
+
+limited_is_lawful : (root_kind : RootKind) → IsLawful (limited root_kind)
+limited_is_lawful root_kind =
+    one_root_lawful (at_most_one ∷ []) kind.Plain pred.Plain [] [] root_kind tt (omega arith) (no_rules (at_most_one ∷ []) kind.Plain pred.Plain (root_kind ∷ []))
+    (one (IsLawfulItem (limited root_kind) OfProblem) at_most_one (refl, two (IsOfKind (limited root_kind) OfProblem kinds.Int) (term.Root 0 (Param 0)) (term.Lit (pos 1))
+    (root_of 0 root_kind, refl, (_, record { predicate = predicate_of pred.Plain []; is_predicate = refl; declared = refl }, refl)) (omega (arith, ints), omega (arith, ints))))
+
+pub limited_lawful : IsLawful (limited Rejectable)
+limited_lawful = limited_is_lawful Rejectable
+
+pub limited_fact_lawful : IsLawful (limited Fact)
+limited_fact_lawful = limited_is_lawful Fact
+
+-- ---- two predicates
+
+mixed_pred : (number : ℕ) (found : Pred) → slice_get mixed.preds number ≡ Some found → IsLawfulPred mixed number found
+mixed_pred zero found at =
+    subst (IsLawfulPred mixed 0) (same_some _ found at)
+    (pred_lawful [] kind.Plain mixed.preds [] mixed.problem.roots 0 (codes "P") pred.Plain [] [] refl tt few_none (none (IsLawfulRule mixed 0)))
+mixed_pred (suc zero) found at =
+    subst (IsLawfulPred mixed 1) (same_some _ found at)
+    (pred_lawful [] kind.Plain mixed.preds [] mixed.problem.roots 1 (codes "Q") pred.Plain [] [] refl tt few_none (none (IsLawfulRule mixed 1)))
+mixed_pred (suc (suc number)) found at = absurd (cc)
+
+two_pairs : {X : Type 0} (R : X → X → Type 0) (x y : X) → R x y → AllPairs R (x ∷ y ∷ [])
+two_pairs R x y p zero zero d less within = absurd (omega (arith, less))
+two_pairs R x y p zero (suc zero) d less within = p
+two_pairs R x y p (suc i) zero d less within = absurd (omega (arith, less))
+two_pairs R x y p (suc i) (suc zero) d less within = absurd (omega (arith, less))
+two_pairs R x y p i (suc (suc j)) d less within = absurd (omega (arith, within))
+
+pub mixed_lawful : IsLawful mixed
+mixed_lawful =
+    tokens_lawful [] kind.Plain mixed.preds [] mixed.problem.roots tt (omega arith) (omega arith) (omega arith) (omega arith) (let few : 1 ≤ 512 = omega arith in few) mixed_pred
+    (two_pairs (λ (one other : Pred). one.class ≡ other.class → one.name ≢ other.name) _ _ (λ classes same. differing (codes "P" ∷ codes "Q" ∷ []) refl 0 1 [] (omega arith) (omega arith) same))
+    (two (IsLawfulRoot mixed) _ _ (root_lawful [] kind.Plain mixed.preds [] mixed.problem.roots (label_of 0) Goal 0 (codes "P") pred.Plain [] refl refl)
+    (root_lawful [] kind.Plain mixed.preds [] mixed.problem.roots (label_of 1) Fact 1 (codes "Q") pred.Plain [] refl refl))
+    (none (IsLawfulItem mixed OfProblem)) refl refl
+
+-- ---- rules
+
+no_turns : (Allows : Guard → Side → Type 0) (path : List Turn) (entries : Entries) → Follows Allows NoEntry path entries → path ≡ []
+no_turns Allows [] entries way = refl
+no_turns Allows (turn ∷ path) entries way = let at = way.1.2.0 in absurd (cc)
+
+guarded_short : (path : List Turn) (entries : Entries) → LeadsToBlock guarded.top path entries → length path < 16
+guarded_short [] entries way = omega arith
+guarded_short (turn ∷ path) entries way =
+    let short = behind turn.entry turn.side way.0 way.1.0 way.1.1 way.1.2.0 way.1.2.1.1 in
+    let e = ap length short in
+    omega (arith, e)
+  where
+    behind : (place : ℕ) (side : Side) (guard : Guard) (then otherwise : Entries) → slice_get (direct guarded.top) place ≡ Some (OfBranch guard then otherwise) → LeadsToBlock (chosen side then otherwise) path entries → path ≡ []
+    behind (suc place) side guard then otherwise at way = absurd (cc)
+    behind zero Then guard then otherwise at way = let is : then ≡ NoEntry = cc in no_turns (λ guard side. ⊤) path entries (subst (λ e. LeadsToBlock e path entries) is way)
+    behind zero Otherwise guard then otherwise at way = let is : otherwise ≡ NoEntry = cc in no_turns (λ guard side. ⊤) path entries (subst (λ e. LeadsToBlock e path entries) is way)
+
+guarded_entry : (path : List Turn) (place : ℕ) (what : Direct) → StandsAt guarded.top path place what → (place < 2 ^ 16) × IsLawfulEntry ruled 0 guarded path what
+guarded_entry path place what p = at (guarded_follows (λ guard side. ⊤) path p.block p.way)
+  where
+    in_top : (place : ℕ) → slice_get (direct guarded.top) place ≡ Some what → (place < 2 ^ 16) × IsLawfulEntry ruled 0 guarded path what
+    in_top (suc place) stands = absurd (cc)
+    in_top zero stands = (
+      (let e : 2 ^ 16 ≡ 65536 = refl in omega (arith, e)),
+      subst (IsLawfulEntry ruled 0 guarded path) (same_some _ what stands) (
+        (kinds.Int, two (IsOfKind ruled (OfRule 0 guarded) kinds.Int) (term.Here (Param 0)) (term.Lit (pos 1))
+        (_, record { predicate = predicate_of pred.Plain (0 ∷ []); is_predicate = refl; declared = refl }, refl) (omega (arith, ints), omega (arith, ints))),
+        two (IsTermSeen guarded.top path) (term.Here (Param 0)) (term.Lit (pos 1)) tt tt,
+      ),
+    )
+
+    in_none : slice_get (direct NoEntry) place ≡ Some what → ⊥
+    in_none stands = cc
+
+    at : (p.block ≡ guarded.top) ⊎ (p.block ≡ NoEntry) → (place < 2 ^ 16) × IsLawfulEntry ruled 0 guarded path what
+    at (inl top) = in_top place (subst (λ e. slice_get (direct e) place ≡ Some what) top p.stands)
+    at (inr none) = absurd (in_none (subst (λ e. slice_get (direct e) place ≡ Some what) none p.stands))
+
+pub ruled_lawful : IsLawful ruled
+ruled_lawful =
+    one_root_lawful [] kind.Plain pred.Plain (0 ∷ []) (guarded ∷ []) Goal tt (omega arith) (record {
+      listed = guarded ∷ [];
+      are = (refl, tt);
+      few = record { rules = omega arith; slots = (let p : 0 ≤ 128 = omega arith in p); locals = (let p : 0 ≤ 128 = omega arith in p); items = (let p : 0 ≤ 1024 = omega arith in p); guards = (let p : 1 ≤ 1024 = omega arith in p) };
+      lawful = one (IsLawfulRule ruled 0) guarded (record {
+        entries = guarded_entry;
+        nested = guarded_short;
+        slots = none (IsLawfulSlot ruled);
+        slots_stand = λ number less. absurd (omega (arith, less));
+        locals = none (IsLawfulVariable ruled);
+        unnamed = none (λ (variable : VarDecl). variable.name ≡ []);
+        locals_stand = λ number less. absurd (omega (arith, less));
+      });
+      few_rules = omega arith;
+    }) (none (IsLawfulItem ruled OfProblem))
+
+local_entry : (path : List Turn) (place : ℕ) (what : Direct) → StandsAt with_local.top path place what → ((place < 2 ^ 16) × IsLawfulEntry localised 0 with_local path what) × ((path ≡ []) × (place ≡ 0))
+local_entry path place what p = at place (subst (λ e. slice_get (direct e) place ≡ Some what) (way_is (λ guard side. ⊤) path p.block p.way).1 p.stands)
+  where
+    at : (place : ℕ) → slice_get (OfLocal 0 ∷ []) place ≡ Some what → ((place < 2 ^ 16) × IsLawfulEntry localised 0 with_local path what) × ((path ≡ []) × (place ≡ 0))
+    at (suc place) stands = absurd (cc)
+    at zero stands = (
+      ((let e : 2 ^ 16 ≡ 65536 = refl in omega (arith, e)), subst (IsLawfulEntry localised 0 with_local path) (same_some (OfLocal 0) what stands) (_, refl)),
+      ((way_is (λ guard side. ⊤) path p.block p.way).0, refl),
+    )
+
+local_stands : (number : ℕ) → number < 1 → StandsOnce with_local.top (OfLocal number)
+local_stands zero less = record {
+  path = [];
+  place = 0;
+  stands = record { block = with_local.top; way = refl; stands = refl };
+  only = λ other number p. (local_entry other number (OfLocal 0) p).1;
+}
+local_stands (suc number) less = absurd (omega (arith, less))
+
+pub localised_lawful : IsLawful localised
+localised_lawful =
+    one_root_lawful [] kind.Plain pred.Plain (0 ∷ []) (with_local ∷ []) Goal tt (omega arith) (record {
+      listed = with_local ∷ [];
+      are = (refl, tt);
+      few = record { rules = omega arith; slots = (let p : 0 ≤ 128 = omega arith in p); locals = (let p : 1 ≤ 128 = omega arith in p); items = (let p : 0 ≤ 1024 = omega arith in p); guards = (let p : 0 ≤ 1024 = omega arith in p) };
+      lawful = one (IsLawfulRule localised 0) with_local (record {
+        entries = λ path place what p. (local_entry path place what p).0;
+        nested = λ path block way. let e = ap length (way_is (λ guard side. ⊤) path block way).0 in omega (arith, e);
+        slots = none (IsLawfulSlot localised);
+        slots_stand = λ number less. absurd (omega (arith, less));
+        locals = one (IsLawfulVariable localised) _ (int_variable localised [] 2 (omega arith));
+        unnamed = one (λ (variable : VarDecl). variable.name ≡ []) _ refl;
+        locals_stand = local_stands;
+      });
+      few_rules = omega arith;
+    }) (none (IsLawfulItem localised OfProblem))

@@ -307,6 +307,19 @@ goal_inactive = record { hinders = inl (inactive [] (Goal ∷ Fact ∷ []) 0 Goa
     first SameToken less h = omega (arith, less)
     first ActiveFull less h = omega (arith, less)
 
+pub goal_before_itself : IsFirstRefusal (alone Goal) [] one_token order_it NotActive
+goal_before_itself = record { hinders = inl (inactive [] (Goal ∷ []) 0 Goal refl no_goal); first = first }
+  where
+    first : (earlier : Refusal) → rank_of earlier < 3 → Hinders (alone Goal) [] one_token earlier order_it → ⊥
+    first Unknown less h = h (one_there, one_there)
+    first Decided less h = contains_none order_it h
+    first NotInDomain less h = h
+    first NotActive less h = omega (arith, less)
+    first NotSamePredicate less h = omega (arith, less)
+    first NotRejectable less h = omega (arith, less)
+    first SameToken less h = omega (arith, less)
+    first ActiveFull less h = omega (arith, less)
+
 pub order_free : IsFree (two_facts kind.Plain) [] two_tokens order_them
 order_free Unknown h = h (first_there, second_there)
 order_free Decided h = contains_none order_them h

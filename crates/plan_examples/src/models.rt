@@ -21,3 +21,21 @@ pub fn problems_of_variables_are_lawful()
     ensures field { IsLawful fielded }
 {}
 
+/// Those with tokens, but for the one of 512 facts, which is too long to be gone through.
+pub fn problems_of_tokens_are_lawful()
+    ensures lone_goal { IsLawful lone_goal }
+    ensures ruled { IsLawful ruled }
+    ensures localised { IsLawful localised }
+    ensures plain_facts { IsLawful (two_facts Plain) }
+    ensures timeline_facts { IsLawful (two_facts Timeline) }
+    ensures small_tool { IsLawful (tool 1) }
+    ensures tool { IsLawful (tool 2) }
+    ensures battery { IsLawful battery }
+    ensures goal_and_fact { IsLawful goal_and_fact }
+    ensures limited { IsLawful (limited Rejectable) }
+    ensures limited_fact { IsLawful (limited Fact) }
+    ensures fact { IsLawful (alone Fact) }
+    ensures rejectable { IsLawful (alone Rejectable) }
+    ensures two_goals { IsLawful two_goals }
+    ensures mixed { IsLawful mixed }
+{}

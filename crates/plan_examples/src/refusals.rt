@@ -42,6 +42,7 @@ pub fn tokens_are_active_first()
     ensures target { IsFirstRefusal two_goals [] two_tokens merge_them NotActive }
     ensures active_target { IsFree goal_and_fact [] two_tokens merge_them }
     ensures ordered_goal { IsFirstRefusal goal_and_fact [] two_tokens order_them NotActive }
+    ensures ordered_before_itself { IsFirstRefusal (alone Goal) [] one_token order_it NotActive }
     ensures ordered_facts { IsFree (two_facts Plain) [] two_tokens order_them }
 {}
 

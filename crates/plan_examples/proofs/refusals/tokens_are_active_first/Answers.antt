@@ -1,4 +1,4 @@
-use Rattle.plan_examples.proofs.Reasons.{quantity_untaken, quantity_taken, target_inactive, merge_free, goal_inactive, order_free}
+use Rattle.plan_examples.proofs.Reasons.{goal_before_itself, quantity_untaken, quantity_taken, target_inactive, merge_free, goal_inactive, order_free}
 use Rattle.plan_examples.proofs.refusals.tokens_are_active_first.Goals as goal
 
 pub returns-clause-untaken : goal.returns-clause-untaken
@@ -18,3 +18,6 @@ returns-clause-ordered_goal c = goal_inactive
 
 pub returns-clause-ordered_facts : goal.returns-clause-ordered_facts
 returns-clause-ordered_facts c = order_free
+
+pub returns-clause-ordered_before_itself : goal.returns-clause-ordered_before_itself
+returns-clause-ordered_before_itself c = goal_before_itself
