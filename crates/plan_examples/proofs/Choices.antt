@@ -1,46 +1,30 @@
 -- The examples of `else`, and of decisions on tokens.
-use Rattle.std.proofs.Common.{◌≡◌, ℕ, suc, zero, ◌+◌, ◌≤◌, List, [], ◌∷◌, ◌++◌, length, Some, ℤ, pos, ◌≤ℤ◌, ◌+ℤ◌, inl, inr, refl, sym, ap, ◌∙◌, subst, arith}
-use Rattle.std.specs.Prelude.{Contains, All, AllPairs, slice_get, ⊤, ◌⊎◌}
-use Rattle.std.specs.List.{AllZip}
+use Rattle.std.proofs.Common.{◌≡◌, ℕ, ◌+◌, ◌≤◌, List, [], ◌∷◌, length, Some, ℤ, pos, inl, inr, refl, sym, ap, ◌∙◌, subst, arith}
+use Rattle.std.specs.Prelude.{Contains, All, slice_get}
 use Rattle.std.proofs.lemmas.Int.{ints}
-use Rattle.domain_core.specs.Domain.{Domain, IsTested, Has, least}
+use Rattle.domain_core.specs.Domain.{Domain, Has}
 use Rattle.eu_name.specs.declared.name.Part.{Part}
-use Rattle.eu_name.specs.declared.name.Part.TheVariants.{Start, End, Object, Param}
-use Rattle.eu_name.specs.declared.name.TokenName.{TokenName}
+use Rattle.eu_name.specs.declared.name.Part.TheVariants.{Start, End, Param}
 use Rattle.eu_name.specs.declared.name.VarName.TheVariants.{Token}
-use Rattle.model_core.specs.declared.class.ObjectKind.{ObjectKind}
 use Rattle.model_core.specs.declared.class.ObjectKind.TheVariants as kind
-use Rattle.model_core.specs.declared.class.Pred.{Pred}
-use Rattle.model_core.specs.declared.class.PredKind.{PredKind}
 use Rattle.model_core.specs.declared.class.PredKind.TheVariants as pred
 use Rattle.model_core.specs.declared.item.Kind.TheVariants.{Leq}
 use Rattle.model_core.specs.declared.model.Root.{Root}
 use Rattle.model_core.specs.declared.model.RootKind.{RootKind}
 use Rattle.model_core.specs.declared.model.RootKind.TheVariants.{Goal, Rejectable, Fact}
 use Rattle.model_core.specs.declared.item.Term.TheVariants as term
-use Rattle.model_core.specs.declared.rule.Guard.{Guard}
-use Rattle.model_core.specs.declared.rule.Guard.TheVariants.{Equal}
-use Rattle.model_core.specs.declared.rule.Rule.{Rule}
 use Rattle.model_core.specs.declared.rule.Side.{Side}
 use Rattle.model_core.specs.declared.rule.Slot.{Slot}
 use Rattle.model_core.specs.declared.rule.Side.TheVariants.{Then, Otherwise}
 use Rattle.model_core.specs.declared.rule.Turn.{Turn}
 use Rattle.model_core.specs.declared.variable.Base.TheVariants.{Given}
-use Rattle.model_core.specs.Blocks.{TokenBlock, IsBlock, IsBlockBefore, Follows, OfBranch, direct, chosen}
-use Rattle.model_core.specs.Consistency.{Ends, Admits}
-use Rattle.model_core.specs.Constraints.{HoldsOf, AgreeOn}
+use Rattle.model_core.specs.Blocks.{TokenBlock, IsBlockBefore}
 use Rattle.model_core.specs.Entries.{Entries, NoEntry}
 use Rattle.model_core.specs.State.{State, Gives, AreInOrder}
-use Rattle.plan_defs.specs.Timelines.{FitTimelines}
-use Rattle.plan_defs.specs.Resources.{FitReusables, FitReservoirs, IsActor, SurelyUses, IsShare, SurelyChanges, IsHighChange, IsTokenComplete}
-use Rattle.plan_defs.specs.Situations.{Situation, situation_of}
-use Rattle.plan_defs.specs.Sums.{sum_of}
-use Rattle.plan_defs.specs.Support.{Selects, Opens, IsSupportedToken, IsSupportedBlock}
-use Rattle.plan_defs.specs.Timelines.{IsOn}
+use Rattle.plan_defs.specs.Situations.{situation_of}
+use Rattle.plan_defs.specs.Support.{Selects, IsSupportedBlock}
 use Rattle.plan_defs.proofs.BlockOrder.{block_transitive}
 use Rattle.plan_defs.proofs.Ordered.{contains_head, contains_cases, contains_none, ordered_none, ordered_one, ordered_link}
-use Rattle.plan_defs.proofs.States.{gives_same}
-use Rattle.plan_examples.specs.Globals.{empty_state, up_to}
 use Rattle.model_core.specs.declared.decision.Decision.{Decision}
 use Rattle.model_core.specs.declared.decision.Decision.TheVariants.{Activate, Merge, Order}
 use Rattle.model_core.specs.declared.item.Item.{Item}
@@ -55,7 +39,7 @@ use Rattle.plan_defs.specs.Closure.{IsClosed, IsRespected}
 use Rattle.plan_defs.specs.Consistency.{IsClaimConsistent}
 use Rattle.plan_defs.specs.Terms.{Argument, Value, Variable, ArgumentCounts}
 use Rattle.plan_examples.specs.Cases.{short, ruled, two_facts, activated, moment, goal_and_fact, merged, ordered, at_most_one, limited}
-use Rattle.plan_examples.specs.Scenes.{the_object, both_objects, predicate_of, root_of, scene_with, Moment, exactly, tokens_of, scene_state, guarded, top_block, then_block, else_block}
+use Rattle.plan_examples.specs.Scenes.{both_objects, predicate_of, root_of, scene_with, Moment, exactly, scene_state, guarded, top_block, then_block, else_block}
 use Rattle.plan_examples.proofs.Casts.{only_moment, one_moment, two_moments, nothing_decided, one_decided, fit_no_timelines, fit_no_reusables, fit_no_reservoirs, no_rule, nothing_listed}
 use Rattle.plan_examples.proofs.Closed.{IsMoment, IsPlain, Grants, closed_with, plain_grants, supported, slot_same, part_domain, part_is_domain, HasItsBlock}
 use Rattle.plan_examples.proofs.Examples.{plain_closed, the_guard, gives_quantity, at_way, has_block, opens_here, GoesTo, ruled_closed, in_order, has_top, part_there}
@@ -316,9 +300,9 @@ module _ (root_kind : RootKind) (number : ℕ) where
       still_closed (at_most_one ∷ []) (root_kind ∷ []) (moment 0 1 number ∷ []) refl are decisions
       (plain_grants (at_most_one ∷ []) kind.Plain pred.Plain [] [] (root_kind ∷ []) [] (moment 0 1 number ∷ []) refl are no_rules decisions quiet
       (λ claim p.
-          let is = only_claim (limited root_kind) (IsTaken decisions) Leq (term.Root 0 (Param 0)) (term.Lit (pos 1)) the_quantity (Value (pos 1)) refl (λ x e. e) (λ x e. e) claim p in
-          subst (IsClaimConsistent (limited root_kind) alone) (sym is.0)
-          (at_most_holds (limited root_kind) alone (orders (moment 0 1 number ∷ [])) the_quantity (Value (pos 1)) number 1 has_quantity refl (low is.1))))
+      let is = only_claim (limited root_kind) (IsTaken decisions) Leq (term.Root 0 (Param 0)) (term.Lit (pos 1)) the_quantity (Value (pos 1)) refl (λ x e. e) (λ x e. e) claim p in
+      subst (IsClaimConsistent (limited root_kind) alone) (sym is.0)
+      (at_most_holds (limited root_kind) alone (orders (moment 0 1 number ∷ [])) the_quantity (Value (pos 1)) number 1 has_quantity refl (low is.1))))
 
 pub untaken_closed : IsClosed (limited Rejectable) [] (scene_state [] (moment 0 1 2 ∷ []))
 untaken_closed = limited_closed Rejectable 2 (omega arith) [] nothing_decided (λ counts. absurd (untaken (counts 0 the_quantity (omega arith) (root_token 0) refl (refl, (root_of 0 Rejectable, refl, refl)))))

@@ -3,8 +3,7 @@ use Rattle.std.proofs.Common.{◌≡◌, ℕ, suc, zero, ◌+◌, ◌≤◌, Lis
 use Rattle.std.specs.Prelude.{Contains, All, AllPairs, slice_get, ⊤, ◌⊎◌, ◌↔◌}
 use Rattle.std.proofs.lemmas.Int.{ints}
 use Rattle.std.proofs.lemmas.List.Elements.{All-contains}
-use Rattle.domain_core.specs.Domain.{Domain, Range, IsDomain, IsValue, IsWithin, IsTested, IsBetweenEnds}
-use Rattle.domain_core.proofs.Words.{IsWithin-refl}
+use Rattle.domain_core.specs.Domain.{Domain, Range, IsDomain, IsWithin, IsTested, IsBetweenEnds}
 use Rattle.eu_name.specs.declared.name.Part.{Part}
 use Rattle.eu_name.specs.declared.name.Part.TheVariants.{Start, End, Duration, Object, Param}
 use Rattle.eu_name.specs.declared.name.Step.{Step}
@@ -45,7 +44,7 @@ use Rattle.plan_defs.specs.Support.{Opens, IsSupportedToken, IsSupportedBlock}
 use Rattle.plan_defs.specs.Terms.{InRule}
 use Rattle.plan_defs.specs.Timelines.{FitTimelines}
 use Rattle.plan_defs.proofs.Ordered.{contains_none}
-use Rattle.plan_examples.specs.Scenes.{the_object, both_objects, predicate_of, root_of, scene, scene_with, Moment, exactly, tokens_of, scene_entries, scene_state, guarded}
+use Rattle.plan_examples.specs.Scenes.{both_objects, predicate_of, root_of, scene, scene_with, Moment, exactly, tokens_of, scene_entries, scene_state, guarded}
 use Rattle.plan_examples.proofs.Lists.{all_members, only_member, same_some, get_root, root_get, get_alike}
 use Rattle.plan_examples.proofs.Scenes.{tokens_in_order, entries_in_order, HasPartDomain, entry_of, entry_there, token_of, token_there}
 use Rattle.plan_examples.proofs.Tuples.{three_consistent}

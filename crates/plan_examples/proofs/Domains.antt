@@ -1,5 +1,5 @@
 -- The domains of objects.
-use Rattle.std.proofs.Common.{List, [], ◌∷◌, ℤ, pos, inl, inr, subst, arith}
+use Rattle.std.proofs.Common.{[], ◌∷◌, ℤ, pos, inl, inr, subst, arith}
 use Rattle.std.specs.Prelude.{Contains, AllPairs, ◌<ℤ◌}
 use Rattle.std.proofs.lemmas.Int.{ints}
 use Rattle.domain_core.specs.Domain.{IsDomain, IsValue, IsWithin, IsSingle}

@@ -1,9 +1,9 @@
 -- The problems of the examples are lawful.
-use Rattle.std.proofs.Common.{◌≡◌, ℕ, suc, zero, ◌<◌, ◌≤◌, ◌^◌, Bool, true, false, List, [], ◌∷◌, length, Some, ℤ, pos, inl, inr, refl, sym, ap, ◌∙◌, subst, arith}
-use Rattle.std.specs.Prelude.{Contains, All, AllPairs, ◌≢◌, ◌⊎◌, ⊤, ◌&&◌, not, IsTrue, slice_get, codes, count_by}
+use Rattle.std.proofs.Common.{◌≡◌, ℕ, suc, zero, ◌<◌, ◌≤◌, ◌^◌, Bool, true, false, List, [], ◌∷◌, length, Some, ℤ, pos, inl, inr, refl, sym, ap, subst, arith}
+use Rattle.std.specs.Prelude.{Contains, All, AllPairs, ◌≢◌, ◌⊎◌, ⊤, ◌&&◌, not, slice_get, codes, count_by}
 use Rattle.std.specs.List.{AllZip}
 use Rattle.std.proofs.lemmas.Int.{ints}
-use Rattle.domain_core.specs.Domain.{Domain, Range, Has, IsDomain, IsValue}
+use Rattle.domain_core.specs.Domain.{Range, Has}
 use Rattle.eu_name.specs.declared.name.Part.TheVariants.{Param}
 use Rattle.eu_name.specs.Word.{IsName}
 use Rattle.model_core.specs.declared.class.Class.{Class}
@@ -32,13 +32,13 @@ use Rattle.model_core.specs.Blocks.{Direct, OfLocal, OfBranch, Follows, direct, 
 use Rattle.model_core.specs.Entries.{Entries, NoEntry}
 use Rattle.model_core.specs.Kinds.{OfProblem, OfRule, IsOfKind, IsObjectOf}
 use Rattle.model_core.specs.Lawful.{IsLawful, IsHorizon, IsLawfulEnum, IsLawfulClass, IsLawfulObject, IsLawfulKind, IsLawfulVariable, IsLawfulItem, IsLawfulEntry, IsLawfulSlot, IsLawfulRule, AreFew, HasQuantity, IsLawfulPred, IsLawfulRoot, IsLawfulDecision, is_fact}
-use Rattle.model_core.specs.Naming.{builtin_names, names_of, declared_names, file_names, IsGlobalName, IsObjectName, IsParameterName, token_part_words}
+use Rattle.model_core.specs.Naming.{builtin_names, names_of, declared_names, file_names, IsObjectName, IsParameterName, token_part_words}
 use Rattle.model_core.specs.Standing.{StandsAt, StandsOnce, LeadsToBlock, IsTermSeen}
 use Rattle.model_core.specs.Variables.{IsGiven}
 use Rattle.model_core.proofs.Words.{is_among, not_contained, is_plain, plain_name, all_differ, differing}
 use Rattle.plan_defs.proofs.Ordered.{contains_cases, contains_none, ordered_none, ordered_one}
 use Rattle.plan_examples.specs.Cases.{lone_goal, ruled, localised, two_facts, tool, battery, goal_and_fact, limited, at_most_one}
-use Rattle.plan_examples.specs.Globals.{declared_x, problem_with, problem_of, free_x, low_x, at_most_1, up_to}
+use Rattle.plan_examples.specs.Globals.{declared_x, problem_with, problem_of, free_x, low_x, at_most_1}
 use Rattle.plan_examples.specs.Refused.{alone, two_goals, mixed}
 use Rattle.plan_examples.specs.Scenes.{the_object, both_objects, object_called, predicate_called, predicate_of, label_of, root_of, roots_from, scene_with, guarded, with_local}
 use Rattle.plan_examples.specs.Worlds.{class_with, object_with, declared_c, declared_field, declared_v, declared_y, field_is, no_choice, one_choice, fielded, free_two, low_two}
@@ -244,16 +244,19 @@ field_lawful =
       inside = record { values = λ v c. let found = fielded_object v c in (found.0, found.1); range = λ is. absurd is };
     }) (int_variable fielded (codes "v") 9 (omega arith)))
     (two Named (declared_c (Given both_objects)) declared_v (plain_name (codes "c") refl) (plain_name (codes "v") refl))
-    (one (IsLawfulItem fielded OfProblem) field_is (refl, record {
-      class = 0;
-      found = class_with (declared_field ∷ []);
-      is_class = refl;
-      variable = declared_field;
-      declared = refl;
-      of_kind = (declared_c (Given both_objects), refl, refl);
-      of_class = (declared_c (Given both_objects), refl, fielded_object);
-      value_kind = (declared_v, refl, refl);
-    })) refl refl
+    (one (IsLawfulItem fielded OfProblem) field_is (
+      refl,
+      record {
+        class = 0;
+        found = class_with (declared_field ∷ []);
+        is_class = refl;
+        variable = declared_field;
+        declared = refl;
+        of_kind = (declared_c (Given both_objects), refl, refl);
+        of_class = (declared_c (Given both_objects), refl, fielded_object);
+        value_kind = (declared_v, refl, refl);
+      },
+    )) refl refl
 
 -- ---- problems of tokens
 
@@ -453,8 +456,11 @@ battery_lawful =
 limited_is_lawful : (root_kind : RootKind) → IsLawful (limited root_kind)
 limited_is_lawful root_kind =
     one_root_lawful (at_most_one ∷ []) kind.Plain pred.Plain [] [] root_kind tt (omega arith) (no_rules (at_most_one ∷ []) kind.Plain pred.Plain (root_kind ∷ []))
-    (one (IsLawfulItem (limited root_kind) OfProblem) at_most_one (refl, two (IsOfKind (limited root_kind) OfProblem kinds.Int) (term.Root 0 (Param 0)) (term.Lit (pos 1))
-    (root_of 0 root_kind, refl, (_, record { predicate = predicate_of pred.Plain []; is_predicate = refl; declared = refl }, refl)) (omega (arith, ints), omega (arith, ints))))
+    (one (IsLawfulItem (limited root_kind) OfProblem) at_most_one (
+      refl,
+      two (IsOfKind (limited root_kind) OfProblem kinds.Int) (term.Root 0 (Param 0)) (term.Lit (pos 1))
+          (root_of 0 root_kind, refl, (_, record { predicate = predicate_of pred.Plain []; is_predicate = refl; declared = refl }, refl)) (omega (arith, ints), omega (arith, ints)),
+    ))
 
 pub limited_lawful : IsLawful (limited Rejectable)
 limited_lawful = limited_is_lawful Rejectable
@@ -514,8 +520,11 @@ guarded_entry path place what p = at (guarded_follows (λ guard side. ⊤) path 
     in_top zero stands = (
       (let e : 2 ^ 16 ≡ 65536 = refl in omega (arith, e)),
       subst (IsLawfulEntry ruled 0 guarded path) (same_some _ what stands) (
-        (kinds.Int, two (IsOfKind ruled (OfRule 0 guarded) kinds.Int) (term.Here (Param 0)) (term.Lit (pos 1))
-        (_, record { predicate = predicate_of pred.Plain (0 ∷ []); is_predicate = refl; declared = refl }, refl) (omega (arith, ints), omega (arith, ints))),
+        (
+          kinds.Int,
+          two (IsOfKind ruled (OfRule 0 guarded) kinds.Int) (term.Here (Param 0)) (term.Lit (pos 1))
+              (_, record { predicate = predicate_of pred.Plain (0 ∷ []); is_predicate = refl; declared = refl }, refl) (omega (arith, ints), omega (arith, ints)),
+        ),
         two (IsTermSeen guarded.top path) (term.Here (Param 0)) (term.Lit (pos 1)) tt tt,
       ),
     )

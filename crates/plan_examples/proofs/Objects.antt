@@ -1,11 +1,10 @@
 -- The examples of variables that are objects, and of their fields.
 use Rattle.std.proofs.Common.{◌≡◌, ℕ, suc, zero, List, [], ◌∷◌, ◌++◌, Some, ℤ, pos, inl, inr, refl, sym, ap, ◌∙◌, subst, arith}
-use Rattle.std.specs.Prelude.{Contains, All, AllPairs, ◌⊎◌, ◌≤◌, ◌<ℤ◌, slice_get}
+use Rattle.std.specs.Prelude.{Contains, ◌⊎◌, ◌≤◌, slice_get}
 use Rattle.std.specs.List.{AllZip}
 use Rattle.std.proofs.lemmas.Int.{ints}
-use Rattle.domain_core.specs.Domain.{Domain, IsDomain, IsValue, IsTested, IsWithin, Has, Set, Range}
+use Rattle.domain_core.specs.Domain.{Domain, IsDomain, IsTested, IsWithin, Has}
 use Rattle.domain_core.proofs.Words.{IsWithin-refl}
-use Rattle.eu_name.specs.declared.name.VarName.{VarName}
 use Rattle.eu_name.specs.declared.name.VarName.TheVariants.{Global}
 use Rattle.model_core.specs.declared.class.Object.{Object}
 use Rattle.model_core.specs.declared.class.ObjectKind.TheVariants as kind
@@ -19,14 +18,14 @@ use Rattle.model_core.specs.Decided.{IsTaken}
 use Rattle.model_core.specs.Kinds.{IsObject}
 use Rattle.model_core.specs.State.{VarDomain}
 use Rattle.model_core.specs.Variables.{HasBase, IsInBase}
-use Rattle.plan_defs.specs.Claims.{Claim, IsOfProblem}
+use Rattle.plan_defs.specs.Claims.{Claim}
 use Rattle.plan_defs.specs.Closure.{IsClosed, IsCollapsed}
 use Rattle.plan_defs.specs.Consistency.{IsClaimConsistent, HasField}
 use Rattle.plan_defs.specs.Terms.{Argument, Variable, ArgumentCounts}
-use Rattle.plan_defs.proofs.Ordered.{contains_head, contains_later, contains_cases, ordered_one, ordered_link}
+use Rattle.plan_defs.proofs.Ordered.{contains_head, contains_later, contains_cases, ordered_one}
 use Rattle.plan_examples.specs.Globals.{with_x, with_two, up_to}
 use Rattle.plan_examples.specs.Scenes.{the_object, both_objects}
-use Rattle.plan_examples.specs.Worlds.{declared_c, declared_v, class_with, object_with, no_choice, one_choice, fielded, field_is, declared_field, between}
+use Rattle.plan_examples.specs.Worlds.{declared_c, declared_v, class_with, object_with, no_choice, one_choice, fielded, field_is, between}
 use Rattle.plan_examples.proofs.Domains.{object_domain, both_domain, object_within}
 use Rattle.plan_examples.proofs.Lists.{all_members, only_member, same_some}
 use Rattle.plan_examples.proofs.Pairs.{is_about, agreeing, only_claim}
@@ -103,10 +102,10 @@ module _ (one other : Domain) where
   fielded_closed ok ok' within within' first second =
       two_closed _ _ (declared_c (Given both_objects)) declared_v (field_is ∷ []) [] one other both_objects (up_to 9) fielded_plain refl refl ok ok' within within' (no_decision (with_two one other))
       (λ claim p.
-          let is = only_claim fielded (IsTaken []) (Field 0) (term.Global 0) (term.Global 1) c_argument v_argument refl (λ x e. e) (λ x e. e) claim p in
-          subst (IsClaimConsistent fielded (with_two one other)) (sym is.0)
-          (agreeing fielded (with_two one other) (two_ordered one other) c_argument v_argument (Field 0) one other (gives_first one other) (gives_second one other)
-          (two_consistent Values holds one other first second)))
+      let is = only_claim fielded (IsTaken []) (Field 0) (term.Global 0) (term.Global 1) c_argument v_argument refl (λ x e. e) (λ x e. e) claim p in
+      subst (IsClaimConsistent fielded (with_two one other)) (sym is.0)
+      (agreeing fielded (with_two one other) (two_ordered one other) c_argument v_argument (Field 0) one other (gives_first one other) (gives_second one other)
+      (two_consistent Values holds one other first second)))
 
   -- each tested value of either is part of a pair of an object and what it has in the field
   fielded_agree : IsClosed fielded [] (with_two one other) → ((v : ℤ) → IsTested one v → IsSupported Values holds [] v (other ∷ [])) × ((v : ℤ) → IsTested other v → IsSupported Values holds (one ∷ []) v [])

@@ -1,9 +1,8 @@
 -- What is claimed of two arguments that may be one number each, and which claim a constraint on two terms makes.
-use Rattle.std.proofs.Common.{◌≡◌, ℕ, ◌≤◌, List, [], ◌∷◌, ◌++◌, ℤ, pos, inl, inr, refl, sym, ap, ◌∙◌, subst, arith}
+use Rattle.std.proofs.Common.{◌≡◌, ℕ, ◌≤◌, List, [], ◌∷◌, ◌++◌, ℤ, pos, inl, inr, refl, sym, ◌∙◌, subst, arith}
 use Rattle.std.specs.Prelude.{Contains, All}
 use Rattle.std.specs.List.{AllZip}
 use Rattle.std.proofs.lemmas.Int.{ints}
-use Rattle.std.proofs.lemmas.List.Elements.{All-contains}
 use Rattle.domain_core.specs.Domain.{Domain, Range, Set, IsDomain, IsTested, Has}
 use Rattle.eu_name.specs.declared.name.TokenName.{TokenName}
 use Rattle.model_core.specs.declared.item.Item.TheVariants.{Constraint}
@@ -17,7 +16,6 @@ use Rattle.model_core.specs.State.{State, Gives, AreInOrder}
 use Rattle.plan_defs.specs.Claims.{Claim, IsOfProblem, ItemSays, at_most, equal}
 use Rattle.plan_defs.specs.Consistency.{IsClaimConsistent, HasField}
 use Rattle.plan_defs.specs.Terms.{Argument, Value, Variable, InProblem, Means, HasDomain, ArgumentCounts}
-use Rattle.plan_defs.proofs.Ordered.{contains_head}
 use Rattle.plan_defs.proofs.States.{gives_same}
 use Rattle.plan_examples.specs.Scenes.{exactly}
 use Rattle.plan_examples.proofs.Lists.{only_member}

@@ -1,6 +1,6 @@
 -- The examples of refusals.
-use Rattle.std.proofs.Common.{◌≡◌, ◌≢◌, ℕ, suc, zero, ◌<◌, ◌≤◌, ◌+◌, List, [], ◌∷◌, length, Some, ℤ, pos, ◌≤ℤ◌, inl, inr, refl, sym, ap, ◌∙◌, subst, arith}
-use Rattle.std.specs.Prelude.{Contains, All, AllPairs, ◌⊎◌, slice_get}
+use Rattle.std.proofs.Common.{◌≡◌, ℕ, suc, zero, ◌<◌, ◌≤◌, ◌+◌, List, [], ◌∷◌, length, Some, ℤ, pos, ◌≤ℤ◌, inl, inr, refl, sym, ap, ◌∙◌, subst, arith}
+use Rattle.std.specs.Prelude.{Contains, All, slice_get}
 use Rattle.std.proofs.lemmas.Int.{ints}
 use Rattle.std.proofs.lemmas.List.Elements.{All-contains}
 use Rattle.domain_core.specs.Domain.{Domain, Range, Has}
@@ -12,8 +12,7 @@ use Rattle.eu_name.proofs.Orders.{token_order}
 use Rattle.model_core.specs.declared.class.ObjectKind.TheVariants as kind
 use Rattle.model_core.specs.declared.class.Pred.{Pred}
 use Rattle.model_core.specs.declared.class.PredKind.TheVariants as pred
-use Rattle.model_core.specs.declared.decision.Decision.{Decision}
-use Rattle.model_core.specs.declared.decision.Decision.TheVariants.{Specify, Activate, Merge, Reject, Order}
+use Rattle.model_core.specs.declared.decision.Decision.TheVariants.{Specify, Activate, Merge, Reject}
 use Rattle.model_core.specs.declared.item.Item.{Item}
 use Rattle.model_core.specs.declared.model.Model.{Model}
 use Rattle.model_core.specs.declared.model.Root.{Root}
@@ -24,14 +23,14 @@ use Rattle.model_core.specs.declared.variable.Base.TheVariants.{Given}
 use Rattle.model_core.specs.declared.variable.VarDecl.{VarDecl}
 use Rattle.model_core.specs.Decided.{IsTaken, IsActive, IsDecided}
 use Rattle.model_core.specs.State.{Gives}
-use Rattle.model_core.specs.Tokens.{HasToken, IsRootOfKind, root_token, slot_of}
-use Rattle.model_core.specs.Variables.{HasBase, HasPartBase}
+use Rattle.model_core.specs.Tokens.{IsRootOfKind, root_token, slot_of}
+use Rattle.model_core.specs.Variables.{HasPartBase}
 use Rattle.plan_defs.specs.Refusals.{Refusal, Unknown, Decided, NotInDomain, NotActive, NotSamePredicate, NotRejectable, SameToken, ActiveFull, rank_of, Hinders, IsDeclared, HaveSamePredicate, AreActive, IsFirstRefusal, IsRefused}
 use Rattle.plan_defs.proofs.Ordered.{contains_head, contains_none}
 use Rattle.plan_examples.specs.Cases.{moment, two_facts, goal_and_fact, limited, at_most_one, activated, activate_it, quantity_is}
 use Rattle.plan_examples.specs.Globals.{declared_x, with_two, up_to}
 use Rattle.plan_examples.specs.Refused.{IsFree, one_token, two_tokens, merge_them, order_them, order_it, reject_it, alone, two_goals, mixed, facts_and_goal, many, many_moments, many_tokens}
-use Rattle.plan_examples.specs.Scenes.{the_object, both_objects, predicate_of, root_of, scene_with, Moment, tokens_of}
+use Rattle.plan_examples.specs.Scenes.{both_objects, predicate_of, root_of, scene_with, Moment, tokens_of}
 use Rattle.plan_examples.specs.Worlds.{free_two, x_is}
 use Rattle.plan_examples.proofs.Closed.{slot_same}
 use Rattle.plan_examples.proofs.Lists.{all_members, only_member, same_some, get_root, root_get}

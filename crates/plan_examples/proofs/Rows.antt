@@ -1,27 +1,20 @@
 -- The rows of the relations, decided by their starts and ends.
-use Rattle.std.proofs.Common.{◌≡◌, ℕ, suc, zero, ◌≤◌, Bool, true, false, List, [], ◌∷◌, ◌++◌, ℤ, pos, inl, inr, get_or, refl, sym, ap, subst, arith, map}
+use Rattle.std.proofs.Common.{◌≡◌, ℕ, suc, zero, ◌≤◌, Bool, true, false, List, [], ◌∷◌, inl, inr, get_or, refl, sym, ap, subst, arith, map}
 use Rattle.std.specs.Prelude.{Contains, ◌⊎◌}
 use Rattle.std.specs.List.{AllZip}
-use Rattle.std.proofs.lemmas.Int.{ints}
-use Rattle.domain_core.specs.Domain.{Domain, IsTested}
 use Rattle.eu_name.specs.declared.name.Part.TheVariants.{Start, End}
 use Rattle.eu_name.specs.declared.name.VarName.{VarName}
 use Rattle.eu_name.specs.declared.name.VarName.TheVariants.{Token}
 use Rattle.eu_name.specs.NameOrder.{IsTokenBefore, IsVarBefore}
 use Rattle.eu_name.proofs.Orders.{token_order, var_order}
-use Rattle.model_core.specs.declared.item.Kind.{Kind}
-use Rattle.model_core.specs.declared.item.Kind.TheVariants.{Eq, Leq}
 use Rattle.model_core.specs.declared.item.Rel.{Rel}
 use Rattle.model_core.specs.declared.item.Rel.TheVariants as rel
 use Rattle.model_core.specs.Blocks.{IsBlockBefore}
-use Rattle.model_core.specs.Consistency.{Reach, Ends, Values, Admits, AreConsistent}
-use Rattle.model_core.specs.Constraints.{HoldsOf, AgreeOn}
 use Rattle.model_core.specs.State.{VarDomain, Gives, AreInOrder}
 use Rattle.plan_defs.specs.Claims.{Claim, at_most, equal, relates}
-use Rattle.plan_defs.specs.Consistency.{IsClaimConsistent, HasField}
-use Rattle.plan_defs.specs.Terms.{Variable, HasDomain}
+use Rattle.plan_defs.specs.Consistency.{IsClaimConsistent}
+use Rattle.plan_defs.specs.Terms.{Variable}
 use Rattle.plan_defs.proofs.Ordered.{contains_head, contains_later, contains_cases, contains_none, ordered_none, ordered_one, ordered_link}
-use Rattle.plan_defs.proofs.States.{gives_same}
 use Rattle.plan_examples.specs.Globals.{problem_of}
 use Rattle.plan_examples.specs.Relations.{Times, token_a, token_b, beside_a, IsMark}
 use Rattle.plan_examples.specs.Scenes.{exactly}

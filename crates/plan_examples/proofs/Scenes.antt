@@ -12,7 +12,7 @@ use Rattle.eu_name.proofs.Orders.{token_order, var_order}
 use Rattle.model_core.specs.State.{VarDomain}
 use Rattle.model_core.specs.Tokens.{root_token}
 use Rattle.plan_defs.proofs.Ordered.{contains_head, contains_later, contains_cases, contains_none, ordered_none, ordered_one, ordered_link}
-use Rattle.plan_examples.specs.Scenes.{the_object, Moment, exactly, tokens_of, scene_entries}
+use Rattle.plan_examples.specs.Scenes.{Moment, exactly, tokens_of, scene_entries}
 use Rattle.plan_examples.proofs.Lists.{same_some}
 
 -- ---- in order

@@ -1,13 +1,12 @@
 -- The examples of settling, histories and conflicts.
-use Rattle.std.proofs.Common.{◌≡◌, ℕ, suc, zero, ◌≤◌, List, [], ◌∷◌, ◌++◌, length, Some, ℤ, pos, ◌≤ℤ◌, inl, inr, refl, sym, ap, ◌∙◌, subst, arith}
-use Rattle.std.specs.Prelude.{Contains, All, ◌⊎◌, slice_get}
+use Rattle.std.proofs.Common.{◌≡◌, ℕ, ◌≤◌, List, [], ◌∷◌, ◌++◌, length, ℤ, pos, ◌≤ℤ◌, inl, inr, refl, sym, ap, ◌∙◌, subst, arith}
+use Rattle.std.specs.Prelude.{Contains, ◌⊎◌}
 use Rattle.std.specs.List.{AllZip}
 use Rattle.std.proofs.lemmas.Int.{ints}
 use Rattle.std.proofs.lemmas.List.{length-append}
-use Rattle.domain_core.specs.Domain.{Domain, IsDomain, IsWithin, IsSameKind, IsSingle, IsTested, IsBetweenEnds, Has, Range, Set}
-use Rattle.eu_name.specs.declared.name.Part.TheVariants.{Param}
+use Rattle.domain_core.specs.Domain.{Domain, IsWithin, IsSingle, IsTested, Has, Range, Set}
 use Rattle.eu_name.specs.declared.name.VarName.{VarName}
-use Rattle.eu_name.specs.declared.name.VarName.TheVariants.{Token, Global}
+use Rattle.eu_name.specs.declared.name.VarName.TheVariants.{Global}
 use Rattle.model_core.specs.declared.decision.Decision.{Decision}
 use Rattle.model_core.specs.declared.decision.Decision.TheVariants.{Specify, Activate, Merge}
 use Rattle.model_core.specs.declared.item.Item.{Item}
@@ -26,9 +25,9 @@ use Rattle.model_core.specs.Variables.{HasBase, IsInBase}
 use Rattle.plan_defs.specs.Claims.{Claim, IsOfProblem, at_most}
 use Rattle.plan_defs.specs.Closure.{IsClosed, IsLeast, IsCollapsed, IsRespected}
 use Rattle.plan_defs.specs.Consistency.{IsClaimConsistent, HasField}
-use Rattle.plan_defs.specs.History.{IsHistory, Accepts, TakesOut}
+use Rattle.plan_defs.specs.History.{IsHistory, TakesOut}
 use Rattle.plan_defs.specs.Refusals.{Refusal, Unknown, Decided, NotInDomain, NotActive, NotSamePredicate, NotRejectable, SameToken, ActiveFull, Hinders, IsAdmissible}
-use Rattle.plan_defs.specs.Settling.{Settles, SettlesAfter, SettlesToCollapse, SettlesToLeast, ReducesTo, IsConflict}
+use Rattle.plan_defs.specs.Settling.{Settles, IsConflict}
 use Rattle.plan_defs.specs.Terms.{Argument, Value, Variable, ArgumentCounts, BelongsTo}
 use Rattle.plan_defs.proofs.Ordered.{contains_head, contains_cases, contains_none}
 use Rattle.plan_examples.specs.Cases.{limited, activate_it, quantity_is}
@@ -36,7 +35,7 @@ use Rattle.plan_examples.specs.Globals.{declared_x, problem_of, at_most_1, with_
 use Rattle.plan_examples.specs.Scenes.{root_of}
 use Rattle.plan_examples.specs.Worlds.{declared_y, free_two, low_two, x_is, y_is}
 use Rattle.plan_examples.proofs.Lists.{all_members, only_member, same_some}
-use Rattle.plan_examples.proofs.TwoVariables.{gives_first, gives_second, one_of_two, two_closed, two_ordered}
+use Rattle.plan_examples.proofs.TwoVariables.{gives_first, one_of_two, two_closed, two_ordered}
 use Rattle.plan_examples.proofs.Tuples.{two_consistent}
 use Rattle.plan_examples.proofs.Pairs.{is_about, agreeing, only_claim}
 use Rattle.plan_examples.proofs.Variables.{IsSpecify, no_decision, no_item, no_object, up_to_domain}
@@ -284,8 +283,10 @@ two_admissible = admissible (at_most_1 ∷ []) [] (with_two (up_to 1) (up_to 2))
 
 pub part_conflicts : IsConflict low_two (y_is 0 ∷ x_is 2 ∷ []) (x_is 2 ∷ [])
 part_conflicts =
-    inl ((x_is 2 ∷ [], inl (two_admissible, refl), two_collapses (x_is 2 ∷ []) (contains_head (x_is 2) [])),
-    inr (([], refl, (with_two (up_to 1) (up_to 2), low_least)), inl (two_admissible, refl)))
+    inl (
+      (x_is 2 ∷ [], inl (two_admissible, refl), two_collapses (x_is 2 ∷ []) (contains_head (x_is 2) [])),
+      inr (([], refl, (with_two (up_to 1) (up_to 2), low_least)), inl (two_admissible, refl)),
+    )
 
 -- and there is no other
 only_conflict : (conflict : List Decision) → IsConflict low_two (y_is 0 ∷ x_is 2 ∷ []) conflict → conflict ≡ x_is 2 ∷ []

@@ -1,10 +1,10 @@
 -- States of two variables.
-use Rattle.std.proofs.Common.{◌≡◌, ℕ, suc, zero, ◌<◌, List, [], ◌∷◌, length, Some, ℤ, pos, inl, inr, refl, sym, ap, ◌∙◌, subst, arith}
+use Rattle.std.proofs.Common.{◌≡◌, ℕ, suc, zero, ◌<◌, List, [], ◌∷◌, ℤ, inl, inr, refl, sym, ap, subst, arith}
 use Rattle.std.specs.Prelude.{Contains, All, AllPairs, ◌⊎◌}
 use Rattle.domain_core.specs.Domain.{Domain, IsDomain, IsWithin}
 use Rattle.eu_name.specs.declared.name.VarName.{VarName}
 use Rattle.eu_name.specs.declared.name.VarName.TheVariants.{Global}
-use Rattle.eu_name.specs.NameOrder.{IsTokenBefore, IsVarBefore}
+use Rattle.eu_name.specs.NameOrder.{IsTokenBefore}
 use Rattle.eu_name.proofs.Orders.{var_order}
 use Rattle.model_core.specs.declared.class.Class.{Class}
 use Rattle.model_core.specs.declared.class.Object.{Object}
@@ -17,7 +17,7 @@ use Rattle.model_core.specs.declared.variable.VarDecl.{VarDecl}
 use Rattle.model_core.specs.Blocks.{IsBlockBefore}
 use Rattle.model_core.specs.Decided.{IsTaken}
 use Rattle.model_core.specs.Kinds.{IsObject}
-use Rattle.model_core.specs.State.{State, VarDomain, Gives, AreInOrder}
+use Rattle.model_core.specs.State.{VarDomain, Gives, AreInOrder}
 use Rattle.model_core.specs.Variables.{HasBase}
 use Rattle.plan_defs.specs.Claims.{Claim, IsOfProblem}
 use Rattle.plan_defs.specs.Closure.{IsClosed, AreInBase, IsRespected}

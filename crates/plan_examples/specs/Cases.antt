@@ -17,7 +17,8 @@ use Rattle.model_core.specs.declared.model.RootKind.{RootKind}
 use Rattle.model_core.specs.declared.model.RootKind.TheVariants.{Goal, Rejectable, Fact}
 use Rattle.model_core.specs.State.{State}
 use Rattle.model_core.specs.Tokens.{root_token}
-use Rattle.plan_examples.specs.Scenes.{scene, the_object, both_objects, scene_with, Moment, exactly, scene_state, guarded, with_local}
+use Rattle.plan_examples.specs.Scenes.{scene, the_object, both_objects, scene_with, Moment, exactly, scene_state}
+use Rattle.plan_examples.specs.Scenes.{guarded, with_local}
 
 -- from 0 to 1, with a quantity in this domain
 abbrev pub short : Domain → Moment
@@ -71,7 +72,12 @@ rejected = Reject (root_token 1) ∷ []
 
 -- from this instant on, for so long, with this quantity
 abbrev pub moment : ℕ → ℕ → ℕ → Moment
-moment start duration quantity = record { start = start; duration = duration; quantity = exactly quantity; object = the_object }
+moment start duration quantity = record {
+  start = start;
+  duration = duration;
+  quantity = exactly quantity;
+  object = the_object;
+}
 
 -- the same on either object
 abbrev pub either : Moment → Moment

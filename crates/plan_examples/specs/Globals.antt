@@ -26,7 +26,15 @@ problem_with classes objects globals items = record {
   objects = objects;
   preds = [];
   rules = [];
-  problem = record { start = pos 0; end = pos 10; steps = 1; roots = []; globals = globals; items = items; decisions = [] };
+  problem = record {
+    start = pos 0;
+    end = pos 10;
+    steps = 1;
+    roots = [];
+    globals = globals;
+    items = items;
+    decisions = [];
+  };
 }
 
 -- one without objects

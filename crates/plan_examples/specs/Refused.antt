@@ -11,7 +11,8 @@ use Rattle.model_core.specs.State.{State}
 use Rattle.model_core.specs.Tokens.{root_token}
 use Rattle.plan_defs.specs.Refusals.{Refusal, Hinders}
 use Rattle.plan_examples.specs.Cases.{moment}
-use Rattle.plan_examples.specs.Scenes.{both_objects, object_called, predicate_of, predicate_called, root_of, label_of, scene, Moment, scene_state}
+use Rattle.plan_examples.specs.Scenes.{both_objects, object_called, predicate_of, predicate_called, root_of}
+use Rattle.plan_examples.specs.Scenes.{label_of, scene, Moment, scene_state}
 
 -- no reason speaks against the decision
 abbrev pub IsFree : Model → List Decision → State → Decision → Type 0

@@ -63,8 +63,8 @@ abbrev pub roots_from : ℕ → List RootKind → List Root
 roots_from number [] = []
 roots_from number (kind ∷ kinds) = root_of number kind ∷ roots_from (number + 1) kinds
 
--- a problem from 0 to 10 with these constraints, two objects and a predicate of these kinds, these rules of the predicate, and
--- these roots
+-- a problem from 0 to 10 with these constraints, two objects and a predicate of these kinds, these rules of the
+-- predicate, and these roots
 abbrev pub scene_with : List Item → ObjectKind → PredKind → List ℕ → List Rule → List RootKind → Model
 scene_with items object_kind pred_kind numbers rules kinds = record {
   enums = [];
@@ -121,7 +121,11 @@ scene_state blocks moments = record { tokens = tokens_of 0 moments; blocks = blo
 
 -- `if (quantity == 1) { } else { }`
 abbrev pub guarded : Rule
-guarded = record { top = WithBranch (Equal (term.Here (Param 0)) (term.Lit (pos 1))) NoEntry NoEntry NoEntry; slots = []; locals = [] }
+guarded = record {
+  top = WithBranch (Equal (term.Here (Param 0)) (term.Lit (pos 1))) NoEntry NoEntry NoEntry;
+  slots = [];
+  locals = [];
+}
 
 -- the rule's own block, and those of the guard
 abbrev pub top_block : TokenBlock

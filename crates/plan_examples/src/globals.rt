@@ -1,4 +1,5 @@
-//! Variables of a problem. Each state that isn't closed is closed where one thing is left out or other: the variable, its base, the decision, the constraint, or the object that has the field.
+//! Variables of a problem. Each state that isn't closed is closed where one thing is left out or other: the
+//! variable, its base, the decision, the constraint, or the object that has the field.
 
 ghost use Rattle.std.specs.Prelude.{[], ◌∷◌, pos};
 ghost use Rattle.eu_name.specs.declared.name.VarName.TheVariants.{Global};

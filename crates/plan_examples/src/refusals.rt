@@ -9,7 +9,8 @@ ghost use Rattle.model_core.specs.Tokens.{root_token};
 ghost use Rattle.plan_defs.specs.Refusals.{IsRefused, IsAdmissible, IsFirstRefusal, Unknown, Decided, NotInDomain};
 ghost use Rattle.plan_defs.specs.Refusals.{NotActive, NotSamePredicate, NotRejectable, SameToken, ActiveFull};
 ghost use Rattle.plan_examples.specs.Cases.{two_facts, goal_and_fact, limited, activated, activate_it, quantity_is};
-ghost use Rattle.plan_examples.specs.Refused.{IsFree, one_token, two_tokens, many_tokens, alone, two_goals, mixed, many};
+ghost use Rattle.plan_examples.specs.Refused.{IsFree, one_token, two_tokens, many_tokens, alone, two_goals};
+ghost use Rattle.plan_examples.specs.Refused.{mixed, many};
 ghost use Rattle.plan_examples.specs.Refused.{merge_them, order_them, order_it, reject_it};
 ghost use Rattle.plan_examples.specs.Worlds.{free_two, x_is, y_is};
 
@@ -35,7 +36,8 @@ pub fn values_are_of_the_base()
     ensures of_rejectable { IsFirstRefusal (limited Rejectable) [] one_token (quantity_is 1000001) NotInDomain }
 {}
 
-/// A rejectable has to be taken before its variables have values, the target of a merge has to be active, and both tokens of an order.
+/// A rejectable has to be taken before its variables have values, the target of a merge has to be active, and both
+/// tokens of an order.
 pub fn tokens_are_active_first()
     ensures untaken { IsFirstRefusal (limited Rejectable) [] one_token (quantity_is 1) NotActive }
     ensures taken { IsFree (limited Rejectable) activated one_token (quantity_is 1) }

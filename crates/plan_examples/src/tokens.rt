@@ -4,7 +4,8 @@ ghost use Rattle.std.specs.Prelude.{[], ◌∷◌};
 ghost use Rattle.model_core.specs.declared.class.ObjectKind.TheVariants.{Plain, Timeline};
 ghost use Rattle.model_core.specs.declared.model.RootKind.TheVariants.{Fact, Rejectable};
 ghost use Rattle.plan_defs.specs.Closure.{IsClosed};
-ghost use Rattle.plan_examples.specs.Cases.{short, early, late, using, lone_goal, ruled, two_facts, tool, battery, drained, activated, rejected};
+ghost use Rattle.plan_examples.specs.Cases.{short, early, late, using, lone_goal, ruled, two_facts, tool};
+ghost use Rattle.plan_examples.specs.Cases.{battery, drained, activated, rejected};
 ghost use Rattle.plan_examples.specs.Cases.{moment, either, limited, localised, goal_and_fact, merged, ordered};
 ghost use Rattle.plan_examples.specs.Globals.{empty_state, up_to};
 ghost use Rattle.plan_examples.specs.Scenes.{exactly, scene_state, top_block, then_block, else_block, local_state};
@@ -21,7 +22,8 @@ pub fn rules_open_with_their_token()
     ensures active { IsClosed ruled activated (scene_state [] (short (up_to 1) ∷ [])) → ⊥ }
 {}
 
-/// A guard opens its block once nothing else can be chosen. As long as both can be, neither block is open, and so `else` isn't either.
+/// A guard opens its block once nothing else can be chosen. As long as both can be, neither block is open, and so
+/// `else` isn't either.
 pub fn guards_open_once_decided()
     ensures undecided { IsClosed ruled activated (scene_state (top_block ∷ []) (short (up_to 1) ∷ [])) }
     ensures closed { IsClosed ruled activated (scene_state (top_block ∷ []) (short (exactly 1) ∷ [])) → ⊥ }
@@ -67,7 +69,8 @@ pub fn ordered_tokens_follow()
     ensures unordered { IsClosed (two_facts Plain) [] (scene_state [] (moment 5 3 0 ∷ moment 0 5 0 ∷ [])) }
 {}
 
-/// Tokens on one timeline don't overlap: what lasts from 0 to 5 can't end before 4, so the other token would have to end before 0.
+/// Tokens on one timeline don't overlap: what lasts from 0 to 5 can't end before 4, so the other token would have
+/// to end before 0.
 pub fn timelines_force_an_order()
     ensures plain { IsClosed (two_facts Plain) [] (scene_state [] (early ∷ late ∷ [])) }
     ensures timeline { IsClosed (two_facts Timeline) [] (scene_state [] (early ∷ late ∷ [])) → ⊥ }
@@ -87,7 +90,8 @@ pub fn objects_count_once_decided()
     ensures open_overlap { IsClosed (two_facts Timeline) [] (scene_state [] (either early ∷ late ∷ [])) }
 {}
 
-/// The level of a reservoir counts once no further token can come: 6 of 5 are taken, which is too much as soon as it is decided what becomes of the second token.
+/// The level of a reservoir counts once no further token can come: 6 of 5 are taken, which is too much as soon as
+/// it is decided what becomes of the second token.
 pub fn reservoirs_count_once_all_is_decided()
     ensures undecided { IsClosed battery [] drained }
     ensures decided { IsClosed battery rejected drained → ⊥ }
