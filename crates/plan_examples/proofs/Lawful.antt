@@ -1,5 +1,5 @@
 -- The problems of the examples are lawful.
-use Rattle.std.proofs.Common.{◌≡◌, ℕ, suc, zero, ◌<◌, ◌≤◌, ◌^◌, Bool, true, false, List, [], ◌∷◌, length, Some, ℤ, pos, inl, inr, refl, sym, ap, subst, arith}
+use Rattle.std.proofs.Common.{◌≡◌, ℕ, suc, zero, ◌<◌, ◌≤◌, ◌^◌, Bool, true, false, List, [], ◌∷◌, length, Some, ℤ, pos, inl, inr, refl, sym, ap, ◌∙◌, subst, arith, ◌+◌, ◌++◌, map, get_or, fold, cond}
 use Rattle.std.specs.Prelude.{Contains, All, AllPairs, ◌≢◌, ◌⊎◌, ⊤, ◌&&◌, not, slice_get, codes, count_by}
 use Rattle.std.specs.List.{AllZip}
 use Rattle.std.proofs.lemmas.Int.{ints}
@@ -35,11 +35,11 @@ use Rattle.model_core.specs.Lawful.{IsLawful, IsHorizon, IsLawfulEnum, IsLawfulC
 use Rattle.model_core.specs.Naming.{builtin_names, names_of, declared_names, file_names, IsObjectName, IsParameterName, token_part_words}
 use Rattle.model_core.specs.Standing.{StandsAt, StandsOnce, LeadsToBlock, IsTermSeen}
 use Rattle.model_core.specs.Variables.{IsGiven}
-use Rattle.model_core.proofs.Words.{is_among, not_contained, is_plain, plain_name, all_differ, differing}
+use Rattle.model_core.proofs.Words.{is_among, not_contained, is_plain, plain_name, all_differ, differing, are_word_bytes}
 use Rattle.plan_defs.proofs.Ordered.{contains_cases, contains_none, ordered_none, ordered_one}
 use Rattle.plan_examples.specs.Cases.{lone_goal, ruled, localised, two_facts, tool, battery, goal_and_fact, limited, at_most_one}
 use Rattle.plan_examples.specs.Globals.{declared_x, problem_with, problem_of, free_x, low_x, at_most_1}
-use Rattle.plan_examples.specs.Refused.{alone, two_goals, mixed}
+use Rattle.plan_examples.specs.Refused.{alone, two_goals, mixed, facts_and_goal, many}
 use Rattle.plan_examples.specs.Scenes.{the_object, both_objects, object_called, predicate_called, predicate_of, label_of, root_of, roots_from, scene_with, guarded, with_local}
 use Rattle.plan_examples.specs.Worlds.{class_with, object_with, declared_c, declared_field, declared_v, declared_y, field_is, no_choice, one_choice, fielded, free_two, low_two}
 use Rattle.plan_examples.proofs.Closed.{guarded_follows}
@@ -319,18 +319,18 @@ module _ (items : List Item) (object_kind : ObjectKind) (preds : List Pred) (rul
     lawful = lawful;
   }
 
-  tokens_lawful : IsLawfulKind object_kind → length items ≤ 10 → length preds ≤ 10 → length rules ≤ 10 → length roots ≤ 10 → count_by (λ root. is_fact root.kind) roots ≤ 512
+  tokens_lawful_by : IsLawfulKind object_kind → length items ≤ 10 → length preds ≤ 10 → length rules ≤ 10 → length roots ≤ 4096 → count_by (λ root. is_fact root.kind) roots ≤ 512
       → ((number : ℕ) (found : Pred) → slice_get preds number ≡ Some found → IsLawfulPred tokens_world number found)
       → AllPairs (λ (one other : Pred). one.class ≡ other.class → one.name ≢ other.name) preds → All (IsLawfulRoot tokens_world) roots → All (IsLawfulItem tokens_world OfProblem) items
-      → none_among (declared_names tokens_world) ≡ true → all_differ (file_names tokens_world) ≡ true → IsLawful tokens_world
-  tokens_lawful lawful_kind few_items few_preds few_rules few_roots few_facts are_preds pred_names are_roots are_items builtin differ = record {
+      → All (λ name. Contains builtin_names name → ⊥) (declared_names tokens_world) → AllPairs ◌≢◌ (file_names tokens_world) → IsLawful tokens_world
+  tokens_lawful_by lawful_kind few_items few_preds few_rules few_roots few_facts are_preds pred_names are_roots are_items builtin differ = record {
     horizon = ten tokens_world.problem refl refl refl;
     few_enums = small 0 (omega arith);
     few_classes = small 1 (omega arith);
     few_preds = small (length preds) few_preds;
     few_rules = small (length rules) few_rules;
     few_objects = omega arith;
-    few_roots = omega (arith, few_roots);
+    few_roots = few_roots;
     few_facts = few_facts;
     few_globals = omega arith;
     few_items = small (length items) few_items;
@@ -344,9 +344,17 @@ module _ (items : List Item) (object_kind : ObjectKind) (preds : List Pred) (rul
     items = are_items;
     decisions = none (λ placed. IsLawfulDecision tokens_world placed.decision);
     names = λ number variable is. absurd (cc);
-    not_builtin = no_builtin (declared_names tokens_world) builtin;
-    distinct = differing (file_names tokens_world) differ;
+    not_builtin = builtin;
+    distinct = differ;
   }
+
+  tokens_lawful : IsLawfulKind object_kind → length items ≤ 10 → length preds ≤ 10 → length rules ≤ 10 → length roots ≤ 10 → count_by (λ root. is_fact root.kind) roots ≤ 512
+      → ((number : ℕ) (found : Pred) → slice_get preds number ≡ Some found → IsLawfulPred tokens_world number found)
+      → AllPairs (λ (one other : Pred). one.class ≡ other.class → one.name ≢ other.name) preds → All (IsLawfulRoot tokens_world) roots → All (IsLawfulItem tokens_world OfProblem) items
+      → none_among (declared_names tokens_world) ≡ true → all_differ (file_names tokens_world) ≡ true → IsLawful tokens_world
+  tokens_lawful lawful_kind few_items few_preds few_rules few_roots few_facts are_preds pred_names are_roots are_items builtin differ =
+      tokens_lawful_by lawful_kind few_items few_preds few_rules (omega (arith, few_roots)) few_facts are_preds pred_names are_roots are_items
+      (no_builtin (declared_names tokens_world) builtin) (differing (file_names tokens_world) differ)
 
 -- what is known of the rules of a scene
 record RulesAre (items : List Item) (object_kind : ObjectKind) (pred_kind : PredKind) (numbers : List ℕ) (rules : List Rule) (kinds : List RootKind) : Type 0 where
@@ -590,3 +598,96 @@ localised_lawful =
       });
       few_rules = omega arith;
     }) (none (IsLawfulItem localised OfProblem))
+
+-- ---- many roots
+
+label_word : (number : ℕ) → are_word_bytes (label_of number) ≡ true
+label_word zero = refl
+label_word (suc number) = label_word number
+
+label_plain : (number : ℕ) → is_plain (label_of number) ≡ true
+label_plain zero = refl
+label_plain (suc number) = ap (λ b. b && true) (label_word number)
+
+label_free : (number : ℕ) → is_among builtin_names (label_of number) ≡ false
+label_free zero = refl
+label_free (suc number) = refl
+
+label_length : (number : ℕ) → length (label_of number) ≡ suc number
+label_length zero = refl
+label_length (suc number) = ap suc (label_length number)
+
+label_first : (number : ℕ) → get_or (label_of number) 0 0 ≡ 103
+label_first zero = refl
+label_first (suc number) = refl
+
+labels_apart : (one other : ℕ) → one < other → label_of one ≢ label_of other
+labels_apart one other less same = omega (arith, less, ap length same, label_length one, label_length other)
+
+-- the labels of so many facts and a goal, and the other names
+abbrev labels_from : ℕ → ℕ → List (List ℕ)
+labels_from first number = map (λ (root : Root). root.label) (roots_from first (facts_and_goal number))
+
+abbrev others : List (List ℕ)
+others = codes "o" ∷ codes "p" ∷ []
+
+free_from : (first number : ℕ) → All (λ name. Contains builtin_names name → ⊥) (labels_from first number ++ others)
+free_from first zero = with_first (λ name. Contains builtin_names name → ⊥) (label_of first) others (not_contained builtin_names (label_of first) (label_free first)) (no_builtin others refl)
+free_from first (suc number) =
+    with_first (λ name. Contains builtin_names name → ⊥) (label_of first) (labels_from (first + 1) number ++ others) (not_contained builtin_names (label_of first) (label_free first)) (free_from (first + 1) number)
+
+abbrev named_from : ℕ → ℕ → List (List ℕ)
+named_from first number = (labels_from first number ++ others) ++ codes "C" ∷ []
+
+abbrev all_others : List (List ℕ)
+all_others = codes "o" ∷ codes "p" ∷ codes "C" ∷ []
+
+not_others : (label : ℕ) → All (λ name. label_of label ≢ name) all_others
+not_others label =
+    with_first (λ name. label_of label ≢ name) (codes "o") (codes "p" ∷ codes "C" ∷ []) (λ same. omega (arith, label_first label, ap (λ (n : List ℕ). get_or n 0 0) same))
+    (two (λ name. label_of label ≢ name) (codes "p") (codes "C") (λ same. omega (arith, label_first label, ap (λ (n : List ℕ). get_or n 0 0) same)) (λ same. omega (arith, label_first label, ap (λ (n : List ℕ). get_or n 0 0) same)))
+
+apart_from : (label first number : ℕ) → label < first → All (λ name. label_of label ≢ name) (named_from first number)
+apart_from label first zero less = with_first (λ name. label_of label ≢ name) (label_of first) all_others (labels_apart label first less) (not_others label)
+apart_from label first (suc number) less =
+    with_first (λ name. label_of label ≢ name) (label_of first) (named_from (first + 1) number) (labels_apart label first less) (apart_from label (first + 1) number (omega (arith, less)))
+
+paired : {X : Type 0} (R : X → X → Type 0) (x : X) (xs : List X) → All (R x) xs → AllPairs R xs → AllPairs R (x ∷ xs)
+paired R x xs all rest zero zero d less within = absurd (omega (arith, less))
+paired R x xs all rest zero (suc j) d less within = all j d (omega (arith, within))
+paired R x xs all rest (suc i) zero d less within = absurd (omega (arith, less))
+paired R x xs all rest (suc i) (suc j) d less within = rest i j d (omega (arith, less)) (omega (arith, within))
+
+named_differ : (first number : ℕ) → AllPairs ◌≢◌ (named_from first number)
+named_differ first zero = paired ◌≢◌ (label_of first) all_others (not_others first) (differing all_others refl)
+named_differ first (suc number) = paired ◌≢◌ (label_of first) (named_from (first + 1) number) (apart_from first (first + 1) number (omega arith)) (named_differ (first + 1) number)
+
+roots_length : (first number : ℕ) → length (roots_from first (facts_and_goal number)) ≡ suc number
+roots_length first zero = refl
+roots_length first (suc number) = ap suc (roots_length (first + 1) number)
+
+facts_counted : (before first number : ℕ) → fold (λ (a : ℕ) (root : Root). a + cond (is_fact root.kind) 1 0) before (roots_from first (facts_and_goal number)) ≡ before + number
+facts_counted before first zero = omega arith
+facts_counted before first (suc number) = facts_counted (before + 1) (first + 1) number ∙ (let e : before + 1 + number ≡ before + suc number = omega arith in e)
+
+module _ (roots : List Root) where
+  abbrev facts_world : Model
+  facts_world = tokens_world [] kind.Plain (predicate_of pred.Plain [] ∷ []) [] roots
+
+  roots_lawful : (first number : ℕ) → All (IsLawfulRoot facts_world) (roots_from first (facts_and_goal number))
+  roots_lawful first zero =
+      one (IsLawfulRoot facts_world) (root_of first Goal) (root_lawful [] kind.Plain (predicate_of pred.Plain [] ∷ []) [] roots (label_of first) Goal 0 (codes "P") pred.Plain [] (label_plain first) refl)
+  roots_lawful first (suc number) =
+      with_first (IsLawfulRoot facts_world) (root_of first Fact) (roots_from (first + 1) (facts_and_goal number))
+      (root_lawful [] kind.Plain (predicate_of pred.Plain [] ∷ []) [] roots (label_of first) Fact 0 (codes "P") pred.Plain [] (label_plain first) refl) (roots_lawful (first + 1) number)
+
+few_are_lawful : (number : ℕ) → number ≤ 512 → IsLawful (many number)
+few_are_lawful number few =
+    tokens_lawful_by [] kind.Plain (predicate_of pred.Plain [] ∷ []) [] (roots_from 0 (facts_and_goal number)) tt (omega arith) (omega arith) (omega arith)
+    (omega (arith, few, roots_length 0 number)) (omega (arith, few, facts_counted 0 0 number))
+    (one_pred [] kind.Plain pred.Plain [] [] (facts_and_goal number) (no_rules [] kind.Plain pred.Plain (facts_and_goal number)))
+    (ordered_one (λ (one other : Pred). one.class ≡ other.class → one.name ≢ other.name) (predicate_of pred.Plain []))
+    (roots_lawful (roots_from 0 (facts_and_goal number)) 0 number) (none (IsLawfulItem (many number) OfProblem)) (free_from 0 number) (named_differ 0 number)
+
+pub many_lawful : IsLawful (many 512)
+many_lawful = few_are_lawful 512 (omega arith)

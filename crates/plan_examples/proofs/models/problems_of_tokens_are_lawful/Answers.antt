@@ -1,4 +1,4 @@
-use Rattle.plan_examples.proofs.Lawful.{lone_goal_lawful, ruled_lawful, localised_lawful, plain_facts_lawful, timeline_facts_lawful, small_tool_lawful, tool_lawful, battery_lawful, goal_and_fact_lawful, limited_lawful, limited_fact_lawful, fact_lawful, rejectable_lawful, two_goals_lawful, mixed_lawful}
+use Rattle.plan_examples.proofs.Lawful.{lone_goal_lawful, ruled_lawful, localised_lawful, plain_facts_lawful, timeline_facts_lawful, small_tool_lawful, tool_lawful, battery_lawful, goal_and_fact_lawful, limited_lawful, limited_fact_lawful, fact_lawful, rejectable_lawful, two_goals_lawful, mixed_lawful, many_lawful}
 use Rattle.plan_examples.proofs.models.problems_of_tokens_are_lawful.Goals as goal
 
 pub returns-clause-lone_goal : goal.returns-clause-lone_goal
@@ -45,3 +45,6 @@ returns-clause-two_goals c = two_goals_lawful
 
 pub returns-clause-mixed : goal.returns-clause-mixed
 returns-clause-mixed c = mixed_lawful
+
+pub returns-clause-many : goal.returns-clause-many
+returns-clause-many c = many_lawful
