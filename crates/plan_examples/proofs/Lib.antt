@@ -1,7 +1,17 @@
 pub mod Lists
+pub mod Domains
 pub mod Tuples
+pub mod Pairs
 pub mod Scenes
+pub mod Rows
 pub mod Closed
 pub mod Variables
 pub mod Casts
 pub mod Examples
+pub mod Choices
+pub mod TwoVariables
+pub mod Objects
+pub mod Settling
+pub mod Reasons
+pub mod Locals
+pub mod Lawful

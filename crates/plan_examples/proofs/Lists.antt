@@ -1,8 +1,11 @@
 -- Short lists, item by item.
-use Rattle.std.proofs.Common.{◌≡◌, ℕ, suc, zero, List, [], ◌∷◌, length, get_or, Some, map, inl, inr, refl, ap, arith}
+use Rattle.std.proofs.Common.{◌≡◌, ℕ, suc, zero, List, [], ◌∷◌, length, get_or, Some, ◌+◌, inl, inr, refl, ap, subst, arith}
 use Rattle.std.specs.Prelude.{Contains, All, slice_get}
 use Rattle.std.proofs.lemmas.List.Elements.{Contains-get_or}
+use Rattle.model_core.specs.declared.model.Root.{Root}
+use Rattle.model_core.specs.declared.model.RootKind.{RootKind}
 use Rattle.plan_defs.proofs.Ordered.{contains_cases, contains_none}
+use Rattle.plan_examples.specs.Scenes.{root_of, roots_from}
 
 -- what holds of each member holds of all
 pub all_members : {X : Type 0} (P : X → Type 0) (xs : List X) → ((x : X) → Contains xs x → P x) → All P xs
@@ -17,15 +20,20 @@ same_some x y e = cc
 
 -- ---- places
 
-pub get_map : {X Y : Type 0} (f : X → Y) (xs : List X) (k : ℕ) (y : Y) → slice_get (map f xs) k ≡ Some y → (x : X) × ((slice_get xs k ≡ Some x) × (f x ≡ y))
-get_map f [] k y e = absurd (cc)
-get_map f (x ∷ xs) zero y e = (x, (refl, same_some (f x) y e))
-get_map f (x ∷ xs) (suc k) y e = get_map f xs k y e
+pub get_root : (first : ℕ) (kinds : List RootKind) (k : ℕ) (root : Root) → slice_get (roots_from first kinds) k ≡ Some root → (kind : RootKind) × ((slice_get kinds k ≡ Some kind) × (root_of (first + k) kind ≡ root))
+get_root first [] k root e = absurd (cc)
+get_root first (kind ∷ kinds) zero root e =
+    (kind, (refl, subst (λ n. root_of n kind ≡ root) (let same : first ≡ first + zero = omega arith in same) (same_some (root_of first kind) root e)))
+get_root first (kind ∷ kinds) (suc k) root e =
+    let found = get_root (first + 1) kinds k root e in
+    (found.0, (found.1.0, subst (λ n. root_of n found.0 ≡ root) (let same : first + 1 + k ≡ first + suc k = omega arith in same) found.1.1))
 
-pub map_get : {X Y : Type 0} (f : X → Y) (xs : List X) (k : ℕ) (x : X) → slice_get xs k ≡ Some x → slice_get (map f xs) k ≡ Some (f x)
-map_get f [] k x e = absurd (cc)
-map_get f (y ∷ xs) zero x e = ap (λ z. Some (f z)) (same_some y x e)
-map_get f (y ∷ xs) (suc k) x e = map_get f xs k x e
+pub root_get : (first : ℕ) (kinds : List RootKind) (k : ℕ) (kind : RootKind) → slice_get kinds k ≡ Some kind → slice_get (roots_from first kinds) k ≡ Some (root_of (first + k) kind)
+root_get first [] k kind e = absurd (cc)
+root_get first (found ∷ kinds) zero kind e =
+    subst (λ n. Some (root_of first found) ≡ Some (root_of n kind)) (let same : first ≡ first + zero = omega arith in same) (ap (λ z. Some (root_of first z)) (same_some found kind e))
+root_get first (found ∷ kinds) (suc k) kind e =
+    subst (λ n. slice_get (roots_from (first + 1) kinds) k ≡ Some (root_of n kind)) (let same : first + 1 + k ≡ first + suc k = omega arith in same) (root_get (first + 1) kinds k kind e)
 
 -- lists of one length have items at the same places
 pub get_alike : {X Y : Type 0} (xs : List X) (ys : List Y) (k : ℕ) (x : X) → length xs ≡ length ys → slice_get xs k ≡ Some x → (y : Y) × (slice_get ys k ≡ Some y)

@@ -12,7 +12,7 @@ use Rattle.eu_name.proofs.Orders.{token_order, var_order}
 use Rattle.model_core.specs.State.{VarDomain}
 use Rattle.model_core.specs.Tokens.{root_token}
 use Rattle.plan_defs.proofs.Ordered.{contains_head, contains_later, contains_cases, contains_none, ordered_none, ordered_one, ordered_link}
-use Rattle.plan_examples.specs.Scenes.{the_object, Moment, exactly, tokens_of, scene_entries}
+use Rattle.plan_examples.specs.Scenes.{Moment, exactly, tokens_of, scene_entries}
 use Rattle.plan_examples.proofs.Lists.{same_some}
 
 -- ---- in order
@@ -29,13 +29,13 @@ tokens_in_order number (moment ∷ []) = ordered_one IsTokenBefore (root_token n
 tokens_in_order number (moment ∷ next ∷ moments) =
     ordered_link IsTokenBefore token_order.transitive (root_token number) (root_token (number + 1)) (tokens_of (number + 1 + 1) moments) (root_before number) (tokens_in_order (number + 1) (next ∷ moments))
 
-abbrev entry : ℕ → Part → Domain → VarDomain
+abbrev pub entry : ℕ → Part → Domain → VarDomain
 entry number part domain = record { name = Token (root_token number) part; domain = domain }
 
-abbrev by_name : VarDomain → VarDomain → Type 0
+abbrev pub by_name : VarDomain → VarDomain → Type 0
 by_name one later = IsVarBefore one.name later.name
 
-link : (x y : VarDomain) (ys : List VarDomain) → IsVarBefore x.name y.name → AllPairs by_name (y ∷ ys) → AllPairs by_name (x ∷ y ∷ ys)
+pub link : (x y : VarDomain) (ys : List VarDomain) → IsVarBefore x.name y.name → AllPairs by_name (y ∷ ys) → AllPairs by_name (x ∷ y ∷ ys)
 link x y ys first rest = ordered_link by_name entry_transitive x y ys first rest
 
 -- parts of one token in the order of their places
@@ -47,31 +47,31 @@ of_next number part later = inl (root_before number)
 
 -- the variables of one token, and others behind them
 module _ (number : ℕ) (moment : Moment) (rest : List VarDomain) where
-  abbrev from_param : List VarDomain
+  abbrev pub from_param : List VarDomain
   from_param = entry number (Param 0) moment.quantity ∷ rest
 
-  abbrev from_duration : List VarDomain
+  abbrev pub from_duration : List VarDomain
   from_duration = entry number Duration (exactly moment.duration) ∷ from_param
 
-  abbrev from_end : List VarDomain
+  abbrev pub from_end : List VarDomain
   from_end = entry number End (exactly (moment.start + moment.duration)) ∷ from_duration
 
-  abbrev from_start : List VarDomain
+  abbrev pub from_start : List VarDomain
   from_start = entry number Start (exactly moment.start) ∷ from_end
 
-  abbrev from_object : List VarDomain
-  from_object = entry number Object the_object ∷ from_start
+  abbrev pub from_object : List VarDomain
+  from_object = entry number Object moment.object ∷ from_start
 
-  five : AllPairs by_name from_param → AllPairs by_name from_object
+  pub five : AllPairs by_name from_param → AllPairs by_name from_object
   five last =
-      link (entry number Object the_object) (entry number Start (exactly moment.start)) from_end (of_one number Object Start (omega arith))
+      link (entry number Object moment.object) (entry number Start (exactly moment.start)) from_end (of_one number Object Start (omega arith))
       (link (entry number Start (exactly moment.start)) (entry number End (exactly (moment.start + moment.duration))) from_duration (of_one number Start End (omega arith))
       (link (entry number End (exactly (moment.start + moment.duration))) (entry number Duration (exactly moment.duration)) from_param (of_one number End Duration (omega arith))
       (link (entry number Duration (exactly moment.duration)) (entry number (Param 0) moment.quantity) rest (of_one number Duration (Param 0) (omega arith)) last)))
 
   past_five : (x : VarDomain) → Contains rest x → Contains from_object x
   past_five x c =
-      contains_later (entry number Object the_object) x from_start
+      contains_later (entry number Object moment.object) x from_start
       (contains_later (entry number Start (exactly moment.start)) x from_end
       (contains_later (entry number End (exactly (moment.start + moment.duration))) x from_duration
       (contains_later (entry number Duration (exactly moment.duration)) x from_param
@@ -82,13 +82,13 @@ entries_in_order number [] = ordered_none by_name
 entries_in_order number (moment ∷ []) = five number moment [] (ordered_one by_name (entry number (Param 0) moment.quantity))
 entries_in_order number (moment ∷ next ∷ moments) =
     five number moment (scene_entries (number + 1) (next ∷ moments))
-    (link (entry number (Param 0) moment.quantity) (entry (number + 1) Object the_object) (from_start (number + 1) next (scene_entries (number + 1 + 1) moments)) (of_next number (Param 0) Object)
+    (link (entry number (Param 0) moment.quantity) (entry (number + 1) Object next.object) (from_start (number + 1) next (scene_entries (number + 1 + 1) moments)) (of_next number (Param 0) Object)
     (entries_in_order (number + 1) (next ∷ moments)))
 
 -- ---- what is in a state
 
 abbrev pub HasPartDomain : Moment → Part → Domain → Type 0
-HasPartDomain moment Object domain = domain ≡ the_object
+HasPartDomain moment Object domain = domain ≡ moment.object
 HasPartDomain moment Start domain = domain ≡ exactly moment.start
 HasPartDomain moment End domain = domain ≡ exactly (moment.start + moment.duration)
 HasPartDomain moment Duration domain = domain ≡ exactly moment.duration
@@ -130,8 +130,8 @@ entry_of number [] name domain c = absurd (contains_none (record { name = name; 
 entry_of number (moment ∷ moments) name domain c =
     let x : VarDomain = record { name = name; domain = domain } in
     let rest = scene_entries (number + 1) moments in
-    elim (contains_cases (entry number Object the_object) x (from_start number moment rest) c) [
-      | inl same ↦ here number moment moments Object the_object name domain refl same
+    elim (contains_cases (entry number Object moment.object) x (from_start number moment rest) c) [
+      | inl same ↦ here number moment moments Object moment.object name domain refl same
       | inr c ↦ elim (contains_cases (entry number Start (exactly moment.start)) x (from_end number moment rest) c) [
         | inl same ↦ here number moment moments Start (exactly moment.start) name domain refl same
         | inr c ↦ elim (contains_cases (entry number End (exactly (moment.start + moment.duration))) x (from_duration number moment rest) c) [

@@ -7,6 +7,9 @@ use Rattle.domain_core.specs.Domain.{Domain, Range, IsDomain, IsWithin, IsTested
 use Rattle.eu_name.specs.declared.name.VarName.{VarName}
 use Rattle.eu_name.specs.declared.name.VarName.TheVariants.{Token, Local, Global}
 use Rattle.eu_name.specs.NameOrder.{IsTokenBefore, IsVarBefore}
+use Rattle.model_core.specs.declared.class.Class.{Class}
+use Rattle.model_core.specs.declared.class.Object.{Object}
+use Rattle.model_core.specs.declared.class.ObjectKind.TheVariants as kind
 use Rattle.model_core.specs.declared.decision.Decision.{Decision}
 use Rattle.model_core.specs.declared.decision.Decision.TheVariants.{Specify, Merge, Order}
 use Rattle.model_core.specs.declared.item.Item.{Item}
@@ -19,6 +22,7 @@ use Rattle.model_core.specs.Blocks.{IsBlockBefore}
 use Rattle.model_core.specs.Consistency.{Ends, Admits}
 use Rattle.model_core.specs.Constraints.{HoldsOf, AgreeOn}
 use Rattle.model_core.specs.Decided.{IsTaken}
+use Rattle.model_core.specs.Kinds.{IsObject}
 use Rattle.model_core.specs.State.{State, VarDomain, Gives, IsAbout}
 use Rattle.model_core.specs.Variables.{HasBase, IsInBase}
 use Rattle.plan_defs.specs.Claims.{Claim, IsClaim, IsOfProblem, ItemSays}
@@ -26,35 +30,35 @@ use Rattle.plan_defs.specs.Closure.{IsClosed, AreInBase, IsRespected}
 use Rattle.plan_defs.specs.Consistency.{IsClaimConsistent, HasField}
 use Rattle.plan_defs.specs.Terms.{Value, Variable, Argument, Means, InProblem, HasDomain, ArgumentCounts}
 use Rattle.plan_defs.proofs.Ordered.{contains_cases, contains_head, contains_none, ordered_none, ordered_one}
-use Rattle.plan_examples.specs.Globals.{declared_x, problem_of, free_x, low_x, at_most_1, empty_state, with_x, up_to}
+use Rattle.plan_examples.specs.Globals.{declared_x, problem_of, problem_with, free_x, low_x, at_most_1, empty_state, with_x, up_to}
 use Rattle.plan_examples.proofs.Lists.{all_members, only_member, same_some}
 use Rattle.plan_examples.proofs.Tuples.{two_consistent}
 
 -- the decision specifies a variable
-abbrev IsSpecify : Decision → Type 0
+abbrev pub IsSpecify : Decision → Type 0
 IsSpecify (Specify name value) = ⊤
 IsSpecify decision = ⊥
 
-abbrev by_name : VarDomain → VarDomain → Type 0
+abbrev pub by_name : VarDomain → VarDomain → Type 0
 by_name one later = IsVarBefore one.name later.name
 
--- ---- problems without roots and objects
+-- ---- problems without roots
 
-module _ (globals : List VarDecl) (items : List Item) (decisions : List Decision) (entries : List VarDomain) where
+module _ (classes : List Class) (objects : List Object) (globals : List VarDecl) (items : List Item) (decisions : List Decision) (entries : List VarDomain) where
   abbrev model : Model
-  model = problem_of globals items
+  model = problem_with classes objects globals items
 
   abbrev state : State
   state = record { tokens = []; blocks = []; entries = entries }
 
   -- a state of their variables is closed where these are in their bases, specified as decided, and the constraints consistent
-  closed : AllPairs by_name entries
+  pub closed : ((value : ℤ) (object : Object) → IsObject model value object → object.kind ≡ kind.Plain) → AllPairs by_name entries
       → ((number : ℕ) → number < length globals → (domain : Domain) × Gives state (Global number) domain)
       → ((name : VarName) (domain : Domain) → Gives state name domain → (number : ℕ) × (name ≡ Global number) × (number < length globals))
       → All (λ (entry : VarDomain). IsDomain entry.domain) entries
       → AreInBase model state → ((decision : Decision) → Contains decisions decision → IsSpecify decision × IsRespected decision state)
       → ((claim : Claim) → IsOfProblem model (IsTaken decisions) claim → IsClaimConsistent model state claim) → IsClosed model decisions state
-  closed ordered there named domains in_base granted consistent = record {
+  closed plain ordered there named domains in_base granted consistent = record {
     consistent = record {
       is_state = record {
         order = record { tokens = ordered_none IsTokenBefore; blocks = ordered_none IsBlockBefore; entries = ordered };
@@ -68,10 +72,10 @@ module _ (globals : List VarDecl) (items : List Item) (decisions : List Decision
       in_base = in_base;
       respected = λ decision c. (granted decision c).1;
       claims = claims;
-      timelines = λ one other share late. let none = share.is_timeline.1.2 in absurd (cc);
+      timelines = λ one other share late. let is_plain = plain share.timeline share.is_timeline.0 share.is_timeline.1 in let is_timeline = share.is_timeline.2 in absurd (cc);
     };
-    reusables = λ value object capacity instant is kind inside. let none = is.2 in absurd (cc);
-    reservoirs = λ complete value object initial low high instant is kind inside. let none = is.2 in absurd (cc);
+    reusables = λ value object capacity instant is kind_is inside. let is_plain = plain value object is in absurd (cc);
+    reservoirs = λ complete value object initial low high instant is kind_is inside. let is_plain = plain value object is in absurd (cc);
   }
     where
       variables : (name : VarName) → IsAbout model state name ↔ ((domain : Domain) × Gives state name domain)
@@ -86,6 +90,9 @@ module _ (globals : List VarDecl) (items : List Item) (decisions : List Decision
       claims claim (inr (inr (inr (inl p)))) = absurd (granted (Merge p.token p.target) p.merged).0
       claims claim (inr (inr (inr (inr p)))) = absurd (granted (Order p.one p.other) p.ordered).0
 
+pub no_object : (globals : List VarDecl) (items : List Item) (value : ℤ) (object : Object) → IsObject (problem_of globals items) value object → object.kind ≡ kind.Plain
+no_object globals items value object is = let none = is.2 in absurd (cc)
+
 -- ---- the variable x
 
 gives_x : (domain : Domain) → Gives (with_x domain) (Global 0) domain
@@ -96,10 +103,10 @@ is_x domain name other gives =
     let same = only_member (record { name = Global 0; domain = domain }) (record { name = name; domain = other }) gives in
     (sym (ap (λ (e : VarDomain). e.name) same), ap (λ (e : VarDomain). e.domain) same)
 
-x_base : (items : List Item) → HasBase (problem_of (declared_x ∷ []) items) (Global 0) (Given (up_to 2))
+pub x_base : (items : List Item) → HasBase (problem_of (declared_x ∷ []) items) (Global 0) (Given (up_to 2))
 x_base items = (declared_x, refl, refl)
 
-up_to_domain : (number : ℕ) → number < 11 → IsDomain (up_to number)
+pub up_to_domain : (number : ℕ) → number < 11 → IsDomain (up_to number)
 up_to_domain number few = ((omega (arith, ints), omega (arith, ints)), (omega (arith, ints), omega (arith, ints)), omega (arith, ints))
 
 -- a state of x within its base is closed where the decisions are granted and the constraints consistent
@@ -108,7 +115,7 @@ x_closed : (items : List Item) (decisions : List Decision) (number : ℕ) → nu
     → ((claim : Claim) → IsOfProblem (problem_of (declared_x ∷ []) items) (IsTaken decisions) claim → IsClaimConsistent (problem_of (declared_x ∷ []) items) (with_x (up_to number)) claim)
     → IsClosed (problem_of (declared_x ∷ []) items) decisions (with_x (up_to number))
 x_closed items decisions number few granted consistent =
-    closed (declared_x ∷ []) items decisions (with_x (up_to number)).entries (ordered_one by_name (record { name = Global 0; domain = up_to number }))
+    closed [] [] (declared_x ∷ []) items decisions (with_x (up_to number)).entries (no_object (declared_x ∷ []) items) (ordered_one by_name (record { name = Global 0; domain = up_to number }))
     (λ n within. let zero_is : 0 ≡ n = omega (arith, within) in (up_to number, subst (λ k. Gives (with_x (up_to number)) (Global k) (up_to number)) zero_is (gives_x (up_to number))))
     (λ name domain gives. (0, (is_x (up_to number) name domain gives).0, omega arith))
     (all_members (λ (entry : VarDomain). IsDomain entry.domain) (with_x (up_to number)).entries (λ entry c. subst (λ (e : VarDomain). IsDomain e.domain) (only_member (record { name = Global 0; domain = up_to number }) entry c) (up_to_domain number (omega (arith, few)))))
@@ -119,17 +126,17 @@ x_closed items decisions number few granted consistent =
     ))
     granted consistent
 
-no_decision : (state : State) (decision : Decision) → Contains [] decision → IsSpecify decision × IsRespected decision state
+pub no_decision : (state : State) (decision : Decision) → Contains [] decision → IsSpecify decision × IsRespected decision state
 no_decision state decision c = absurd (contains_none decision c)
 
-no_item : (model : Model) (decisions : List Decision) (state : State) → model.problem.items ≡ [] → (claim : Claim) → IsOfProblem model (IsTaken decisions) claim → IsClaimConsistent model state claim
+pub no_item : (model : Model) (decisions : List Decision) (state : State) → model.problem.items ≡ [] → (claim : Claim) → IsOfProblem model (IsTaken decisions) claim → IsClaimConsistent model state claim
 no_item model decisions state none claim p = absurd (contains_none p.item (subst (λ list. Contains list p.item) none p.stands))
 
 -- ---- the examples
 
 pub empty_closed : IsClosed (problem_of [] []) [] empty_state
 empty_closed =
-    closed [] [] [] [] (ordered_none by_name) (λ number within. absurd (omega (arith, within))) (λ name domain gives. absurd (contains_none (record { name = name; domain = domain }) gives))
+    closed [] [] [] [] [] [] (no_object [] []) (ordered_none by_name) (λ number within. absurd (omega (arith, within))) (λ name domain gives. absurd (contains_none (record { name = name; domain = domain }) gives))
     (all_members _ [] (λ entry c. absurd (contains_none entry c))) (λ name domain gives. absurd (contains_none (record { name = name; domain = domain }) gives))
     (no_decision empty_state) (no_item (problem_of [] []) [] empty_state refl)
 

@@ -2,6 +2,8 @@
 use Rattle.std.specs.Prelude.{ℕ, pos, List, [], ◌∷◌, codes}
 use Rattle.domain_core.specs.Domain.{Domain, Range}
 use Rattle.eu_name.specs.declared.name.VarName.TheVariants.{Global}
+use Rattle.model_core.specs.declared.class.Class.{Class}
+use Rattle.model_core.specs.declared.class.Object.{Object}
 use Rattle.model_core.specs.declared.item.Item.{Item}
 use Rattle.model_core.specs.declared.item.Item.TheVariants.{Constraint}
 use Rattle.model_core.specs.declared.item.Kind.TheVariants.{Leq}
@@ -16,16 +18,28 @@ use Rattle.model_core.specs.State.{State}
 abbrev pub declared_x : VarDecl
 declared_x = record { name = codes "x"; kind = Int; base = Given (Range (pos 0) (pos 2)) }
 
--- a problem of these variables and constraints
-abbrev pub problem_of : List VarDecl → List Item → Model
-problem_of globals items = record {
+-- a problem of these classes, objects, variables and constraints
+abbrev pub problem_with : List Class → List Object → List VarDecl → List Item → Model
+problem_with classes objects globals items = record {
   enums = [];
-  classes = [];
-  objects = [];
+  classes = classes;
+  objects = objects;
   preds = [];
   rules = [];
-  problem = record { start = pos 0; end = pos 10; steps = 1; roots = []; globals = globals; items = items; decisions = [] };
+  problem = record {
+    start = pos 0;
+    end = pos 10;
+    steps = 1;
+    roots = [];
+    globals = globals;
+    items = items;
+    decisions = [];
+  };
 }
+
+-- one without objects
+abbrev pub problem_of : List VarDecl → List Item → Model
+problem_of = problem_with [] []
 
 -- nothing is asked of x
 abbrev pub free_x : Model
@@ -48,3 +62,11 @@ with_x domain = record { tokens = []; blocks = []; entries = record { name = Glo
 -- from 0 to this number
 abbrev pub up_to : ℕ → Domain
 up_to number = Range (pos 0) (pos number)
+
+-- two variables may be what is in these domains
+abbrev pub with_two : Domain → Domain → State
+with_two one other = record {
+  tokens = [];
+  blocks = [];
+  entries = record { name = Global 0; domain = one } ∷ record { name = Global 1; domain = other } ∷ [];
+}
