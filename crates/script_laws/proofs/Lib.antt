@@ -1,0 +1,5 @@
+pub mod Sessions
+pub mod Reading
+pub mod Values
+pub mod Replying
+pub mod Scripts

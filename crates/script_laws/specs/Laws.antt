@@ -1,0 +1,19 @@
+-- Laws of scripts: each line has some reply, and a script has an output.
+use Rattle.std.specs.Prelude.{ℕ, List}
+use Rattle.line_session.specs.declared.reply.Answer.{Answer}
+use Rattle.model_core.specs.declared.model.Model.{Model}
+use Rattle.plan_db.specs.Database.{Database, IsSound}
+use Rattle.range_problem.specs.Spelling.{Spells}
+use Rattle.session_core.specs.Replies.{AnswersLine}
+use Rattle.europa_run.specs.declared.status.RunEnd.{RunEnd}
+use Rattle.europa_run.specs.Output.{ScriptOutput}
+
+-- in a sound database each line has some answer, behind which the database is sound
+abbrev pub HasSomeReply : Type 0
+HasSomeReply = (database : Database) (text : List ℕ) → IsSound database
+    → (answer : Answer) × (new : Database) × AnswersLine database text answer new × IsSound new
+
+-- over each input the script of a problem that its text spells has an output, and an end
+abbrev pub HasSomeScriptOutput : Type 0
+HasSomeScriptOutput = (bytes : List ℕ) (model : Model) → Spells bytes model → (input : List ℕ)
+    → (out : List ℕ) × (end : RunEnd) × ScriptOutput model input out end
