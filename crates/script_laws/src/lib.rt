@@ -1,0 +1,2 @@
+//! That a script has an output at all.
+#![tactic(auto)]
