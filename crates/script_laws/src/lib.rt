@@ -2,3 +2,5 @@
 //!
 //! A caller need not use this crate: `europa_run::europa` answers what these laws are about.
 #![tactic(auto)]
+
+pub mod laws;
