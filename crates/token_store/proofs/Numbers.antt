@@ -192,3 +192,33 @@ counted before never (suc bound) list of =
       );
     }) in
     omega (arith, rest, ap length split.2, length-append front (bound ∷ back), length-append front back)
+
+-- two lists of the same numbers in order are equal
+order_same : (before : ℕ → ℕ → Type 0) → ((x : ℕ) → before x x → ⊥) → ((x y z : ℕ) → before x y → before y z → before x z) → (one other : List ℕ)
+    → IsInOrder before one → IsInOrder before other → ((z : ℕ) → Contains one z → Contains other z) → ((z : ℕ) → Contains other z → Contains one z) → one ≡ other
+order_same before never joined [] [] first second to from = refl
+order_same before never joined [] (y ∷ other) first second to from = absurd (contains_none y (from y (contains_first y other)))
+order_same before never joined (x ∷ one) [] first second to from = absurd (contains_none x (to x (contains_first x one)))
+order_same before never joined (x ∷ one) (y ∷ other) first second to from =
+    let same : x ≡ y = elim (contains_cases y other x (to x (contains_first x one))) [
+      | inl is ↦ sym is
+      | inr behind ↦ elim (contains_cases x one y (from y (contains_first y other))) [
+        | inl is ↦ is
+        | inr after ↦ absurd (never x (joined x y x (first.0 y after) (second.0 x behind)))
+      ]
+    ] in
+    let rest = order_same before never joined one other first.1 second.1
+    (λ z has. elim (contains_cases y other z (to z (contains_behind x one z has))) [
+      | inl is ↦ absurd (never x (subst (before x) (sym (same ∙ is)) (first.0 z has)))
+      | inr behind ↦ behind
+    ])
+    (λ z has. elim (contains_cases x one z (from z (contains_behind y other z has))) [
+      | inl is ↦ absurd (never y (subst (before y) (sym (sym same ∙ is)) (second.0 z has)))
+      | inr behind ↦ behind
+    ]) in
+    λ i. same i ∷ rest i
+
+pub list_one : (before : ℕ → ℕ → Type 0) (is : ℕ → Type 0) → ((x : ℕ) → before x x → ⊥) → ((x y z : ℕ) → before x y → before y z → before x z) → (one other : List ℕ)
+    → IsListOf before is one → IsListOf before is other → one ≡ other
+list_one before is never joined one other first second = order_same before never joined one other first.order second.order
+    (λ z has. (second.each z).1 ((first.each z).0 has)) (λ z has. (first.each z).1 ((second.each z).0 has))

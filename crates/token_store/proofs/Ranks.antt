@@ -2,13 +2,13 @@
 use Rattle.std.proofs.Common.{◌≡◌, ℕ, ◌+◌, ◌<◌, ◌≤◌, ◌⊎◌, inl, inr, nat_lt, filter, List, [], ◌∷◌, ◌++◌, length, take, drop, insert, slice_get, slice_index_or, Contains, Some, sym, ap, ◌∙◌, subst, arith, length-append}
 use Rattle.std.proofs.lemmas.Bool.{cases_lt}
 use Rattle.std.proofs.lemmas.List.{get_or_append_left, get_or-take, get_or-drop, take-append-drop, length-take-le, length-drop}
-use Rattle.std.proofs.lemmas.Option.{slice_get-get_or}
+use Rattle.std.proofs.lemmas.Option.{slice_get-get_or, slice_get_within, get_or_from_slice_get}
 use Rattle.std.proofs.Math.Seq.{get_or-append_seam}
 use Rattle.eu_name.specs.declared.name.TokenName.{TokenName}
 use Rattle.eu_name.specs.NameOrder.{IsTokenBefore, IsStrictTotalOrder}
 use Rattle.token_store.specs.Orders.{IsInOrder, IsListOf, name_at, IsNameBefore, IsRanking, HasRank}
 use Rattle.token_store.specs.Pieces.{Parts}
-use Rattle.token_store.proofs.Numbers.{list_like, list_put, list_below, in_order_at, index_default, counted}
+use Rattle.token_store.proofs.Numbers.{list_like, list_put, list_below, in_order_at, index_default, counted, list_one}
 
 -- what comes before the middle one comes before what it comes before
 pub below_middle : IsStrictTotalOrder IsTokenBefore → (names : List TokenName) (ranking : List ℕ) (name : TokenName) (middle other : ℕ)
@@ -117,3 +117,37 @@ rank_of_own law names ranking place rank inside is parts =
 -- there is a rank for each token
 pub length-ranking : IsStrictTotalOrder IsTokenBefore → (names : List TokenName) (ranking : List ℕ) → IsRanking names ranking → length ranking ≡ length names
 length-ranking law names ranking is = counted (IsNameBefore names) (λ x. law.irreflexive (name_at names x)) (length names) ranking is
+
+-- there is one ranking
+one_ranking : IsStrictTotalOrder IsTokenBefore → (names : List TokenName) (one other : List ℕ) → IsRanking names one → IsRanking names other → one ≡ other
+one_ranking law names one other first second = list_one (IsNameBefore names) (λ p. p < length names) (λ x. law.irreflexive (name_at names x))
+    (λ x y z. law.transitive (name_at names x) (name_at names y) (name_at names z)) one other first second
+
+-- in which a place stands once
+one_place : IsStrictTotalOrder IsTokenBefore → (names : List TokenName) (ranking : List ℕ) (place one other : ℕ) → IsRanking names ranking
+    → slice_get ranking one ≡ Some place → slice_get ranking other ≡ Some place → one < other → ⊥
+one_place law names ranking place one other is first second less =
+    let before = in_order_at (IsNameBefore names) ranking one other is.order less (slice_get_within ranking other place second) in
+    law.irreflexive (name_at names place)
+    (subst (λ p. IsNameBefore names p place) (get_or_from_slice_get ranking one place 0 first)
+    (subst (IsNameBefore names (slice_index_or ranking one 0)) (get_or_from_slice_get ranking other place 0 second) before))
+
+some_place : (one other : ℕ) → Some one ≡ Some other → one ≡ other
+some_place one other same = cc
+
+pub one_rank : IsStrictTotalOrder IsTokenBefore → (names : List TokenName) (place one other : ℕ) → HasRank names place one → HasRank names place other → one ≡ other
+one_rank law names place one other first second =
+    let same = one_ranking law names second.0 first.0 second.1.0 first.1.0 in
+    let at : slice_get first.0 other ≡ Some place = subst (λ list. slice_get list other ≡ Some place) same second.1.1 in
+    elim (cases_lt one other) [
+      | inl less ↦ absurd (one_place law names first.0 place one other first.1.0 first.1.1 at less)
+      | inr le ↦ elim (cases_lt other one) [
+        | inl more ↦ absurd (one_place law names first.0 place other one first.1.0 at first.1.1 more)
+        | inr ge ↦ omega (arith, le, ge)
+      ]
+    ]
+
+pub one_at_rank : IsStrictTotalOrder IsTokenBefore → (names : List TokenName) (one other rank : ℕ) → HasRank names one rank → HasRank names other rank → one ≡ other
+one_at_rank law names one other rank first second =
+    let same = one_ranking law names second.0 first.0 second.1.0 first.1.0 in
+    some_place one other (sym first.1.1 ∙ subst (λ list. slice_get list rank ≡ Some other) same second.1.1)

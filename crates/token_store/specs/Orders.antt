@@ -30,6 +30,11 @@ IsRanking names ranking = IsListOf (IsNameBefore names) (λ place. place < lengt
 abbrev pub HasRank : List TokenName → ℕ → ℕ → Type 0
 HasRank names place rank = (ranking : List ℕ) × (IsRanking names ranking × (slice_get ranking rank ≡ Some place))
 
+-- a token has one rank, and at a rank is one token
+pub record RanksAreInverse : Type 0 where
+  pub rank : (names : List TokenName) (place one other : ℕ) → HasRank names place one → HasRank names place other → one ≡ other
+  pub place : (names : List TokenName) (one other rank : ℕ) → HasRank names one rank → HasRank names other rank → one ≡ other
+
 -- the name is the other one with one step more
 abbrev pub IsChildOf : TokenName → TokenName → Type 0
 IsChildOf parent name = (step : Step) × ((name.root ≡ parent.root) × (name.steps ≡ parent.steps ++ step ∷ []))

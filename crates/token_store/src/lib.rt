@@ -9,6 +9,7 @@
 //! ```
 #![tactic(auto)]
 
+pub mod laws;
 mod orders;
 pub mod tokens;
 mod trail;

@@ -1,9 +1,11 @@
 //! Tokens with a trail.
 
-ghost use Rattle.std.specs.Prelude.{◌≡◌, ◌+◌, ◌^◌, ◌<◌, ◌≤◌, [], ◌∷◌, length, option_copied, slice_get, MatchOption, IfOk, OnOk, OnErr, vec_len, vec_capacity};
+ghost use Rattle.std.specs.Prelude.{◌≡◌, ◌+◌, ◌^◌, ◌<◌, ◌≤◌, [], ◌∷◌, length, option_copied, slice_get, MatchOption, IfOk, IfSome, OnOk, OnErr, vec_len, vec_capacity};
 ghost use Rattle.indexmap.specs.IndexMap.{spare};
 ghost use Rattle.token_store.specs.Tokens.{tokens_now, token_names, token_preds, token_states, IsNewName, FindsToken, AddsToken, LeavesPast, with_state, with_token};
 ghost use Rattle.token_store.specs.Orders.{HasRank, AreChildren};
+ghost use Rattle.token_store.specs.Kept.{numbers_of};
+ghost use Rattle.token_store.specs.Pieces.{with_child};
 
 use super::AddFault;
 use super::orders::{
@@ -89,10 +91,14 @@ impl Tokens {
         ensures ok { OnOk result (self.new ≡ with_token (tokens_now self.old) name pred ∷ self.old) }
         ensures err { OnErr result (self.new ≡ self.old) }
     {
-        let place = next_place(&self.tokens)?;
         let (name, parent) = with_parent(&self.tokens, name)?;
-        make_room(&mut self.tokens, &mut self.trail, &mut self.by_rank)?;
-        add_child(&mut self.children, parent, place)?;
+        let place = make_place(
+            &mut self.tokens,
+            &mut self.trail,
+            &mut self.by_rank,
+            &mut self.children,
+            parent,
+        )?;
         names_are_in_order();
         let rank = rank_of(&self.tokens, &self.by_rank, &name);
         insert_in_room(&mut self.by_rank, rank, place);
@@ -233,6 +239,32 @@ fn next_place(tokens: &IndexMap<TokenName, Token>) -> Result<u32, AllocError>
         return Err(AllocError);
     }
     Ok(count as u32)
+}
+
+// Makes room for one more token at the next place, and notes it with its parent.
+fn make_place(
+    tokens: &mut IndexMap<TokenName, Token>,
+    trail: &mut Vec<Edit>,
+    by_rank: &mut Vec<u32>,
+    children: &mut Vec<Vec<u32>>,
+    parent: Option<usize>,
+) -> Result<u32, AllocError>
+    requires { IfSome parent (λ found. found < length children.old.items) }
+    ensures tokens { tokens.new.entries ≡ tokens.old.entries }
+    ensures trail { trail.new.items ≡ trail.old.items }
+    ensures by_rank { by_rank.new.items ≡ by_rank.old.items }
+    ensures room { OnOk result (0 < spare tokens.new) }
+    ensures trail_room { OnOk result (vec_len trail.new < vec_capacity trail.new) }
+    ensures rank_room { OnOk result (vec_len by_rank.new < vec_capacity by_rank.new) }
+    ensures place { IfOk result (λ place. place ≡ length tokens.old.entries) }
+    ensures few { IfOk result (λ place. place + 1 < 2 ^ 32) }
+    ensures noted { IfOk result (λ place. numbers_of children.new.items ≡ with_child (numbers_of children.old.items) parent place) }
+    ensures err { OnErr result (numbers_of children.new.items ≡ numbers_of children.old.items) }
+{
+    let place = next_place(tokens)?;
+    make_room(tokens, trail, by_rank)?;
+    add_child(children, parent, place)?;
+    Ok(place)
 }
 
 // Makes room for one more token, one more edit and one more rank.
