@@ -17,3 +17,5 @@ mod networks;
 mod sample;
 #[cfg(test)]
 mod shapes;
+#[cfg(test)]
+mod tokens;
