@@ -19,3 +19,5 @@ mod networks;
 mod sample;
 #[cfg(test)]
 mod shapes;
+#[cfg(test)]
+mod tokens;

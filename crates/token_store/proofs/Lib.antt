@@ -1,0 +1,6 @@
+pub mod Numbers
+pub mod Names
+pub mod Past
+pub mod Ranks
+pub mod Subgoals
+pub mod Keeping

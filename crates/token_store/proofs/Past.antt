@@ -1,0 +1,150 @@
+-- The tokens along the trail.
+use Rattle.std.proofs.Common.{◌≡◌, ℕ, zero, suc, ◌+◌, ◌-◌, ◌≤◌, List, [], ◌∷◌, ◌++◌, length, map, take, slice_get, Option, Some, refl, sym, ap, ◌∙◌, subst, reverse, arith, length-append, append_assoc}
+use Rattle.std.proofs.lemmas.List.{reverse-append, length-reverse, length-map, take-take, length-take-le}
+use Rattle.std.proofs.Math.Seq.{take-append_seam, take-length}
+use Rattle.std.proofs.lemmas.Option.{slice_get-map}
+use Rattle.std.specs.Option.{option_map}
+use Rattle.std.specs.Map.{values_of}
+use Rattle.indexmap.specs.IndexMap.{set_value_at}
+use Rattle.eu_name.specs.declared.name.TokenName.{TokenName}
+use Rattle.model_core.specs.declared.view.TokenState.{TokenState}
+use Rattle.token_store.specs.declared.trail.Token.{Token}
+use Rattle.token_store.specs.declared.trail.Edit.{Edit}
+use Rattle.token_store.specs.declared.trail.Edit.TheVariants.{Added, Was}
+use Rattle.token_store.specs.Tokens.{TokenList, TokenPast, tokens_now, token_names, with_state}
+use Rattle.token_store.specs.Kept.{before, past_of, CanLead, IsTrail}
+use Rattle.token_store.specs.Pieces.{ReturnsTo}
+
+pub now-past : (tokens : TokenList) (trail : List Edit) → tokens_now (past_of tokens trail) ≡ tokens
+now-past tokens [] = refl
+now-past tokens (edit ∷ older) = refl
+
+pub length-past : (tokens : TokenList) (trail : List Edit) → length (past_of tokens trail) ≡ length trail + 1
+length-past tokens [] = refl
+length-past tokens (edit ∷ older) = omega (arith, length-past (before edit tokens) older)
+
+-- what a store shows is what it keeps
+pub shown : (tokens : TokenList) (trail : List Edit) (view : TokenPast) → past_of tokens trail ≡ view → tokens_now view ≡ tokens
+shown tokens trail view is = ap tokens_now (sym is) ∙ now-past tokens trail
+
+-- what is read of a token
+pub read : {X : Type 0} (part : TokenName × Token → X) (tokens : TokenList) (view : TokenPast) (place : ℕ) (found : Option (TokenName × Token))
+    → tokens_now view ≡ tokens → found ≡ slice_get tokens place → option_map part found ≡ slice_get (map part (tokens_now view)) place
+read part tokens view place found shows is =
+    ap (option_map part) is ∙ sym (slice_get-map part tokens place) ∙ ap (λ list. slice_get (map part list) place) (sym shows)
+
+pub length-names : (tokens : TokenList) → length (token_names tokens) ≡ length tokens
+length-names tokens = length-map tokens (λ token. token.0)
+
+pub length-with_state : (tokens : TokenList) (place : ℕ) (state : TokenState) → length (with_state tokens place state) ≡ length tokens
+length-with_state [] place state = refl
+length-with_state (token ∷ tokens) zero state = refl
+length-with_state (token ∷ tokens) (suc place) state = omega (arith, length-with_state tokens place state)
+
+pub names-with_state : (tokens : TokenList) (place : ℕ) (state : TokenState) → token_names (with_state tokens place state) ≡ token_names tokens
+names-with_state [] place state = refl
+names-with_state (token ∷ tokens) zero state = refl
+names-with_state (token ∷ tokens) (suc place) state = ap (λ names. token.0 ∷ names) (names-with_state tokens place state)
+
+value_of : (one other : Token) → Some one ≡ Some other → one ≡ other
+value_of one other same = cc
+
+-- writing the state of a token
+pub set-state : (tokens : TokenList) (place : ℕ) (value : Token) (state : TokenState) → slice_get (values_of tokens) place ≡ Some value
+    → set_value_at tokens place (record { pred = value.pred; state = state }) ≡ with_state tokens place state
+set-state [] place value state is = refl
+set-state (token ∷ tokens) zero value state is =
+    ap (λ (v : Token). (token.0, record { pred = v.pred; state = state }) ∷ tokens) (sym (value_of token.1 value is))
+set-state (token ∷ tokens) (suc place) value state is = ap (λ more. token ∷ more) (set-state tokens place value state is)
+
+-- and writing the former one again
+pub state-back : (tokens : TokenList) (place : ℕ) (value : Token) (state : TokenState) → slice_get (values_of tokens) place ≡ Some value
+    → with_state (with_state tokens place state) place value.state ≡ tokens
+state-back [] place value state is = refl
+state-back (token ∷ tokens) zero value state is =
+    ap (λ (v : Token). (token.0, record { pred = token.1.pred; state = v.state }) ∷ tokens) (sym (value_of token.1 value is))
+state-back (token ∷ tokens) (suc place) value state is = ap (λ more. token ∷ more) (state-back tokens place value state is)
+
+-- what was put at the end is taken off
+pub before-added : (tokens : TokenList) (token : TokenName × Token) → before Added (tokens ++ token ∷ []) ≡ tokens
+before-added tokens token =
+    let one : length (tokens ++ token ∷ []) - 1 ≡ length tokens = omega (arith, length-append tokens (token ∷ [])) in
+    ap (λ n. take n (tokens ++ token ∷ [])) one ∙ take-append_seam tokens (token ∷ [])
+
+-- the last edit is the first that is gone back over
+pub reverse-last : (trail : List Edit) (edit : Edit) → reverse (trail ++ edit ∷ []) ≡ edit ∷ reverse trail
+reverse-last trail edit = reverse-append trail (edit ∷ [])
+
+-- tokens that an edit led to from others
+pub edited_past : (old new : TokenList) (trail : List Edit) (edit : Edit) → before edit new ≡ old
+    → past_of new (reverse (trail ++ edit ∷ [])) ≡ new ∷ past_of old (reverse trail)
+edited_past old new trail edit back = ap (past_of new) (reverse-last trail edit) ∙ ap (λ list. new ∷ past_of list (reverse trail)) back
+
+pub edited_trail : (old new : TokenList) (trail : List Edit) (edit : Edit) → before edit new ≡ old → CanLead edit new
+    → IsTrail old (reverse trail) → IsTrail new (reverse (trail ++ edit ∷ []))
+edited_trail old new trail edit back can led =
+    subst (IsTrail new) (sym (reverse-last trail edit)) (can, subst (λ list. IsTrail list (reverse trail)) (sym back) led)
+
+-- the tokens before an edit are the first ones of those behind it
+names-take : (n : ℕ) (tokens : TokenList) → token_names (take n tokens) ≡ take n (token_names tokens)
+names-take zero tokens = refl
+names-take (suc n) [] = refl
+names-take (suc n) (token ∷ tokens) = ap (λ names. token.0 ∷ names) (names-take n tokens)
+
+names_before : (edit : Edit) (tokens : TokenList) → CanLead edit tokens
+    → (token_names (before edit tokens) ≡ take (length (before edit tokens)) (token_names tokens)) × (length (before edit tokens) ≤ length tokens)
+names_before Added tokens can =
+    let long : length (take (length tokens - 1) tokens) ≡ length tokens - 1 = length-take-le (length tokens - 1) tokens (omega arith) in
+    (names-take (length tokens - 1) tokens ∙ ap (λ n. take n (token_names tokens)) (sym long), omega (arith, long))
+names_before (Was place state) tokens can =
+    let long : length (with_state tokens place state) ≡ length tokens = length-with_state tokens place state in (
+      names-with_state tokens place state ∙ sym (take-length (token_names tokens))
+          ∙ ap (λ n. take n (token_names tokens)) (length-names tokens ∙ sym long),
+      omega (arith, long),
+    )
+
+-- the tokens after some edits were taken back
+pub record IsReturning (tokens : TokenList) (trail : List Edit) (now : TokenList) (left : List Edit) : Type 0 where
+  pub led : IsTrail now left
+  pub newer : TokenPast
+  pub past : past_of tokens trail ≡ newer ++ past_of now left
+  pub names : token_names now ≡ take (length now) (token_names tokens)
+  pub fewer : length now ≤ length tokens
+
+pub returning_none : (tokens : TokenList) (trail : List Edit) → IsTrail tokens trail → IsReturning tokens trail tokens trail
+returning_none tokens trail led = record {
+  led = led;
+  newer = [];
+  past = refl;
+  names = sym (take-length (token_names tokens)) ∙ ap (λ n. take n (token_names tokens)) (length-names tokens);
+  fewer = omega arith;
+}
+
+pub returning_more : (tokens : TokenList) (trail : List Edit) (now new : TokenList) (left : List Edit) (edit : Edit)
+    → IsReturning tokens trail now (edit ∷ left) → new ≡ before edit now → IsReturning tokens trail new left
+returning_more tokens trail now new left edit returning is =
+    let front = names_before edit now returning.led.0 in
+    let same : length (before edit now) ≡ length new = ap length (sym is) in
+    record {
+      led = subst (λ list. IsTrail list left) (sym is) returning.led.1;
+      newer = returning.newer ++ now ∷ [];
+      past = returning.past ∙ ap (λ list. returning.newer ++ now ∷ past_of list left) (sym is)
+          ∙ sym (append_assoc returning.newer (now ∷ []) (past_of new left));
+      names = ap token_names is ∙ front.0 ∙ ap (take (length (before edit now))) returning.names
+          ∙ take-take (length (before edit now)) (length now) (token_names tokens) front.1
+          ∙ ap (λ n. take n (token_names tokens)) same;
+      fewer = omega (arith, front.1, returning.fewer, same);
+    }
+
+pub returned : (behind : ℕ) (tokens : TokenList) (trail : List Edit) (now : TokenList) (left : List Edit)
+    → IsReturning tokens (reverse trail) now (reverse left) → length left ≡ behind → ReturnsTo behind (tokens, trail) (now, left)
+returned behind tokens trail now left returning long = record {
+  led = returning.led;
+  leaves = record {
+    newer = returning.newer;
+    past = returning.past;
+    count = omega (arith, length-past now (reverse left), length-reverse left, long);
+  };
+  names = returning.names;
+  fewer = returning.fewer;
+}

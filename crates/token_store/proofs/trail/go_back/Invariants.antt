@@ -1,0 +1,12 @@
+use Rattle.std.proofs.Common.{◌≤◌, reverse, vec_len}
+use Rattle.token_store.proofs.Past.{IsReturning}
+use Rattle.token_store.proofs.trail.go_back.Given as goal
+
+abbrev pub invariant-loop-tokens : goal.invariant-loop-tokens
+invariant-loop-tokens l = record {
+  returning : IsReturning l.initial.tokens.entries (reverse l.initial.trail.items) l.tokens.entries (reverse l.trail.items);
+  long : l.behind ≤ vec_len l.trail;
+}
+
+abbrev pub decreases-loop-tokens : goal.decreases-loop-tokens
+decreases-loop-tokens l = vec_len l.trail

@@ -1,0 +1,44 @@
+-- How the tokens, their trail and their orders are kept.
+use Rattle.std.specs.Prelude.{◌≡◌, ℕ, ◌-◌, ◌^◌, ◌<◌, List, [], ◌∷◌, length, map, take, Vec, slice_index_or}
+use Rattle.std.specs.Global.{Global}
+use Rattle.eu_name.specs.declared.name.TokenName.{TokenName}
+use Rattle.token_store.specs.declared.trail.Edit.{Edit}
+use Rattle.token_store.specs.declared.trail.Edit.TheVariants.{Added, Was}
+use Rattle.token_store.specs.Tokens.{TokenList, TokenPast, token_names, with_state}
+use Rattle.token_store.specs.Orders.{IsRanking, AreChildren}
+
+-- the tokens before the edit
+abbrev pub before : Edit → TokenList → TokenList
+before Added tokens = take (length tokens - 1) tokens
+before (Was place state) tokens = with_state tokens place state
+
+-- the lists from these tokens back along the trail, whose last edit comes first
+abbrev pub past_of : TokenList → List Edit → TokenPast
+past_of tokens [] = tokens ∷ []
+past_of tokens (edit ∷ older) = tokens ∷ past_of (before edit tokens) older
+
+-- the edit can have led to these tokens
+abbrev pub CanLead : Edit → TokenList → Type 0
+CanLead Added tokens = 0 < length tokens
+CanLead (Was place state) tokens = place < length tokens
+
+-- each edit can have led to its tokens, and before all there was none
+abbrev pub IsTrail : TokenList → List Edit → Type 0
+IsTrail tokens [] = tokens ≡ []
+IsTrail tokens (edit ∷ older) = CanLead edit tokens × IsTrail (before edit tokens) older
+
+-- the numbers in each vector
+abbrev pub numbers_of : List (Vec ℕ Global) → List (List ℕ)
+numbers_of lists = map (λ list. list.items) lists
+
+-- for each name there is the list of its subgoals
+pub record HaveChildren (names : List TokenName) (children : List (List ℕ)) : Type 0 where
+  pub count : length children ≡ length names
+  pub each : (parent : ℕ) → parent < length names → AreChildren names parent (slice_index_or children parent [])
+
+-- the trail led to the tokens, places are numbers of 32 bits, and the ranking and the subgoals are those of the tokens
+pub record IsKept (tokens : TokenList) (trail : List Edit) (by_rank : List ℕ) (children : List (List ℕ)) : Type 0 where
+  pub led : IsTrail tokens trail
+  pub few : length tokens < 2 ^ 32
+  pub ranked : IsRanking (token_names tokens) by_rank
+  pub listed : HaveChildren (token_names tokens) children

@@ -1,0 +1,4 @@
+pub mod Tokens
+pub mod Orders
+pub mod Kept
+pub mod Pieces

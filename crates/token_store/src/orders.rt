@@ -1,0 +1,124 @@
+//! The order of names among the tokens, and their subgoals.
+
+ghost use Rattle.std.specs.Prelude.{◌≡◌, ◌<◌, ◌≤◌, ◌↔◌, IsTrue, nat_lt, filter, map, take, length, insert, vec_len, vec_capacity, IfOk, OnOk, OnErr, IfSome};
+ghost use Rattle.eu_name.specs.NameOrder.{IsTokenBefore};
+ghost use Rattle.token_store.specs.Tokens.{token_names};
+ghost use Rattle.token_store.specs.Orders.{IsRanking, name_at};
+ghost use Rattle.token_store.specs.Kept.{numbers_of};
+ghost use Rattle.token_store.specs.Pieces.{Parts, FindsParent, with_child};
+
+use super::trail::{Token, find_place};
+use eu_name::laws::names_are_in_order;
+use eu_name::name::TokenName;
+use eu_name::name_order::order;
+use eu_name::sequence::Sequence;
+use indexmap::IndexMap;
+use std::alloc::AllocError;
+use std::cmp::Ordering;
+
+/// How many tokens come before this name, in the order of names.
+pub fn rank_of(tokens: &IndexMap<TokenName, Token>, by_rank: &[u32], name: &TokenName) -> usize
+    requires { IsRanking (token_names tokens.now.entries) by_rank.now }
+    ensures { Parts (token_names tokens.now.entries) by_rank.now name.now result }
+{
+    names_are_in_order();
+    let mut low = 0;
+    let mut high = by_rank.len();
+    while low < high {
+        let middle = low + (high - low) / 2;
+        if is_before(tokens, by_rank[middle], name) {
+            low = middle + 1;
+        } else {
+            high = middle;
+        }
+    }
+    low
+}
+
+// Whether the name at the place comes before this one.
+fn is_before(tokens: &IndexMap<TokenName, Token>, place: u32, name: &TokenName) -> bool
+    requires { place < length tokens.now.entries }
+    ensures { IsTrue result ↔ IsTokenBefore (name_at (token_names tokens.now.entries) place) name.now }
+{
+    match tokens.get_index(place as usize) {
+        None => unreachable!(),
+        Some((other, _token)) => matches!(order(other, name), Ordering::Less),
+    }
+}
+
+/// Puts the place at this rank, for which there is room.
+pub fn insert_in_room(by_rank: &mut Vec<u32>, rank: usize, place: u32)
+    requires rank { rank ≤ length by_rank.old.items }
+    requires room { vec_len by_rank.old < vec_capacity by_rank.old }
+    ensures { by_rank.new.items ≡ insert by_rank.old.items rank place }
+{
+    match by_rank.insert(rank, place) {
+        Ok(()) => {}
+        Err(_full) => unreachable!(),
+    }
+}
+
+/// Keeps the places below the count.
+pub fn keep_below(places: &mut Vec<u32>, count: usize)
+    ensures { places.new.items ≡ filter (λ place. nat_lt place count) places.old.items }
+{
+    places.retain(|place| (*place as usize) < count);
+}
+
+/// Keeps the lists of the tokens below the count, with the places below the count.
+pub fn keep_lists_below(children: &mut Vec<Vec<u32>>, count: usize)
+    ensures { numbers_of children.new.items ≡ map (filter (λ place. nat_lt place count)) (take count (numbers_of children.old.items)) }
+{
+    children.truncate(count);
+    let mut parent = 0;
+    while parent < children.len() {
+        keep_below(&mut children[parent], count);
+        parent += 1;
+    }
+}
+
+/// The name as it was, and the place of the token whose subgoal it is.
+pub fn with_parent(
+    tokens: &IndexMap<TokenName, Token>,
+    name: TokenName,
+) -> Result<(TokenName, Option<usize>), AllocError>
+    ensures same { IfOk result (λ found. found.0 ≡ name) }
+    ensures parent { IfOk result (λ found. FindsParent (token_names tokens.now.entries) name found.1) }
+{
+    let TokenName { root, steps } = name;
+    let mut steps = steps.into_vec();
+    match steps.pop() {
+        None => {
+            let steps = Sequence::from_vec(steps);
+            return Ok((TokenName { root, steps }, None));
+        }
+        Some(last) => {
+            let steps = Sequence::from_vec(steps);
+            let parent = TokenName { root, steps };
+            let place = find_place(tokens, &parent);
+            let TokenName { root, steps } = parent;
+            let mut steps = steps;
+            steps.push(last)?;
+            return Ok((TokenName { root, steps }, place));
+        }
+    }
+}
+
+/// Adds a token to the lists of subgoals, and to that of its parent.
+pub fn add_child(
+    children: &mut Vec<Vec<u32>>,
+    parent: Option<usize>,
+    place: u32,
+) -> Result<(), AllocError>
+    requires { IfSome parent (λ found. found < length children.old.items) }
+    ensures ok { OnOk result (numbers_of children.new.items ≡ with_child (numbers_of children.old.items) parent place) }
+    ensures err { OnErr result (numbers_of children.new.items ≡ numbers_of children.old.items) }
+{
+    children.reserve(1)?;
+    if let Some(found) = parent {
+        children[found].push(place)?;
+    }
+    let none = Vec::new(*children.allocator());
+    children.push_reserved(none);
+    Ok(())
+}
