@@ -1,15 +1,15 @@
 -- Whether a constraint holds of values, and whether domains support each other, can be found out: there are finitely many values.
-use Rattle.std.proofs.Common.{◌≡◌, ℕ, zero, suc, ◌+◌, ◌<◌, List, [], ◌∷◌, ◌++◌, ℤ, pos, ◌≤ℤ◌, ◌<ℤ◌, ◌+ℤ◌, ◌*ℤ◌, ◌⊎◌, inl, inr, ⊎_elim, refl, sym, ap, ◌∙◌, subst, arith}
+use Rattle.std.proofs.Common.{◌≡◌, ℕ, zero, suc, ◌+◌, List, [], ◌∷◌, ◌++◌, ℤ, pos, ◌≤ℤ◌, ◌<ℤ◌, ◌+ℤ◌, ◌*ℤ◌, ◌⊎◌, inl, inr, ⊎_elim, refl, sym, ap, ◌∙◌, subst, arith}
 use Rattle.std.specs.Prelude.{◌↔◌, ⊤}
 use Rattle.std.specs.List.{AllZip}
 use Rattle.std.proofs.lemmas.Int.{ints, by_lt_z}
 use Rattle.std.proofs.lemmas.List.{append_assoc, append-nil}
-use Rattle.domain_core.specs.Domain.{Domain, Range, Set, IsDomain, IsTested, Has}
+use Rattle.domain_core.specs.Domain.{Domain, Range, Set, IsDomain, IsTested}
 use Rattle.domain_core.proofs.Words.{place_of}
 use Rattle.model_core.specs.Consistency.{Reach, Values, Ends, Admits, IsSupported, AreConsistent}
 use Rattle.model_core.specs.Constraints.{HoldsOf, Holds}
 use Rattle.model_core.specs.declared.item.Kind.{Kind}
-use Rattle.model_core.specs.declared.item.Kind.TheVariants.{Eq, Neq, Lt, Leq, AddEq, MulEq, TestEq, TestLeq, AllDiff, Field}
+use Rattle.model_core.specs.declared.item.Kind.TheVariants.{Eq, Neq, Lt, Leq, AddEq, MulEq, TestEq, TestLeq, Field}
 
 -- it is so, or it isn't
 abbrev pub Decided : Type 0 → Type 0

@@ -1,15 +1,14 @@
 -- Decisions leave a least state, or collapse.
 use Rattle.std.proofs.Common.{◌≡◌, ℕ, zero, suc, ◌+◌, ◌<◌, ◌≤◌, List, [], ◌∷◌, length, get_or, set, ℤ, pos, ◌≤ℤ◌, ◌<ℤ◌, ◌⊎◌, inl, inr, ⊎_elim, refl, sym, ap, ◌∙◌, subst, arith, Some}
-use Rattle.std.specs.Prelude.{All, slice_get, Ok, Err, Contains}
+use Rattle.std.specs.Prelude.{All, slice_get, Ok, Err}
 use Rattle.std.specs.List.{AllZip}
 use Rattle.std.proofs.lemmas.Bool.{cases_lt}
 use Rattle.std.proofs.lemmas.Int.{ints, by_lt_z}
 use Rattle.std.proofs.lemmas.Option.{slice_get-get_or}
 use Rattle.std.proofs.lemmas.List.Elements.{All-head, All-tail, All-cons, All-nil}
-use Rattle.domain_core.specs.Domain.{Domain, Range, Set, IsDomain, IsWithin, Has, slack}
+use Rattle.domain_core.specs.Domain.{Domain, Range, Set, IsDomain, Has}
 use Rattle.domain_core.specs.Narrowing.{Keeps, IsLeft}
-use Rattle.domain_core.specs.declared.Change.TheVariants.{Same, Smaller, Empty}
-use Rattle.eu_name.specs.declared.name.TokenName.{TokenName}
+use Rattle.domain_core.specs.declared.Change.TheVariants.{Same, Smaller}
 use Rattle.eu_name.specs.declared.name.VarName.TheVariants.{Global}
 use Rattle.model_core.specs.declared.decision.Decision.{Decision}
 use Rattle.model_core.specs.declared.decision.Decision.TheVariants.{Specify, Order}
@@ -38,7 +37,6 @@ use Rattle.plan_defs.specs.Closure.{IsLeast, IsCollapsed}
 use Rattle.plan_defs.proofs.Members.{get_within}
 use Rattle.plan_defs.proofs.Ordered.{contains_cases, contains_head, contains_later, contains_none}
 use Rattle.constraint_net.specs.Arguments.{IsArgument, domain_of, domains_of}
-use Rattle.constraint_net.specs.Limits.{LimitsAt}
 use Rattle.constraint_net.specs.Networks.{Network, AllConsistent, field_of, IsConsistent}
 use Rattle.constraint_net.specs.Steps.{FitWithin, SettlesTo}
 use Rattle.constraint_net.specs.declared.constraint.Constraint.{Constraint}
@@ -118,7 +116,7 @@ module _ (domains : List Domain) (are : AreRanges domains) (variable : ℕ) (val
         set domains variable (Range value value),
         ranges_set domains variable (Range value value) are alone,
         limited domains variable value (ranges_are domains are) there Smaller (set domains variable (Range value value)) (λ e. cc)
-        (record { left = Range value value; is = alone; kept = subst (λ x. Keeps (Has (Range value value)) x Smaller (Range value value)) (sym is) (left_is, less_slack (Range value value) (Range lo hi) alone range left_is.within (λ e. let one : value ≡ lo = cc in let other : value ≡ hi = cc in omega (arith, ints, one, other, less))); others = refl }),
+            (record { left = Range value value; is = alone; kept = subst (λ x. Keeps (Has (Range value value)) x Smaller (Range value value)) (sym is) (left_is, less_slack (Range value value) (Range lo hi) alone range left_is.within (λ e. let one : value ≡ lo = cc in let other : value ≡ hi = cc in omega (arith, ints, one, other, less))); others = refl }),
       )
 
       same : hi ≤ℤ lo → Settled (Grants (Specify (Global variable) value)) domains
@@ -126,13 +124,13 @@ module _ (domains : List Domain) (are : AreRanges domains) (variable : ℕ) (val
         set domains variable (Range lo hi),
         ranges_set domains variable (Range lo hi) are range,
         limited domains variable value (ranges_are domains are) there Same (set domains variable (Range lo hi)) (λ e. cc)
-        (record {
-          left = Range lo hi;
-          is = range;
-          kept = subst (λ x. Keeps (Has (Range value value)) x Same (Range lo hi)) (sym is)
-              (refl, λ other tested. ⊎_elim (λ at. (omega (arith, ints, at, low, high, alone_already), omega (arith, ints, at, low, high, alone_already))) (λ at. (omega (arith, ints, at, low, high, alone_already), omega (arith, ints, at, low, high, alone_already))) tested);
-          others = refl;
-        }),
+            (record {
+              left = Range lo hi;
+              is = range;
+              kept = subst (λ x. Keeps (Has (Range value value)) x Same (Range lo hi)) (sym is)
+                  (refl, λ other tested. ⊎_elim (λ at. (omega (arith, ints, at, low, high, alone_already), omega (arith, ints, at, low, high, alone_already))) (λ at. (omega (arith, ints, at, low, high, alone_already), omega (arith, ints, at, low, high, alone_already))) tested);
+              others = refl;
+            }),
       )
 
   lacking : (Has (get_or domains variable d) value → ⊥) → Settled (Grants (Specify (Global variable) value)) domains

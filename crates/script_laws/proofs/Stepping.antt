@@ -1,13 +1,12 @@
 -- Domains that fit are reached, or none fit: while a constraint lacks support for an end of a range, that end goes.
-use Rattle.std.proofs.Common.{◌≡◌, ℕ, zero, suc, ◌+◌, ◌<◌, ◌≤◌, List, [], ◌∷◌, ◌++◌, length, get_or, set, ℤ, pos, negsuc, ◌≤ℤ◌, ◌<ℤ◌, ◌+ℤ◌, ◌⊎◌, inl, inr, ⊎_elim, refl, sym, ap, ◌∙◌, subst, arith}
-use Rattle.std.specs.Prelude.{All, sum_by, ⊤, Ok, Err}
+use Rattle.std.proofs.Common.{◌≡◌, ℕ, zero, suc, ◌<◌, List, [], ◌∷◌, ◌++◌, length, get_or, set, ℤ, pos, negsuc, ◌≤ℤ◌, ◌<ℤ◌, ◌+ℤ◌, ◌⊎◌, inl, inr, ⊎_elim, refl, sym, ap, ◌∙◌, subst, arith}
+use Rattle.std.specs.Prelude.{All, sum_by, Ok, Err}
 use Rattle.std.proofs.lemmas.Bool.{cases_lt}
 use Rattle.std.proofs.lemmas.Int.{ints, by_lt_z}
 use Rattle.std.proofs.lemmas.List.Elements.{All-head, All-tail, All-cons, All-nil}
 use Rattle.std.proofs.lemmas.List.Sums.{sum_by-cons}
-use Rattle.domain_core.specs.Domain.{Domain, Range, Set, IsDomain, IsTested, IsWithin, Has, slack}
-use Rattle.domain_core.specs.declared.Change.TheVariants.{Same, Smaller, Empty}
-use Rattle.domain_core.proofs.Words.{slack_within, same_slack}
+use Rattle.domain_core.specs.Domain.{Domain, Range, Set, IsDomain, IsTested, IsWithin, slack}
+use Rattle.domain_core.proofs.Words.{same_slack}
 use Rattle.model_core.specs.Consistency.{Reach, AreConsistent, IsSupported}
 use Rattle.narrow_core.specs.Laws.{LieWithin}
 use Rattle.narrow_core.proofs.Below.{are_domains, supported_along}
@@ -17,7 +16,7 @@ use Rattle.constraint_net.specs.declared.constraint.NetArg.{NetArg}
 use Rattle.constraint_net.specs.declared.constraint.NetArg.TheVariants.{Var, Lit}
 use Rattle.constraint_net.specs.declared.NetFault.TheVariants.{Collapsed}
 use Rattle.constraint_net.proofs.Advancing.{advances_refl, advances_trans}
-use Rattle.constraint_net.proofs.Within.{within_at, within_length, set_within, within_set, arguments_within, arguments_are, argument_along}
+use Rattle.constraint_net.proofs.Within.{within_at, within_length, set_within, within_set, arguments_within, arguments_are}
 use Rattle.script_laws.proofs.Deciding.{Lacks, AreRanges, IsRangeDomain}
 
 -- ---- lists of ranges
@@ -186,13 +185,13 @@ module _ (reach : Reach) (holds : List ℤ → Type 0) (args : List NetArg) (dom
       let right_there : All (IsArgument (length below)) at.right = subst (λ n. All (IsArgument n) at.right) (sym long) parts.2 in
       let supports = consistent (domains_of below at.left) (domain_of below at.arg) (domains_of below at.right) lacks.value (ap (domains_of below) at.split ∙ domains_split below at.left at.arg at.right) tested in
       let wide = supported_along reach holds (domains_of below at.left) (domains_of domains at.left) (domains_of below at.right) (domains_of domains at.right) lacks.value
-          (are_domains _ (arguments_are below at.left below_are left_there))
-          (are_domains _ (arguments_are domains at.left (ranges_are domains are) parts.0))
-          (are_domains _ (arguments_are below at.right below_are right_there))
-          (are_domains _ (arguments_are domains at.right (ranges_are domains are) parts.2))
-          (arguments_within below domains at.left within parts.0)
-          (arguments_within below domains at.right within parts.2)
-          supports in
+      (are_domains _ (arguments_are below at.left below_are left_there))
+      (are_domains _ (arguments_are domains at.left (ranges_are domains are) parts.0))
+      (are_domains _ (arguments_are below at.right below_are right_there))
+      (are_domains _ (arguments_are domains at.right (ranges_are domains are) parts.2))
+      (arguments_within below domains at.left within parts.0)
+      (arguments_within below domains at.right within parts.2)
+      supports in
       lacks.lacking (subst (λ list. IsSupported reach holds list lacks.value lacks.after) at.is_before (subst (λ list. IsSupported reach holds (domains_of domains at.left) lacks.value list) at.is_after wide))
 
   module _ (fits : List Domain → Type 0) (sees : (below : List Domain) → fits below → AreConsistent reach holds (domains_of below args)) where
