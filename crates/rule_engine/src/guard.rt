@@ -8,7 +8,8 @@ ghost use Rattle.rule_engine.specs.Guards.{asks_equal, side_of, AlwaysSelects};
 
 use domain_core::domain::Dom;
 
-/// The truth of a guard on variables with these domains, where every choice of a value for each agrees on it. The guard asks that the two are equal, or, where `guard_equal` is false, that they differ.
+/// The truth of a guard on variables with these domains, where every choice of a value for each agrees on it. The guard
+/// asks that the two are equal, or, where `guard_equal` is false, that they differ. It takes no memory.
 pub fn entailed(guard_equal: bool, a: &Dom, b: &Dom) -> Option<bool>
     ensures { (guard : Guard) → asks_equal guard ≡ guard_equal → MatchOption result
         ((side : Side) → AlwaysSelects guard side a.now b.now → ⊥)
