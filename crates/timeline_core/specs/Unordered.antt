@@ -13,6 +13,7 @@ use Rattle.model_core.specs.declared.view.TokenState.TheVariants.{Inactive, Acti
 use Rattle.model_core.specs.Decided.{IsActive, IsMerged, IsRejected}
 use Rattle.model_core.specs.State.{State, Gives}
 use Rattle.model_core.specs.Views.{IsTokenAt}
+use Rattle.plan_defs.specs.Settling.{IsSettled}
 use Rattle.plan_defs.specs.Timelines.{IsOn, IsTimeline, ShareTimeline}
 
 -- what takes place is neither merged nor rejected
@@ -73,3 +74,7 @@ IsPartner model decisions state one found = MatchOption found
 pub record IsFirstPair (model : Model) (decisions : List Decision) (state : State) (one other : ℕ) : Type 0 where
   pub is_pair : IsPairAt model decisions state one other
   pub first : (m n : ℕ) → IsPairAt model decisions state m n → ByNumber one m (other ≤ n)
+
+-- what a settled list of decisions lets take place is neither merged nor rejected
+abbrev pub SettledListsDecideOnce : Type 0
+SettledListsDecideOnce = (model : Model) (decisions : List Decision) → IsSettled model decisions → AreDecidedOnce model decisions

@@ -8,7 +8,7 @@ ghost use Rattle.model_core.specs.State.{AreInOrder};
 ghost use Rattle.model_core.specs.Views.{IsTokenAt};
 ghost use Rattle.plan_defs.specs.Timelines.{IsOn, IsTimeline};
 ghost use Rattle.timeline_core.specs.Unordered.{AreDecidedOnce, TakesPlace, IsActiveOn, MayOverrun, HaveNoOrder};
-ghost use Rattle.timeline_core.specs.Unordered.{IsPairAt, IsPartner, IsFirstPair};
+ghost use Rattle.timeline_core.specs.Unordered.{IsPairAt, IsPartner, IsFirstPair, SettledListsDecideOnce};
 
 use domain_core::domain::Dom;
 use eu_name::name::Part;
@@ -217,3 +217,8 @@ pub fn first_unordered<V: View>(model: &Model, view: &V) -> Option<(u32, u32)>
     }
     None
 }
+
+/// A law: what a settled list of decisions lets take place, it neither merges nor rejects.
+pub fn settled_lists_decide_once()
+    ensures { SettledListsDecideOnce }
+{}
