@@ -16,8 +16,12 @@ mod narrowing;
 #[cfg(test)]
 mod networks;
 #[cfg(test)]
+mod rules;
+#[cfg(test)]
 mod sample;
 #[cfg(test)]
 mod shapes;
+#[cfg(test)]
+mod timelines;
 #[cfg(test)]
 mod tokens;

@@ -1,0 +1,5 @@
+pub mod Choices
+pub mod Listing
+pub mod Counting
+pub mod Turning
+pub mod Limits

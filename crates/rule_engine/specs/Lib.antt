@@ -1,0 +1,4 @@
+pub mod Guards
+pub mod Lists
+pub mod Places
+pub mod Contents
