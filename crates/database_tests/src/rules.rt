@@ -1,7 +1,14 @@
-//! Which side of a guard is open.
+//! Which side of a guard is open, and what a block of a rule adds.
 
+ghost use Rattle.std.specs.Prelude.{◌≡◌};
+ghost use Rattle.database_tests.specs.Sample.{sample};
+
+use super::sample::built;
 use super::shapes::{Written, made};
-use rule_engine::entailed;
+use eu_name::name::{TokenName, VarName};
+use eu_name::sequence::Sequence;
+use model_core::model::Model;
+use rule_engine::{Additions, ItemAt, entailed, open_block};
 use std::alloc::Global;
 
 // The truth of a guard on two domains.
@@ -41,4 +48,65 @@ fn guards_are_entailed(rt: HostRuntime) {
     for (equal, a, b, told) in &GUARDS {
         assert!(rt; truth(rt.alloc(), *equal, *a, *b) == Some(*told));
     }
+}
+
+/// A token by its root and its last step, the number of a local, an item, and how many branches there are.
+type Added = (Option<(u32, u16, u16)>, Option<u16>, Option<ItemAt>, usize);
+
+// The root of the only token, and the rule and the slot of its only step.
+fn only_token(tokens: &[TokenName]) -> Option<(u32, u16, u16)> {
+    match tokens {
+        [token] => match token.steps.as_slice() {
+            [step] => Some((token.root, step.rule, step.slot)),
+            _ => None,
+        },
+        _ => None,
+    }
+}
+
+// The number of the only local.
+fn only_local(variables: &[VarName]) -> Option<u16> {
+    match variables {
+        [VarName::Local { number, .. }] => Some(*number),
+        _ => None,
+    }
+}
+
+// What the additions are in numbers.
+fn told(additions: &Additions) -> Added {
+    (
+        only_token(additions.slots.as_slice()),
+        only_local(additions.locals.as_slice()),
+        additions.items.as_slice().first().copied(),
+        additions.branches.len(),
+    )
+}
+
+// What the top block of the rule of the small problem's token adds.
+fn added(alloc: Global, model: &Model) -> Option<Added>
+    requires { model.now ≡ sample }
+{
+    let token = TokenName {
+        root: 0,
+        steps: Sequence::new(alloc),
+    };
+    match open_block(alloc, model, &token, 0, &[]) {
+        Ok(additions) => Some(told(&additions)),
+        Err(_) => None,
+    }
+}
+
+// The same of the problem, where there is memory for it.
+fn opened(alloc: Global) -> Option<Added> {
+    match built(alloc) {
+        Ok(model) => added(alloc, &model),
+        Err(_) => None,
+    }
+}
+
+#[test]
+fn a_block_adds_what_stands_in_it(rt: HostRuntime) {
+    let item = ItemAt { number: 0, entry: 1 };
+    let wanted = (Some((0, 0, 0)), Some(0), Some(item), 0);
+    assert!(rt; opened(rt.alloc()) == Some(wanted));
 }

@@ -153,8 +153,8 @@ fn problem(alloc: Global) -> Result<Problem, AllocError>
     })
 }
 
-// The whole problem.
-fn built(alloc: Global) -> Result<Model, AllocError>
+/// The whole problem, as the text has it.
+pub fn built(alloc: Global) -> Result<Model, AllocError>
     ensures { IfOk result (λ model. model ≡ sample) }
 {
     Ok(Model {
