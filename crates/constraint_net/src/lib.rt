@@ -13,7 +13,7 @@ pub mod network;
 mod rounds;
 
 pub use constraint::NetArg;
-pub use network::Net;
+pub use network::{Mark, Net};
 use std::alloc::AllocError;
 
 /// Why there are no greatest consistent domains.
