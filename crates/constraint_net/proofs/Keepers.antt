@@ -1,5 +1,5 @@
 -- What a network keeps stays so, and what its calls say of it.
-use Rattle.std.proofs.Common.{◌≡◌, ℕ, ◌+◌, ◌-◌, ◌<◌, ◌≤◌, ℤ, List, [], ◌∷◌, ◌++◌, length, take, set, get_or, pos, length-append, refl, sym, ap, ◌∙◌, subst, arith}
+use Rattle.std.proofs.Common.{◌≡◌, ℕ, ◌-◌, ◌<◌, ◌≤◌, ℤ, List, [], ◌∷◌, ◌++◌, length, take, get_or, pos, length-append, refl, sym, ap, ◌∙◌, subst, arith}
 use Rattle.std.specs.Prelude.{All, Vec, Result, Ok, Err}
 use Rattle.std.proofs.lemmas.List.{append-nil, length_push}
 use Rattle.std.proofs.lemmas.List.Elements.{All-append, All-cons, All-nil, All-push, All-set}
@@ -11,14 +11,12 @@ use Rattle.domain_core.specs.Narrowing.{Keeps}
 use Rattle.domain_core.specs.declared.Change.{Change}
 use Rattle.domain_core.specs.declared.Change.TheVariants.{Same, Smaller, Empty}
 use Rattle.domain_core.proofs.Words.{IsWithin-refl}
-use Rattle.cell_store.specs.Cells.{Celled, present, newest_of, domain_at, AddsCell, IsPlace, KeepsPast, GoesBack}
+use Rattle.cell_store.specs.Cells.{Celled, present, newest_of, domain_at, AddsCell, IsPlace, GoesBack}
 use Rattle.model_core.specs.declared.item.Kind.{Kind}
-use Rattle.model_core.specs.declared.item.Kind.TheVariants as kind
 use Rattle.narrow_core.specs.Laws.{LieWithin}
 use Rattle.narrow_core.specs.declared.field.Field.{Field}
-use Rattle.constraint_net.specs.Arguments.{IsArgument}
 use Rattle.constraint_net.specs.Calls.{AddsVar, Limits, GoesDown}
-use Rattle.constraint_net.specs.Limits.{LimitsAt, LimitsCell}
+use Rattle.constraint_net.specs.Limits.{LimitsCell}
 use Rattle.constraint_net.specs.Marks.{IsMark, CanReturn, Returns}
 use Rattle.constraint_net.specs.Moves.{IsSound, Sinks}
 use Rattle.constraint_net.specs.Networks.{Network, CanPost, cells_of}

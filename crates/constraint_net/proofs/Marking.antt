@@ -1,11 +1,10 @@
 -- Marks stay while the network goes on.
-use Rattle.std.proofs.Common.{◌≡◌, ℕ, ◌+◌, ◌-◌, ◌≤◌, List, [], ◌∷◌, ◌++◌, length, take, drop, append_assoc, length-append, refl, sym, ap, ◌∙◌, subst, arith}
+use Rattle.std.proofs.Common.{◌≡◌, ℕ, ◌+◌, ◌-◌, ◌≤◌, List, [], ◌∷◌, ◌++◌, length, take, drop, append_assoc, length-append, sym, ap, ◌∙◌, subst, arith}
 use Rattle.std.specs.Prelude.{Result, Ok, Err}
 use Rattle.std.specs.declared.alloc.AllocError.{AllocError}
 use Rattle.std.proofs.Math.Seq.{take-append-add}
 use Rattle.domain_core.specs.Domain.{Domain}
 use Rattle.domain_core.specs.declared.Change.{Change}
-use Rattle.cell_store.specs.Cells.{IsPlace}
 use Rattle.model_core.specs.declared.item.Kind.{Kind}
 use Rattle.constraint_net.specs.Calls.{AddsVar, Posts, Limits, GoesDown}
 use Rattle.constraint_net.specs.Marks.{IsMark, Returns}

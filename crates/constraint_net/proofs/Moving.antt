@@ -1,6 +1,6 @@
 -- Cells that move while domains get smaller.
-use Rattle.std.proofs.Common.{◌≡◌, ◌≢◌, ℕ, zero, suc, ◌+◌, ◌-◌, ◌^◌, ◌<◌, ◌≤◌, min, List, [], ◌∷◌, ◌++◌, length, take, drop, get_or, set, ◌⊎◌, inl, inr, pos, Some, slice_get, length-append, refl, sym, ap, ◌∙◌, subst, arith}
-use Rattle.std.specs.Prelude.{All, Contains, Result, Ok, Err, IfSome, OnOk}
+use Rattle.std.proofs.Common.{◌≡◌, ℕ, zero, suc, ◌+◌, ◌-◌, ◌^◌, ◌<◌, min, List, [], ◌∷◌, ◌++◌, length, take, drop, get_or, set, ◌⊎◌, inl, inr, pos, Some, slice_get, length-append, refl, sym, ap, ◌∙◌, subst, arith}
+use Rattle.std.specs.Prelude.{All, Contains, Result, Ok, Err, IfSome}
 use Rattle.std.specs.declared.alloc.AllocError.{AllocError}
 use Rattle.std.proofs.lemmas.List.{length-set, length-drop, take-append-drop, set-get_or, get_or-set_same, get_or-set_other}
 use Rattle.std.proofs.Math.Seq.{drop-append_seam}
@@ -12,7 +12,7 @@ use Rattle.domain_core.specs.declared.Change.TheVariants.{Same, Smaller, Empty}
 use Rattle.cell_store.specs.Cells.{Celled, present, domain_at, KeepsPast, WritesCell, FollowsDomain}
 use Rattle.narrow_core.specs.Laws.{LieWithin}
 use Rattle.constraint_net.specs.Limits.{LimitsAt, LimitsCell}
-use Rattle.constraint_net.specs.Moves.{IsSound, FollowsDown, Sinks, StayBut, SinksAt}
+use Rattle.constraint_net.specs.Moves.{IsSound, FollowsDown, Sinks, SinksAt}
 use Rattle.constraint_net.specs.Steps.{Advances, AdvancesTo, StepsTo, LiesIn}
 use Rattle.constraint_net.specs.declared.constraint.NetArg.{NetArg}
 use Rattle.constraint_net.specs.declared.constraint.NetArg.TheVariants.{Var}

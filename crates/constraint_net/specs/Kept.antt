@@ -1,5 +1,5 @@
 -- How a network is kept.
-use Rattle.std.specs.Prelude.{◌<◌, List, [], ◌∷◌, Vec, length}
+use Rattle.std.specs.Prelude.{List, [], ◌∷◌, Vec, length}
 use Rattle.std.specs.declared.alloc.Global.{Global}
 use Rattle.domain_core.specs.Domain.{Domain}
 use Rattle.cell_store.specs.Cells.{present}

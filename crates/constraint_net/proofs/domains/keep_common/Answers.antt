@@ -1,5 +1,4 @@
 use Rattle.constraint_net.proofs.Moving.{sinks_cell, steps_cell}
-use Rattle.cell_store.specs.Cells.{present}
 use Rattle.constraint_net.proofs.domains.keep_common.Goals as goal
 
 pub returns : goal.returns

@@ -1,5 +1,4 @@
-use Rattle.std.proofs.Common.{[], ◌∷◌, refl, subst, sym}
-use Rattle.constraint_net.specs.Moves.{SinksAt}
+use Rattle.std.proofs.Common.{[], ◌∷◌}
 use Rattle.constraint_net.proofs.Moving.{at_refl}
 use Rattle.constraint_net.proofs.domains.keep_left.Goals as goal
 

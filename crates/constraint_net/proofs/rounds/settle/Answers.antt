@@ -1,4 +1,4 @@
-use Rattle.std.proofs.Common.{◌≡◌, ◌-◌, length, sym, subst, arith}
+use Rattle.std.proofs.Common.{◌-◌, length, sym, subst, arith}
 use Rattle.cell_store.specs.Cells.{present}
 use Rattle.constraint_net.specs.Networks.{AllConsistent}
 use Rattle.constraint_net.proofs.Advancing.{advances_refl}

@@ -1,4 +1,4 @@
-use Rattle.std.proofs.Common.{◌≡◌, [], length, reverse, refl, sym, ap, ◌∙◌, arith}
+use Rattle.std.proofs.Common.{length, reverse, ap, arith}
 use Rattle.std.proofs.lemmas.List.{length-reverse}
 use Rattle.cell_store.specs.Cells.{Celled}
 use Rattle.cell_store.specs.Kept.{domains_of}

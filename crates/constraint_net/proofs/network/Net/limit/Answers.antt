@@ -1,5 +1,3 @@
-use Rattle.std.proofs.Common.{◌<◌, length, sym, subst}
-use Rattle.constraint_net.specs.Networks.{Network}
 use Rattle.constraint_net.proofs.Keepers.{limits_as}
 use Rattle.constraint_net.proofs.network.Net.limit.Goals as goal
 
