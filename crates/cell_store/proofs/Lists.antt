@@ -1,5 +1,5 @@
 -- Lists written at one place.
-use Rattle.std.proofs.Common.{◌≡◌, ◌≢◌, ℕ, zero, suc, ◌+◌, ◌-◌, ◌<◌, ◌≤◌, List, [], ◌∷◌, ◌++◌, length, take, slice_set, slice_index_or, refl, sym, ap, ◌∙◌, arith}
+use Rattle.std.proofs.Common.{◌≡◌, ◌≢◌, ℕ, zero, suc, List, [], ◌∷◌, slice_set, refl, ap}
 
 pub set-set : {X : Type 0} (list : List X) (place : ℕ) (one other : X) → slice_set (slice_set list place one) place other ≡ slice_set list place other
 set-set [] place one other = refl

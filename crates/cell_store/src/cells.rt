@@ -1,6 +1,6 @@
 //! Cells with a trail.
 
-ghost use Rattle.std.specs.Prelude.{◌≡◌, ◌<◌, [], ◌∷◌, length, option_copied, slice_get, IfOk, OnErr};
+ghost use Rattle.std.specs.Prelude.{◌≡◌, ◌+◌, ◌<◌, [], ◌∷◌, length, option_copied, slice_get, IfOk, OnErr};
 ghost use Rattle.cell_store.specs.Cells.{present, IsPlace, AddsCell, NarrowsCell, GoesBack};
 
 use super::trail::{Cell, Entry, go_back, meet_and_save, meet_at};
@@ -93,7 +93,8 @@ impl Cells {
 
     /// A mark at the cells as they are.
     pub fn mark(&self) -> Mark
-        ensures { IsPlace self.now result (present self.now) }
+        ensures place { IsPlace self.now result (present self.now) }
+        ensures newest { length self.now.past ≡ result + 1 }
     {
         Mark {
             place: self.trail.len(),

@@ -54,7 +54,7 @@ module _ (domains : List Domain) (variable : ℕ) (other is : Domain) (all : All
       length_of : (below : List Domain) → FitWithin fits domains below → length below ≡ length domains
       length_of below fit = within_length below domains fit.within
 
-  keeps_common : (change : Change) → IsDomain is → IsSameKind other was → Keeps (Has other) was change is → AdvancesTo fits domains change (set domains variable is)
+  pub keeps_common : (change : Change) → IsDomain is → IsSameKind other was → Keeps (Has other) was change is → AdvancesTo fits domains change (set domains variable is)
   keeps_common Same ok kind keeps = (unchanged keeps.0, within_tested other was was_is kind (refl, keeps.1))
   keeps_common Smaller ok kind keeps = (
     record {
@@ -71,10 +71,3 @@ module _ (domains : List Domain) (variable : ℕ) (other is : Domain) (all : All
   )
   keeps_common Empty ok kind keeps =
       (subst (λ s. Advances fits domains s) (sym (unchanged keeps.0)) (advances_refl fits domains all), none keeps.1)
-
--- the same, whatever stands for a missing variable
-pub met : (domains : List Domain) (variable : ℕ) (other is d : Domain) (change : Change) → All IsDomain domains → variable < length domains
-    → IsSameKind other (get_or domains variable (Range (pos 0) (pos 0))) → IsDomain is → Keeps (Has other) (get_or domains variable d) change is
-    → AdvancesTo (LiesIn (Var variable) other) domains change (set domains variable is)
-met domains variable other is d change all exists kind ok keeps =
-    keeps_common domains variable other is all exists change ok kind (subst (λ x. Keeps (Has other) x change is) (read_at domains variable (Range (pos 0) (pos 0)) d exists) keeps)

@@ -1,8 +1,10 @@
 pub mod Within
 pub mod Advancing
 pub mod Keeping
+pub mod Moving
 pub mod Spreading
 pub mod Passing
 pub mod Meaning
 pub mod Keepers
 pub mod Outcome
+pub mod Marking

@@ -9,7 +9,7 @@ use Rattle.domain_core.specs.declared.Change.{Change}
 use Rattle.domain_core.specs.declared.Change.TheVariants.{Same, Smaller, Empty}
 use Rattle.narrow_core.specs.Laws.{LieWithin}
 use Rattle.narrow_core.specs.declared.field.Field.{Field}
-use Rattle.constraint_net.specs.Networks.{IsConsistent, AllConsistent}
+use Rattle.constraint_net.specs.Networks.{IsConsistent, AllConsistent, CanPost}
 use Rattle.constraint_net.specs.Passes.{place_in_pass, IsConsistentAt, WerePosted}
 use Rattle.constraint_net.specs.Steps.{FitWithin, Advances, AdvancesTo, StepsTo, SettlesTo, FitBefore}
 use Rattle.constraint_net.specs.declared.constraint.Constraint.{Constraint}
@@ -101,6 +101,15 @@ module _ (tables : List Field) (constraints : List Constraint) (direction : Dire
 -- constraints that could be posted still can where there are as many variables
 pub still_posted : (tables : List Field) (constraints : List Constraint) (old new : List Domain) → LieWithin new old → WerePosted tables (length old) constraints → WerePosted tables (length new) constraints
 still_posted tables constraints old new within posted = subst (λ count. WerePosted tables count constraints) (sym (within_length new old within)) posted
+
+-- so can the one at a place
+pub posted_at : (tables : List Field) (constraints : List Constraint) (old new : List Domain) (place : ℕ) (constraint : Constraint) → LieWithin new old → WerePosted tables (length old) constraints
+    → place < length constraints → constraint ≡ get_or constraints place constraint → CanPost tables (length new) constraint.kind constraint.args
+posted_at tables constraints old new place constraint within posted below is =
+    subst (λ (x : Constraint). CanPost tables (length new) x.kind x.args) (sym is) (still_posted tables constraints old new within posted place constraint below)
+
+pub place_within : (direction : Direction) (step count place : ℕ) → place ≡ place_in_pass direction step count → step < count → place < count
+place_within direction step count place is below = omega (arith, is, place_below direction step count below)
 
 module _ (fits : List Domain → Type 0) (old middle new : List Domain) (so_far : Advances fits old middle) where
   pub goes_down : Advances fits middle new → Advances fits old new

@@ -1,6 +1,7 @@
 -- What is left of the arguments goes back to the variables.
 use Rattle.std.proofs.Common.{◌≡◌, ℕ, zero, suc, ◌+◌, ◌<◌, ◌≤◌, ℤ, List, [], ◌∷◌, ◌++◌, length, get_or, take, drop, Some, refl, sym, ap, ◌∙◌, subst, arith}
-use Rattle.std.specs.Prelude.{All, sum_by, slice_get}
+use Rattle.std.specs.Prelude.{All, sum_by, slice_get, Result, Ok, Err, IsErr}
+use Rattle.std.specs.declared.alloc.AllocError.{AllocError}
 use Rattle.std.proofs.lemmas.List.Elements.{All-head, All-tail, AllZip-get_or}
 use Rattle.std.proofs.lemmas.List.{length-map}
 use Rattle.std.proofs.lemmas.List.Sums.{sum_by-cons}
@@ -17,11 +18,11 @@ use Rattle.narrow_core.specs.Sweeps.{Sweeps}
 use Rattle.narrow_core.proofs.Below.{are_domains}
 use Rattle.narrow_core.proofs.Sweeping.{narrows}
 use Rattle.constraint_net.specs.Arguments.{IsArgument, domain_of, domains_of, AgreeAt}
-use Rattle.constraint_net.specs.Steps.{FitWithin, Advances, AdvancesTo, FitBefore, LiesIn, LiesAt}
+use Rattle.constraint_net.specs.Steps.{FitWithin, Advances, AdvancesTo, StepsTo, FitBefore, LiesIn, LiesAt}
 use Rattle.constraint_net.specs.declared.constraint.NetArg.{NetArg}
 use Rattle.constraint_net.specs.declared.constraint.NetArg.TheVariants.{Var, Lit}
 use Rattle.constraint_net.proofs.Within.{within_length, argument_along, argument_within, arguments_within, arguments_are}
-use Rattle.constraint_net.proofs.Advancing.{advances_same, advances_refl, one_more_to}
+use Rattle.constraint_net.proofs.Advancing.{advances_same, advances_refl, advances_trans, advanced, one_more_to}
 
 some_is : {X : Type 0} (one other : X) → Some one ≡ Some other → one ≡ other
 some_is one other e = cc e
@@ -68,6 +69,18 @@ step_at args left old middle new place outer one other both d are within below r
     let long : place < length left = omega (arith, below, within_length left (domains_of old args) within, length-map args (domain_of old)) in
     one_more_to (LiesAt args left) place old middle new one other both are is so_far
     (lies_at args left middle new place (get_or args place d) outer other (slice_get-get_or args place d below) (slice_get_read left (length left) place outer refl long read) step)
+
+-- where memory has run out at a place
+pub failed_at : (args : List NetArg) (left old middle new : List Domain) (place : ℕ) (outer : Domain) (one : Change) (answer : Result Change AllocError) (d : NetArg) → All IsDomain old → LieWithin left (domains_of old args)
+    → place < length args → outer ≡ get_or left place outer → IsErr answer
+    → AdvancesTo (FitBefore (LiesAt args left) place) old one middle → Advances (LiesIn (get_or args place d) outer) middle new
+    → StepsTo (FitBefore (LiesAt args left) (length args)) old answer new
+failed_at args left old middle new place outer one (Ok change) d are within below read failed so_far step = absurd (cc failed)
+failed_at args left old middle new place outer one (Err none) d are within below read failed so_far step =
+    let long : place < length left = omega (arith, below, within_length left (domains_of old args) within, length-map args (domain_of old)) in
+    advances_trans (FitBefore (LiesAt args left) place) (LiesIn (get_or args place d) outer) (FitBefore (LiesAt args left) (length args)) old middle new
+    (λ domains each. (λ k before. each k (omega arith), each place below (get_or args place d) outer (slice_get-get_or args place d below) (slice_get_read left (length left) place outer refl long read)))
+    (advanced (FitBefore (LiesAt args left) place) old middle one are so_far) step
 
 -- ---- the whole loop
 
@@ -139,10 +152,11 @@ module _ (reach : Reach) (holds : List ℤ → Type 0) (args : List NetArg) (old
   spread_to left new Smaller long left_are narrows step = (spread_on left new narrows step.0, step.1)
   spread_to left new Empty long left_are narrows step = (spread_on left new narrows step.0, λ below fit. step.1 below (in_left left narrows below fit))
 
-  -- after the variables have kept what is left of the arguments
-  pub spread_out : (gathered left new : List Domain) (change : Change) → gathered ≡ domains_of old args → (All IsDomain gathered → All IsDomain left) → Sweeps reach holds [] gathered Smaller left
-      → AdvancesTo (FitBefore (LiesAt args left) (length args)) old change new → AdvancesTo agree old change new
-  spread_out gathered left new change is ok sweep step =
+  -- after the variables have kept what is left of the arguments, or memory has run out on the way
+  pub spread_out : (gathered left new : List Domain) (result : Result Change AllocError) → gathered ≡ domains_of old args → (All IsDomain gathered → All IsDomain left) → Sweeps reach holds [] gathered Smaller left
+      → StepsTo (FitBefore (LiesAt args left) (length args)) old result new → StepsTo agree old result new
+  spread_out gathered left new (Ok change) is ok sweep step =
       let result = narrowed gathered left Smaller is ok sweep in
       let left_are = ok (subst (All IsDomain) (sym is) (arguments_are old args are exist)) in
       spread_to left new change (within_length left (domains_of old args) result.0 ∙ length-map args (domain_of old)) left_are result step
+  spread_out gathered left new (Err none) is ok sweep step = spread_on left new (narrowed gathered left Smaller is ok sweep) step

@@ -1,9 +1,10 @@
 -- What the calls of a network answer and leave.
-use Rattle.std.specs.Prelude.{◌≡◌, ℕ, ℤ, ◌<ℤ◌, List, [], ◌∷◌, ◌++◌, map, AllPairs, Result, Ok, Err}
+use Rattle.std.specs.Prelude.{◌≡◌, ℕ, ◌<◌, ℤ, ◌<ℤ◌, List, [], ◌∷◌, ◌++◌, length, map, slice_index_or, AllPairs, Result, Ok, Err}
 use Rattle.std.specs.declared.alloc.AllocError.{AllocError}
 use Rattle.domain_core.specs.Domain.{Domain}
 use Rattle.domain_core.specs.declared.Change.{Change}
 use Rattle.domain_core.specs.declared.Change.TheVariants.{Empty}
+use Rattle.cell_store.specs.Cells.{domain_at, FollowsDomain}
 use Rattle.model_core.specs.declared.item.Kind.{Kind}
 use Rattle.narrow_core.specs.declared.field.Field.{Field}
 use Rattle.narrow_core.specs.declared.field.FieldEntry.{FieldEntry}
@@ -29,9 +30,30 @@ Posts old kind args (Ok done) new =
     new ≡ record old { constraints = old.constraints ++ record { kind = kind; args = args } ∷ [] }
 Posts old kind args (Err none) new = new ≡ old
 
+-- a variable of this domain stands behind the others, and was never written; without memory nothing changes
+abbrev pub AddsVar : Domain → Network → Result ℕ AllocError → Network → Type 0
+AddsVar domain old (Ok number) new =
+    (number ≡ length old.domains) × (new ≡ record old {
+      domains = old.domains ++ domain ∷ [];
+      stamps = old.stamps ++ 0 ∷ [];
+      older = old.domains ∷ old.older;
+    })
+AddsVar domain old (Err none) new = new ≡ old
+
+-- domains have got less: tables and constraints are as before, the stamps follow the domains, and what could be gone
+-- back to still can
+pub record GoesDown (old new : Network) : Type 0 where
+  pub tables : new.tables ≡ old.tables
+  pub constraints : new.constraints ≡ old.constraints
+  pub past : (newer : List (List Domain)) × (new.domains ∷ new.older ≡ newer ++ old.domains ∷ old.older)
+  pub stamps : length new.stamps ≡ length old.stamps
+  pub follow : (variable : ℕ) → variable < length old.domains
+      → FollowsDomain (domain_at old.domains variable) (slice_index_or old.stamps variable 0)
+      (domain_at new.domains variable) (slice_index_or new.stamps variable 0)
+
 -- the variable keeps what the other domain has too; where that is nothing, and without memory, nothing changes
 abbrev pub Limits : Network → ℕ → Domain → Result Change AllocError → Network → Type 0
 Limits old variable to (Ok change) new =
-    LimitsAt old.domains variable to change new.domains × (new ≡ record old { domains = new.domains })
-    × (change ≡ Empty → new ≡ old)
+    LimitsAt old.domains variable to change new.domains × GoesDown old new
+    × (new.work ≡ old.work) × (change ≡ Empty → new ≡ old)
 Limits old variable to (Err none) new = new ≡ old

@@ -1,25 +1,34 @@
 -- How a network is kept.
-use Rattle.std.specs.Prelude.{All, Vec, length}
+use Rattle.std.specs.Prelude.{List, [], ◌∷◌, Vec, length}
 use Rattle.std.specs.declared.alloc.Global.{Global}
-use Rattle.domain_core.specs.Domain.{IsDomain}
+use Rattle.domain_core.specs.Domain.{Domain}
+use Rattle.cell_store.specs.Cells.{present}
 use Rattle.narrow_core.specs.declared.field.Field.{Field}
+use Rattle.constraint_net.specs.Moves.{IsSound}
 use Rattle.constraint_net.specs.Networks.{Network}
 use Rattle.constraint_net.specs.Passes.{WerePosted}
 use Rattle.constraint_net.specs.declared.constraint.Constraint.{Constraint}
 use Rattle.constraint_net.specs.declared.domains.Domains.{Domains}
 
+-- all lists but the first
+abbrev pub older_of : List (List Domain) → List (List Domain)
+older_of [] = []
+older_of (domains ∷ past) = past
+
 -- the network that is kept so
 abbrev pub network_of : Domains → Vec Field Global → Vec Constraint Global → Network
 network_of domains tables constraints =
     record {
-      domains = domains.variables.items;
+      domains = present domains.cells;
       tables = tables.items;
       constraints = constraints.items;
       work = domains.work;
+      stamps = domains.cells.stamps;
+      older = older_of domains.cells.past;
     }
 
--- each constraint could be posted, and the variables' domains are domains
+-- each constraint could be posted, and each variable has a domain and a stamp
 pub record IsKeptNet (domains : Domains) (tables : Vec Field Global)
     (constraints : Vec Constraint Global) : Type 0 where
-  pub posted : WerePosted tables.items (length domains.variables.items) constraints.items
-  pub are : All IsDomain domains.variables.items
+  pub posted : WerePosted tables.items (length (present domains.cells)) constraints.items
+  pub sound : IsSound 0 domains.cells

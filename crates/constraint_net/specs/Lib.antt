@@ -1,7 +1,9 @@
 pub mod Arguments
+pub mod Moves
 pub mod Steps
 pub mod Networks
 pub mod Passes
 pub mod Limits
 pub mod Calls
+pub mod Marks
 pub mod Kept

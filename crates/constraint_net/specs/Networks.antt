@@ -1,6 +1,7 @@
 -- Networks: variables with their domains, and the constraints on them.
 use Rattle.std.specs.Prelude.{◌≡◌, ◌≢◌, ℕ, ◌<◌, ℤ, pos, List, [], ◌∷◌, All, length, ⊤, slice_get, IsSomeAnd}
 use Rattle.domain_core.specs.Domain.{Domain}
+use Rattle.cell_store.specs.Cells.{Celled}
 use Rattle.model_core.specs.Constraints.{AgreeOn, arity_of}
 use Rattle.model_core.specs.declared.item.Kind.{Kind}
 use Rattle.model_core.specs.declared.item.Kind.TheVariants as kind
@@ -12,12 +13,19 @@ use Rattle.constraint_net.specs.declared.constraint.NetArg.TheVariants.{Lit}
 use Rattle.constraint_net.specs.declared.constraint.Constraint.{Constraint}
 
 -- a network: the domains of its variables, the tables of fields, the constraints in the order in which they were
--- posted, and how many narrowings it has made
+-- posted, how many narrowings it has made, how often each domain was written, and the lists of domains before the
+-- present one that can be gone back to
 pub record Network : Type 0 where
   pub domains : List Domain
   pub tables : List Field
   pub constraints : List Constraint
   pub work : ℕ
+  pub stamps : List ℕ
+  pub older : List (List Domain)
+
+-- its variables as cells
+abbrev pub cells_of : Network → Celled
+cells_of net = record { past = net.domains ∷ net.older; stamps = net.stamps }
 
 -- the table of this number gives the object this value
 abbrev pub field_of : List Field → ℕ → ℤ → ℤ → Type 0

@@ -1,23 +1,26 @@
 //! The domains of the variables, and what one constraint takes from them.
 
-ghost use Rattle.std.specs.Prelude.{◌≡◌, ◌<◌, ◌≤◌, [], ◌∷◌, ◌++◌, All, IfOk, OnOk, OnErr, length};
+ghost use Rattle.std.specs.Prelude.{◌≡◌, ◌-◌, ◌<◌, ◌≤◌, [], ◌∷◌, All, IfOk, OnOk, length};
 ghost use Rattle.domain_core.specs.Domain.{IsDomain, IsSameKind};
+ghost use Rattle.cell_store.specs.Cells.{present, AddsCell};
 ghost use Rattle.narrow_core.specs.Laws.{LieWithin};
 ghost use Rattle.constraint_net.specs.Arguments.{IsArgument, domain_of, domains_of, AgreeAt};
-ghost use Rattle.constraint_net.specs.Limits.{LimitsAt};
-ghost use Rattle.constraint_net.specs.Steps.{AdvancesTo, StepsTo, FitBefore, LiesIn, LiesAt};
+ghost use Rattle.constraint_net.specs.Limits.{LimitsAt, LimitsCell};
+ghost use Rattle.constraint_net.specs.Moves.{IsSound, SinksAt};
+ghost use Rattle.constraint_net.specs.Steps.{StepsTo, FitBefore, LiesIn, LiesAt};
 ghost use Rattle.constraint_net.specs.declared.constraint.NetArg.TheVariants as arg;
 
 use super::constraint::NetArg;
+use cell_store::{Cells, Mark};
 use domain_core::Change;
 use domain_core::domain::Dom;
 use narrow_core::narrow::Narrow;
 use std::alloc::{AllocError, Global};
 
-/// The domains of the variables, by number.
+/// The domains of the variables, in cells of the same numbers.
 #[derive(Drop)]
 pub struct Domains {
-    pub variables: Vec<Dom>,
+    pub cells: Cells,
     /// How many narrowings there were; it stays at the greatest number.
     pub work: u64,
     // The arguments of the constraint that is narrowed.
@@ -26,11 +29,11 @@ pub struct Domains {
 
 impl Domains {
     pub fn new(alloc: Global) -> Domains
-        ensures variables { result.variables.items ≡ [] }
+        ensures cells { result.cells ≡ record { past = [] ∷ []; stamps = [] } }
         ensures work { result.work ≡ 0 }
     {
         Domains {
-            variables: Vec::new(alloc),
+            cells: Cells::new(alloc),
             work: 0,
             room: Vec::new(alloc),
         }
@@ -38,25 +41,23 @@ impl Domains {
 
     /// Adds a variable, and answers its number.
     pub fn add(&mut self, domain: Dom) -> Result<usize, AllocError>
-        ensures ok { IfOk result (λ number. (number ≡ length self.old.variables.items)
-            × (self.new.variables.items ≡ self.old.variables.items ++ domain ∷ [])) }
-        ensures err { OnErr result (self.new.variables.items ≡ self.old.variables.items) }
+        ensures added { AddsCell domain self.old.cells result self.new.cells }
         ensures work { self.new.work ≡ self.old.work }
         ensures domain { IsDomain domain }
     {
         keeps_itself(&domain);
-        let number = self.variables.len();
-        self.variables.push(domain)?;
-        Ok(number)
+        self.cells.new_cell(domain)
     }
 
     /// Keeps of one variable what the other domain has too.
-    pub fn limit(&mut self, variable: usize, to: &Dom) -> Change
-        requires { variable < length self.old.variables.items }
-        ensures limited { LimitsAt self.old.variables.items variable to.now result self.new.variables.items }
+    pub fn limit(&mut self, variable: usize, to: &Dom) -> Result<Change, AllocError>
+        requires exists { variable < length (present self.old.cells) }
+        requires past { 0 < length self.old.cells.past }
+        ensures limited { LimitsCell variable to.now (length self.old.cells.past - 1) self.old.cells result self.new.cells }
         ensures work { self.new.work ≡ self.old.work }
     {
-        self.variables[variable].meet_set(to)
+        let since = self.cells.mark();
+        limit_cell(&mut self.cells, variable, to, since)
     }
 
     /// Takes from the variables among the arguments what the constraint takes from the arguments. A variable that
@@ -65,43 +66,48 @@ impl Domains {
         &mut self,
         constraint: &C,
         args: &[NetArg],
+        since: Mark,
     ) -> Result<Change, AllocError>
         requires count { length args.now ≡ C.count constraint.now }
-        requires domains { All IsDomain self.old.variables.items }
-        requires arguments { All (IsArgument (length self.old.variables.items)) args.now }
+        requires sound { IsSound since self.old.cells }
+        requires arguments { All (IsArgument (length (present self.old.cells))) args.now }
         ensures steps { StepsTo (AgreeAt (C.reach constraint.now) (C.holds constraint.now) args.now)
-            self.old.variables.items result self.new.variables.items }
+            (present self.old.cells) result (present self.new.cells) }
+        ensures sinks { SinksAt args.now since self.old.cells self.new.cells }
         ensures counted { self.old.work ≤ self.new.work }
     {
-        gather(args, self.variables.as_slice(), &mut self.room)?;
+        gather(args, &self.cells, &mut self.room)?;
         self.work = self.work.saturating_add(1);
         let change = constraint.narrow(self.room.as_mut_slice());
         if let Change::Smaller = change {
-            return Ok(spread(args, self.room.as_slice(), self.variables.as_mut_slice()));
+            return spread(args, self.room.as_slice(), &mut self.cells, since);
         }
         Ok(change)
     }
 }
 
 // Brings copies of the arguments' domains together.
-fn gather(args: &[NetArg], variables: &[Dom], room: &mut Vec<Dom>) -> Result<(), AllocError>
-    requires { All (IsArgument (length variables.now)) args.now }
-    ensures { OnOk result (room.new.items ≡ domains_of variables.now args.now) }
+fn gather(args: &[NetArg], cells: &Cells, room: &mut Vec<Dom>) -> Result<(), AllocError>
+    requires { All (IsArgument (length (present cells.now))) args.now }
+    ensures { OnOk result (room.new.items ≡ domains_of (present cells.now) args.now) }
 {
     room.clear();
     for arg in args {
-        room.push(copy_of(*arg, variables)?)?;
+        room.push(copy_of(*arg, cells)?)?;
     }
     Ok(())
 }
 
 // A copy of the argument's domain.
-fn copy_of(arg: NetArg, variables: &[Dom]) -> Result<Dom, AllocError>
-    requires { IsArgument (length variables.now) arg }
-    ensures { IfOk result (λ copied. copied ≡ domain_of variables.now arg) }
+fn copy_of(arg: NetArg, cells: &Cells) -> Result<Dom, AllocError>
+    requires { IsArgument (length (present cells.now)) arg }
+    ensures { IfOk result (λ copied. copied ≡ domain_of (present cells.now) arg) }
 {
     match arg {
-        NetArg::Var(variable) => variables[variable].copy(),
+        NetArg::Var(variable) => match cells.get(variable) {
+            Some(domain) => domain.copy(),
+            None => unreachable!(),
+        },
         NetArg::Lit(value) => match Dom::range(value, value) {
             Some(domain) => Ok(domain),
             None => unreachable!(),
@@ -110,44 +116,75 @@ fn copy_of(arg: NetArg, variables: &[Dom]) -> Result<Dom, AllocError>
 }
 
 // Keeps of each variable what its places among the arguments have left.
-fn spread(args: &[NetArg], left: &[Dom], variables: &mut [Dom]) -> Change
-    requires domains { All IsDomain variables.old }
-    requires arguments { All (IsArgument (length variables.old)) args.now }
-    requires within { LieWithin left.now (domains_of variables.old args.now) }
-    ensures { AdvancesTo (FitBefore (LiesAt args.now left.now) (length args.now)) variables.old result variables.new }
+fn spread(
+    args: &[NetArg],
+    left: &[Dom],
+    cells: &mut Cells,
+    since: Mark,
+) -> Result<Change, AllocError>
+    requires sound { IsSound since cells.old }
+    requires arguments { All (IsArgument (length (present cells.old))) args.now }
+    requires within { LieWithin left.now (domains_of (present cells.old) args.now) }
+    ensures steps { StepsTo (FitBefore (LiesAt args.now left.now) (length args.now))
+        (present cells.old) result (present cells.new) }
+    ensures sinks { SinksAt args.now since cells.old cells.new }
 {
     let mut change = Change::Same;
     for (place, arg) in args.iter().enumerate() {
-        change = change.then(keep_left(*arg, &left[place], variables));
+        change = change.then(keep_left(*arg, &left[place], cells, since)?);
         if let Change::Empty = change {
-            return Change::Empty;
+            return Ok(Change::Empty);
         }
     }
-    change
+    Ok(change)
 }
 
 // Keeps what is left of the argument, if it is a variable.
-fn keep_left(arg: NetArg, left: &Dom, variables: &mut [Dom]) -> Change
-    requires domains { All IsDomain variables.old }
-    requires argument { IsArgument (length variables.old) arg }
-    requires kind { IsSameKind left.now (domain_of variables.old arg) }
-    ensures { AdvancesTo (LiesIn arg left.now) variables.old result variables.new }
+fn keep_left(arg: NetArg, left: &Dom, cells: &mut Cells, since: Mark) -> Result<Change, AllocError>
+    requires sound { IsSound since cells.old }
+    requires argument { IsArgument (length (present cells.old)) arg }
+    requires kind { IsSameKind left.now (domain_of (present cells.old) arg) }
+    ensures steps { StepsTo (LiesIn arg left.now) (present cells.old) result (present cells.new) }
+    ensures sinks { SinksAt (arg ∷ []) since cells.old cells.new }
 {
     match arg {
-        NetArg::Var(variable) => return keep_common(variables, variable, left),
-        NetArg::Lit(_) => return Change::Same,
+        NetArg::Var(variable) => return keep_common(cells, variable, left, since),
+        NetArg::Lit(_) => return Ok(Change::Same),
     }
 }
 
 // Keeps of one variable what the other domain has too.
-fn keep_common(variables: &mut [Dom], variable: usize, other: &Dom) -> Change
-    requires domains { All IsDomain variables.old }
-    requires exists { variable < length variables.old }
-    requires kind { IsSameKind other.now (domain_of variables.old (arg.Var variable)) }
-    ensures { AdvancesTo (LiesIn (arg.Var variable) other.now) variables.old result variables.new }
+fn keep_common(
+    cells: &mut Cells,
+    variable: usize,
+    other: &Dom,
+    since: Mark,
+) -> Result<Change, AllocError>
+    requires sound { IsSound since cells.old }
+    requires exists { variable < length (present cells.old) }
+    requires kind { IsSameKind other.now (domain_of (present cells.old) (arg.Var variable)) }
+    ensures steps { StepsTo (LiesIn (arg.Var variable) other.now) (present cells.old) result (present cells.new) }
+    ensures sinks { SinksAt (arg.Var variable ∷ []) since cells.old cells.new }
 {
-    let domain = &mut variables[variable];
-    domain.meet_set(other)
+    limit_cell(cells, variable, other, since)
+}
+
+// The same, as the cells say it.
+fn limit_cell(
+    cells: &mut Cells,
+    variable: usize,
+    to: &Dom,
+    since: Mark,
+) -> Result<Change, AllocError>
+    requires exists { variable < length (present cells.old) }
+    requires since { since < length cells.old.past }
+    ensures { LimitsCell variable to.now since cells.old result cells.new }
+{
+    let change = cells.narrow(variable, to, since)?;
+    if let Some(left) = cells.get(variable) {
+        keeps_itself(left);
+    }
+    Ok(change)
 }
 
 // What a domain is always: `Dom` keeps it, and its calls say it.

@@ -1,11 +1,18 @@
 //! Laws of settling, for whoever speaks of it without calling it.
 
-ghost use Rattle.std.specs.Prelude.{◌≡◌, List, Result, Ok, Err};
+ghost use Rattle.std.specs.Prelude.{◌≡◌, ℕ, ◌≤◌, List, Result, Ok, Err};
+ghost use Rattle.std.specs.declared.alloc.AllocError.{AllocError};
 ghost use Rattle.domain_core.specs.Domain.{Domain};
 ghost use Rattle.narrow_core.specs.declared.field.Field.{Field};
-ghost use Rattle.constraint_net.specs.Networks.{AllConsistent};
+ghost use Rattle.domain_core.specs.declared.Change.{Change};
+ghost use Rattle.model_core.specs.declared.item.Kind.{Kind};
+ghost use Rattle.constraint_net.specs.Calls.{AddsVar, Posts, Limits, GoesDown};
+ghost use Rattle.constraint_net.specs.Marks.{IsMark, KeepMarks, Returns};
+ghost use Rattle.constraint_net.specs.Networks.{Network, AllConsistent};
 ghost use Rattle.constraint_net.specs.Steps.{SettlesTo};
 ghost use Rattle.constraint_net.specs.declared.constraint.Constraint.{Constraint};
+ghost use Rattle.constraint_net.specs.declared.constraint.NetArg.{NetArg};
+ghost use Rattle.constraint_net.specs.declared.network.Mark.{Mark};
 ghost use Rattle.constraint_net.specs.declared.NetFault.TheVariants.{Collapsed, Memory};
 ghost use Rattle.constraint_net.specs.declared.NetFault.{NetFault};
 
@@ -26,4 +33,18 @@ pub fn settling_is_taken_up()
         → SettlesTo (AllConsistent tables constraints) old (Err Memory) middle
         → SettlesTo (AllConsistent tables constraints) middle result new
         → SettlesTo (AllConsistent tables constraints) old result new }
+{}
+
+/// A mark stays one of the same domains and constraints, until the network goes back behind it.
+pub fn marks_stay()
+    ensures added { (old new : Network) (domain : Domain) (result : Result ℕ AllocError)
+        → AddsVar domain old result new → KeepMarks old new }
+    ensures posted { (old new : Network) (kind : Kind) (args : List NetArg) (result : Result (Unit {0}) AllocError)
+        → Posts old kind args result new → KeepMarks old new }
+    ensures limited { (old new : Network) (variable : ℕ) (to : Domain) (result : Result Change AllocError)
+        → Limits old variable to result new → KeepMarks old new }
+    ensures settled { (old new : Network) → GoesDown old new → KeepMarks old new }
+    ensures returned { (old new : Network) (mark later : Mark) (domains : List Domain) (constraints : List Constraint)
+        → IsMark old mark domains constraints → mark.cells ≤ later.cells → mark.constraints ≤ later.constraints
+        → Returns later old new → IsMark new mark domains constraints }
 {}

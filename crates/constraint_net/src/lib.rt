@@ -2,7 +2,8 @@
 //! consistent.
 //!
 //! `let x = net.add_var(domain)?` adds a variable, and `net.post(Kind::Leq, &[NetArg::Var(x), NetArg::Lit(5)])?` a
-//! constraint on it. After `net.settle_all()?` its domain is `net.get(x)`.
+//! constraint on it. After `net.settle_all()?` its domain is `net.get(x)`. With `let mark = net.mark()` before, the call
+//! `net.back_to(mark)` brings back what was there, and `net.stamp(x)` tells how often the domain was written.
 #![tactic(auto)]
 
 pub mod constraint;
@@ -13,7 +14,7 @@ pub mod network;
 mod rounds;
 
 pub use constraint::NetArg;
-pub use network::Net;
+pub use network::{Mark, Net};
 use std::alloc::AllocError;
 
 /// Why there are no greatest consistent domains.

@@ -5,12 +5,14 @@ ghost use Rattle.std.specs.Prelude.{slice_get};
 ghost use Rattle.domain_core.specs.Domain.{IsDomain};
 ghost use Rattle.constraint_net.specs.Networks.{CanPost, AllConsistent};
 ghost use Rattle.constraint_net.specs.Steps.{SettlesTo};
-ghost use Rattle.constraint_net.specs.Calls.{IsAscending, given_by, table_of, Limits, Posts};
+ghost use Rattle.constraint_net.specs.Calls.{IsAscending, given_by, table_of, AddsVar, Limits, Posts, GoesDown};
+ghost use Rattle.constraint_net.specs.Marks.{IsMark, CanReturn, Returns};
 
 use super::NetFault;
 use super::constraint::{Constraint, NetArg};
 use super::domains::Domains;
 use super::rounds::settle;
+use cell_store::Mark as CellMark;
 use domain_core::Change;
 use domain_core::domain::Dom;
 use eu_name::sequence::Sequence;
@@ -27,6 +29,13 @@ pub struct Net {
     constraints: Vec<Constraint>,
 }
 
+/// A point to which a network can go back, as long as it hasn't gone back to one before it.
+#[derive(Clone, Copy)]
+pub struct Mark {
+    cells: CellMark,
+    constraints: usize,
+}
+
 impl Model for Net {
     ghost use Rattle.constraint_net.specs.Networks.{Network};
     ghost use Rattle.constraint_net.specs.Kept.{network_of, IsKeptNet};
@@ -41,7 +50,7 @@ impl Model for Net {
 impl Net {
     /// A network without variables, which takes no memory.
     pub fn new(alloc: Global) -> Net
-        ensures { result ≡ record { domains = []; tables = []; constraints = []; work = 0 } }
+        ensures { result ≡ record { domains = []; tables = []; constraints = []; work = 0; stamps = []; older = [] } }
     {
         Net {
             domains: Domains::new(alloc),
@@ -66,9 +75,7 @@ impl Net {
 
     /// Adds a variable with this domain, and answers its number.
     pub fn add_var(&mut self, domain: Dom) -> Result<usize, AllocError>
-        ensures ok { IfOk result (λ number. (number ≡ length self.old.domains)
-            × (self.new ≡ record self.old { domains = self.old.domains ++ domain ∷ [] })) }
-        ensures err { OnErr result (self.new ≡ self.old) }
+        ensures added { AddsVar domain self.old result self.new }
         ensures domain { IsDomain domain }
     {
         self.domains.add(domain)
@@ -92,7 +99,7 @@ impl Net {
         requires { variable < length self.old.domains }
         ensures { Limits self.old variable to.now result self.new }
     {
-        Ok(self.domains.limit(variable, to))
+        self.domains.limit(variable, to)
     }
 
     /// The domain of the variable. None where there is no such variable.
@@ -100,17 +107,26 @@ impl Net {
         ensures { MatchOption result (length self.now.domains ≤ variable)
             (λ domain. slice_get self.now.domains variable ≡ Some domain.now) }
     {
-        self.domains.variables.get(variable)
+        self.domains.cells.get(variable)
+    }
+
+    /// How often the variable's domain was written; the number stays at the greatest. None where there is no such
+    /// variable.
+    pub fn stamp(&self, variable: usize) -> Option<u64>
+        ensures { MatchOption result (length self.now.domains ≤ variable)
+            (λ stamp. slice_get self.now.stamps variable ≡ Some stamp) }
+    {
+        self.domains.cells.stamp(variable)
     }
 
     /// Takes values away until all constraints are consistent. After Collapsed and Memory some values may be gone;
-    /// after Memory the call may be made again.
+    /// after Memory the call may be made again, and after Collapsed only `back_to` brings values back.
     pub fn settle_all(&mut self) -> Result<(), NetFault>
         ensures settled { SettlesTo (AllConsistent self.old.tables self.old.constraints)
             self.old.domains result self.new.domains }
         ensures domains { All IsDomain self.new.domains }
         ensures variables { length self.new.domains ≡ length self.old.domains }
-        ensures others { self.new ≡ record self.old { domains = self.new.domains; work = self.new.work } }
+        ensures others { GoesDown self.old self.new }
         ensures counted { self.old.work ≤ self.new.work }
     {
         settle(
@@ -120,7 +136,26 @@ impl Net {
         )
     }
 
-    /// How many narrowings the network has made. It stays at the greatest number.
+    /// A mark at the network as it is.
+    pub fn mark(&self) -> Mark
+        ensures { IsMark self.now result self.now.domains self.now.constraints }
+    {
+        Mark {
+            cells: self.domains.cells.mark(),
+            constraints: self.constraints.len(),
+        }
+    }
+
+    /// Brings back the variables, their domains and the constraints at the mark, without memory.
+    pub fn back_to(&mut self, mark: Mark)
+        requires { CanReturn self.old mark }
+        ensures { Returns mark self.old self.new }
+    {
+        self.domains.cells.back_to(mark.cells);
+        self.constraints.truncate(mark.constraints);
+    }
+
+    /// How many narrowings the network has made. It stays at the greatest number, and nothing is taken back.
     pub fn work(&self) -> u64
         ensures { result ≡ self.now.work }
     {

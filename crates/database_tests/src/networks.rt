@@ -1,11 +1,13 @@
 //! Networks: that there is memory for each call, which no clause says, what settling leaves in rows worked out by
 //! hand, and how many narrowings it takes.
 
-ghost use Rattle.std.specs.Prelude.{◌≡◌, length};
+ghost use Rattle.std.specs.Prelude.{◌≡◌, ◌<◌, length};
+ghost use Rattle.constraint_net.specs.Marks.{KeepMarks};
 
 use super::shapes::Written::{Ends, Members};
 use super::shapes::{Shape, Written, made, shape};
 use constraint_net::NetArg::{Lit, Var};
+use constraint_net::laws::marks_stay;
 use constraint_net::{Net, NetFault};
 use domain_core::domain::{GREATEST_VALUE, LEAST_VALUE};
 use domain_core::{Change, Dom};
@@ -221,4 +223,83 @@ fn a_chain_takes_three_narrowings_a_variable(rt: HostRuntime) {
     assert!(rt; settled);
     assert!(rt; spent <= 300, "{spent}");
     assert_eq!(rt; last, Some((true, 7, 1000, 994)));
+}
+
+/// Limits the variable, where there is one, and keeps the marks.
+fn keep(net: &mut Net, variable: usize, to: &Dom) -> bool
+    ensures { KeepMarks net.old net.new }
+{
+    marks_stay();
+    if net.get(variable).is_none() {
+        return true;
+    }
+    net.limit(variable, to).is_ok()
+}
+
+/// Settles, and keeps the marks.
+fn settle(net: &mut Net) -> Option<NetFault>
+    ensures { KeepMarks net.old net.new }
+{
+    marks_stay();
+    net.settle_all().err()
+}
+
+/// Whether there was memory, what settling says twice, what a variable may be before and after going back, and how
+/// often variables were written.
+type Visited = (
+    [bool; 2],
+    [Option<NetFault>; 2],
+    [Option<Shape>; 2],
+    [Option<u64>; 3],
+);
+
+/// Settling after the first and the third variable became less, settling again, and the third before and after going
+/// back, with how often it and the fourth were written.
+fn there_and_back(net: &mut Net, first: &Dom, third: &Dom) -> Visited {
+    let mark = net.mark();
+    let low = keep(net, 0, first);
+    let high = keep(net, 2, third);
+    let faults = [settle(net), settle(net)];
+    let inside = left(net, 2);
+    let risen = net.stamp(2);
+    net.back_to(mark);
+    (
+        [low, high],
+        faults,
+        [inside, left(net, 2)],
+        [risen, net.stamp(2), net.stamp(3)],
+    )
+}
+
+/// Going there and back on a chain of three, and a fourth variable by itself: the faults, what the third may be, how
+/// often it and the fourth were written, and whether the network settles after going back.
+fn back_run(alloc: Global, first: (i32, i32), third: (i32, i32)) -> Option<(Visited, bool)> {
+    let mut net = Net::new(alloc);
+    if !make_chain(&mut net, alloc, 3) || add(&mut net, alloc, Ends(0, 9)) != Some(3) {
+        return None;
+    }
+    let first = Dom::range(first.0, first.1)?;
+    let third = Dom::range(third.0, third.1)?;
+    let visited = there_and_back(&mut net, &first, &third);
+    Some((visited, net.settle_all().is_ok()))
+}
+
+#[test]
+fn a_chain_goes_back_to_a_mark(rt: HostRuntime) {
+    let shapes = [Some((true, 7, 1000, 994)), Some((true, 0, 1000, 1001))];
+    let visited = (
+        [true, true],
+        [None, None],
+        shapes,
+        [Some(1), Some(2), Some(0)],
+    );
+    assert!(rt; back_run(rt.alloc(), (7, 9), (0, 1000)) == Some((visited, true)));
+}
+
+#[test]
+fn a_collapsed_chain_settles_after_going_back(rt: HostRuntime) {
+    let faults = [Some(NetFault::Collapsed), Some(NetFault::Collapsed)];
+    let shapes = [Some((true, 0, 5, 6)), Some((true, 0, 1000, 1001))];
+    let visited = ([true, true], faults, shapes, [Some(1), Some(2), Some(0)]);
+    assert!(rt; back_run(rt.alloc(), (7, 9), (0, 5)) == Some((visited, true)));
 }

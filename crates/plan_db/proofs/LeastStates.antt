@@ -23,7 +23,7 @@ use Rattle.constraint_net.specs.declared.NetFault.{NetFault}
 use Rattle.constraint_net.specs.declared.NetFault.TheVariants.{Collapsed, Memory}
 use Rattle.constraint_net.proofs.Within.{within_at, within_length}
 use Rattle.plan_db.specs.Kept.{global_state, HasOrder}
-use Rattle.plan_db.specs.Nets.{IsNetOf, IsPosted, GrantsAll, LeavesNet}
+use Rattle.plan_db.specs.Nets.{IsNetOf, AsksAlike, IsPosted, GrantsAll, LeavesNet}
 use Rattle.plan_db.proofs.Positions.{gives_at, given_at, are_state}
 use Rattle.plan_db.proofs.Zipped.{zip_left}
 use Rattle.plan_db.proofs.Claiming.{claim_consistent}
@@ -113,10 +113,12 @@ module _ (model : Model) (decisions : List Decision) (net : Network) (lawful : I
   grants_fail Collapsed new granted = collapsed_from_none (λ below fit. granted.1 below (record { are = fit.are; within = fit.within; fit = fit.fit.0 }))
   grants_fail Memory new granted = tt
 
-  module _ (granted : Network) (others : granted ≡ record net { domains = granted.domains }) (first : SettlesTo (GrantsAll decisions) net.domains (Ok tt) granted.domains) where
+  module _ (granted : Network) (others : AsksAlike net granted) (first : SettlesTo (GrantsAll decisions) net.domains (Ok tt) granted.domains) where
     -- the constraints of the network are those that were posted before
     of_net : (result : Result (Unit {0}) NetFault) (new : List Domain) → SettlesTo (AllConsistent granted.tables granted.constraints) granted.domains result new → SettlesTo (AllConsistent net.tables net.constraints) granted.domains result new
-    of_net result new = subst (λ (n : Network). SettlesTo (AllConsistent n.tables n.constraints) granted.domains result new) others
+    of_net result new step =
+        subst (λ list. SettlesTo (AllConsistent net.tables list) granted.domains result new) others.constraints
+        (subst (λ tables. SettlesTo (AllConsistent tables granted.constraints) granted.domains result new) others.tables step)
 
     both_fail : (fault : NetFault) (new : List Domain) → SettlesTo (fits model decisions net lawful built is) net.domains (Err fault) new → LeavesNet model decisions (Err fault)
     both_fail Collapsed new settled = collapsed_from_none settled.1

@@ -50,6 +50,11 @@ pub record IsNetOf (model : Model) (net : Network) : Type 0 where
   pub domains : All IsDomain net.domains
   pub posted : AllZip IsPosted model.problem.items net.constraints
 
+-- the other network asks of its variables what the first does
+pub record AsksAlike (one other : Network) : Type 0 where
+  pub tables : other.tables ≡ one.tables
+  pub constraints : other.constraints ≡ one.constraints
+
 -- in these domains of the globals the decision is granted
 abbrev pub Grants : Decision → List Domain → Type 0
 Grants decision domains = IsRespected decision (global_state domains)

@@ -8,7 +8,7 @@ ghost use Rattle.model_core.specs.Lawful.{IsLawful};
 ghost use Rattle.plan_db.specs.Built.{IsBuilt};
 ghost use Rattle.constraint_net.specs.Steps.{SettlesTo};
 ghost use Rattle.plan_db.specs.Kept.{IsLeastNet, HasOrder};
-ghost use Rattle.plan_db.specs.Nets.{Grants, GrantsAll, LeavesNet};
+ghost use Rattle.plan_db.specs.Nets.{AsksAlike, Grants, GrantsAll, LeavesNet};
 
 use super::problem_net::problem_net;
 use constraint_net::{Net, NetFault};
@@ -65,7 +65,7 @@ fn has_order(decisions: &[Decision]) -> bool
 fn grant_all(decisions: &[Decision], net: &mut Net) -> Result<(), NetFault>
     requires { All IsDomain net.old.domains }
     ensures granted { SettlesTo (GrantsAll decisions.now) net.old.domains result net.new.domains }
-    ensures others { net.new ≡ record net.old { domains = net.new.domains } }
+    ensures others { AsksAlike net.old net.new }
 {
     for decision in decisions {
         grant(decision, net)?;
@@ -77,7 +77,7 @@ fn grant_all(decisions: &[Decision], net: &mut Net) -> Result<(), NetFault>
 fn grant(decision: &Decision, net: &mut Net) -> Result<(), NetFault>
     requires { All IsDomain net.old.domains }
     ensures granted { SettlesTo (Grants decision.now) net.old.domains result net.new.domains }
-    ensures others { net.new ≡ record net.old { domains = net.new.domains } }
+    ensures others { AsksAlike net.old net.new }
 {
     match specified_global(decision) {
         Some((number, value)) => specify(number as usize, value, net),
@@ -89,7 +89,7 @@ fn grant(decision: &Decision, net: &mut Net) -> Result<(), NetFault>
 fn specify(variable: usize, value: i32, net: &mut Net) -> Result<(), NetFault>
     requires { All IsDomain net.old.domains }
     ensures granted { SettlesTo (Grants (Specify (VarName.Global variable) value)) net.old.domains result net.new.domains }
-    ensures others { net.new ≡ record net.old { domains = net.new.domains } }
+    ensures others { AsksAlike net.old net.new }
 {
     let Some(_declared) = net.get(variable) else {
         return Ok(());

@@ -1,7 +1,8 @@
-use Rattle.constraint_net.proofs.Keeping.{met}
+use Rattle.constraint_net.proofs.Moving.{sinks_cell, steps_cell}
 use Rattle.constraint_net.proofs.domains.keep_common.Goals as goal
 
 pub returns : goal.returns
-returns c =
-    met c.args.variables.now c.args.variable c.args.other.now c.meet_set.new.self c.index-variables-variable.result c.meet_set.result
-    c.requires.domains c.requires.exists c.requires.kind c.meet_set.ensures.domain c.meet_set.ensures.kept
+returns c = record {
+  steps = steps_cell c.args.variable c.args.other.now c.args.since c.args.cells.now c.limit_cell.new.cells c.limit_cell.result c.requires.sound.are c.requires.exists c.requires.kind c.limit_cell.ensures;
+  sinks = sinks_cell c.args.variable c.args.other.now c.args.since c.args.cells.now c.limit_cell.new.cells c.limit_cell.result c.requires.sound c.requires.exists c.limit_cell.ensures;
+}

@@ -1,36 +1,80 @@
 use Rattle.std.proofs.Common.{◌<◌, length, get_or, arith}
 use Rattle.std.proofs.lemmas.List.{length-map}
 use Rattle.std.proofs.lemmas.Option.{slice_get-get_or}
+use Rattle.cell_store.specs.Cells.{present}
 use Rattle.constraint_net.specs.Arguments.{domain_of, domains_of}
 use Rattle.constraint_net.specs.Steps.{FitBefore, LiesAt}
 use Rattle.constraint_net.specs.declared.constraint.NetArg.TheVariants as arg
-use Rattle.constraint_net.proofs.Within.{within_length}
-use Rattle.constraint_net.proofs.Advancing.{advanced, stopped}
-use Rattle.constraint_net.proofs.Spreading.{kind_at, step_at}
+use Rattle.constraint_net.proofs.Within.{within_length, argument_along}
+use Rattle.constraint_net.proofs.Advancing.{advanced, stopped, none_yet}
+use Rattle.constraint_net.proofs.Keeping.{read_at}
+use Rattle.constraint_net.proofs.Moving.{at_refl, at_trans, at_more, sound_along}
+use Rattle.constraint_net.proofs.Spreading.{kind_at, step_at, failed_at}
 use Rattle.constraint_net.proofs.domains.spread.Goals as goal
+
+pub loop-place-init : goal.loop-place-init
+loop-place-init c = record {
+  steps = none_yet (LiesAt c.args.args.now c.args.left.now) (present c.args.cells.now);
+  sinks = at_refl c.args.args.now c.args.since c.args.cells.now c.requires.sound.place;
+}
+
+pub keep_left-requires-clause-sound : goal.keep_left-requires-clause-sound
+keep_left-requires-clause-sound c =
+    let loop = c.loop-place in
+    let so_far = advanced (FitBefore (LiesAt c.args.args.now c.args.left.now) loop.place) (present c.args.cells.now) (present loop.cells) loop.change c.requires.sound.are loop.invariant.steps in
+    sound_along c.args.since c.args.cells.now loop.cells c.requires.sound loop.invariant.sinks.sinks so_far.within so_far.are
+
+pub keep_left-requires-clause-argument : goal.keep_left-requires-clause-argument
+keep_left-requires-clause-argument c =
+    let loop = c.loop-place in
+    let start = present c.args.cells.now in
+    let so_far = advanced (FitBefore (LiesAt c.args.args.now c.args.left.now) loop.place) start (present loop.cells) loop.change c.requires.sound.are loop.invariant.steps in
+    argument_along (length start) (length (present loop.cells)) (get_or c.args.args.now loop.place (arg.Var 0)) (omega (arith, within_length (present loop.cells) start so_far.within))
+    (c.requires.arguments loop.place (arg.Var 0) c.loop-place-test.true)
 
 pub keep_left-requires-clause-kind : goal.keep_left-requires-clause-kind
 keep_left-requires-clause-kind c =
     let args = c.args.args.now in
     let left = c.args.left.now in
-    let start = c.args.variables.now in
+    let start = present c.args.cells.now in
     let loop = c.loop-place in
     let long : loop.place < length left = omega (arith, c.loop-place-test.true, within_length left (domains_of start args) c.requires.within, length-map args (domain_of start)) in
-    let so_far = advanced (FitBefore (LiesAt args left) loop.place) start loop.variables loop.change c.requires.domains loop.invariant in
-    kind_at args left start loop.variables loop.place (get_or args loop.place (arg.Var 0)) c.index-left-place.result (slice_get-get_or args loop.place (arg.Var 0) c.loop-place-test.true) long c.index-left-place.is
+    let so_far = advanced (FitBefore (LiesAt args left) loop.place) start (present loop.cells) loop.change c.requires.sound.are loop.invariant.steps in
+    kind_at args left start (present loop.cells) loop.place (get_or args loop.place (arg.Var 0)) c.index-left-place.result (slice_get-get_or args loop.place (arg.Var 0) c.loop-place-test.true) long c.index-left-place.is
     c.requires.within so_far.within (c.requires.arguments loop.place (arg.Var 0) c.loop-place-test.true)
+
+pub returns-in_err-keep_left : goal.returns-in_err-keep_left
+returns-in_err-keep_left c =
+    let args = c.args.args.now in
+    let left = c.args.left.now in
+    let loop = c.loop-place in
+    record {
+      steps = failed_at args left (present c.args.cells.now) (present loop.cells) (present c.keep_left.new.cells) loop.place c.index-left-place.result loop.change c.from_residual.result (arg.Var 0)
+          c.requires.sound.are c.requires.within c.loop-place-test.true c.index-left-place.is c.from_residual.ensures.0 loop.invariant.steps c.in_err-keep_left.ensures.steps;
+      sinks = at_trans args c.args.since c.args.cells.now loop.cells c.keep_left.new.cells loop.invariant.sinks
+          (at_more args (get_or args loop.place (arg.Var 0)) c.args.since loop.cells c.keep_left.new.cells (loop.place, c.loop-place-test.true, read_at args loop.place (arg.Var 0) (get_or args loop.place (arg.Var 0)) c.loop-place-test.true) c.in_err-keep_left.ensures.sinks);
+    }
 
 pub returns-in-Empty : goal.returns-in-Empty
 returns-in-Empty c =
     let args = c.args.args.now in
     let left = c.args.left.now in
     let loop = c.loop-place in
-    stopped (LiesAt args left) loop.place (length args) c.args.variables.now c.keep_left.new.variables c.then-change.result c.loop-place-test.true c.in-Empty.is
-    (step_at args left c.args.variables.now loop.variables c.keep_left.new.variables loop.place c.index-left-place.result loop.change c.keep_left.result c.then-change.result (arg.Var 0)
-    c.requires.domains c.requires.within c.loop-place-test.true c.index-left-place.is c.then-change.ensures loop.invariant c.keep_left.ensures)
+    record {
+      steps = stopped (LiesAt args left) loop.place (length args) (present c.args.cells.now) (present c.keep_left.new.cells) c.then-change.result c.loop-place-test.true c.in-Empty.is
+          (step_at args left (present c.args.cells.now) (present loop.cells) (present c.keep_left.new.cells) loop.place c.index-left-place.result loop.change c.in_ok-keep_left.field-0 c.then-change.result (arg.Var 0)
+          c.requires.sound.are c.requires.within c.loop-place-test.true c.index-left-place.is c.then-change.ensures loop.invariant.steps c.in_ok-keep_left.ensures.steps);
+      sinks = at_trans args c.args.since c.args.cells.now loop.cells c.keep_left.new.cells loop.invariant.sinks
+          (at_more args (get_or args loop.place (arg.Var 0)) c.args.since loop.cells c.keep_left.new.cells (loop.place, c.loop-place-test.true, read_at args loop.place (arg.Var 0) (get_or args loop.place (arg.Var 0)) c.loop-place-test.true) c.in_ok-keep_left.ensures.sinks);
+    }
 
 pub loop-place-preserved : goal.loop-place-preserved
 loop-place-preserved c =
+    let args = c.args.args.now in
     let loop = c.loop-place in
-    step_at c.args.args.now c.args.left.now c.args.variables.now loop.variables c.keep_left.new.variables loop.place c.index-left-place.result loop.change c.keep_left.result c.then-change.result (arg.Var 0)
-    c.requires.domains c.requires.within c.loop-place-test.true c.index-left-place.is c.then-change.ensures loop.invariant c.keep_left.ensures
+    record {
+      steps = step_at args c.args.left.now (present c.args.cells.now) (present loop.cells) (present c.keep_left.new.cells) loop.place c.index-left-place.result loop.change c.in_ok-keep_left.field-0 c.then-change.result (arg.Var 0)
+          c.requires.sound.are c.requires.within c.loop-place-test.true c.index-left-place.is c.then-change.ensures loop.invariant.steps c.in_ok-keep_left.ensures.steps;
+      sinks = at_trans args c.args.since c.args.cells.now loop.cells c.keep_left.new.cells loop.invariant.sinks
+          (at_more args (get_or args loop.place (arg.Var 0)) c.args.since loop.cells c.keep_left.new.cells (loop.place, c.loop-place-test.true, read_at args loop.place (arg.Var 0) (get_or args loop.place (arg.Var 0)) c.loop-place-test.true) c.in_ok-keep_left.ensures.sinks);
+    }

@@ -1,5 +1,10 @@
+use Rattle.cell_store.specs.Cells.{present}
+use Rattle.constraint_net.specs.Moves.{SinksAt}
 use Rattle.constraint_net.specs.Steps.{AdvancesTo, FitBefore, LiesAt}
 use Rattle.constraint_net.proofs.domains.spread.Given as goal
 
 abbrev pub invariant-loop-place : goal.invariant-loop-place
-invariant-loop-place l = AdvancesTo (FitBefore (LiesAt l.args l.left) l.place) l.fn.variables l.change l.variables
+invariant-loop-place l = record {
+  steps : AdvancesTo (FitBefore (LiesAt l.args l.left) l.place) (present l.fn.cells) l.change (present l.cells);
+  sinks : SinksAt l.args l.since l.fn.cells l.cells;
+}

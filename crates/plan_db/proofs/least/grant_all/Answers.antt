@@ -1,12 +1,11 @@
-use Rattle.std.proofs.Common.{◌∙◌, length, refl, ap}
+use Rattle.std.proofs.Common.{◌∙◌, length, refl}
 use Rattle.std.proofs.lemmas.Option.{slice_get_read}
 use Rattle.std.proofs.lemmas.Result.{err_from_is_err_and}
-use Rattle.constraint_net.specs.Networks.{Network}
 use Rattle.plan_db.proofs.Settling.{none_yet, one_more, one_fails, all_granted}
 use Rattle.plan_db.proofs.least.grant_all.Goals as goal
 
 pub loop-decision-init : goal.loop-decision-init
-loop-decision-init c = record { granted = none_yet c.args.decisions.now c.args.net.now.domains c.requires; others = refl }
+loop-decision-init c = record { granted = none_yet c.args.decisions.now c.args.net.now.domains c.requires; others = record { tables = refl; constraints = refl } }
 
 pub returns-in_err-grant-clause-granted : goal.returns-in_err-grant-clause-granted
 returns-in_err-grant-clause-granted c =
@@ -24,7 +23,10 @@ loop-decision-preserved c =
     let there = slice_get_read decisions (length decisions) loop.decision-index c.decision-item.result refl c.loop-decision-test.true c.decision-item.is in
     record {
       granted = one_more decisions loop.decision-index c.decision-item.result there c.args.net.now.domains loop.net.domains c.grant.new.net.domains loop.invariant.granted c.in_ok-grant.ensures.granted;
-      others = c.in_ok-grant.ensures.others ∙ ap (λ (n : Network). record n { domains = c.grant.new.net.domains }) loop.invariant.others;
+      others = record {
+        tables = c.in_ok-grant.ensures.others.tables ∙ loop.invariant.others.tables;
+        constraints = c.in_ok-grant.ensures.others.constraints ∙ loop.invariant.others.constraints;
+      };
     }
 
 pub returns-clause-granted : goal.returns-clause-granted

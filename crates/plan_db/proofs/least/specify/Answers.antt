@@ -52,5 +52,5 @@ returns c =
     let limits = subst (λ to. LimitsAt domains c.args.variable to change new) single c.in_ok-limit.ensures.0 in
     record {
       granted = limited domains c.args.variable c.args.value c.requires (get_below domains c.args.variable c.in-Some._declared.now c.in-Some.ensures) change new (not_empty change c.in-Smaller.is) limits;
-      others = c.in_ok-limit.ensures.1;
+      others = record { tables = c.in_ok-limit.ensures.1.tables; constraints = c.in_ok-limit.ensures.1.constraints };
     }

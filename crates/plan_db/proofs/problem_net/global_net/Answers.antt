@@ -11,7 +11,7 @@ pub loop-variable-preserved : goal.loop-variable-preserved
 loop-variable-preserved c =
     let loop = c.loop-variable in
     let domain = c.in_ok-base_of.field-0 in
-    let pushed : c.add_var.new.self.domains ≡ loop.net.domains ++ domain ∷ [] = ap (λ (net : Network). net.domains) c.in_ok-add_var.ensures.ok.1 in
+    let pushed : c.add_var.new.self.domains ≡ loop.net.domains ++ domain ∷ [] = ap (λ (net : Network). net.domains) c.in_ok-add_var.ensures.added.1 in
     let items = c.as_slice-variable-items.ensures in
     let below : loop.variable-index < length c.args.model.now.problem.globals = subst (λ list. loop.variable-index < length list) items c.loop-variable-test.true in
     let is : c.variable-item.result ≡ get_or c.args.model.now.problem.globals loop.variable-index c.variable-item.result = subst (λ list. c.variable-item.result ≡ get_or list loop.variable-index c.variable-item.result) items c.variable-item.is in
@@ -19,5 +19,5 @@ loop-variable-preserved c =
       count = ap length pushed ∙ (length_push loop.net.domains domain ∙ ap (λ n. n + 1) loop.invariant.count);
       each = bases_more c.args.model.now loop.net.domains c.add_var.new.self.domains loop.variable-index c.variable-item.result domain loop.invariant.count below is c.in_ok-base_of.ensures pushed loop.invariant.each;
       domains = subst (All IsDomain) (sym pushed) (All-push IsDomain loop.net.domains domain loop.invariant.domains c.in_ok-add_var.ensures.domain);
-      constraints = ap (λ (net : Network). net.constraints) c.in_ok-add_var.ensures.ok.1 ∙ loop.invariant.constraints;
+      constraints = ap (λ (net : Network). net.constraints) c.in_ok-add_var.ensures.added.1 ∙ loop.invariant.constraints;
     }

@@ -1,4 +1,4 @@
-use Rattle.std.proofs.Common.{◌≡◌, ◌<◌, ◌≤◌, reverse, slice_index_or, length, refl, ap, ◌∙◌, arith}
+use Rattle.std.proofs.Common.{◌≡◌, ◌<◌, slice_index_or, length, refl, ap, ◌∙◌, arith}
 use Rattle.cell_store.proofs.Views.{shown-domains, get-read, get-missed}
 use Rattle.cell_store.proofs.cells.Cells.get.Goals as goal
 

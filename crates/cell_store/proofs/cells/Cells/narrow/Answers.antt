@@ -1,6 +1,5 @@
-use Rattle.std.proofs.Common.{◌≡◌, ◌<◌, Ok, Some, slice_get, reverse, length, sym, ap, ◌∙◌, subst, arith}
-use Rattle.std.proofs.lemmas.Option.{slice_get-get_or}
-use Rattle.cell_store.specs.Cells.{present, NarrowsCell}
+use Rattle.std.proofs.Common.{◌<◌, Ok, reverse, length, sym, ap, subst, arith}
+use Rattle.cell_store.specs.Cells.{NarrowsCell}
 use Rattle.cell_store.specs.Kept.{IsKept, view_of}
 use Rattle.cell_store.proofs.Views.{within_cells, narrows_again, narrows_saving, one_found}
 use Rattle.cell_store.proofs.cells.Cells.narrow.Goals as goal

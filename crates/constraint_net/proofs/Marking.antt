@@ -1,0 +1,81 @@
+-- Marks stay while the network goes on.
+use Rattle.std.proofs.Common.{◌≡◌, ℕ, ◌+◌, ◌-◌, ◌≤◌, List, [], ◌∷◌, ◌++◌, length, take, drop, append_assoc, length-append, sym, ap, ◌∙◌, subst, arith}
+use Rattle.std.specs.Prelude.{Result, Ok, Err}
+use Rattle.std.specs.declared.alloc.AllocError.{AllocError}
+use Rattle.std.proofs.Math.Seq.{take-append-add}
+use Rattle.domain_core.specs.Domain.{Domain}
+use Rattle.domain_core.specs.declared.Change.{Change}
+use Rattle.model_core.specs.declared.item.Kind.{Kind}
+use Rattle.constraint_net.specs.Calls.{AddsVar, Posts, Limits, GoesDown}
+use Rattle.constraint_net.specs.Marks.{IsMark, Returns}
+use Rattle.constraint_net.specs.Networks.{Network, cells_of}
+use Rattle.constraint_net.specs.Passes.{WerePosted}
+use Rattle.constraint_net.specs.declared.constraint.Constraint.{Constraint}
+use Rattle.constraint_net.specs.declared.constraint.NetArg.{NetArg}
+use Rattle.constraint_net.specs.declared.network.Mark.{Mark}
+
+-- of two ends of one list the longer ends with the other
+end_in_end : {X : Type 0} (a b c d : List X) → a ++ b ≡ c ++ d → length d ≤ length b → (front : List X) × (b ≡ front ++ d)
+end_in_end [] b c d same le = (c, same)
+end_in_end (x ∷ a) b [] d same le = absurd (omega (arith, ap length same, length-append (x ∷ a) b, le))
+end_in_end (x ∷ a) b (y ∷ c) d same le = end_in_end a b c d (ap (drop 1) same) le
+
+module _ (mark : Mark) (domains : List Domain) (constraints : List Constraint) where
+  abbrev Is : Network → Type 0
+  Is net = IsMark net mark domains constraints
+
+  pub stays_added : (old new : Network) (domain : Domain) (result : Result ℕ AllocError) → Is old → AddsVar domain old result new → Is new
+  stays_added old new domain (Ok number) is adds = subst Is (sym adds.1) (record {
+    place = ((old.domains ++ domain ∷ []) ∷ is.place.0, is.place.1, (ap (λ list. (old.domains ++ domain ∷ []) ∷ list) is.place.2.0, is.place.2.1));
+    first = is.first;
+    count = is.count;
+    are = is.are;
+    posted = is.posted;
+  })
+  stays_added old new domain (Err none) is same = subst Is (sym same) is
+
+  pub stays_posted : (old new : Network) (kind : Kind) (args : List NetArg) (result : Result (Unit {0}) AllocError) → Is old → Posts old kind args result new → Is new
+  stays_posted old new kind args (Ok done) is posts =
+      let one : Constraint = record { kind = kind; args = args } in
+      subst Is (sym posts) (record {
+        place = is.place;
+        first = (is.first.0 ++ one ∷ [], ap (λ list. list ++ one ∷ []) is.first.1 ∙ append_assoc constraints is.first.0 (one ∷ []));
+        count = is.count;
+        are = is.are;
+        posted = is.posted;
+      })
+  stays_posted old new kind args (Err none) is same = subst Is (sym same) is
+
+  pub stays_down : (old new : Network) → Is old → GoesDown old new → Is new
+  stays_down old new is down = record {
+    place = (
+      down.past.0 ++ is.place.0,
+      is.place.1,
+      (
+        down.past.1 ∙ ap (λ list. down.past.0 ++ list) is.place.2.0 ∙ sym (append_assoc down.past.0 is.place.0 (domains ∷ is.place.1)),
+        is.place.2.1,
+      ),
+    );
+    first = (is.first.0, down.constraints ∙ is.first.1);
+    count = is.count;
+    are = is.are;
+    posted = subst (λ tables. WerePosted tables (length domains) constraints) (sym down.tables) is.posted;
+  }
+
+  pub stays_limited : (old new : Network) (variable : ℕ) (to : Domain) (result : Result Change AllocError) → Is old → Limits old variable to result new → Is new
+  stays_limited old new variable to (Ok change) is limits = stays_down old new is limits.1
+  stays_limited old new variable to (Err none) is same = subst Is (sym same) is
+
+  pub stays_returned : (old new : Network) (later : Mark) → Is old → mark.cells ≤ later.cells → mark.constraints ≤ later.constraints → Returns later old new → Is new
+  stays_returned old new later is cells count back =
+      let goes = back.cells in
+      let tail = end_in_end goes.newer (cells_of new).past is.place.0 (domains ∷ is.place.1) (sym goes.past ∙ is.place.2.0) (omega (arith, goes.count, is.place.2.1)) in
+      let more = later.constraints - length constraints in
+      let long : later.constraints ≡ length constraints + more = omega (arith, count, is.count) in
+      record {
+        place = (tail.0, is.place.1, (tail.1, is.place.2.1));
+        first = (take more is.first.0, back.constraints ∙ (λ i. take (long i) (is.first.1 i)) ∙ take-append-add constraints is.first.0 more);
+        count = is.count;
+        are = is.are;
+        posted = subst (λ tables. WerePosted tables (length domains) constraints) (sym back.tables) is.posted;
+      }

@@ -1,0 +1,34 @@
+-- Marks of a network, and going back to one.
+use Rattle.std.specs.Prelude.{◌≡◌, List, ◌++◌, length, All, take}
+use Rattle.domain_core.specs.Domain.{Domain, IsDomain}
+use Rattle.cell_store.specs.Cells.{IsPlace, GoesBack}
+use Rattle.constraint_net.specs.Networks.{Network, cells_of}
+use Rattle.constraint_net.specs.Passes.{WerePosted}
+use Rattle.constraint_net.specs.declared.constraint.Constraint.{Constraint}
+use Rattle.constraint_net.specs.declared.network.Mark.{Mark}
+
+-- at the mark the network had these domains and these constraints
+pub record IsMark (net : Network) (mark : Mark) (domains : List Domain) (constraints : List Constraint) : Type 0 where
+  pub place : IsPlace (cells_of net) mark.cells domains
+  pub first : (later : List Constraint) × (net.constraints ≡ constraints ++ later)
+  pub count : length constraints ≡ mark.constraints
+  pub are : All IsDomain domains
+  pub posted : WerePosted net.tables (length domains) constraints
+
+-- the mark is one of this network, and the network hasn't gone back behind it
+abbrev pub CanReturn : Network → Mark → Type 0
+CanReturn net mark = (domains : List Domain) × (constraints : List Constraint) × IsMark net mark domains constraints
+
+-- each mark stays one of the same domains and constraints
+abbrev pub KeepMarks : Network → Network → Type 0
+KeepMarks old new =
+    (mark : Mark) (domains : List Domain) (constraints : List Constraint)
+    → IsMark old mark domains constraints → IsMark new mark domains constraints
+
+-- the variables, their domains and the constraints at the mark are back, the stamps follow the domains, and nothing of
+-- the work is taken back
+pub record Returns (mark : Mark) (old new : Network) : Type 0 where
+  pub cells : GoesBack mark.cells (cells_of old) (cells_of new)
+  pub constraints : new.constraints ≡ take mark.constraints old.constraints
+  pub tables : new.tables ≡ old.tables
+  pub work : new.work ≡ old.work
