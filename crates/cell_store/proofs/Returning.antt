@@ -1,6 +1,6 @@
 -- Going back along the trail.
-use Rattle.std.proofs.Common.{◌≡◌, ◌≢◌, ℕ, zero, suc, ◌+◌, ◌-◌, ◌^◌, ◌<◌, ◌≤◌, min, Bool, true, false, ◌==◌, List, [], ◌∷◌, ◌++◌, length, map, take, drop, slice_set, slice_get, slice_index_or, Some, ◌⊎◌, inl, inr, refl, sym, ap, ◌∙◌, subst, pos, if◌then◌else◌, append_assoc, length-append, reverse, arith}
-use Rattle.std.proofs.lemmas.List.{map-set, map-append, length-map, length-set, get_or-set_same, get_or-set_other, get_or-take, reverse-append, length-reverse}
+use Rattle.std.proofs.Common.{◌≡◌, ℕ, zero, suc, ◌+◌, ◌-◌, ◌^◌, ◌<◌, ◌≤◌, List, [], ◌∷◌, ◌++◌, length, map, take, slice_set, slice_get, slice_index_or, Some, ◌⊎◌, inl, inr, refl, sym, ap, ◌∙◌, subst, pos, if◌then◌else◌, append_assoc, length-append, arith}
+use Rattle.std.proofs.lemmas.List.{map-append, length-map, length-set, get_or-set_same, get_or-set_other}
 use Rattle.std.proofs.Math.Seq.{take-append_seam}
 use Rattle.std.proofs.lemmas.Bool.{cases_lt}
 use Rattle.std.proofs.lemmas.Option.{slice_get_within}
@@ -8,11 +8,11 @@ use Rattle.domain_core.specs.Domain.{Domain, Range, slack}
 use Rattle.cell_store.specs.declared.trail.Cell.{Cell}
 use Rattle.cell_store.specs.declared.trail.Entry.{Entry}
 use Rattle.cell_store.specs.declared.trail.Entry.TheVariants.{Added, Narrowed}
-use Rattle.cell_store.specs.Cells.{Celled, domain_at, present, stamped, FollowsDomain, GoesBack}
-use Rattle.cell_store.specs.Kept.{domains_before, past_of, saved_at, CanBeEntry, IsTrail, cell_domains, view_of, IsKept}
-use Rattle.cell_store.specs.Writing.{UndoesEntry, StepsBack, ReturnsTo}
+use Rattle.cell_store.specs.Cells.{domain_at, present, stamped, FollowsDomain, GoesBack}
+use Rattle.cell_store.specs.Kept.{past_of, saved_at, IsTrail, cell_domains, view_of, IsKept}
+use Rattle.cell_store.specs.Writing.{UndoesEntry}
 use Rattle.cell_store.proofs.Rewriting.{equal_cases, length-past_of}
-use Rattle.cell_store.proofs.Views.{present-view, domain-stood, stamp-stood, get-set_other, get-set_same, get-append_left, domains-set, stamps-set}
+use Rattle.cell_store.proofs.Views.{present-view, stamp-stood, get-set_other, get-set_same, get-append_left, domains-set, stamps-set}
 
 -- a cell of which nothing was given back has its domain and its stamp, and any other has more values, and a greater stamp or the greatest
 abbrev pub Rises : Domain → ℕ → Domain → ℕ → Type 0

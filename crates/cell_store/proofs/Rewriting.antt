@@ -1,13 +1,13 @@
 -- What can be gone back to, where a cell is written that the trail knows already.
-use Rattle.std.proofs.Common.{◌≡◌, ◌≢◌, ℕ, zero, suc, ◌+◌, ◌-◌, ◌<◌, ◌≤◌, Bool, true, false, ◌==◌, List, [], ◌∷◌, ◌++◌, length, take, slice_set, slice_index_or, ◌⊎◌, inl, inr, refl, sym, ap, ◌∙◌, subst, pos, if◌then◌else◌, arith}
+use Rattle.std.proofs.Common.{◌≡◌, ◌≢◌, ℕ, ◌+◌, ◌-◌, ◌<◌, ◌≤◌, true, false, ◌==◌, List, [], ◌∷◌, ◌++◌, length, take, slice_set, ◌⊎◌, inl, inr, refl, sym, ap, ◌∙◌, subst, if◌then◌else◌, arith}
 use Rattle.std.proofs.lemmas.List.{length-set, length-take, take-set-le, get_or-set_same, get_or-set_other, get_or-take}
 use Rattle.std.proofs.lemmas.Bool.Decides.{eqb_tells}
 use Rattle.std.proofs.Math.Seq.{take-set-lt}
-use Rattle.domain_core.specs.Domain.{Domain, Range, slack}
+use Rattle.domain_core.specs.Domain.{Domain, slack}
 use Rattle.cell_store.specs.declared.trail.Entry.{Entry}
 use Rattle.cell_store.specs.declared.trail.Entry.TheVariants.{Added, Narrowed}
 use Rattle.cell_store.specs.Cells.{domain_at}
-use Rattle.cell_store.specs.Kept.{domains_before, past_of, count_before, is_about, saved_at, CanBeEntry, IsTrail}
+use Rattle.cell_store.specs.Kept.{domains_before, past_of, saved_at, CanBeEntry, IsTrail}
 use Rattle.cell_store.proofs.Lists.{set-set, set-swap}
 
 -- both lists of lists end alike, with so many

@@ -1,5 +1,5 @@
 -- What the cells show after one of them was written, or added.
-use Rattle.std.proofs.Common.{◌≡◌, ◌≢◌, ℕ, zero, suc, ◌+◌, ◌-◌, ◌<◌, ◌≤◌, Bool, true, false, ◌==◌, List, [], ◌∷◌, ◌++◌, length, map, take, drop, slice_set, slice_get, slice_index_or, Some, None, Result, Ok, Err, ◌⊎◌, inl, inr, refl, sym, ap, ◌∙◌, subst, pos, if◌then◌else◌, append_assoc, length-append, reverse, arith}
+use Rattle.std.proofs.Common.{◌≡◌, ◌≢◌, ℕ, zero, suc, ◌+◌, ◌-◌, ◌<◌, List, [], ◌∷◌, ◌++◌, length, map, take, drop, slice_set, slice_get, slice_index_or, Some, None, Result, Ok, Err, inl, inr, refl, sym, ap, ◌∙◌, subst, pos, if◌then◌else◌, append_assoc, length-append, reverse, arith}
 use Rattle.std.proofs.lemmas.List.{map-set, map-append, length-map, length-set, get_or-map, get_or-set_same, set-get_or, take-append-drop, length-drop, reverse-append, length-reverse}
 use Rattle.std.proofs.Math.Seq.{take-append_seam}
 use Rattle.std.proofs.lemmas.Option.{slice_get_within, slice_get-get_or, slice_get_past}
@@ -13,10 +13,10 @@ use Rattle.cell_store.specs.declared.trail.Cell.{Cell}
 use Rattle.cell_store.specs.declared.trail.Entry.{Entry}
 use Rattle.cell_store.specs.declared.trail.Entry.TheVariants.{Added, Narrowed}
 use Rattle.cell_store.specs.Cells.{Celled, domain_at, present, stamped, IsPlace, KeepsPast, WritesCell, NarrowsCell, AddsCell}
-use Rattle.cell_store.specs.Kept.{domains_before, past_of, saved_at, CanBeEntry, IsTrail, cell_domains, view_of, IsKept}
-use Rattle.cell_store.specs.Writing.{MeetsCell, MeetsBehind, MeetsAt, SavesCell, SavesAt, StaysAt}
+use Rattle.cell_store.specs.Kept.{domains_before, past_of, saved_at, IsTrail, cell_domains, view_of, IsKept}
+use Rattle.cell_store.specs.Writing.{MeetsCell, MeetsBehind, SavesAt, StaysAt}
 use Rattle.cell_store.proofs.Lists.{set-set}
-use Rattle.cell_store.proofs.Rewriting.{IsRewritten, rewritten, equal_cases, length-past_of}
+use Rattle.cell_store.proofs.Rewriting.{rewritten, equal_cases, length-past_of}
 
 pub present-view : (cells : List Cell) (trail : List Entry) → present (view_of cells trail) ≡ cell_domains cells
 present-view cells [] = refl

@@ -1,7 +1,6 @@
-use Rattle.std.proofs.Common.{◌≡◌, ◌<◌, ◌+◌, reverse, length, sym, ap, ◌∙◌, subst, arith}
+use Rattle.std.proofs.Common.{reverse, length, ap, arith}
 use Rattle.std.proofs.lemmas.List.{length-reverse}
-use Rattle.cell_store.specs.Cells.{GoesBack}
-use Rattle.cell_store.specs.Kept.{view_of, cell_domains}
+use Rattle.cell_store.specs.Kept.{cell_domains}
 use Rattle.cell_store.proofs.Rewriting.{length-past_of}
 use Rattle.cell_store.proofs.cells.Cells.back_to.Goals as goal
 

@@ -1,7 +1,7 @@
 use Rattle.std.proofs.Common.{length, reverse, ap, arith}
 use Rattle.std.proofs.lemmas.List.{length-reverse}
 use Rattle.cell_store.specs.Cells.{Celled}
-use Rattle.cell_store.specs.Kept.{domains_of}
+use Rattle.cell_store.specs.Kept.{cell_domains}
 use Rattle.cell_store.proofs.Rewriting.{length-past_of}
 use Rattle.cell_store.proofs.Views.{place-view}
 use Rattle.cell_store.proofs.cells.Cells.mark.Goals as goal
@@ -14,7 +14,7 @@ returns-clause-newest c =
     omega (
       arith,
       ap (λ (cells : Celled). length cells.past) c.self.view_is,
-      length-past_of (domains_of c.self.inside.cells.items) (reverse c.self.inside.trail.items),
+      length-past_of (cell_domains c.self.inside.cells.items) (reverse c.self.inside.trail.items),
       c.len.ensures,
       length-reverse c.self.inside.trail.items,
       c.self.inside.trail.ok.0,
