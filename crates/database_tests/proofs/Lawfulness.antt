@@ -198,7 +198,7 @@ global_name (suc zero) variable stands =
     subst (λ (v : VarDecl). IsGlobalName 1 v.name) same (inr (ap (λ (digits : List ℕ). codes "!" ++ digits) (sym (decimal_digit 1 (omega arith)))))
 global_name (suc (suc number)) variable stands = cc
 
-sample_is_lawful : IsLawful sample
+pub sample_is_lawful : IsLawful sample
 sample_is_lawful = record {
   horizon = record { start = omega (arith, ints); order = omega (arith, ints); end = (omega (arith, ints), omega (arith, ints)); some_steps = omega arith; few_steps = omega arith };
   few_enums = omega arith;

@@ -106,7 +106,10 @@ fn opened(alloc: Global) -> Option<Added> {
 
 #[test]
 fn a_block_adds_what_stands_in_it(rt: HostRuntime) {
-    let item = ItemAt { number: 0, entry: 1 };
+    let item = ItemAt {
+        number: 0,
+        entry: 1,
+    };
     let wanted = (Some((0, 0, 0)), Some(0), Some(item), 0);
     assert!(rt; opened(rt.alloc()) == Some(wanted));
 }
