@@ -96,7 +96,7 @@ fn told(log: &Log, number: u64) -> u32 {
     match log.step_at(number) {
         None => 0,
         Some(LogStep::Push) => 1,
-        Some(LogStep::Take(first)) => 10 + number_of(first),
+        Some(LogStep::Take(first)) => number_of(first).wrapping_add(10),
     }
 }
 

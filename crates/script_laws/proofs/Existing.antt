@@ -26,7 +26,7 @@ use Rattle.model_core.specs.State.{State}
 use Rattle.narrow_core.specs.declared.field.Field as tables
 use Rattle.plan_db.specs.Built.{IsBuilt, IsRangeVariable, IsOfGlobals}
 use Rattle.plan_db.specs.Kept.{global_state, HasOrder}
-use Rattle.plan_db.specs.Nets.{IsNetOf, IsPosted, IsPostable, Grants, GrantsAll}
+use Rattle.plan_db.specs.Nets.{IsNetOf, AsksAlike, IsPosted, IsPostable, Grants, GrantsAll}
 use Rattle.plan_db.proofs.Granting.{granted_already, grants_past, grants_other, limited}
 use Rattle.plan_db.proofs.LeastStates.{grants_fail, settling_fails, settles}
 use Rattle.plan_db.proofs.Positions.{gives_at}
@@ -260,7 +260,7 @@ module _ (model : Model) (decisions : List Decision) (lawful : IsLawful model) (
     (posted : Posted (length bases.domains) model.problem.items) where
   -- the network of these domains
   abbrev net_at : List Domain → Network
-  net_at domains = record { domains = domains; tables = []; constraints = posted.constraints; work = 0 }
+  net_at domains = record { domains = domains; tables = []; constraints = posted.constraints; work = 0; stamps = []; older = [] }
 
   abbrev net : Network
   net = net_at bases.domains
@@ -273,14 +273,17 @@ module _ (model : Model) (decisions : List Decision) (lawful : IsLawful model) (
   }
 
   module _ (granted : List Domain) (are : AreRanges granted) (first : SettlesTo (GrantsAll decisions) net.domains (Ok tt) granted) where
+    alike : AsksAlike net (net_at granted)
+    alike = record { tables = refl; constraints = refl }
+
     then_settled : ((state : State) × IsLeast model decisions state) ⊎ IsCollapsed model decisions
     then_settled =
         ⊎_elim
         (λ done. inl (
           global_state done.0,
-          settles model decisions net lawful built is_net (net_at granted) refl first no_order (net_at done.0) done.2,
+          settles model decisions net lawful built is_net (net_at granted) alike first no_order (net_at done.0) done.2,
         ))
-        (λ fails. inr (settling_fails model decisions net lawful built is_net (net_at granted) refl first Collapsed granted fails))
+        (λ fails. inr (settling_fails model decisions net lawful built is_net (net_at granted) alike first Collapsed granted fails))
         (settled_constraints [] posted.constraints granted are (subst (λ n. All (IsPlainConstraint n) posted.constraints) (sym (within_length granted bases.domains first.0.within)) posted.plain))
 
   without_order : ((state : State) × IsLeast model decisions state) ⊎ IsCollapsed model decisions
@@ -292,7 +295,7 @@ module _ (model : Model) (decisions : List Decision) (lawful : IsLawful model) (
 
 of_bases : (model : Model) (decisions : List Decision) → IsLawful model → IsBuilt model → (HasOrder decisions → ⊥) → Bases model.problem.globals → ((state : State) × IsLeast model decisions state) ⊎ IsCollapsed model decisions
 of_bases model decisions lawful built no_order bases =
-    let empty : Network = record { domains = bases.domains; tables = []; constraints = []; work = 0 } in
+    let empty : Network = record { domains = bases.domains; tables = []; constraints = []; work = 0; stamps = []; older = [] } in
     without_order model decisions lawful built no_order bases (posted_all empty model.problem.items (items_postable model lawful empty built bases.long) built.constraints)
 
 -- whatever is decided, there is a least state, or no closed one
