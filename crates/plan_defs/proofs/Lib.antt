@@ -6,6 +6,7 @@ pub mod Approaching
 pub mod Settling
 pub mod Setting
 pub mod Lower
+pub mod Summing
 pub mod Sharing
 pub mod Bounding
 pub mod Reasons

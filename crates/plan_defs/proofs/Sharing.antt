@@ -1,210 +1,197 @@
--- Shares of a capacity suffice exactly where it suffices for the sum.
-use Rattle.std.proofs.Common.{◌≡◌, ℤ, pos, ◌+ℤ◌, ◌≤ℤ◌, List, [], ◌∷◌, ◌⊎◌, inl, inr, refl, sym, ap, ◌∙◌, subst, arith}
-use Rattle.std.specs.Prelude.{Contains, AllPairs, ◌↔◌, ◌≢◌}
-use Rattle.std.specs.List.{AllZip}
+-- Shares of a capacity suffice exactly where it suffices for the sum, and rises and falls of a level where their sums do.
+use Rattle.std.proofs.Common.{◌≡◌, ℤ, pos, ◌+ℤ◌, ◌≤ℤ◌, List, inl, inr, arith}
+use Rattle.std.specs.Prelude.{neg_ℤ, Contains, ◌↔◌}
 use Rattle.std.proofs.lemmas.Int.{ints}
 use Rattle.std.proofs.lemmas.List.Elements.{All-contains}
 use Rattle.eu_name.specs.declared.name.Part.TheVariants.{Param}
 use Rattle.eu_name.specs.declared.name.TokenName.{TokenName}
 use Rattle.eu_name.specs.declared.name.VarName.TheVariants.{Token}
-use Rattle.eu_name.specs.NameOrder.{IsTokenBefore}
-use Rattle.eu_name.proofs.Orders.{token_order}
 use Rattle.model_core.specs.declared.decision.Decision.{Decision}
 use Rattle.model_core.specs.declared.model.Model.{Model}
 use Rattle.model_core.specs.State.{State, IsState}
-use Rattle.plan_defs.specs.Laws.{ListsUses}
+use Rattle.plan_defs.specs.Laws.{ListsUses, ListsChanges}
 use Rattle.plan_defs.specs.Resources.{SurelyUses, IsShare, KeepsCapacity}
-use Rattle.plan_defs.specs.Sums.{Amount, sum_of, sum_of_amounts}
-use Rattle.plan_defs.proofs.Ordered.{contains_head, contains_later, contains_cases, contains_none, ordered_head, ordered_tail}
+use Rattle.plan_defs.specs.Resources.{HasGreatestChange, HasLeastChange, IsHighChange, IsLowChange, StaysWithin}
+use Rattle.plan_defs.specs.Sums.{Amount, ListsAll, sum_of_amounts}
+use Rattle.plan_defs.proofs.Summing.{IsListed, IsSummed, Bounds, one_amount, zip_mapped, listed_bounds, listed_reached}
 
--- what the first of the listed has differs from those behind it
-abbrev Apart : Amount → Amount → Type 0
-Apart one other = one.token ≢ other.token
+-- ---- the two ways to bound
 
--- ---- from shares to the sum
+-- a number that is at least another one
+abbrev AtLeast : ℤ → ℤ → Type 0
+AtLeast bound number = bound ≤ℤ number
 
-module _ (Share : TokenName → ℤ → Type 0) where
-  -- a token and its share, and what is left without them
-  record Taken (tokens : List TokenName) (shares : List ℤ) (token : TokenName) : Type 0 where
-    share : ℤ
-    is_share : Share token share
-    others : List TokenName
-    rest : List ℤ
-    are : AllZip Share others rest
-    sum : sum_of shares ≡ (share +ℤ sum_of rest)
-    left : (other : TokenName) → Contains tokens other → (other ≡ token) ⊎ Contains others other
+at_least : IsSummed AtLeast
+at_least = record { same = λ number. omega (arith, ints); sums = λ a b c d p q. omega (arith, ints, p, q) }
 
-  take : (tokens : List TokenName) (shares : List ℤ) (token : TokenName) → AllZip Share tokens shares → Contains tokens token → Taken tokens shares token
-  take [] [] token zip there = absurd (contains_none token there)
-  take [] (share ∷ shares) token zip there = absurd zip
-  take (first ∷ tokens) [] token zip there = absurd zip
-  take (first ∷ tokens) (share ∷ shares) token zip there = elim (contains_cases first token tokens there) [
-    | inl same ↦ record {
-      share = share;
-      is_share = subst (λ t. Share t share) same zip.0;
-      others = tokens;
-      rest = shares;
-      are = zip.1;
-      sum = refl;
-      left = λ other c. elim (contains_cases first other tokens c) [ inl is ↦ inl (sym is ∙ same) | inr later ↦ inr later ];
-    }
-    | inr later ↦ (let found = take tokens shares token zip.1 later in record {
-      share = found.share;
-      is_share = found.is_share;
-      others = first ∷ found.others;
-      rest = share ∷ found.rest;
-      are = (zip.0, found.are);
-      sum = (let e = found.sum in omega (arith, ints, e));
-      left = λ other c. elim (contains_cases first other tokens c) [
-        | inl is ↦ inr (subst (Contains (first ∷ found.others)) is (contains_head first found.others))
-        | inr behind ↦ elim (found.left other behind) [ inl is ↦ inl is | inr there' ↦ inr (contains_later first other found.others there') ]
+-- a number that is at most another one
+abbrev AtMost : ℤ → ℤ → Type 0
+AtMost bound number = number ≤ℤ bound
+
+at_most : IsSummed AtMost
+at_most = record { same = λ number. omega (arith, ints); sums = λ a b c d p q. omega (arith, ints, p, q) }
+
+-- what makes nothing of a quantity
+taken_away : (quantity : ℤ) → (change : ℤ) × (change +ℤ quantity ≡ pos 0)
+taken_away quantity = (neg_ℤ quantity, omega (arith, ints))
+
+-- ---- what is listed, and where
+
+module _ (HasAmount : TokenName → ℤ → Type 0) (listed : List Amount) (lists : ListsAll HasAmount listed) where
+  amount_of : (token : TokenName) (amount : ℤ) → IsListed listed token amount → HasAmount token amount
+  amount_of token amount c = All-contains (λ (a : Amount). HasAmount a.token a.amount) listed (record { token = token; amount = amount }) lists.have c
+
+  same_amount : (token : TokenName) (one other : ℤ) → HasAmount token one → HasAmount token other → one ≡ other
+  same_amount token one other p q = one_amount listed token one other lists.once (lists.all token one p) (lists.all token other q)
+
+module _ (model : Model) (decisions : List Decision) (state : State) (object instant : ℤ) (ok : IsState model state) where
+  -- ---- shares
+
+  module _ (listed : List Amount) (lists : ListsUses model decisions state object instant listed) where
+    abbrev Uses : TokenName → ℤ → Type 0
+    Uses = SurelyUses model decisions state object instant
+
+    uses_of : (token : TokenName) (amount : ℤ) → IsListed listed token amount → Uses token amount
+    uses_of = amount_of Uses listed lists.all
+
+    use_there : (each : Amount) → Contains listed each → Contains state.tokens each.token
+    use_there each c = let quantity = (uses_of each.token each.amount c).least in ((ok.variables (Token each.token (Param 0))).1 (quantity.0, quantity.1)).0
+
+    share_bounds : (token : TokenName) (share : ℤ) → IsShare model decisions state object instant token share → Bounds AtLeast listed token share
+    share_bounds token share is = record { some = inl is.none; each = λ amount c. is.enough amount (uses_of token amount c) }
+
+    bounds_share : (token : TokenName) (share : ℤ) → Bounds AtLeast listed token share → IsShare model decisions state object instant token share
+    bounds_share token share bounds = record {
+      none = elim bounds.some [
+        | inl whole ↦ whole
+        | inr some ↦ (let whole = lists.whole token some.0 (uses_of token some.0 some.1) in let less = some.2 in omega (arith, ints, whole, less))
       ];
-    })
-  ]
-
-  none_less : ((token : TokenName) (share : ℤ) → Share token share → pos 0 ≤ℤ share) → (tokens : List TokenName) (shares : List ℤ) → AllZip Share tokens shares → pos 0 ≤ℤ sum_of shares
-  none_less whole [] [] zip = omega (arith, ints)
-  none_less whole [] (share ∷ shares) zip = absurd zip
-  none_less whole (first ∷ tokens) [] zip = absurd zip
-  none_less whole (first ∷ tokens) (share ∷ shares) zip =
-      let head = whole first share zip.0 in
-      let tail = none_less whole tokens shares zip.1 in
-      omega (arith, ints, head, tail)
-
-  sum_below : ((token : TokenName) (share : ℤ) → Share token share → pos 0 ≤ℤ share)
-      → (Uses : TokenName → ℤ → Type 0) → ((token : TokenName) (share amount : ℤ) → Share token share → Uses token amount → amount ≤ℤ share)
-      → (listed : List Amount) → AllPairs Apart listed → ((each : Amount) → Contains listed each → Uses each.token each.amount)
-      → (tokens : List TokenName) (shares : List ℤ) → AllZip Share tokens shares → ((each : Amount) → Contains listed each → Contains tokens each.token)
-      → sum_of_amounts listed ≤ℤ sum_of shares
-  sum_below whole Uses enough [] once uses tokens shares zip there = none_less whole tokens shares zip
-  sum_below whole Uses enough (each ∷ more) once uses tokens shares zip there =
-      let taken = take tokens shares each.token zip (there each (contains_head each more)) in
-      let first = enough each.token taken.share each.amount taken.is_share (uses each (contains_head each more)) in
-      let rest = sum_below whole Uses enough more (ordered_tail Apart each more once) (λ other c. uses other (contains_later each other more c)) taken.others taken.rest taken.are
-      (λ other c. elim (taken.left other.token (there other (contains_later each other more c))) [
-        | inl same ↦ absurd (ordered_head Apart each more once other c (sym same))
-        | inr left ↦ left
-      ]) in
-      let sum = taken.sum in
-      omega (arith, ints, first, rest, sum)
-
--- ---- from the sum to shares
-
--- a share that isn't less than nothing and is enough for what is listed of the token
-record Enough (listed : List Amount) (token : TokenName) (share : ℤ) : Type 0 where
-  none : pos 0 ≤ℤ share
-  enough : (amount : ℤ) → Contains listed (record { token = token; amount = amount }) → amount ≤ℤ share
-
--- shares for these tokens whose sum isn't more than this
-record SharesFor (listed : List Amount) (tokens : List TokenName) (sum : ℤ) : Type 0 where
-  shares : List ℤ
-  are : AllZip (Enough listed) tokens shares
-  few : sum_of shares ≤ℤ sum
-
-nothing_listed : (tokens : List TokenName) → SharesFor [] tokens (pos 0)
-nothing_listed [] = record { shares = []; are = tt; few = omega (arith, ints) }
-nothing_listed (token ∷ tokens) =
-    let rest = nothing_listed tokens in
-    let few = rest.few in
-    record {
-      shares = pos 0 ∷ rest.shares;
-      are = (record { none = omega (arith, ints); enough = λ amount c. absurd (contains_none _ c) }, rest.are);
-      few = omega (arith, ints, few);
+      enough = λ quantity uses. bounds.each quantity (lists.all.all token quantity uses);
     }
 
-module _ (each : Amount) (more : List Amount) (whole : pos 0 ≤ℤ each.amount) where
-  -- for another token nothing changes
-  enough_other : (token : TokenName) (share : ℤ) → each.token ≢ token → Enough more token share → Enough (each ∷ more) token share
-  enough_other token share apart p = record {
-    none = p.none;
-    enough = λ amount c. elim (contains_cases each (record { token = token; amount = amount }) more c) [
-      | inl same ↦ absurd (apart (ap (λ (a : Amount). a.token) same))
-      | inr later ↦ p.enough amount later
-    ];
-  }
+    pub shares_are_sums : (capacity : ℤ) → KeepsCapacity model decisions state object instant capacity ↔ (sum_of_amounts listed ≤ℤ capacity)
+    shares_are_sums capacity = (
+      λ keeps. (
+          let below = listed_bounds AtLeast at_least listed lists.all.once state.tokens ok.order.tokens use_there keeps.shares (zip_mapped share_bounds state.tokens keeps.shares keeps.are_shares) in
+          let enough = keeps.enough in
+          omega (arith, ints, below, enough)),
+      λ few. (
+          let found = listed_reached AtLeast at_least listed lists.all.once state.tokens ok.order.tokens use_there in
+          let is_sum = found.is_sum in
+          record { shares = found.numbers; are_shares = zip_mapped bounds_share state.tokens found.numbers found.are; enough = omega (arith, ints, few, is_sum) }),
+    )
 
-  enough_others : (tokens : List TokenName) (shares : List ℤ) → ((token : TokenName) → Contains tokens token → each.token ≢ token)
-      → AllZip (Enough more) tokens shares → AllZip (Enough (each ∷ more)) tokens shares
-  enough_others [] [] apart zip = tt
-  enough_others [] (share ∷ shares) apart zip = absurd zip
-  enough_others (token ∷ tokens) [] apart zip = absurd zip
-  enough_others (token ∷ tokens) (share ∷ shares) apart zip = (
-    enough_other token share (apart token (contains_head token tokens)) zip.0,
-    enough_others tokens shares (λ other c. apart other (contains_later token other tokens c)) zip.1,
-  )
+  -- ---- rises and falls
 
-  enough_here : (token : TokenName) (share : ℤ) → Enough more token share → Enough (each ∷ more) token (share +ℤ each.amount)
-  enough_here token share p = record {
-    none = (let none = p.none in omega (arith, ints, none, whole));
-    enough = λ amount c. elim (contains_cases each (record { token = token; amount = amount }) more c) [
-      | inl same ↦ (let is : each.amount ≡ amount = ap (λ (a : Amount). a.amount) same in let none = p.none in omega (arith, ints, none, is))
-      | inr later ↦ (let enough = p.enough amount later in omega (arith, ints, enough, whole))
-    ];
-  }
+  module _ (rises falls : List Amount) (lists : ListsChanges model decisions state object instant rises falls) where
+    abbrev Greatest : TokenName → ℤ → Type 0
+    Greatest = HasGreatestChange model decisions state object instant
 
-  before_apart : (one other : TokenName) → IsTokenBefore one other → one ≢ other
-  before_apart one other before same = token_order.irreflexive one (subst (IsTokenBefore one) (sym same) before)
+    abbrev Least : TokenName → ℤ → Type 0
+    Least = HasLeastChange model decisions state object instant
 
-  -- the share of the one token grows by its amount
-  add : (tokens : List TokenName) (sum : ℤ) (shares : List ℤ) → AllPairs IsTokenBefore tokens → AllZip (Enough more) tokens shares → sum_of shares ≤ℤ sum → Contains tokens each.token
-      → SharesFor (each ∷ more) tokens (each.amount +ℤ sum)
-  add [] sum shares ordered zip few there = absurd (contains_none each.token there)
-  add (token ∷ tokens) sum [] ordered zip few there = absurd zip
-  add (token ∷ tokens) sum (share ∷ shares) ordered zip few there = elim (contains_cases token each.token tokens there) [
-    | inl same ↦ record {
-      shares = (share +ℤ each.amount) ∷ shares;
-      are = (enough_here token share zip.0, enough_others tokens shares (λ other c. subst (λ t. t ≢ other) same (before_apart token other (ordered_head IsTokenBefore token tokens ordered other c))) zip.1);
-      few = omega (arith, ints, few);
+    greatest_there : (token : TokenName) (change : ℤ) → Greatest token change → Contains state.tokens token
+    greatest_there token change (inl may) = let quantity = may.greatest in ((ok.variables (Token token (Param 0))).1 (quantity.0, quantity.1)).0
+    greatest_there token change (inr takes) = let quantity = takes.1.least in ((ok.variables (Token token (Param 0))).1 (quantity.0, quantity.1)).0
+
+    least_there : (token : TokenName) (change : ℤ) → Least token change → Contains state.tokens token
+    least_there token change (inl surely) = let quantity = surely.least in ((ok.variables (Token token (Param 0))).1 (quantity.0, quantity.1)).0
+    least_there token change (inr takes) = let quantity = takes.1.greatest in ((ok.variables (Token token (Param 0))).1 (quantity.0, quantity.1)).0
+
+    rise_there : (each : Amount) → Contains rises each → Contains state.tokens each.token
+    rise_there each c = greatest_there each.token each.amount (amount_of Greatest rises lists.greatest each.token each.amount c)
+
+    fall_there : (each : Amount) → Contains falls each → Contains state.tokens each.token
+    fall_there each c = least_there each.token each.amount (amount_of Least falls lists.least each.token each.amount c)
+
+    high_below : (token : TokenName) (change amount : ℤ) → IsHighChange model decisions state object instant token change → Greatest token amount → change ≤ℤ amount
+    high_below token change amount high (inl may) = elim high.adds [
+      | inl none ↦ (let whole = lists.produced token amount (inl may) in omega (arith, ints, none, whole))
+      | inr some ↦ (let same = same_amount Greatest rises lists.greatest token some.0 amount (inl some.1) (inl may) in let less = some.2 in omega (arith, ints, same, less))
+    ]
+    high_below token change amount high (inr takes) = let taken = high.takes takes.0 takes.1 in let is = takes.2 in omega (arith, ints, taken, is)
+
+    high_bounds : (token : TokenName) (change : ℤ) → IsHighChange model decisions state object instant token change → Bounds AtMost rises token change
+    high_bounds token change high = record {
+      some = elim high.adds [ inl none ↦ inl none | inr some ↦ inr (some.0, lists.greatest.all token some.0 (inl some.1), some.2) ];
+      each = λ amount c. high_below token change amount high (amount_of Greatest rises lists.greatest token amount c);
     }
-    | inr later ↦ (
-        let rest = add tokens (sum_of shares) shares (ordered_tail IsTokenBefore token tokens ordered) zip.1 (omega (arith, ints)) later in
-        let less = rest.few in
-        let apart = before_apart token each.token (ordered_head IsTokenBefore token tokens ordered each.token later) in record {
-          shares = share ∷ rest.shares;
-          are = (enough_other token share (λ same. apart (sym same)) zip.0, rest.are);
-          few = omega (arith, ints, few, less);
-        })
-  ]
 
-shares_for : (tokens : List TokenName) → AllPairs IsTokenBefore tokens → (listed : List Amount) → ((each : Amount) → Contains listed each → pos 0 ≤ℤ each.amount)
-    → ((each : Amount) → Contains listed each → Contains tokens each.token) → SharesFor listed tokens (sum_of_amounts listed)
-shares_for tokens ordered [] whole there = nothing_listed tokens
-shares_for tokens ordered (each ∷ more) whole there =
-    let rest = shares_for tokens ordered more (λ other c. whole other (contains_later each other more c)) (λ other c. there other (contains_later each other more c)) in
-    add each more (whole each (contains_head each more)) tokens (sum_of_amounts more) rest.shares ordered rest.are rest.few (there each (contains_head each more))
+    bounds_high : (token : TokenName) (change : ℤ) → Bounds AtMost rises token change → IsHighChange model decisions state object instant token change
+    bounds_high token change bounds = record {
+      adds = elim bounds.some [
+        | inl none ↦ inl none
+        | inr some ↦ (let less = some.2 in elim (amount_of Greatest rises lists.greatest token some.0 some.1) [
+          | inl may ↦ inr (some.0, may, less)
+          | inr takes ↦ inl (let whole = lists.consumed token takes.0 (inr takes.1) in let is = takes.2 in omega (arith, ints, less, whole, is))
+        ])
+      ];
+      takes = λ quantity surely. (
+          let away = taken_away quantity in
+          let is = away.1 in
+          let less = bounds.each away.0 (lists.greatest.all token away.0 (inr (quantity, surely, is))) in
+          omega (arith, ints, less, is));
+    }
 
--- ---- both
+    low_above : (token : TokenName) (change amount : ℤ) → IsLowChange model decisions state object instant token change → Least token amount → amount ≤ℤ change
+    low_above token change amount low (inl surely) = low.adds amount surely
+    low_above token change amount low (inr takes) = let is = takes.2 in elim low.takes [
+      | inl none ↦ (let whole = lists.consumed token takes.0 (inl takes.1) in omega (arith, ints, none, whole, is))
+      | inr some ↦ (
+          let away = taken_away some.0 in
+          let even = away.1 in
+          let same = same_amount Least falls lists.least token away.0 amount (inr (some.0, some.1, even)) (inr takes) in
+          let less = some.2 in
+          omega (arith, ints, same, even, less))
+    ]
 
-module _ (model : Model) (decisions : List Decision) (state : State) (object instant capacity : ℤ) (listed : List Amount) (ok : IsState model state) (lists : ListsUses model decisions state object instant listed) where
-  abbrev Uses : TokenName → ℤ → Type 0
-  Uses = SurelyUses model decisions state object instant
+    low_bounds : (token : TokenName) (change : ℤ) → IsLowChange model decisions state object instant token change → Bounds AtLeast falls token change
+    low_bounds token change low = record {
+      some = elim low.takes [
+        | inl none ↦ inl none
+        | inr some ↦ (
+            let away = taken_away some.0 in
+            let even = away.1 in
+            let less = some.2 in
+            inr (away.0, lists.least.all token away.0 (inr (some.0, some.1, even)), omega (arith, ints, even, less)))
+      ];
+      each = λ amount c. low_above token change amount low (amount_of Least falls lists.least token amount c);
+    }
 
-  abbrev Share : TokenName → ℤ → Type 0
-  Share = IsShare model decisions state object instant
+    bounds_low : (token : TokenName) (change : ℤ) → Bounds AtLeast falls token change → IsLowChange model decisions state object instant token change
+    bounds_low token change bounds = record {
+      takes = elim bounds.some [
+        | inl none ↦ inl none
+        | inr some ↦ (let less = some.2 in elim (amount_of Least falls lists.least token some.0 some.1) [
+          | inl surely ↦ inl (let whole = lists.produced token some.0 (inr surely) in omega (arith, ints, less, whole))
+          | inr takes ↦ (let is = takes.2 in inr (takes.0, takes.1, omega (arith, ints, less, is)))
+        ])
+      ];
+      adds = λ quantity surely. bounds.each quantity (lists.least.all token quantity (inl surely));
+    }
 
-  each_uses : (each : Amount) → Contains listed each → Uses each.token each.amount
-  each_uses each c = All-contains (λ (a : Amount). Uses a.token a.amount) listed each lists.all.have c
-
-  each_there : (each : Amount) → Contains listed each → Contains state.tokens each.token
-  each_there each c = let quantity = (each_uses each c).least in ((ok.variables (Token each.token (Param 0))).1 (quantity.0, quantity.1)).0
-
-  shares_enough : (tokens : List TokenName) (shares : List ℤ) → AllZip (Enough listed) tokens shares → AllZip Share tokens shares
-  shares_enough [] [] zip = tt
-  shares_enough [] (share ∷ shares) zip = absurd zip
-  shares_enough (token ∷ tokens) [] zip = absurd zip
-  shares_enough (token ∷ tokens) (share ∷ shares) zip = (
-    record { none = zip.0.none; enough = λ quantity uses. zip.0.enough quantity (lists.all.all token quantity uses) },
-    shares_enough tokens shares zip.1,
-  )
-
-  pub shares_are_sums : KeepsCapacity model decisions state object instant capacity ↔ (sum_of_amounts listed ≤ℤ capacity)
-  shares_are_sums = (
-    λ keeps. (
-        let below = sum_below Share (λ token share is. is.none) Uses (λ token share amount is uses. is.enough amount uses) listed lists.all.once each_uses state.tokens keeps.shares keeps.are_shares each_there in
-        let enough = keeps.enough in
-        omega (arith, ints, below, enough)),
-    λ few. (
-        let found = shares_for state.tokens ok.order.tokens listed (λ each c. lists.whole each.token each.amount (each_uses each c)) each_there in
-        let less = found.few in
-        record { shares = found.shares; are_shares = shares_enough state.tokens found.shares found.are; enough = omega (arith, ints, few, less) }),
-  )
+    pub changes_are_sums : (initial low high : ℤ) → StaysWithin model decisions state object instant initial low high
+        ↔ ((low ≤ℤ (initial +ℤ sum_of_amounts rises)) × ((initial +ℤ sum_of_amounts falls) ≤ℤ high))
+    changes_are_sums initial low high = (
+      λ stays. (
+          let above = listed_bounds AtMost at_most rises lists.greatest.once state.tokens ok.order.tokens rise_there stays.rises (zip_mapped high_bounds state.tokens stays.rises stays.are_rises) in
+          let below = listed_bounds AtLeast at_least falls lists.least.once state.tokens ok.order.tokens fall_there stays.falls (zip_mapped low_bounds state.tokens stays.falls stays.are_falls) in
+          let enough = stays.high_enough in
+          let few = stays.low_enough in
+          (omega (arith, ints, above, enough), omega (arith, ints, below, few))),
+      λ within. (
+          let up = listed_reached AtMost at_most rises lists.greatest.once state.tokens ok.order.tokens rise_there in
+          let down = listed_reached AtLeast at_least falls lists.least.once state.tokens ok.order.tokens fall_there in
+          let up_sum = up.is_sum in
+          let down_sum = down.is_sum in
+          let enough = within.0 in
+          let few = within.1 in
+          record {
+            rises = up.numbers;
+            are_rises = zip_mapped bounds_high state.tokens up.numbers up.are;
+            high_enough = omega (arith, ints, up_sum, enough);
+            falls = down.numbers;
+            are_falls = zip_mapped bounds_low state.tokens down.numbers down.are;
+            low_enough = omega (arith, ints, down_sum, few);
+          }),
+    )

@@ -1,8 +1,9 @@
 -- What is proved of the definitions.
-use Rattle.std.specs.Prelude.{◌≡◌, ◌↔◌, ℤ, pos, ◌≤ℤ◌, List, ◌∷◌, ◌++◌, Contains}
+use Rattle.std.specs.Prelude.{◌≡◌, ◌↔◌, ◌⊎◌, ℤ, pos, ◌+ℤ◌, ◌≤ℤ◌, List, ◌∷◌, ◌++◌, Contains}
 use Rattle.domain_core.specs.Domain.{Domain, IsDomain, IsWithin, least, greatest}
 use Rattle.eu_name.specs.declared.name.TokenName.{TokenName}
 use Rattle.eu_name.specs.declared.name.VarName.{VarName}
+use Rattle.model_core.specs.declared.class.PredKind.TheVariants.{Produce, Consume}
 use Rattle.model_core.specs.declared.decision.Decision.{Decision}
 use Rattle.model_core.specs.declared.model.Model.{Model}
 use Rattle.model_core.specs.Blocks.{TokenBlock}
@@ -14,7 +15,8 @@ use Rattle.plan_defs.specs.Closure.{IsConsistentState, IsLeast, IsCollapsed}
 use Rattle.plan_defs.specs.Consistency.{IsClaimConsistent}
 use Rattle.plan_defs.specs.History.{IsHistory}
 use Rattle.plan_defs.specs.Refusals.{Refusal, IsFirstRefusal}
-use Rattle.plan_defs.specs.Resources.{SurelyUses, KeepsCapacity}
+use Rattle.plan_defs.specs.Resources.{SurelyUses, KeepsCapacity, StaysWithin}
+use Rattle.plan_defs.specs.Resources.{SurelyChanges, MayChange, HasGreatestChange, HasLeastChange}
 use Rattle.plan_defs.specs.Settling.{Settles, IsSettled}
 use Rattle.plan_defs.specs.Situations.{situation_of}
 use Rattle.plan_defs.specs.Steps.{Approaches, AreSteps, SetsDomain, last_of}
@@ -181,9 +183,33 @@ module _ (model : Model) (decisions : List Decision) (state : State) (object ins
     pub whole : (token : TokenName) (quantity : ℤ)
         → SurelyUses model decisions state object instant token quantity → pos 0 ≤ℤ quantity
 
+  -- what is listed are the greatest and the least changes that the tokens can make to the level of the object by the
+  -- instant, and no quantity of them is less than nothing
+  pub record ListsChanges (rises falls : List Amount) : Type 0 where
+    pub greatest : ListsAll (HasGreatestChange model decisions state object instant) rises
+    pub least : ListsAll (HasLeastChange model decisions state object instant) falls
+    pub produced : (token : TokenName) (quantity : ℤ)
+        → MayChange model decisions state object instant Produce token quantity
+        ⊎ SurelyChanges model decisions state object instant Produce token quantity
+        → pos 0 ≤ℤ quantity
+    pub consumed : (token : TokenName) (quantity : ℤ)
+        → MayChange model decisions state object instant Consume token quantity
+        ⊎ SurelyChanges model decisions state object instant Consume token quantity
+        → pos 0 ≤ℤ quantity
+
 -- there are shares that keep the capacity exactly where the sum of what is surely used keeps it
 abbrev pub SharesAreSums : Type 0
 SharesAreSums =
     (model : Model) (decisions : List Decision) (state : State) (object instant capacity : ℤ) (listed : List Amount)
     → IsState model state → ListsUses model decisions state object instant listed
     → KeepsCapacity model decisions state object instant capacity ↔ (sum_of_amounts listed ≤ℤ capacity)
+
+-- there are rises and falls that keep a level within its limits exactly where the sum of the greatest changes doesn't
+-- leave it below the lower one, nor the sum of the least above the upper one
+abbrev pub ChangesAreSums : Type 0
+ChangesAreSums =
+    (model : Model) (decisions : List Decision) (state : State) (object instant initial low high : ℤ)
+    (rises falls : List Amount)
+    → IsState model state → ListsChanges model decisions state object instant rises falls
+    → StaysWithin model decisions state object instant initial low high
+    ↔ ((low ≤ℤ (initial +ℤ sum_of_amounts rises)) × ((initial +ℤ sum_of_amounts falls) ≤ℤ high))

@@ -122,6 +122,18 @@ module _ (model : Model) (decisions : List Decision) (state : State) (object ins
     pub takes : TakesAtMost token change
     pub adds : (quantity : ℤ) → SurelyChanges Produce token quantity → quantity ≤ℤ change
 
+  -- the greatest change that the token can make: all that it may produce, or what it surely consumes, taken away
+  abbrev pub HasGreatestChange : TokenName → ℤ → Type 0
+  HasGreatestChange token change =
+      MayChange Produce token change
+      ⊎ ((quantity : ℤ) × SurelyChanges Consume token quantity × (change +ℤ quantity ≡ pos 0))
+
+  -- the least change: what it surely produces, or all that it may consume, taken away
+  abbrev pub HasLeastChange : TokenName → ℤ → Type 0
+  HasLeastChange token change =
+      SurelyChanges Produce token change
+      ⊎ ((quantity : ℤ) × MayChange Consume token quantity × (change +ℤ quantity ≡ pos 0))
+
   -- what the tokens surely use isn't more than the capacity: it suffices for a share for each
   pub record KeepsCapacity (capacity : ℤ) : Type 0 where
     pub shares : List ℤ

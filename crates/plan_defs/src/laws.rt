@@ -3,7 +3,7 @@
 ghost use Rattle.plan_defs.specs.Closure.{IsConsistentState, IsClosed};
 ghost use Rattle.plan_defs.specs.Laws.{LeastIsOne, LeastIsNotCollapsed, BelowIsReflexive, BelowIsTransitive, BelowIsAntisymmetric};
 ghost use Rattle.plan_defs.specs.Laws.{WhatIsAskedStays, OrdersStay, StatesBelowHaveWhatIsAsked, ClaimsOfOrderBoundBoth};
-ghost use Rattle.plan_defs.specs.Laws.{StepsAddUp, NarrowingIsAStep, FrontsStayConsistent, SharesAreSums};
+ghost use Rattle.plan_defs.specs.Laws.{StepsAddUp, NarrowingIsAStep, FrontsStayConsistent, SharesAreSums, ChangesAreSums};
 ghost use Rattle.plan_defs.specs.Laws.{SettlingIsIdempotent, FrontsHaveLeastStates, HistoriesAreSettled, FirstRefusalIsOne};
 
 /// Decisions leave one least state at most, and none where they collapse.
@@ -69,4 +69,10 @@ pub fn first_refusal_is_one()
 /// The capacity of a reusable suffices for shares exactly where it suffices for the sum of what is surely used.
 pub fn shares_are_sums()
     ensures { SharesAreSums }
+{}
+
+/// The level of a reservoir can stay within its limits exactly where it does by the sums of the greatest and of the least
+/// changes that the tokens can make to it.
+pub fn changes_are_sums()
+    ensures { ChangesAreSums }
 {}
