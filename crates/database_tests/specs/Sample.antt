@@ -1,5 +1,7 @@
 -- A small lawful model, to try the definitions on: rovers that are at places, each time coming from another place. As text:
--- `class Rover { predicate At { int [0 3] place; } } Rover::At { any(object.At from); int [0 9] steps; } Rover spirit = new Rover(); goal(Rover.At here); int [0 10] total;`,
+-- `class Rover { predicate At { int [0 3] place; } }
+-- Rover::At { any(object.At from); int [0 9] steps; }
+-- Rover spirit = new Rover(); goal(Rover.At here); int [0 10] total;`,
 -- and one more global as for a field.
 use Rattle.std.specs.Prelude.{ℕ, pos, List, [], ◌∷◌, None, codes}
 use Rattle.domain_core.specs.Domain.{Domain, Range, Set}

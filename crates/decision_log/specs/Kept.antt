@@ -40,4 +40,5 @@ CanLeadTo (Take taken) decisions = (0 < length taken.items) × HavePlaces taken.
 -- each step can have led to its list, at the bottom nothing is decided, and there is room for each of the lists
 abbrev pub AreLogSteps : ℕ → List Decision → List Step → Type 0
 AreLogSteps room decisions [] = decisions ≡ []
-AreLogSteps room decisions (step ∷ older) = CanLeadTo step decisions × (length decisions ≤ room) × AreLogSteps room (list_before step decisions) older
+AreLogSteps room decisions (step ∷ older) =
+    CanLeadTo step decisions × (length decisions ≤ room) × AreLogSteps room (list_before step decisions) older

@@ -1,5 +1,6 @@
 -- Sets that are made of lists.
-use Rattle.std.specs.Prelude.{◌≡◌, ℕ, ◌<◌, ◌≤◌, ◌↔◌, ◌⊎◌, ℤ, List, [], length, take, All, Contains, Result, Ok, Err}
+use Rattle.std.specs.Prelude.{◌≡◌, ℕ, ◌<◌, ◌≤◌, ◌↔◌, ◌⊎◌, ℤ}
+use Rattle.std.specs.Prelude.{List, [], length, take, All, Contains, Result, Ok, Err}
 use Rattle.std.specs.List.{Any}
 use Rattle.domain_core.specs.Domain.{Domain, Set, IsValue, AreAscending, AreMembers}
 use Rattle.domain_core.specs.Narrowing.{IsSievedPart}

@@ -1,5 +1,6 @@
 -- What a shelf of files holds, where it tells, and what it answers when it is asked for one.
-use Rattle.std.specs.Prelude.{◌≡◌, ℕ, ◌<◌, ◌≤◌, Bool, true, false, List, [], ◌∷◌, length, Option, Some, None, Result, Ok, Err, ⊤, if◌then◌else◌, bytes_eq}
+use Rattle.std.specs.Prelude.{◌≡◌, ℕ, ◌<◌, ◌≤◌, Bool, true, false, List, [], ◌∷◌}
+use Rattle.std.specs.Prelude.{length, Option, Some, None, Result, Ok, Err, ⊤, if◌then◌else◌, bytes_eq}
 use Rattle.eu_io.specs.Faults.{counted}
 use Rattle.eu_io.specs.declared.shelf.FileEntry.{FileEntry}
 use Rattle.eu_io.specs.declared.shelf.ShelfFail.{ShelfFail}

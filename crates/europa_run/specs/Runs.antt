@@ -1,5 +1,6 @@
 -- What a run of the program leaves: its output or, after a fault, what was written of it and what was lost.
-use Rattle.std.specs.Prelude.{◌≡◌, ℕ, ◌≤◌, Bool, true, false, List, [], ◌++◌, ◌⊎◌, length, Option, Some, Result, Ok, Err}
+use Rattle.std.specs.Prelude.{◌≡◌, ℕ, ◌≤◌, Bool, true, false, List, []}
+use Rattle.std.specs.Prelude.{◌++◌, ◌⊎◌, length, Option, Some, Result, Ok, Err}
 use Rattle.eu_io.specs.Faults.{raised}
 use Rattle.eu_io.specs.Files.{file_named}
 use Rattle.eu_io.specs.declared.shelf.FileEntry.{FileEntry}

@@ -1,5 +1,6 @@
 -- What the pieces of the loop do. The public calls promise none of it.
-use Rattle.std.specs.Prelude.{◌≡◌, ◌≢◌, ℕ, ◌+◌, ◌<◌, Bool, true, false, List, [], ◌∷◌, ◌++◌, ◌⊎◌, length, ⊤, Option, Some, None, Result, Ok, Err}
+use Rattle.std.specs.Prelude.{◌≡◌, ◌≢◌, ℕ, ◌+◌, ◌<◌, Bool, true, false, List, []}
+use Rattle.std.specs.Prelude.{◌∷◌, ◌++◌, ◌⊎◌, length, ⊤, Option, Some, None, Result, Ok, Err}
 use Rattle.std.specs.Io.KnownBytes.{Consumes, Appends, IsAtEnd, Keeps}
 use Rattle.line_session.specs.declared.fault.SessionFault.{SessionFault}
 use Rattle.line_session.specs.declared.fault.SessionFault.TheVariants.{ReadFault, WriteFault, LinesSpent, Memory}

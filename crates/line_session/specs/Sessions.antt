@@ -31,7 +31,8 @@ abbrev pub preceded : {R : Type 0} → List ℕ → Course R → Course R
 preceded reply course = record { out = reply ++ course.out; ending = course.ending; last = course.last }
 
 -- the line is answered so, and the lines count no more than they may
-pub record IsAnswered {R : Type 0} (answers : Answering R) (old : Standing R) (line : List ℕ) (answer : Answer) (new : Standing R) : Type 0 where
+pub record IsAnswered {R : Type 0} (answers : Answering R)
+    (old : Standing R) (line : List ℕ) (answer : Answer) (new : Standing R) : Type 0 where
   pub answered : answers old.responder line answer new.responder
   pub counted : new.count ≡ old.count + cost_of line
   pub within : new.count ≤ most

@@ -53,10 +53,12 @@ entries_code_once (WithSlot slot more) (WithSlot slot' others) p = λ i.
 entries_code_once (WithLocal local more) (WithLocal local' others) p = λ i.
     WithLocal (ap (λ g. num (rest (rest g))) p i) (entries_code_once more others (ap (λ g. first (rest g)) p) i)
 entries_code_once (WithItem item more) (WithItem item' others) p = λ i.
-    WithItem (an_item.the_row.coded.inj item item' (ap (λ g. rest (rest g)) p) i) (entries_code_once more others (ap (λ g. first (rest g)) p) i)
+    WithItem (an_item.the_row.coded.inj item item' (ap (λ g. rest (rest g)) p) i)
+    (entries_code_once more others (ap (λ g. first (rest g)) p) i)
 entries_code_once (WithBranch guard then otherwise more) (WithBranch guard' then' otherwise' others) p = λ i.
     WithBranch (a_guard.the_row.coded.inj guard guard' (ap (λ g. rest (rest (rest (rest g)))) p) i)
-    (entries_code_once then then' (ap (λ g. first (rest (rest g))) p) i) (entries_code_once otherwise otherwise' (ap (λ g. first (rest (rest (rest g)))) p) i)
+    (entries_code_once then then' (ap (λ g. first (rest (rest g))) p) i)
+    (entries_code_once otherwise otherwise' (ap (λ g. first (rest (rest (rest g)))) p) i)
     (entries_code_once more others (ap (λ g. first (rest g)) p) i)
 entries_code_once one other p = absurd (omega (arith, same_sort one other p))
 

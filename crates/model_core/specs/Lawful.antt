@@ -1,5 +1,7 @@
 -- Which models are lawful: all that come from a text are, and perhaps others.
-use Rattle.std.specs.Prelude.{◌≡◌, ◌≢◌, ℕ, ◌+◌, ◌<◌, ◌≤◌, ◌^◌, pos, ◌≤ℤ◌, ◌<ℤ◌, Bool, true, false, ⊤, List, [], ◌∷◌, ◌++◌, Some, length, slice_get, All, AllPairs, Contains, codes, sum_by, count_by}
+use Rattle.std.specs.Prelude.{◌≡◌, ◌≢◌, ℕ, ◌+◌, ◌<◌, ◌≤◌, ◌^◌, pos}
+use Rattle.std.specs.Prelude.{◌≤ℤ◌, ◌<ℤ◌, Bool, true, false, ⊤, List, [], ◌∷◌, ◌++◌}
+use Rattle.std.specs.Prelude.{Some, length, slice_get, All, AllPairs, Contains, codes, sum_by, count_by}
 use Rattle.std.specs.List.{AllZip}
 use Rattle.domain_core.specs.Domain.{Range, IsDomain, IsValue}
 use Rattle.eu_name.specs.declared.name.TokenName.{TokenName}
@@ -33,7 +35,8 @@ use Rattle.model_core.specs.declared.variable.VarDecl.{VarDecl}
 use Rattle.model_core.specs.Blocks.{Direct, OfSlot, OfLocal, OfItem, OfBranch}
 use Rattle.model_core.specs.Constraints.{arity_of}
 use Rattle.model_core.specs.Entries.{Entries, NoEntry, WithSlot, WithLocal, WithItem, WithBranch}
-use Rattle.model_core.specs.Kinds.{IsUnder, AreObjectsOf, IsKind, IsValueOf, IsBaseOf, Scope, OfProblem, OfRule, AreComparable, AreArguments}
+use Rattle.model_core.specs.Kinds.{IsUnder, AreObjectsOf, IsKind, IsValueOf, IsBaseOf}
+use Rattle.model_core.specs.Kinds.{Scope, OfProblem, OfRule, AreComparable, AreArguments}
 use Rattle.model_core.specs.Naming.{builtin_names, names_of, declared_names, file_names, IsGlobalName, IsObjectName, IsParameterName}
 use Rattle.model_core.specs.Standing.{StandsAt, StandsOnce, LeadsToBlock, IsTermSeen, IsItemSeen}
 use Rattle.model_core.specs.Tokens.{HasToken}

@@ -1,5 +1,6 @@
 -- Laws of files with their includes.
-use Rattle.std.specs.Prelude.{◌≡◌, ◌≢◌, ℕ, ◌≤◌, true, List, ◌∷◌, length, All, AllPairs, Option, Some, Result, Ok, IfErr, IsSome}
+use Rattle.std.specs.Prelude.{◌≡◌, ◌≢◌, ℕ, ◌≤◌, true, List, ◌∷◌}
+use Rattle.std.specs.Prelude.{length, All, AllPairs, Option, Some, Result, Ok, IfErr, IsSome}
 use Rattle.eu_io.specs.declared.shelf.FileEntry.{FileEntry}
 use Rattle.nddl_ast.specs.declared.declaration.Decl.{Decl}
 use Rattle.nddl_includes.specs.declared.fault.TextFail.{TextFail}

@@ -1,10 +1,14 @@
 -- How lexemes, blanks and comments are spelled, and the values of numbers.
-use Rattle.std.specs.Prelude.{◌≡◌, ℕ, ◌+◌, ◌*◌, ◌-◌, ◌^◌, ◌<◌, ◌≤◌, ℤ, pos, negsuc, ◌≤ℤ◌, ◌⊎◌, ◌==◌, if◌then◌else◌, Option, Some, None, List, [], ◌∷◌, ◌++◌, length, slice_index, IsTrue, codes}
+use Rattle.std.specs.Prelude.{◌≡◌, ℕ, ◌+◌, ◌*◌, ◌-◌, ◌^◌, ◌<◌, ◌≤◌, ℤ}
+use Rattle.std.specs.Prelude.{pos, negsuc, ◌≤ℤ◌, ◌⊎◌, ◌==◌, if◌then◌else◌, Option}
+use Rattle.std.specs.Prelude.{Some, None, List, [], ◌∷◌, ◌++◌, length, slice_index, IsTrue, codes}
 use Rattle.std.proofs.Common.{neg_ℤ}
 use Rattle.std.specs.Str.Parse.{digits_value}
 use Rattle.eu_name.specs.Word.{IsWord}
 use Rattle.nddl_lexer.specs.declared.kinds.LexKind.{LexKind}
-use Rattle.nddl_lexer.specs.declared.kinds.LexKind.TheVariants.{Word, Number, Decimal, Str, Include, BraceOpen, BraceClose, ParenOpen, ParenClose, BracketOpen, BracketClose, Semicolon, Comma, Point, Assign, Equal, NotEqual, DoubleColon}
+use Rattle.nddl_lexer.specs.declared.kinds.LexKind.TheVariants.{Word, Number, Decimal, Str, Include, BraceOpen, BraceClose}
+use Rattle.nddl_lexer.specs.declared.kinds.LexKind.TheVariants.{ParenOpen, ParenClose, BracketOpen, BracketClose, Semicolon}
+use Rattle.nddl_lexer.specs.declared.kinds.LexKind.TheVariants.{Comma, Point, Assign, Equal, NotEqual, DoubleColon}
 use Rattle.nddl_lexer.specs.Bytes.{is_blank, is_quotable, is_in_line, AllPassing, AreDigits, unsigned}
 
 -- digits or `inf`, with a sign directly before them or none

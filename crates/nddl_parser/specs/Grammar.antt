@@ -14,7 +14,8 @@ use Rattle.nddl_ast.specs.declared.declaration.Member.{Member}
 use Rattle.nddl_ast.specs.declared.declaration.Member.TheVariants as members
 use Rattle.nddl_ast.specs.declared.declaration.Decl.{Decl}
 use Rattle.nddl_ast.specs.declared.declaration.Decl.TheVariants as decls
-use Rattle.nddl_statements.specs.Grammar.{IsWrittenName, AreArguments, IsInit, IsType, IsTyped, IsVariable, IsCall, IsAsk, IsBlock, deep_block}
+use Rattle.nddl_statements.specs.Grammar.{IsWrittenName, AreArguments, IsInit, IsType, IsTyped}
+use Rattle.nddl_statements.specs.Grammar.{IsVariable, IsCall, IsAsk, IsBlock, deep_block}
 
 -- ---- declarations
 

@@ -5,7 +5,8 @@ use Rattle.nddl_reading.specs.declared.sort.Sort.{Sort}
 use Rattle.eu_name.specs.declared.word.Reserved.TheVariants as keywords
 use Rattle.nddl_reading.specs.declared.sort.Sort.TheVariants as sorts
 use Rattle.nddl_reading.specs.Symbols.{PlainSymbol}
-use Rattle.nddl_reading.specs.Readers.{stuck, deep, Reader, and_then, is, symbol_of, mark_place, mark, may_mark, nothing, mapped, sequence, choice, many, after, following, separated, listed}
+use Rattle.nddl_reading.specs.Readers.{stuck, deep, Reader, and_then, is, symbol_of, mark_place, mark, may_mark}
+use Rattle.nddl_reading.specs.Readers.{nothing, mapped, sequence, choice, many, after, following, separated, listed}
 use Rattle.nddl_ast.specs.declared.name.Name.{Name}
 use Rattle.nddl_ast.specs.declared.name.Path.{Path}
 use Rattle.nddl_ast.specs.declared.expression.Constant.TheVariants as constants

@@ -1,5 +1,6 @@
 -- The level that changes leave at an instant.
-use Rattle.std.specs.Prelude.{ℤ, pos, negsuc, ◌+ℤ◌, ◌≤ℤ◌, ◌<ℤ◌, ◌⊎◌, int_le, if◌then◌else◌, List, [], ◌∷◌}
+use Rattle.std.specs.Prelude.{ℤ, pos, negsuc, ◌+ℤ◌, ◌≤ℤ◌, ◌<ℤ◌}
+use Rattle.std.specs.Prelude.{◌⊎◌, int_le, if◌then◌else◌, List, [], ◌∷◌}
 use Rattle.resource_profile.specs.declared.level.LevelChange.{LevelChange}
 
 -- a change adds or takes a million at most

@@ -27,7 +27,9 @@ items_inside (Branch guard then otherwise) = item_count then + item_count otherw
 
 -- the item of this number among these stands at this place of the block to which the way leads
 abbrev pub IsNumberIn : List PlacedItem → List Turn → ItemAt → Type 0
-IsNumberIn items path found = (item : what.Item) × (slice_get items found.number ≡ Some (record { path = path; place = found.entry; item = item }))
+IsNumberIn items path found =
+    (item : what.Item)
+    × (slice_get items found.number ≡ Some (record { path = path; place = found.entry; item = item }))
 
 -- what is found is the items that stand directly in the block, each with its number in each list that has the items of the
 -- block from `first` on

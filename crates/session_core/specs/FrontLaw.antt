@@ -54,7 +54,10 @@ pub front_answers : (old : Database) (line : List ℕ) (answer : Answer) (new : 
 front_answers old line answer new (inl p, on) = (
   inl (
     p.0,
-    record { stops = stops_line old line p.0 p.1.stops; first = λ earlier before stops. p.1.first earlier before (stops_front old line earlier stops) },
+    record {
+      stops = stops_line old line p.0 p.1.stops;
+      first = λ earlier before stops. p.1.first earlier before (stops_front old line earlier stops);
+    },
     p.2,
     p.3,
   ),

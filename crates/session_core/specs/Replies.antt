@@ -74,7 +74,9 @@ outcome_line Inconsistent = with_line_feed (codes "inconsistent")
 -- how a variable is printed with its domain: a range by its ends
 abbrev pub domain_line : List ℕ → domains.Domain → List ℕ
 domain_line name domain =
-    with_line_feed (name ++ (codes " [" ++ (signed_decimal (least domain) ++ (codes " " ++ (signed_decimal (greatest domain) ++ codes "]")))))
+    with_line_feed
+    (name ++ (codes " [" ++ (signed_decimal (least domain)
+    ++ (codes " " ++ (signed_decimal (greatest domain) ++ codes "]")))))
 
 -- what `domain` tells otherwise: that nothing is possible, or the variable's domain in the least state
 abbrev pub TellsDomain : Database → List ℕ → List ℕ → Type 0

@@ -1,5 +1,6 @@
 -- What the search for the least and the greatest values goes through.
-use Rattle.std.specs.Prelude.{◌≡◌, ℕ, ℤ, pos, neg_ℤ, ◌-ℤ◌, ◌≤ℤ◌, ◌<ℤ◌, List, Option, Some, None, MatchOption, ⊤}
+use Rattle.std.specs.Prelude.{◌≡◌, ℕ, ℤ, pos, neg_ℤ, ◌-ℤ◌, ◌≤ℤ◌}
+use Rattle.std.specs.Prelude.{◌<ℤ◌, List, Option, Some, None, MatchOption, ⊤}
 use Rattle.std.specs.Prelude.{slice_index_or}
 use Rattle.temporal_core.specs.declared.edges.Edge.{Edge}
 use Rattle.temporal_core.specs.Settled.{IsNear}

@@ -1,5 +1,6 @@
 -- What the search for the canonical cycle goes through.
-use Rattle.std.specs.Prelude.{ℕ, ◌+◌, ◌-◌, ◌<◌, ◌≤◌, ℤ, pos, ◌↔◌, List, ◌++◌, length, All, Contains, slice_index_or}
+use Rattle.std.specs.Prelude.{ℕ, ◌+◌, ◌-◌, ◌<◌, ◌≤◌, ℤ, pos, ◌↔◌}
+use Rattle.std.specs.Prelude.{List, ◌++◌, length, All, Contains, slice_index_or}
 use Rattle.std.specs.List.{range_with_len}
 use Rattle.temporal_core.specs.declared.edges.Edge.{Edge}
 use Rattle.temporal_core.specs.Schedule.{IsSchedule, HasNoSchedule}

@@ -1,5 +1,6 @@
 -- Cycles of edges, and the one that is told where there is no schedule.
-use Rattle.std.specs.Prelude.{◌≡◌, ◌≢◌, ℕ, ◌<◌, ◌≤◌, ℤ, pos, ◌+ℤ◌, ◌<ℤ◌, ◌⊎◌, ◌↔◌, List, [], ◌∷◌, ◌++◌, length, All}
+use Rattle.std.specs.Prelude.{◌≡◌, ◌≢◌, ℕ, ◌<◌, ◌≤◌, ℤ, pos, ◌+ℤ◌}
+use Rattle.std.specs.Prelude.{◌<ℤ◌, ◌⊎◌, ◌↔◌, List, [], ◌∷◌, ◌++◌, length, All}
 use Rattle.std.specs.Prelude.{Contains, slice_get, option_to_list}
 use Rattle.std.specs.List.{range_with_len}
 use Rattle.temporal_core.specs.declared.edges.Edge.{Edge}

@@ -1,5 +1,6 @@
 -- When the points can be.
-use Rattle.std.specs.Prelude.{◌≡◌, ℕ, ◌<◌, ℤ, pos, ◌+ℤ◌, ◌≤ℤ◌, List, length, All, Option, Some, None, slice_index_or}
+use Rattle.std.specs.Prelude.{◌≡◌, ℕ, ◌<◌, ℤ, pos, ◌+ℤ◌, ◌≤ℤ◌}
+use Rattle.std.specs.Prelude.{List, length, All, Option, Some, None, slice_index_or}
 use Rattle.temporal_core.specs.declared.edges.Edge.{Edge}
 
 -- the edge's second point comes no sooner than the gap after the first

@@ -1,5 +1,6 @@
 -- What the pieces of the calls do. The public calls promise none of it.
-use Rattle.std.specs.Prelude.{◌≡◌, ◌↔◌, ℕ, ◌<◌, ◌≤◌, List, [], ◌∷◌, ◌++◌, length, take, reverse, slice_index_or, slice_set, Option, Some, None, IfSome}
+use Rattle.std.specs.Prelude.{◌≡◌, ◌↔◌, ℕ, ◌<◌, ◌≤◌, List, [], ◌∷◌, ◌++◌}
+use Rattle.std.specs.Prelude.{length, take, reverse, slice_index_or, slice_set, Option, Some, None, IfSome}
 use Rattle.eu_name.specs.declared.name.TokenName.{TokenName}
 use Rattle.eu_name.specs.NameOrder.{IsTokenBefore}
 use Rattle.token_store.specs.declared.trail.Edit.{Edit}
@@ -24,7 +25,8 @@ pub record ReturnsTo (behind : ℕ) (old new : TokenList × List Edit) : Type 0 
 pub record Parts (names : List TokenName) (ranking : List ℕ) (name : TokenName) (rank : ℕ) : Type 0 where
   pub within : rank ≤ length ranking
   pub lower : (other : ℕ) → other < rank → IsTokenBefore (name_at names (slice_index_or ranking other 0)) name
-  pub upper : (other : ℕ) → rank ≤ other → other < length ranking → IsTokenBefore (name_at names (slice_index_or ranking other 0)) name → ⊥
+  pub upper : (other : ℕ) → rank ≤ other → other < length ranking
+      → IsTokenBefore (name_at names (slice_index_or ranking other 0)) name → ⊥
 
 -- the place of the one token whose subgoal the name is, if there is one
 pub record FindsParent (names : List TokenName) (name : TokenName) (found : Option ℕ) : Type 0 where

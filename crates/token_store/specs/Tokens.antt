@@ -1,5 +1,6 @@
 -- Tokens by place, and what can be gone back to.
-use Rattle.std.specs.Prelude.{◌≡◌, ℕ, zero, suc, ◌+◌, List, [], ◌∷◌, ◌++◌, length, map, slice_get, Option, Some, None, Result, Ok, Err}
+use Rattle.std.specs.Prelude.{◌≡◌, ℕ, zero, suc, ◌+◌, List, [], ◌∷◌, ◌++◌}
+use Rattle.std.specs.Prelude.{length, map, slice_get, Option, Some, None, Result, Ok, Err}
 use Rattle.eu_name.specs.declared.name.TokenName.{TokenName}
 use Rattle.model_core.specs.declared.view.TokenState.{TokenState}
 use Rattle.model_core.specs.declared.view.TokenState.TheVariants.{Inactive}
