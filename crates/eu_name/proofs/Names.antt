@@ -12,9 +12,9 @@ use Rattle.eu_name.specs.declared.name_text.Tail.{Tail}
 use Rattle.eu_name.specs.declared.name_text.NameFault.{NameFault}
 use Rattle.eu_name.specs.declared.name_text.NameFault.TheVariants.{Syntax, Memory}
 use Rattle.eu_name.specs.Word.{is_word_start, is_word_byte, IsName}
-use Rattle.eu_name.specs.Spelling.{ending_text, spelling_of, IsStep, IsTail, IsNumbered, Spells, Reads}
+use Rattle.eu_name.specs.Spelling.{ending_text, name_spelling, IsStep, IsTail, IsNumbered, Spells, Reads}
 use Rattle.eu_name.specs.Readers.{IsEnding, ReadsEnding}
-use Rattle.eu_name.specs.Laws.{SpellsOneName, IsReadBack}
+use Rattle.eu_name.specs.Laws.{SpellsOneName, IsNameReadBack}
 use Rattle.eu_name.proofs.Fronts.{Passes, Stops, is_prefix}
 use Rattle.eu_name.proofs.Numbers.{number_passes}
 use Rattle.eu_name.proofs.Endings.{same_endings}
@@ -56,13 +56,13 @@ record IsLabelled (text : List ℕ) (name : NameText) : Type 0 where
   front : take (prefix_len is_word_byte text) text ≡ name.label
   ending : IsEnding (drop (prefix_len is_word_byte text) text) name.steps name.tail
 
-labelled : (text : List ℕ) (name : NameText) → IsName name.label → All IsStep name.steps → IsTail name.tail → text ≡ spelling_of name → IsLabelled text name
+labelled : (text : List ℕ) (name : NameText) → IsName name.label → All IsStep name.steps → IsTail name.tail → text ≡ name_spelling name → IsLabelled text name
 labelled text name named steps tail whole =
     let parts = is_prefix is_word_byte text name.label (ending_text name.steps name.tail) (name_passes name.label named) (ending_stops name.steps name.tail) whole in
     record { named = named; front = parts.0; ending = record { small = steps; tailed = tail; whole = parts.1 } }
 
 -- and one that is `!` and a number
-bare : (text : List ℕ) (name : NameText) → name.steps ≡ [] → name.tail ≡ Tail.None → text ≡ spelling_of name → text ≡ name.label
+bare : (text : List ℕ) (name : NameText) → name.steps ≡ [] → name.tail ≡ Tail.None → text ≡ name_spelling name → text ≡ name.label
 bare text name steps tail whole = whole ∙ rw (steps, tail) (append-nil name.label)
 
 -- what a text is that spells a name, and is no number after `!`
@@ -129,7 +129,7 @@ spells_one_name text one other (inr p, whole) (inr q, whole') =
     let tails : one.tail ≡ other.tail = p.2 ∙ sym q.2 in
     λ i. record { label = labels i; steps = steps i; tail = tails i }
 
-pub is_read_back : IsReadBack
-is_read_back name (Ok other) is reads safe = ap Ok (spells_one_name (spelling_of name) other name reads (is, refl))
+pub is_read_back : IsNameReadBack
+is_read_back name (Ok other) is reads safe = ap Ok (spells_one_name (name_spelling name) other name reads (is, refl))
 is_read_back name (Err Syntax) is reads safe = absurd (reads name (is, refl))
 is_read_back name (Err Memory) is reads safe = absurd (safe refl)

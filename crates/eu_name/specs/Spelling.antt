@@ -25,8 +25,8 @@ abbrev pub ending_text : List Step → Tail → List ℕ
 ending_text steps tail = flat_map step_text steps ++ tail_text tail
 
 -- the label and all that follows it
-abbrev pub spelling_of : NameText → List ℕ
-spelling_of name = name.label ++ ending_text name.steps name.tail
+abbrev pub name_spelling : NameText → List ℕ
+name_spelling name = name.label ++ ending_text name.steps name.tail
 
 -- a rule, a slot or a local has a number below 65,536
 abbrev pub IsStep : Step → Type 0
@@ -50,7 +50,7 @@ IsWellFormed name =
 
 -- the text spells the name
 abbrev pub Spells : List ℕ → NameText → Type 0
-Spells text name = IsWellFormed name × (text ≡ spelling_of name)
+Spells text name = IsWellFormed name × (text ≡ name_spelling name)
 
 -- the answer to a text: the name that it spells, or that it spells none; memory can run out only for a text that
 -- spells one

@@ -1,6 +1,6 @@
 //! Laws of names, for whoever keeps them in order, or writes them and reads them again.
 
-ghost use Rattle.eu_name.specs.Laws.{SpellsOneName, IsReadBack, IsWrittenBack, DecidesEquality};
+ghost use Rattle.eu_name.specs.Laws.{SpellsOneName, IsNameReadBack, IsWrittenBack, DecidesEquality};
 ghost use Rattle.eu_name.specs.NameOrder.{IsStrictTotalOrder, IsTokenBefore, IsVarBefore};
 
 use super::name::{Part, Step, TokenName, VarName};
@@ -16,7 +16,7 @@ pub fn names_are_in_order()
 /// A law: reading and writing are inverse to each other, since a text spells one name at most.
 pub fn names_are_read_back()
     ensures one { SpellsOneName }
-    ensures read { IsReadBack }
+    ensures read { IsNameReadBack }
     ensures written { IsWrittenBack }
 {}
 

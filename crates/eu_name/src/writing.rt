@@ -1,7 +1,7 @@
 //! Writes names.
 
 ghost use Rattle.std.specs.Prelude.{◌≡◌, ◌++◌, IfOk, OnOk, string_bytes};
-ghost use Rattle.eu_name.specs.Spelling.{step_text, tail_text, spelling_of};
+ghost use Rattle.eu_name.specs.Spelling.{step_text, tail_text, name_spelling};
 
 use super::bytes::Bytes;
 use super::name::Step;
@@ -29,7 +29,7 @@ fn write_tail(text: &mut String, tail: &Tail) -> Result<(), AllocError>
 /// The one spelling of a name, where it is well-formed, as every name that was read is. Any other is written alike,
 /// and then the text spells another name or none.
 pub fn write_name(alloc: Global, name: &NameText) -> Result<Bytes, AllocError>
-    ensures { IfOk result (λ bytes. bytes ≡ spelling_of name.now) }
+    ensures { IfOk result (λ bytes. bytes ≡ name_spelling name.now) }
 {
     let mut text = String::from_str(alloc, name.label.as_str())?;
     for step in name.steps.as_slice() {

@@ -16,7 +16,7 @@ use Rattle.europa_run.specs.declared.command_line.Request.{Request}
 use Rattle.europa_run.specs.declared.command_line.Request.TheVariants.{Script, Show}
 use Rattle.europa_run.specs.declared.status.RunEnd.{RunEnd}
 use Rattle.europa_run.specs.declared.status.RunFault.TheVariants.{Read, Write, Memory}
-use Rattle.europa_run.specs.Laws.{HasOneOutput, LeavesFront}
+use Rattle.europa_run.specs.Laws.{HasOneOutput, FaultLeavesFront}
 use Rattle.europa_run.specs.Output.{Given, start_of, end_of, ScriptOutput, FileOutput, RequestOutput, Output}
 use Rattle.europa_run.specs.Printed.{FaultOutput}
 use Rattle.europa_run.specs.Runs.{Leavings, StopsScript}
@@ -86,7 +86,7 @@ stopped_front words given leavings end stops whole last output =
 none_front : (out whole : List ℕ) → out ≡ [] → IsFront out whole
 none_front out whole none = (whole, ap (λ l. l ++ whole) (sym none))
 
-pub fault_leaves_front : LeavesFront
+pub fault_leaves_front : FaultLeavesFront
 fault_leaves_front words given leavings Read (inl nothing) whole end output = none_front leavings.out whole nothing.0
 fault_leaves_front words given leavings Read (inr stops) whole end output = stopped_front words given leavings fault.ReadFault stops whole end output
 fault_leaves_front words given leavings Write (inl loses) whole end output =

@@ -12,8 +12,8 @@ HasOneOutput = (words : List (List ℕ)) (given : Given) (out other : List ℕ) 
     → Output words given out end → Output words given other last → (other ≡ out) × (last ≡ end)
 
 -- what was written before a fault comes first in the defined output, whatever that is
-abbrev pub LeavesFront : Type 0
-LeavesFront =
+abbrev pub FaultLeavesFront : Type 0
+FaultLeavesFront =
     (words : List (List ℕ)) (given : Given) (leavings : Leavings) (fault : RunFault)
     → RunLeaves words given leavings (Err fault)
     → (whole : List ℕ) (end : RunEnd) → Output words given whole end → IsFront leavings.out whole

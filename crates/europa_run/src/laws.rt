@@ -1,6 +1,6 @@
 //! Laws of runs, for whoever reads them by their definitions.
 
-ghost use Rattle.europa_run.specs.Laws.{HasOneOutput, LeavesFront};
+ghost use Rattle.europa_run.specs.Laws.{HasOneOutput, FaultLeavesFront};
 
 /// A law: over the same files and input words have one output, and one end.
 pub fn words_have_one_output()
@@ -9,5 +9,5 @@ pub fn words_have_one_output()
 
 /// A law: what a run wrote before a fault comes first in the output that its words have, whatever that is.
 pub fn fault_leaves_front()
-    ensures { LeavesFront }
+    ensures { FaultLeavesFront }
 {}

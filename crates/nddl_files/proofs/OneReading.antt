@@ -5,7 +5,7 @@ use Rattle.nddl_includes.specs.declared.fault.TextFail.{TextFail}
 use Rattle.nddl_includes.specs.declared.fault.TextFail.TheVariants as text
 use Rattle.std.specs.Prelude.{IfErr, IsSome}
 use Rattle.nddl_includes.specs.Faults.{fail_kind}
-use Rattle.nddl_includes.specs.Laws.{HasOneReading}
+use Rattle.nddl_includes.specs.Laws.{TextsHaveOneReading}
 use Rattle.nddl_lexer.specs.declared.kinds.LexFault.{LexFault}
 use Rattle.nddl_lexer.specs.declared.kinds.LexFault.TheVariants as lexer
 use Rattle.nddl_lexer.specs.declared.kinds.LexKind.{LexKind}
@@ -24,7 +24,7 @@ use Rattle.nddl_parser.specs.Derives as parsing
 use Rattle.nddl_parser.specs.Derives.{Parses}
 use Rattle.nddl_parser.specs.Grammar.{most_nested}
 use Rattle.nddl_parser.specs.Productions as productions
-use Rattle.nddl_parser.specs.Symbols.{sort_of, Keeps, HasValue, IsSymbolOf, AreSymbols}
+use Rattle.nddl_parser.specs.Symbols.{sort_of, KeepsBytes, HasValue, IsSymbolOf, AreSymbols}
 use Rattle.nddl_parser.proofs.OneOutcome as parsed
 use Rattle.nddl_parser.proofs.Outcomes.{whole_tree, more_left, stuck_there, deep_there}
 use Rattle.nddl_files.specs.Language.{ParsesText, ReadsAs}
@@ -80,7 +80,7 @@ read_once bytes one other p q = meet bytes one other (comes bytes one p) (comes 
 -- ---- some reading
 
 -- what is kept of a lexeme, and its value
-some_parts : (kind : LexKind) (bytes : List ℕ) → IsSpelled kind bytes → IsInRange (Some kind) bytes → (kept : List ℕ) × (value : ℤ) × Keeps kind bytes kept × HasValue kind bytes value
+some_parts : (kind : LexKind) (bytes : List ℕ) → IsSpelled kind bytes → IsInRange (Some kind) bytes → (kept : List ℕ) × (value : ℤ) × KeepsBytes kind bytes kept × HasValue kind bytes value
 some_parts kinds.Str bytes spelled range = (spelled.inside, pos 0, spelled.parts, refl)
 some_parts kinds.Number bytes spelled range = (bytes, range.0, refl, range.1)
 some_parts kinds.Decimal bytes spelled range = (bytes, range.0, refl, range.1)
@@ -136,7 +136,7 @@ some_reading bytes (Ok lexemes) is =
     parse_reading bytes parse.0 (lexemes, is, parse.1)
 some_reading bytes (Err fault) is = (Err (text.Lex fault), is)
 
-pub one_reading : HasOneReading ReadsAs
+pub one_reading : TextsHaveOneReading ReadsAs
 one_reading bytes short =
     let outcome = lexed.one_outcome bytes in
     let some = some_reading bytes outcome.0 outcome.1 in

@@ -17,14 +17,14 @@ use Rattle.nddl_includes.specs.declared.fault.ReadAllFault.{ReadAllFault}
 use Rattle.nddl_includes.specs.declared.fault.ReadAllFault.TheVariants as all
 use Rattle.nddl_includes.specs.Faults.{fail_kind, faulty, fault_at}
 use Rattle.nddl_includes.specs.Includes.{includes_of, is_skipped, ask_in}
-use Rattle.nddl_includes.specs.Laws.{HasOneReading, HasOneOutcome}
+use Rattle.nddl_includes.specs.Laws.{TextsHaveOneReading, FilesHaveOneOutcome}
 use Rattle.nddl_includes.specs.Limits.{most_bytes, most_files, deepest}
-use Rattle.nddl_includes.specs.Outcomes.{Reading, Outcome}
-use Rattle.nddl_includes.specs.Visits.{Loads, Stops, Takes, Visit, Enters, Follows, VisitsBy, Visits, first_ask, with_file}
+use Rattle.nddl_includes.specs.Outcomes.{Reading, FilesOutcome}
+use Rattle.nddl_includes.specs.Visits.{Loads, Stops, Takes, Visit, Enters, FollowsIncludes, VisitsBy, Visits, first_ask, with_file}
 
 -- no visit has two outcomes
 abbrev pub IsSingle : Visit → Type 0
-IsSingle visit = (ask : Ask) (read : List FileDecls) (one other : Outcome) → visit ask read one → visit ask read other → other ≡ one
+IsSingle visit = (ask : Ask) (read : List FileDecls) (one other : FilesOutcome) → visit ask read one → visit ask read other → other ≡ one
 
 there_is : (held : Option (List ℕ)) (text : List ℕ) → None ≡ held → Some text ≡ held → ⊥
 there_is held text none some = cc
@@ -64,7 +64,7 @@ one_load files count levels name (Ok text) (Err refused.TooManyFiles) p q = let 
 one_load files count levels name (Ok text) (Err refused.TooDeep) p q = let same = same_len (file_named name files) text q.0 p.0 q.1 in absurd (omega (arith, same))
 one_load files count levels name (Ok text) (Ok more) p q = ap Ok (same_text (file_named name files) text more p.0 q.0)
 
-module _ (reads : Reading) (has_one : HasOneReading reads) (files : List FileEntry) where
+module _ (reads : Reading) (has_one : TextsHaveOneReading reads) (files : List FileEntry) where
   single : (text : List ℕ) → length text ≤ most_bytes → (one other : Result (List Decl) TextFail) → reads text one → reads text other → other ≡ one
   single text short one other p q = (has_one text short).1.only other q ∙ sym ((has_one text short).1.only one p)
 
@@ -112,27 +112,27 @@ module _ (reads : Reading) (has_one : HasOneReading reads) (files : List FileEnt
   one_enter visit only ask read one other (inr p) (inl q) = absurd (p.0 q.0)
   one_enter visit only ask read one other (inr p) (inr q) = q.1 ∙ sym p.1
 
-  one_end : (go_on : List FileDecls → Outcome → Type 0) → ((read : List FileDecls) (one other : Outcome) → go_on read one → go_on read other → other ≡ one)
-      → (met one other : Outcome) → MatchResult met (λ between. go_on between one) (λ fault. one ≡ Err fault)
+  one_end : (go_on : List FileDecls → FilesOutcome → Type 0) → ((read : List FileDecls) (one other : FilesOutcome) → go_on read one → go_on read other → other ≡ one)
+      → (met one other : FilesOutcome) → MatchResult met (λ between. go_on between one) (λ fault. one ≡ Err fault)
       → MatchResult met (λ between. go_on between other) (λ fault. other ≡ Err fault) → other ≡ one
   one_end go_on only (Ok between) one other p q = only between one other p q
   one_end go_on only (Err fault) one other p q = q ∙ sym p
 
-  one_step : (visit : Visit) → IsSingle visit → (go_on : List FileDecls → Outcome → Type 0) → ((read : List FileDecls) (one other : Outcome) → go_on read one → go_on read other → other ≡ one)
-      → (skipped : Bool) (ask : Ask) (read : List FileDecls) (one other : Outcome)
-      → MatchBool skipped (go_on read one) ((met : Outcome) × Enters visit ask read met × MatchResult met (λ between. go_on between one) (λ fault. one ≡ Err fault))
-      → MatchBool skipped (go_on read other) ((met : Outcome) × Enters visit ask read met × MatchResult met (λ between. go_on between other) (λ fault. other ≡ Err fault))
+  one_step : (visit : Visit) → IsSingle visit → (go_on : List FileDecls → FilesOutcome → Type 0) → ((read : List FileDecls) (one other : FilesOutcome) → go_on read one → go_on read other → other ≡ one)
+      → (skipped : Bool) (ask : Ask) (read : List FileDecls) (one other : FilesOutcome)
+      → MatchBool skipped (go_on read one) ((met : FilesOutcome) × Enters visit ask read met × MatchResult met (λ between. go_on between one) (λ fault. one ≡ Err fault))
+      → MatchBool skipped (go_on read other) ((met : FilesOutcome) × Enters visit ask read met × MatchResult met (λ between. go_on between other) (λ fault. other ≡ Err fault))
       → other ≡ one
   one_step visit only go_on goes true ask read one other p q = goes read one other p q
   one_step visit only go_on goes false ask read one other p q =
-      let P : Outcome → Type 0 = λ met. MatchResult met (λ between. go_on between other) (λ fault. other ≡ Err fault) in
+      let P : FilesOutcome → Type 0 = λ met. MatchResult met (λ between. go_on between other) (λ fault. other ≡ Err fault) in
       one_end go_on goes p.0 one other p.2 (subst P (one_enter visit only ask read p.0 q.0 p.1 q.1) q.2)
 
-  one_following : (visit : Visit) → IsSingle visit → (file : List ℕ) (includes : List Include) (read : List FileDecls) (one other : Outcome)
-      → Follows visit file includes read one → Follows visit file includes read other → other ≡ one
+  one_following : (visit : Visit) → IsSingle visit → (file : List ℕ) (includes : List Include) (read : List FileDecls) (one other : FilesOutcome)
+      → FollowsIncludes visit file includes read one → FollowsIncludes visit file includes read other → other ≡ one
   one_following visit only file [] read one other p q = q ∙ sym p
   one_following visit only file (include ∷ includes) read one other p q =
-      one_step visit only (Follows visit file includes) (one_following visit only file includes) (is_skipped include.name read) (ask_in file include) read one other p q
+      one_step visit only (FollowsIncludes visit file includes) (one_following visit only file includes) (is_skipped include.name read) (ask_in file include) read one other p q
 
   one_by : (visit : Visit) → IsSingle visit → (levels : ℕ) → IsSingle (VisitsBy visit reads (Some files) levels)
   one_by visit only levels ask read one other (inl p) (inl q) =
@@ -140,7 +140,7 @@ module _ (reads : Reading) (has_one : HasOneReading reads) (files : List FileEnt
   one_by visit only levels ask read one other (inl p) (inr q) = absurd (stop_or_take (length read) levels ask p.0 q.0 p.1 q.1)
   one_by visit only levels ask read one other (inr p) (inl q) = absurd (stop_or_take (length read) levels ask q.0 p.0 q.1 p.1)
   one_by visit only levels ask read one other (inr p) (inr q) =
-      let P : List Decl → Type 0 = λ decls. Follows visit ask.name (includes_of decls) (with_file read ask decls) other in
+      let P : List Decl → Type 0 = λ decls. FollowsIncludes visit ask.name (includes_of decls) (with_file read ask decls) other in
       one_following visit only ask.name (includes_of p.0) (with_file read ask p.0) one other p.2
       (subst P (one_take (length read) levels ask p.0 q.0 p.1 q.1) q.2)
 
@@ -165,46 +165,46 @@ module _ (reads : Reading) (has_one : HasOneReading reads) (files : List FileEnt
   some_load count levels name (Some text) is =
       some_text count levels name text is (cases_lt most_bytes (length text)) (cases_lt count most_files) (cases_lt 0 levels)
 
-  some_enter : (visit : Visit) → ((ask : Ask) (read : List FileDecls) → (outcome : Outcome) × visit ask read outcome)
-      → (ask : Ask) (read : List FileDecls) (text : Bool) → is_utf8 ask.name ≡ text → (outcome : Outcome) × Enters visit ask read outcome
+  some_enter : (visit : Visit) → ((ask : Ask) (read : List FileDecls) → (outcome : FilesOutcome) × visit ask read outcome)
+      → (ask : Ask) (read : List FileDecls) (text : Bool) → is_utf8 ask.name ≡ text → (outcome : FilesOutcome) × Enters visit ask read outcome
   some_enter visit has ask read true is = ((has ask read).0, inl (IsUtf8-from_is_utf8 ask.name is, (has ask read).1))
   some_enter visit has ask read false is =
       (Err (all.Absent ask.file ask.at), inr ((λ utf8. let yes = is_utf8-from_IsUtf8 ask.name utf8 in cc), refl))
 
-  some_end : (go_on : List FileDecls → Outcome → Type 0) → ((read : List FileDecls) → (outcome : Outcome) × go_on read outcome)
-      → (met : Outcome) → (outcome : Outcome) × MatchResult met (λ between. go_on between outcome) (λ fault. outcome ≡ Err fault)
+  some_end : (go_on : List FileDecls → FilesOutcome → Type 0) → ((read : List FileDecls) → (outcome : FilesOutcome) × go_on read outcome)
+      → (met : FilesOutcome) → (outcome : FilesOutcome) × MatchResult met (λ between. go_on between outcome) (λ fault. outcome ≡ Err fault)
   some_end go_on goes (Ok between) = goes between
   some_end go_on goes (Err fault) = (Err fault, refl)
 
-  some_step : (visit : Visit) → ((ask : Ask) (read : List FileDecls) → (outcome : Outcome) × visit ask read outcome)
-      → (go_on : List FileDecls → Outcome → Type 0) → ((read : List FileDecls) → (outcome : Outcome) × go_on read outcome)
-      → (skipped : Bool) (ask : Ask) (read : List FileDecls) → (outcome : Outcome)
-      × MatchBool skipped (go_on read outcome) ((met : Outcome) × Enters visit ask read met × MatchResult met (λ between. go_on between outcome) (λ fault. outcome ≡ Err fault))
+  some_step : (visit : Visit) → ((ask : Ask) (read : List FileDecls) → (outcome : FilesOutcome) × visit ask read outcome)
+      → (go_on : List FileDecls → FilesOutcome → Type 0) → ((read : List FileDecls) → (outcome : FilesOutcome) × go_on read outcome)
+      → (skipped : Bool) (ask : Ask) (read : List FileDecls) → (outcome : FilesOutcome)
+      × MatchBool skipped (go_on read outcome) ((met : FilesOutcome) × Enters visit ask read met × MatchResult met (λ between. go_on between outcome) (λ fault. outcome ≡ Err fault))
   some_step visit has go_on goes true ask read = goes read
   some_step visit has go_on goes false ask read =
       let entered = some_enter visit has ask read (is_utf8 ask.name) refl in
       let ended = some_end go_on goes entered.0 in
       (ended.0, (entered.0, entered.1, ended.1))
 
-  some_following : (visit : Visit) → ((ask : Ask) (read : List FileDecls) → (outcome : Outcome) × visit ask read outcome)
-      → (file : List ℕ) (includes : List Include) (read : List FileDecls) → (outcome : Outcome) × Follows visit file includes read outcome
+  some_following : (visit : Visit) → ((ask : Ask) (read : List FileDecls) → (outcome : FilesOutcome) × visit ask read outcome)
+      → (file : List ℕ) (includes : List Include) (read : List FileDecls) → (outcome : FilesOutcome) × FollowsIncludes visit file includes read outcome
   some_following visit has file [] read = (Ok read, refl)
   some_following visit has file (include ∷ includes) read =
-      some_step visit has (Follows visit file includes) (some_following visit has file includes) (is_skipped include.name read) (ask_in file include) read
+      some_step visit has (FollowsIncludes visit file includes) (some_following visit has file includes) (is_skipped include.name read) (ask_in file include) read
 
-  some_read : (inner : Visit) → ((ask : Ask) (read : List FileDecls) → (outcome : Outcome) × inner ask read outcome)
+  some_read : (inner : Visit) → ((ask : Ask) (read : List FileDecls) → (outcome : FilesOutcome) × inner ask read outcome)
       → (levels : ℕ) (ask : Ask) (read : List FileDecls) (text : List ℕ) → Loads (Some files) (length read) levels ask.name (Ok text)
       → (result : Result (List Decl) TextFail) → reads text result → IfErr result (λ fail. IsSome (fail_kind fail))
-      → (outcome : Outcome) × VisitsBy inner reads (Some files) levels ask read outcome
+      → (outcome : FilesOutcome) × VisitsBy inner reads (Some files) levels ask read outcome
   some_read inner has levels ask read text loaded (Ok decls) is told =
       let followed = some_following inner has ask.name (includes_of decls) (with_file read ask decls) in
       (followed.0, inr (decls, (text, loaded, is), followed.1))
   some_read inner has levels ask read text loaded (Err wrong) is told =
       (Err (faulty ask.name wrong), inl (faulty ask.name wrong, inr (text, loaded, (wrong, is, told, refl)), refl))
 
-  some_by : (inner : Visit) → ((ask : Ask) (read : List FileDecls) → (outcome : Outcome) × inner ask read outcome)
+  some_by : (inner : Visit) → ((ask : Ask) (read : List FileDecls) → (outcome : FilesOutcome) × inner ask read outcome)
       → (levels : ℕ) (ask : Ask) (read : List FileDecls) (loaded : Result (List ℕ) Refusal) → Loads (Some files) (length read) levels ask.name loaded
-      → (outcome : Outcome) × VisitsBy inner reads (Some files) levels ask read outcome
+      → (outcome : FilesOutcome) × VisitsBy inner reads (Some files) levels ask read outcome
   some_by inner has levels ask read (Ok text) loads =
       let one = has_one text loads.1 in some_read inner has levels ask read text loads one.0 one.1.is one.2
   some_by inner has levels ask read (Err refusal) loads =
@@ -212,12 +212,12 @@ module _ (reads : Reading) (has_one : HasOneReading reads) (files : List FileEnt
 
   -- with no level left the file isn't read
   some_last : (ask : Ask) (read : List FileDecls) (loaded : Result (List ℕ) Refusal) → Loads (Some files) (length read) 0 ask.name loaded
-      → (outcome : Outcome) × VisitsBy (λ _ _ _. ⊥) reads (Some files) 0 ask read outcome
+      → (outcome : FilesOutcome) × VisitsBy (λ _ _ _. ⊥) reads (Some files) 0 ask read outcome
   some_last ask read (Ok text) loads = absurd (let none : 0 < 0 = loads.3 in omega arith)
   some_last ask read (Err refusal) loads =
       (Err (fault_at refusal ask), inl (fault_at refusal ask, inl (refusal, loads, refl), refl))
 
-  some_visit : (levels : ℕ) (ask : Ask) (read : List FileDecls) → (outcome : Outcome) × Visits reads (Some files) levels ask read outcome
+  some_visit : (levels : ℕ) (ask : Ask) (read : List FileDecls) → (outcome : FilesOutcome) × Visits reads (Some files) levels ask read outcome
   unfolding Visits
   some_visit zero ask read =
       let loaded = some_load (length read) 0 ask.name (file_named ask.name files) refl in some_last ask read loaded.0 loaded.1
@@ -225,7 +225,7 @@ module _ (reads : Reading) (has_one : HasOneReading reads) (files : List FileEnt
       let loaded = some_load (length read) (suc levels) ask.name (file_named ask.name files) refl in
       some_by (Visits reads (Some files) levels) (some_visit levels) (suc levels) ask read loaded.0 loaded.1
 
-pub one_outcome : (reads : Reading) → HasOneOutcome reads
+pub one_outcome : (reads : Reading) → FilesHaveOneOutcome reads
 one_outcome reads = λ has_one files name.
     let some = some_visit reads has_one files (deepest + 1) (first_ask name) [] in
     (some.0, record { is = some.1; only = λ other q. one_visit reads has_one files (deepest + 1) (first_ask name) [] some.0 other some.1 q })

@@ -15,8 +15,8 @@ use Rattle.nddl_includes.specs.declared.include.Include.{Include}
 use Rattle.nddl_includes.specs.Includes.{includes_of, is_built_in, is_taken, is_skipped, ask_in}
 use Rattle.nddl_includes.specs.Laws.{ReadsFiles}
 use Rattle.nddl_includes.specs.Limits.{most_files, deepest}
-use Rattle.nddl_includes.specs.Outcomes.{Reading, Outcome}
-use Rattle.nddl_includes.specs.Visits.{Visit, Enters, Follows, VisitsBy, Visits, first_ask, with_file}
+use Rattle.nddl_includes.specs.Outcomes.{Reading, FilesOutcome}
+use Rattle.nddl_includes.specs.Visits.{Visit, Enters, FollowsIncludes, VisitsBy, Visits, first_ask, with_file}
 
 -- no two files have one name
 abbrev pub AreDistinct : List FileDecls → Type 0
@@ -119,9 +119,9 @@ and_skipped include includes read out skipped rest =
     (rest.0, All-cons (λ one. is_skipped one.name out ≡ true) include includes (skipped_more include.name read rest.0.more out rest.0.added skipped) rest.1)
 
 met_adding : (visit : Visit) → IsAdding visit → (file : List ℕ) (includes : List Include) (include : Include) (read out : List FileDecls)
-    → ((between : List FileDecls) → Follows visit file includes between (Ok out) → Extends between out × AreSkipped out includes)
-    → is_skipped include.name read ≡ false → (met : Outcome) → Enters visit (ask_in file include) read met
-    → MatchResult met (λ between. Follows visit file includes between (Ok out)) (λ fault. Ok out ≡ Err fault)
+    → ((between : List FileDecls) → FollowsIncludes visit file includes between (Ok out) → Extends between out × AreSkipped out includes)
+    → is_skipped include.name read ≡ false → (met : FilesOutcome) → Enters visit (ask_in file include) read met
+    → MatchResult met (λ between. FollowsIncludes visit file includes between (Ok out)) (λ fault. Ok out ≡ Err fault)
     → Extends read out × AreSkipped out (include ∷ includes)
 met_adding visit adds file includes include read out rest followed (Ok between) entered follows =
     let one = enters_adding visit adds (ask_in file include) read between (free_name include.name read followed) entered in
@@ -130,17 +130,17 @@ met_adding visit adds file includes include read out rest followed (Ok between) 
 met_adding visit adds file includes include read out rest followed (Err fault) entered never = absurd (let never : ⊥ = cc in never)
 
 step_adding : (visit : Visit) → IsAdding visit → (file : List ℕ) (includes : List Include) (include : Include) (read out : List FileDecls)
-    → ((between : List FileDecls) → Follows visit file includes between (Ok out) → Extends between out × AreSkipped out includes)
+    → ((between : List FileDecls) → FollowsIncludes visit file includes between (Ok out) → Extends between out × AreSkipped out includes)
     → (skipped : Bool) → is_skipped include.name read ≡ skipped
-    → MatchBool skipped (Follows visit file includes read (Ok out)) ((met : Outcome) × Enters visit (ask_in file include) read met
-    × MatchResult met (λ between. Follows visit file includes between (Ok out)) (λ fault. Ok out ≡ Err fault))
+    → MatchBool skipped (FollowsIncludes visit file includes read (Ok out)) ((met : FilesOutcome) × Enters visit (ask_in file include) read met
+    × MatchResult met (λ between. FollowsIncludes visit file includes between (Ok out)) (λ fault. Ok out ≡ Err fault))
     → Extends read out × AreSkipped out (include ∷ includes)
 step_adding visit adds file includes include read out rest true is follows = and_skipped include includes read out is (rest read follows)
 step_adding visit adds file includes include read out rest false is step =
     met_adding visit adds file includes include read out rest is step.0 step.1 step.2
 
 follows_adding : (visit : Visit) → IsAdding visit → (file : List ℕ) (includes : List Include) (read out : List FileDecls)
-    → Follows visit file includes read (Ok out) → Extends read out × AreSkipped out includes
+    → FollowsIncludes visit file includes read (Ok out) → Extends read out × AreSkipped out includes
 follows_adding visit adds file [] read out is =
     let same : out ≡ read = cc in (extends_none read out same, All-nil (λ include. is_skipped include.name out ≡ true))
 follows_adding visit adds file (include ∷ includes) read out follows =

@@ -9,12 +9,12 @@ use Rattle.nddl_includes.specs.declared.include.Include.{Include}
 use Rattle.nddl_includes.specs.declared.fault.ReadAllFault.{ReadAllFault}
 use Rattle.nddl_includes.specs.declared.fault.ReadAllFault.TheVariants as all
 use Rattle.nddl_includes.specs.Includes.{includes_of, is_skipped, ask_in, NamesText}
-use Rattle.nddl_includes.specs.Outcomes.{Reading, Outcome, TellsOutcome}
+use Rattle.nddl_includes.specs.Outcomes.{Reading, FilesOutcome, TellsOutcome}
 use Rattle.nddl_includes.specs.Taking.{HasDecls, TakesFile}
-use Rattle.nddl_includes.specs.Visits.{Stops, Visit, Enters, ComesOf, Follows, Visits}
+use Rattle.nddl_includes.specs.Visits.{Stops, Visit, Enters, ComesOf, FollowsIncludes, Visits}
 
 -- what follows from what an answer says is said by the answer
-pub says_more : (P Q : Outcome → Type 0) (outcome : Outcome) → (P outcome → Q outcome) → TellsOutcome P outcome → TellsOutcome Q outcome
+pub says_more : (P Q : FilesOutcome → Type 0) (outcome : FilesOutcome) → (P outcome → Q outcome) → TellsOutcome P outcome → TellsOutcome Q outcome
 says_more P Q (Ok files) more said = more said
 says_more P Q (Err (all.Absent file at)) more said = more said
 says_more P Q (Err (all.TooLong file at)) more said = more said
@@ -26,17 +26,17 @@ says_more P Q (Err all.ReadFault) more said = tt
 says_more P Q (Err all.Memory) more said = tt
 
 -- a file that is read is visited by what its includes come to
-pub takes_on : (reads : Reading) (files : Option (List FileEntry)) (levels : ℕ) (ask : Ask) (before new : List FileDecls) (includes : List Include) (outcome : Outcome)
+pub takes_on : (reads : Reading) (files : Option (List FileEntry)) (levels : ℕ) (ask : Ask) (before new : List FileDecls) (includes : List Include) (outcome : FilesOutcome)
     → TakesFile reads files levels ask before new (Ok includes)
-    → Follows (Visits reads files (levels - 1)) ask.name includes new outcome
+    → FollowsIncludes (Visits reads files (levels - 1)) ask.name includes new outcome
     → Visits reads files levels ask before outcome
 unfolding Visits
 takes_on reads files zero ask before new includes outcome taken follows =
     let none : 0 < 0 = taken.1.1.3 in absurd (omega arith)
 takes_on reads files (suc levels) ask before new includes outcome taken follows =
-    let P : ℕ → Type 0 = λ n. Follows (Visits reads files n) ask.name includes new outcome in
-    let Q : List Include → Type 0 = λ l. Follows (Visits reads files levels) ask.name l new outcome in
-    let R : List FileDecls → Type 0 = λ r. Follows (Visits reads files levels) ask.name (includes_of taken.0) r outcome in
+    let P : ℕ → Type 0 = λ n. FollowsIncludes (Visits reads files n) ask.name includes new outcome in
+    let Q : List Include → Type 0 = λ l. FollowsIncludes (Visits reads files levels) ask.name l new outcome in
+    let R : List FileDecls → Type 0 = λ r. FollowsIncludes (Visits reads files levels) ask.name (includes_of taken.0) r outcome in
     let less : suc levels - 1 ≡ levels = omega arith in
     inr (taken.0, taken.1, subst R taken.3 (subst Q taken.2 (subst P less follows)))
 
@@ -73,13 +73,13 @@ declared_fault reads files levels ask old new all.Memory stops = tt
 -- an include that is passed over
 pub passes_over : (visit : Visit) (file : List ℕ) (include : Include) (read : List FileDecls) → is_skipped include.name read ≡ true → ComesOf visit file include read (Ok read)
 passes_over visit file include read skipped =
-    let met : Outcome = Ok read in
+    let met : FilesOutcome = Ok read in
     let same : met ≡ met = refl in
     let P : Bool → Type 0 = λ b. MatchBool b (met ≡ met) (Enters visit (ask_in file include) read met) in
     subst P (sym skipped) same
 
 -- an include that is followed
-pub passes_in : (visit : Visit) (file : List ℕ) (include : Include) (read : List FileDecls) (met : Outcome)
+pub passes_in : (visit : Visit) (file : List ℕ) (include : Include) (read : List FileDecls) (met : FilesOutcome)
     → is_skipped include.name read ≡ false → Enters visit (ask_in file include) read met → ComesOf visit file include read met
 passes_in visit file include read met followed inner =
     let P : Bool → Type 0 = λ b. MatchBool b (met ≡ Ok read) (Enters visit (ask_in file include) read met) in
@@ -100,18 +100,18 @@ unnamed visit file include read all.ReadFault followed names = absurd names
 unnamed visit file include read all.Memory followed names = tt
 
 -- what comes of one include, and then of the others
-pub passed : (visit : Visit) (file : List ℕ) (include : Include) (includes : List Include) (read : List FileDecls) (outcome met : Outcome)
-    → ComesOf visit file include read met → MatchResult met (λ between. Follows visit file includes between outcome) (λ fault. outcome ≡ Err fault)
-    → Follows visit file (include ∷ includes) read outcome
+pub passed : (visit : Visit) (file : List ℕ) (include : Include) (includes : List Include) (read : List FileDecls) (outcome met : FilesOutcome)
+    → ComesOf visit file include read met → MatchResult met (λ between. FollowsIncludes visit file includes between outcome) (λ fault. outcome ≡ Err fault)
+    → FollowsIncludes visit file (include ∷ includes) read outcome
 passed visit file include includes read outcome met pass ends = chosen (is_skipped include.name read) pass where
   chosen : (skipped : Bool) → MatchBool skipped (met ≡ Ok read) (Enters visit (ask_in file include) read met)
-      → MatchBool skipped (Follows visit file includes read outcome) ((other : Outcome) × Enters visit (ask_in file include) read other
-      × MatchResult other (λ between. Follows visit file includes between outcome) (λ fault. outcome ≡ Err fault))
-  chosen true same = subst (λ (m : Outcome). MatchResult m (λ between. Follows visit file includes between outcome) (λ fault. outcome ≡ Err fault)) same ends
+      → MatchBool skipped (FollowsIncludes visit file includes read outcome) ((other : FilesOutcome) × Enters visit (ask_in file include) read other
+      × MatchResult other (λ between. FollowsIncludes visit file includes between outcome) (λ fault. outcome ≡ Err fault))
+  chosen true same = subst (λ (m : FilesOutcome). MatchResult m (λ between. FollowsIncludes visit file includes between outcome) (λ fault. outcome ≡ Err fault)) same ends
   chosen false inner = (met, inner, ends)
 
 -- the file that the include asks for was visited
-pub visited : (visit : Visit) (file : List ℕ) (include : Include) (ask : Ask) (read : List FileDecls) (met : Outcome)
+pub visited : (visit : Visit) (file : List ℕ) (include : Include) (ask : Ask) (read : List FileDecls) (met : FilesOutcome)
     → NamesText file include (Ok ask) → visit ask read met → Enters visit (ask_in file include) read met
 visited visit file include ask read met names inner =
     let P : Ask → Type 0 = λ a. visit a read met in
@@ -122,11 +122,11 @@ pub begins : (includes : List Include) (i : ℕ) (include : Include) → i < len
     → include ∷ drop (i + 1) includes ≡ drop i includes
 begins includes i include within is = ap (λ x. x ∷ drop (i + 1) includes) is ∙ sym (drop_more includes i include within)
 
-pub follows_left : (visit : Visit) (file : List ℕ) (includes : List Include) (i : ℕ) (include : Include) (read : List FileDecls) (outcome : Outcome)
+pub follows_left : (visit : Visit) (file : List ℕ) (includes : List Include) (i : ℕ) (include : Include) (read : List FileDecls) (outcome : FilesOutcome)
     → i < length includes → include ≡ get_or includes i include
-    → Follows visit file (include ∷ drop (i + 1) includes) read outcome → Follows visit file (drop i includes) read outcome
+    → FollowsIncludes visit file (include ∷ drop (i + 1) includes) read outcome → FollowsIncludes visit file (drop i includes) read outcome
 follows_left visit file includes i include read outcome within is follows =
-    let P : List Include → Type 0 = λ l. Follows visit file l read outcome in
+    let P : List Include → Type 0 = λ l. FollowsIncludes visit file l read outcome in
     subst P (begins includes i include within is) follows
 
 -- whether an include is passed over, by equal names and files

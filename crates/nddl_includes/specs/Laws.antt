@@ -8,7 +8,7 @@ use Rattle.nddl_includes.specs.Faults.{fail_kind}
 use Rattle.nddl_ast.specs.declared.declaration.FileDecls.{FileDecls}
 use Rattle.nddl_includes.specs.Includes.{includes_of, is_skipped}
 use Rattle.nddl_includes.specs.Limits.{most_bytes, most_files}
-use Rattle.nddl_includes.specs.Outcomes.{Reading, Outcome}
+use Rattle.nddl_includes.specs.Outcomes.{Reading, FilesOutcome}
 use Rattle.nddl_includes.specs.Visits.{ReadsAll}
 
 -- this is the one outcome that there is
@@ -17,15 +17,15 @@ pub record IsOne {X : Type 0} (Is : X → Type 0) (outcome : X) : Type 0 where
   pub only : (other : X) → Is other → other ≡ outcome
 
 -- each text that isn't too long is read in one way, and not as want of memory
-abbrev pub HasOneReading : Reading → Type 0
-HasOneReading reads = (text : List ℕ) → length text ≤ most_bytes
+abbrev pub TextsHaveOneReading : Reading → Type 0
+TextsHaveOneReading reads = (text : List ℕ) → length text ≤ most_bytes
     → (outcome : Result (List Decl) TextFail) × IsOne (reads text) outcome
     × IfErr outcome (λ fail. IsSome (fail_kind fail))
 
 -- then, where the shelf tells its files, each file is read in one way with those that it includes
-abbrev pub HasOneOutcome : Reading → Type 0
-HasOneOutcome reads = HasOneReading reads
-    → (files : List FileEntry) (name : List ℕ) → (outcome : Outcome) × IsOne (ReadsAll reads (Some files) name) outcome
+abbrev pub FilesHaveOneOutcome : Reading → Type 0
+FilesHaveOneOutcome reads = TextsHaveOneReading reads
+    → (files : List FileEntry) (name : List ℕ) → (outcome : FilesOutcome) × IsOne (ReadsAll reads (Some files) name) outcome
 
 -- What files that were read are like: the first has this name, no two have one name, there are no more than may be,
 -- and each include in them names one of them, or what is built in.

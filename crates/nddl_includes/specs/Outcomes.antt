@@ -18,11 +18,11 @@ ReadsText reads bytes (Ok decls) = reads bytes (Ok decls)
 ReadsText reads bytes (Err fail) = IsSome (fail_kind fail) → reads bytes (Err fail)
 
 -- the files that were read, in their order, or why not
-abbrev pub Outcome : Type 0
-Outcome = Result (List FileDecls) ReadAllFault
+abbrev pub FilesOutcome : Type 0
+FilesOutcome = Result (List FileDecls) ReadAllFault
 
 -- the answer is one of these, unless there was no memory or a call of the shelf failed
-abbrev pub TellsOutcome : (Outcome → Type 0) → Outcome → Type 0
+abbrev pub TellsOutcome : (FilesOutcome → Type 0) → FilesOutcome → Type 0
 TellsOutcome Is (Ok files) = Is (Ok files)
 TellsOutcome Is (Err (all.Absent file at)) = Is (Err (all.Absent file at))
 TellsOutcome Is (Err (all.TooLong file at)) = Is (Err (all.TooLong file at))

@@ -15,7 +15,7 @@ use Rattle.nddl_includes.specs.declared.fault.ReadAllFault.TheVariants as all
 use Rattle.nddl_includes.specs.Faults.{fail_kind, faulty, fault_at}
 use Rattle.nddl_includes.specs.Includes.{includes_of, is_skipped, ask_in}
 use Rattle.nddl_includes.specs.Limits.{most_bytes, most_files, deepest}
-use Rattle.nddl_includes.specs.Outcomes.{Reading, Outcome}
+use Rattle.nddl_includes.specs.Outcomes.{Reading, FilesOutcome}
 
 -- The text of a file, or the first cause for which it isn't read: there is no such file, it is too long, as many were
 -- read
@@ -49,7 +49,7 @@ Takes reads files count levels ask decls =
 
 -- where a file is asked for, and these were read before: what is read then, or the fault
 abbrev pub Visit : Type 1
-Visit = Ask → List FileDecls → Outcome → Type 0
+Visit = Ask → List FileDecls → FilesOutcome → Type 0
 
 -- the file that an include asks for is visited, where its name is text; otherwise there is no such file
 abbrev pub Enters : Visit → Visit
@@ -57,17 +57,17 @@ Enters visit ask read outcome =
     (IsUtf8 ask.name × visit ask read outcome) ⊎ (¬ (IsUtf8 ask.name) × (outcome ≡ Err (all.Absent ask.file ask.at)))
 
 -- what comes of one include of this file: it is passed over, or the file that it asks for is visited
-abbrev pub ComesOf : Visit → List ℕ → Include → List FileDecls → Outcome → Type 0
+abbrev pub ComesOf : Visit → List ℕ → Include → List FileDecls → FilesOutcome → Type 0
 ComesOf visit file include read outcome =
     MatchBool (is_skipped include.name read) (outcome ≡ Ok read) (Enters visit (ask_in file include) read outcome)
 
 -- the includes of this file are visited one after another, but for those that are passed over; the first fault ends it
-abbrev pub Follows : Visit → List ℕ → List Include → List FileDecls → Outcome → Type 0
-Follows visit file [] read outcome = outcome ≡ Ok read
-Follows visit file (include ∷ includes) read outcome = MatchBool (is_skipped include.name read)
-    (Follows visit file includes read outcome)
-    ((met : Outcome) × Enters visit (ask_in file include) read met
-    × MatchResult met (λ between. Follows visit file includes between outcome) (λ fault. outcome ≡ Err fault))
+abbrev pub FollowsIncludes : Visit → List ℕ → List Include → List FileDecls → FilesOutcome → Type 0
+FollowsIncludes visit file [] read outcome = outcome ≡ Ok read
+FollowsIncludes visit file (include ∷ includes) read outcome = MatchBool (is_skipped include.name read)
+    (FollowsIncludes visit file includes read outcome)
+    ((met : FilesOutcome) × Enters visit (ask_in file include) read met
+    × MatchResult met (λ between. FollowsIncludes visit file includes between outcome) (λ fault. outcome ≡ Err fault))
 
 -- the files with the one that was asked for after them
 abbrev pub with_file : List FileDecls → Ask → List Decl → List FileDecls
@@ -78,7 +78,7 @@ abbrev pub VisitsBy : Visit → Reading → Option (List FileEntry) → ℕ → 
 VisitsBy inner reads files levels ask read outcome =
     ((fault : ReadAllFault) × Stops reads files (length read) levels ask fault × (outcome ≡ Err fault))
     ⊎ ((decls : List Decl) × Takes reads files (length read) levels ask decls
-    × Follows inner ask.name (includes_of decls) (with_file read ask decls) outcome)
+    × FollowsIncludes inner ask.name (includes_of decls) (with_file read ask decls) outcome)
 
 -- a file is visited with its includes, in as many levels
 unfoldable pub Visits : Reading → Option (List FileEntry) → ℕ → Visit
@@ -91,5 +91,5 @@ abbrev pub first_ask : List ℕ → Ask
 first_ask name = record { name = name; file = name; at = 0 }
 
 -- the file of this name and what it includes are read in this order, or this is the first fault
-abbrev pub ReadsAll : Reading → Option (List FileEntry) → List ℕ → Outcome → Type 0
+abbrev pub ReadsAll : Reading → Option (List FileEntry) → List ℕ → FilesOutcome → Type 0
 ReadsAll reads files name outcome = Visits reads files (deepest + 1) (first_ask name) [] outcome

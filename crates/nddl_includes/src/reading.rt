@@ -2,7 +2,7 @@
 
 ghost use Rattle.std.specs.Prelude.{◌≡◌};
 ghost use Rattle.nddl_includes.specs.Outcomes.{CountsReads, TellsOutcome};
-ghost use Rattle.nddl_includes.specs.Visits.{ComesOf, Follows, Visits, ReadsAll};
+ghost use Rattle.nddl_includes.specs.Visits.{ComesOf, FollowsIncludes, Visits, ReadsAll};
 
 use super::fault::ReadAllFault;
 use super::include::{Ask, Include};
@@ -80,7 +80,7 @@ fn follow<F: Shelf, R: TextReader>(
     levels: usize,
 ) -> Result<Sequence<FileDecls>, ReadAllFault>
     ensures told { TellsOutcome
-        (Follows (Visits (R.reads reader.now) (F.files shelf.old) levels) file.now includes.now before) result }
+        (FollowsIncludes (Visits (R.reads reader.now) (F.files shelf.old) levels) file.now includes.now before) result }
     ensures kept { F.files shelf.new ≡ F.files shelf.old }
     ensures counted { CountsReads result (F.faults shelf.old) (F.faults shelf.new) }
 {

@@ -25,7 +25,7 @@ use Rattle.nddl_ast.specs.declared.declaration.Set.TheVariants as sets
 use Rattle.nddl_ast.specs.declared.declaration.Member.{Member}
 use Rattle.nddl_ast.specs.declared.declaration.Member.TheVariants as members
 use Rattle.nddl_statements.specs.Grammar.{IsWrittenName, IsPath, IsInit, IsBase, IsBounds, IsType, IsTyped, IsCall}
-use Rattle.nddl_parser.specs.Grammar.{IsPart, IsSet, IsMember}
+use Rattle.nddl_parser.specs.Grammar.{IsPredicatePart, IsSet, IsMember}
 use Rattle.nddl_statements.specs.Productions.{begins_type}
 use Rattle.nddl_parser.specs.Productions.{part_after, part_named, part, field_set, super_set, set_item, begins_set, predicate, constructor_after, member_after, member_named, member}
 use Rattle.nddl_statements.proofs.Flat.{front_starts, flat, refuses, apart, ◌>>◌, closed}
@@ -90,13 +90,13 @@ part_after_exact first = choice_exact (is sorts.ParenOpen) (image_exact no_block
 abbrev Parts : PredicatePart → List PlainSymbol → Type 0
 Parts y word = Bound IsWrittenName PartAfter y word ⊎ Beside (is sorts.Name) (Image parts.Parameter IsField) y word
 
-parts_to : (y : PredicatePart) (word : List PlainSymbol) → Parts y word → IsPart y word
-parts_to y word (inl (first, h)) = elim h.4 as (λ f. IsPart y word) [
-  | inl call ↦ subst (λ (z : PredicatePart). IsPart z word) (sym (call.1 ∙ ap parts.Constraint call.2.1)) (h.0, h.1, h.2, path_of_name first h.0 h.3, call.2.2)
-  | inr (inl dotted) ↦ subst (λ (z : PredicatePart). IsPart z word) (sym (dotted.1 ∙ ap parts.Constraint dotted.2.1)) (call_to first dotted.2.0 word (h.0, h.1, h.2, h.3, dotted.2.2))
-  | inr (inr field) ↦ subst (λ (z : PredicatePart). IsPart z word) (sym (field.1 ∙ ap parts.Parameter field.2.1)) (field_to first field.2.0 word (h.0, h.1, h.2, h.3, field.2.2))
+parts_to : (y : PredicatePart) (word : List PlainSymbol) → Parts y word → IsPredicatePart y word
+parts_to y word (inl (first, h)) = elim h.4 as (λ f. IsPredicatePart y word) [
+  | inl call ↦ subst (λ (z : PredicatePart). IsPredicatePart z word) (sym (call.1 ∙ ap parts.Constraint call.2.1)) (h.0, h.1, h.2, path_of_name first h.0 h.3, call.2.2)
+  | inr (inl dotted) ↦ subst (λ (z : PredicatePart). IsPredicatePart z word) (sym (dotted.1 ∙ ap parts.Constraint dotted.2.1)) (call_to first dotted.2.0 word (h.0, h.1, h.2, h.3, dotted.2.2))
+  | inr (inr field) ↦ subst (λ (z : PredicatePart). IsPredicatePart z word) (sym (field.1 ∙ ap parts.Parameter field.2.1)) (field_to first field.2.0 word (h.0, h.1, h.2, h.3, field.2.2))
 ]
-parts_to y word (inr h) = subst (λ (z : PredicatePart). IsPart z word) (sym h.0.1) h.0.2
+parts_to y word (inr h) = subst (λ (z : PredicatePart). IsPredicatePart z word) (sym h.0.1) h.0.2
 
 part_call : (first : Name) (rest : List Name) (list : List Expr) (word : List PlainSymbol) → IsCall (record { path = record { first = first; rest = rest }; arguments = list }) word
     → Bound IsWrittenName PartAfter (parts.Constraint (record { path = record { first = first; rest = rest }; arguments = list })) word
@@ -105,16 +105,16 @@ part_call first (x ∷ xs) list word h =
     let g = call_from first x xs list word h in
     (first, (g.0, g.1, g.2, g.3, inr (inl (dotted_with first (x ∷ xs, list), refl, ((x ∷ xs, list), refl, g.4)))))
 
-parts_from : (y : PredicatePart) (word : List PlainSymbol) → IsPart y word → Parts y word
+parts_from : (y : PredicatePart) (word : List PlainSymbol) → IsPredicatePart y word → Parts y word
 parts_from (parts.Constraint c) word h = inl (part_call c.path.first c.path.rest c.arguments word h)
 parts_from (parts.Parameter t) word h = elim (fields_of t.declared.at t.declared.base t.declared.bounds t.name word h) as (λ f. Parts (parts.Parameter t) word) [
   | inl g ↦ inl (g.0, (g.1.0, g.1.1, g.1.2, g.1.3, inr (inr (t, refl, g.1.4))))
   | inr g ↦ inr ((t, refl, g.0), g.1)
 ]
 
-part_exact : IsExact IsPart no_blocks no_more part
+part_exact : IsExact IsPredicatePart no_blocks no_more part
 unfolding part part_named same refuses
-part_exact = relabelled_exact IsPart no_blocks
+part_exact = relabelled_exact IsPredicatePart no_blocks
     (beside_exact (is sorts.Name)
     (bound_exact PartAfter no_blocks no_more part_after name_exact part_after_exact (λ first. follows_none (PartAfter first) no_more))
     (image_exact no_blocks parts.Parameter field_exact (λ x. refl))
@@ -122,7 +122,7 @@ part_exact = relabelled_exact IsPart no_blocks
     (λ y word after h none out. some_still (Image parts.Parameter IsField) (is sorts.Name) any (image_begins parts.Parameter any (field_begins any refl refl refl refl refl)) y word after h none))
     parts_to parts_from (λ y. refl)
 
-part_begins : (test : Sort → Bool) → test (sorts.Word keywords.Int) ≡ true → test (sorts.Word keywords.Float) ≡ true → test (sorts.Word keywords.Bool) ≡ true → test (sorts.Word keywords.Str) ≡ true → test sorts.Name ≡ true → BeginsWith IsPart test
+part_begins : (test : Sort → Bool) → test (sorts.Word keywords.Int) ≡ true → test (sorts.Word keywords.Float) ≡ true → test (sorts.Word keywords.Bool) ≡ true → test (sorts.Word keywords.Str) ≡ true → test sorts.Name ≡ true → BeginsWith IsPredicatePart test
 part_begins test i f b s n (parts.Parameter t) word h = field_begins test i f b s n t word h
 part_begins test i f b s n (parts.Constraint c) word h = front_starts test (IsPath c.path) _ (path_begins test n c.path) word h
 
@@ -167,7 +167,7 @@ set_begins (sets.Super at list) word h = front_starts begins_set (IsPlaced (sort
 -- ---- members
 
 abbrev PredicateParts : ℕ × (Name × (Unit {0} × (List PredicatePart × (Unit {0} × Unit {0})))) → List PlainSymbol → Type 0
-PredicateParts = Paired (IsPlaced (sorts.Word keywords.Predicate)) (Paired IsWrittenName (Paired (MarkOf sorts.BraceOpen) (Paired (AreMany IsPart) (Paired (MarkOf sorts.BraceClose) (May sorts.Semicolon)))))
+PredicateParts = Paired (IsPlaced (sorts.Word keywords.Predicate)) (Paired IsWrittenName (Paired (MarkOf sorts.BraceOpen) (Paired (AreMany IsPredicatePart) (Paired (MarkOf sorts.BraceClose) (May sorts.Semicolon)))))
 
 abbrev predicate_of : ℕ × (Name × (Unit {0} × (List PredicatePart × (Unit {0} × Unit {0})))) → Member
 predicate_of p = members.Predicate p.0 p.1.0 p.1.1.1.0

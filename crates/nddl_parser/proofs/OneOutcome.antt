@@ -17,7 +17,7 @@ use Rattle.nddl_parser.specs.declared.parsing.ParseFault.TheVariants.{Syntax, To
 use Rattle.nddl_parser.specs.Symbols.{AreSymbols}
 use Rattle.nddl_statements.specs.Grammar.{deep_statements}
 use Rattle.nddl_parser.specs.Grammar.{IsText, most_nested, deep_decl, deep_text}
-use Rattle.nddl_parser.specs.Derives.{IsNotBefore, IsSyntax, IsTooDeep, IsOutcome, HasOneOutcome, HasOneTree}
+use Rattle.nddl_parser.specs.Derives.{IsNotBefore, IsSyntax, IsTooDeep, IsParseOutcome, HasOneParse, HasOneTree}
 use Rattle.nddl_parser.specs.Productions.{text, begins_decl}
 use Rattle.nddl_parser.proofs.SymbolsOnce.{symbols_once}
 use Rattle.nddl_parser.proofs.ExactText.{text_exact}
@@ -146,7 +146,7 @@ tree_or_syntax end symbols tree p h fault = fault.none tree symbols h (agrees_se
 tree_or_deep : (symbols : List PlainSymbol) (tree : List Decl) (p : ℕ) → IsText tree symbols → deep_text most_nested tree ≡ None → IsTooDeep symbols p → ⊥
 tree_or_deep symbols tree p h shallow fault = none_is_some shallow (fault.all tree fault.rest (subst (IsText tree) fault.split h))
 
-same_outcome : (end : ℕ) (symbols : List PlainSymbol) (one other : Result (List Decl) ParseFault) → AreRising end symbols → IsOutcome end symbols one → IsOutcome end symbols other → one ≡ other
+same_outcome : (end : ℕ) (symbols : List PlainSymbol) (one other : Result (List Decl) ParseFault) → AreRising end symbols → IsParseOutcome end symbols one → IsParseOutcome end symbols other → one ≡ other
 same_outcome end symbols (Ok one) (Ok other) rise h g = ap Ok (tree_once most_nested symbols one other h.0 h.1 g.0)
 same_outcome end symbols (Ok one) (Err (Syntax q)) rise h g = absurd (tree_or_syntax end symbols one q h.0 g)
 same_outcome end symbols (Ok one) (Err (TooDeep q)) rise h g = absurd (tree_or_deep symbols one q h.0 h.1 g)
@@ -161,11 +161,11 @@ same_outcome end symbols (Err (TooDeep p)) (Err (TooDeep q)) rise h g = ap (λ (
 same_outcome end symbols (Err (TooDeep p)) (Err Memory) rise h g = absurd g
 same_outcome end symbols (Err Memory) other rise h g = absurd h
 
-pub one_outcome : HasOneOutcome
+pub one_outcome : HasOneParse
 one_outcome bytes lexemes one other lexes h g =
     let same = symbols_once bytes lexemes g.symbols h.symbols g.read h.read in
     same_outcome (length bytes) h.symbols one other (rising bytes 0 lexemes h.symbols (lie_in_order bytes lexemes lexes) h.read) h.ends
-    (subst (λ (symbols : List PlainSymbol). IsOutcome (length bytes) symbols other) same g.ends)
+    (subst (λ (symbols : List PlainSymbol). IsParseOutcome (length bytes) symbols other) same g.ends)
 
 -- ---- one tree, however deep its blocks are nested
 

@@ -10,7 +10,7 @@ use Rattle.nddl_reading.specs.declared.sort.Sort.TheVariants as sorts
 use Rattle.nddl_reading.specs.Readers.{is}
 use Rattle.nddl_ast.specs.declared.declaration.Decl.{Decl}
 use Rattle.nddl_parser.specs.Grammar.{IsText, most_nested, deep_text}
-use Rattle.nddl_parser.specs.Derives.{IsNotBefore, IsSyntax, IsTooDeep, IsOutcome}
+use Rattle.nddl_parser.specs.Derives.{IsNotBefore, IsSyntax, IsTooDeep, IsParseOutcome}
 use Rattle.nddl_parser.specs.Productions.{text, begins_decl}
 use Rattle.nddl_parser.proofs.ExactText.{text_exact}
 
@@ -23,7 +23,7 @@ found symbols o is = subst (Found symbols) is ((text_exact most_nested).answers 
 ended : (other used rest : List PlainSymbol) → Agrees other used rest → Agrees (other ++ []) used rest
 ended other used rest same = subst (λ (l : List PlainSymbol). Agrees l used rest) (sym (append_none other)) same
 
-pub whole_tree : (end : ℕ) (symbols rest : List PlainSymbol) (tree : List Decl) → text most_nested symbols ≡ got tree rest → rest ≡ [] → IsOutcome end symbols (Ok tree)
+pub whole_tree : (end : ℕ) (symbols rest : List PlainSymbol) (tree : List Decl) → text most_nested symbols ≡ got tree rest → rest ≡ [] → IsParseOutcome end symbols (Ok tree)
 whole_tree end symbols rest tree is none =
     let a = found symbols (got tree rest) is in
     (subst (IsText tree) (sym (a.split ∙ (ap (λ (l : List PlainSymbol). a.used ++ l) none ∙ append_none a.used))) a.derived, a.shallow)
@@ -86,7 +86,7 @@ deep_there end symbols rest is =
 
 -- ---- as the code comes to them
 
-pub outcome_whole : (end : ℕ) (symbols begin rest : List PlainSymbol) (tree : List Decl) → begin ≡ symbols → text most_nested begin ≡ got tree rest → None ≡ next_sort rest → IsOutcome end symbols (Ok tree)
+pub outcome_whole : (end : ℕ) (symbols begin rest : List PlainSymbol) (tree : List Decl) → begin ≡ symbols → text most_nested begin ≡ got tree rest → None ≡ next_sort rest → IsParseOutcome end symbols (Ok tree)
 outcome_whole end symbols begin [] tree same is none = whole_tree end symbols [] tree (ap (text most_nested) (sym same) ∙ is) refl
 outcome_whole end symbols begin (c ∷ rest) tree same is none = absurd cc
 

@@ -14,7 +14,7 @@ use Rattle.nddl_lexer.specs.Spelling.{IsSpelled}
 use Rattle.nddl_lexer.specs.Reading.{AreLexemesOf, IsLexemeOf}
 use Rattle.nddl_reading.specs.declared.sort.Sort.TheVariants as sorts
 use Rattle.nddl_reading.specs.Symbols.{PlainSymbol}
-use Rattle.nddl_parser.specs.Symbols.{sort_of, Keeps, IsSymbolOf, AreSymbols}
+use Rattle.nddl_parser.specs.Symbols.{sort_of, KeepsBytes, IsSymbolOf, AreSymbols}
 
 word_byte_small : (byte : ℕ) → is_word_byte byte ≡ true → byte < 128
 word_byte_small byte passes = grind (arith, nat_tests)
@@ -27,7 +27,7 @@ word_text (byte ∷ bytes) word =
     (All-cons (λ b. b < 128) byte bytes (word_byte_small byte (or_left (is_word_start byte) (is_ascii_digit byte) word.0)) (λ k d within. word_byte_small (get_or bytes k d) (word.1 k d within))))
 
 -- the bytes of a name are text
-pub name_text : (kind : LexKind) (bytes kept : List ℕ) → IsSpelled kind bytes → Keeps kind bytes kept → sort_of kind bytes ≡ sorts.Name → IsUtf8 kept
+pub name_text : (kind : LexKind) (bytes kept : List ℕ) → IsSpelled kind bytes → KeepsBytes kind bytes kept → sort_of kind bytes ≡ sorts.Name → IsUtf8 kept
 name_text kinds.Word bytes kept spelled keeps named = subst IsUtf8 (sym keeps) (word_text bytes spelled)
 name_text kinds.Number bytes kept spelled keeps named = absurd cc
 name_text kinds.Decimal bytes kept spelled keeps named = absurd cc

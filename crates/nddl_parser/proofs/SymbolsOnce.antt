@@ -10,7 +10,7 @@ use Rattle.nddl_lexer.specs.declared.kinds.Lexeme.{Lexeme}
 use Rattle.nddl_lexer.specs.Reading.{bytes_of}
 use Rattle.nddl_reading.specs.declared.sort.Sort.{Sort}
 use Rattle.nddl_reading.specs.Symbols.{PlainSymbol}
-use Rattle.nddl_parser.specs.Symbols.{Keeps, HasValue, IsSymbolOf, AreSymbols}
+use Rattle.nddl_parser.specs.Symbols.{KeepsBytes, HasValue, IsSymbolOf, AreSymbols}
 
 no_digits : (bytes : List ℕ) → AreDigits bytes → bytes ≡ codes "inf" → ⊥
 no_digits bytes digits is = let first = (subst AreDigits is digits).1.0 in absurd cc
@@ -37,7 +37,7 @@ value_once kind bytes one other p q = p ∙ sym q
 inside_once : (one other : List ℕ) → 34 ∷ (one ++ 34 ∷ []) ≡ 34 ∷ (other ++ 34 ∷ []) → one ≡ other
 inside_once one other same = let tails : one ++ 34 ∷ [] ≡ other ++ 34 ∷ [] = cc in append_cancel_right one other (34 ∷ []) tails
 
-kept_once : (kind : LexKind) (bytes one other : List ℕ) → Keeps kind bytes one → Keeps kind bytes other → one ≡ other
+kept_once : (kind : LexKind) (bytes one other : List ℕ) → KeepsBytes kind bytes one → KeepsBytes kind bytes other → one ≡ other
 kept_once kinds.Str bytes one other p q = inside_once one other (sym p ∙ q)
 kept_once kind bytes one other p q = p ∙ sym q
 

@@ -55,21 +55,21 @@ pub record IsTooDeep (symbols : List PlainSymbol) (place : ℕ) : Type 0 where
 
 -- what symbols that end at a place are: a tree without a block nested too deep, or a fault; want of memory is no
 -- fault of theirs
-abbrev pub IsOutcome : ℕ → List PlainSymbol → Result (List Decl) ParseFault → Type 0
-IsOutcome end symbols (Ok tree) = IsText tree symbols × (deep_text most_nested tree ≡ None)
-IsOutcome end symbols (Err (Syntax place)) = IsSyntax end symbols place
-IsOutcome end symbols (Err (TooDeep place)) = IsTooDeep symbols place
-IsOutcome end symbols (Err Memory) = ⊥
+abbrev pub IsParseOutcome : ℕ → List PlainSymbol → Result (List Decl) ParseFault → Type 0
+IsParseOutcome end symbols (Ok tree) = IsText tree symbols × (deep_text most_nested tree ≡ None)
+IsParseOutcome end symbols (Err (Syntax place)) = IsSyntax end symbols place
+IsParseOutcome end symbols (Err (TooDeep place)) = IsTooDeep symbols place
+IsParseOutcome end symbols (Err Memory) = ⊥
 
 -- the lexemes of the text have this outcome
 pub record Parses (text : List ℕ) (lexemes : List Lexeme) (outcome : Result (List Decl) ParseFault) : Type 0 where
   pub symbols : List PlainSymbol
   pub read : AreSymbols text lexemes symbols
-  pub ends : IsOutcome (length text) symbols outcome
+  pub ends : IsParseOutcome (length text) symbols outcome
 
 -- the lexemes of a text have one outcome: one tree, or one fault at one place, and not both
-abbrev pub HasOneOutcome : Type 0
-HasOneOutcome = (text : List ℕ) (lexemes : List Lexeme) (one other : Result (List Decl) ParseFault)
+abbrev pub HasOneParse : Type 0
+HasOneParse = (text : List ℕ) (lexemes : List Lexeme) (one other : Result (List Decl) ParseFault)
     → Lexes text lexemes → Parses text lexemes one → Parses text lexemes other → one ≡ other
 
 -- no lexemes derive two trees, however deep blocks are nested in them

@@ -19,9 +19,9 @@ use Rattle.nddl_statements.specs.Grammar.{IsVariable, IsCall, IsAsk, IsBlock, de
 
 -- ---- declarations
 
-abbrev pub IsPart : PredicatePart → List PlainSymbol → Type 0
-IsPart (parts.Parameter typed) = IsTyped typed · IsMark sorts.Semicolon
-IsPart (parts.Constraint call) = IsCall call
+abbrev pub IsPredicatePart : PredicatePart → List PlainSymbol → Type 0
+IsPredicatePart (parts.Parameter typed) = IsTyped typed · IsMark sorts.Semicolon
+IsPredicatePart (parts.Constraint call) = IsCall call
 
 abbrev pub IsSet : Set → List PlainSymbol → Type 0
 IsSet (sets.Field name value) = IsWrittenName name · IsMark sorts.Assign · IsInit value · IsMark sorts.Semicolon
@@ -32,7 +32,7 @@ IsSet (sets.Super at arguments) =
 abbrev pub IsMember : Member → List PlainSymbol → Type 0
 IsMember (members.Field typed) = IsTyped typed · IsMark sorts.Semicolon
 IsMember (members.Predicate at name parts) =
-    IsPlaced (sorts.Word keywords.Predicate) at · IsWrittenName name · IsMark sorts.BraceOpen · AreMany IsPart parts
+    IsPlaced (sorts.Word keywords.Predicate) at · IsWrittenName name · IsMark sorts.BraceOpen · AreMany IsPredicatePart parts
     · IsMark sorts.BraceClose · MayMark sorts.Semicolon
 IsMember (members.Constructor name formals sets) =
     IsWrittenName name · IsMark sorts.ParenOpen · AreListed sorts.Comma IsTyped formals · IsMark sorts.ParenClose

@@ -37,9 +37,9 @@ sort_of kinds.NotEqual bytes = sorts.NotEqual
 sort_of kinds.DoubleColon bytes = sorts.DoubleColon
 
 -- of a string only what stands between the quotes is kept
-abbrev pub Keeps : LexKind → List ℕ → List ℕ → Type 0
-Keeps kinds.Str bytes kept = bytes ≡ 34 ∷ (kept ++ 34 ∷ [])
-Keeps kind bytes kept = kept ≡ bytes
+abbrev pub KeepsBytes : LexKind → List ℕ → List ℕ → Type 0
+KeepsBytes kinds.Str bytes kept = bytes ≡ 34 ∷ (kept ++ 34 ∷ [])
+KeepsBytes kind bytes kept = kept ≡ bytes
 
 -- the value of a number, of a decimal in thousandths, and 0 of all else
 abbrev pub HasValue : LexKind → List ℕ → ℤ → Type 0
@@ -50,7 +50,7 @@ HasValue kind bytes value = value ≡ pos 0
 -- the symbol that a lexeme of the text is
 pub record IsSymbolOf (text : List ℕ) (lexeme : Lexeme) (symbol : PlainSymbol) : Type 0 where
   pub sort : symbol.sort ≡ sort_of lexeme.kind (bytes_of text lexeme)
-  pub bytes : Keeps lexeme.kind (bytes_of text lexeme) symbol.bytes
+  pub bytes : KeepsBytes lexeme.kind (bytes_of text lexeme) symbol.bytes
   pub value : HasValue lexeme.kind (bytes_of text lexeme) symbol.value
   pub at : symbol.at ≡ lexeme.at
 

@@ -1,6 +1,6 @@
 //! That no text is two trees, and that the promise of `parse` allows one answer.
 
-ghost use Rattle.nddl_parser.specs.Derives.{HasOneOutcome, HasOneTree};
+ghost use Rattle.nddl_parser.specs.Derives.{HasOneParse, HasOneTree};
 
 /// No lexemes derive two trees.
 pub fn lexemes_have_one_tree()
@@ -9,5 +9,5 @@ pub fn lexemes_have_one_tree()
 
 /// A text has one tree, or one fault at one place, and never two or both.
 pub fn each_text_has_one_outcome()
-    ensures { HasOneOutcome }
+    ensures { HasOneParse }
 {}

@@ -3,7 +3,7 @@
 ghost use Rattle.std.specs.Prelude.{◌≡◌, ◌≢◌, ◌<◌, ◌^◌, Ok, Err, IfOk, IfErr, length};
 ghost use Rattle.nddl_lexer.specs.Reading.{Lexes};
 ghost use Rattle.nddl_parser.specs.declared.parsing.ParseFault.TheVariants.{Memory};
-ghost use Rattle.nddl_parser.specs.Derives.{IsOutcome, Parses};
+ghost use Rattle.nddl_parser.specs.Derives.{IsParseOutcome, Parses};
 ghost use Rattle.nddl_parser.specs.Faults.{parse_kind, parse_place};
 
 use super::declarations::text;
@@ -65,8 +65,8 @@ fn tree_of<'a>(
     symbols: &'a [Symbol<'a>],
     end: u32,
 ) -> Result<Sequence<Decl>, ParseFault>
-    ensures tree { IfOk result (λ tree. IsOutcome end symbols.now (Ok tree)) }
-    ensures fault { IfErr result (λ fault. fault ≢ Memory → IsOutcome end symbols.now (Err fault)) }
+    ensures tree { IfOk result (λ tree. IsParseOutcome end symbols.now (Ok tree)) }
+    ensures fault { IfErr result (λ fault. fault ≢ Memory → IsParseOutcome end symbols.now (Err fault)) }
 {
     let mut cursor = Cursor::new(alloc, symbols);
     match text(&mut cursor) {

@@ -4,7 +4,7 @@ ghost use Rattle.std.specs.Prelude.{◌≡◌, ◌++◌, ◌∷◌, [], Some, If
 ghost use Rattle.eu_name.specs.Word.{reserved_of};
 ghost use Rattle.nddl_lexer.specs.Spelling.{IsSpelled, IsInRange, IsString};
 ghost use Rattle.nddl_lexer.specs.Reading.{AreLexemesOf, IsLexemeOf};
-ghost use Rattle.nddl_parser.specs.Symbols.{word_sort, sort_of, Keeps, HasValue, IsSymbolOf, AreSymbols};
+ghost use Rattle.nddl_parser.specs.Symbols.{word_sort, sort_of, KeepsBytes, HasValue, IsSymbolOf, AreSymbols};
 
 use eu_name::word::reserved_of;
 use nddl_lexer::kinds::{LexKind, Lexeme};
@@ -69,7 +69,7 @@ fn value_of(kind: LexKind, bytes: &[u8]) -> i32
 // The bytes, of a string without its quotes.
 fn kept(kind: LexKind, bytes: &[u8]) -> &[u8]
     requires { IsSpelled kind bytes.now }
-    ensures { Keeps kind bytes.now result.now }
+    ensures { KeepsBytes kind bytes.now result.now }
 {
     match kind {
         LexKind::Str => inside(bytes),

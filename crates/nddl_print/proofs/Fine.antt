@@ -14,7 +14,7 @@ use Rattle.nddl_lexer.proofs.Sizes.{parts_once}
 use Rattle.nddl_reading.specs.declared.sort.Sort.{Sort}
 use Rattle.nddl_reading.specs.declared.sort.Sort.TheVariants as sorts
 use Rattle.nddl_reading.specs.Symbols.{PlainSymbol}
-use Rattle.nddl_parser.specs.Symbols.{word_sort, sort_of, Keeps, HasValue, AreSymbols}
+use Rattle.nddl_parser.specs.Symbols.{word_sort, sort_of, KeepsBytes, HasValue, AreSymbols}
 use Rattle.nddl_print.proofs.Saying.{is_fixed, IsFine, AreFine}
 
 -- ---- sorts
@@ -66,7 +66,7 @@ fine_inside bytes kept string keeps = subst (AllPassing is_quotable) (inside_onc
 
 -- ---- symbols
 
-fine_kind : (kind : LexKind) (bytes : List ℕ) (symbol : PlainSymbol) → IsSpelled kind bytes → IsInRange (Some kind) bytes → symbol.sort ≡ sort_of kind bytes → Keeps kind bytes symbol.bytes
+fine_kind : (kind : LexKind) (bytes : List ℕ) (symbol : PlainSymbol) → IsSpelled kind bytes → IsInRange (Some kind) bytes → symbol.sort ≡ sort_of kind bytes → KeepsBytes kind bytes symbol.bytes
     → HasValue kind bytes symbol.value → IsFine symbol
 fine_kind kinds.Word bytes symbol spelled range sort keeps value = record {
   named = λ is. (subst IsWord (sym keeps) spelled, ap (λ (b : List ℕ). word_sort (reserved_of b)) keeps ∙ (sym sort ∙ is));

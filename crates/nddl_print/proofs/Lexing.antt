@@ -8,7 +8,7 @@ use Rattle.nddl_lexer.specs.Bytes.{is_blank}
 use Rattle.nddl_lexer.specs.Reading.{Piece, piece_of, Starts, Leads, lexemes_of, bytes_of}
 use Rattle.nddl_lexer.proofs.Laws.{blanks_separate}
 use Rattle.nddl_reading.specs.Symbols.{PlainSymbol}
-use Rattle.nddl_parser.specs.Symbols.{sort_of, Keeps, HasValue, AreSymbols}
+use Rattle.nddl_parser.specs.Symbols.{sort_of, KeepsBytes, HasValue, AreSymbols}
 use Rattle.nddl_ast.specs.declared.declaration.Decl.{Decl}
 use Rattle.nddl_print.specs.Words.{Word, text_of, line_of}
 use Rattle.nddl_print.specs.Canonical.{◌⌢◌, many_words, decl_words, spelling_of}
@@ -64,7 +64,7 @@ reads whole before text at (word ∷ words) is place sound (blank, rest, separat
       read = (
         record {
           sort = ap (sort_of kind) (sym own);
-          bytes = subst (λ text. Keeps kind text spells.kept) (sym own) spells.keeps;
+          bytes = subst (λ text. KeepsBytes kind text spells.kept) (sym own) spells.keeps;
           value = subst (λ text. HasValue kind text spells.value) (sym own) spells.valued;
           at = refl;
         },

@@ -17,7 +17,7 @@ use Rattle.nddl_ast.specs.declared.declaration.Member.TheVariants as members
 use Rattle.nddl_ast.specs.declared.declaration.Decl.TheVariants as decls
 use Rattle.nddl_ast.specs.Tree.{Braces}
 use Rattle.nddl_ast.specs.Same.{AllSame, BothSame, SameName, SamePart, SameSet, SameMember, SameDecl}
-use Rattle.nddl_parser.specs.Grammar.{IsPart, IsSet, IsMember, IsFile, IsParent, IsDecl, IsText}
+use Rattle.nddl_parser.specs.Grammar.{IsPredicatePart, IsSet, IsMember, IsFile, IsParent, IsDecl, IsText}
 use Rattle.nddl_print.specs.Words.{Quoted}
 use Rattle.nddl_print.specs.Canonical.{fixed, braced, listed_words, many_words, expr_words, typed_words, part_words, set_words, member_words, parent_words, decl_words}
 use Rattle.nddl_print.proofs.Saying.{AreSound, AreFine, three_first, one_said}
@@ -25,7 +25,7 @@ use Rattle.nddl_print.proofs.Reprinting.{Reprints, EachReprints, mapped, reworde
 use Rattle.nddl_print.proofs.ReprintParts.{name_reprints, expr_reprints, init_reprints, type_reprints, typed_reprints}
 use Rattle.nddl_print.proofs.ReprintStatements.{variable_reprints, call_reprints, ask_reprints, block_reprints}
 
-part_reprints : EachReprints IsPart SamePart part_words
+part_reprints : EachReprints IsPredicatePart SamePart part_words
 part_reprints (parts.Parameter typed) =
     mapped parts.Parameter typed (λ p symbols is. is) (λ symbols is. is) (λ p same. same) (before (typed_reprints typed) (mark sorts.Semicolon refl))
 part_reprints (parts.Constraint call) = mapped parts.Constraint call (λ p symbols is. is) (λ symbols is. is) (λ p same. same) (call_reprints call)

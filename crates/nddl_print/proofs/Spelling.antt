@@ -14,7 +14,7 @@ use Rattle.nddl_lexer.specs.Spelling.{IsSpelled, IsInRange, IsNumber, SpellsNumb
 use Rattle.nddl_reading.specs.declared.sort.Sort.{Sort}
 use Rattle.eu_name.specs.declared.word.Reserved.TheVariants as keywords
 use Rattle.nddl_reading.specs.declared.sort.Sort.TheVariants as sorts
-use Rattle.nddl_parser.specs.Symbols.{word_sort, sort_of, Keeps, HasValue}
+use Rattle.nddl_parser.specs.Symbols.{word_sort, sort_of, KeepsBytes, HasValue}
 use Rattle.nddl_print.specs.Words.{Word, Fixed, Named, Number, Decimal, Quoted, fixed_text, decimal_text, text_of}
 use Rattle.nddl_print.proofs.Saying.{is_fixed, IsSound, Says}
 use Rattle.nddl_print.proofs.Digits.{spells_number, spells_decimal}
@@ -26,7 +26,7 @@ pub record Spells (word : Word) : Type 0 where
   pub in_range : IsInRange (Some kind) (text_of word)
   pub kept : List ℕ
   pub value : ℤ
-  pub keeps : Keeps kind (text_of word) kept
+  pub keeps : KeepsBytes kind (text_of word) kept
   pub valued : HasValue kind (text_of word) value
   pub says : (at : ℕ) → Says word (record { sort = sort_of kind (text_of word); bytes = kept; value = value; at = at })
 
@@ -70,7 +70,7 @@ reserved sort word is = record {
   says = λ at. is;
 }
 
-sign : (sort : Sort) (kind : LexKind) → IsSpelled kind (fixed_text sort) → IsInRange (Some kind) (fixed_text sort) → Keeps kind (fixed_text sort) (fixed_text sort)
+sign : (sort : Sort) (kind : LexKind) → IsSpelled kind (fixed_text sort) → IsInRange (Some kind) (fixed_text sort) → KeepsBytes kind (fixed_text sort) (fixed_text sort)
     → HasValue kind (fixed_text sort) (pos 0) → sort_of kind (fixed_text sort) ≡ sort → Spells (Fixed sort)
 sign sort kind spelled range keeps valued is = record {
   kind = kind;

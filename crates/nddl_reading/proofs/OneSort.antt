@@ -9,7 +9,7 @@ use Rattle.eu_name.specs.Word.{reserved_of}
 use Rattle.eu_name.proofs.Reserved.{reserved_back}
 use Rattle.nddl_reading.specs.declared.sort.Sort.{Sort}
 use Rattle.nddl_reading.specs.declared.sort.Sort.TheVariants as sorts
-use Rattle.nddl_reading.specs.Sorts.{number_of, word_spelling, same}
+use Rattle.nddl_reading.specs.Sorts.{sort_number, word_spelling, same}
 
 and_both : (one other : Bool) → one ≡ true → other ≡ true → (one && other) ≡ true
 and_both true other p q = q
@@ -42,7 +42,7 @@ sort_at n word =
     else (if n == 17 then sorts.NotEqual
     else sorts.DoubleColon)))))))))))))))))
 
-sort_back : (one : Sort) → sort_at (number_of one) (word_spelling one) ≡ one
+sort_back : (one : Sort) → sort_at (sort_number one) (word_spelling one) ≡ one
 unfolding sort_at
 sort_back sorts.Name = refl
 sort_back (sorts.Word word) = ap word_sort (reserved_back word)
@@ -64,18 +64,18 @@ sort_back sorts.Equal = refl
 sort_back sorts.NotEqual = refl
 sort_back sorts.DoubleColon = refl
 
-pub one_sort : (one other : Sort) → number_of one ≡ number_of other → word_spelling one ≡ word_spelling other → one ≡ other
+pub one_sort : (one other : Sort) → sort_number one ≡ sort_number other → word_spelling one ≡ word_spelling other → one ≡ other
 one_sort one other numbers words = sym (sort_back one) ∙ ((λ i. sort_at (numbers i) (words i)) ∙ sort_back other)
 
 pub same_is : (one other : Sort) → same one other ≡ true → one ≡ other
 unfolding same
 same_is one other test =
-    let parts = and_parts (number_of one == number_of other) (bytes_eq (word_spelling one) (word_spelling other)) test in
+    let parts = and_parts (sort_number one == sort_number other) (bytes_eq (word_spelling one) (word_spelling other)) test in
     one_sort one other (eqb-true _ _ parts.0) ((bytes_eq-Decides (word_spelling one) (word_spelling other)).0 parts.1)
 
 pub is_same : (one : Sort) → same one one ≡ true
 unfolding same
-is_same one = and_both (number_of one == number_of one) (bytes_eq (word_spelling one) (word_spelling one)) (eq-eqb (number_of one) (number_of one) refl) ((bytes_eq-Decides (word_spelling one) (word_spelling one)).1 refl)
+is_same one = and_both (sort_number one == sort_number one) (bytes_eq (word_spelling one) (word_spelling one)) (eq-eqb (sort_number one) (sort_number one) refl) ((bytes_eq-Decides (word_spelling one) (word_spelling one)).1 refl)
 
 pub not_true : (flag : Bool) → flag ≡ false → flag ≡ true → ⊥
 not_true flag fails holds = cc

@@ -39,7 +39,7 @@ use Rattle.plan_defs.specs.Closure.{IsClosed, IsRespected}
 use Rattle.plan_defs.specs.Consistency.{IsClaimConsistent}
 use Rattle.plan_defs.specs.Terms.{Argument, Value, Variable, ArgumentCounts}
 use Rattle.plan_examples.specs.Cases.{short, ruled, two_facts, activated, moment, goal_and_fact, merged, ordered, at_most_one, limited}
-use Rattle.plan_examples.specs.Scenes.{both_objects, predicate_of, root_of, scene_with, Moment, exactly, scene_state, guarded, top_block, then_block, else_block}
+use Rattle.plan_examples.specs.Scenes.{both_objects, predicate_of, root_of, scene_with, Moment, exactly, scene_state, guarded, top_block, then_block, otherwise_block}
 use Rattle.plan_examples.proofs.Casts.{only_moment, one_moment, two_moments, nothing_decided, one_decided, fit_no_timelines, fit_no_reusables, fit_no_reservoirs, no_rule, nothing_listed}
 use Rattle.plan_examples.proofs.Closed.{IsMoment, IsPlain, Grants, closed_with, plain_grants, supported, slot_same, part_domain, part_is_domain, HasItsBlock}
 use Rattle.plan_examples.proofs.Examples.{plain_closed, the_guard, gives_quantity, at_way, has_block, opens_here, GoesTo, ruled_closed, in_order, has_top, part_there}
@@ -49,8 +49,8 @@ use Rattle.plan_examples.proofs.Scenes.{HasPartDomain, token_of}
 
 -- ---- else
 
-has_else : (quantity : Domain) → HasItsBlock [] kind.Plain pred.Plain (0 ∷ []) (guarded ∷ []) (Goal ∷ []) (short quantity ∷ []) else_block
-has_else quantity = (contains_head (root_token 0) [], (NoEntry, has_block [] quantity else_block.path NoEntry (the_guard, (NoEntry, NoEntry, (refl, (tt, refl))))))
+has_else : (quantity : Domain) → HasItsBlock [] kind.Plain pred.Plain (0 ∷ []) (guarded ∷ []) (Goal ∷ []) (short quantity ∷ []) otherwise_block
+has_else quantity = (contains_head (root_token 0) [], (NoEntry, has_block [] quantity otherwise_block.path NoEntry (the_guard, (NoEntry, NoEntry, (refl, (tt, refl))))))
 
 opens_else : (blocks : List TokenBlock) → opens_here blocks (exactly 2) the_guard Otherwise
 opens_else blocks = record {
@@ -67,12 +67,12 @@ opens_else blocks = record {
 }
 
 -- it is asked for once the quantity is 2
-else_there : (blocks : List TokenBlock) → IsClosed ruled activated (scene_state blocks (short (exactly 2) ∷ [])) → Contains blocks else_block
-else_there blocks p = p.consistent.blocks else_block NoEntry (at_way blocks (exactly 2) else_block.path NoEntry (the_guard, (NoEntry, NoEntry, (refl, (opens_else blocks, refl)))))
+else_there : (blocks : List TokenBlock) → IsClosed ruled activated (scene_state blocks (short (exactly 2) ∷ [])) → Contains blocks otherwise_block
+else_there blocks p = p.consistent.blocks otherwise_block NoEntry (at_way blocks (exactly 2) otherwise_block.path NoEntry (the_guard, (NoEntry, NoEntry, (refl, (opens_else blocks, refl)))))
 
 pub else_is_missing : IsClosed ruled activated (scene_state (top_block ∷ []) (short (exactly 2) ∷ [])) → ⊥
 else_is_missing p =
-    let paths = ap (λ (block : TokenBlock). length block.path) (only_member top_block else_block (else_there (top_block ∷ []) p)) in
+    let paths = ap (λ (block : TokenBlock). length block.path) (only_member top_block otherwise_block (else_there (top_block ∷ []) p)) in
     omega (arith, paths)
 
 abbrev number_of : Side → ℕ
@@ -84,31 +84,31 @@ side_number [] = 0
 side_number (turn ∷ path) = number_of turn.side
 
 pub then_is_no_else : IsClosed ruled activated (scene_state (top_block ∷ then_block ∷ []) (short (exactly 2) ∷ [])) → ⊥
-then_is_no_else p = elim (contains_cases top_block else_block (then_block ∷ []) (else_there (top_block ∷ then_block ∷ []) p)) [
+then_is_no_else p = elim (contains_cases top_block otherwise_block (then_block ∷ []) (else_there (top_block ∷ then_block ∷ []) p)) [
   | inl same ↦ (let sides = ap (λ (block : TokenBlock). side_number block.path) same in omega (arith, sides))
-  | inr later ↦ (let sides = ap (λ (block : TokenBlock). side_number block.path) (only_member then_block else_block later) in omega (arith, sides))
+  | inr later ↦ (let sides = ap (λ (block : TokenBlock). side_number block.path) (only_member then_block otherwise_block later) in omega (arith, sides))
 ]
 
-pub else_opened : IsClosed ruled activated (scene_state (top_block ∷ else_block ∷ []) (short (exactly 2) ∷ []))
+pub else_opened : IsClosed ruled activated (scene_state (top_block ∷ otherwise_block ∷ []) (short (exactly 2) ∷ []))
 else_opened =
-    let ordered = ordered_link IsBlockBefore block_transitive top_block else_block [] (inr (refl, inr (refl, tt))) (ordered_one IsBlockBefore else_block) in
-    ruled_closed (top_block ∷ else_block ∷ []) (exactly 2) (only_moment 0 1 2 (omega arith) (omega arith) (omega arith)) ordered
-    (all_members (HasItsBlock [] kind.Plain pred.Plain (0 ∷ []) (guarded ∷ []) (Goal ∷ []) (short (exactly 2) ∷ [])) (top_block ∷ else_block ∷ []) have)
-    complete (in_order (top_block ∷ else_block ∷ []) (short (exactly 2) ∷ []) ordered)
+    let ordered = ordered_link IsBlockBefore block_transitive top_block otherwise_block [] (inr (refl, inr (refl, tt))) (ordered_one IsBlockBefore otherwise_block) in
+    ruled_closed (top_block ∷ otherwise_block ∷ []) (exactly 2) (only_moment 0 1 2 (omega arith) (omega arith) (omega arith)) ordered
+    (all_members (HasItsBlock [] kind.Plain pred.Plain (0 ∷ []) (guarded ∷ []) (Goal ∷ []) (short (exactly 2) ∷ [])) (top_block ∷ otherwise_block ∷ []) have)
+    complete (in_order (top_block ∷ otherwise_block ∷ []) (short (exactly 2) ∷ []) ordered)
   where
-    have : (block : TokenBlock) → Contains (top_block ∷ else_block ∷ []) block → HasItsBlock [] kind.Plain pred.Plain (0 ∷ []) (guarded ∷ []) (Goal ∷ []) (short (exactly 2) ∷ []) block
-    have block c = elim (contains_cases top_block block (else_block ∷ []) c) [
+    have : (block : TokenBlock) → Contains (top_block ∷ otherwise_block ∷ []) block → HasItsBlock [] kind.Plain pred.Plain (0 ∷ []) (guarded ∷ []) (Goal ∷ []) (short (exactly 2) ∷ []) block
+    have block c = elim (contains_cases top_block block (otherwise_block ∷ []) c) [
       | inl same ↦ subst (HasItsBlock [] kind.Plain pred.Plain (0 ∷ []) (guarded ∷ []) (Goal ∷ []) (short (exactly 2) ∷ [])) same (has_top (exactly 2))
-      | inr later ↦ subst (HasItsBlock [] kind.Plain pred.Plain (0 ∷ []) (guarded ∷ []) (Goal ∷ []) (short (exactly 2) ∷ [])) (only_member else_block block later) (has_else (exactly 2))
+      | inr later ↦ subst (HasItsBlock [] kind.Plain pred.Plain (0 ∷ []) (guarded ∷ []) (Goal ∷ []) (short (exactly 2) ∷ [])) (only_member otherwise_block block later) (has_else (exactly 2))
     ]
 
     at_side : (side : Side) (path : List Turn) → path ≡ record { entry = 0; side = side } ∷ [] → ((v w : ℤ) → Has (exactly 2) v → Has (exactly 1) w → Selects the_guard side v w)
-        → Contains (top_block ∷ else_block ∷ []) (record { token = root_token 0; rule = 0; path = path })
+        → Contains (top_block ∷ otherwise_block ∷ []) (record { token = root_token 0; rule = 0; path = path })
     at_side Otherwise path e chooses = (1, omega arith, ap (λ p. record { token = root_token 0; rule = 0; path = p }) (sym e))
     at_side Then path e chooses =
         let same = chooses (pos 2) (pos 1) (omega (arith, ints), omega (arith, ints)) (omega (arith, ints), omega (arith, ints)) in absurd (omega (arith, ints, same))
 
-    complete : (path : List Turn) → GoesTo (top_block ∷ else_block ∷ []) (exactly 2) path → Contains (top_block ∷ else_block ∷ []) (record { token = root_token 0; rule = 0; path = path })
+    complete : (path : List Turn) → GoesTo (top_block ∷ otherwise_block ∷ []) (exactly 2) path → Contains (top_block ∷ otherwise_block ∷ []) (record { token = root_token 0; rule = 0; path = path })
     complete path (inl e) = (0, omega arith, ap (λ p. record { token = root_token 0; rule = 0; path = p }) (sym e))
     complete path (inr goes) = at_side goes.0 path goes.1.0 goes.1.1
 

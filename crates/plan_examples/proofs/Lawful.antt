@@ -39,7 +39,7 @@ use Rattle.model_core.proofs.Words.{is_among, not_contained, is_plain, plain_nam
 use Rattle.plan_defs.proofs.Ordered.{contains_cases, contains_none, ordered_none, ordered_one}
 use Rattle.plan_examples.specs.Cases.{lone_goal, ruled, localised, two_facts, tool, battery, goal_and_fact, limited, at_most_one}
 use Rattle.plan_examples.specs.Globals.{declared_x, problem_with, problem_of, free_x, low_x, at_most_1}
-use Rattle.plan_examples.specs.Refused.{alone, two_goals, mixed, facts_and_goal, many}
+use Rattle.plan_examples.specs.Refused.{alone, two_goals, mixed, facts_and_goal, many_roots}
 use Rattle.plan_examples.specs.Scenes.{the_object, both_objects, object_called, predicate_called, predicate_of, label_of, root_of, roots_from, scene_with, guarded, with_local}
 use Rattle.plan_examples.specs.Worlds.{class_with, object_with, declared_c, declared_field, declared_v, declared_y, field_is, no_choice, one_choice, fielded, free_two, low_two}
 use Rattle.plan_examples.proofs.Closed.{guarded_follows}
@@ -681,13 +681,13 @@ module _ (roots : List Root) where
       with_first (IsLawfulRoot facts_world) (root_of first Fact) (roots_from (first + 1) (facts_and_goal number))
       (root_lawful [] kind.Plain (predicate_of pred.Plain [] ∷ []) [] roots (label_of first) Fact 0 (codes "P") pred.Plain [] (label_plain first) refl) (roots_lawful (first + 1) number)
 
-few_are_lawful : (number : ℕ) → number ≤ 512 → IsLawful (many number)
+few_are_lawful : (number : ℕ) → number ≤ 512 → IsLawful (many_roots number)
 few_are_lawful number few =
     tokens_lawful_by [] kind.Plain (predicate_of pred.Plain [] ∷ []) [] (roots_from 0 (facts_and_goal number)) tt (omega arith) (omega arith) (omega arith)
     (omega (arith, few, roots_length 0 number)) (omega (arith, few, facts_counted 0 0 number))
     (one_pred [] kind.Plain pred.Plain [] [] (facts_and_goal number) (no_rules [] kind.Plain pred.Plain (facts_and_goal number)))
     (ordered_one (λ (one other : Pred). one.class ≡ other.class → one.name ≢ other.name) (predicate_of pred.Plain []))
-    (roots_lawful (roots_from 0 (facts_and_goal number)) 0 number) (none (IsLawfulItem (many number) OfProblem)) (free_from 0 number) (named_differ 0 number)
+    (roots_lawful (roots_from 0 (facts_and_goal number)) 0 number) (none (IsLawfulItem (many_roots number) OfProblem)) (free_from 0 number) (named_differ 0 number)
 
-pub many_lawful : IsLawful (many 512)
+pub many_lawful : IsLawful (many_roots 512)
 many_lawful = few_are_lawful 512 (omega arith)

@@ -29,7 +29,7 @@ use Rattle.plan_defs.specs.Refusals.{Refusal, Unknown, Decided, NotInDomain, Not
 use Rattle.plan_defs.proofs.Ordered.{contains_head, contains_none}
 use Rattle.plan_examples.specs.Cases.{moment, two_facts, goal_and_fact, limited, at_most_one, activated, activate_it, quantity_is}
 use Rattle.plan_examples.specs.Globals.{declared_x, with_two, up_to}
-use Rattle.plan_examples.specs.Refused.{IsFree, one_token, two_tokens, merge_them, order_them, order_it, reject_it, alone, two_goals, mixed, facts_and_goal, many, many_moments, many_tokens}
+use Rattle.plan_examples.specs.Refused.{IsUnhindered, one_token, two_tokens, merge_them, order_them, order_it, reject_it, alone, two_goals, mixed, facts_and_goal, many_roots, many_moments, many_tokens}
 use Rattle.plan_examples.specs.Scenes.{both_objects, predicate_of, root_of, scene_with, Moment, tokens_of}
 use Rattle.plan_examples.specs.Worlds.{free_two, x_is}
 use Rattle.plan_examples.proofs.Closed.{slot_same}
@@ -215,7 +215,7 @@ none_active p = at p.tokens p.active p.enough
     at [] all enough = omega (arith, enough)
     at (token ∷ tokens) all enough = root_only token (All-contains (IsActive (alone Goal) []) (token ∷ tokens) token all (contains_head token tokens))
 
-pub goal_free : IsFree (alone Goal) [] one_token activate_it
+pub goal_free : IsUnhindered (alone Goal) [] one_token activate_it
 goal_free Unknown h = h one_there
 goal_free Decided h = undecided [] (Goal ∷ []) 0 Goal refl no_goal h
 goal_free NotInDomain h = h
@@ -251,7 +251,7 @@ quantity_untaken = record { hinders = λ counts. untaken (root_token 0) (counts 
     first SameToken less h = omega (arith, less)
     first ActiveFull less h = omega (arith, less)
 
-pub quantity_taken : IsFree (limited Rejectable) activated one_token (quantity_is 1)
+pub quantity_taken : IsUnhindered (limited Rejectable) activated one_token (quantity_is 1)
 quantity_taken Unknown h = h (Range (pos 1) (pos 1), quantity_given)
 quantity_taken Decided h = let same = only_member activate_it (Specify (Token (root_token 0) (Param 0)) h.0) h.1 in cc
 quantity_taken NotInDomain h = h (quantity_base (pos 1) (omega (arith, ints), omega (arith, ints)))
@@ -283,7 +283,7 @@ same_predicate = record {
   same = refl;
 }
 
-pub merge_free : IsFree goal_and_fact [] two_tokens merge_them
+pub merge_free : IsUnhindered goal_and_fact [] two_tokens merge_them
 merge_free Unknown h = h (first_there, second_there)
 merge_free Decided h = undecided [] (Goal ∷ Fact ∷ []) 0 Goal refl no_goal h
 merge_free NotInDomain h = h
@@ -319,7 +319,7 @@ goal_before_itself = record { hinders = inl (inactive [] (Goal ∷ []) 0 Goal re
     first SameToken less h = omega (arith, less)
     first ActiveFull less h = omega (arith, less)
 
-pub order_free : IsFree (two_facts kind.Plain) [] two_tokens order_them
+pub order_free : IsUnhindered (two_facts kind.Plain) [] two_tokens order_them
 order_free Unknown h = h (first_there, second_there)
 order_free Decided h = contains_none order_them h
 order_free NotInDomain h = h
@@ -382,7 +382,7 @@ goal_not_rejectable = record { hinders = λ is. let e = kind_is [] (Goal ∷ [])
     first SameToken less h = omega (arith, less)
     first ActiveFull less h = omega (arith, less)
 
-pub rejectable_free : IsFree (alone Rejectable) [] one_token reject_it
+pub rejectable_free : IsUnhindered (alone Rejectable) [] one_token reject_it
 rejectable_free Unknown h = h one_there
 rejectable_free Decided h = undecided [] (Rejectable ∷ []) 0 Rejectable refl no_rejectable h
 rejectable_free NotInDomain h = h
@@ -421,19 +421,19 @@ tokens_length : (first number : ℕ) → length (tokens_of first (fact_moments n
 tokens_length first zero = refl
 tokens_length first (suc number) = ap suc (tokens_length (first + 1) number)
 
-many_active : (number : ℕ) → AreActive (many number) [] number
+many_active : (number : ℕ) → AreActive (many_roots number) [] number
 many_active number = record {
   tokens = tokens_of 0 (fact_moments number);
   distinct = λ i j d less within same. token_order.irreflexive _ (subst (IsTokenBefore _) (sym same) (tokens_in_order 0 (fact_moments number) i j d less within));
-  active = all_members (IsActive (many number) []) (tokens_of 0 (fact_moments number)) (λ token c.
+  active = all_members (IsActive (many_roots number) []) (tokens_of 0 (fact_moments number)) (λ token c.
       let is = token_of 0 (fact_moments number) token c in
       let named : token ≡ root_token is.place = is.named ∙ ap root_token (let same : 0 + is.place ≡ is.place = omega arith in same) in
-      subst (IsActive (many number) []) (sym named) (inl (is_kind [] (facts_and_goal number) is.place Fact (many_fact number is.place (fact_place number is.place is.moment is.at)))));
+      subst (IsActive (many_roots number) []) (sym named) (inl (is_kind [] (facts_and_goal number) is.place Fact (many_fact number is.place (fact_place number is.place is.moment is.at)))));
   enough = omega (arith, tokens_length 0 number);
 }
 
 module _ (number : ℕ) where
-  first_many : (earlier : Refusal) → rank_of earlier < 7 → Hinders (many number) [] (many_tokens number) earlier (Activate (root_token number)) → ⊥
+  first_many : (earlier : Refusal) → rank_of earlier < 7 → Hinders (many_roots number) [] (many_tokens number) earlier (Activate (root_token number)) → ⊥
   first_many Unknown less h = h (subst (λ n. Contains (tokens_of 0 (many_moments number)) (root_token n)) (let same : 0 + number ≡ number = omega arith in same) (token_there 0 (many_moments number) number (moment 0 1 1) (many_moment number)))
   first_many Decided less h = undecided [] (facts_and_goal number) number Goal (many_goal number) no_goal h
   first_many NotInDomain less h = h
@@ -443,5 +443,5 @@ module _ (number : ℕ) where
   first_many SameToken less h = h
   first_many ActiveFull less h = omega (arith, less)
 
-pub many_full : IsFirstRefusal (many 512) [] (many_tokens 512) (Activate (root_token 512)) ActiveFull
+pub many_full : IsFirstRefusal (many_roots 512) [] (many_tokens 512) (Activate (root_token 512)) ActiveFull
 many_full = record { hinders = many_active 512; first = first_many 512 }

@@ -16,7 +16,7 @@ use Rattle.plan_defs.specs.Consistency.{IsClaimConsistent}
 use Rattle.plan_defs.specs.Terms.{Variable}
 use Rattle.plan_defs.proofs.Ordered.{contains_head, contains_later, contains_cases, contains_none, ordered_none, ordered_one, ordered_link}
 use Rattle.plan_examples.specs.Globals.{problem_of}
-use Rattle.plan_examples.specs.Relations.{Times, token_a, token_b, beside_a, IsMark}
+use Rattle.plan_examples.specs.Relations.{Times, token_a, token_b, beside_a, IsRowMark}
 use Rattle.plan_examples.specs.Scenes.{exactly}
 use Rattle.plan_examples.proofs.Pairs.{at_most_holds, at_most_says, equal_holds, equal_says}
 
@@ -202,13 +202,13 @@ abbrev pub mark_of : Bool → ℕ
 mark_of true = 121
 mark_of false = 110
 
-mark_is : (r : Rel) (times : Times) (answer : Bool) → all_true times (edges r) ≡ answer → IsMark r times (mark_of answer)
+mark_is : (r : Rel) (times : Times) (answer : Bool) → all_true times (edges r) ≡ answer → IsRowMark r times (mark_of answer)
 mark_is r times true e = (λ same. subst (λ list. (claim : Claim) → Contains list claim → IsClaimConsistent (problem_of [] []) (beside_a times) claim) (sym (claims_are r)) (all_yes times (edges r) e), λ fit. refl)
 mark_is r times false e = (
   λ same. let e : 110 ≡ 121 = ap (λ (list : List ℕ). get_or list 0 0) same in absurd (omega (arith, e)),
   λ fit. absurd (all_no times (edges r) e (subst (λ list. (claim : Claim) → Contains list claim → IsClaimConsistent (problem_of [] []) (beside_a times) claim) (claims_are r) fit)),
 )
 
-pub row : (r : Rel) (listed : List Times) → AllZip (IsMark r) listed (map (λ times. mark_of (all_true times (edges r))) listed)
+pub row : (r : Rel) (listed : List Times) → AllZip (IsRowMark r) listed (map (λ times. mark_of (all_true times (edges r))) listed)
 row r [] = tt
 row r (times ∷ listed) = (mark_is r times (all_true times (edges r)) refl, row r listed)

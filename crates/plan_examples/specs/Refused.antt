@@ -15,8 +15,8 @@ use Rattle.plan_examples.specs.Scenes.{both_objects, object_called, predicate_of
 use Rattle.plan_examples.specs.Scenes.{label_of, scene, Moment, scene_state}
 
 -- no reason speaks against the decision
-abbrev pub IsFree : Model → List Decision → State → Decision → Type 0
-IsFree model decisions state decision = (reason : Refusal) → Hinders model decisions state reason decision → ⊥
+abbrev pub IsUnhindered : Model → List Decision → State → Decision → Type 0
+IsUnhindered model decisions state decision = (reason : Refusal) → Hinders model decisions state reason decision → ⊥
 
 -- states of one token and of two
 abbrev pub one_token : State
@@ -72,8 +72,8 @@ abbrev pub facts_and_goal : ℕ → List RootKind
 facts_and_goal zero = Goal ∷ []
 facts_and_goal (suc number) = Fact ∷ facts_and_goal number
 
-abbrev pub many : ℕ → Model
-many number = scene kind.Plain pred.Plain [] [] (facts_and_goal number)
+abbrev pub many_roots : ℕ → Model
+many_roots number = scene kind.Plain pred.Plain [] [] (facts_and_goal number)
 
 -- when they take place
 abbrev pub many_moments : ℕ → List Moment

@@ -59,9 +59,9 @@ Fits rel times =
     → IsClaimConsistent (problem_of [] []) (beside_a times) claim
 
 -- the mark is y exactly where b fits at these times
-abbrev pub IsMark : Rel → Times → ℕ → Type 0
-IsMark rel times mark = (mark ∷ [] ≡ codes "y") ↔ Fits rel times
+abbrev pub IsRowMark : Rel → Times → ℕ → Type 0
+IsRowMark rel times mark = (mark ∷ [] ≡ codes "y") ↔ Fits rel times
 
 -- the marks say in which of the thirteen ways b fits
 abbrev pub FitsIn : Rel → List ℕ → Type 0
-FitsIn rel marks = AllZip (IsMark rel) thirteen marks
+FitsIn rel marks = AllZip (IsRowMark rel) thirteen marks

@@ -134,8 +134,8 @@ top_block = record { token = root_token 0; rule = 0; path = [] }
 abbrev pub then_block : TokenBlock
 then_block = record { token = root_token 0; rule = 0; path = record { entry = 0; side = Then } ∷ [] }
 
-abbrev pub else_block : TokenBlock
-else_block = record { token = root_token 0; rule = 0; path = record { entry = 0; side = Otherwise } ∷ [] }
+abbrev pub otherwise_block : TokenBlock
+otherwise_block = record { token = root_token 0; rule = 0; path = record { entry = 0; side = Otherwise } ∷ [] }
 
 -- ---- a rule with a local
 

@@ -7,7 +7,7 @@ ghost use Rattle.model_core.specs.declared.model.RootKind.TheVariants.{Goal, Rej
 ghost use Rattle.plan_examples.specs.Cases.{lone_goal, ruled, localised, two_facts, tool, battery, goal_and_fact};
 ghost use Rattle.plan_examples.specs.Cases.{limited};
 ghost use Rattle.plan_examples.specs.Globals.{problem_of, free_x, low_x};
-ghost use Rattle.plan_examples.specs.Refused.{alone, two_goals, mixed, many};
+ghost use Rattle.plan_examples.specs.Refused.{alone, two_goals, mixed, many_roots};
 ghost use Rattle.plan_examples.specs.Worlds.{no_choice, one_choice, fielded, free_two, low_two};
 
 /// Those without tokens.
@@ -39,5 +39,5 @@ pub fn problems_of_tokens_are_lawful()
     ensures rejectable { IsLawful (alone Rejectable) }
     ensures two_goals { IsLawful two_goals }
     ensures mixed { IsLawful mixed }
-    ensures many { IsLawful (many 512) }
+    ensures many { IsLawful (many_roots 512) }
 {}

@@ -9,8 +9,8 @@ ghost use Rattle.model_core.specs.Tokens.{root_token};
 ghost use Rattle.plan_defs.specs.Refusals.{IsRefused, IsAdmissible, IsFirstRefusal, Unknown, Decided, NotInDomain};
 ghost use Rattle.plan_defs.specs.Refusals.{NotActive, NotSamePredicate, NotRejectable, SameToken, ActiveFull};
 ghost use Rattle.plan_examples.specs.Cases.{two_facts, goal_and_fact, limited, activated, activate_it, quantity_is};
-ghost use Rattle.plan_examples.specs.Refused.{IsFree, one_token, two_tokens, many_tokens, alone, two_goals};
-ghost use Rattle.plan_examples.specs.Refused.{mixed, many};
+ghost use Rattle.plan_examples.specs.Refused.{IsUnhindered, one_token, two_tokens, many_tokens, alone, two_goals};
+ghost use Rattle.plan_examples.specs.Refused.{mixed, many_roots};
 ghost use Rattle.plan_examples.specs.Refused.{merge_them, order_them, order_it, reject_it};
 ghost use Rattle.plan_examples.specs.Worlds.{free_two, x_is, y_is};
 
@@ -25,7 +25,7 @@ pub fn what_has_a_value_is_decided()
     ensures decided { IsRefused free_two (x_is 0 ∷ []) (x_is 3) Decided }
     ensures other { IsAdmissible free_two (x_is 0 ∷ []) (y_is 1) }
     ensures fact { IsFirstRefusal (alone Fact) [] one_token activate_it Decided }
-    ensures goal { IsFree (alone Goal) [] one_token activate_it }
+    ensures goal { IsUnhindered (alone Goal) [] one_token activate_it }
     ensures rejected_fact { IsFirstRefusal (alone Fact) [] one_token reject_it Decided }
 {}
 
@@ -40,34 +40,34 @@ pub fn values_are_of_the_base()
 /// tokens of an order.
 pub fn tokens_are_active_first()
     ensures untaken { IsFirstRefusal (limited Rejectable) [] one_token (quantity_is 1) NotActive }
-    ensures taken { IsFree (limited Rejectable) activated one_token (quantity_is 1) }
+    ensures taken { IsUnhindered (limited Rejectable) activated one_token (quantity_is 1) }
     ensures target { IsFirstRefusal two_goals [] two_tokens merge_them NotActive }
-    ensures active_target { IsFree goal_and_fact [] two_tokens merge_them }
+    ensures active_target { IsUnhindered goal_and_fact [] two_tokens merge_them }
     ensures ordered_goal { IsFirstRefusal goal_and_fact [] two_tokens order_them NotActive }
     ensures ordered_before_itself { IsFirstRefusal (alone Goal) [] one_token order_it NotActive }
-    ensures ordered_facts { IsFree (two_facts Plain) [] two_tokens order_them }
+    ensures ordered_facts { IsUnhindered (two_facts Plain) [] two_tokens order_them }
 {}
 
 /// A token is merged into one of its predicate.
 pub fn merges_are_of_one_predicate()
     ensures mixed { IsFirstRefusal mixed [] two_tokens merge_them NotSamePredicate }
-    ensures same { IsFree goal_and_fact [] two_tokens merge_them }
+    ensures same { IsUnhindered goal_and_fact [] two_tokens merge_them }
 {}
 
 /// Only rejectables are rejected.
 pub fn goals_are_not_rejected()
     ensures goal { IsFirstRefusal (alone Goal) [] one_token reject_it NotRejectable }
-    ensures rejectable { IsFree (alone Rejectable) [] one_token reject_it }
+    ensures rejectable { IsUnhindered (alone Rejectable) [] one_token reject_it }
 {}
 
 /// No token is ordered before itself.
 pub fn orders_are_of_two_tokens()
     ensures same { IsFirstRefusal (two_facts Plain) [] two_tokens order_it SameToken }
-    ensures other { IsFree (two_facts Plain) [] two_tokens order_them }
+    ensures other { IsUnhindered (two_facts Plain) [] two_tokens order_them }
 {}
 
 /// Where 512 tokens are active no further one is activated.
 pub fn active_tokens_are_few()
-    ensures full { IsFirstRefusal (many 512) [] (many_tokens 512) (Activate (root_token 512)) ActiveFull }
-    ensures first { IsFree (alone Goal) [] one_token activate_it }
+    ensures full { IsFirstRefusal (many_roots 512) [] (many_tokens 512) (Activate (root_token 512)) ActiveFull }
+    ensures first { IsUnhindered (alone Goal) [] one_token activate_it }
 {}

@@ -8,7 +8,7 @@ ghost use Rattle.plan_examples.specs.Cases.{short, early, late, using, lone_goal
 ghost use Rattle.plan_examples.specs.Cases.{battery, drained, activated, rejected};
 ghost use Rattle.plan_examples.specs.Cases.{moment, either, limited, localised, goal_and_fact, merged, ordered};
 ghost use Rattle.plan_examples.specs.Globals.{empty_state, up_to};
-ghost use Rattle.plan_examples.specs.Scenes.{exactly, scene_state, top_block, then_block, else_block, local_state};
+ghost use Rattle.plan_examples.specs.Scenes.{exactly, scene_state, top_block, then_block, otherwise_block, local_state};
 
 /// A state has each token that is asked for: here a goal.
 pub fn a_state_has_all_tokens()
@@ -34,7 +34,7 @@ pub fn guards_open_once_decided()
 pub fn else_opens_once_decided()
     ensures closed { IsClosed ruled activated (scene_state (top_block ∷ []) (short (exactly 2) ∷ [])) → ⊥ }
     ensures other { IsClosed ruled activated (scene_state (top_block ∷ then_block ∷ []) (short (exactly 2) ∷ [])) → ⊥ }
-    ensures opened { IsClosed ruled activated (scene_state (top_block ∷ else_block ∷ []) (short (exactly 2) ∷ [])) }
+    ensures opened { IsClosed ruled activated (scene_state (top_block ∷ otherwise_block ∷ []) (short (exactly 2) ∷ [])) }
 {}
 
 /// An open rule has its locals, each within its base.

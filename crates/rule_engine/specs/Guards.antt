@@ -13,9 +13,9 @@ asks_equal (Equal one other) = true
 asks_equal (Differ one other) = false
 
 -- the side whose block opens where the guard is true, and the one whose block opens where it is false
-abbrev pub side_of : Bool → Side
-side_of true = Then
-side_of false = Otherwise
+abbrev pub opened_side : Bool → Side
+opened_side true = Then
+opened_side false = Otherwise
 
 -- the guard opens the block on this side, whatever is chosen for its terms from these domains, each by itself
 abbrev pub AlwaysSelects : Guard → Side → Domain → Domain → Type 0

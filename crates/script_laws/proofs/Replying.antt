@@ -24,7 +24,7 @@ use Rattle.script_lang.specs.declared.line.Command.TheVariants.{Empty, Specify, 
 use Rattle.script_lang.specs.Number.{signed_value}
 use Rattle.session_core.specs.declared.reason.RefusalReason.{RefusalReason}
 use Rattle.session_core.specs.declared.reason.RefusalReason.TheVariants as reason
-use Rattle.session_core.specs.Reasons.{rank_of, refusal, IsFirstReason, NothingStops}
+use Rattle.session_core.specs.Reasons.{reason_rank, refusal, IsFirstReason, NothingStops}
 use Rattle.session_core.specs.Replies.{IsGlobalNamed, StopsSpecify, StopsUndo, StopsCommand, RepliesTo, Replies, AnswersLine, outcome_line, domain_line}
 use Rattle.session_core.proofs.Lines.{line_replies, long_first, syntax_first}
 use Rattle.session_core.proofs.Stopping.{named_within, unknown_first, applied, not_applied, domain_collapsed, domain_unknown, domain_told}
@@ -59,7 +59,7 @@ module _ (leaves : LeavesSomething) where
     specify_collapsed : HasCollapsed old → HasReply old (Specify name word)
     specify_collapsed collapsed = refused_for old (Specify name word) reason.Inconsistent sound (record { stops = collapsed; first = first })
       where
-        first : (earlier : RefusalReason) → rank_of earlier < 2 → StopsSpecify old name (signed_value word) earlier → ⊥
+        first : (earlier : RefusalReason) → reason_rank earlier < 2 → StopsSpecify old name (signed_value word) earlier → ⊥
         first reason.Long before stops = stops
         first reason.Syntax before stops = stops
         first reason.Inconsistent before stops = omega arith
@@ -151,7 +151,7 @@ module _ (leaves : LeavesSomething) where
   undo_some model (list ∷ []) sound = refused_for (record { model = model; history = list ∷ [] }) Undo reason.Nothing sound
       (record { stops = ap (λ l. l ∷ []) sound.history; first = first })
     where
-      first : (earlier : RefusalReason) → rank_of earlier < 6 → StopsUndo (record { model = model; history = list ∷ [] }) earlier → ⊥
+      first : (earlier : RefusalReason) → reason_rank earlier < 6 → StopsUndo (record { model = model; history = list ∷ [] }) earlier → ⊥
       first reason.Nothing before stops = omega arith
       first reason.Long before stops = stops
       first reason.Syntax before stops = stops

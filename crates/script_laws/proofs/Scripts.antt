@@ -7,7 +7,7 @@ use Rattle.plan_db.specs.Database.{IsSound}
 use Rattle.range_problem.specs.Spelling.{Spells}
 use Rattle.session_core.specs.Replies.{AnswersLine}
 use Rattle.europa_run.specs.Output.{start_of, end_of}
-use Rattle.script_laws.specs.Laws.{HasSomeReply, HasSomeScriptOutput}
+use Rattle.script_laws.specs.Laws.{EachLineIsAnswered, HasSomeScriptOutput}
 use Rattle.script_laws.proofs.Replying.{LeavesSomething, each_line_replied}
 use Rattle.script_laws.proofs.Sessions.{some_session}
 
@@ -16,7 +16,7 @@ pub start_sound : (bytes : List ℕ) (model : Model) → Spells bytes model → 
 start_sound bytes model spells = record { lawful = spells.lawful; built = spells.built; history = refl }
 
 module _ (leaves : LeavesSomething) where
-  pub has_some_reply : HasSomeReply
+  pub has_some_reply : EachLineIsAnswered
   has_some_reply old text sound = each_line_replied leaves old text sound
 
   pub has_some_script_output : HasSomeScriptOutput

@@ -9,8 +9,8 @@ use Rattle.europa_run.specs.declared.status.RunEnd.{RunEnd}
 use Rattle.europa_run.specs.Output.{ScriptOutput}
 
 -- in a sound database each line has some answer, behind which the database is sound
-abbrev pub HasSomeReply : Type 0
-HasSomeReply = (database : Database) (text : List ℕ) → IsSound database
+abbrev pub EachLineIsAnswered : Type 0
+EachLineIsAnswered = (database : Database) (text : List ℕ) → IsSound database
     → (answer : Answer) × (new : Database) × AnswersLine database text answer new × IsSound new
 
 -- over each input the script of a problem that its text spells has an output, and an end

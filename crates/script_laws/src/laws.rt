@@ -1,10 +1,10 @@
 //! Laws of the replies and outputs of scripts, for whoever reads these by their definitions.
 
-ghost use Rattle.script_laws.specs.Laws.{HasSomeReply, HasSomeScriptOutput};
+ghost use Rattle.script_laws.specs.Laws.{EachLineIsAnswered, HasSomeScriptOutput};
 
 /// A law: in a sound database each line has some answer, behind which the database is sound.
 pub fn each_line_has_some_reply()
-    ensures { HasSomeReply }
+    ensures { EachLineIsAnswered }
 {}
 
 /// A law: over each input the script of a problem that its text spells has an output.

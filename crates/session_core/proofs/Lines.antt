@@ -9,7 +9,7 @@ use Rattle.script_lang.specs.Line.{ReadsLine}
 use Rattle.script_lang.proofs.Commands.{lines_ask_once}
 use Rattle.session_core.specs.declared.reason.RefusalReason.{RefusalReason}
 use Rattle.session_core.specs.declared.reason.RefusalReason.TheVariants.{Long, Syntax, Inconsistent, Unknown, Decided, NotInDomain, Nothing}
-use Rattle.session_core.specs.Reasons.{rank_of, IsFirstReason}
+use Rattle.session_core.specs.Reasons.{reason_rank, IsFirstReason}
 use Rattle.session_core.specs.Replies.{StopsCommand, LineAsksFor, StopsLine, Replies, RepliesTo, AnswersLine, IsLost}
 
 -- no command is too long or none
@@ -75,7 +75,7 @@ long_first old text reads = record { stops = reads; first = λ earlier before st
 pub syntax_first : (old : Database) (text : List ℕ) → ReadsLine text (Err line.Syntax) → IsFirstReason (StopsLine old text) Syntax
 syntax_first old text reads = record { stops = reads; first = first }
   where
-    first : (earlier : RefusalReason) → rank_of earlier < 1 → StopsLine old text earlier → ⊥
+    first : (earlier : RefusalReason) → reason_rank earlier < 1 → StopsLine old text earlier → ⊥
     first Long before stops = omega (arith, stops, reads.0)
     first Syntax before stops = omega arith
     first Inconsistent before stops = omega arith

@@ -21,7 +21,7 @@ use Rattle.script_lang.specs.Number.{signed_value}
 use Rattle.script_lang.proofs.Commands.{lines_ask_once}
 use Rattle.session_core.specs.declared.reason.RefusalReason.{RefusalReason}
 use Rattle.session_core.specs.declared.reason.RefusalReason.TheVariants as reason
-use Rattle.session_core.specs.Reasons.{rank_of, refusal, IsFirstReason, RefusedOr}
+use Rattle.session_core.specs.Reasons.{reason_rank, refusal, IsFirstReason, RefusedOr}
 use Rattle.session_core.specs.Replies.{outcome_line, domain_line, Specifies, UndoesLast, TellsDomain, CarriesOut, StopsLine, LineAsksFor, Replies, AnswersLine}
 use Rattle.session_core.proofs.Stopping.{one_named, never_leaves_both}
 
@@ -36,7 +36,7 @@ ranked (suc (suc (suc (suc zero)))) = reason.Decided
 ranked (suc (suc (suc (suc (suc zero))))) = reason.NotInDomain
 ranked (suc (suc (suc (suc (suc (suc n)))))) = reason.Nothing
 
-ranked_back : (r : RefusalReason) → ranked (rank_of r) ≡ r
+ranked_back : (r : RefusalReason) → ranked (reason_rank r) ≡ r
 unfolding ranked
 ranked_back reason.Long = refl
 ranked_back reason.Syntax = refl
@@ -47,16 +47,16 @@ ranked_back reason.NotInDomain = refl
 ranked_back reason.Nothing = refl
 
 reason_once : (Stops : RefusalReason → Type 0) (one other : RefusalReason) → IsFirstReason Stops one → IsFirstReason Stops other → other ≡ one
-reason_once Stops one other p q = by_rank (cases_lt (rank_of one) (rank_of other))
+reason_once Stops one other p q = by_rank (cases_lt (reason_rank one) (reason_rank other))
   where
-    of_rank : rank_of other ≡ rank_of one → other ≡ one
+    of_rank : reason_rank other ≡ reason_rank one → other ≡ one
     of_rank e = sym (ranked_back other) ∙ ap ranked e ∙ ranked_back one
 
-    not_above : (rank_of other ≡ rank_of one) ⊎ (rank_of other < rank_of one) → other ≡ one
+    not_above : (reason_rank other ≡ reason_rank one) ⊎ (reason_rank other < reason_rank one) → other ≡ one
     not_above (inl e) = of_rank e
     not_above (inr below) = absurd (p.first other below q.stops)
 
-    by_rank : (rank_of one < rank_of other) ⊎ (rank_of other ≤ rank_of one) → other ≡ one
+    by_rank : (reason_rank one < reason_rank other) ⊎ (reason_rank other ≤ reason_rank one) → other ≡ one
     by_rank (inl above) = absurd (q.first one above p.stops)
     by_rank (inr within) = not_above (eq-or-lt_of_le within)
 

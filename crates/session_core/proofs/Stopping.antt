@@ -25,7 +25,7 @@ use Rattle.session_core.specs.declared.reason.RefusalReason.{RefusalReason}
 use Rattle.session_core.specs.declared.reason.RefusalReason.TheVariants.{Long, Syntax, Inconsistent, Unknown, Decided, NotInDomain, Nothing}
 use Rattle.session_core.specs.declared.reason.StepStop.{StepStop}
 use Rattle.session_core.specs.declared.reason.StepStop.TheVariants as stop
-use Rattle.session_core.specs.Reasons.{rank_of, stop_of, refusal, IsFirstReason, NothingStops, RefusedOr, StepsOr}
+use Rattle.session_core.specs.Reasons.{reason_rank, stop_of, refusal, IsFirstReason, NothingStops, RefusedOr, StepsOr}
 use Rattle.session_core.specs.Replies.{IsGlobalNamed, HindersValue, StopsSpecify, Specifies, StopsDomain, TellsDomain, outcome_line, domain_line, StandsFor, IsLost}
 
 -- the number that a name means is that of a global
@@ -77,7 +77,7 @@ module _ (old : Database) (name : List ℕ) (value : ℤ) where
   pub unknown_first : (state : State) → HasLeast old state → global_named old.model name ≡ None → IsFirstReason (StopsSpecify old name value) Unknown
   unknown_first state least named = record { stops = named; first = first }
     where
-      first : (earlier : RefusalReason) → rank_of earlier < 3 → StopsSpecify old name value earlier → ⊥
+      first : (earlier : RefusalReason) → reason_rank earlier < 3 → StopsSpecify old name value earlier → ⊥
       first Inconsistent before stops = never_leaves_both old state least stops
       first Unknown before stops = omega arith
       first Decided before stops = omega arith
@@ -87,7 +87,7 @@ module _ (old : Database) (name : List ℕ) (value : ℤ) where
       first Syntax before stops = stops
 
   module _ (number : ℕ) (named : IsGlobalNamed old name number) where
-    before_decided : (state : State) → HasLeast old state → (earlier : RefusalReason) → rank_of earlier < 4 → StopsSpecify old name value earlier → ⊥
+    before_decided : (state : State) → HasLeast old state → (earlier : RefusalReason) → reason_rank earlier < 4 → StopsSpecify old name value earlier → ⊥
     before_decided state least Inconsistent before stops = never_leaves_both old state least stops
     before_decided state least Unknown before stops = never_both (global_named old.model name) number named stops
     before_decided state least Decided before stops = omega arith
@@ -105,7 +105,7 @@ module _ (old : Database) (name : List ℕ) (value : ℤ) where
     outside_first : RefusesFor old (Specify (Global number) value) refusals.NotInDomain → IsFirstReason (StopsSpecify old name value) NotInDomain
     outside_first r = record { stops = (number, r.state, named, r.least, r.refusal.hinders); first = first }
       where
-        first : (earlier : RefusalReason) → rank_of earlier < 5 → StopsSpecify old name value earlier → ⊥
+        first : (earlier : RefusalReason) → reason_rank earlier < 5 → StopsSpecify old name value earlier → ⊥
         first Decided before stops = r.refusal.first refusals.Decided (omega arith) (hinders_at refusals.Decided number r.state named r.least stops)
         first NotInDomain before stops = omega arith
         first Inconsistent before stops = before_decided r.state r.least Inconsistent (omega arith) stops
@@ -202,7 +202,7 @@ pub domain_unknown : (database : Database) (name reply : List ℕ) (state : Stat
     → RepliesDomain database name reply
 domain_unknown database name reply state least named e = inl (Unknown, record { stops = ((state, least), named); first = first }, e, refl)
   where
-    first : (earlier : RefusalReason) → rank_of earlier < 3 → StopsDomain database name earlier → ⊥
+    first : (earlier : RefusalReason) → reason_rank earlier < 3 → StopsDomain database name earlier → ⊥
     first Unknown before stops = omega arith
     first Inconsistent before stops = stops
     first Decided before stops = stops

@@ -10,14 +10,14 @@ use Rattle.session_core.specs.declared.reason.StepStop.{StepStop}
 use Rattle.session_core.specs.declared.reason.StepStop.TheVariants.{Refused, Memory}
 
 -- the place of the reason in the order in which they are looked for
-abbrev pub rank_of : RefusalReason → ℕ
-rank_of Long = 0
-rank_of Syntax = 1
-rank_of Inconsistent = 2
-rank_of Unknown = 3
-rank_of Decided = 4
-rank_of NotInDomain = 5
-rank_of Nothing = 6
+abbrev pub reason_rank : RefusalReason → ℕ
+reason_rank Long = 0
+reason_rank Syntax = 1
+reason_rank Inconsistent = 2
+reason_rank Unknown = 3
+reason_rank Decided = 4
+reason_rank NotInDomain = 5
+reason_rank Nothing = 6
 
 -- the word that is printed for the reason
 abbrev pub reason_word : RefusalReason → List ℕ
@@ -49,7 +49,7 @@ refusal reason = with_line_feed (codes "refused " ++ reason_word reason)
 -- of the reasons that stop it this is the first
 pub record IsFirstReason (Stops : RefusalReason → Type 0) (reason : RefusalReason) : Type 0 where
   pub stops : Stops reason
-  pub first : (earlier : RefusalReason) → rank_of earlier < rank_of reason → Stops earlier → ⊥
+  pub first : (earlier : RefusalReason) → reason_rank earlier < reason_rank reason → Stops earlier → ⊥
 
 -- no reason stops it
 abbrev pub NothingStops : (RefusalReason → Type 0) → Type 0

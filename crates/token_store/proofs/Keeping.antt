@@ -10,16 +10,16 @@ use Rattle.token_store.specs.declared.trail.Edit.{Edit}
 use Rattle.token_store.specs.declared.trail.Edit.TheVariants.{Added, Was}
 use Rattle.token_store.specs.Tokens.{TokenList, TokenPast, tokens_now, token_names, IsNewName, with_state}
 use Rattle.token_store.specs.Orders.{IsRanking}
-use Rattle.token_store.specs.Kept.{past_of, HaveChildren, IsKept}
-use Rattle.token_store.specs.Pieces.{ReturnsTo, Parts, FindsParent, with_child}
+use Rattle.token_store.specs.Kept.{token_past, HaveChildren, AreKeptTokens}
+use Rattle.token_store.specs.Pieces.{TokensReturnTo, Parts, FindsParent, with_child}
 use Rattle.token_store.proofs.Past.{now-past, length-names, length-with_state, names-with_state, state-back, before-added, edited_past, edited_trail}
 use Rattle.token_store.proofs.Ranks.{ranking_added, ranking_kept}
 use Rattle.token_store.proofs.Subgoals.{children_added, children_kept}
 
 -- a state was written
 pub set_kept : (tokens : TokenList) (trail : List Edit) (by_rank : List ℕ) (children : List (List ℕ)) (place : ℕ) (value : Token) (state : TokenState)
-    → slice_get (values_of tokens) place ≡ Some value → place < length tokens → IsKept tokens (reverse trail) by_rank children
-    → IsKept (with_state tokens place state) (reverse (trail ++ Was place value.state ∷ [])) by_rank children
+    → slice_get (values_of tokens) place ≡ Some value → place < length tokens → AreKeptTokens tokens (reverse trail) by_rank children
+    → AreKeptTokens (with_state tokens place state) (reverse (trail ++ Was place value.state ∷ [])) by_rank children
 set_kept tokens trail by_rank children place value state at below kept =
     let long = length-with_state tokens place state in
     let names = sym (names-with_state tokens place state) in
@@ -31,8 +31,8 @@ set_kept tokens trail by_rank children place value state at below kept =
     }
 
 pub set_past : (tokens : TokenList) (trail : List Edit) (view : TokenPast) (place : ℕ) (value : Token) (state : TokenState)
-    → slice_get (values_of tokens) place ≡ Some value → past_of tokens (reverse trail) ≡ view
-    → past_of (with_state tokens place state) (reverse (trail ++ Was place value.state ∷ [])) ≡ with_state (tokens_now view) place state ∷ view
+    → slice_get (values_of tokens) place ≡ Some value → token_past tokens (reverse trail) ≡ view
+    → token_past (with_state tokens place state) (reverse (trail ++ Was place value.state ∷ [])) ≡ with_state (tokens_now view) place state ∷ view
 set_past tokens trail view place value state at is =
     edited_past tokens (with_state tokens place state) trail (Was place value.state) (state-back tokens place value state at)
     ∙ ap (λ past. with_state tokens place state ∷ past) is
@@ -40,9 +40,9 @@ set_past tokens trail view place value state at is =
 
 -- a token was added
 pub added_kept : IsStrictTotalOrder IsTokenBefore → (tokens : TokenList) (trail : List Edit) (by_rank : List ℕ) (children : List (List ℕ)) (name : TokenName) (token : Token)
-    (rank : ℕ) (found : Option ℕ) → IsKept tokens (reverse trail) by_rank children → IsNewName tokens name → length tokens + 1 < 2 ^ 32
+    (rank : ℕ) (found : Option ℕ) → AreKeptTokens tokens (reverse trail) by_rank children → IsNewName tokens name → length tokens + 1 < 2 ^ 32
     → Parts (token_names tokens) by_rank name rank → FindsParent (token_names tokens) name found
-    → IsKept (tokens ++ (name, token) ∷ []) (reverse (trail ++ Added ∷ [])) (insert by_rank rank (length tokens)) (with_child children found (length tokens))
+    → AreKeptTokens (tokens ++ (name, token) ∷ []) (reverse (trail ++ Added ∷ [])) (insert by_rank rank (length tokens)) (with_child children found (length tokens))
 added_kept law tokens trail by_rank children name token rank found kept new few parts finds =
     let names : token_names (tokens ++ (name, token) ∷ []) ≡ token_names tokens ++ name ∷ [] = map-append (λ (t : TokenName × Token). t.0) tokens ((name, token) ∷ []) in
     let long : length (tokens ++ (name, token) ∷ []) ≡ length tokens + 1 = length-append tokens ((name, token) ∷ []) in
@@ -58,8 +58,8 @@ added_kept law tokens trail by_rank children name token rank found kept new few 
     }
 
 pub added_past : (tokens : TokenList) (trail : List Edit) (view : TokenPast) (name : TokenName) (token : Token)
-    → past_of tokens (reverse trail) ≡ view
-    → past_of (tokens ++ (name, token) ∷ []) (reverse (trail ++ Added ∷ [])) ≡ (tokens_now view ++ (name, token) ∷ []) ∷ view
+    → token_past tokens (reverse trail) ≡ view
+    → token_past (tokens ++ (name, token) ∷ []) (reverse (trail ++ Added ∷ [])) ≡ (tokens_now view ++ (name, token) ∷ []) ∷ view
 added_past tokens trail view name token is =
     edited_past tokens (tokens ++ (name, token) ∷ []) trail Added (before-added tokens (name, token))
     ∙ ap (λ past. (tokens ++ (name, token) ∷ []) ∷ past) is
@@ -67,8 +67,8 @@ added_past tokens trail view name token is =
 
 -- the tokens went back
 pub back_kept : (behind : ℕ) (tokens : TokenList) (trail : List Edit) (now : TokenList) (left : List Edit) (by_rank : List ℕ) (children : List (List ℕ))
-    → IsKept tokens (reverse trail) by_rank children → ReturnsTo behind (tokens, trail) (now, left)
-    → IsKept now (reverse left) (filter (λ p. nat_lt p (length now)) by_rank) (map (filter (λ p. nat_lt p (length now))) (take (length now) children))
+    → AreKeptTokens tokens (reverse trail) by_rank children → TokensReturnTo behind (tokens, trail) (now, left)
+    → AreKeptTokens now (reverse left) (filter (λ p. nat_lt p (length now)) by_rank) (map (filter (λ p. nat_lt p (length now))) (take (length now) children))
 back_kept behind tokens trail now left by_rank children kept back =
     let few : length now ≤ length (token_names tokens) = omega (arith, back.fewer, length-names tokens) in
     record {

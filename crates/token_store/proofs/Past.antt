@@ -12,19 +12,19 @@ use Rattle.token_store.specs.declared.trail.Token.{Token}
 use Rattle.token_store.specs.declared.trail.Edit.{Edit}
 use Rattle.token_store.specs.declared.trail.Edit.TheVariants.{Added, Was}
 use Rattle.token_store.specs.Tokens.{TokenList, TokenPast, tokens_now, token_names, with_state}
-use Rattle.token_store.specs.Kept.{before, past_of, CanLead, IsTrail}
-use Rattle.token_store.specs.Pieces.{ReturnsTo}
+use Rattle.token_store.specs.Kept.{before, token_past, CanLead, IsTokenTrail}
+use Rattle.token_store.specs.Pieces.{TokensReturnTo}
 
-pub now-past : (tokens : TokenList) (trail : List Edit) → tokens_now (past_of tokens trail) ≡ tokens
+pub now-past : (tokens : TokenList) (trail : List Edit) → tokens_now (token_past tokens trail) ≡ tokens
 now-past tokens [] = refl
 now-past tokens (edit ∷ older) = refl
 
-pub length-past : (tokens : TokenList) (trail : List Edit) → length (past_of tokens trail) ≡ length trail + 1
+pub length-past : (tokens : TokenList) (trail : List Edit) → length (token_past tokens trail) ≡ length trail + 1
 length-past tokens [] = refl
 length-past tokens (edit ∷ older) = omega (arith, length-past (before edit tokens) older)
 
 -- what a store shows is what it keeps
-pub shown : (tokens : TokenList) (trail : List Edit) (view : TokenPast) → past_of tokens trail ≡ view → tokens_now view ≡ tokens
+pub shown : (tokens : TokenList) (trail : List Edit) (view : TokenPast) → token_past tokens trail ≡ view → tokens_now view ≡ tokens
 shown tokens trail view is = ap tokens_now (sym is) ∙ now-past tokens trail
 
 -- what is read of a token
@@ -77,13 +77,13 @@ reverse-last trail edit = reverse-append trail (edit ∷ [])
 
 -- tokens that an edit led to from others
 pub edited_past : (old new : TokenList) (trail : List Edit) (edit : Edit) → before edit new ≡ old
-    → past_of new (reverse (trail ++ edit ∷ [])) ≡ new ∷ past_of old (reverse trail)
-edited_past old new trail edit back = ap (past_of new) (reverse-last trail edit) ∙ ap (λ list. new ∷ past_of list (reverse trail)) back
+    → token_past new (reverse (trail ++ edit ∷ [])) ≡ new ∷ token_past old (reverse trail)
+edited_past old new trail edit back = ap (token_past new) (reverse-last trail edit) ∙ ap (λ list. new ∷ token_past list (reverse trail)) back
 
 pub edited_trail : (old new : TokenList) (trail : List Edit) (edit : Edit) → before edit new ≡ old → CanLead edit new
-    → IsTrail old (reverse trail) → IsTrail new (reverse (trail ++ edit ∷ []))
+    → IsTokenTrail old (reverse trail) → IsTokenTrail new (reverse (trail ++ edit ∷ []))
 edited_trail old new trail edit back can led =
-    subst (IsTrail new) (sym (reverse-last trail edit)) (can, subst (λ list. IsTrail list (reverse trail)) (sym back) led)
+    subst (IsTokenTrail new) (sym (reverse-last trail edit)) (can, subst (λ list. IsTokenTrail list (reverse trail)) (sym back) led)
 
 -- the tokens before an edit are the first ones of those behind it
 names-take : (n : ℕ) (tokens : TokenList) → token_names (take n tokens) ≡ take n (token_names tokens)
@@ -105,13 +105,13 @@ names_before (Was place state) tokens can =
 
 -- the tokens after some edits were taken back
 pub record IsReturning (tokens : TokenList) (trail : List Edit) (now : TokenList) (left : List Edit) : Type 0 where
-  pub led : IsTrail now left
+  pub led : IsTokenTrail now left
   pub newer : TokenPast
-  pub past : past_of tokens trail ≡ newer ++ past_of now left
+  pub past : token_past tokens trail ≡ newer ++ token_past now left
   pub names : token_names now ≡ take (length now) (token_names tokens)
   pub fewer : length now ≤ length tokens
 
-pub returning_none : (tokens : TokenList) (trail : List Edit) → IsTrail tokens trail → IsReturning tokens trail tokens trail
+pub returning_none : (tokens : TokenList) (trail : List Edit) → IsTokenTrail tokens trail → IsReturning tokens trail tokens trail
 returning_none tokens trail led = record {
   led = led;
   newer = [];
@@ -126,10 +126,10 @@ returning_more tokens trail now new left edit returning is =
     let front = names_before edit now returning.led.0 in
     let same : length (before edit now) ≡ length new = ap length (sym is) in
     record {
-      led = subst (λ list. IsTrail list left) (sym is) returning.led.1;
+      led = subst (λ list. IsTokenTrail list left) (sym is) returning.led.1;
       newer = returning.newer ++ now ∷ [];
-      past = returning.past ∙ ap (λ list. returning.newer ++ now ∷ past_of list left) (sym is)
-          ∙ sym (append_assoc returning.newer (now ∷ []) (past_of new left));
+      past = returning.past ∙ ap (λ list. returning.newer ++ now ∷ token_past list left) (sym is)
+          ∙ sym (append_assoc returning.newer (now ∷ []) (token_past new left));
       names = ap token_names is ∙ front.0 ∙ ap (take (length (before edit now))) returning.names
           ∙ take-take (length (before edit now)) (length now) (token_names tokens) front.1
           ∙ ap (λ n. take n (token_names tokens)) same;
@@ -137,7 +137,7 @@ returning_more tokens trail now new left edit returning is =
     }
 
 pub returned : (behind : ℕ) (tokens : TokenList) (trail : List Edit) (now : TokenList) (left : List Edit)
-    → IsReturning tokens (reverse trail) now (reverse left) → length left ≡ behind → ReturnsTo behind (tokens, trail) (now, left)
+    → IsReturning tokens (reverse trail) now (reverse left) → length left ≡ behind → TokensReturnTo behind (tokens, trail) (now, left)
 returned behind tokens trail now left returning long = record {
   led = returning.led;
   leaves = record {

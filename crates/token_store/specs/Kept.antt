@@ -13,9 +13,9 @@ before Added tokens = take (length tokens - 1) tokens
 before (Was place state) tokens = with_state tokens place state
 
 -- the lists from these tokens back along the trail, whose last edit comes first
-abbrev pub past_of : TokenList → List Edit → TokenPast
-past_of tokens [] = tokens ∷ []
-past_of tokens (edit ∷ older) = tokens ∷ past_of (before edit tokens) older
+abbrev pub token_past : TokenList → List Edit → TokenPast
+token_past tokens [] = tokens ∷ []
+token_past tokens (edit ∷ older) = tokens ∷ token_past (before edit tokens) older
 
 -- the edit can have led to these tokens
 abbrev pub CanLead : Edit → TokenList → Type 0
@@ -23,9 +23,9 @@ CanLead Added tokens = 0 < length tokens
 CanLead (Was place state) tokens = place < length tokens
 
 -- each edit can have led to its tokens, and before all there was none
-abbrev pub IsTrail : TokenList → List Edit → Type 0
-IsTrail tokens [] = tokens ≡ []
-IsTrail tokens (edit ∷ older) = CanLead edit tokens × IsTrail (before edit tokens) older
+abbrev pub IsTokenTrail : TokenList → List Edit → Type 0
+IsTokenTrail tokens [] = tokens ≡ []
+IsTokenTrail tokens (edit ∷ older) = CanLead edit tokens × IsTokenTrail (before edit tokens) older
 
 -- the numbers in each vector
 abbrev pub numbers_of : List (Vec ℕ Global) → List (List ℕ)
@@ -37,8 +37,8 @@ pub record HaveChildren (names : List TokenName) (children : List (List ℕ)) : 
   pub each : (parent : ℕ) → parent < length names → AreChildren names parent (slice_index_or children parent [])
 
 -- the trail led to the tokens, places are numbers of 32 bits, and the ranking and the subgoals are those of the tokens
-pub record IsKept (tokens : TokenList) (trail : List Edit) (by_rank : List ℕ) (children : List (List ℕ)) : Type 0 where
-  pub led : IsTrail tokens trail
+pub record AreKeptTokens (tokens : TokenList) (trail : List Edit) (by_rank : List ℕ) (children : List (List ℕ)) : Type 0 where
+  pub led : IsTokenTrail tokens trail
   pub few : length tokens < 2 ^ 32
   pub ranked : IsRanking (token_names tokens) by_rank
   pub listed : HaveChildren (token_names tokens) children

@@ -6,18 +6,18 @@ use Rattle.eu_name.specs.NameOrder.{IsTokenBefore}
 use Rattle.token_store.specs.declared.trail.Edit.{Edit}
 use Rattle.token_store.specs.Tokens.{TokenList, token_names, LeavesPast}
 use Rattle.token_store.specs.Orders.{name_at, IsChildOf}
-use Rattle.token_store.specs.Kept.{before, past_of, IsTrail}
+use Rattle.token_store.specs.Kept.{before, token_past, IsTokenTrail}
 
 -- the last edit of the trail is taken back
-pub record StepsBack (old new : TokenList × List Edit) : Type 0 where
+pub record TokensStepBack (old new : TokenList × List Edit) : Type 0 where
   pub edit : Edit
   pub trail : old.1 ≡ new.1 ++ edit ∷ []
   pub tokens : new.0 ≡ before edit old.0
 
 -- the tokens and their trail went back until the trail had this length
-pub record ReturnsTo (behind : ℕ) (old new : TokenList × List Edit) : Type 0 where
-  pub led : IsTrail new.0 (reverse new.1)
-  pub leaves : LeavesPast behind (past_of old.0 (reverse old.1)) (past_of new.0 (reverse new.1))
+pub record TokensReturnTo (behind : ℕ) (old new : TokenList × List Edit) : Type 0 where
+  pub led : IsTokenTrail new.0 (reverse new.1)
+  pub leaves : LeavesPast behind (token_past old.0 (reverse old.1)) (token_past new.0 (reverse new.1))
   pub names : token_names new.0 ≡ take (length new.0) (token_names old.0)
   pub fewer : length new.0 ≤ length old.0
 

@@ -49,13 +49,13 @@ impl Model for Mark {
 impl Model for Tokens {
     ghost use Rattle.std.specs.Prelude.{reverse};
     ghost use Rattle.token_store.specs.Tokens.{TokenPast};
-    ghost use Rattle.token_store.specs.Kept.{past_of, numbers_of, IsKept};
+    ghost use Rattle.token_store.specs.Kept.{token_past, numbers_of, AreKeptTokens};
 
     ghost Value = { TokenPast };
 
-    ghost view = { λ store. past_of store.tokens.entries (reverse store.trail.items) };
+    ghost view = { λ store. token_past store.tokens.entries (reverse store.trail.items) };
 
-    ghost invariant = { λ store. IsKept store.tokens.entries (reverse store.trail.items) store.by_rank.items (numbers_of store.children.items) };
+    ghost invariant = { λ store. AreKeptTokens store.tokens.entries (reverse store.trail.items) store.by_rank.items (numbers_of store.children.items) };
 }
 
 impl Tokens {

@@ -2,9 +2,9 @@
 
 ghost use Rattle.std.specs.Prelude.{◌≡◌, ◌<◌, ◌≤◌, ◌++◌, ◌∷◌, [], length, reverse, vec_len};
 ghost use Rattle.token_store.specs.Tokens.{FindsToken, IsNewName, LeavesPast, with_state};
-ghost use Rattle.token_store.specs.Kept.{IsTrail, past_of};
+ghost use Rattle.token_store.specs.Kept.{IsTokenTrail, token_past};
 ghost use Rattle.indexmap.specs.IndexMap.{spare};
-ghost use Rattle.token_store.specs.Pieces.{StepsBack, ReturnsTo};
+ghost use Rattle.token_store.specs.Pieces.{TokensStepBack, TokensReturnTo};
 
 use eu_name::laws::names_are_told_apart;
 use eu_name::name::TokenName;
@@ -58,9 +58,9 @@ pub fn put_token(tokens: &mut IndexMap<TokenName, Token>, name: TokenName, token
 
 /// Goes back along the trail until it has this length.
 pub fn go_back(tokens: &mut IndexMap<TokenName, Token>, trail: &mut Vec<Edit>, behind: usize)
-    requires led { IsTrail tokens.old.entries (reverse trail.old.items) }
+    requires led { IsTokenTrail tokens.old.entries (reverse trail.old.items) }
     requires long { behind ≤ vec_len trail.old }
-    ensures { ReturnsTo behind (tokens.old.entries, trail.old.items) (tokens.new.entries, trail.new.items) }
+    ensures { TokensReturnTo behind (tokens.old.entries, trail.old.items) (tokens.new.entries, trail.new.items) }
 {
     while trail.len() > behind {
         step_back(tokens, trail);
@@ -69,9 +69,9 @@ pub fn go_back(tokens: &mut IndexMap<TokenName, Token>, trail: &mut Vec<Edit>, b
 
 // Goes back over the last edit of the trail.
 fn step_back(tokens: &mut IndexMap<TokenName, Token>, trail: &mut Vec<Edit>)
-    requires led { IsTrail tokens.old.entries (reverse trail.old.items) }
+    requires led { IsTokenTrail tokens.old.entries (reverse trail.old.items) }
     requires some { 0 < length trail.old.items }
-    ensures { StepsBack (tokens.old.entries, trail.old.items) (tokens.new.entries, trail.new.items) }
+    ensures { TokensStepBack (tokens.old.entries, trail.old.items) (tokens.new.entries, trail.new.items) }
 {
     match trail.pop() {
         None => unreachable!(),

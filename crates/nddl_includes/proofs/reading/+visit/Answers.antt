@@ -4,7 +4,7 @@ use Rattle.std.proofs.lemmas.Result.{err_from_is_err_and}
 use Rattle.eu_io.specs.declared.shelf.FileEntry.{FileEntry}
 use Rattle.nddl_includes.specs.declared.include.Include.{Include}
 use Rattle.nddl_includes.specs.Outcomes.{TellsOutcome}
-use Rattle.nddl_includes.specs.Visits.{ComesOf, Visits, Follows}
+use Rattle.nddl_includes.specs.Visits.{ComesOf, Visits, FollowsIncludes}
 use Rattle.nddl_includes.proofs.VisitLemmas.{says_more, takes_on, taken_fault, passed, follows_left}
 use Rattle.nddl_includes.proofs.reading.+visit.Goals as goal
 
@@ -21,9 +21,9 @@ visit-returns-clause-told g t c =
     let inner = Visits reads files (c.args.levels - 1) in
     let file = c.args.ask.now.name in
     let read = c.take_file.new.read in
-    let P : Option (List FileEntry) → Type 0 = λ held. TellsOutcome (Follows (Visits reads held (c.args.levels - 1)) file c.as_slice.result.now read) c.follow.result in
-    let Q : List Include → Type 0 = λ l. Follows inner file l read c.follow.result in
-    says_more (Follows inner file c.as_slice.result.now read) (Visits reads files c.args.levels c.args.ask.now c.args.before) c.follow.result
+    let P : Option (List FileEntry) → Type 0 = λ held. TellsOutcome (FollowsIncludes (Visits reads held (c.args.levels - 1)) file c.as_slice.result.now read) c.follow.result in
+    let Q : List Include → Type 0 = λ l. FollowsIncludes inner file l read c.follow.result in
+    says_more (FollowsIncludes inner file c.as_slice.result.now read) (Visits reads files c.args.levels c.args.ask.now c.args.before) c.follow.result
     (λ follows. takes_on reads files c.args.levels c.args.ask.now c.args.before read c.in_ok-includes.includes c.follow.result c.in_ok-includes.ensures.taken
     (subst Q c.as_slice.ensures follows))
     (subst P c.in_ok-includes.ensures.kept c.follow.ensures.told)
@@ -40,7 +40,7 @@ follow-returns-in_err-read-clause-told g t c =
     let read = c.loop-include.read in
     let fault = c.in_err-read.field-0.0 in
     let P : Option (List FileEntry) → Type 0 = λ held. TellsOutcome (ComesOf (Visits reads held c.args.levels) file include read) (Err fault) in
-    rw (p.1, p.2) (says_more (ComesOf inner file include read) (Follows inner file items c.args.before) (Err fault)
+    rw (p.1, p.2) (says_more (ComesOf inner file include read) (FollowsIncludes inner file items c.args.before) (Err fault)
     (λ pass. c.loop-include.invariant.goes_on (Err fault)
     (follows_left inner file items c.loop-include.include-index include read (Err fault) c.loop-include-test.true c.include-item.is
     (passed inner file include rest read (Err fault) (Err fault) pass refl)))

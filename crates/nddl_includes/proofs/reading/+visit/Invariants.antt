@@ -1,7 +1,7 @@
 -- The levels that are left fall, or one include is read of those that are followed.
 use Rattle.std.proofs.Common.{◌≡◌, ◌*◌, ◌+◌, drop}
-use Rattle.nddl_includes.specs.Outcomes.{Outcome}
-use Rattle.nddl_includes.specs.Visits.{Visits, Follows}
+use Rattle.nddl_includes.specs.Outcomes.{FilesOutcome}
+use Rattle.nddl_includes.specs.Visits.{Visits, FollowsIncludes}
 use Rattle.nddl_includes.proofs.reading.+visit.Given as goal
 
 abbrev pub decreases-visit : goal.decreases-visit
@@ -16,9 +16,9 @@ decreases-enter g l = 3 * l.levels + 1
 -- what comes of the includes from here on comes of all of them
 abbrev pub invariant-follow-loop-include : goal.invariant-follow-loop-include
 invariant-follow-loop-include g l = record {
-  goes_on : (outcome : Outcome)
-      → Follows (Visits (g.R.TextReader.reads l.reader) (g.F.Shelf.files l.fn.shelf) l.levels) l.file (drop l.include-index l.includes) l.read outcome
-      → Follows (Visits (g.R.TextReader.reads l.reader) (g.F.Shelf.files l.fn.shelf) l.levels) l.file l.includes l.fn.before outcome;
+  goes_on : (outcome : FilesOutcome)
+      → FollowsIncludes (Visits (g.R.TextReader.reads l.reader) (g.F.Shelf.files l.fn.shelf) l.levels) l.file (drop l.include-index l.includes) l.read outcome
+      → FollowsIncludes (Visits (g.R.TextReader.reads l.reader) (g.F.Shelf.files l.fn.shelf) l.levels) l.file l.includes l.fn.before outcome;
   kept : g.F.Shelf.files l.shelf ≡ g.F.Shelf.files l.fn.shelf;
   counted : g.F.Shelf.faults l.shelf ≡ g.F.Shelf.faults l.fn.shelf;
 }
