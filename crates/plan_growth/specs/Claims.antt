@@ -41,4 +41,5 @@ AreOwed model decisions names constraints =
 
 -- the tables say which object has which value in which field
 abbrev pub AreFieldsOf : Model → List Field → Type 0
-AreFieldsOf model tables = (number : ℕ) (object value : ℤ) → field_of tables number object value ↔ HasField model number object value
+AreFieldsOf model tables =
+    (number : ℕ) (object value : ℤ) → field_of tables number object value ↔ HasField model number object value

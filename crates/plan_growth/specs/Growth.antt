@@ -76,7 +76,8 @@ ends_before one other = at_most (part_of one End) (part_of other Start)
 -- all that makes the content a consistent state: nothing that is supported is missing, each variable lies in its base, what is
 -- specified is granted, all that is claimed is posted, and so is what two tokens of one timeline owe each other; and what is
 -- posted is consistent
-pub record IsWhole (model : Model) (decisions : List Decision) (tables : List Field) (posted : List Constraint) (content : Content) : Type 0 where
+pub record IsWhole (model : Model) (decisions : List Decision) (tables : List Field) (posted : List Constraint)
+    (content : Content) : Type 0 where
   pub is_content : IsContent model content
   pub grown : HasGrown model decisions content
   pub in_base : AreInBase model (shown content)

@@ -93,7 +93,8 @@ SettlingStaysAbove =
 pub record IsOwedBelow (model : Model) (decisions : List Decision) (content : Content) : Type 0 where
   pub tokens : (token : TokenName) → IsSupportedToken model (situation_of decisions (shown content)) token
       → (state : State) → IsConsistentState model decisions state → Contains state.tokens token
-  pub blocks : (block : TokenBlock) (entries : Entries) → IsSupportedBlock model (situation_of decisions (shown content)) block entries
+  pub blocks : (block : TokenBlock) (entries : Entries)
+      → IsSupportedBlock model (situation_of decisions (shown content)) block entries
       → (state : State) → IsConsistentState model decisions state → Contains state.blocks block
   pub claims : (claim : Claim) → IsClaim model decisions (shown content) claim → IsOwed model decisions claim
   pub turns : (one other : TokenName)
@@ -108,7 +109,8 @@ WhatIsAskedIsOwed =
 
 -- what is supported is there
 pub record HasAllSupported (model : Model) (decisions : List Decision) (content : Content) : Type 0 where
-  pub tokens : (token : TokenName) → IsSupportedToken model (situation_of decisions (shown content)) token → Contains content.tokens token
+  pub tokens : (token : TokenName)
+      → IsSupportedToken model (situation_of decisions (shown content)) token → Contains content.tokens token
   pub blocks : (block : TokenBlock) (entries : Entries)
       → IsSupportedBlock model (situation_of decisions (shown content)) block entries → Contains content.blocks block
 
