@@ -39,13 +39,13 @@ pub greatest_falls : (inner outer : Domain) → IsDomain inner → IsDomain oute
 greatest_falls inner outer p q within = (between_ends outer (greatest inner) q (within.values (greatest inner) (has_greatest inner p))).1
 
 -- what holds of the guards on a way leads along it
-Follows-map : (one other : Guard → Side → Type 0) → ((guard : Guard) (side : Side) → one guard side → other guard side)
+pub Follows-map : (one other : Guard → Side → Type 0) → ((guard : Guard) (side : Side) → one guard side → other guard side)
     → (top : Entries) (path : List Turn) (block : Entries) → Follows one top path block → Follows other top path block
 Follows-map one other to top [] block way = way
 Follows-map one other to top (turn ∷ path) block way =
     (way.0, (way.1.0, way.1.1, (way.1.2.0, (to way.0 turn.side way.1.2.1.0, Follows-map one other to (chosen turn.side way.1.0 way.1.1) path block way.1.2.1.1))))
 
-HasBlock-map : (model : Model) (one other : Guard → Side → Type 0) → ((guard : Guard) (side : Side) → one guard side → other guard side)
+pub HasBlock-map : (model : Model) (one other : Guard → Side → Type 0) → ((guard : Guard) (side : Side) → one guard side → other guard side)
     → (block : TokenBlock) (entries : Entries) → HasBlock model one block entries → HasBlock model other block entries
 HasBlock-map model one other to block entries p = record {
   slot = p.slot;
@@ -107,7 +107,7 @@ module _ (model : Model) (from to : Situation) (further : Further from to) where
       (found.0, (record { argument = is.argument; means = is.means; counts = counts; has = found.1.0 }, found.1.1))
 
   -- so a guard that opens a block goes on to open it
-  opens_further : (context : Context) (guard : Guard) (side : Side) → Opens model from context guard side → Opens model to context guard side
+  pub opens_further : (context : Context) (guard : Guard) (side : Side) → Opens model from context guard side → Opens model to context guard side
   opens_further context guard side p =
       let one = term_further context (one_side guard) p.one p.is_one in
       let other = term_further context (other_side guard) p.other p.is_other in
@@ -119,7 +119,7 @@ module _ (model : Model) (from to : Situation) (further : Further from to) where
         always = λ v w has_v has_w. p.always v w (one.1.1 v has_v) (other.1.1 w has_w);
       }
 
-  open_further : (block : TokenBlock) (entries : Entries) → IsOpen model from block entries → IsOpen model to block entries
+  pub open_further : (block : TokenBlock) (entries : Entries) → IsOpen model from block entries → IsOpen model to block entries
   open_further block entries p = record {
     activated = further.activated block.token p.activated;
     has_block = HasBlock-map model _ _ (opens_further (InRule block.token block.rule)) block entries p.has_block;
@@ -137,7 +137,7 @@ module _ (model : Model) (from to : Situation) (further : Further from to) where
 -- ---- further down
 
 module _ (model : Model) (decisions : List Decision) (high low : State) (below : IsBelow high low) where
-  further_below : Further (situation_of decisions high) (situation_of decisions low)
+  pub further_below : Further (situation_of decisions high) (situation_of decisions low)
   further_below = record { taken = λ token taken. taken; activated = λ token activated. activated; gives = below.variables }
 
   claim_below : (claim : Claim) → IsClaim model decisions high claim → IsClaim model decisions low claim
@@ -166,7 +166,7 @@ module _ (model : Model) (decisions : List Decision) (high low : State) (high_ok
       record { end = end.0; start = start.0; gives_end = end.1; gives_start = start.1; late = omega (arith, ints, late, rises, falls) }
 
   -- and a token that can be on one object alone is on it
-  on_below : (token : TokenName) (object : ℤ) → IsOn high token object → IsOn low token object
+  pub on_below : (token : TokenName) (object : ℤ) → IsOn high token object → IsOn low token object
   on_below token object on =
       let lower = below.variables (Token token Object) on.0 on.1 in
       let there = has_least lower.0 (gives_domain model low low_ok _ _ lower.1) in

@@ -1,0 +1,14 @@
+pub mod Sorting
+pub mod Blocks
+pub mod Showing
+pub mod Alike
+pub mod Bases
+pub mod Owing
+pub mod Supporting
+pub mod Agreeing
+pub mod Settling
+pub mod Whole
+pub mod Chosen
+pub mod Resources
+pub mod Completing
+pub mod Deciding

@@ -1,0 +1,4 @@
+pub mod Content
+pub mod Claims
+pub mod Growth
+pub mod Laws
