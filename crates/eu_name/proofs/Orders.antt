@@ -27,11 +27,11 @@ compared m n = elim (cases_lt m n) [
   | inr above ↦ elim (cases_lt n m) [ inl below ↦ higher below | inr other ↦ equal (omega arith) ]
 ]
 
-number_irreflexive : (n : ℕ) (P : Type 0) → (P → ⊥) → ByNumber n n P → ⊥
+pub number_irreflexive : (n : ℕ) (P : Type 0) → (P → ⊥) → ByNumber n n P → ⊥
 number_irreflexive n P none (inl below) = omega arith
 number_irreflexive n P none (inr tied) = none tied.1
 
-number_transitive : (l m n : ℕ) (P Q R : Type 0) → (P → Q → R) → ByNumber l m P → ByNumber m n Q → ByNumber l n R
+pub number_transitive : (l m n : ℕ) (P Q R : Type 0) → (P → Q → R) → ByNumber l m P → ByNumber m n Q → ByNumber l n R
 number_transitive l m n P Q R both (inl p) (inl q) = inl (omega arith)
 number_transitive l m n P Q R both (inl p) (inr q) = inl (omega (arith, q.0))
 number_transitive l m n P Q R both (inr p) (inl q) = inl (omega (arith, p.0))
@@ -193,11 +193,11 @@ token_compared a b m n steps others by_count by_root by_step inner whole counted
 
 -- ---- variables
 
-token_irreflexive : (a : TokenName) (P : Type 0) → (P → ⊥) → ByToken a a P → ⊥
+pub token_irreflexive : (a : TokenName) (P : Type 0) → (P → ⊥) → ByToken a a P → ⊥
 token_irreflexive a P none (inl before) = token_order.irreflexive a before
 token_irreflexive a P none (inr tied) = none tied.1
 
-token_transitive : (a b c : TokenName) (P Q R : Type 0) → (P → Q → R) → ByToken a b P → ByToken b c Q → ByToken a c R
+pub token_transitive : (a b c : TokenName) (P Q R : Type 0) → (P → Q → R) → ByToken a b P → ByToken b c Q → ByToken a c R
 token_transitive a b c P Q R both (inl p) (inl q) = inl (token_order.transitive a b c p q)
 token_transitive a b c P Q R both (inl p) (inr q) = inl (subst (λ (t : TokenName). IsTokenBefore a t) q.0 p)
 token_transitive a b c P Q R both (inr p) (inl q) = inl (subst (λ (t : TokenName). IsTokenBefore t c) (sym p.0) q)

@@ -15,13 +15,13 @@ use Rattle.nddl_parser.specs.Symbols.{KeepsBytes, HasValue, IsSymbolOf, AreSymbo
 no_digits : (bytes : List ℕ) → AreDigits bytes → bytes ≡ codes "inf" → ⊥
 no_digits bytes digits is = let first = (subst AreDigits is digits).1.0 in absurd cc
 
-number_once : (bytes : List ℕ) (one other : ℤ) → SpellsNumber bytes one → SpellsNumber bytes other → one ≡ other
+pub number_once : (bytes : List ℕ) (one other : ℤ) → SpellsNumber bytes one → SpellsNumber bytes other → one ≡ other
 number_once bytes one other (inl p) (inl q) = p.1 ∙ sym q.1
 number_once bytes one other (inl p) (inr q) = absurd (no_digits (unsigned bytes) p.0 q.0)
 number_once bytes one other (inr p) (inl q) = absurd (no_digits (unsigned bytes) q.0 p.0)
 number_once bytes one other (inr p) (inr q) = p.1 ∙ sym q.1
 
-decimal_once : (bytes : List ℕ) (one other : ℤ) → SpellsDecimal bytes one → SpellsDecimal bytes other → one ≡ other
+pub decimal_once : (bytes : List ℕ) (one other : ℤ) → SpellsDecimal bytes one → SpellsDecimal bytes other → one ≡ other
 decimal_once bytes one other p q =
     let same = parts_once (unsigned bytes) p.whole p.fraction q.whole q.fraction p.parts q.parts in
     let wholes = same.0 in

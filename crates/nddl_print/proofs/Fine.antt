@@ -1,5 +1,5 @@
 -- The symbols of a text can be written.
-use Rattle.std.proofs.Common.{◌≡◌, ℕ, ℤ, Bool, true, false, inl, inr, Some, List, [], ◌∷◌, ◌++◌, ◌+◌, codes, refl, sym, ap, subst, ◌∙◌}
+use Rattle.std.proofs.Common.{◌≡◌, ℕ, ℤ, Bool, true, false, inl, inr, Some, List, [], ◌∷◌, ◌++◌, ◌+◌, refl, sym, ap, subst, ◌∙◌}
 use Rattle.std.specs.Prelude.{Option, None}
 use Rattle.std.proofs.lemmas.List.{append_cancel_right}
 use Rattle.eu_name.specs.Word.{IsWord, reserved_of}
@@ -7,14 +7,14 @@ use Rattle.eu_name.specs.declared.word.Reserved.{Reserved}
 use Rattle.nddl_lexer.specs.declared.kinds.LexKind.{LexKind}
 use Rattle.nddl_lexer.specs.declared.kinds.LexKind.TheVariants as kinds
 use Rattle.nddl_lexer.specs.declared.kinds.Lexeme.{Lexeme}
-use Rattle.nddl_lexer.specs.Bytes.{AreDigits, unsigned, is_quotable, AllPassing}
-use Rattle.nddl_lexer.specs.Spelling.{IsSpelled, IsInRange, IsString, IsNumberInRange, SpellsNumber, SpellsDecimal, thousandths_of, with_sign}
+use Rattle.nddl_lexer.specs.Bytes.{is_quotable, AllPassing}
+use Rattle.nddl_lexer.specs.Spelling.{IsSpelled, IsInRange, IsString, IsNumberInRange}
 use Rattle.nddl_lexer.specs.Reading.{AreLexemesOf, bytes_of}
-use Rattle.nddl_lexer.proofs.Sizes.{parts_once}
 use Rattle.nddl_reading.specs.declared.sort.Sort.{Sort}
 use Rattle.nddl_reading.specs.declared.sort.Sort.TheVariants as sorts
 use Rattle.nddl_reading.specs.Symbols.{PlainSymbol}
 use Rattle.nddl_parser.specs.Symbols.{word_sort, sort_of, KeepsBytes, HasValue, AreSymbols}
+use Rattle.nddl_parser.proofs.SymbolsOnce.{number_once, decimal_once}
 use Rattle.nddl_print.proofs.Saying.{is_fixed, IsFine, AreFine}
 
 -- ---- sorts
@@ -43,20 +43,6 @@ fine_fixed symbol sort fixed is = record {
 }
 
 -- ---- values
-
-no_digits : (bytes : List ℕ) → AreDigits bytes → bytes ≡ codes "inf" → ⊥
-no_digits bytes digits is = let first = (subst AreDigits is digits).1.0 in absurd cc
-
-number_once : (bytes : List ℕ) (one other : ℤ) → SpellsNumber bytes one → SpellsNumber bytes other → one ≡ other
-number_once bytes one other (inl p) (inl q) = p.1 ∙ sym q.1
-number_once bytes one other (inl p) (inr q) = absurd (no_digits (unsigned bytes) p.0 q.0)
-number_once bytes one other (inr p) (inl q) = absurd (no_digits (unsigned bytes) q.0 p.0)
-number_once bytes one other (inr p) (inr q) = p.1 ∙ sym q.1
-
-decimal_once : (bytes : List ℕ) (one other : ℤ) → SpellsDecimal bytes one → SpellsDecimal bytes other → one ≡ other
-decimal_once bytes one other p q =
-    let same = parts_once (unsigned bytes) p.whole p.fraction q.whole q.fraction p.parts q.parts in
-    p.value ∙ (ap (with_sign bytes) (ap (λ (xs : List ℕ). thousandths_of xs p.fraction) same.0 ∙ ap (thousandths_of q.whole) same.1) ∙ sym q.value)
 
 inside_once : (one other : List ℕ) → 34 ∷ (one ++ 34 ∷ []) ≡ 34 ∷ (other ++ 34 ∷ []) → one ≡ other
 inside_once one other same = let tails : one ++ 34 ∷ [] ≡ other ++ 34 ∷ [] = cc in append_cancel_right one other (34 ∷ []) tails

@@ -1,32 +1,10 @@
 -- That open blocks are in an order.
 use Rattle.std.proofs.Common.{◌≡◌, ℕ, List, [], ◌∷◌, inl, inr, sym, subst, ◌∙◌, arith}
-use Rattle.eu_name.specs.declared.name.TokenName.{TokenName}
-use Rattle.eu_name.specs.NameOrder.{ByNumber, ByToken, IsTokenBefore}
-use Rattle.eu_name.proofs.Orders.{token_order}
+use Rattle.eu_name.proofs.Orders.{number_irreflexive, number_transitive, token_irreflexive, token_transitive}
 use Rattle.model_core.specs.Blocks.{TokenBlock, IsTurnBefore, IsPathBefore, IsBlockBefore}
 use Rattle.model_core.specs.declared.rule.Side.{Side}
 use Rattle.model_core.specs.declared.rule.Side.TheVariants.{Then, Otherwise}
 use Rattle.model_core.specs.declared.rule.Turn.{Turn}
-
-number_irreflexive : (n : ℕ) (P : Type 0) → (P → ⊥) → ByNumber n n P → ⊥
-number_irreflexive n P none (inl less) = omega arith
-number_irreflexive n P none (inr tied) = none tied.1
-
-number_transitive : (l m n : ℕ) (P Q R : Type 0) → (P → Q → R) → ByNumber l m P → ByNumber m n Q → ByNumber l n R
-number_transitive l m n P Q R both (inl p) (inl q) = inl (omega arith)
-number_transitive l m n P Q R both (inl p) (inr q) = inl (omega (arith, q.0))
-number_transitive l m n P Q R both (inr p) (inl q) = inl (omega (arith, p.0))
-number_transitive l m n P Q R both (inr p) (inr q) = inr (p.0 ∙ q.0, both p.1 q.1)
-
-token_irreflexive : (a : TokenName) (P : Type 0) → (P → ⊥) → ByToken a a P → ⊥
-token_irreflexive a P none (inl first) = token_order.irreflexive a first
-token_irreflexive a P none (inr tied) = none tied.1
-
-token_transitive : (a b c : TokenName) (P Q R : Type 0) → (P → Q → R) → ByToken a b P → ByToken b c Q → ByToken a c R
-token_transitive a b c P Q R both (inl p) (inl q) = inl (token_order.transitive a b c p q)
-token_transitive a b c P Q R both (inl p) (inr q) = inl (subst (λ (t : TokenName). IsTokenBefore a t) q.0 p)
-token_transitive a b c P Q R both (inr p) (inl q) = inl (subst (λ (t : TokenName). IsTokenBefore t c) (sym p.0) q)
-token_transitive a b c P Q R both (inr p) (inr q) = inr (p.0 ∙ q.0, both p.1 q.1)
 
 one_side : (side : Side) → side ≡ Then → side ≡ Otherwise → ⊥
 one_side side p q = let e : Then ≡ Otherwise = sym p ∙ q in absurd (cc)

@@ -1,6 +1,7 @@
 //! What stands directly in one block of a rule.
 
 ghost use Rattle.std.specs.Prelude.{◌≡◌, ◌+◌, ◌<◌, ◌≤◌, ◌^◌, List, [], Some, length, All, IfOk, slice_get};
+ghost use Rattle.model_core.specs.declared.rule.Entry.TheVariants.{Branch};
 ghost use Rattle.model_core.specs.declared.rule.Guard.{Guard};
 ghost use Rattle.model_core.specs.declared.rule.Rule.{Rule};
 ghost use Rattle.model_core.specs.declared.rule.Slot.{Slot};
@@ -60,6 +61,30 @@ fn rule_of<'a>(model: &'a Model, token: &TokenName, number: u16) -> &'a Rule
     rule
 }
 
+// The two blocks of a branch.
+#[derive(Clone, Copy)]
+struct Sides<'a> {
+    then: &'a Block,
+    otherwise: &'a Block,
+}
+
+// The blocks of the branch that stands at the place among the entries.
+fn sides_at(entries: &[Entry], place: usize) -> Sides
+    requires { (guard : Guard) × ((then otherwise : Entries)
+        × (slice_get entries.now place ≡ Some (Branch guard then otherwise))) }
+    ensures { (guard : Guard)
+        × (slice_get entries.now place ≡ Some (Branch guard result.then.now result.otherwise.now)) }
+{
+    match &entries[place] {
+        Entry::Branch {
+            then,
+            otherwise,
+            ..
+        } => Sides { then, otherwise },
+        _ => unreachable!(),
+    }
+}
+
 // The block to which the turn leads from this one, where this many items come before the first in this one.
 fn turn_into(block: &Block, first: u32, turn: Turn) -> BlockAt
     requires few { first + item_count block.now < 2 ^ 32 }
@@ -73,20 +98,15 @@ fn turn_into(block: &Block, first: u32, turn: Turn) -> BlockAt
 {
     let entries = block.entries.as_slice();
     let entry = usize::from(turn.entry);
+    let sides = sides_at(entries, entry);
     let first = first + count_items(&entries[..entry]);
-    match &entries[entry] {
-        Entry::Branch {
-            then,
-            otherwise,
-            ..
-        } => match turn.side {
-            Side::Then => BlockAt { block: then, first },
-            Side::Otherwise => BlockAt {
-                block: otherwise,
-                first: first + count_items(then.entries.as_slice()),
-            },
+    let then = sides.then;
+    match turn.side {
+        Side::Then => BlockAt { block: then, first },
+        Side::Otherwise => BlockAt {
+            block: sides.otherwise,
+            first: first + count_items(then.entries.as_slice()),
         },
-        _ => unreachable!(),
     }
 }
 
