@@ -51,8 +51,7 @@ at_older domains now entry older place (first ∷ newer, older_lists, (is, long)
 -- what an entry tells of the domains before it
 entry_steps : (domains : List Domain) (entry : Entry) (older : List Entry) → CanBeEntry entry domains older → StepsFrom (domains_before entry domains) (written_by entry) domains
 entry_steps domains Added older can =
-    let last = slice_index_or domains (length domains - 1) (Range (pos 0) (pos 0)) in
-    (
+    let last = slice_index_or domains (length domains - 1) (Range (pos 0) (pos 0)) in (
       last,
       sym (take_all (length domains - 1 + 1) domains (omega arith)) ∙ take_more domains (length domains - 1) (Range (pos 0) (pos 0)) (omega (arith, can)),
     )

@@ -1,100 +1,54 @@
--- A pass over the constraints is a step for all of them, and passes together settle.
-use Rattle.std.proofs.Common.{◌≡◌, ℕ, ◌+◌, ◌-◌, ◌<◌, ◌≤◌, List, length, get_or, Some, refl, sym, ap, ◌∙◌, subst, arith}
-use Rattle.std.specs.Prelude.{All, sum_by, slice_get, Result, Ok, Err, IsErr, IsErrAnd}
+-- Narrowing one constraint that waits is a step for all of them, and such steps together settle.
+use Rattle.std.proofs.Common.{◌≡◌, ℕ, zero, suc, ◌+◌, ◌*◌, ◌<◌, ◌≤◌, List, [], ◌∷◌, ◌++◌, length, get_or, Some, slice_get, ◌⊎◌, inl, inr, refl, sym, ap, ◌∙◌, subst, arith}
 use Rattle.std.specs.declared.alloc.AllocError.{AllocError}
-use Rattle.std.proofs.lemmas.Option.{slice_get_within, slice_get_read, slice_get-get_or, get_or_from_slice_get}
+use Rattle.std.specs.Prelude.{All, Contains, sum_by, Option, None, MatchOption, Result, Ok, Err, IsErr, IsErrAnd}
+use Rattle.std.proofs.lemmas.Option.{slice_get_within, slice_get-get_or, get_or_from_slice_get}
+use Rattle.std.proofs.lemmas.Nat.{mul-add-lt}
+use Rattle.std.proofs.lemmas.Bool.{cases_eq}
 use Rattle.domain_core.specs.Domain.{Domain, IsDomain, slack}
-use Rattle.domain_core.specs.Narrowing.{joined}
 use Rattle.domain_core.specs.declared.Change.{Change}
 use Rattle.domain_core.specs.declared.Change.TheVariants.{Same, Smaller, Empty}
 use Rattle.narrow_core.specs.Laws.{LieWithin}
 use Rattle.narrow_core.specs.declared.field.Field.{Field}
-use Rattle.constraint_net.specs.Networks.{IsConsistent, AllConsistent, CanPost}
-use Rattle.constraint_net.specs.Passes.{place_in_pass, IsConsistentAt, WerePosted}
-use Rattle.constraint_net.specs.Steps.{FitWithin, Advances, AdvancesTo, StepsTo, SettlesTo, FitBefore}
+use Rattle.constraint_net.specs.Agendas.{Waits}
+use Rattle.constraint_net.specs.Arguments.{IsArgument}
+use Rattle.constraint_net.specs.Networks.{IsConsistent, AllConsistent}
+use Rattle.constraint_net.specs.Queues.{Queued, IsFirst}
+use Rattle.constraint_net.specs.Waiting.{IsConsistentAt, WerePosted, NameWithin, IsKeptAgenda}
+use Rattle.constraint_net.specs.Steps.{FitWithin, Advances, AdvancesTo, StepsTo, SettlesTo}
+use Rattle.constraint_net.specs.declared.agenda.Agenda.{Agenda}
 use Rattle.constraint_net.specs.declared.constraint.Constraint.{Constraint}
 use Rattle.constraint_net.specs.declared.NetFault.{NetFault}
 use Rattle.constraint_net.specs.declared.NetFault.TheVariants.{Collapsed, Memory}
-use Rattle.constraint_net.specs.declared.rounds.Direction.{Direction}
-use Rattle.constraint_net.specs.declared.rounds.Direction.TheVariants.{Forward, Backward}
 use Rattle.constraint_net.proofs.Within.{within_length}
-use Rattle.constraint_net.proofs.Advancing.{advances_trans, advanced, advances_same, none_fit, one_more_to}
+use Rattle.constraint_net.proofs.Advancing.{advances_trans, advances_same, advances_weaker, fit_weaker}
 
--- ---- the places of a pass
+-- ---- all constraints, and the one of a number
 
-place_below : (direction : Direction) (step count : ℕ) → step < count → place_in_pass direction step count < count
-place_below Forward step count below = below
-place_below Backward step count below = omega arith
-
--- each place is visited
-step_to : (direction : Direction) (place count : ℕ) → place < count → (step : ℕ) × (step < count) × (place_in_pass direction step count ≡ place)
-step_to Forward place count below = (place, below, refl)
-step_to Backward place count below = (count - 1 - place, omega arith, omega arith)
-
-module _ (tables : List Field) (constraints : List Constraint) (direction : Direction) where
-  abbrev at : ℕ → List Domain → Type 0
-  at = IsConsistentAt tables constraints direction
-
+module _ (tables : List Field) (constraints : List Constraint) where
   abbrev all : List Domain → Type 0
   all = AllConsistent tables constraints
 
-  all_at : (step : ℕ) (domains : List Domain) → all domains → at step domains
-  all_at step domains each constraint found =
-      let place = place_in_pass direction step (length constraints) in
-      subst (λ x. IsConsistent tables x domains) (get_or_from_slice_get constraints place constraint constraint found) (each place constraint (slice_get_within constraints place constraint found))
+  pub all_at : (number : ℕ) (domains : List Domain) → all domains → IsConsistentAt tables constraints number domains
+  all_at number domains each constraint found =
+      subst (λ x. IsConsistent tables x domains) (get_or_from_slice_get constraints number constraint constraint found) (each number constraint (slice_get_within constraints number constraint found))
 
-  all_from_each : (domains : List Domain) → FitBefore at (length constraints) domains → all domains
-  all_from_each domains each place d below =
-      let step = step_to direction place (length constraints) below in
-      each step.0 step.1 (get_or constraints place d) (ap (slice_get constraints) step.2 ∙ slice_get-get_or constraints place d below)
+  pub all_from_each : (domains : List Domain) → ((number : ℕ) → IsConsistentAt tables constraints number domains) → all domains
+  all_from_each domains each number d below = each number (get_or constraints number d) (slice_get-get_or constraints number d below)
 
-  pub read : (step place : ℕ) (constraint : Constraint) → step < length constraints → place ≡ place_in_pass direction step (length constraints) → constraint ≡ get_or constraints place constraint
-      → slice_get constraints (place_in_pass direction step (length constraints)) ≡ Some constraint
-  read step place constraint below is at =
-      let within = place_below direction step (length constraints) below in
-      ap (slice_get constraints) (sym is) ∙ slice_get_read constraints (length constraints) place constraint refl (omega (arith, is, within)) at
+  -- a step for one is a step for all, but that not all are consistent where it is
+  pub advances_all : (number : ℕ) (old new : List Domain) → Advances (IsConsistentAt tables constraints number) old new → Advances all old new
+  advances_all number old new p = advances_weaker (IsConsistentAt tables constraints number) all old new (all_at number) p
 
-  -- the step for one constraint, as that of its place
-  module _ (step : ℕ) (constraint : Constraint) (below : step < length constraints) (found : slice_get constraints (place_in_pass direction step (length constraints)) ≡ Some constraint) where
-    one_at : (old new : List Domain) (change : Change) → AdvancesTo (IsConsistent tables constraint) old change new → AdvancesTo (at step) old change new
-    one_at old new change p =
-        advances_same (IsConsistent tables constraint) (at step) old new change
-        (λ domains fit. fit constraint found)
-        (λ domains fit other also. subst (λ x. IsConsistent tables x domains) (same_item other also) fit)
-        p
-      where
-        some_is : (one other : Constraint) → Some one ≡ Some other → one ≡ other
-        some_is one other e = cc e
+  pub none_at : (number : ℕ) (old : List Domain) → ((below : List Domain) → FitWithin (IsConsistentAt tables constraints number) old below → ⊥) → (below : List Domain) → FitWithin all old below → ⊥
+  none_at number old none below fit = none below (fit_weaker (IsConsistentAt tables constraints number) all old below (all_at number) fit)
 
-        same_item : (other : Constraint) → slice_get constraints (place_in_pass direction step (length constraints)) ≡ Some other → constraint ≡ other
-        same_item other also = some_is constraint other (sym found ∙ also)
-
-    pub next_step : (old middle new : List Domain) (one other both : Change) → All IsDomain old → both ≡ joined one other
-        → AdvancesTo (FitBefore at step) old one middle → AdvancesTo (IsConsistent tables constraint) middle other new → AdvancesTo (FitBefore at (step + 1)) old both new
-    next_step old middle new one other both are is so_far p = one_more_to at step old middle new one other both are is so_far (one_at middle new other p)
-
-    -- where that leaves nothing, nothing is left for all
-    pub next_empty : (old middle new : List Domain) (one other both : Change) → All IsDomain old → both ≡ joined one other → both ≡ Empty
-        → AdvancesTo (FitBefore at step) old one middle → AdvancesTo (IsConsistent tables constraint) middle other new → AdvancesTo all old Empty new
-    next_empty old middle new one other both are is empty so_far p =
-        none_fit (FitBefore at (step + 1)) all old new both empty (λ domains each k under. all_at k domains each) (next_step old middle new one other both are is so_far p)
-
-    -- where memory has run out in it
-    pub next_failed : (old middle new : List Domain) (one : Change) (answer : Result Change AllocError) → All IsDomain old → IsErr answer
-        → AdvancesTo (FitBefore at step) old one middle → Advances (IsConsistent tables constraint) middle new → StepsTo all old answer new
-    next_failed old middle new one (Ok change) are told so_far p = absurd (cc told)
-    next_failed old middle new one (Err other) are told so_far p =
-        advances_trans (FitBefore at step) (at step) all old middle new (λ domains each. (λ k under. all_at k domains each, all_at step domains each))
-        (advanced (FitBefore at step) old middle one are so_far) (weaker middle new p)
-      where
-        weaker : (middle new : List Domain) → Advances (IsConsistent tables constraint) middle new → Advances (at step) middle new
-        weaker middle new p = record { are = p.are; within = p.within; keeps = λ other fit. p.keeps other (record { are = fit.are; within = fit.within; fit = fit.fit constraint found }) }
-
-  -- after the last one
-  pub whole_pass : (step : ℕ) (old new : List Domain) (change : Change) → length constraints ≤ step → step ≤ length constraints → AdvancesTo (FitBefore at step) old change new → AdvancesTo all old change new
-  whole_pass step old new change low high p =
-      advances_same (FitBefore at (length constraints)) all old new change (λ domains each k under. all_at k domains each) all_from_each
-      (subst (λ n. AdvancesTo (FitBefore at n) old change new) (let e : step ≡ length constraints = omega arith in e) p)
+  -- where none waits all are consistent
+  pub all_settled : (domains : List Domain) (agenda : Agenda) → IsKeptAgenda tables constraints domains agenda → agenda.waiting.items ≡ [] → all domains
+  all_settled domains agenda kept empty = all_from_each domains (λ number. elim (kept.covered number) [
+    | inl waits ↦ absurd (omega (arith, waits.1, ap length empty))
+    | inr is ↦ is
+  ])
 
 -- ---- passes, one after another
 
@@ -102,14 +56,9 @@ module _ (tables : List Field) (constraints : List Constraint) (direction : Dire
 pub still_posted : (tables : List Field) (constraints : List Constraint) (old new : List Domain) → LieWithin new old → WerePosted tables (length old) constraints → WerePosted tables (length new) constraints
 still_posted tables constraints old new within posted = subst (λ count. WerePosted tables count constraints) (sym (within_length new old within)) posted
 
--- so can the one at a place
-pub posted_at : (tables : List Field) (constraints : List Constraint) (old new : List Domain) (place : ℕ) (constraint : Constraint) → LieWithin new old → WerePosted tables (length old) constraints
-    → place < length constraints → constraint ≡ get_or constraints place constraint → CanPost tables (length new) constraint.kind constraint.args
-posted_at tables constraints old new place constraint within posted below is =
-    subst (λ (x : Constraint). CanPost tables (length new) x.kind x.args) (sym is) (still_posted tables constraints old new within posted place constraint below)
-
-pub place_within : (direction : Direction) (step count place : ℕ) → place ≡ place_in_pass direction step count → step < count → place < count
-place_within direction step count place is below = omega (arith, is, place_below direction step count below)
+-- the variables that they name exist
+pub named : (tables : List Field) (count : ℕ) (constraints : List Constraint) → WerePosted tables count constraints → NameWithin count constraints
+named tables count constraints posted = λ k d below. (posted k d below).arguments
 
 module _ (fits : List Domain → Type 0) (old middle new : List Domain) (so_far : Advances fits old middle) where
   pub goes_down : Advances fits middle new → Advances fits old new
@@ -144,3 +93,84 @@ module _ (fits : List Domain → Type 0) (old middle new : List Domain) (so_far 
   ran_out (Ok done) failed is p = absurd (cc failed)
   ran_out (Err Collapsed) failed is p = absurd (cc is)
   ran_out (Err Memory) failed is p = goes_down p
+
+-- ---- one turn of the loop
+
+module _ (tables : List Field) (constraints : List Constraint) (number : ℕ) (start old new : List Domain) (so_far : Advances (AllConsistent tables constraints) start old) where
+  abbrev fits : List Domain → Type 0
+  fits = AllConsistent tables constraints
+
+  -- the constraint took something
+  pub turned : (change : Change) → change ≡ Smaller → AdvancesTo (IsConsistentAt tables constraints number) old change new → Advances fits start new × (sum_by slack new < sum_by slack old)
+  turned Same is p = absurd (cc)
+  turned Smaller is p = (goes_down fits start old new so_far (advances_all tables constraints number old new p.0), p.1)
+  turned Empty is p = absurd (cc)
+
+  -- the constraint was consistent
+  pub was_consistent : (change : Change) → change ≡ Same → AdvancesTo (IsConsistentAt tables constraints number) old change new → (new ≡ old) × IsConsistentAt tables constraints number old
+  was_consistent Same is p = p
+  was_consistent Smaller is p = absurd (cc)
+  was_consistent Empty is p = absurd (cc)
+
+  pub turned_empty : (change : Change) → change ≡ Empty → AdvancesTo (IsConsistentAt tables constraints number) old change new → Advances fits start new × ((below : List Domain) → FitWithin fits start below → ⊥)
+  turned_empty Same is p = absurd (cc)
+  turned_empty Smaller is p = absurd (cc)
+  turned_empty Empty is p = (
+    goes_down fits start old new so_far (advances_all tables constraints number old new p.0),
+    λ below fit. none_at tables constraints number old p.1 below (reached fits start old new so_far below fit),
+  )
+
+  pub turned_out : (result : Result (Unit {0}) NetFault) → IsErr result → IsErrAnd result (λ fault. fault ≡ Memory) → Advances (IsConsistentAt tables constraints number) old new → SettlesTo fits start result new
+  turned_out result failed is p = ran_out fits start old new so_far result failed is (advances_all tables constraints number old new p)
+
+-- the first number was taken off, and the others are there
+pub taken_off : (number : ℕ) (old middle new : Queued) (result : Option ℕ) → IsFirst number old → middle ≡ old → MatchOption result ((middle.items ≡ []) × (new ≡ middle)) (λ first. middle.items ≡ first ∷ new.items)
+    → (length new.items < length old.items) × ((other : ℕ) → Contains middle.items other → (other ≡ number) ⊎ Contains new.items other)
+taken_off number old middle new None first same took =
+    absurd (let bad : [] ≡ number ∷ first.0 = sym took.0 ∙ ap (λ (q : Queued). q.items) same ∙ first.1 in omega (arith, ap length bad))
+taken_off number old middle new (Some one) first same took = (
+  omega (arith, ap length took, ap (λ (q : Queued). length q.items) same),
+  λ other member. cases other (subst (λ list. Contains list other) took member),
+)
+  where
+    head : one ≡ number
+    head = ap (λ list. get_or list 0 number) (sym took ∙ ap (λ (q : Queued). q.items) same ∙ first.1)
+
+    cases : (other : ℕ) → Contains (one ∷ new.items) other → (other ≡ number) ⊎ Contains new.items other
+    cases other (zero, below, at) = inl (sym at ∙ head)
+    cases other (suc k, below, at) = inr (k, omega (arith, below), at)
+
+-- the constraint that is consistent needn't wait
+pub kept_taken : (tables : List Field) (constraints : List Constraint) (domains : List Domain) (number : ℕ) (old new : Agenda) → IsKeptAgenda tables constraints domains old → IsConsistentAt tables constraints number domains
+    → new.watchers ≡ old.watchers → new.changed ≡ old.changed → new.waiting.room ≡ old.waiting.room → ((other : ℕ) → Waits old other → (other ≡ number) ⊎ Waits new other)
+    → IsKeptAgenda tables constraints domains new
+kept_taken tables constraints domains number old new kept is watchers changed room others = record {
+  variables = record { watchers = omega (arith, kept.variables.watchers, ap length watchers); changed = omega (arith, kept.variables.changed, ap (λ (q : Queued). q.room) changed) };
+  room = omega (arith, kept.room, room);
+  watched = λ at constraint found variable member. subst (λ lists. Contains (get_or lists variable []) at) (sym watchers) (kept.watched at constraint found variable member);
+  covered = λ at. elim (kept.covered at) [
+    | inr consistent ↦ inr consistent
+    | inl waits ↦ elim (others at waits) [
+      | inl same ↦ inr (subst (λ n. IsConsistentAt tables constraints n domains) (sym same) is)
+      | inr waits_on ↦ inl waits_on
+    ]
+  ];
+}
+
+-- the measure of the loop: the slack counts as many times as constraints can wait, and one time more
+pub less_slack : (room before after slack_before slack_after : ℕ) → slack_after < slack_before → after ≤ room → slack_after * (room + 1) + after < slack_before * (room + 1) + before
+less_slack room before after slack_before slack_after less low =
+    let below : slack_after * (room + 1) + after < (room + 1) * slack_before = mul-add-lt slack_after (room + 1) after slack_before less (omega (arith, low)) in
+    omega (arith, below)
+
+pub fewer_wait : (room slack_after slack_before before after : ℕ) → slack_after ≡ slack_before → after < before → slack_after * (room + 1) + after < slack_before * (room + 1) + before
+fewer_wait room slack_after slack_before before after same less = subst (λ slack. slack_after * (room + 1) + after < slack * (room + 1) + before) same (omega (arith, less))
+
+-- a step for a constraint is one for its number
+pub number_steps : (tables : List Field) (constraints : List Constraint) (number : ℕ) (constraint : Constraint) (old new : List Domain) (result : Result Change AllocError) → Some constraint ≡ slice_get constraints number
+    → StepsTo (IsConsistent tables constraint) old result new → StepsTo (IsConsistentAt tables constraints number) old result new
+number_steps tables constraints number constraint old new (Ok change) found step =
+    advances_same (IsConsistent tables constraint) (IsConsistentAt tables constraints number) old new change (λ domains fit. fit constraint (sym found))
+    (λ domains fit other also. subst (λ x. IsConsistent tables x domains) (let e : Some constraint ≡ Some other = found ∙ also in cc e) fit) step
+number_steps tables constraints number constraint old new (Err none) found step =
+    advances_weaker (IsConsistent tables constraint) (IsConsistentAt tables constraints number) old new (λ domains fit. fit constraint (sym found)) step

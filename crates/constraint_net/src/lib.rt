@@ -6,12 +6,16 @@
 //! `net.back_to(mark)` brings back what was there, and `net.stamp(x)` tells how often the domain was written.
 #![tactic(auto)]
 
+mod agenda;
 pub mod constraint;
 mod domains;
 mod kinds;
 pub mod laws;
 pub mod network;
-mod rounds;
+mod posted;
+mod queue;
+mod settling;
+mod watchers;
 
 pub use constraint::NetArg;
 pub use network::{Mark, Net};
