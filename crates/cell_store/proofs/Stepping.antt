@@ -1,5 +1,5 @@
 -- What one step of the trail did.
-use Rattle.std.proofs.Common.{◌≡◌, ℕ, ◌+◌, ◌-◌, ◌<◌, ◌≤◌, min, List, [], ◌∷◌, ◌++◌, length, take, drop, reverse, slice_get, slice_set, slice_index_or, Some, None, pos, inl, inr, length-append, refl, sym, ap, ◌∙◌, subst, arith}
+use Rattle.std.proofs.Common.{◌≡◌, ℕ, ◌+◌, ◌-◌, ◌<◌, ◌≤◌, List, [], ◌∷◌, ◌++◌, length, drop, reverse, slice_get, slice_index_or, Some, None, pos, inl, inr, length-append, sym, ap, ◌∙◌, subst, arith}
 use Rattle.std.specs.Prelude.{Option, IfSome}
 use Rattle.std.proofs.lemmas.Bool.{cases_eq}
 use Rattle.std.proofs.lemmas.List.{length-set, length-take, length-reverse, reverse-append, reverse-reverse, set-get_or, take_more, take_all}
@@ -9,7 +9,7 @@ use Rattle.domain_core.specs.Domain.{Domain, Range}
 use Rattle.cell_store.specs.declared.trail.Cell.{Cell}
 use Rattle.cell_store.specs.declared.trail.Entry.{Entry}
 use Rattle.cell_store.specs.declared.trail.Entry.TheVariants.{Added, Narrowed}
-use Rattle.cell_store.specs.Cells.{Celled, domain_at, present, StepsFrom, IsPlace, IsStep}
+use Rattle.cell_store.specs.Cells.{Celled, domain_at, StepsFrom, IsStep}
 use Rattle.cell_store.specs.Kept.{domains_before, past_of, IsTrail, CanBeEntry, cell_domains, view_of, IsKept}
 use Rattle.cell_store.proofs.Lists.{set-set}
 use Rattle.cell_store.proofs.Rewriting.{length-past_of}

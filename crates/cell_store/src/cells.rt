@@ -107,8 +107,8 @@ impl Cells {
         self.cells.len()
     }
 
-    /// The cell that a step of the trail wrote. None where the step added a cell. Steps count from the first one on, and
-    /// those from a mark's number on came after it.
+    /// The cell that a step of the trail wrote. None where the step added a cell. Steps count from the first one on,
+    /// and those from a mark's number on came after it.
     pub fn written(&self, step: usize) -> Option<usize>
         requires { step + 1 < length self.now.past }
         ensures { IsStep step self.now result }

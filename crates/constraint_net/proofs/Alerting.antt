@@ -1,5 +1,5 @@
 -- Who has to be told that a variable has changed.
-use Rattle.std.proofs.Common.{◌≡◌, ℕ, zero, suc, ◌+◌, ◌<◌, ◌≤◌, pos, List, [], ◌∷◌, ◌++◌, length, get_or, set, slice_get, ◌⊎◌, inl, inr, append_assoc, refl, sym, ap, ◌∙◌, subst, arith}
+use Rattle.std.proofs.Common.{◌≡◌, ℕ, suc, ◌+◌, ◌<◌, ◌≤◌, pos, List, [], ◌∷◌, ◌++◌, length, get_or, slice_get, ◌⊎◌, inl, inr, append_assoc, refl, sym, ap, ◌∙◌, subst, arith}
 use Rattle.std.specs.Prelude.{All, Contains, sum_by, Option, Some, None, IfSome, Result, Ok, Err}
 use Rattle.std.specs.declared.alloc.AllocError.{AllocError}
 use Rattle.std.proofs.lemmas.Bool.{cases_eq, cases_lt}
@@ -14,8 +14,8 @@ use Rattle.cell_store.specs.Cells.{Celled, present, newest_of, domain_at, IsPlac
 use Rattle.model_core.specs.declared.item.Kind.TheVariants as kind
 use Rattle.model_core.specs.Constraints.{AgreeOn}
 use Rattle.narrow_core.specs.declared.field.Field.{Field}
-use Rattle.constraint_net.specs.Agendas.{HasVariables, Waits, Watches, IsNoted, Stays, IsAlerted, Wakes, AlertsAfter, LimitAlerts, Alerts, TellsOfLoss, AlertsSince, IsStepped, SteppedFrom}
-use Rattle.constraint_net.specs.Arguments.{IsArgument, domain_of, domains_of}
+use Rattle.constraint_net.specs.Agendas.{HasVariables, Waits, Stays, IsAlerted, Wakes, AlertsAfter, LimitAlerts, Alerts, TellsOfLoss, AlertsSince, IsStepped, SteppedFrom}
+use Rattle.constraint_net.specs.Arguments.{IsArgument, domains_of}
 use Rattle.constraint_net.specs.Calls.{Notes}
 use Rattle.constraint_net.specs.Limits.{LimitsCell}
 use Rattle.constraint_net.specs.Networks.{IsConsistent, field_of}

@@ -1,11 +1,10 @@
 -- The agenda while variables and constraints come and go.
-use Rattle.std.proofs.Common.{◌≡◌, ℕ, zero, suc, ◌+◌, ◌<◌, ◌≤◌, min, pos, List, [], ◌∷◌, ◌++◌, length, take, get_or, Some, None, slice_get, ◌⊎◌, inl, inr, length-append, refl, sym, ap, ◌∙◌, subst, arith}
-use Rattle.std.specs.Prelude.{All, Contains, Option, IsSomeAnd, Result, Ok, Err}
-use Rattle.std.specs.declared.alloc.AllocError.{AllocError}
+use Rattle.std.proofs.Common.{◌≡◌, ℕ, zero, suc, ◌<◌, ◌≤◌, pos, List, [], ◌∷◌, ◌++◌, length, take, get_or, Some, slice_get, ◌⊎◌, inl, inr, length-append, refl, sym, ap, subst, arith}
+use Rattle.std.specs.Prelude.{All, Contains, Option, IsSomeAnd, Ok}
 use Rattle.std.proofs.lemmas.Bool.{cases_eq}
 use Rattle.std.proofs.lemmas.List.{length_push, length-take, get_or_append_left}
 use Rattle.std.proofs.lemmas.List.Elements.{All-head, All-tail}
-use Rattle.std.proofs.lemmas.Option.{slice_get_within, slice_get-get_or, get_or_from_slice_get}
+use Rattle.std.proofs.lemmas.Option.{slice_get_within, get_or_from_slice_get}
 use Rattle.domain_core.specs.Domain.{Domain, Range}
 use Rattle.model_core.specs.Consistency.{Values, AreConsistent}
 use Rattle.model_core.specs.Constraints.{AgreeOn, IsFieldOf}
@@ -14,10 +13,10 @@ use Rattle.narrow_core.specs.Meanings.{IsInTable}
 use Rattle.model_core.specs.declared.item.Kind.{Kind}
 use Rattle.narrow_core.specs.declared.field.Field.{Field}
 use Rattle.constraint_net.specs.Agendas.{HasVariables, Grows, Enrols, Forgets, Waits}
-use Rattle.constraint_net.specs.Arguments.{IsArgument, domain_of, domains_of}
-use Rattle.constraint_net.specs.Networks.{IsConsistent, IsAllowed, field_of}
+use Rattle.constraint_net.specs.Arguments.{IsArgument, domains_of}
+use Rattle.constraint_net.specs.Networks.{IsAllowed, field_of}
 use Rattle.constraint_net.specs.Queues.{Queued}
-use Rattle.constraint_net.specs.Waiting.{IsConsistentAt, NameWithin, WerePosted, IsKeptAgenda}
+use Rattle.constraint_net.specs.Waiting.{NameWithin, WerePosted, IsKeptAgenda}
 use Rattle.constraint_net.specs.declared.agenda.Agenda.{Agenda}
 use Rattle.constraint_net.specs.declared.constraint.NetArg.{NetArg}
 use Rattle.constraint_net.specs.declared.constraint.NetArg.TheVariants.{Var, Lit}

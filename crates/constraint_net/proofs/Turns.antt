@@ -1,17 +1,15 @@
 -- Narrowing one constraint that waits is a step for all of them, and such steps together settle.
-use Rattle.std.proofs.Common.{◌≡◌, ℕ, zero, suc, ◌+◌, ◌*◌, ◌<◌, ◌≤◌, List, [], ◌∷◌, ◌++◌, length, get_or, Some, slice_get, ◌⊎◌, inl, inr, refl, sym, ap, ◌∙◌, subst, arith}
+use Rattle.std.proofs.Common.{◌≡◌, ℕ, zero, suc, ◌+◌, ◌*◌, ◌<◌, ◌≤◌, List, [], ◌∷◌, length, get_or, Some, slice_get, ◌⊎◌, inl, inr, sym, ap, ◌∙◌, subst, arith}
 use Rattle.std.specs.declared.alloc.AllocError.{AllocError}
-use Rattle.std.specs.Prelude.{All, Contains, sum_by, Option, None, MatchOption, Result, Ok, Err, IsErr, IsErrAnd}
+use Rattle.std.specs.Prelude.{Contains, sum_by, Option, None, MatchOption, Result, Ok, Err, IsErr, IsErrAnd}
 use Rattle.std.proofs.lemmas.Option.{slice_get_within, slice_get-get_or, get_or_from_slice_get}
 use Rattle.std.proofs.lemmas.Nat.{mul-add-lt}
-use Rattle.std.proofs.lemmas.Bool.{cases_eq}
-use Rattle.domain_core.specs.Domain.{Domain, IsDomain, slack}
+use Rattle.domain_core.specs.Domain.{Domain, slack}
 use Rattle.domain_core.specs.declared.Change.{Change}
 use Rattle.domain_core.specs.declared.Change.TheVariants.{Same, Smaller, Empty}
 use Rattle.narrow_core.specs.Laws.{LieWithin}
 use Rattle.narrow_core.specs.declared.field.Field.{Field}
 use Rattle.constraint_net.specs.Agendas.{Waits}
-use Rattle.constraint_net.specs.Arguments.{IsArgument}
 use Rattle.constraint_net.specs.Networks.{IsConsistent, AllConsistent}
 use Rattle.constraint_net.specs.Queues.{Queued, IsFirst}
 use Rattle.constraint_net.specs.Waiting.{IsConsistentAt, WerePosted, NameWithin, IsKeptAgenda}

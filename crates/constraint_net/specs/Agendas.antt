@@ -1,5 +1,5 @@
 -- Which constraints wait to be narrowed, which watch a variable, and which variables have changed.
-use Rattle.std.specs.Prelude.{◌≡◌, ℕ, ◌+◌, ◌<◌, ◌≤◌, List, [], ◌⊎◌, length, Contains, sum_by, slice_index_or, Result, Ok, Err, OnOk}
+use Rattle.std.specs.Prelude.{◌≡◌, ℕ, ◌<◌, ◌≤◌, List, [], ◌⊎◌, length, Contains, sum_by, slice_index_or, Result, Ok, Err, OnOk}
 use Rattle.std.specs.declared.alloc.AllocError.{AllocError}
 use Rattle.domain_core.specs.Domain.{Domain, slack}
 use Rattle.domain_core.specs.declared.Change.{Change}
@@ -39,7 +39,8 @@ pub record KeepsLists (old new : List (List ℕ)) : Type 0 where
 -- numbers below the count stay in the lists
 pub record KeepsBelow (count : ℕ) (old new : List (List ℕ)) : Type 0 where
   pub lists : length new ≡ length old
-  pub below : (variable number : ℕ) → number < count → Contains (listed old variable) number → Contains (listed new variable) number
+  pub below : (variable number : ℕ) → number < count
+      → Contains (listed old variable) number → Contains (listed new variable) number
 
 -- so it is in one list
 abbrev pub Shortens : ℕ → List ℕ → List ℕ → Type 0
@@ -54,14 +55,17 @@ pub record Grows (old new : Agenda) : Type 0 where
   pub watching : (variable number : ℕ) → Watches old number variable → Watches new number variable
   pub changed : new.changed.items ≡ old.changed.items
 
--- nothing is lost in the lists, and the number stands in that of each variable among the arguments unless memory has run out
-pub record Joins (number : ℕ) (args : List NetArg) (old : List (List ℕ)) (result : Result (Unit {0}) AllocError) (new : List (List ℕ)) : Type 0 where
+-- nothing is lost in the lists, and the number stands in that of each variable among the arguments unless memory has
+-- run out
+pub record Joins (number : ℕ) (args : List NetArg) (old : List (List ℕ))
+    (result : Result (Unit {0}) AllocError) (new : List (List ℕ)) : Type 0 where
   pub lists : length new ≡ length old
   pub others : (variable other : ℕ) → Contains (listed old variable) other → Contains (listed new variable) other
   pub joined : OnOk result ((variable : ℕ) → Contains args (Var variable) → Contains (listed new variable) number)
 
 -- the constraint waits, and watches each variable among its arguments, unless memory has run out
-pub record Enrols (number : ℕ) (args : List NetArg) (old : Agenda) (result : Result (Unit {0}) AllocError) (new : Agenda) : Type 0 where
+pub record Enrols (number : ℕ) (args : List NetArg) (old : Agenda)
+    (result : Result (Unit {0}) AllocError) (new : Agenda) : Type 0 where
   pub grows : Grows old new
   pub room : OnOk result (number < new.waiting.room)
   pub waits : OnOk result (Waits new number)
@@ -97,7 +101,8 @@ LimitAlerts variable (Err none) old new = new ≡ old
 -- each variable that there is now and that has changed was told to all that watch it
 pub record Alerts (old new : List Domain) (before after : Agenda) : Type 0 where
   pub stays : Stays before after
-  pub each : (variable : ℕ) → variable < length new → (domain_at new variable ≡ domain_at old variable) ⊎ IsAlerted variable before after
+  pub each : (variable : ℕ) → variable < length new
+      → (domain_at new variable ≡ domain_at old variable) ⊎ IsAlerted variable before after
 
 -- values have gone, or nothing has changed and nobody was told
 abbrev pub TellsOfLoss : List Domain → List Domain → Agenda → Agenda → Type 0
@@ -109,12 +114,14 @@ pub record AlertsBack (place : ℕ) (cells : Celled) (before after : Agenda) (th
   pub alerts : Alerts (present cells) there before after
 
 abbrev pub AlertsSince : ℕ → Celled → Agenda → Agenda → Type 0
-AlertsSince place cells before after = (there : List Domain) → IsPlace cells place there → AlertsBack place cells before after there
+AlertsSince place cells before after =
+    (there : List Domain) → IsPlace cells place there → AlertsBack place cells before after there
 
 -- what has changed between two places was told
 pub record IsStepped (there now : List Domain) (before after : Agenda) : Type 0 where
   pub fewer : length there ≤ length now
-  pub each : (variable : ℕ) → variable < length there → (domain_at there variable ≡ domain_at now variable) ⊎ IsAlerted variable before after
+  pub each : (variable : ℕ) → variable < length there
+      → (domain_at there variable ≡ domain_at now variable) ⊎ IsAlerted variable before after
 
 abbrev pub SteppedFrom : ℕ → ℕ → Celled → Agenda → Agenda → Type 0
 SteppedFrom place later cells before after =

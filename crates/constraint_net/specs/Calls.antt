@@ -52,8 +52,8 @@ TakesChanged old (Some variable) new =
     (others : List ℕ) × ((old.changed ≡ variable ∷ others) × (new ≡ record old { changed = others }))
 TakesChanged old None new = (old.changed ≡ []) × (new ≡ old)
 
--- domains have got less: tables and constraints are as before, the stamps follow the domains, what has changed is noted,
--- and what could be gone back to still can
+-- domains have got less: tables and constraints are as before, the stamps follow the domains, what has changed is
+-- noted, and what could be gone back to still can
 pub record GoesDown (old new : Network) : Type 0 where
   pub tables : new.tables ≡ old.tables
   pub constraints : new.constraints ≡ old.constraints

@@ -26,8 +26,8 @@ KeepMarks old new =
     (mark : Mark) (domains : List Domain) (constraints : List Constraint)
     → IsMark old mark domains constraints → IsMark new mark domains constraints
 
--- the variables, their domains and the constraints at the mark are back, the stamps follow the domains, what has changed
--- is noted, and nothing of the work is taken back
+-- the variables, their domains and the constraints at the mark are back, the stamps follow the domains, what has
+-- changed is noted, and nothing of the work is taken back
 pub record Returns (mark : Mark) (old new : Network) : Type 0 where
   pub cells : GoesBack mark.cells (cells_of old) (cells_of new)
   pub constraints : new.constraints ≡ take mark.constraints old.constraints

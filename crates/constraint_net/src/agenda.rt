@@ -1,7 +1,8 @@
 //! Which constraints have to be looked at, and which variables have changed.
 
 ghost use Rattle.std.specs.Prelude.{◌≡◌, ◌+◌, ◌<◌, ◌≤◌, [], ◌∷◌, ◌++◌, All, length, OnOk};
-ghost use Rattle.constraint_net.specs.Agendas.{HasVariables, Grows, Joins, Enrols, Wakes, AlertsAfter, KeepsLists, KeepsBelow, Forgets};
+ghost use Rattle.constraint_net.specs.Agendas.{HasVariables, Grows, Joins, Enrols, Wakes, AlertsAfter};
+ghost use Rattle.constraint_net.specs.Agendas.{KeepsLists, KeepsBelow, Forgets};
 ghost use Rattle.constraint_net.specs.Arguments.{IsArgument};
 ghost use Rattle.constraint_net.specs.Queues.{TakesAll};
 
@@ -11,8 +12,8 @@ use super::watchers::Watchers;
 use domain_core::Change;
 use std::alloc::{AllocError, Global};
 
-/// The numbers of the constraints that wait to be narrowed, of those that name a variable, and of the variables that have
-/// changed.
+/// The numbers of the constraints that wait to be narrowed, of those that name a variable, and of the variables that
+/// have changed.
 #[derive(Drop)]
 pub struct Agenda {
     pub waiting: Queue,
@@ -22,7 +23,11 @@ pub struct Agenda {
 
 impl Agenda {
     pub fn new(alloc: Global) -> Agenda
-        ensures { result ≡ record { waiting = record { items = []; room = 0 }; watchers = []; changed = record { items = []; room = 0 } } }
+        ensures { result ≡ record {
+          waiting = record { items = []; room = 0 };
+          watchers = [];
+          changed = record { items = []; room = 0 };
+        } }
     {
         Agenda {
             waiting: Queue::new(alloc),

@@ -66,7 +66,8 @@ impl Domains {
         requires exists { variable < length (present self.old.cells) }
         requires past { 0 < length self.old.cells.past }
         requires ready { HasVariables (length (present self.old.cells)) self.old.agenda }
-        ensures limited { LimitsCell variable to.now (length self.old.cells.past - 1) self.old.cells result self.new.cells }
+        ensures limited { LimitsCell variable to.now (length self.old.cells.past - 1)
+            self.old.cells result self.new.cells }
         ensures alerts { Alerts (present self.old.cells) (present self.new.cells) self.old.agenda self.new.agenda }
         ensures told { LimitAlerts variable result self.old.agenda self.new.agenda }
         ensures work { self.new.work ≡ self.old.work }
@@ -102,7 +103,8 @@ impl Domains {
             (present self.old.cells) result (present self.new.cells) }
         ensures sinks { SinksAt args.now since self.old.cells self.new.cells }
         ensures alerts { Alerts (present self.old.cells) (present self.new.cells) self.old.agenda self.new.agenda }
-        ensures told_of_loss { TellsOfLoss (present self.old.cells) (present self.new.cells) self.old.agenda self.new.agenda }
+        ensures told_of_loss { TellsOfLoss (present self.old.cells) (present self.new.cells)
+            self.old.agenda self.new.agenda }
         ensures counted { self.old.work ≤ self.new.work }
     {
         gather(args, &self.cells, &mut self.room)?;

@@ -37,7 +37,8 @@ pub fn narrow_constraint(
     ensures steps { StepsTo (IsConsistent tables.now constraint.now)
         (present domains.old.cells) result (present domains.new.cells) }
     ensures sinks { SinksAt constraint.now.args since domains.old.cells domains.new.cells }
-    ensures alerts { Alerts (present domains.old.cells) (present domains.new.cells) domains.old.agenda domains.new.agenda }
+    ensures alerts { Alerts (present domains.old.cells) (present domains.new.cells)
+        domains.old.agenda domains.new.agenda }
     ensures told_of_loss { TellsOfLoss (present domains.old.cells) (present domains.new.cells)
         domains.old.agenda domains.new.agenda }
     ensures counted { domains.old.work ≤ domains.new.work }
@@ -66,7 +67,8 @@ fn narrow_product(args: &[NetArg], domains: &mut Domains, since: Mark) -> Result
     ensures steps { StepsTo (AgreeAt Ends (HoldsOf kind.MulEq) args.now)
         (present domains.old.cells) result (present domains.new.cells) }
     ensures sinks { SinksAt args.now since domains.old.cells domains.new.cells }
-    ensures alerts { Alerts (present domains.old.cells) (present domains.new.cells) domains.old.agenda domains.new.agenda }
+    ensures alerts { Alerts (present domains.old.cells) (present domains.new.cells)
+        domains.old.agenda domains.new.agenda }
     ensures told_of_loss { TellsOfLoss (present domains.old.cells) (present domains.new.cells)
         domains.old.agenda domains.new.agenda }
     ensures counted { domains.old.work ≤ domains.new.work }
@@ -92,7 +94,8 @@ fn narrow_by_factor(
     ensures steps { StepsTo (AgreeAt Ends (HoldsOf kind.MulEq) (x ∷ factor ∷ z ∷ []))
         (present domains.old.cells) result (present domains.new.cells) }
     ensures sinks { SinksAt (x ∷ factor ∷ z ∷ []) since domains.old.cells domains.new.cells }
-    ensures alerts { Alerts (present domains.old.cells) (present domains.new.cells) domains.old.agenda domains.new.agenda }
+    ensures alerts { Alerts (present domains.old.cells) (present domains.new.cells)
+        domains.old.agenda domains.new.agenda }
     ensures told_of_loss { TellsOfLoss (present domains.old.cells) (present domains.new.cells)
         domains.old.agenda domains.new.agenda }
     ensures counted { domains.old.work ≤ domains.new.work }

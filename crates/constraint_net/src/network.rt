@@ -1,11 +1,13 @@
 //! Networks.
 
-ghost use Rattle.std.specs.Prelude.{◌≡◌, ◌^◌, ◌<◌, ◌≤◌, [], ◌∷◌, ◌++◌, All, length, take, OnErr, IfOk, MatchOption, Some};
+ghost use Rattle.std.specs.Prelude.{◌≡◌, ◌^◌, ◌<◌, ◌≤◌, [], ◌∷◌, ◌++◌, All, length, take};
+ghost use Rattle.std.specs.Prelude.{OnErr, IfOk, MatchOption, Some};
 ghost use Rattle.std.specs.Prelude.{slice_get};
 ghost use Rattle.domain_core.specs.Domain.{IsDomain};
 ghost use Rattle.constraint_net.specs.Networks.{CanPost, AllConsistent};
 ghost use Rattle.constraint_net.specs.Steps.{SettlesTo};
-ghost use Rattle.constraint_net.specs.Calls.{IsAscending, given_by, table_of, AddsVar, Limits, Posts, GoesDown, TakesChanged};
+ghost use Rattle.constraint_net.specs.Calls.{IsAscending, given_by, table_of, AddsVar, Limits, Posts};
+ghost use Rattle.constraint_net.specs.Calls.{GoesDown, TakesChanged};
 ghost use Rattle.constraint_net.specs.Agendas.{Forgets};
 ghost use Rattle.constraint_net.specs.Waiting.{NameWithin};
 ghost use Rattle.constraint_net.specs.Marks.{IsMark, CanReturn, Returns};
@@ -165,8 +167,8 @@ impl Net {
     }
 
     /// Takes the next variable off the list of those that have changed. That list has each variable whose domain was
-    /// written by `limit`, `settle_all` or `back_to` since it was last taken off, and perhaps others, also of numbers that
-    /// no variable has any more.
+    /// written by `limit`, `settle_all` or `back_to` since it was last taken off, and perhaps others, also of numbers
+    /// that no variable has any more.
     pub fn next_changed(&mut self) -> Option<usize>
         ensures { TakesChanged self.old result self.new }
     {

@@ -77,7 +77,8 @@ impl Posted {
 
     /// Takes the last constraint off. None where there is no constraint.
     pub fn pop(&mut self) -> Option<Constraint>
-        ensures { MatchOption result ((self.old ≡ []) × (self.new ≡ self.old)) (λ constraint. self.old ≡ self.new ++ constraint ∷ []) }
+        ensures { MatchOption result ((self.old ≡ []) × (self.new ≡ self.old))
+            (λ constraint. self.old ≡ self.new ++ constraint ∷ []) }
     {
         let key = self.keys.pop()?;
         self.kept.try_remove(key)

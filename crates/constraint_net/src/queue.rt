@@ -7,8 +7,8 @@ use std::alloc::{AllocError, Global};
 use std::collections::VecDeque;
 use std::marker::Model;
 
-/// Numbers in the order in which they came, each at most once. There is room for all numbers below a bound, so adding one
-/// takes no memory.
+/// Numbers in the order in which they came, each at most once. There is room for all numbers below a bound, so adding
+/// one takes no memory.
 #[derive(Drop)]
 pub struct Queue {
     items: VecDeque<usize>,
@@ -82,7 +82,8 @@ impl Queue {
 
     /// Takes the first of the numbers off.
     pub fn take(&mut self) -> Option<usize>
-        ensures taken { MatchOption result ((self.old.items ≡ []) × (self.new ≡ self.old)) (λ number. self.old.items ≡ number ∷ self.new.items) }
+        ensures taken { MatchOption result ((self.old.items ≡ []) × (self.new ≡ self.old))
+            (λ number. self.old.items ≡ number ∷ self.new.items) }
         ensures room { self.new.room ≡ self.old.room }
     {
         let number = self.items.pop_front()?;

@@ -59,7 +59,8 @@ fn narrow_number(
     ensures steps { StepsTo (IsConsistentAt tables.now constraints.now number)
         (present domains.old.cells) result (present domains.new.cells) }
     ensures sinks { Sinks since domains.old.cells domains.new.cells }
-    ensures alerts { Alerts (present domains.old.cells) (present domains.new.cells) domains.old.agenda domains.new.agenda }
+    ensures alerts { Alerts (present domains.old.cells) (present domains.new.cells)
+        domains.old.agenda domains.new.agenda }
     ensures told_of_loss { TellsOfLoss (present domains.old.cells) (present domains.new.cells)
         domains.old.agenda domains.new.agenda }
     ensures counted { domains.old.work ≤ domains.new.work }

@@ -57,7 +57,8 @@ impl Watchers {
     /// Adds a number to the list of the variable.
     pub fn add(&mut self, variable: usize, number: usize) -> Result<(), AllocError>
         requires { variable < length self.old }
-        ensures ok { OnOk result (self.new ≡ slice_set self.old variable (slice_index_or self.old variable [] ++ number ∷ [])) }
+        ensures ok { OnOk result (self.new
+            ≡ slice_set self.old variable (slice_index_or self.old variable [] ++ number ∷ [])) }
         ensures err { OnErr result (self.new ≡ self.old) }
     {
         self.lists[variable].push(number)?;

@@ -1,12 +1,12 @@
-use Rattle.std.proofs.Common.{◌≡◌, ◌-◌, length, inr, refl, sym, ap, ◌∙◌, subst, arith}
+use Rattle.std.proofs.Common.{◌≡◌, ◌-◌, length, refl, sym, ap, ◌∙◌, subst, arith}
 use Rattle.std.specs.Prelude.{sum_by}
-use Rattle.domain_core.specs.Domain.{Domain, slack}
+use Rattle.domain_core.specs.Domain.{slack}
 use Rattle.cell_store.specs.Cells.{present}
 use Rattle.constraint_net.specs.Moves.{IsSound}
 use Rattle.constraint_net.specs.Networks.{AllConsistent}
 use Rattle.constraint_net.specs.Steps.{Advances}
 use Rattle.constraint_net.specs.Queues.{Queued}
-use Rattle.constraint_net.specs.Waiting.{IsConsistentAt, IsKeptAgenda}
+use Rattle.constraint_net.specs.Waiting.{IsConsistentAt}
 use Rattle.constraint_net.specs.declared.agenda.Agenda.{Agenda}
 use Rattle.constraint_net.proofs.Advancing.{advances_refl, steps_length}
 use Rattle.constraint_net.proofs.Alerting.{kept_step, notes_refl, notes_step, no_loss}

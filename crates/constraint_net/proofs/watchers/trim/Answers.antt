@@ -1,4 +1,4 @@
-use Rattle.std.proofs.Common.{◌≡◌, ◌-◌, length, Some, slice_get, ap, sym, ◌∙◌}
+use Rattle.std.proofs.Common.{◌-◌, length, slice_get, ap, sym, ◌∙◌}
 use Rattle.constraint_net.proofs.Watching.{shortened_by}
 use Rattle.constraint_net.proofs.watchers.trim.Goals as goal
 

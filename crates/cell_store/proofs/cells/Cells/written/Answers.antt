@@ -1,7 +1,7 @@
-use Rattle.std.proofs.Common.{◌≡◌, ◌<◌, length, reverse, slice_get, Some, refl, ap, ◌∙◌, arith}
+use Rattle.std.proofs.Common.{◌<◌, length, reverse, Some, refl, ap, ◌∙◌, arith}
 use Rattle.std.proofs.lemmas.List.{length-reverse}
 use Rattle.std.proofs.lemmas.Option.{slice_get_read}
-use Rattle.cell_store.specs.Cells.{Celled, IsStep}
+use Rattle.cell_store.specs.Cells.{Celled}
 use Rattle.cell_store.specs.Kept.{cell_domains}
 use Rattle.cell_store.specs.declared.trail.Entry.TheVariants.{Added, Narrowed}
 use Rattle.cell_store.proofs.Rewriting.{length-past_of}

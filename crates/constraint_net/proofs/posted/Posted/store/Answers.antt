@@ -1,5 +1,4 @@
-use Rattle.std.proofs.Common.{◌++◌, ◌∷◌, [], ap, ◌∙◌, subst}
-use Rattle.constraint_net.specs.Stored.{constraints_of, IsStored}
+use Rattle.std.proofs.Common.{◌++◌, ◌∷◌, [], ap, ◌∙◌}
 use Rattle.constraint_net.proofs.Storing.{stored_as}
 use Rattle.constraint_net.proofs.posted.Posted.store.Goals as goal
 
