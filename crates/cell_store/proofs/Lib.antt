@@ -2,3 +2,4 @@ pub mod Rewriting
 pub mod Lists
 pub mod Views
 pub mod Returning
+pub mod Stepping

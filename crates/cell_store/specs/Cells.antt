@@ -1,5 +1,5 @@
 -- Cells with their domains, and what can be gone back to.
-use Rattle.std.specs.Prelude.{◌≡◌, ◌≢◌, ℕ, ◌+◌, ◌-◌, ◌^◌, ◌<◌, min, List, [], ◌∷◌, ◌++◌, ◌⊎◌, length, slice_index_or, slice_set, Result, Ok, Err, pos}
+use Rattle.std.specs.Prelude.{◌≡◌, ◌≢◌, ℕ, ◌+◌, ◌-◌, ◌^◌, ◌<◌, min, List, [], ◌∷◌, ◌++◌, ◌⊎◌, length, slice_index_or, slice_set, Result, Ok, Err, Option, Some, None, IfSome, pos}
 use Rattle.std.specs.declared.alloc.AllocError.{AllocError}
 use Rattle.domain_core.specs.Domain.{Domain, Range, Has}
 use Rattle.domain_core.specs.Narrowing.{Keeps}
@@ -28,6 +28,16 @@ domain_at domains cell = slice_index_or domains cell (Range (pos 0) (pos 0))
 abbrev pub IsPlace : Celled → ℕ → List Domain → Type 0
 IsPlace celled place domains =
     (newer older : List (List Domain)) × ((celled.past ≡ newer ++ domains ∷ older) × (length older ≡ place))
+
+-- one cell was written, or a cell was added behind the others
+abbrev pub StepsFrom : List Domain → Option ℕ → List Domain → Type 0
+StepsFrom before (Some cell) after = (left : Domain) × ((cell < length before) × (after ≡ slice_set before cell left))
+StepsFrom before None after = (added : Domain) × (after ≡ before ++ added ∷ [])
+
+-- the step from this place to the next one wrote this cell alone, which is there still, or added one
+pub record IsStep (step : ℕ) (celled : Celled) (written : Option ℕ) : Type 0 where
+  pub there : IfSome written (λ cell. cell < length (present celled))
+  pub led : (before after : List Domain) → IsPlace celled step before → IsPlace celled (step + 1) after → StepsFrom before written after
 
 -- one more write, where a counter stays at its type's end
 abbrev pub stamped : ℕ → ℕ

@@ -1,7 +1,7 @@
 //! Cells with a trail.
 
 ghost use Rattle.std.specs.Prelude.{◌≡◌, ◌+◌, ◌<◌, [], ◌∷◌, length, option_copied, slice_get, IfOk, OnErr};
-ghost use Rattle.cell_store.specs.Cells.{present, IsPlace, AddsCell, NarrowsCell, GoesBack};
+ghost use Rattle.cell_store.specs.Cells.{present, IsPlace, IsStep, AddsCell, NarrowsCell, GoesBack};
 
 use super::trail::{Cell, Entry, go_back, meet_and_save, meet_at};
 use domain_core::Change;
@@ -20,6 +20,15 @@ pub struct Cells {
 #[derive(Clone, Copy)]
 pub struct Mark {
     place: usize,
+}
+
+impl Mark {
+    /// How many steps of the trail led to the mark.
+    pub fn steps(self) -> usize
+        ensures { result ≡ self }
+    {
+        self.place
+    }
 }
 
 impl Model for Mark {
@@ -88,6 +97,25 @@ impl Cells {
         match self.cells.get(cell) {
             Some(found) => Some(found.stamp),
             None => None,
+        }
+    }
+
+    /// How many cells there are.
+    pub fn len(&self) -> usize
+        ensures { result ≡ length (present self.now) }
+    {
+        self.cells.len()
+    }
+
+    /// The cell that a step of the trail wrote. None where the step added a cell. Steps count from the first one on,
+    /// and those from a mark's number on came after it.
+    pub fn written(&self, step: usize) -> Option<usize>
+        requires { step + 1 < length self.now.past }
+        ensures { IsStep step self.now result }
+    {
+        match &self.trail[step] {
+            Entry::Added => None,
+            Entry::Narrowed { cell, .. } => Some(*cell),
         }
     }
 

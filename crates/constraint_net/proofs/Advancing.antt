@@ -47,6 +47,11 @@ advanced fits old new Same are p = subst (λ s. Advances fits old s) (sym p.0) (
 advanced fits old new Smaller are p = p.0
 advanced fits old new Empty are p = p.0
 
+-- there are as many domains after it
+pub steps_length : (fits : List Domain → Type 0) (old new : List Domain) (result : Result Change AllocError) → All IsDomain old → StepsTo fits old result new → length new ≡ length old
+steps_length fits old new (Ok change) are p = within_length new old (advanced fits old new change are p).within
+steps_length fits old new (Err none) are p = within_length new old p.within
+
 -- where memory has run out before anything was done
 pub not_begun : (fits : List Domain → Type 0) (domains : List Domain) (result : Result Change AllocError) → IsErr result → All IsDomain domains → StepsTo fits domains result domains
 not_begun fits domains (Ok change) failed are = absurd (cc failed)

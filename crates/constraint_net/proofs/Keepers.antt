@@ -1,7 +1,7 @@
 -- What a network keeps stays so, and what its calls say of it.
 use Rattle.std.proofs.Common.{◌≡◌, ℕ, ◌-◌, ◌<◌, ◌≤◌, ℤ, List, [], ◌∷◌, ◌++◌, length, take, get_or, pos, length-append, refl, sym, ap, ◌∙◌, subst, arith}
-use Rattle.std.specs.Prelude.{All, Vec, Result, Ok, Err}
-use Rattle.std.proofs.lemmas.List.{append-nil, length_push}
+use Rattle.std.specs.Prelude.{All, Vec, Option, Some, None, MatchOption, OnOk, OnErr, IsErr, Result, Ok, Err}
+use Rattle.std.proofs.lemmas.List.{append-nil, length_push, length-take}
 use Rattle.std.proofs.lemmas.List.Elements.{All-append, All-cons, All-nil, All-push, All-set}
 use Rattle.std.proofs.Math.Seq.{take-append_seam}
 use Rattle.std.specs.declared.alloc.AllocError.{AllocError}
@@ -15,12 +15,14 @@ use Rattle.cell_store.specs.Cells.{Celled, present, newest_of, domain_at, AddsCe
 use Rattle.model_core.specs.declared.item.Kind.{Kind}
 use Rattle.narrow_core.specs.Laws.{LieWithin}
 use Rattle.narrow_core.specs.declared.field.Field.{Field}
-use Rattle.constraint_net.specs.Calls.{AddsVar, Limits, GoesDown}
+use Rattle.constraint_net.specs.Agendas.{HasVariables, Grows, Enrols, AlertsAfter, LimitAlerts, Alerts, AlertsSince, Forgets}
+use Rattle.constraint_net.specs.Arguments.{IsArgument}
+use Rattle.constraint_net.specs.Calls.{AddsVar, Posts, Limits, GoesDown, Notes, TakesChanged}
 use Rattle.constraint_net.specs.Limits.{LimitsCell}
 use Rattle.constraint_net.specs.Marks.{IsMark, CanReturn, Returns}
 use Rattle.constraint_net.specs.Moves.{IsSound, Sinks}
 use Rattle.constraint_net.specs.Networks.{Network, CanPost, cells_of}
-use Rattle.constraint_net.specs.Passes.{WerePosted}
+use Rattle.constraint_net.specs.Waiting.{WerePosted, NameWithin, IsKeptAgenda}
 use Rattle.constraint_net.specs.Steps.{Advances, SettlesTo}
 use Rattle.constraint_net.specs.Kept.{older_of, network_of, IsKeptNet}
 use Rattle.constraint_net.specs.declared.constraint.NetArg.{NetArg}
@@ -30,8 +32,12 @@ use Rattle.constraint_net.specs.declared.network.Mark.{Mark}
 use Rattle.constraint_net.specs.declared.NetFault.{NetFault}
 use Rattle.constraint_net.specs.declared.NetFault.TheVariants.{Collapsed, Memory}
 use Rattle.constraint_net.proofs.Moving.{same_end, follows, sound_along, sinks_cell, limit_at}
-use Rattle.constraint_net.proofs.Passing.{still_posted}
-use Rattle.constraint_net.proofs.Within.{argument_along, set_within}
+use Rattle.constraint_net.specs.Queues.{Queued}
+use Rattle.constraint_net.specs.declared.agenda.Agenda.{Agenda}
+use Rattle.constraint_net.proofs.Turns.{still_posted, named}
+use Rattle.constraint_net.proofs.Alerting.{kept_on, notes_of}
+use Rattle.constraint_net.proofs.Enrolling.{kept_grown, kept_variable, kept_enrolled, kept_first, kept_forgetting, posted_tables, kept_tables, named_more}
+use Rattle.constraint_net.proofs.Within.{argument_along, set_within, within_length}
 
 -- ---- the value
 
@@ -39,7 +45,7 @@ pub past_is : (past : List (List Domain)) → 0 < length past → newest_of past
 past_is [] some = absurd (omega arith)
 past_is (domains ∷ past) some = refl
 
-pub celled_is : (domains : Domains) (tables : Vec Field Global) (constraints : Vec Constraint Global) → 0 < length domains.cells.past → cells_of (network_of domains tables constraints) ≡ domains.cells
+pub celled_is : (domains : Domains) (tables : Vec Field Global) (constraints : List Constraint) → 0 < length domains.cells.past → cells_of (network_of domains tables constraints) ≡ domains.cells
 celled_is domains tables constraints some = λ i. record { past = past_is domains.cells.past some i; stamps = domains.cells.stamps }
 
 pub sound_at : (cells : Celled) → IsSound 0 cells → IsSound (length cells.past - 1) cells
@@ -64,74 +70,162 @@ posted_more tables count more constraints le posted = λ k d below. can_more tab
 abbrev can_post : Domains → Vec Field Global → Constraint → Type 0
 can_post domains tables constraint = CanPost tables.items (length (present domains.cells)) constraint.kind constraint.args
 
-pub kept_posted : (net : Network) (domains : Domains) (tables : Vec Field Global) (old new : Vec Constraint Global) (kind : Kind) (asked args : List NetArg) → network_of domains tables old ≡ net → args ≡ asked
-    → IsKeptNet domains tables old → CanPost net.tables (length net.domains) kind asked → new.items ≡ old.items ++ record { kind = kind; args = args } ∷ [] → IsKeptNet domains tables new
-kept_posted net domains tables old new kind asked args view args_are kept can items =
-    let one : Constraint = record { kind = kind; args = args } in
-    let here : can_post domains tables one = subst (λ list. CanPost tables.items (length (present domains.cells)) kind list) (sym args_are)
-    (subst (λ (n : Network). CanPost n.tables (length n.domains) kind asked) (sym view) can) in
-    record {
-      posted = subst (λ list. All (can_post domains tables) list) (sym items)
-          (All-append (can_post domains tables) old.items (one ∷ []) kept.posted (All-cons (can_post domains tables) one [] here (All-nil (can_post domains tables))));
-      sound = kept.sound;
-    }
+-- ---- the agenda alone
+
+abbrev with_agenda : Domains → Agenda → Domains
+with_agenda domains agenda = record domains { agenda = agenda }
+
+module _ (net : Network) (domains : Domains) (tables : Vec Field Global) (constraints : List Constraint) (agenda : Agenda) (view : network_of domains tables constraints ≡ net) (kept : IsKeptNet domains tables constraints) where
+  pub kept_with : IsKeptAgenda tables.items constraints (present domains.cells) agenda → IsKeptNet (with_agenda domains agenda) tables constraints
+  kept_with agenda_kept = record { posted = kept.posted; sound = kept.sound; agenda = agenda_kept }
+
+  pub kept_enlarged : Grows domains.agenda agenda → IsKeptNet (with_agenda domains agenda) tables constraints
+  kept_enlarged grows = kept_with (kept_grown tables.items constraints (present domains.cells) domains.agenda agenda grows kept.agenda)
+
+  -- the list of what has changed is all that is seen of it
+  pub seen_with : (changed : List ℕ) → agenda.changed.items ≡ changed → network_of (with_agenda domains agenda) tables constraints ≡ record net { changed = changed }
+  seen_with changed is = (λ i. record {
+    domains = present domains.cells;
+    tables = tables.items;
+    constraints = constraints;
+    work = domains.work;
+    stamps = domains.cells.stamps;
+    older = older_of domains.cells.past;
+    changed = is i;
+  }) ∙ ap (λ (n : Network). record n { changed = changed }) view
+
+  pub seen_same : Grows domains.agenda agenda → network_of (with_agenda domains agenda) tables constraints ≡ net
+  seen_same grows = seen_with domains.agenda.changed.items grows.changed ∙ (λ i. record net { changed = (view i).changed })
+
+  pub kept_posted : (new : List Constraint) (kind : Kind) (args : List NetArg) → CanPost net.tables (length net.domains) kind args → Enrols (length constraints) args domains.agenda (Ok tt) agenda
+      → new ≡ constraints ++ record { kind = kind; args = args } ∷ [] → IsKeptNet (with_agenda domains agenda) tables new
+  kept_posted new kind args can enrols more =
+      let one : Constraint = record { kind = kind; args = args } in
+      let here : can_post domains tables one = subst (λ (n : Network). CanPost n.tables (length n.domains) kind args) (sym view) can in
+      subst (IsKeptNet (with_agenda domains agenda) tables) (sym more) (record {
+        posted = All-append (can_post domains tables) constraints (one ∷ []) kept.posted (All-cons (can_post domains tables) one [] here (All-nil (can_post domains tables)));
+        sound = kept.sound;
+        agenda = kept_enrolled tables.items constraints (present domains.cells) kind args domains.agenda agenda enrols kept.agenda;
+      })
+
+  pub posts_seen : (new : List Constraint) (kind : Kind) (args : List NetArg) → Grows domains.agenda agenda → new ≡ constraints ++ record { kind = kind; args = args } ∷ []
+      → Posts net kind args (Ok tt) (network_of (with_agenda domains agenda) tables new)
+  posts_seen new kind args grows more =
+      let one : Constraint = record { kind = kind; args = args } in
+      (λ i. record (network_of (with_agenda domains agenda) tables constraints) { constraints = more i })
+      ∙ ap (λ (n : Network). record n { constraints = n.constraints ++ one ∷ [] }) (seen_same grows)
+
+  -- the constraint was put behind the others, or there was no memory for it
+  pub posts_net : (new : List Constraint) (kind : Kind) (args : List NetArg) (result : Result (Unit {0}) AllocError) (number : ℕ) → number ≡ length constraints → CanPost net.tables (length net.domains) kind args
+      → Enrols number args domains.agenda (Ok tt) agenda → OnOk result (new ≡ constraints ++ record { kind = kind; args = args } ∷ []) → OnErr result (new ≡ constraints)
+      → IsKeptNet (with_agenda domains agenda) tables new × Posts net kind args result (network_of (with_agenda domains agenda) tables new)
+  posts_net new kind args (Ok done) number at can enrols ok err = (
+    kept_posted new kind args can (subst (λ n. Enrols n args domains.agenda (Ok tt) agenda) at enrols) ok,
+    posts_seen new kind args enrols.grows ok,
+  )
+  posts_net new kind args (Err none) number at can enrols ok err = (
+    subst (IsKeptNet (with_agenda domains agenda) tables) (sym err) (kept_enlarged enrols.grows),
+    ap (network_of (with_agenda domains agenda) tables) err ∙ seen_same enrols.grows,
+  )
+
+  -- the variable that had changed first was taken off
+  pub asks_net : (result : Option ℕ) (left : Queued) → agenda ≡ record domains.agenda { changed = left }
+      → MatchOption result ((domains.agenda.changed.items ≡ []) × (left ≡ domains.agenda.changed)) (λ variable. domains.agenda.changed.items ≡ variable ∷ left.items)
+      → TakesChanged net result (network_of (with_agenda domains agenda) tables constraints)
+  asks_net (Some variable) left is took = (
+    left.items,
+    (ap (λ (n : Network). n.changed) (sym view) ∙ took, seen_with left.items (ap (λ (a : Agenda). a.changed.items) is)),
+  )
+  asks_net None left is took = (
+    ap (λ (n : Network). n.changed) (sym view) ∙ took.0,
+    seen_with domains.agenda.changed.items (ap (λ (a : Agenda). a.changed.items) is ∙ ap (λ (q : Queued). q.items) took.1) ∙ (λ i. record net { changed = (view i).changed }),
+  )
+
+-- where there was no memory for it
+pub not_posted : (old new : Network) (kind : Kind) (args : List NetArg) (result : Result (Unit {0}) AllocError) → IsErr result → new ≡ old → Posts old kind args result new
+not_posted old new kind args (Ok done) failed same = absurd (cc failed)
+not_posted old new kind args (Err none) failed same = same
+
+-- the variables among the arguments have their lists
+pub args_within : (net : Network) (domains : Domains) (tables : Vec Field Global) (constraints : List Constraint) → network_of domains tables constraints ≡ net → IsKeptNet domains tables constraints
+    → (args : List NetArg) → All (IsArgument (length net.domains)) args → All (IsArgument (length domains.agenda.watchers)) args
+args_within net domains tables constraints view kept args are =
+    let long : length (present domains.cells) ≡ length net.domains = ap (λ (n : Network). length n.domains) view in
+    (λ k d below. argument_along (length net.domains) (length domains.agenda.watchers) (get_or args k d) (omega (arith, long, kept.agenda.variables.watchers)) (are k d below))
+
+-- a table more
+pub kept_with_table : (domains : Domains) (old new : Vec Field Global) (constraints : List Constraint) (table : Field) → new.items ≡ old.items ++ table ∷ [] → IsKeptNet domains old constraints → IsKeptNet domains new constraints
+kept_with_table domains old new constraints table more kept = record {
+  posted = subst (λ list. WerePosted list (length (present domains.cells)) constraints) (sym more) (posted_tables old.items (table ∷ []) (length (present domains.cells)) constraints kept.posted);
+  sound = kept.sound;
+  agenda = subst (λ list. IsKeptAgenda list constraints (present domains.cells) domains.agenda) (sym more)
+      (kept_tables old.items (table ∷ []) constraints (present domains.cells) domains.agenda kept.posted kept.agenda);
+}
 
 -- ---- variables
 
-kept_added : (old new : Domains) (tables : Vec Field Global) (constraints : Vec Constraint Global) (domain : Domain) → IsDomain domain → IsKeptNet old tables constraints
+kept_added : (old new : Domains) (tables : Vec Field Global) (constraints : List Constraint) (domain : Domain) → IsDomain domain → IsKeptNet old tables constraints → Grows old.agenda new.agenda → HasVariables (length (present new.cells)) new.agenda
     → new.cells.past ≡ (present old.cells ++ domain ∷ []) ∷ old.cells.past → new.cells.stamps ≡ old.cells.stamps ++ 0 ∷ [] → IsKeptNet new tables constraints
-kept_added old new tables constraints domain is kept past stamps =
+kept_added old new tables constraints domain is kept grows ready past stamps =
     let more : present new.cells ≡ present old.cells ++ domain ∷ [] = ap newest_of past in
     let long = ap length more ∙ length_push (present old.cells) domain in
     record {
-      posted = posted_more tables.items (length (present old.cells)) (length (present new.cells)) constraints.items (omega (arith, long)) kept.posted;
+      posted = posted_more tables.items (length (present old.cells)) (length (present new.cells)) constraints (omega (arith, long)) kept.posted;
       sound = record {
         place = omega (arith, ap length past);
         are = subst (All IsDomain) (sym more) (All-push IsDomain (present old.cells) domain kept.sound.are is);
         stamps = omega (arith, ap length stamps, length_push old.cells.stamps 0, long, kept.sound.stamps);
       };
+      agenda = subst (λ domains. IsKeptAgenda tables.items constraints domains new.agenda) (sym more)
+          (kept_variable tables.items constraints (present old.cells) domain new.agenda (named tables.items (length (present old.cells)) constraints kept.posted) (subst (λ domains. HasVariables (length domains) new.agenda) more ready)
+          (kept_grown tables.items constraints (present old.cells) old.agenda new.agenda grows kept.agenda));
     }
 
-pub added : (net : Network) (old new : Domains) (tables : Vec Field Global) (constraints : Vec Constraint Global) (domain : Domain) (result : Result ℕ AllocError) → network_of old tables constraints ≡ net
-    → IsDomain domain → IsKeptNet old tables constraints → new.work ≡ old.work → AddsCell domain old.cells result new.cells
+pub added : (net : Network) (old new : Domains) (tables : Vec Field Global) (constraints : List Constraint) (domain : Domain) (result : Result ℕ AllocError) → network_of old tables constraints ≡ net
+    → IsDomain domain → IsKeptNet old tables constraints → Grows old.agenda new.agenda → HasVariables (length (present new.cells)) new.agenda → new.work ≡ old.work → AddsCell domain old.cells result new.cells
     → IsKeptNet new tables constraints × AddsVar domain net result (network_of new tables constraints)
-added net old new tables constraints domain (Ok number) view is kept work adds = (
-  kept_added old new tables constraints domain is kept adds.1.0 adds.1.1,
+added net old new tables constraints domain (Ok number) view is kept grows ready work adds = (
+  kept_added old new tables constraints domain is kept grows ready adds.1.0 adds.1.1,
   subst (λ n. AddsVar domain n (Ok number) (network_of new tables constraints)) view (
     adds.0,
     λ i. record {
       domains = newest_of (adds.1.0 i);
       tables = tables.items;
-      constraints = constraints.items;
+      constraints = constraints;
       work = work i;
       stamps = adds.1.1 i;
       older = (ap older_of adds.1.0 ∙ sym (past_is old.cells.past kept.sound.place)) i;
+      changed = grows.changed i;
     },
   ),
 )
-added net old new tables constraints domain (Err none) view is kept work same = (
+added net old new tables constraints domain (Err none) view is kept grows ready work same = (
   record {
-    posted = subst (λ (cells : Celled). WerePosted tables.items (length (present cells)) constraints.items) (sym same) kept.posted;
+    posted = subst (λ (cells : Celled). WerePosted tables.items (length (present cells)) constraints) (sym same) kept.posted;
     sound = subst (IsSound 0) (sym same) kept.sound;
+    agenda = subst (λ (cells : Celled). IsKeptAgenda tables.items constraints (present cells) new.agenda) (sym same)
+        (kept_grown tables.items constraints (present old.cells) old.agenda new.agenda grows kept.agenda);
   },
-  unchanged old new tables constraints same work ∙ view,
+  unchanged old new tables constraints same work grows.changed ∙ view,
 )
   where
-    unchanged : (old new : Domains) (tables : Vec Field Global) (constraints : Vec Constraint Global) → new.cells ≡ old.cells → new.work ≡ old.work → network_of new tables constraints ≡ network_of old tables constraints
-    unchanged old new tables constraints same work = λ i. record {
+    unchanged : (old new : Domains) (tables : Vec Field Global) (constraints : List Constraint) → new.cells ≡ old.cells → new.work ≡ old.work → new.agenda.changed.items ≡ old.agenda.changed.items
+        → network_of new tables constraints ≡ network_of old tables constraints
+    unchanged old new tables constraints same work changed = λ i. record {
       domains = present (same i);
       tables = tables.items;
-      constraints = constraints.items;
+      constraints = constraints;
       work = work i;
       stamps = (same i).stamps;
       older = older_of (same i).past;
+      changed = changed i;
     }
 
 -- ---- domains that get smaller
 
-pub goes_down : (old new : Domains) (tables : Vec Field Global) (constraints : Vec Constraint Global) → IsSound 0 old.cells → 0 < length new.cells.past → Sinks (length old.cells.past - 1) old.cells new.cells
-    → GoesDown (network_of old tables constraints) (network_of new tables constraints)
-goes_down old new tables constraints sound some sinks =
+pub goes_down : (old new : Domains) (tables : Vec Field Global) (constraints : List Constraint) → IsSound 0 old.cells → 0 < length new.cells.past → Sinks (length old.cells.past - 1) old.cells new.cells
+    → Notes (present old.cells) (present new.cells) old.agenda.changed.items new.agenda.changed.items → GoesDown (network_of old tables constraints) (network_of new tables constraints)
+goes_down old new tables constraints sound some sinks notes =
     let past = sinks.past in
     let kept : old.cells.past ≡ past.2 = same_end [] past.0 old.cells.past past.2 past.3.0 (omega (arith, sound.place, past.3.1.1)) in
     record {
@@ -140,13 +234,15 @@ goes_down old new tables constraints sound some sinks =
       past = (past.1, past_is new.cells.past some ∙ past.3.1.0 ∙ ap (λ list. past.1 ++ list) (sym kept ∙ sym (past_is old.cells.past sound.place)));
       stamps = sinks.stamps;
       follow = λ cell below. follows (domain_at (present old.cells) cell) (domain_at (present new.cells) cell) (get_or old.cells.stamps cell 0) (get_or new.cells.stamps cell 0) (sinks.follow cell);
+      notes = notes;
     }
 
-kept_down : (old new : Domains) (tables : Vec Field Global) (constraints : Vec Constraint Global) → IsKeptNet old tables constraints → LieWithin (present new.cells) (present old.cells) → All IsDomain (present new.cells)
-    → Sinks (length old.cells.past - 1) old.cells new.cells → IsKeptNet new tables constraints
-kept_down old new tables constraints kept within are sinks = record {
-  posted = still_posted tables.items constraints.items (present old.cells) (present new.cells) within kept.posted;
+kept_down : (old new : Domains) (tables : Vec Field Global) (constraints : List Constraint) → IsKeptNet old tables constraints → LieWithin (present new.cells) (present old.cells) → All IsDomain (present new.cells)
+    → Sinks (length old.cells.past - 1) old.cells new.cells → IsKeptAgenda tables.items constraints (present new.cells) new.agenda → IsKeptNet new tables constraints
+kept_down old new tables constraints kept within are sinks agenda = record {
+  posted = still_posted tables.items constraints (present old.cells) (present new.cells) within kept.posted;
   sound = sound_first (length old.cells.past - 1) new.cells (sound_along (length old.cells.past - 1) old.cells new.cells (sound_at old.cells kept.sound) sinks within are);
+  agenda = agenda;
 }
 
 -- settling leaves domains within the old ones, whatever it answers
@@ -155,16 +251,16 @@ went fits old new (Ok done) settles = settles.0
 went fits old new (Err Collapsed) settles = settles.0
 went fits old new (Err Memory) settles = settles
 
-pub kept_settled : (fits : List Domain → Type 0) (old new : Domains) (tables : Vec Field Global) (constraints : Vec Constraint Global) (result : Result (Unit {0}) NetFault)
-    → SettlesTo fits (present old.cells) result (present new.cells) → Sinks (length old.cells.past - 1) old.cells new.cells → IsKeptNet old tables constraints → IsKeptNet new tables constraints
-kept_settled fits old new tables constraints result settles sinks kept =
+pub kept_settled : (fits : List Domain → Type 0) (old new : Domains) (tables : Vec Field Global) (constraints : List Constraint) (result : Result (Unit {0}) NetFault)
+    → SettlesTo fits (present old.cells) result (present new.cells) → Sinks (length old.cells.past - 1) old.cells new.cells → IsKeptAgenda tables.items constraints (present new.cells) new.agenda → IsKeptNet old tables constraints → IsKeptNet new tables constraints
+kept_settled fits old new tables constraints result settles sinks agenda kept =
     let down = went fits (present old.cells) (present new.cells) result settles in
-    kept_down old new tables constraints kept down.within down.are sinks
+    kept_down old new tables constraints kept down.within down.are sinks agenda
 
-pub settled_down : (net : Network) (old new : Domains) (tables : Vec Field Global) (constraints : Vec Constraint Global) → network_of old tables constraints ≡ net → IsKeptNet old tables constraints → IsKeptNet new tables constraints
-    → Sinks (length old.cells.past - 1) old.cells new.cells → GoesDown net (network_of new tables constraints)
-settled_down net old new tables constraints view kept after sinks =
-    subst (λ n. GoesDown n (network_of new tables constraints)) view (goes_down old new tables constraints kept.sound after.sound.place sinks)
+pub settled_down : (net : Network) (old new : Domains) (tables : Vec Field Global) (constraints : List Constraint) → network_of old tables constraints ≡ net → IsKeptNet old tables constraints → IsKeptNet new tables constraints
+    → Sinks (length old.cells.past - 1) old.cells new.cells → Notes (present old.cells) (present new.cells) old.agenda.changed.items new.agenda.changed.items → GoesDown net (network_of new tables constraints)
+settled_down net old new tables constraints view kept after sinks notes =
+    subst (λ n. GoesDown n (network_of new tables constraints)) view (goes_down old new tables constraints kept.sound after.sound.place sinks notes)
 
 -- ---- one variable that is limited
 
@@ -173,65 +269,74 @@ keeps_within passes old new Same kept = subst (λ d. IsWithin d old) (sym kept.0
 keeps_within passes old new Smaller kept = kept.0.within
 keeps_within passes old new Empty kept = subst (λ d. IsWithin d old) (sym kept.0) (IsWithin-refl old)
 
-module _ (old new : Domains) (tables : Vec Field Global) (constraints : Vec Constraint Global) (variable : ℕ) (to : Domain) (kept : IsKeptNet old tables constraints) (exists : variable < length (present old.cells)) (work : new.work ≡ old.work) where
+module _ (old new : Domains) (tables : Vec Field Global) (constraints : List Constraint) (variable : ℕ) (to : Domain) (kept : IsKeptNet old tables constraints) (exists : variable < length (present old.cells)) (work : new.work ≡ old.work)
+    (alerts : Alerts (present old.cells) (present new.cells) old.agenda new.agenda) where
   abbrev since : ℕ
   since = length old.cells.past - 1
 
-  unmoved : new.cells ≡ old.cells → network_of new tables constraints ≡ network_of old tables constraints
-  unmoved same = λ i. record {
+  unmoved : new.cells ≡ old.cells → new.agenda ≡ old.agenda → network_of new tables constraints ≡ network_of old tables constraints
+  unmoved same agenda = λ i. record {
     domains = present (same i);
     tables = tables.items;
-    constraints = constraints.items;
+    constraints = constraints;
     work = work i;
     stamps = (same i).stamps;
     older = older_of (same i).past;
+    changed = (agenda i).changed.items;
   }
 
-  kept_same : new.cells ≡ old.cells → IsKeptNet new tables constraints
-  kept_same same = record {
-    posted = subst (λ (cells : Celled). WerePosted tables.items (length (present cells)) constraints.items) (sym same) kept.posted;
+  kept_same : new.cells ≡ old.cells → new.agenda ≡ old.agenda → IsKeptNet new tables constraints
+  kept_same same agenda = record {
+    posted = subst (λ (cells : Celled). WerePosted tables.items (length (present cells)) constraints) (sym same) kept.posted;
     sound = subst (IsSound 0) (sym same) kept.sound;
+    agenda = subst (λ (cells : Celled). IsKeptAgenda tables.items constraints (present cells) new.agenda) (sym same)
+        (subst (IsKeptAgenda tables.items constraints (present old.cells)) (sym agenda) kept.agenda);
   }
 
-  stays_where : (change : Change) → change ≡ Empty → LimitsCell variable to since old.cells (Ok change) new.cells → network_of new tables constraints ≡ network_of old tables constraints
-  stays_where Same empty limits = absurd (cc)
-  stays_where Smaller empty limits = absurd (cc)
-  stays_where Empty empty limits = unmoved limits.narrows.0
+  stays_where : (change : Change) → change ≡ Empty → LimitsCell variable to since old.cells (Ok change) new.cells → AlertsAfter change variable old.agenda new.agenda → network_of new tables constraints ≡ network_of old tables constraints
+  stays_where Same empty limits agenda = absurd (cc)
+  stays_where Smaller empty limits agenda = absurd (cc)
+  stays_where Empty empty limits agenda = unmoved limits.narrows.0 agenda
 
-  pub limits_net : (result : Result Change AllocError) → LimitsCell variable to since old.cells result new.cells
+  pub limits_net : (result : Result Change AllocError) → LimitsCell variable to since old.cells result new.cells → LimitAlerts variable result old.agenda new.agenda
       → IsKeptNet new tables constraints × Limits (network_of old tables constraints) variable to result (network_of new tables constraints)
-  limits_net (Err none) limits = (kept_same limits.narrows, unmoved limits.narrows)
-  limits_net (Ok change) limits =
+  limits_net (Err none) limits agenda = (kept_same limits.narrows agenda, unmoved limits.narrows agenda)
+  limits_net (Ok change) limits agenda =
       let zero_alone = Range (pos 0) (pos 0) in
       let one = limit_at variable to since old.cells new.cells change kept.sound.are exists limits in
       let sinks = (sinks_cell variable to since old.cells new.cells (Ok change) (sound_at old.cells kept.sound) exists limits).sinks in
       let within = subst (λ list. LieWithin list (present old.cells)) (sym one.others)
       (set_within (present old.cells) variable one.left zero_alone exists (keeps_within _ (domain_at (present old.cells) variable) one.left change one.kept)) in
       let are = subst (All IsDomain) (sym one.others) (All-set IsDomain (present old.cells) variable one.left one.is kept.sound.are) in
-      let after = kept_down old new tables constraints kept within are sinks in
-      (after, (one, goes_down old new tables constraints kept.sound after.sound.place sinks, work, λ empty. stays_where change empty limits))
+      let same = within_length (present new.cells) (present old.cells) within in
+      let there = subst (λ count. NameWithin count constraints) (sym same) (named tables.items (length (present old.cells)) constraints kept.posted) in
+      let covered = kept_on tables.items constraints (present old.cells) (present new.cells) old.agenda new.agenda there (omega (arith, same)) alerts kept.agenda in
+      let after = kept_down old new tables constraints kept within are sinks covered in
+      let notes = notes_of (present old.cells) (present new.cells) old.agenda new.agenda (subst (λ count. HasVariables count old.agenda) (sym same) kept.agenda.variables) alerts in
+      (after, (one, goes_down old new tables constraints kept.sound after.sound.place sinks notes, work, λ empty. stays_where change empty limits agenda))
 
-pub limits_as : (net : Network) (old new : Domains) (tables : Vec Field Global) (constraints : Vec Constraint Global) (variable : ℕ) (to : Domain) (result : Result Change AllocError) → network_of old tables constraints ≡ net
+pub limits_as : (net : Network) (old new : Domains) (tables : Vec Field Global) (constraints : List Constraint) (variable : ℕ) (to : Domain) (result : Result Change AllocError) → network_of old tables constraints ≡ net
     → IsKeptNet old tables constraints → variable < length net.domains → new.work ≡ old.work → LimitsCell variable to (length old.cells.past - 1) old.cells result new.cells
+    → Alerts (present old.cells) (present new.cells) old.agenda new.agenda → LimitAlerts variable result old.agenda new.agenda
     → IsKeptNet new tables constraints × Limits net variable to result (network_of new tables constraints)
-limits_as net old new tables constraints variable to result view kept exists work limits =
-    let both = limits_net old new tables constraints variable to kept (subst (λ (n : Network). variable < length n.domains) (sym view) exists) work result limits in
+limits_as net old new tables constraints variable to result view kept exists work limits alerts agenda =
+    let both = limits_net old new tables constraints variable to kept (subst (λ (n : Network). variable < length n.domains) (sym view) exists) work alerts result limits agenda in
     (both.0, subst (λ n. Limits n variable to result (network_of new tables constraints)) view both.1)
 
 -- ---- marks
 
-pub mark_is : (net : Network) (domains : Domains) (tables : Vec Field Global) (constraints : Vec Constraint Global) (mark : Mark) → network_of domains tables constraints ≡ net → IsKeptNet domains tables constraints
-    → IsPlace domains.cells mark.cells (present domains.cells) → mark.constraints ≡ length constraints.items → IsMark net mark net.domains net.constraints
+pub mark_is : (net : Network) (domains : Domains) (tables : Vec Field Global) (constraints : List Constraint) (mark : Mark) → network_of domains tables constraints ≡ net → IsKeptNet domains tables constraints
+    → IsPlace domains.cells mark.cells (present domains.cells) → mark.constraints ≡ length constraints → IsMark net mark net.domains net.constraints
 mark_is net domains tables constraints mark view kept place count =
     subst (λ (n : Network). IsMark n mark n.domains n.constraints) view (record {
       place = subst (λ cells. IsPlace cells mark.cells (present domains.cells)) (sym (celled_is domains tables constraints kept.sound.place)) place;
-      first = ([], sym (append-nil constraints.items));
+      first = ([], sym (append-nil constraints));
       count = sym count;
       are = kept.sound.are;
       posted = kept.posted;
     })
 
-module _ (net : Network) (old new : Domains) (tables : Vec Field Global) (constraints left : Vec Constraint Global) (mark : Mark) (view : network_of old tables constraints ≡ net) (kept : IsKeptNet old tables constraints) (can : CanReturn net mark) where
+module _ (net : Network) (old new : Domains) (tables : Vec Field Global) (constraints left : List Constraint) (mark : Mark) (view : network_of old tables constraints ≡ net) (kept : IsKeptNet old tables constraints) (can : CanReturn net mark) where
   there : IsMark (network_of old tables constraints) mark can.0 can.1
   there = subst (λ n. IsMark n mark can.0 can.1) (sym view) can.2
 
@@ -241,17 +346,32 @@ module _ (net : Network) (old new : Domains) (tables : Vec Field Global) (constr
   pub can_go : mark.cells < length old.cells.past
   can_go = omega (arith, ap length place.2.0, length-append place.0 (can.0 ∷ place.1), place.2.1)
 
-  pub returns_to : GoesBack mark.cells old.cells new.cells → left.items ≡ take mark.constraints constraints.items → new.work ≡ old.work
+  -- the constraints' variables have their lists still
+  pub names_still : (between : Agenda) → AlertsSince mark.cells old.cells old.agenda between → NameWithin (length between.watchers) constraints
+  names_still between alerts =
+      named_more (length (present old.cells)) (length between.watchers) constraints (omega (arith, kept.agenda.variables.watchers, ap length (alerts can.0 place).alerts.stays.watchers))
+      (named tables.items (length (present old.cells)) constraints kept.posted)
+
+  pub returns_to : (between : Agenda) → GoesBack mark.cells old.cells new.cells → left ≡ take mark.constraints constraints → new.work ≡ old.work
+      → AlertsSince mark.cells old.cells old.agenda between → Forgets mark.constraints between new.agenda
       → IsKeptNet new tables left × Returns mark net (network_of new tables left)
-  returns_to goes taken work =
+  returns_to between goes taken work alerts forgets =
       let past : new.cells.past ≡ can.0 ∷ place.1 = same_end goes.newer place.0 new.cells.past (can.0 ∷ place.1) (sym goes.past ∙ place.2.0) (omega (arith, goes.count, place.2.1)) in
       let domains : present new.cells ≡ can.0 = ap newest_of past in
       let some : 0 < length new.cells.past = omega (arith, goes.count) in
-      let first : take mark.constraints constraints.items ≡ can.1 =
-      (λ i. take (sym there.count i) (there.first.1 i)) ∙ take-append_seam can.1 there.first.0 in (
+      let first : take mark.constraints constraints ≡ can.1 =
+      (λ i. take (sym there.count i) (there.first.1 i)) ∙ take-append_seam can.1 there.first.0 in
+      let posted : WerePosted tables.items (length can.0) left = subst (WerePosted tables.items (length can.0)) (sym (taken ∙ first)) there.posted in
+      let back = alerts can.0 place in
+      let firsts = subst (λ list. IsKeptAgenda tables.items list (present old.cells) old.agenda) (sym taken) (kept_first tables.items constraints (present old.cells) mark.constraints old.agenda kept.agenda) in
+      let covered = kept_on tables.items left (present old.cells) can.0 old.agenda between (named tables.items (length can.0) left posted) back.fewer back.alerts firsts in
+      let agenda = kept_forgetting tables.items left can.0 mark.constraints between new.agenda (omega (arith, ap length taken, length-take mark.constraints constraints)) forgets covered in
+      let has : HasVariables (length can.0) old.agenda = record { watchers = omega (arith, back.fewer, kept.agenda.variables.watchers); changed = omega (arith, back.fewer, kept.agenda.variables.changed) } in
+      let notes = notes_of (present old.cells) can.0 old.agenda between has back.alerts in (
         record {
-          posted = subst (λ list. WerePosted tables.items (length (present new.cells)) list) (sym (taken ∙ first)) (subst (λ list. WerePosted tables.items (length list) can.1) (sym domains) there.posted);
+          posted = subst (λ list. WerePosted tables.items (length list) left) (sym domains) posted;
           sound = record { place = some; are = subst (All IsDomain) (sym domains) there.are; stamps = goes.stamps };
+          agenda = subst (λ list. IsKeptAgenda tables.items left list new.agenda) (sym domains) agenda;
         },
         subst (λ n. Returns mark n (network_of new tables left)) view (record {
           cells = subst (λ cells. GoesBack mark.cells cells (cells_of (network_of new tables left))) (sym (celled_is old tables constraints kept.sound.place))
@@ -259,5 +379,7 @@ module _ (net : Network) (old new : Domains) (tables : Vec Field Global) (constr
           constraints = taken;
           tables = refl;
           work = work;
+          notes = subst (λ list. Notes (present old.cells) list old.agenda.changed.items new.agenda.changed.items) (sym domains)
+              (subst (λ (q : Queued). Notes (present old.cells) can.0 old.agenda.changed.items q.items) (sym forgets.changed) notes);
         }),
       )

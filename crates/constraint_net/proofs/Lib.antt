@@ -3,8 +3,13 @@ pub mod Advancing
 pub mod Keeping
 pub mod Moving
 pub mod Spreading
-pub mod Passing
+pub mod Queueing
+pub mod Turns
+pub mod Alerting
+pub mod Storing
+pub mod Enrolling
 pub mod Meaning
 pub mod Keepers
 pub mod Outcome
 pub mod Marking
+pub mod Watching

@@ -9,7 +9,7 @@ use Rattle.model_core.specs.declared.item.Kind.{Kind}
 use Rattle.constraint_net.specs.Calls.{AddsVar, Posts, Limits, GoesDown}
 use Rattle.constraint_net.specs.Marks.{IsMark, Returns}
 use Rattle.constraint_net.specs.Networks.{Network, cells_of}
-use Rattle.constraint_net.specs.Passes.{WerePosted}
+use Rattle.constraint_net.specs.Waiting.{WerePosted}
 use Rattle.constraint_net.specs.declared.constraint.Constraint.{Constraint}
 use Rattle.constraint_net.specs.declared.constraint.NetArg.{NetArg}
 use Rattle.constraint_net.specs.declared.network.Mark.{Mark}

@@ -8,7 +8,7 @@ use Rattle.narrow_core.proofs.Below.{AreDomains, are_domains}
 use Rattle.constraint_net.specs.Steps.{FitWithin, SettlesTo}
 use Rattle.constraint_net.specs.declared.NetFault.TheVariants.{Collapsed, Memory}
 use Rattle.constraint_net.specs.declared.NetFault.{NetFault}
-use Rattle.constraint_net.proofs.Passing.{goes_down, reached}
+use Rattle.constraint_net.proofs.Turns.{goes_down, reached}
 
 -- domains that lie in each other are the same
 within_both : (one other : List Domain) → AreDomains one → AreDomains other → LieWithin one other → LieWithin other one → one ≡ other

@@ -1,5 +1,5 @@
 -- What the calls of a network answer and leave.
-use Rattle.std.specs.Prelude.{◌≡◌, ℕ, ◌<◌, ℤ, ◌<ℤ◌, List, [], ◌∷◌, ◌++◌, length, map, slice_index_or, AllPairs, Result, Ok, Err}
+use Rattle.std.specs.Prelude.{◌≡◌, ℕ, ◌<◌, ℤ, ◌<ℤ◌, List, [], ◌∷◌, ◌++◌, length, map, slice_index_or, AllPairs, Contains, ◌⊎◌, Option, Some, None, Result, Ok, Err}
 use Rattle.std.specs.declared.alloc.AllocError.{AllocError}
 use Rattle.domain_core.specs.Domain.{Domain}
 use Rattle.domain_core.specs.declared.Change.{Change}
@@ -40,8 +40,20 @@ AddsVar domain old (Ok number) new =
     })
 AddsVar domain old (Err none) new = new ≡ old
 
--- domains have got less: tables and constraints are as before, the stamps follow the domains, and what could be gone
--- back to still can
+-- what was noted still is, and so is each variable that there is now and that has changed
+pub record Notes (old new : List Domain) (noted notes : List ℕ) : Type 0 where
+  pub kept : (variable : ℕ) → Contains noted variable → Contains notes variable
+  pub each : (variable : ℕ) → variable < length new
+      → (domain_at new variable ≡ domain_at old variable) ⊎ Contains notes variable
+
+-- the variable stood first among those that were noted, and is taken off; none did
+abbrev pub TakesChanged : Network → Option ℕ → Network → Type 0
+TakesChanged old (Some variable) new =
+    (others : List ℕ) × ((old.changed ≡ variable ∷ others) × (new ≡ record old { changed = others }))
+TakesChanged old None new = (old.changed ≡ []) × (new ≡ old)
+
+-- domains have got less: tables and constraints are as before, the stamps follow the domains, what has changed is
+-- noted, and what could be gone back to still can
 pub record GoesDown (old new : Network) : Type 0 where
   pub tables : new.tables ≡ old.tables
   pub constraints : new.constraints ≡ old.constraints
@@ -50,6 +62,7 @@ pub record GoesDown (old new : Network) : Type 0 where
   pub follow : (variable : ℕ) → variable < length old.domains
       → FollowsDomain (domain_at old.domains variable) (slice_index_or old.stamps variable 0)
       (domain_at new.domains variable) (slice_index_or new.stamps variable 0)
+  pub notes : Notes old.domains new.domains old.changed new.changed
 
 -- the variable keeps what the other domain has too; where that is nothing, and without memory, nothing changes
 abbrev pub Limits : Network → ℕ → Domain → Result Change AllocError → Network → Type 0

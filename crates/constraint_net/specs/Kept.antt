@@ -6,7 +6,7 @@ use Rattle.cell_store.specs.Cells.{present}
 use Rattle.narrow_core.specs.declared.field.Field.{Field}
 use Rattle.constraint_net.specs.Moves.{IsSound}
 use Rattle.constraint_net.specs.Networks.{Network}
-use Rattle.constraint_net.specs.Passes.{WerePosted}
+use Rattle.constraint_net.specs.Waiting.{WerePosted, IsKeptAgenda}
 use Rattle.constraint_net.specs.declared.constraint.Constraint.{Constraint}
 use Rattle.constraint_net.specs.declared.domains.Domains.{Domains}
 
@@ -16,19 +16,20 @@ older_of [] = []
 older_of (domains ∷ past) = past
 
 -- the network that is kept so
-abbrev pub network_of : Domains → Vec Field Global → Vec Constraint Global → Network
+abbrev pub network_of : Domains → Vec Field Global → List Constraint → Network
 network_of domains tables constraints =
     record {
       domains = present domains.cells;
       tables = tables.items;
-      constraints = constraints.items;
+      constraints = constraints;
       work = domains.work;
       stamps = domains.cells.stamps;
       older = older_of domains.cells.past;
+      changed = domains.agenda.changed.items;
     }
 
--- each constraint could be posted, and each variable has a domain and a stamp
-pub record IsKeptNet (domains : Domains) (tables : Vec Field Global)
-    (constraints : Vec Constraint Global) : Type 0 where
-  pub posted : WerePosted tables.items (length (present domains.cells)) constraints.items
+-- each constraint could be posted, each variable has a domain and a stamp, and who has to be looked at waits
+pub record IsKeptNet (domains : Domains) (tables : Vec Field Global) (constraints : List Constraint) : Type 0 where
+  pub posted : WerePosted tables.items (length (present domains.cells)) constraints
   pub sound : IsSound 0 domains.cells
+  pub agenda : IsKeptAgenda tables.items constraints (present domains.cells) domains.agenda

@@ -1,8 +1,11 @@
 pub mod Arguments
 pub mod Moves
 pub mod Steps
+pub mod Queues
+pub mod Agendas
 pub mod Networks
-pub mod Passes
+pub mod Waiting
+pub mod Stored
 pub mod Limits
 pub mod Calls
 pub mod Marks

@@ -2,8 +2,9 @@
 use Rattle.std.specs.Prelude.{◌≡◌, List, ◌++◌, length, All, take}
 use Rattle.domain_core.specs.Domain.{Domain, IsDomain}
 use Rattle.cell_store.specs.Cells.{IsPlace, GoesBack}
+use Rattle.constraint_net.specs.Calls.{Notes}
 use Rattle.constraint_net.specs.Networks.{Network, cells_of}
-use Rattle.constraint_net.specs.Passes.{WerePosted}
+use Rattle.constraint_net.specs.Waiting.{WerePosted}
 use Rattle.constraint_net.specs.declared.constraint.Constraint.{Constraint}
 use Rattle.constraint_net.specs.declared.network.Mark.{Mark}
 
@@ -25,10 +26,11 @@ KeepMarks old new =
     (mark : Mark) (domains : List Domain) (constraints : List Constraint)
     → IsMark old mark domains constraints → IsMark new mark domains constraints
 
--- the variables, their domains and the constraints at the mark are back, the stamps follow the domains, and nothing of
--- the work is taken back
+-- the variables, their domains and the constraints at the mark are back, the stamps follow the domains, what has
+-- changed is noted, and nothing of the work is taken back
 pub record Returns (mark : Mark) (old new : Network) : Type 0 where
   pub cells : GoesBack mark.cells (cells_of old) (cells_of new)
   pub constraints : new.constraints ≡ take mark.constraints old.constraints
   pub tables : new.tables ≡ old.tables
   pub work : new.work ≡ old.work
+  pub notes : Notes old.domains new.domains old.changed new.changed

@@ -5,6 +5,7 @@ ghost use Rattle.model_core.specs.Consistency.{Ends};
 ghost use Rattle.model_core.specs.Constraints.{HoldsOf};
 ghost use Rattle.model_core.specs.declared.item.Kind.TheVariants as kind;
 ghost use Rattle.cell_store.specs.Cells.{present};
+ghost use Rattle.constraint_net.specs.Agendas.{HasVariables, Alerts, TellsOfLoss};
 ghost use Rattle.constraint_net.specs.Arguments.{IsArgument, AgreeAt};
 ghost use Rattle.constraint_net.specs.Moves.{IsSound, SinksAt};
 ghost use Rattle.constraint_net.specs.Networks.{IsConsistent, HasFactor, CanPost};
@@ -32,9 +33,14 @@ pub fn narrow_constraint(
 ) -> Result<Change, AllocError>
     requires posted { CanPost tables.now (length (present domains.old.cells)) constraint.now.kind constraint.now.args }
     requires sound { IsSound since domains.old.cells }
+    requires ready { HasVariables (length (present domains.old.cells)) domains.old.agenda }
     ensures steps { StepsTo (IsConsistent tables.now constraint.now)
         (present domains.old.cells) result (present domains.new.cells) }
     ensures sinks { SinksAt constraint.now.args since domains.old.cells domains.new.cells }
+    ensures alerts { Alerts (present domains.old.cells) (present domains.new.cells)
+        domains.old.agenda domains.new.agenda }
+    ensures told_of_loss { TellsOfLoss (present domains.old.cells) (present domains.new.cells)
+        domains.old.agenda domains.new.agenda }
     ensures counted { domains.old.work ≤ domains.new.work }
 {
     let args = constraint.args.as_slice();
@@ -57,9 +63,14 @@ fn narrow_product(args: &[NetArg], domains: &mut Domains, since: Mark) -> Result
     requires arguments { All (IsArgument (length (present domains.old.cells))) args.now }
     requires factor { HasFactor args.now }
     requires sound { IsSound since domains.old.cells }
+    requires ready { HasVariables (length (present domains.old.cells)) domains.old.agenda }
     ensures steps { StepsTo (AgreeAt Ends (HoldsOf kind.MulEq) args.now)
         (present domains.old.cells) result (present domains.new.cells) }
     ensures sinks { SinksAt args.now since domains.old.cells domains.new.cells }
+    ensures alerts { Alerts (present domains.old.cells) (present domains.new.cells)
+        domains.old.agenda domains.new.agenda }
+    ensures told_of_loss { TellsOfLoss (present domains.old.cells) (present domains.new.cells)
+        domains.old.agenda domains.new.agenda }
     ensures counted { domains.old.work ≤ domains.new.work }
 {
     match args {
@@ -79,9 +90,14 @@ fn narrow_by_factor(
     requires arguments { All (IsArgument (length (present domains.old.cells))) (x ∷ factor ∷ z ∷ []) }
     requires factor { HasFactor (x ∷ factor ∷ z ∷ []) }
     requires sound { IsSound since domains.old.cells }
+    requires ready { HasVariables (length (present domains.old.cells)) domains.old.agenda }
     ensures steps { StepsTo (AgreeAt Ends (HoldsOf kind.MulEq) (x ∷ factor ∷ z ∷ []))
         (present domains.old.cells) result (present domains.new.cells) }
     ensures sinks { SinksAt (x ∷ factor ∷ z ∷ []) since domains.old.cells domains.new.cells }
+    ensures alerts { Alerts (present domains.old.cells) (present domains.new.cells)
+        domains.old.agenda domains.new.agenda }
+    ensures told_of_loss { TellsOfLoss (present domains.old.cells) (present domains.new.cells)
+        domains.old.agenda domains.new.agenda }
     ensures counted { domains.old.work ≤ domains.new.work }
 {
     match factor {

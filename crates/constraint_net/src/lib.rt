@@ -2,16 +2,21 @@
 //! consistent.
 //!
 //! `let x = net.add_var(domain)?` adds a variable, and `net.post(Kind::Leq, &[NetArg::Var(x), NetArg::Lit(5)])?` a
-//! constraint on it. After `net.settle_all()?` its domain is `net.get(x)`. With `let mark = net.mark()` before, the call
-//! `net.back_to(mark)` brings back what was there, and `net.stamp(x)` tells how often the domain was written.
+//! constraint on it. After `net.settle_all()?` its domain is `net.get(x)`. With `let mark = net.mark()` before, the
+//! call `net.back_to(mark)` brings back what was there, `net.stamp(x)` tells how often the domain was written, and
+//! `net.next_changed()` which variables have changed.
 #![tactic(auto)]
 
+mod agenda;
 pub mod constraint;
 mod domains;
 mod kinds;
 pub mod laws;
 pub mod network;
-mod rounds;
+mod posted;
+mod queue;
+mod settling;
+mod watchers;
 
 pub use constraint::NetArg;
 pub use network::{Mark, Net};

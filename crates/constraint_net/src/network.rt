@@ -1,17 +1,23 @@
 //! Networks.
 
-ghost use Rattle.std.specs.Prelude.{◌≡◌, ◌^◌, ◌<◌, ◌≤◌, [], ◌∷◌, ◌++◌, All, length, OnErr, IfOk, MatchOption, Some};
+ghost use Rattle.std.specs.Prelude.{◌≡◌, ◌^◌, ◌<◌, ◌≤◌, [], ◌∷◌, ◌++◌, All, length, take};
+ghost use Rattle.std.specs.Prelude.{OnErr, IfOk, MatchOption, Some};
 ghost use Rattle.std.specs.Prelude.{slice_get};
 ghost use Rattle.domain_core.specs.Domain.{IsDomain};
 ghost use Rattle.constraint_net.specs.Networks.{CanPost, AllConsistent};
 ghost use Rattle.constraint_net.specs.Steps.{SettlesTo};
-ghost use Rattle.constraint_net.specs.Calls.{IsAscending, given_by, table_of, AddsVar, Limits, Posts, GoesDown};
+ghost use Rattle.constraint_net.specs.Calls.{IsAscending, given_by, table_of, AddsVar, Limits, Posts};
+ghost use Rattle.constraint_net.specs.Calls.{GoesDown, TakesChanged};
+ghost use Rattle.constraint_net.specs.Agendas.{Forgets};
+ghost use Rattle.constraint_net.specs.Waiting.{NameWithin};
 ghost use Rattle.constraint_net.specs.Marks.{IsMark, CanReturn, Returns};
 
 use super::NetFault;
-use super::constraint::{Constraint, NetArg};
+use super::agenda::Agenda;
+use super::constraint::NetArg;
 use super::domains::Domains;
-use super::rounds::settle;
+use super::posted::Posted;
+use super::settling::settle;
 use cell_store::Mark as CellMark;
 use domain_core::Change;
 use domain_core::domain::Dom;
@@ -26,7 +32,7 @@ use std::marker::Model;
 pub struct Net {
     domains: Domains,
     tables: Vec<Field>,
-    constraints: Vec<Constraint>,
+    constraints: Posted,
 }
 
 /// A point to which a network can go back, as long as it hasn't gone back to one before it.
@@ -50,12 +56,20 @@ impl Model for Net {
 impl Net {
     /// A network without variables, which takes no memory.
     pub fn new(alloc: Global) -> Net
-        ensures { result ≡ record { domains = []; tables = []; constraints = []; work = 0; stamps = []; older = [] } }
+        ensures { result ≡ record {
+          domains = [];
+          tables = [];
+          constraints = [];
+          work = 0;
+          stamps = [];
+          older = [];
+          changed = [];
+        } }
     {
         Net {
             domains: Domains::new(alloc),
             tables: Vec::new(alloc),
-            constraints: Vec::new(alloc),
+            constraints: Posted::new(alloc),
         }
     }
 
@@ -86,12 +100,8 @@ impl Net {
         requires { CanPost self.old.tables (length self.old.domains) kind args.now }
         ensures { Posts self.old kind args.now result self.new }
     {
-        let args = Vec::from_slice(*self.constraints.allocator(), args)?;
-        self.constraints.push(Constraint {
-            kind,
-            args: Sequence::from_vec(args),
-        })?;
-        Ok(())
+        self.domains.agenda.enrol(self.constraints.len(), args)?;
+        self.constraints.push(kind, args)
     }
 
     /// Keeps the values of the variable that the other domain has too.
@@ -129,11 +139,7 @@ impl Net {
         ensures others { GoesDown self.old self.new }
         ensures counted { self.old.work ≤ self.new.work }
     {
-        settle(
-            self.constraints.as_slice(),
-            self.tables.as_slice(),
-            &mut self.domains,
-        )
+        settle(&self.constraints, self.tables.as_slice(), &mut self.domains)
     }
 
     /// A mark at the network as it is.
@@ -151,8 +157,22 @@ impl Net {
         requires { CanReturn self.old mark }
         ensures { Returns mark self.old self.new }
     {
+        self.domains.alert_since(mark.cells);
+        forget(
+            &mut self.constraints,
+            &mut self.domains.agenda,
+            mark.constraints,
+        );
         self.domains.cells.back_to(mark.cells);
-        self.constraints.truncate(mark.constraints);
+    }
+
+    /// Takes the next variable off the list of those that have changed. That list has each variable whose domain was
+    /// written by `limit`, `settle_all` or `back_to` since it was last taken off, and perhaps others, also of numbers
+    /// that no variable has any more.
+    pub fn next_changed(&mut self) -> Option<usize>
+        ensures { TakesChanged self.old result self.new }
+    {
+        self.domains.agenda.changed.take()
     }
 
     /// How many narrowings the network has made. It stays at the greatest number, and nothing is taken back.
@@ -160,6 +180,19 @@ impl Net {
         ensures { result ≡ self.now.work }
     {
         self.domains.work
+    }
+}
+
+// Takes the constraints from the count on off, and tells none of them any more of its variables.
+fn forget(constraints: &mut Posted, agenda: &mut Agenda, count: usize)
+    requires { NameWithin (length agenda.old.watchers) constraints.old }
+    ensures taken { constraints.new ≡ take count constraints.old }
+    ensures forgets { Forgets count agenda.old agenda.new }
+{
+    while constraints.len() > count {
+        if let Some(last) = constraints.pop() {
+            agenda.forget(last.args.as_slice(), count);
+        }
     }
 }
 

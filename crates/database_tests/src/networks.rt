@@ -296,6 +296,30 @@ fn a_chain_goes_back_to_a_mark(rt: HostRuntime) {
     assert!(rt; back_run(rt.alloc(), (7, 9), (0, 1000)) == Some((visited, true)));
 }
 
+/// The first four variables on the list of those that have changed, after the first of a chain of three became less and
+/// the network settled.
+fn changed_run(alloc: Global) -> Option<[Option<usize>; 4]> {
+    let mut net = Net::new(alloc);
+    if !make_chain(&mut net, alloc, 3) || add(&mut net, alloc, Ends(0, 9)) != Some(3) {
+        return None;
+    }
+    if limit(&mut net, 0, 7, 9).is_none() || net.settle_all().is_err() {
+        return None;
+    }
+    Some([
+        net.next_changed(),
+        net.next_changed(),
+        net.next_changed(),
+        net.next_changed(),
+    ])
+}
+
+#[test]
+fn a_network_tells_what_has_changed(rt: HostRuntime) {
+    let changed = [Some(0), Some(1), Some(2), None];
+    assert!(rt; changed_run(rt.alloc()) == Some(changed));
+}
+
 #[test]
 fn a_collapsed_chain_settles_after_going_back(rt: HostRuntime) {
     let faults = [Some(NetFault::Collapsed), Some(NetFault::Collapsed)];

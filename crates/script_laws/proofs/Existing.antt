@@ -260,7 +260,7 @@ module _ (model : Model) (decisions : List Decision) (lawful : IsLawful model) (
     (posted : Posted (length bases.domains) model.problem.items) where
   -- the network of these domains
   abbrev net_at : List Domain → Network
-  net_at domains = record { domains = domains; tables = []; constraints = posted.constraints; work = 0; stamps = []; older = [] }
+  net_at domains = record { domains = domains; tables = []; constraints = posted.constraints; work = 0; stamps = []; older = []; changed = [] }
 
   abbrev net : Network
   net = net_at bases.domains
@@ -295,7 +295,7 @@ module _ (model : Model) (decisions : List Decision) (lawful : IsLawful model) (
 
 of_bases : (model : Model) (decisions : List Decision) → IsLawful model → IsBuilt model → (HasOrder decisions → ⊥) → Bases model.problem.globals → ((state : State) × IsLeast model decisions state) ⊎ IsCollapsed model decisions
 of_bases model decisions lawful built no_order bases =
-    let empty : Network = record { domains = bases.domains; tables = []; constraints = []; work = 0; stamps = []; older = [] } in
+    let empty : Network = record { domains = bases.domains; tables = []; constraints = []; work = 0; stamps = []; older = []; changed = [] } in
     without_order model decisions lawful built no_order bases (posted_all empty model.problem.items (items_postable model lawful empty built bases.long) built.constraints)
 
 -- whatever is decided, there is a least state, or no closed one

@@ -1,12 +1,14 @@
-use Rattle.std.proofs.Common.{◌<◌, length, get_or, arith}
+use Rattle.std.proofs.Common.{◌<◌, length, get_or, inr, refl, sym, subst, arith}
 use Rattle.std.proofs.lemmas.List.{length-map}
 use Rattle.std.proofs.lemmas.Option.{slice_get-get_or}
 use Rattle.cell_store.specs.Cells.{present}
 use Rattle.constraint_net.specs.Arguments.{domain_of, domains_of}
-use Rattle.constraint_net.specs.Steps.{FitBefore, LiesAt}
+use Rattle.constraint_net.specs.Steps.{FitBefore, LiesIn, LiesAt}
 use Rattle.constraint_net.specs.declared.constraint.NetArg.TheVariants as arg
 use Rattle.constraint_net.proofs.Within.{within_length, argument_along}
-use Rattle.constraint_net.proofs.Advancing.{advanced, stopped, none_yet}
+use Rattle.constraint_net.specs.Agendas.{HasVariables}
+use Rattle.constraint_net.proofs.Advancing.{advanced, stopped, none_yet, steps_length}
+use Rattle.constraint_net.proofs.Alerting.{alerts_refl, alerts_trans, loss_trans, has_still}
 use Rattle.constraint_net.proofs.Keeping.{read_at}
 use Rattle.constraint_net.proofs.Moving.{at_refl, at_trans, at_more, sound_along}
 use Rattle.constraint_net.proofs.Spreading.{kind_at, step_at, failed_at}
@@ -16,6 +18,8 @@ pub loop-place-init : goal.loop-place-init
 loop-place-init c = record {
   steps = none_yet (LiesAt c.args.args.now c.args.left.now) (present c.args.cells.now);
   sinks = at_refl c.args.args.now c.args.since c.args.cells.now c.requires.sound.place;
+  alerts = alerts_refl (present c.args.cells.now) c.args.agenda.now;
+  told_of_loss = inr (refl, refl);
 }
 
 pub keep_left-requires-clause-sound : goal.keep_left-requires-clause-sound
@@ -53,6 +57,10 @@ returns-in_err-keep_left c =
           c.requires.sound.are c.requires.within c.loop-place-test.true c.index-left-place.is c.from_residual.ensures.0 loop.invariant.steps c.in_err-keep_left.ensures.steps;
       sinks = at_trans args c.args.since c.args.cells.now loop.cells c.keep_left.new.cells loop.invariant.sinks
           (at_more args (get_or args loop.place (arg.Var 0)) c.args.since loop.cells c.keep_left.new.cells (loop.place, c.loop-place-test.true, read_at args loop.place (arg.Var 0) (get_or args loop.place (arg.Var 0)) c.loop-place-test.true) c.in_err-keep_left.ensures.sinks);
+      alerts = alerts_trans (present c.args.cells.now) (present loop.cells) (present c.keep_left.new.cells) c.args.agenda.now loop.agenda c.keep_left.new.agenda
+          (omega (arith, steps_length (LiesIn (get_or c.args.args.now loop.place (arg.Var 0)) c.index-left-place.result) (present loop.cells) (present c.keep_left.new.cells) c.keep_left.result (advanced (FitBefore (LiesAt c.args.args.now c.args.left.now) loop.place) (present c.args.cells.now) (present loop.cells) loop.change c.requires.sound.are loop.invariant.steps).are c.keep_left.ensures.steps))
+          loop.invariant.alerts c.keep_left.ensures.alerts;
+      told_of_loss = loss_trans (present c.args.cells.now) (present loop.cells) (present c.keep_left.new.cells) c.args.agenda.now loop.agenda c.keep_left.new.agenda loop.invariant.told_of_loss c.keep_left.ensures.told_of_loss;
     }
 
 pub returns-in-Empty : goal.returns-in-Empty
@@ -66,6 +74,10 @@ returns-in-Empty c =
           c.requires.sound.are c.requires.within c.loop-place-test.true c.index-left-place.is c.then-change.ensures loop.invariant.steps c.in_ok-keep_left.ensures.steps);
       sinks = at_trans args c.args.since c.args.cells.now loop.cells c.keep_left.new.cells loop.invariant.sinks
           (at_more args (get_or args loop.place (arg.Var 0)) c.args.since loop.cells c.keep_left.new.cells (loop.place, c.loop-place-test.true, read_at args loop.place (arg.Var 0) (get_or args loop.place (arg.Var 0)) c.loop-place-test.true) c.in_ok-keep_left.ensures.sinks);
+      alerts = alerts_trans (present c.args.cells.now) (present loop.cells) (present c.keep_left.new.cells) c.args.agenda.now loop.agenda c.keep_left.new.agenda
+          (omega (arith, steps_length (LiesIn (get_or c.args.args.now loop.place (arg.Var 0)) c.index-left-place.result) (present loop.cells) (present c.keep_left.new.cells) c.keep_left.result (advanced (FitBefore (LiesAt c.args.args.now c.args.left.now) loop.place) (present c.args.cells.now) (present loop.cells) loop.change c.requires.sound.are loop.invariant.steps).are c.keep_left.ensures.steps))
+          loop.invariant.alerts c.keep_left.ensures.alerts;
+      told_of_loss = loss_trans (present c.args.cells.now) (present loop.cells) (present c.keep_left.new.cells) c.args.agenda.now loop.agenda c.keep_left.new.agenda loop.invariant.told_of_loss c.keep_left.ensures.told_of_loss;
     }
 
 pub loop-place-preserved : goal.loop-place-preserved
@@ -77,4 +89,16 @@ loop-place-preserved c =
           c.requires.sound.are c.requires.within c.loop-place-test.true c.index-left-place.is c.then-change.ensures loop.invariant.steps c.in_ok-keep_left.ensures.steps;
       sinks = at_trans args c.args.since c.args.cells.now loop.cells c.keep_left.new.cells loop.invariant.sinks
           (at_more args (get_or args loop.place (arg.Var 0)) c.args.since loop.cells c.keep_left.new.cells (loop.place, c.loop-place-test.true, read_at args loop.place (arg.Var 0) (get_or args loop.place (arg.Var 0)) c.loop-place-test.true) c.in_ok-keep_left.ensures.sinks);
+      alerts = alerts_trans (present c.args.cells.now) (present loop.cells) (present c.keep_left.new.cells) c.args.agenda.now loop.agenda c.keep_left.new.agenda
+          (omega (arith, steps_length (LiesIn (get_or c.args.args.now loop.place (arg.Var 0)) c.index-left-place.result) (present loop.cells) (present c.keep_left.new.cells) c.keep_left.result (advanced (FitBefore (LiesAt c.args.args.now c.args.left.now) loop.place) (present c.args.cells.now) (present loop.cells) loop.change c.requires.sound.are loop.invariant.steps).are c.keep_left.ensures.steps))
+          loop.invariant.alerts c.keep_left.ensures.alerts;
+      told_of_loss = loss_trans (present c.args.cells.now) (present loop.cells) (present c.keep_left.new.cells) c.args.agenda.now loop.agenda c.keep_left.new.agenda loop.invariant.told_of_loss c.keep_left.ensures.told_of_loss;
     }
+
+pub keep_left-requires-clause-ready : goal.keep_left-requires-clause-ready
+keep_left-requires-clause-ready c =
+    let loop = c.loop-place in
+    let start = present c.args.cells.now in
+    let so_far = advanced (FitBefore (LiesAt c.args.args.now c.args.left.now) loop.place) start (present loop.cells) loop.change c.requires.sound.are loop.invariant.steps in
+    has_still (length (present loop.cells)) c.args.agenda.now loop.agenda loop.invariant.alerts.stays
+    (subst (λ count. HasVariables count c.args.agenda.now) (sym (within_length (present loop.cells) start so_far.within)) c.requires.ready)

@@ -4,9 +4,11 @@ use Rattle.constraint_net.proofs.network.Net.add_var.Goals as goal
 pub invariant_of-self : goal.invariant_of-self
 invariant_of-self c =
     let net = c.self.inside in
-    (added c.args.self.now net.domains c.add.new.self net.tables net.constraints c.args.domain c.add.result c.self.view_is c.add.ensures.domain c.self.invariant c.add.ensures.work c.add.ensures.added).0
+    let says = c.add.ensures in
+    (added c.args.self.now net.domains c.add.new.self net.tables net.constraints c.args.domain c.add.result c.self.view_is says.domain c.self.invariant says.grows says.ready says.work says.added).0
 
 pub returns-clause-added : goal.returns-clause-added
 returns-clause-added c =
     let net = c.self.inside in
-    (added c.args.self.now net.domains c.add.new.self net.tables net.constraints c.args.domain c.add.result c.self.view_is c.add.ensures.domain c.self.invariant c.add.ensures.work c.add.ensures.added).1
+    let says = c.add.ensures in
+    (added c.args.self.now net.domains c.add.new.self net.tables net.constraints c.args.domain c.add.result c.self.view_is says.domain c.self.invariant says.grows says.ready says.work says.added).1

@@ -1,0 +1,93 @@
+//! Queues of numbers, each of which stands there at most once.
+
+ghost use Rattle.std.specs.Prelude.{◌≡◌, ◌+◌, ◌≤◌, [], ◌∷◌, length, OnOk, MatchOption};
+ghost use Rattle.constraint_net.specs.Queues.{Takes, IsFirst};
+
+use std::alloc::{AllocError, Global};
+use std::collections::VecDeque;
+use std::marker::Model;
+
+/// Numbers in the order in which they came, each at most once. There is room for all numbers below a bound, so adding
+/// one takes no memory.
+#[derive(Drop)]
+pub struct Queue {
+    items: VecDeque<usize>,
+    // Whether a number stands among the items.
+    standing: Vec<bool>,
+}
+
+impl Model for Queue {
+    ghost use Rattle.constraint_net.specs.Queues.{Queued, IsQueue};
+    ghost use Rattle.std.specs.Prelude.{length};
+    ghost use Rattle.std.specs.VecDeque.{deque_capacity};
+
+    ghost Value = { Queued };
+
+    ghost view = { λ queue. record { items = queue.items.items; room = length queue.standing.items } };
+
+    ghost invariant = { λ queue. IsQueue queue.items.items queue.standing.items (deque_capacity queue.items) };
+}
+
+impl Queue {
+    /// A queue without numbers and without room, which takes no memory.
+    pub fn new(alloc: Global) -> Queue
+        ensures { result ≡ record { items = []; room = 0 } }
+    {
+        Queue {
+            items: VecDeque::new(alloc),
+            standing: Vec::new(alloc),
+        }
+    }
+
+    /// The numbers below this one may be added.
+    pub fn room(&self) -> usize
+        ensures { result ≡ self.now.room }
+    {
+        self.standing.len()
+    }
+
+    /// Makes room for one number more.
+    pub fn grow(&mut self) -> Result<(), AllocError>
+        ensures items { self.new.items ≡ self.old.items }
+        ensures room { self.old.room ≤ self.new.room }
+        ensures grown { OnOk result (self.old.room + 1 ≤ self.new.room) }
+    {
+        let missing = self.standing.len() - self.items.len();
+        self.items.reserve(missing + 1)?;
+        self.standing.push(false)?;
+        Ok(())
+    }
+
+    /// Adds the number at the end, if it doesn't stand there and there is room for it.
+    pub fn add(&mut self, number: usize)
+        ensures { Takes number self.old self.new }
+    {
+        if number >= self.standing.len() {
+            return;
+        }
+        if self.standing[number] {
+            return;
+        }
+        self.standing[number] = true;
+        self.items.push_back_reserved(number);
+    }
+
+    /// The first of the numbers.
+    pub fn first(&self) -> Option<usize>
+        ensures first { MatchOption result (self.now.items ≡ []) (λ number. IsFirst number self.now) }
+        ensures few { length self.now.items ≤ self.now.room }
+    {
+        self.items.front().copied()
+    }
+
+    /// Takes the first of the numbers off.
+    pub fn take(&mut self) -> Option<usize>
+        ensures taken { MatchOption result ((self.old.items ≡ []) × (self.new ≡ self.old))
+            (λ number. self.old.items ≡ number ∷ self.new.items) }
+        ensures room { self.new.room ≡ self.old.room }
+    {
+        let number = self.items.pop_front()?;
+        self.standing[number] = false;
+        Some(number)
+    }
+}
