@@ -1,0 +1,12 @@
+//! The declarations of files as those of one program: `join(alloc, files.as_slice())?` gives the sites of all
+//! declarations in their order, where those of an included file stand at the place of its include. A place in a program
+//! is the number of a declaration among them and a byte of its file.
+#![tactic(auto)]
+
+pub mod join;
+pub mod place;
+pub mod site;
+
+pub use join::join;
+pub use place::Place;
+pub use site::Site;
