@@ -4,6 +4,7 @@
 #![tactic(auto)]
 
 pub mod join;
+pub mod laws;
 pub mod place;
 pub mod site;
 
