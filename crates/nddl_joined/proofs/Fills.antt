@@ -1,10 +1,10 @@
 -- Lists of sites that are just those that are meant.
-use Rattle.std.proofs.Common.{◌≡◌, ℕ, zero, suc, ◌+◌, ◌<◌, ◌≤◌, List, [], ◌∷◌, ◌++◌, length, get_or, refl, sym, subst, inl, inr, arith}
-use Rattle.std.specs.Prelude.{◌⊎◌, All, AllPairs, Contains}
+use Rattle.std.proofs.Common.{◌≡◌, ℕ, zero, suc, ◌<◌, List, [], ◌∷◌, ◌++◌, length, get_or, refl, sym, subst, inl, inr, arith}
+use Rattle.std.specs.Prelude.{◌⊎◌, Contains}
 use Rattle.std.specs.List.{AllByRecursion}
 use Rattle.std.proofs.lemmas.List.Elements.{All-from_recursion, Contains-append_left, Contains-append_right}
 use Rattle.nddl_joined.specs.declared.site.Site.{Site}
-use Rattle.nddl_joined.specs.Given.{IsInFileOrder}
+use Rattle.nddl_joined.specs.Joined.{IsInFileOrder}
 
 -- the relation holds of each item and each later one
 abbrev pub Pairs : {X : Type 0} → (X → X → Type 0) → List X → Type 0
@@ -28,9 +28,10 @@ all_append P (site ∷ one) other first second = (first.0, all_append P one othe
 pairs_append : (P Q : Site → Type 0) (R : Site → Site → Type 0) → ((a b : Site) → P a → Q b → R a b)
     → (one other : List Site) → AllByRecursion P one → AllByRecursion Q other → Pairs R one → Pairs R other → Pairs R (one ++ other)
 pairs_append P Q R cross [] other first second p q = q
-pairs_append P Q R cross (site ∷ one) other first second p q =
-    (all_append (R site) one other p.0 (all_weaker Q (R site) (λ b is. cross site b first.0 is) other second),
-    pairs_append P Q R cross one other first.1 second p.1 q)
+pairs_append P Q R cross (site ∷ one) other first second p q = (
+  all_append (R site) one other p.0 (all_weaker Q (R site) (λ b is. cross site b first.0 is) other second),
+  pairs_append P Q R cross one other first.1 second p.1 q,
+)
 
 pub pairs_all : {X : Type 0} (R : X → X → Type 0) (xs : List X) → Pairs R xs → (i j : ℕ) (d : X) → i < j → j < length xs → R (get_or xs i d) (get_or xs j d)
 pairs_all R [] p i j d below within = absurd (omega arith)

@@ -1,8 +1,5 @@
 pub mod Fills
+pub mod Order
+pub mod Sites
+pub mod Steps
 pub mod Stretches
-pub mod Whole
-pub mod Once
-pub mod Symbols
-pub mod Shows
-pub mod Trees
-pub mod Texts

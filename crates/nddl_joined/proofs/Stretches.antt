@@ -1,17 +1,14 @@
 -- A stretch has the declarations of the files that it brings in, each once.
-use Rattle.std.proofs.Common.{◌≡◌, ℕ, zero, suc, ◌+◌, ◌-◌, ◌<◌, ◌≤◌, Bool, true, false, List, [], ◌∷◌, ◌++◌, length, refl, sym, ◌∙◌, ap, subst, inl, inr, arith}
-use Rattle.std.specs.Prelude.{◌⊎◌, Option, Some, None}
+use Rattle.std.proofs.Common.{◌≡◌, ℕ, zero, suc, ◌+◌, ◌-◌, ◌<◌, ◌≤◌, Bool, true, false, List, [], ◌∷◌, ◌++◌, refl, sym, ◌∙◌, ap, subst, inl, inr, arith}
+use Rattle.std.specs.Prelude.{◌⊎◌, Some, None}
 use Rattle.std.specs.List.{slice_get}
 use Rattle.std.proofs.lemmas.Bool.{cases_lt}
 use Rattle.std.proofs.lemmas.Option.{none-some, same_Some}
 use Rattle.nddl_ast.specs.declared.declaration.Decl.{Decl}
 use Rattle.nddl_ast.specs.declared.declaration.Decl.TheVariants as decls
 use Rattle.nddl_ast.specs.declared.declaration.FileDecls.{FileDecls}
-use Rattle.nddl_includes.specs.Includes.{include_in}
-use Rattle.nddl_includes.specs.declared.include.Include.{Include}
 use Rattle.nddl_joined.specs.declared.site.Site.{Site}
-use Rattle.nddl_joined.specs.Joined.{Stretch, no_stretch, include_stretch, is_file_named, decl_stretch, decls_stretch, decls_in, file_stretch, decl_in}
-use Rattle.nddl_joined.specs.Given.{IsInFileOrder, IsOwnSite}
+use Rattle.nddl_joined.specs.Joined.{Stretch, no_stretch, include_stretch, is_file_named, decl_stretch, decls_stretch, decls_in, file_stretch, decl_in, is_include, IsInFileOrder, IsOwnSite}
 use Rattle.nddl_joined.proofs.Fills.{Fills, fills_none, fills_one, fills_same, fills_both}
 
 -- the sites of these files, from one number up to another
@@ -70,7 +67,7 @@ module _ (files : List FileDecls) (file_from : ℕ → Stretch) (whole : (number
       let low : next ≤ site.file = is.1 in let high : site.file < next = is.2 in omega arith
 
   -- one declaration stands for itself
-  own_here : (file number next : ℕ) (decl : Decl) → decl_in files (here file number) ≡ Some decl → include_in decl ≡ None
+  own_here : (file number next : ℕ) (decl : Decl) → decl_in files (here file number) ≡ Some decl → is_include decl ≡ false
       → (site : Site) → site ≡ here file number → InFirst files file number next next site
   own_here file number next decl at own site same =
       let P : Site → Type 0 = λ s. IsOwnSite files s in
@@ -81,7 +78,7 @@ module _ (files : List FileDecls) (file_from : ℕ → Stretch) (whole : (number
   here_own file number next site (inr is) =
       let low : next ≤ site.file = is.1 in let high : site.file < next = is.2 in absurd (omega arith)
 
-  own_first : (file number next : ℕ) (decl : Decl) → decl_in files (here file number) ≡ Some decl → include_in decl ≡ None
+  own_first : (file number next : ℕ) (decl : Decl) → decl_in files (here file number) ≡ Some decl → is_include decl ≡ false
       → IsStretch (InFirst files file number next) next (record { sites = here file number ∷ []; next = next })
   own_first file number next decl at own = record {
     rises = omega arith;
@@ -90,20 +87,20 @@ module _ (files : List FileDecls) (file_from : ℕ → Stretch) (whole : (number
   }
 
   -- or for a file
-  not_here : (file number low high : ℕ) (decl : Decl) (include : Include) → decl_in files (here file number) ≡ Some decl → include_in decl ≡ Some include
+  not_here : (file number low high : ℕ) (decl : Decl) → decl_in files (here file number) ≡ Some decl → is_include decl ≡ true
       → (site : Site) → InFirst files file number low high site → InFiles files low high site
-  not_here file number low high decl include at is site (inl own) =
+  not_here file number low high decl at is site (inl own) =
       let there : site ≡ here file number = λ i. record { file = own.1 i; decl = own.2 i } in
       let same : own.0.0 ≡ decl = same_Some own.0.0 decl (sym own.0.1 ∙ (ap (decl_in files) there ∙ at)) in
-      absurd (none-some include (sym own.0.2 ∙ (ap include_in same ∙ is)))
-  not_here file number low high decl include at is site (inr in') = in'
+      absurd (let both : false ≡ true = sym own.0.2 ∙ (ap is_include same ∙ is) in cc)
+  not_here file number low high decl at is site (inr in') = in'
 
-  include_first : (file number next : ℕ) (decl : Decl) (include : Include) → decl_in files (here file number) ≡ Some decl → include_in decl ≡ Some include
+  include_first : (file number next : ℕ) (decl : Decl) → decl_in files (here file number) ≡ Some decl → is_include decl ≡ true
       → (stretch : Stretch) → IsWholeStretch files next stretch → IsStretch (InFirst files file number next) next stretch
-  include_first file number next decl include at is stretch full = record {
+  include_first file number next decl at is stretch full = record {
     rises = full.rises;
     fills = fills_same (InFiles files next stretch.next) (InFirst files file number next stretch.next) stretch.sites
-        (λ site in'. inr in') (not_here file number next stretch.next decl include at is) full.fills;
+        (λ site in'. inr in') (not_here file number next stretch.next decl at is) full.fills;
   }
 
   brought : (next : ℕ) (brings : Bool) → IsWholeStretch files next (include_stretch file_from brings next)
@@ -113,7 +110,7 @@ module _ (files : List FileDecls) (file_from : ℕ → Stretch) (whole : (number
   first_of : (file number next : ℕ) (decl : Decl) → decl_in files (here file number) ≡ Some decl
       → IsStretch (InFirst files file number next) next (decl_stretch file_from files (here file number) decl next)
   first_of file number next (decls.Include at name name_at) there =
-      include_first file number next (decls.Include at name name_at) (record { name = name; at = at }) there refl
+      include_first file number next (decls.Include at name name_at) there refl
       (include_stretch file_from (is_file_named files next name) next) (brought next (is_file_named files next name))
   first_of file number next decl there = own_first file number next decl there refl
 

@@ -1,8 +1,7 @@
 -- The declarations of files, joined: those of an included file stand at the place of its include.
-use Rattle.std.specs.Prelude.{ℕ, ◌+◌, zero, suc, Bool, true, false, List, [], ◌∷◌, ◌++◌, length, bytes_eq, slice_get}
-use Rattle.std.specs.Prelude.{Option, Some, None}
-use Rattle.std.specs.List.{filter_map}
-use Rattle.std.specs.Option.{option_and_then, option_map, option_map_or}
+use Rattle.std.specs.Prelude.{◌≡◌, ℕ, ◌+◌, ◌<◌, zero, suc, Bool, true, false, List, [], ◌∷◌, ◌++◌, length, Option, Some, bytes_eq}
+use Rattle.std.specs.List.{filter_map, slice_get}
+use Rattle.std.specs.Option.{option_and_then, option_map_or}
 use Rattle.nddl_ast.specs.declared.declaration.Decl.{Decl}
 use Rattle.nddl_ast.specs.declared.declaration.Decl.TheVariants as decls
 use Rattle.nddl_ast.specs.declared.declaration.FileDecls.{FileDecls}
@@ -71,3 +70,22 @@ decl_in files site = slice_get (decls_in files site.file) site.decl
 -- the joined declarations: those of a program, in their order
 abbrev pub joined_decls : List FileDecls → List Decl
 joined_decls files = filter_map (decl_in files) (joined_sites files)
+
+-- each joined declaration is the one at the site of its number
+abbrev pub AreAtSites : List FileDecls → Type 0
+AreAtSites files = (number : ℕ)
+    → slice_get (joined_decls files) number ≡ option_and_then (decl_in files) (slice_get (joined_sites files) number)
+
+-- ---- what stands where
+
+abbrev pub is_include : Decl → Bool
+is_include (decls.Include at name name_at) = true
+is_include decl = false
+
+-- at the site stands a declaration that is no include
+abbrev pub IsOwnSite : List FileDecls → Site → Type 0
+IsOwnSite files site = (decl : Decl) × (decl_in files site ≡ Some decl) × (is_include decl ≡ false)
+
+-- where both are of one file, the one comes before the other there
+abbrev pub IsInFileOrder : Site → Site → Type 0
+IsInFileOrder one other = one.file ≡ other.file → one.decl < other.decl

@@ -3,11 +3,11 @@
 //! is the number of a declaration among them and a byte of its file.
 #![tactic(auto)]
 
-pub mod join;
+pub mod joining;
 pub mod laws;
 pub mod place;
 pub mod site;
 
-pub use join::join;
+pub use joining::join;
 pub use place::Place;
 pub use site::Site;

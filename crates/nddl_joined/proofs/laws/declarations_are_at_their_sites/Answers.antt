@@ -1,4 +1,4 @@
-use Rattle.nddl_joined.proofs.Once.{at_sites}
+use Rattle.nddl_joined.proofs.Sites.{at_sites}
 use Rattle.nddl_joined.proofs.laws.declarations_are_at_their_sites.Goals as goal
 
 pub returns : goal.returns

@@ -9,7 +9,7 @@ use Rattle.nddl_reading.specs.declared.sort.Sort.{Sort}
 use Rattle.nddl_reading.specs.declared.sort.Sort.TheVariants as sorts
 use Rattle.nddl_reading.specs.Symbols.{PlainSymbol}
 use Rattle.nddl_reading.specs.Exact.{◌·◌, IsPlaced, IsMark, IsNothing, AreMany, AreFollowing, AreSeparated, AreListed, MayMark}
-use Rattle.nddl_joined.proofs.Symbols.{AreFineSymbols, Rise, places_of, rise_later}
+use Rattle.nddl_given.proofs.Symbols.{AreFineSymbols, Rise, places_of, rise_later}
 
 -- ---- nodes at places
 

@@ -44,10 +44,10 @@ use Rattle.nddl_ast.specs.declared.declaration.Decl.TheVariants as decls
 use Rattle.nddl_lexer.specs.Spelling.{IsNumberInRange}
 use Rattle.nddl_statements.specs.Grammar.{IsWrittenName, IsPath, Writes, IsLiteral, IsExpr, IsWrittenValue, AreArguments, IsCreation, IsInit, IsBase, IsBounds, IsType, IsTyped, IsStart, IsVariable, IsCall, IsAsk, IsCondition, Encloses, IsLoneIf, AreStatements, IsBlock}
 use Rattle.nddl_parser.specs.Grammar.{IsPart, IsSet, IsMember, IsFile, IsParent, IsDecl, IsText}
-use Rattle.nddl_joined.specs.Fine.{IsFineName, IsFinePath, IsFineConstant, IsFineExpr, IsFineValue, IsFineCreation, IsFineInit, IsFineBase, IsFineBounds, IsFineType, IsFineTyped, IsFineStart, IsFineVariable, IsFineCall, IsFineAsk, IsFineCondition, AreFineStatements, IsFinePart, IsFineSet, IsFineMember, IsFineParent, IsFineDecl}
-use Rattle.nddl_joined.specs.Nodes.{names_nodes, path_nodes, expr_nodes, creation_nodes, init_nodes, bounds_nodes, type_nodes, typed_nodes, start_nodes, variable_nodes, call_nodes, ask_nodes, condition_nodes, statements_nodes, block_nodes, part_nodes, set_nodes, member_nodes, parent_nodes, decl_nodes}
-use Rattle.nddl_joined.proofs.Symbols.{IsFineSymbol, AreFineSymbols, places_of}
-use Rattle.nddl_joined.proofs.Shows.{Picks, Words, Shows, both, behind, first_of, second_of, placed, nothing, many, following, listed, separated, each_place, same_nodes}
+use Rattle.nddl_given.specs.Fine.{IsFineName, IsFinePath, IsFineConstant, IsFineExpr, IsFineValue, IsFineCreation, IsFineInit, IsFineBase, IsFineBounds, IsFineType, IsFineTyped, IsFineStart, IsFineVariable, IsFineCall, IsFineAsk, IsFineCondition, AreFineStatements, IsFinePart, IsFineSet, IsFineMember, IsFineParent, IsFineDecl}
+use Rattle.nddl_given.specs.Nodes.{names_nodes, path_nodes, expr_nodes, creation_nodes, init_nodes, bounds_nodes, type_nodes, typed_nodes, start_nodes, variable_nodes, call_nodes, ask_nodes, condition_nodes, statements_nodes, block_nodes, part_nodes, set_nodes, member_nodes, parent_nodes, decl_nodes}
+use Rattle.nddl_given.proofs.Symbols.{IsFineSymbol, AreFineSymbols, places_of}
+use Rattle.nddl_given.proofs.Shows.{Picks, Words, Shows, both, behind, first_of, second_of, placed, nothing, many, following, listed, separated, each_place, same_nodes}
 
 -- the words show this
 abbrev No : Type 0

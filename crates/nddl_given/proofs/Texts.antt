@@ -14,13 +14,13 @@ use Rattle.nddl_includes.specs.Limits.{deepest}
 use Rattle.nddl_includes.specs.Outcomes.{Outcome}
 use Rattle.nddl_includes.specs.Visits.{Visit, Takes, Enters, Follows, VisitsBy, Visits, first_ask, with_file}
 use Rattle.nddl_files.specs.Language.{ReadsAs}
-use Rattle.nddl_joined.specs.Given.{AreGiven}
-use Rattle.nddl_joined.specs.Nodes.{text_nodes}
-use Rattle.nddl_joined.specs.Trees.{IsTree, ReadsTrees, HasText}
+use Rattle.nddl_given.specs.Given.{AreGiven}
+use Rattle.nddl_given.specs.Nodes.{text_nodes}
+use Rattle.nddl_given.specs.Trees.{IsTree, ReadsTrees, HasText}
 use Rattle.nddl_joined.proofs.Fills.{Pairs, pairs_all}
-use Rattle.nddl_joined.proofs.Symbols.{fine_symbols, rising_symbols, Rise, rise_later, places_of}
-use Rattle.nddl_joined.proofs.Shows.{picks_rise, rise_few}
-use Rattle.nddl_joined.proofs.Trees.{text_shows}
+use Rattle.nddl_given.proofs.Symbols.{fine_symbols, rising_symbols, Rise, rise_later, places_of}
+use Rattle.nddl_given.proofs.Shows.{picks_rise, rise_few}
+use Rattle.nddl_given.proofs.Trees.{text_shows}
 
 -- ---- texts
 
@@ -29,24 +29,27 @@ above from end [] least less rise = tt
 above from end (node ∷ nodes) least less rise =
     let low : from ≤ node = rise.0 in (omega arith, above (node + 1) end nodes least (omega arith) rise.2)
 
-rise_pairs : (from end : ℕ) (nodes : List ℕ) → Rise from end nodes → Pairs (λ one other. one < other) nodes
+pub rise_pairs : (from end : ℕ) (nodes : List ℕ) → Rise from end nodes → Pairs (λ one other. one < other) nodes
 rise_pairs from end [] rise = tt
 rise_pairs from end (node ∷ nodes) rise = (above (node + 1) end nodes node (omega arith) rise.2, rise_pairs (node + 1) end nodes rise.2)
 
-rise_inside : (from end : ℕ) (nodes : List ℕ) → Rise from end nodes → AllByRecursion (λ node. node < end) nodes
+pub rise_inside : (from end : ℕ) (nodes : List ℕ) → Rise from end nodes → AllByRecursion (λ node. node < end) nodes
 rise_inside from end [] rise = tt
 rise_inside from end (node ∷ nodes) rise = (rise.1, rise_inside (node + 1) end nodes rise.2)
 
+pub text_rises : (text : List ℕ) (decls : List Decl) → ReadsAs text (Ok decls) → Rise 0 (length text) (text_nodes decls)
+text_rises text decls reads =
+    let parses = reads.2 in
+    picks_rise 0 (length text) (text_nodes decls) (places_of parses.symbols) (text_shows decls parses.symbols parses.ends.0).1
+    (rising_symbols text 0 reads.0 parses.symbols (lie_in_order text reads.0 reads.1) parses.read)
+
 pub reads_trees : ReadsTrees
 reads_trees = λ text decls reads.
-    let lexemes = reads.0 in
     let parses = reads.2 in
-    let lie = lie_in_order text lexemes reads.1 in
-    let shown = text_shows decls parses.symbols parses.ends.0 in
     let nodes = text_nodes decls in
-    let rise = picks_rise 0 (length text) nodes (places_of parses.symbols) shown.1 (rising_symbols text 0 lexemes parses.symbols lie parses.read) in
+    let rise = text_rises text decls reads in
     record {
-      fine = shown.0 (fine_symbols text 0 lexemes parses.symbols lie parses.read);
+      fine = (text_shows decls parses.symbols parses.ends.0).0 (fine_symbols text 0 reads.0 parses.symbols (lie_in_order text reads.0 reads.1) parses.read);
       rising = pairs_all (λ one other. one < other) nodes (rise_pairs 0 (length text) nodes rise);
       inside = All-from_recursion (λ node. node < length text) nodes (rise_inside 0 (length text) nodes rise);
       few = let n = rise_few 0 (length text) nodes (omega arith) rise in omega arith;

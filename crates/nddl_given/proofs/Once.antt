@@ -1,8 +1,8 @@
 -- Each declaration of files that a shelf gives stands once among the joined ones.
 use Rattle.std.proofs.Common.{◌≡◌, ℕ, zero, suc, ◌+◌, ◌<◌, ◌≤◌, List, [], ◌∷◌, length, refl, sym, ◌∙◌, ap, subst, inl, inr, arith}
 use Rattle.std.specs.Prelude.{Option, Some, None}
-use Rattle.std.specs.List.{slice_get, filter_map, AllByRecursion}
-use Rattle.std.specs.Option.{option_and_then, option_map_or}
+use Rattle.std.specs.List.{slice_get}
+use Rattle.std.specs.Option.{option_map_or}
 use Rattle.std.proofs.lemmas.Bool.{cases_lt}
 use Rattle.std.proofs.lemmas.List.Elements.{All-from_recursion}
 use Rattle.std.proofs.lemmas.Option.{none-some, slice_get_past}
@@ -10,11 +10,11 @@ use Rattle.nddl_ast.specs.declared.declaration.Decl.{Decl}
 use Rattle.nddl_ast.specs.declared.declaration.FileDecls.{FileDecls}
 use Rattle.nddl_files.specs.Language.{ReadsAs}
 use Rattle.nddl_joined.specs.declared.site.Site.{Site}
-use Rattle.nddl_joined.specs.Joined.{decls_in, decl_in, file_stretch, joined_sites, joined_decls}
-use Rattle.nddl_joined.specs.Given.{AreAtSites, AreGiven, IsInFileOrder, IsOwnSite, StandOnce}
+use Rattle.nddl_joined.specs.Joined.{decl_in, file_stretch, joined_sites, IsInFileOrder, IsOwnSite}
+use Rattle.nddl_given.specs.Given.{AreGiven, StandOnce}
 use Rattle.nddl_joined.proofs.Fills.{Fills, pairs_all, fills_same}
 use Rattle.nddl_joined.proofs.Stretches.{InFiles, IsWholeStretch, file_filled}
-use Rattle.nddl_joined.proofs.Whole.{goes_whole}
+use Rattle.nddl_given.proofs.Whole.{goes_whole}
 
 -- a declaration that is there is in one of the files
 in_files : (files : List FileDecls) (site : Site) → IsOwnSite files site → site.file < length files
@@ -25,7 +25,7 @@ in_files files site own = elim (cases_lt site.file (length files)) [
       absurd (none-some own.0 (sym none ∙ own.1))
 ]
 
-all_filled : (files : List FileDecls) → AreGiven files → Fills (IsOwnSite files) (joined_sites files)
+pub all_filled : (files : List FileDecls) → AreGiven files → Fills (IsOwnSite files) (joined_sites files)
 all_filled files given =
     let stretch = file_stretch (length files) files 0 in
     let ends : stretch.next ≡ length files = goes_whole ReadsAs given.shelf given.name files given.read in
@@ -40,21 +40,3 @@ stand_once files given =
       each = fills.each;
       ordered = pairs_all IsInFileOrder (joined_sites files) fills.ordered;
     }
-
--- ---- numbers
-
-get_at : (look : Site → Option Decl) (sites : List Site) → AllByRecursion (λ site. (decl : Decl) × (look site ≡ Some decl)) sites
-    → (number : ℕ) → slice_get (filter_map look sites) number ≡ option_and_then look (slice_get sites number)
-get_at look [] all number = refl
-get_at look (site ∷ sites) all zero = rw all.0.1 refl
-get_at look (site ∷ sites) all (suc number) = rw all.0.1 (get_at look sites all.1 number)
-
-some_there : (files : List FileDecls) (low high : ℕ) (sites : List Site) → AllByRecursion (InFiles files low high) sites
-    → AllByRecursion (λ site. (decl : Decl) × (decl_in files site ≡ Some decl)) sites
-some_there files low high [] all = tt
-some_there files low high (site ∷ sites) all = ((all.0.0.0, all.0.0.1), some_there files low high sites all.1)
-
-pub at_sites : (files : List FileDecls) → AreAtSites files
-at_sites files = λ number.
-    let stretch = file_stretch (length files) files 0 in
-    get_at (decl_in files) stretch.sites (some_there files 0 stretch.next stretch.sites (file_filled files (length files) 0).fills.only) number

@@ -54,8 +54,9 @@ fn join_file(
     if levels == 0 {
         return Ok(number);
     }
+    let decls = files[number].decls.as_slice();
     let mut next = number + 1;
-    for (i, decl) in files[number].decls.as_slice().iter().enumerate() {
+    for (i, decl) in decls.iter().enumerate() {
         let site = Site {
             file: number,
             decl: i,

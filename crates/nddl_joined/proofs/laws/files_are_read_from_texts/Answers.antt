@@ -1,5 +1,0 @@
-use Rattle.nddl_joined.proofs.Texts.{given_texts}
-use Rattle.nddl_joined.proofs.laws.files_are_read_from_texts.Goals as goal
-
-pub returns : goal.returns
-returns c = given_texts
