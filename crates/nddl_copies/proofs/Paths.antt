@@ -1,8 +1,7 @@
 -- The parts of a path whose last name is known.
-use Rattle.std.proofs.Common.{◌≡◌, ℕ, List, [], ◌∷◌, ◌++◌, length, refl, sym, ◌∙◌, ap, arith}
-use Rattle.std.specs.Prelude.{Option, Some, None}
+use Rattle.std.proofs.Common.{◌≡◌, List, [], ◌∷◌, ◌++◌, length, refl, ◌∙◌, ap, arith}
+use Rattle.std.specs.Prelude.{Some, None}
 use Rattle.nddl_ast.specs.declared.name.Name.{Name}
-use Rattle.nddl_ast.specs.declared.name.Path.{Path}
 use Rattle.nddl_copies.specs.Path.{last_of, all_but_last, path_until}
 
 pub last_behind : (first name : Name) (names rest : List Name) → names ≡ rest ++ name ∷ [] → last_of first names ≡ name

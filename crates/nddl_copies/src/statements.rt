@@ -4,7 +4,7 @@ ghost use Rattle.std.specs.Prelude.{◌≡◌, IfOk};
 
 use super::copies::{Copies, both, copy_all, copy_some};
 use nddl_ast::statement::{Ask, Call, Condition, Stmt, StmtBlock, Variable};
-use std::alloc::AllocError;
+use std::alloc::{AllocError, Global};
 
 impl Copies for Variable {
     fn copied(&self) -> Result<Variable, AllocError> {
@@ -49,7 +49,7 @@ impl Copies for Condition {
     }
 }
 
-// A copy of a statement, of a block that may be missing, and of a block.
+// A copy of a statement, of a block that may be missing, of a block, and of the statements in one.
 #[cycle(copying)]
 fn copy_stmt(stmt: &Stmt) -> Result<Stmt, AllocError>
     ensures { IfOk result (λ copy. copy ≡ stmt.now) }
@@ -109,11 +109,19 @@ fn copy_block(block: &StmtBlock) -> Result<StmtBlock, AllocError>
     ensures { IfOk result (λ copy. copy ≡ block.now) }
 {
     let at = block.at;
-    let mut stmts = Vec::new(*block.stmts.allocator());
-    for stmt in &block.stmts {
-        stmts.push(copy_stmt(stmt)?)?;
-    }
+    let stmts = copy_stmts(*block.stmts.allocator(), block.stmts.as_slice())?;
     Ok(StmtBlock { at, stmts })
+}
+
+#[cycle(copying)]
+fn copy_stmts(alloc: Global, stmts: &[Stmt]) -> Result<Vec<Stmt>, AllocError>
+    ensures { IfOk result (λ copies. copies.items ≡ stmts.now) }
+{
+    let mut copies = Vec::new(alloc);
+    for stmt in stmts {
+        copies.push(copy_stmt(stmt)?)?;
+    }
+    Ok(copies)
 }
 
 impl Copies for Stmt {
