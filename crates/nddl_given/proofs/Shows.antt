@@ -63,8 +63,8 @@ abbrev pub Words : Type 1
 Words = List PlainSymbol → Type 0
 
 -- each of the words shows the fact, and has the nodes
-abbrev pub Shows : Words → Type 0 → List ℕ → Type 0
-Shows P fact nodes = (symbols : List PlainSymbol) → P symbols → (AreFineSymbols symbols → fact) × Picks nodes (places_of symbols)
+pub record Shows (P : Words) (fact : Type 0) (nodes : List ℕ) : Type 0 where
+  pub shown : (symbols : List PlainSymbol) → P symbols → (AreFineSymbols symbols → fact) × Picks nodes (places_of symbols)
 
 fine_front : (front back : List PlainSymbol) → AreFineSymbols (front ++ back) → AreFineSymbols front
 fine_front [] back fine = tt
@@ -89,73 +89,88 @@ joined_show one other fact first second nodes symbols front back is make pick p 
     subst P (sym (ap places_of is ∙ places_both front back)) (pick p.1 q.1))
 
 -- both parts
-pub both : (P Q : Words) (one other : Type 0) (first second : List ℕ) → Shows P one first → Shows Q other second → Shows (P · Q) (one × other) (first ++ second)
-both P Q one other first second p q = λ symbols is.
-    joined_show one other (one × other) first second (first ++ second) symbols is.0 is.1 is.2 (λ a b. (a, b))
-    (picks_both first second (places_of is.0) (places_of is.1)) (p is.0 is.3) (q is.1 is.4)
+pub both : {P Q : Words} {one other : Type 0} {first second : List ℕ} → Shows P one first → Shows Q other second → Shows (P · Q) (one × other) (first ++ second)
+both {P} {Q} {one} {other} {first} {second} p q = record {
+  shown = λ symbols is.
+      joined_show one other (one × other) first second (first ++ second) symbols is.0 is.1 is.2 (λ a b. (a, b))
+      (picks_both first second (places_of is.0) (places_of is.1)) (p.shown is.0 is.3) (q.shown is.1 is.4);
+}
 
 -- the nodes of both, and the fact of the second
-pub behind : (P Q : Words) (one other : Type 0) (first second : List ℕ) → Shows P one first → Shows Q other second → Shows (P · Q) other (first ++ second)
-behind P Q one other first second p q = λ symbols is.
-    joined_show one other other first second (first ++ second) symbols is.0 is.1 is.2 (λ a b. b)
-    (picks_both first second (places_of is.0) (places_of is.1)) (p is.0 is.3) (q is.1 is.4)
+pub behind : {P Q : Words} {one other : Type 0} {first second : List ℕ} → Shows P one first → Shows Q other second → Shows (P · Q) other (first ++ second)
+behind {P} {Q} {one} {other} {first} {second} p q = record {
+  shown = λ symbols is.
+      joined_show one other other first second (first ++ second) symbols is.0 is.1 is.2 (λ a b. b)
+      (picks_both first second (places_of is.0) (places_of is.1)) (p.shown is.0 is.3) (q.shown is.1 is.4);
+}
 
 -- the first part alone
-pub first_of : (P Q : Words) (one : Type 0) (first : List ℕ) → Shows P one first → Shows (P · Q) one first
-first_of P Q one first p = λ symbols is.
-    joined_show one (Unit {0}) one first [] first symbols is.0 is.1 is.2 (λ a b. a)
-    (λ picks _. picks_front first (places_of is.0) (places_of is.1) picks) (p is.0 is.3) ((λ _. tt), tt)
+pub first_of : {P : Words} {one : Type 0} {first : List ℕ} (Q : Words) → Shows P one first → Shows (P · Q) one first
+first_of {P} {one} {first} Q p = record {
+  shown = λ symbols is.
+      joined_show one (Unit {0}) one first [] first symbols is.0 is.1 is.2 (λ a b. a)
+      (λ picks _. picks_front first (places_of is.0) (places_of is.1) picks) (p.shown is.0 is.3) ((λ _. tt), tt);
+}
 
 -- the second part alone
-pub second_of : (P Q : Words) (other : Type 0) (second : List ℕ) → Shows Q other second → Shows (P · Q) other second
-second_of P Q other second q = λ symbols is.
-    joined_show (Unit {0}) other other [] second second symbols is.0 is.1 is.2 (λ a b. b)
-    (λ _ picks. picks_back second (places_of is.0) (places_of is.1) picks) ((λ _. tt), tt) (q is.1 is.4)
+pub second_of : {Q : Words} {other : Type 0} {second : List ℕ} (P : Words) → Shows Q other second → Shows (P · Q) other second
+second_of {Q} {other} {second} P q = record {
+  shown = λ symbols is.
+      joined_show (Unit {0}) other other [] second second symbols is.0 is.1 is.2 (λ a b. b)
+      (λ _ picks. picks_back second (places_of is.0) (places_of is.1) picks) ((λ _. tt), tt) (q.shown is.1 is.4);
+}
 
 -- a word at its place
 pub placed : (sort : Sort) (at : ℕ) → Shows (IsPlaced sort at) (Unit {0}) (at ∷ [])
-placed sort at = λ symbols is.
-    let P : List PlainSymbol → Type 0 = λ s. Picks (at ∷ []) (places_of s) in
-    ((λ _. tt), subst P (sym is.only) (inl (sym is.placed, tt)))
+placed sort at = record {
+  shown = λ symbols is.
+      let P : List PlainSymbol → Type 0 = λ s. Picks (at ∷ []) (places_of s) in
+      ((λ _. tt), subst P (sym is.only) (inl (sym is.placed, tt)));
+}
 
 -- nothing is shown by anything
 pub nothing : (P : Words) → Shows P (Unit {0}) []
-nothing P = λ symbols is. ((λ _. tt), tt)
+nothing P = record { shown = λ symbols is. ((λ _. tt), tt) }
 
 -- ---- lists
 
 pub many : {X : Type 0} (IsItem : X → Words) (fact : X → Type 0) (nodes : X → List ℕ) → ((x : X) → Shows (IsItem x) (fact x) (nodes x))
     → (xs : List X) → Shows (AreMany IsItem xs) (All fact xs) (flat_map nodes xs)
-many IsItem fact nodes item [] = λ symbols is. ((λ _. All-nil fact), tt)
-many IsItem fact nodes item (x ∷ xs) = λ symbols is.
-    joined_show (fact x) (All fact xs) (All fact (x ∷ xs)) (nodes x) (flat_map nodes xs) (flat_map nodes (x ∷ xs)) symbols is.0 is.1 is.2
-    (All-cons fact x xs) (picks_both (nodes x) (flat_map nodes xs) (places_of is.0) (places_of is.1)) (item x is.0 is.3)
-    (many IsItem fact nodes item xs is.1 is.4)
+many IsItem fact nodes item [] = record { shown = λ symbols is. ((λ _. All-nil fact), tt) }
+many IsItem fact nodes item (x ∷ xs) = record {
+  shown = λ symbols is.
+      joined_show (fact x) (All fact xs) (All fact (x ∷ xs)) (nodes x) (flat_map nodes xs) (flat_map nodes (x ∷ xs)) symbols is.0 is.1 is.2
+      (All-cons fact x xs) (picks_both (nodes x) (flat_map nodes xs) (places_of is.0) (places_of is.1)) ((item x).shown is.0 is.3)
+      ((many IsItem fact nodes item xs).shown is.1 is.4);
+}
 
 pub following : {X : Type 0} (sort : Sort) (IsItem : X → Words) (fact : X → Type 0) (nodes : X → List ℕ) → ((x : X) → Shows (IsItem x) (fact x) (nodes x))
     → (xs : List X) → Shows (AreFollowing sort IsItem xs) (All fact xs) (flat_map nodes xs)
-following sort IsItem fact nodes item xs =
-    many (λ x. IsMark sort · IsItem x) fact nodes (λ x. second_of (IsMark sort) (IsItem x) (fact x) (nodes x) (item x)) xs
+following sort IsItem fact nodes item xs = many (λ x. IsMark sort · IsItem x) fact nodes (λ x. second_of (IsMark sort) (item x)) xs
 
 one_more : {X : Type 0} (sort : Sort) (IsItem : X → Words) (fact : X → Type 0) (nodes : X → List ℕ) → ((x : X) → Shows (IsItem x) (fact x) (nodes x))
     → (x : X) (xs : List X) → Shows (IsItem x · AreFollowing sort IsItem xs) (All fact (x ∷ xs)) (flat_map nodes (x ∷ xs))
-one_more sort IsItem fact nodes item x xs = λ symbols is.
-    joined_show (fact x) (All fact xs) (All fact (x ∷ xs)) (nodes x) (flat_map nodes xs) (flat_map nodes (x ∷ xs)) symbols is.0 is.1 is.2
-    (All-cons fact x xs) (picks_both (nodes x) (flat_map nodes xs) (places_of is.0) (places_of is.1)) (item x is.0 is.3)
-    (following sort IsItem fact nodes item xs is.1 is.4)
+one_more sort IsItem fact nodes item x xs = record {
+  shown = λ symbols is.
+      joined_show (fact x) (All fact xs) (All fact (x ∷ xs)) (nodes x) (flat_map nodes xs) (flat_map nodes (x ∷ xs)) symbols is.0 is.1 is.2
+      (All-cons fact x xs) (picks_both (nodes x) (flat_map nodes xs) (places_of is.0) (places_of is.1)) ((item x).shown is.0 is.3)
+      ((following sort IsItem fact nodes item xs).shown is.1 is.4);
+}
 
 pub listed : {X : Type 0} (sort : Sort) (IsItem : X → Words) (fact : X → Type 0) (nodes : X → List ℕ) → ((x : X) → Shows (IsItem x) (fact x) (nodes x))
     → (xs : List X) → Shows (AreListed sort IsItem xs) (All fact xs) (flat_map nodes xs)
-listed sort IsItem fact nodes item [] = λ symbols is. ((λ _. All-nil fact), tt)
-listed sort IsItem fact nodes item (x ∷ xs) = one_more sort IsItem fact nodes item x xs
+listed sort IsItem fact nodes item [] = record { shown = λ symbols is. ((λ _. All-nil fact), tt) }
+listed sort IsItem fact nodes item (x ∷ xs) = record { shown = (one_more sort IsItem fact nodes item x xs).shown }
 
 -- some, of which there is one
 pub separated : {X : Type 0} (sort : Sort) (IsItem : X → Words) (fact : X → Type 0) (nodes : X → List ℕ) → ((x : X) → Shows (IsItem x) (fact x) (nodes x))
     → (xs : List X) → Shows (AreSeparated sort IsItem xs) ((0 < length xs) × All fact xs) (flat_map nodes xs)
-separated sort IsItem fact nodes item [] = λ symbols is. absurd is
-separated sort IsItem fact nodes item (x ∷ xs) = λ symbols is.
-    let shown = one_more sort IsItem fact nodes item x xs symbols is in
-    ((λ fine. (omega arith, shown.0 fine)), shown.1)
+separated sort IsItem fact nodes item [] = record { shown = λ symbols is. absurd is }
+separated sort IsItem fact nodes item (x ∷ xs) = record {
+  shown = λ symbols is.
+      let shown = (one_more sort IsItem fact nodes item x xs).shown symbols is in
+      ((λ fine. (omega arith, shown.0 fine)), shown.1);
+}
 
 -- a list of single places
 pub each_place : {X : Type 0} (place : X → ℕ) (xs : List X) → flat_map (λ x. place x ∷ []) xs ≡ map place xs

@@ -40,7 +40,7 @@ rise_inside from end (node ∷ nodes) rise = (rise.1, rise_inside (node + 1) end
 pub text_rises : (text : List ℕ) (decls : List Decl) → ReadsAs text (Ok decls) → Rise 0 (length text) (text_nodes decls)
 text_rises text decls reads =
     let parses = reads.2 in
-    picks_rise 0 (length text) (text_nodes decls) (places_of parses.symbols) (text_shows decls parses.symbols parses.ends.0).1
+    picks_rise 0 (length text) (text_nodes decls) (places_of parses.symbols) ((text_shows decls).shown parses.symbols parses.ends.0).1
     (rising_symbols text 0 reads.0 parses.symbols (lie_in_order text reads.0 reads.1) parses.read)
 
 pub reads_trees : ReadsTrees
@@ -49,7 +49,7 @@ reads_trees = λ text decls reads.
     let nodes = text_nodes decls in
     let rise = text_rises text decls reads in
     record {
-      fine = (text_shows decls parses.symbols parses.ends.0).0 (fine_symbols text 0 reads.0 parses.symbols (lie_in_order text reads.0 reads.1) parses.read);
+      fine = ((text_shows decls).shown parses.symbols parses.ends.0).0 (fine_symbols text 0 reads.0 parses.symbols (lie_in_order text reads.0 reads.1) parses.read);
       rising = pairs_all (λ one other. one < other) nodes (rise_pairs 0 (length text) nodes rise);
       inside = All-from_recursion (λ node. node < length text) nodes (rise_inside 0 (length text) nodes rise);
       few = let n = rise_few 0 (length text) nodes (omega arith) rise in omega arith;

@@ -1,5 +1,5 @@
 -- Files that a shelf gives, and what is so of their joined declarations.
-use Rattle.std.specs.Prelude.{List, Option, Ok, All, AllPairs, Contains}
+use Rattle.std.specs.Prelude.{ℕ, List, Option, Ok, All, AllPairs, Contains}
 use Rattle.eu_io.specs.declared.shelf.FileEntry.{FileEntry}
 use Rattle.nddl_ast.specs.declared.declaration.FileDecls.{FileDecls}
 use Rattle.nddl_includes.specs.Visits.{ReadsAll}
