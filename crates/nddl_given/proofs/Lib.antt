@@ -1,0 +1,8 @@
+pub mod Each
+pub mod Few
+pub mod Once
+pub mod Shows
+pub mod Symbols
+pub mod Texts
+pub mod Trees
+pub mod Whole

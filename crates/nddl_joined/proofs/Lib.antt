@@ -1,0 +1,5 @@
+pub mod Fills
+pub mod Order
+pub mod Sites
+pub mod Steps
+pub mod Stretches
