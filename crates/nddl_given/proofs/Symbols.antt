@@ -11,9 +11,9 @@ use Rattle.nddl_lexer.specs.Spelling.{IsSpelled, IsInRange, IsNumberInRange}
 use Rattle.nddl_lexer.specs.Reading.{AreLexemesOf, IsLexemeOf, bytes_of}
 use Rattle.nddl_reading.specs.declared.sort.Sort.{Sort}
 use Rattle.nddl_reading.specs.declared.sort.Sort.TheVariants as sorts
-use Rattle.nddl_reading.specs.Sorts.{number_of}
+use Rattle.nddl_reading.specs.Sorts.{sort_number}
 use Rattle.nddl_reading.specs.Symbols.{PlainSymbol}
-use Rattle.nddl_parser.specs.Symbols.{word_sort, sort_of, Keeps, HasValue, IsSymbolOf, AreSymbols}
+use Rattle.nddl_parser.specs.Symbols.{word_sort, sort_of, KeepsBytes, HasValue, IsSymbolOf, AreSymbols}
 use Rattle.nddl_parser.proofs.SymbolsOnce.{symbols_once}
 
 -- what the bytes and the value of a symbol are, by its sort
@@ -26,8 +26,8 @@ abbrev pub AreFineSymbols : List PlainSymbol → Type 0
 AreFineSymbols [] = Unit {0}
 AreFineSymbols (symbol ∷ symbols) = IsFineSymbol symbol × AreFineSymbols symbols
 
-no_sort : (one other : Sort) → number_of one < number_of other → one ≡ other → ⊥
-no_sort one other less same = let n = ap number_of same in omega arith
+no_sort : (one other : Sort) → sort_number one < sort_number other → one ≡ other → ⊥
+no_sort one other less same = let n = ap sort_number same in omega arith
 
 not_reserved : (found : Option Reserved) → word_sort found ≡ sorts.Name → is_some found ≡ true → ⊥
 not_reserved None sort some = cc
@@ -58,7 +58,7 @@ is_plain kinds.Number = false
 is_plain kinds.Decimal = false
 is_plain kind = true
 
-plain_sort : (kind : LexKind) (bytes : List ℕ) → is_plain kind ≡ true → 3 < number_of (sort_of kind bytes)
+plain_sort : (kind : LexKind) (bytes : List ℕ) → is_plain kind ≡ true → 3 < sort_number (sort_of kind bytes)
 plain_sort kinds.Word bytes plain = absurd (let never : ⊥ = cc in never)
 plain_sort kinds.Number bytes plain = absurd (let never : ⊥ = cc in never)
 plain_sort kinds.Decimal bytes plain = absurd (let never : ⊥ = cc in never)
@@ -67,11 +67,11 @@ plain_sort kind bytes plain = omega arith
 fine_plain : (kind : LexKind) (bytes : List ℕ) (symbol : PlainSymbol) → is_plain kind ≡ true → symbol.sort ≡ sort_of kind bytes → IsFineSymbol symbol
 fine_plain kind bytes symbol plain sort =
     let n = plain_sort kind bytes plain in
-    let m = ap number_of sort in
+    let m = ap sort_number sort in
     record {
-      name = λ is. absurd (let k : number_of symbol.sort ≡ 0 = ap number_of is in omega arith);
-      number = λ is. absurd (let k : number_of symbol.sort ≡ 2 = ap number_of is in omega arith);
-      decimal = λ is. absurd (let k : number_of symbol.sort ≡ 3 = ap number_of is in omega arith);
+      name = λ is. absurd (let k : sort_number symbol.sort ≡ 0 = ap sort_number is in omega arith);
+      number = λ is. absurd (let k : sort_number symbol.sort ≡ 2 = ap sort_number is in omega arith);
+      decimal = λ is. absurd (let k : sort_number symbol.sort ≡ 3 = ap sort_number is in omega arith);
     }
 
 name_of : (bytes kept : List ℕ) → IsWord bytes → kept ≡ bytes → word_sort (reserved_of bytes) ≡ sorts.Name → IsName kept
@@ -93,9 +93,9 @@ fine_kind text kinds.Number at len symbol lexeme is =
     let same : range.0 ≡ symbol.value = same_value text (record { kind = kinds.Number; at = at; len = len }) other symbol
     (record { sort = is.sort; bytes = is.bytes; value = range.1; at = is.at }) is in
     record {
-      name = λ named. absurd (let k : 2 ≡ 0 = sym (ap number_of is.sort) ∙ ap number_of named in omega arith);
+      name = λ named. absurd (let k : 2 ≡ 0 = sym (ap sort_number is.sort) ∙ ap sort_number named in omega arith);
       number = λ _. subst IsNumberInRange same range.2;
-      decimal = λ other. absurd (let k : 2 ≡ 3 = sym (ap number_of is.sort) ∙ ap number_of other in omega arith);
+      decimal = λ other. absurd (let k : 2 ≡ 3 = sym (ap sort_number is.sort) ∙ ap sort_number other in omega arith);
     }
 fine_kind text kinds.Decimal at len symbol lexeme is =
     let range = lexeme.in_range in
@@ -103,8 +103,8 @@ fine_kind text kinds.Decimal at len symbol lexeme is =
     let same : range.0 ≡ symbol.value = same_value text (record { kind = kinds.Decimal; at = at; len = len }) other symbol
     (record { sort = is.sort; bytes = is.bytes; value = range.1; at = is.at }) is in
     record {
-      name = λ named. absurd (let k : 3 ≡ 0 = sym (ap number_of is.sort) ∙ ap number_of named in omega arith);
-      number = λ other. absurd (let k : 3 ≡ 2 = sym (ap number_of is.sort) ∙ ap number_of other in omega arith);
+      name = λ named. absurd (let k : 3 ≡ 0 = sym (ap sort_number is.sort) ∙ ap sort_number named in omega arith);
+      number = λ other. absurd (let k : 3 ≡ 2 = sym (ap sort_number is.sort) ∙ ap sort_number other in omega arith);
       decimal = λ _. subst IsNumberInRange same range.2;
     }
 fine_kind text kind at len symbol lexeme is =

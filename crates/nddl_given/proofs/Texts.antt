@@ -11,8 +11,8 @@ use Rattle.nddl_includes.specs.declared.include.Ask.{Ask}
 use Rattle.nddl_includes.specs.declared.include.Include.{Include}
 use Rattle.nddl_includes.specs.Includes.{includes_of, is_skipped, ask_in}
 use Rattle.nddl_includes.specs.Limits.{deepest}
-use Rattle.nddl_includes.specs.Outcomes.{Outcome}
-use Rattle.nddl_includes.specs.Visits.{Visit, Takes, Enters, Follows, VisitsBy, Visits, first_ask, with_file}
+use Rattle.nddl_includes.specs.Outcomes.{FilesOutcome}
+use Rattle.nddl_includes.specs.Visits.{Visit, Takes, Enters, FollowsIncludes, VisitsBy, Visits, first_ask, with_file}
 use Rattle.nddl_files.specs.Language.{ReadsAs}
 use Rattle.nddl_given.specs.Given.{AreGiven}
 use Rattle.nddl_given.specs.Nodes.{text_nodes}
@@ -68,21 +68,21 @@ entered_texts visit texts ask read out have (inl p) = texts ask read out have p.
 entered_texts visit texts ask read out have (inr p) = absurd (let never = p.1 in cc)
 
 met_texts : (visit : Visit) → IsTexting visit → (file : List ℕ) (includes : List Include) (ask : Ask) (read out : List FileDecls) → HaveTexts read
-    → ((between : List FileDecls) → HaveTexts between → Follows visit file includes between (Ok out) → HaveTexts out)
-    → (met : Outcome) → Enters visit ask read met
-    → MatchResult met (λ between. Follows visit file includes between (Ok out)) (λ fault. Ok out ≡ Err fault) → HaveTexts out
+    → ((between : List FileDecls) → HaveTexts between → FollowsIncludes visit file includes between (Ok out) → HaveTexts out)
+    → (met : FilesOutcome) → Enters visit ask read met
+    → MatchResult met (λ between. FollowsIncludes visit file includes between (Ok out)) (λ fault. Ok out ≡ Err fault) → HaveTexts out
 met_texts visit texts file includes ask read out have rest (Ok between) enters follows = rest between (entered_texts visit texts ask read between have enters) follows
 met_texts visit texts file includes ask read out have rest (Err fault) enters never = absurd (let never' : ⊥ = cc in never')
 
 step_texts : (visit : Visit) → IsTexting visit → (file : List ℕ) (includes : List Include) (ask : Ask) (read out : List FileDecls) → HaveTexts read
-    → ((between : List FileDecls) → HaveTexts between → Follows visit file includes between (Ok out) → HaveTexts out)
-    → (skipped : Bool) → MatchBool skipped (Follows visit file includes read (Ok out)) ((met : Outcome) × Enters visit ask read met
-    × MatchResult met (λ between. Follows visit file includes between (Ok out)) (λ fault. Ok out ≡ Err fault)) → HaveTexts out
+    → ((between : List FileDecls) → HaveTexts between → FollowsIncludes visit file includes between (Ok out) → HaveTexts out)
+    → (skipped : Bool) → MatchBool skipped (FollowsIncludes visit file includes read (Ok out)) ((met : FilesOutcome) × Enters visit ask read met
+    × MatchResult met (λ between. FollowsIncludes visit file includes between (Ok out)) (λ fault. Ok out ≡ Err fault)) → HaveTexts out
 step_texts visit texts file includes ask read out have rest true follows = rest read have follows
 step_texts visit texts file includes ask read out have rest false step = met_texts visit texts file includes ask read out have rest step.0 step.1 step.2
 
 follows_texts : (visit : Visit) → IsTexting visit → (file : List ℕ) (includes : List Include) (read out : List FileDecls) → HaveTexts read
-    → Follows visit file includes read (Ok out) → HaveTexts out
+    → FollowsIncludes visit file includes read (Ok out) → HaveTexts out
 follows_texts visit texts file [] read out have is = let same : out ≡ read = cc in subst HaveTexts (sym same) have
 follows_texts visit texts file (include ∷ includes) read out have follows =
     step_texts visit texts file includes (ask_in file include) read out have (λ between. follows_texts visit texts file includes between out)

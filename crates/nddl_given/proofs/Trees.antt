@@ -43,7 +43,7 @@ use Rattle.nddl_ast.specs.declared.declaration.Decl.{Decl}
 use Rattle.nddl_ast.specs.declared.declaration.Decl.TheVariants as decls
 use Rattle.nddl_lexer.specs.Spelling.{IsNumberInRange}
 use Rattle.nddl_statements.specs.Grammar.{IsWrittenName, IsPath, Writes, IsLiteral, IsExpr, IsWrittenValue, AreArguments, IsCreation, IsInit, IsBase, IsBounds, IsType, IsTyped, IsStart, IsVariable, IsCall, IsAsk, IsCondition, Encloses, IsLoneIf, AreStatements, IsBlock}
-use Rattle.nddl_parser.specs.Grammar.{IsPart, IsSet, IsMember, IsFile, IsParent, IsDecl, IsText}
+use Rattle.nddl_parser.specs.Grammar.{IsPredicatePart, IsSet, IsMember, IsFile, IsParent, IsDecl, IsText}
 use Rattle.nddl_given.specs.Fine.{IsFineName, IsFinePath, IsFineConstant, IsFineExpr, IsFineValue, IsFineCreation, IsFineInit, IsFineBase, IsFineBounds, IsFineType, IsFineTyped, IsFineStart, IsFineVariable, IsFineCall, IsFineAsk, IsFineCondition, AreFineStatements, IsFinePart, IsFineSet, IsFineMember, IsFineParent, IsFineDecl}
 use Rattle.nddl_given.specs.Nodes.{names_nodes, path_nodes, expr_nodes, creation_nodes, init_nodes, bounds_nodes, type_nodes, typed_nodes, start_nodes, variable_nodes, call_nodes, ask_nodes, condition_nodes, statements_nodes, block_nodes, part_nodes, set_nodes, member_nodes, parent_nodes, decl_nodes}
 use Rattle.nddl_given.proofs.Symbols.{IsFineSymbol, AreFineSymbols, places_of}
@@ -219,7 +219,7 @@ block_shows block = enclosed block.at (statements_show block.statements)
 
 -- ---- declarations
 
-part_shows : (part : PredicatePart) → Shows (IsPart part) (IsFinePart part) (part_nodes part)
+part_shows : (part : PredicatePart) → Shows (IsPredicatePart part) (IsFinePart part) (part_nodes part)
 part_shows (parts.Parameter typed) = first_of (IsMark sorts.Semicolon) (typed_shows typed)
 part_shows (parts.Constraint call) = call_shows call
 
@@ -233,7 +233,7 @@ member_shows : (member : Member) → Shows (IsMember member) (IsFineMember membe
 member_shows (members.Field typed) = first_of (IsMark sorts.Semicolon) (typed_shows typed)
 member_shows (members.Predicate at name parts) = past_word (sorts.Word keywords.Predicate) at
     (both (name_shows name)
-    (past_mark sorts.BraceOpen (first_of _ (many IsPart IsFinePart part_nodes part_shows parts))))
+    (past_mark sorts.BraceOpen (first_of _ (many IsPredicatePart IsFinePart part_nodes part_shows parts))))
 member_shows (members.Constructor name formals sets) = both (name_shows name)
     (past_mark sorts.ParenOpen
     (both (listed sorts.Comma IsTyped IsFineTyped typed_nodes typed_shows formals)

@@ -13,8 +13,8 @@ use Rattle.nddl_includes.specs.declared.include.Ask.{Ask}
 use Rattle.nddl_includes.specs.declared.include.Include.{Include}
 use Rattle.nddl_includes.specs.Includes.{includes_of, include_in, is_skipped, ask_in}
 use Rattle.nddl_includes.specs.Limits.{deepest}
-use Rattle.nddl_includes.specs.Outcomes.{Reading, Outcome}
-use Rattle.nddl_includes.specs.Visits.{Visit, Enters, Follows, VisitsBy, Visits, ReadsAll, first_ask, with_file}
+use Rattle.nddl_includes.specs.Outcomes.{Reading, FilesOutcome}
+use Rattle.nddl_includes.specs.Visits.{Visit, Enters, FollowsIncludes, VisitsBy, Visits, ReadsAll, first_ask, with_file}
 use Rattle.nddl_joined.specs.declared.site.Site.{Site}
 use Rattle.nddl_joined.specs.Joined.{Stretch, include_stretch, is_file_named, decl_stretch, decls_stretch, decls_in, file_stretch}
 
@@ -78,9 +78,9 @@ entered visit begins ask read out (inl p) = begins ask read out p.1
 entered visit begins ask read out (inr p) = absurd (let never = p.1 in cc)
 
 met_grows : (visit : Visit) → IsBeginning visit → (file : List ℕ) (includes : List Include) (include : Include) (read out : List FileDecls)
-    → ((between : List FileDecls) → Follows visit file includes between (Ok out) → Grows between out)
-    → is_skipped include.name read ≡ false → (met : Outcome) → Enters visit (ask_in file include) read met
-    → MatchResult met (λ between. Follows visit file includes between (Ok out)) (λ fault. Ok out ≡ Err fault)
+    → ((between : List FileDecls) → FollowsIncludes visit file includes between (Ok out) → Grows between out)
+    → is_skipped include.name read ≡ false → (met : FilesOutcome) → Enters visit (ask_in file include) read met
+    → MatchResult met (λ between. FollowsIncludes visit file includes between (Ok out)) (λ fault. Ok out ≡ Err fault)
     → Grows read out
 met_grows visit begins file includes include read out rest free (Ok between) enters follows =
     grows_both read between out
@@ -89,17 +89,17 @@ met_grows visit begins file includes include read out rest free (Ok between) ent
 met_grows visit begins file includes include read out rest free (Err fault) enters never = absurd (let never' : ⊥ = cc in never')
 
 step_grows : (visit : Visit) → IsBeginning visit → (file : List ℕ) (includes : List Include) (include : Include) (read out : List FileDecls)
-    → ((between : List FileDecls) → Follows visit file includes between (Ok out) → Grows between out)
+    → ((between : List FileDecls) → FollowsIncludes visit file includes between (Ok out) → Grows between out)
     → (skipped : Bool) → is_skipped include.name read ≡ skipped
-    → MatchBool skipped (Follows visit file includes read (Ok out)) ((met : Outcome) × Enters visit (ask_in file include) read met
-    × MatchResult met (λ between. Follows visit file includes between (Ok out)) (λ fault. Ok out ≡ Err fault))
+    → MatchBool skipped (FollowsIncludes visit file includes read (Ok out)) ((met : FilesOutcome) × Enters visit (ask_in file include) read met
+    × MatchResult met (λ between. FollowsIncludes visit file includes between (Ok out)) (λ fault. Ok out ≡ Err fault))
     → Grows read out
 step_grows visit begins file includes include read out rest true is follows = rest read follows
 step_grows visit begins file includes include read out rest false is step =
     met_grows visit begins file includes include read out rest is step.0 step.1 step.2
 
 pub follows_grows : (visit : Visit) → IsBeginning visit → (file : List ℕ) (includes : List Include) (read out : List FileDecls)
-    → Follows visit file includes read (Ok out) → Grows read out
+    → FollowsIncludes visit file includes read (Ok out) → Grows read out
 follows_grows visit begins file [] read out is = grows_none read out (let same : out ≡ read = cc in same)
 follows_grows visit begins file (include ∷ includes) read out follows =
     step_grows visit begins file includes include read out (λ between. follows_grows visit begins file includes between out)
@@ -171,7 +171,7 @@ leaves_more files read out grows leaves =
 longer : (read out : List FileDecls) → Grows read out → length read ≤ length out
 longer read out grows = let n = ap length grows.added ∙ length-append read grows.more in omega arith
 
-same_out : (out read : List FileDecls) → ◌≡◌ {A = Outcome} (Ok out) (Ok read) → out ≡ read
+same_out : (out read : List FileDecls) → ◌≡◌ {A = FilesOutcome} (Ok out) (Ok read) → out ≡ read
 same_out out read same = cc
 
 -- a file that was asked for is the next one
@@ -210,11 +210,11 @@ module _ (files : List FileDecls) (file_from : ℕ → Stretch) (most : ℕ) (vi
   entered_into ask read between (inr p) leaves few = absurd (let never = p.1 in cc)
 
   met_right : (asker : List ℕ) (include : Include) (file number : ℕ) (more : List Decl) (read out : List FileDecls)
-      → ((between : List FileDecls) → Follows visit asker (includes_of more) between (Ok out) → length out ≤ length between + most
+      → ((between : List FileDecls) → FollowsIncludes visit asker (includes_of more) between (Ok out) → length out ≤ length between + most
       → (decls_stretch file_from files file (number + 1) more (length between)).next ≡ length out)
       → Leaves files out → length out ≤ length read + most → is_skipped include.name read ≡ false
-      → (met : Outcome) → Enters visit (ask_in asker include) read met
-      → MatchResult met (λ between. Follows visit asker (includes_of more) between (Ok out)) (λ fault. Ok out ≡ Err fault)
+      → (met : FilesOutcome) → Enters visit (ask_in asker include) read met
+      → MatchResult met (λ between. FollowsIncludes visit asker (includes_of more) between (Ok out)) (λ fault. Ok out ≡ Err fault)
       → (decls_stretch file_from files file (number + 1) more (include_stretch file_from (is_file_named files (length read) include.name) (length read)).next).next ≡ length out
   met_right asker include file number more read out rest leaves few free (Ok between) enters follows =
       let grows = follows_grows visit begins asker (includes_of more) between out follows in
@@ -226,11 +226,11 @@ module _ (files : List FileDecls) (file_from : ℕ → Stretch) (most : ℕ) (vi
   met_right asker include file number more read out rest leaves few free (Err fault) enters never = absurd (let never' : ⊥ = cc in never')
 
   step_right : (asker : List ℕ) (include : Include) (file number : ℕ) (more : List Decl) (read out : List FileDecls)
-      → ((between : List FileDecls) → Follows visit asker (includes_of more) between (Ok out) → length out ≤ length between + most
+      → ((between : List FileDecls) → FollowsIncludes visit asker (includes_of more) between (Ok out) → length out ≤ length between + most
       → (decls_stretch file_from files file (number + 1) more (length between)).next ≡ length out)
       → Leaves files out → length out ≤ length read + most → (skipped : Bool) → is_skipped include.name read ≡ skipped
-      → MatchBool skipped (Follows visit asker (includes_of more) read (Ok out)) ((met : Outcome) × Enters visit (ask_in asker include) read met
-      × MatchResult met (λ between. Follows visit asker (includes_of more) between (Ok out)) (λ fault. Ok out ≡ Err fault))
+      → MatchBool skipped (FollowsIncludes visit asker (includes_of more) read (Ok out)) ((met : FilesOutcome) × Enters visit (ask_in asker include) read met
+      × MatchResult met (λ between. FollowsIncludes visit asker (includes_of more) between (Ok out)) (λ fault. Ok out ≡ Err fault))
       → (decls_stretch file_from files file (number + 1) more (include_stretch file_from (is_file_named files (length read) include.name) (length read)).next).next ≡ length out
   step_right asker include file number more read out rest leaves few true is follows =
       let grows = follows_grows visit begins asker (includes_of more) read out follows in
@@ -239,7 +239,7 @@ module _ (files : List FileDecls) (file_from : ℕ → Stretch) (most : ℕ) (vi
       met_right asker include file number more read out rest leaves few is step.0 step.1 step.2
 
   follows_right : (asker : List ℕ) (file number : ℕ) (some : List Decl) (read out : List FileDecls)
-      → Follows visit asker (includes_of some) read (Ok out) → Leaves files out → length out ≤ length read + most
+      → FollowsIncludes visit asker (includes_of some) read (Ok out) → Leaves files out → length out ≤ length read + most
       → (decls_stretch file_from files file number some (length read)).next ≡ length out
   follows_right asker file number [] read out follows leaves few = sym (ap length (same_out out read follows))
   follows_right asker file number (decls.Include at name name_at ∷ more) read out follows leaves few =
