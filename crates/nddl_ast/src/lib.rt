@@ -5,6 +5,7 @@
 
 pub mod declaration;
 pub mod expression;
+pub mod fault;
 pub mod kind;
 pub mod name;
 mod places;
@@ -12,5 +13,6 @@ pub mod same;
 pub mod statement;
 
 pub use declaration::{Decl, FileDecls};
+pub use fault::TextFault;
 pub use kind::TextKind;
 pub use same::are_same;
