@@ -10,3 +10,9 @@ pub mod Summing
 pub mod Sharing
 pub mod Bounding
 pub mod Reasons
+pub mod Breaking
+pub mod Singles
+pub mod Saying
+pub mod Closing
+pub mod Filling
+pub mod Completing

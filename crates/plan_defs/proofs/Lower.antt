@@ -63,12 +63,12 @@ pub record Further (from to : Situation) : Type 0 where
 
 module _ (model : Model) (Before After : TokenName → Type 0) (up : (token : TokenName) → Before token → After token) where
   -- what counts goes on to count
-  counts_further : (argument : Argument) → ArgumentCounts model Before argument → ArgumentCounts model After argument
+  pub counts_further : (argument : Argument) → ArgumentCounts model Before argument → ArgumentCounts model After argument
   counts_further (Value value) counts = tt
   counts_further (Variable name) counts = λ token belongs rejectable. up token (counts token belongs rejectable)
 
   -- and what an item says it goes on to say
-  says_further : (context : Context) (item : Item) (claim : Claim) → ItemSays model Before context item claim → ItemSays model After context item claim
+  pub says_further : (context : Context) (item : Item) (claim : Claim) → ItemSays model Before context item claim → ItemSays model After context item claim
   says_further context (Constraint kind terms) claim says = record {
     is_kind = says.is_kind;
     means = says.means;

@@ -1,5 +1,6 @@
 pub mod Situations
 pub mod Terms
+pub mod Plans
 pub mod Support
 pub mod Claims
 pub mod Consistency
@@ -8,7 +9,11 @@ pub mod Sums
 pub mod Resources
 pub mod Closure
 pub mod Refusals
+pub mod Valid
+pub mod Broken
 pub mod Settling
 pub mod History
 pub mod Steps
 pub mod Laws
+pub mod PlanStates
+pub mod PlanLaws

@@ -4,6 +4,7 @@ ghost use Rattle.plan_defs.specs.Closure.{IsConsistentState, IsClosed};
 ghost use Rattle.plan_defs.specs.Laws.{LeastIsOne, LeastIsNotCollapsed, BelowIsReflexive, BelowIsTransitive, BelowIsAntisymmetric};
 ghost use Rattle.plan_defs.specs.Laws.{WhatIsAskedStays, OrdersStay, StatesBelowHaveWhatIsAsked, ClaimsOfOrderBoundBoth};
 ghost use Rattle.plan_defs.specs.Laws.{StepsAddUp, NarrowingIsAStep, FrontsStayConsistent, SharesAreSums, ChangesAreSums};
+ghost use Rattle.plan_defs.specs.PlanLaws.{FirstBrokenIsOne, ValidPlansBreakNone, ValidPlansAreClosed};
 ghost use Rattle.plan_defs.specs.Laws.{SettlingIsIdempotent, FrontsHaveLeastStates, HistoriesAreSettled, FirstRefusalIsOne};
 
 /// Decisions leave one least state at most, and none where they collapse.
@@ -75,4 +76,19 @@ pub fn shares_are_sums()
 /// changes that the tokens can make to it.
 pub fn changes_are_sums()
     ensures { ChangesAreSums }
+{}
+
+/// A plan breaks one clause first at most, and at one place.
+pub fn a_plan_breaks_one_clause_first()
+    ensures { FirstBrokenIsOne }
+{}
+
+/// A valid plan breaks no clause.
+pub fn valid_plans_break_none()
+    ensures { ValidPlansBreakNone }
+{}
+
+/// Where a valid plan agrees with decisions, its own state is closed for them, and has all its values.
+pub fn valid_plans_are_closed()
+    ensures { ValidPlansAreClosed }
 {}

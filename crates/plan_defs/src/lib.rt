@@ -5,3 +5,6 @@
 #![tactic(auto)]
 
 pub mod laws;
+pub mod plan;
+
+pub use plan::{Clause, Line, Place, Plan};
