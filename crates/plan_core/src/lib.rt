@@ -1,0 +1,15 @@
+//! Plans as text.
+//!
+//! `write_plan(alloc, &model, &plan)?` is the text of a plan, line by line in order. What a text is read as, and its first
+//! fault, is defined here too (`specs/PlanTexts`); the reader isn't here yet.
+#![tactic(auto)]
+
+pub mod fault;
+mod names;
+pub mod statement;
+pub mod subject;
+pub mod words;
+pub mod writing;
+
+pub use fault::PlanTextFault;
+pub use writing::write_plan;
