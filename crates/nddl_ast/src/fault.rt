@@ -7,11 +7,7 @@ use eu_name::text::Text;
 #[derive(Drop)]
 pub enum TextFault {
     /// What is wrong first, in which file, and at which byte of it.
-    At {
-        kind: TextKind,
-        file: Text,
-        at: u32,
-    },
+    At { kind: TextKind, file: Text, at: u32 },
     /// There was no memory.
     Memory,
 }

@@ -1,0 +1,8 @@
+use Rattle.std.proofs.Common.{ℕ, ◌<◌}
+use Rattle.lineage.specs.Walks.{AreWalkable, IsKnownAs}
+use Rattle.lineage.specs.declared.lineage.Standing.{Standing}
+use Rattle.lineage.proofs.Known.{AreKnownBelow}
+use Rattle.lineage.proofs.lineage.Lineage.of.Given as goal
+
+abbrev pub invariant-loop-number : goal.invariant-loop-number
+invariant-loop-number l = AreKnownBelow l.parents l.marks.items l.order.items l.number

@@ -1,0 +1,4 @@
+pub mod Builtin
+pub mod Finding
+pub mod Index
+pub mod Names
