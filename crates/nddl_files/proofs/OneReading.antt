@@ -100,7 +100,7 @@ some_symbols bytes from (lexeme ∷ lexemes) are =
     let more = some_symbols bytes (lexeme.at + lexeme.len) lexemes are.2 in
     (first.0 ∷ more.0, (first.1, more.1))
 
-outcome_of : (end : ℕ) (symbols : List PlainSymbol) (found : Outcome (List Decl)) → productions.text most_nested symbols ≡ found → (outcome : Result (List Decl) ParseFault) × parsing.IsOutcome end symbols outcome
+outcome_of : (end : ℕ) (symbols : List PlainSymbol) (found : Outcome (List Decl)) → productions.text most_nested symbols ≡ found → (outcome : Result (List Decl) ParseFault) × parsing.IsParseOutcome end symbols outcome
 outcome_of end symbols (got tree []) is = (Ok tree, whole_tree end symbols [] tree is refl)
 outcome_of end symbols (got tree (symbol ∷ rest)) is = (Err (parser.Syntax (next_place end (symbol ∷ rest))), more_left end symbols (symbol ∷ rest) rest symbol tree is refl)
 outcome_of end symbols (stuck rest) is = (Err (parser.Syntax (next_place end rest)), stuck_there end symbols rest is)
