@@ -15,8 +15,8 @@ pub fn last(path: &Path) -> &Name
     }
 }
 
-/// What stands between the first name and the last one, and so the path before the last name without its own first name.
-/// There is none where there is only one name.
+/// What stands between the first name and the last one, and so the path before the last name without its own first
+/// name. There is none where there is only one name.
 pub fn front(path: &Path) -> Option<&[Name]>
     ensures { MatchOption result (path_before path.now ≡ None)
         (λ rest. path_before path.now ≡ Some (record { first = path.now.first; rest = rest.now })) }

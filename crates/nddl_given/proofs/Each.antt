@@ -1,20 +1,20 @@
 -- What is so of each joined declaration.
-use Rattle.std.proofs.Common.{◌≡◌, ℕ, zero, suc, false, ◌+◌, ◌<◌, ◌≤◌, List, [], ◌∷◌, ◌++◌, length, get_or, refl, sym, ◌∙◌, ap, subst, inl, inr, arith}
-use Rattle.std.specs.Prelude.{◌⊎◌, Option, Some, None, All}
-use Rattle.std.specs.List.{slice_get, flat_map, filter_map, AllByRecursion}
+use Rattle.std.proofs.Common.{◌≡◌, ℕ, zero, suc, false, ◌+◌, ◌<◌, ◌≤◌, List, [], ◌∷◌, ◌++◌, length, get_or, sym, ◌∙◌, ap, subst, inl, inr, arith}
+use Rattle.std.specs.Prelude.{Some, None, All}
+use Rattle.std.specs.List.{slice_get, filter_map, AllByRecursion}
 use Rattle.std.specs.Option.{option_map_or}
 use Rattle.std.proofs.lemmas.Bool.{cases_lt}
 use Rattle.std.proofs.lemmas.Option.{none-some, same_Some, slice_get_past, slice_get-get_or, slice_get_within, get_or_from_slice_get}
-use Rattle.std.proofs.lemmas.List.Elements.{All-from_recursion, recursion_from_All}
+use Rattle.std.proofs.lemmas.List.Elements.{All-from_recursion}
 use Rattle.nddl_ast.specs.declared.declaration.Decl.{Decl}
 use Rattle.nddl_ast.specs.declared.declaration.FileDecls.{FileDecls}
 use Rattle.nddl_includes.specs.Limits.{most_bytes}
 use Rattle.nddl_joined.specs.declared.site.Site.{Site}
-use Rattle.nddl_joined.specs.Joined.{decls_in, decl_in, file_stretch, joined_sites, joined_decls, is_include, IsOwnSite}
+use Rattle.nddl_joined.specs.Joined.{decls_in, decl_in, joined_sites, joined_decls, is_include, IsOwnSite}
 use Rattle.nddl_given.specs.Given.{AreGiven}
 use Rattle.nddl_given.specs.Fine.{IsFineDecl}
 use Rattle.nddl_given.specs.Nodes.{decl_nodes, text_nodes}
-use Rattle.nddl_given.specs.Trees.{IsTree, HasText, IsJoinedDecl}
+use Rattle.nddl_given.specs.Trees.{HasText, IsJoinedDecl}
 use Rattle.nddl_joined.proofs.Fills.{pairs_all}
 use Rattle.nddl_given.proofs.Once.{all_filled}
 use Rattle.nddl_given.proofs.Symbols.{Rise}
@@ -67,7 +67,7 @@ of_text decls number decl has at own =
 -- a declaration at a site
 at_site : (files : List FileDecls) → AreGiven files → (site : Site) → IsOwnSite files site → (decl : Decl) × (decl_in files site ≡ Some decl) × IsJoinedDecl decl
 at_site files given site own = elim (cases_lt site.file (length files)) [
-    inl within ↦
+  | inl within ↦
       let file : FileDecls = get_or files site.file (record { name = []; decls = [] }) in
       let found : slice_get files site.file ≡ Some file = slice_get-get_or files site.file (record { name = []; decls = [] }) within in
       let same : decls_in files site.file ≡ file.decls = ap (λ o. option_map_or (λ f. f.decls) o []) found in

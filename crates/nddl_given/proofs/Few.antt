@@ -1,7 +1,7 @@
 -- How many joined declarations there are at most.
-use Rattle.std.proofs.Common.{◌≡◌, ℕ, zero, suc, ◌+◌, ◌*◌, ◌<◌, ◌≤◌, Bool, true, false, List, [], ◌∷◌, ◌++◌, length, get_or, refl, sym, ◌∙◌, ap, subst, inl, inr, arith, length-append}
-use Rattle.std.specs.Prelude.{◌⊎◌, Option, Some, None, All}
-use Rattle.std.specs.List.{slice_get, flat_map}
+use Rattle.std.proofs.Common.{◌≡◌, ℕ, zero, suc, ◌+◌, ◌*◌, ◌<◌, ◌≤◌, Bool, true, false, List, [], ◌∷◌, length, get_or, ap, inl, inr, arith, length-append}
+use Rattle.std.specs.Prelude.{Some, All}
+use Rattle.std.specs.List.{slice_get}
 use Rattle.std.specs.Option.{option_map_or}
 use Rattle.std.proofs.lemmas.Bool.{cases_lt}
 use Rattle.std.proofs.lemmas.Option.{slice_get_past, slice_get-get_or}
@@ -13,10 +13,10 @@ use Rattle.nddl_includes.specs.Laws.{AreRead}
 use Rattle.nddl_includes.proofs.ReadFiles.{reads_files}
 use Rattle.nddl_files.specs.Language.{ReadsAs}
 use Rattle.nddl_joined.specs.declared.site.Site.{Site}
-use Rattle.nddl_joined.specs.Joined.{Stretch, no_stretch, include_stretch, is_file_named, decl_stretch, decls_stretch, decls_in, file_stretch, joined_sites}
+use Rattle.nddl_joined.specs.Joined.{Stretch, include_stretch, is_file_named, decl_stretch, decls_stretch, decls_in, file_stretch}
 use Rattle.nddl_given.specs.Given.{AreGiven}
 use Rattle.nddl_given.specs.Nodes.{decl_nodes, text_nodes}
-use Rattle.nddl_given.specs.Trees.{IsTree, HasText, JoinsFew}
+use Rattle.nddl_given.specs.Trees.{HasText, JoinsFew}
 use Rattle.nddl_given.proofs.Texts.{given_texts, reads_trees}
 use Rattle.nddl_given.proofs.Whole.{goes_whole}
 
@@ -46,7 +46,7 @@ few_decls some has =
 
 few_in : (files : List FileDecls) → All (λ file. HasText file.decls) files → (number : ℕ) → length (decls_in files number) ≤ most_bytes
 few_in files have number = elim (cases_lt number (length files)) [
-    inl within ↦
+  | inl within ↦
       let file : FileDecls = get_or files number (record { name = []; decls = [] }) in
       let found : slice_get files number ≡ Some file = slice_get-get_or files number (record { name = []; decls = [] }) within in
       let same : decls_in files number ≡ file.decls = ap (λ o. option_map_or (λ f. f.decls) o []) found in

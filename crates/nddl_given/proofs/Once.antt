@@ -1,25 +1,24 @@
 -- Each declaration of files that a shelf gives stands once among the joined ones.
-use Rattle.std.proofs.Common.{◌≡◌, ℕ, zero, suc, ◌+◌, ◌<◌, ◌≤◌, List, [], ◌∷◌, length, refl, sym, ◌∙◌, ap, subst, inl, inr, arith}
-use Rattle.std.specs.Prelude.{Option, Some, None}
+use Rattle.std.proofs.Common.{◌≡◌, ◌<◌, List, [], length, sym, ◌∙◌, ap, inl, inr, arith}
+use Rattle.std.specs.Prelude.{None}
 use Rattle.std.specs.List.{slice_get}
 use Rattle.std.specs.Option.{option_map_or}
 use Rattle.std.proofs.lemmas.Bool.{cases_lt}
 use Rattle.std.proofs.lemmas.List.Elements.{All-from_recursion}
 use Rattle.std.proofs.lemmas.Option.{none-some, slice_get_past}
-use Rattle.nddl_ast.specs.declared.declaration.Decl.{Decl}
 use Rattle.nddl_ast.specs.declared.declaration.FileDecls.{FileDecls}
 use Rattle.nddl_files.specs.Language.{ReadsAs}
 use Rattle.nddl_joined.specs.declared.site.Site.{Site}
 use Rattle.nddl_joined.specs.Joined.{decl_in, file_stretch, joined_sites, IsInFileOrder, IsOwnSite}
 use Rattle.nddl_given.specs.Given.{AreGiven, StandOnce}
 use Rattle.nddl_joined.proofs.Fills.{Fills, pairs_all, fills_same}
-use Rattle.nddl_joined.proofs.Stretches.{InFiles, IsWholeStretch, file_filled}
+use Rattle.nddl_joined.proofs.Stretches.{InFiles, file_filled}
 use Rattle.nddl_given.proofs.Whole.{goes_whole}
 
 -- a declaration that is there is in one of the files
 in_files : (files : List FileDecls) (site : Site) → IsOwnSite files site → site.file < length files
 in_files files site own = elim (cases_lt site.file (length files)) [
-    inl within ↦ within
+  | inl within ↦ within
   | inr past ↦
       let none : decl_in files site ≡ None = ap (λ o. slice_get (option_map_or (λ file. file.decls) o []) site.decl) (slice_get_past files site.file past) in
       absurd (none-some own.0 (sym none ∙ own.1))

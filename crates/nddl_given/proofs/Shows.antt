@@ -1,14 +1,12 @@
 -- What the words of a part of the grammar show of its value: a fact, and nodes at some of their places, in order. One
 -- lemma for each way in which the grammar puts its parts together.
-use Rattle.std.proofs.Common.{◌≡◌, ℕ, ◌+◌, ◌<◌, ◌≤◌, List, [], ◌∷◌, ◌++◌, length, get_or, refl, sym, ◌∙◌, ap, subst, inl, inr, arith, length-append}
+use Rattle.std.proofs.Common.{◌≡◌, ℕ, ◌+◌, ◌<◌, ◌≤◌, List, [], ◌∷◌, ◌++◌, length, refl, sym, ◌∙◌, ap, subst, inl, inr, arith}
 use Rattle.std.specs.Prelude.{◌⊎◌, All, map}
 use Rattle.std.specs.List.{flat_map}
 use Rattle.std.proofs.lemmas.List.Elements.{All-nil, All-cons}
-use Rattle.nddl_ast.specs.declared.name.Name.{Name}
 use Rattle.nddl_reading.specs.declared.sort.Sort.{Sort}
-use Rattle.nddl_reading.specs.declared.sort.Sort.TheVariants as sorts
 use Rattle.nddl_reading.specs.Symbols.{PlainSymbol}
-use Rattle.nddl_reading.specs.Exact.{◌·◌, IsPlaced, IsMark, IsNothing, AreMany, AreFollowing, AreSeparated, AreListed, MayMark}
+use Rattle.nddl_reading.specs.Exact.{◌·◌, IsPlaced, IsMark, AreMany, AreFollowing, AreSeparated, AreListed}
 use Rattle.nddl_given.proofs.Symbols.{AreFineSymbols, Rise, places_of, rise_later}
 
 -- ---- nodes at places
@@ -84,9 +82,10 @@ joined_show : (one other fact : Type 0) (first second nodes : List ℕ) (symbols
     → (AreFineSymbols front → one) × Picks first (places_of front) → (AreFineSymbols back → other) × Picks second (places_of back)
     → (AreFineSymbols symbols → fact) × Picks nodes (places_of symbols)
 joined_show one other fact first second nodes symbols front back is make pick p q =
-    let P : List ℕ → Type 0 = λ places. Picks nodes places in
-    ((λ fine. let all = subst AreFineSymbols is fine in make (p.0 (fine_front front back all)) (q.0 (fine_back front back all))),
-    subst P (sym (ap places_of is ∙ places_both front back)) (pick p.1 q.1))
+    let P : List ℕ → Type 0 = λ places. Picks nodes places in (
+      (λ fine. let all = subst AreFineSymbols is fine in make (p.0 (fine_front front back all)) (q.0 (fine_back front back all))),
+      subst P (sym (ap places_of is ∙ places_both front back)) (pick p.1 q.1),
+    )
 
 -- both parts
 pub both : {P Q : Words} {one other : Type 0} {first second : List ℕ} → Shows P one first → Shows Q other second → Shows (P · Q) (one × other) (first ++ second)

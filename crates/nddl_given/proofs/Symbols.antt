@@ -1,19 +1,19 @@
 -- The symbols of a text: names are names, values are in range, and places rise.
 use Rattle.std.proofs.Common.{◌≡◌, ℕ, ℤ, ◌+◌, ◌<◌, ◌≤◌, Bool, true, false, List, [], ◌∷◌, length, refl, sym, ◌∙◌, ap, subst, arith}
-use Rattle.std.specs.Prelude.{Option, Some, None, Contains, is_some}
-use Rattle.eu_name.specs.Word.{IsWord, IsName, reserved_of, reserved_words}
+use Rattle.std.specs.Prelude.{Option, Some, None, is_some}
+use Rattle.eu_name.specs.Word.{IsWord, IsName, reserved_of}
 use Rattle.eu_name.specs.declared.word.Reserved.{Reserved}
 use Rattle.eu_name.proofs.Reserved.{reserved_is}
 use Rattle.nddl_lexer.specs.declared.kinds.LexKind.{LexKind}
 use Rattle.nddl_lexer.specs.declared.kinds.LexKind.TheVariants as kinds
 use Rattle.nddl_lexer.specs.declared.kinds.Lexeme.{Lexeme}
-use Rattle.nddl_lexer.specs.Spelling.{IsSpelled, IsInRange, IsNumberInRange}
+use Rattle.nddl_lexer.specs.Spelling.{IsNumberInRange}
 use Rattle.nddl_lexer.specs.Reading.{AreLexemesOf, IsLexemeOf, bytes_of}
 use Rattle.nddl_reading.specs.declared.sort.Sort.{Sort}
 use Rattle.nddl_reading.specs.declared.sort.Sort.TheVariants as sorts
 use Rattle.nddl_reading.specs.Sorts.{sort_number}
 use Rattle.nddl_reading.specs.Symbols.{PlainSymbol}
-use Rattle.nddl_parser.specs.Symbols.{word_sort, sort_of, KeepsBytes, HasValue, IsSymbolOf, AreSymbols}
+use Rattle.nddl_parser.specs.Symbols.{word_sort, sort_of, IsSymbolOf, AreSymbols}
 use Rattle.nddl_parser.proofs.SymbolsOnce.{symbols_once}
 
 -- what the bytes and the value of a symbol are, by its sort
@@ -141,7 +141,9 @@ rising_symbols text from (lexeme ∷ lexemes) (symbol ∷ symbols) lie are =
     let low : from ≤ lexeme.at = lie.0 in
     let within : lexeme.at + lexeme.len ≤ length text = lie.1.within in
     let some : 0 < lexeme.len = lie.1.some in
-    let same : symbol.at ≡ lexeme.at = are.0.at in
-    (omega arith, omega arith,
-    rise_later (lexeme.at + lexeme.len) (symbol.at + 1) (length text) (places_of symbols) (omega arith)
-    (rising_symbols text (lexeme.at + lexeme.len) lexemes symbols lie.2 are.1))
+    let same : symbol.at ≡ lexeme.at = are.0.at in (
+      omega arith,
+      omega arith,
+      rise_later (lexeme.at + lexeme.len) (symbol.at + 1) (length text) (places_of symbols) (omega arith)
+          (rising_symbols text (lexeme.at + lexeme.len) lexemes symbols lie.2 are.1),
+    )

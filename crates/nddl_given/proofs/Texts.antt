@@ -1,6 +1,6 @@
 -- What is so of texts that are read, and that files that a shelf gives have texts.
-use Rattle.std.proofs.Common.{◌≡◌, ℕ, zero, suc, ◌+◌, ◌<◌, ◌≤◌, Bool, true, false, List, [], ◌∷◌, ◌++◌, length, get_or, refl, sym, ◌∙◌, ap, subst, inl, inr, arith}
-use Rattle.std.specs.Prelude.{◌⊎◌, Option, Ok, Err, MatchResult, MatchBool, All}
+use Rattle.std.proofs.Common.{◌≡◌, ℕ, zero, suc, ◌+◌, ◌<◌, ◌≤◌, Bool, true, false, List, [], ◌∷◌, length, sym, subst, inl, inr, arith}
+use Rattle.std.specs.Prelude.{Option, Ok, Err, MatchResult, MatchBool, All}
 use Rattle.std.specs.List.{AllByRecursion}
 use Rattle.std.proofs.lemmas.List.Elements.{All-nil, All-cons, All-append, All-from_recursion}
 use Rattle.eu_io.specs.declared.shelf.FileEntry.{FileEntry}
@@ -12,13 +12,13 @@ use Rattle.nddl_includes.specs.declared.include.Include.{Include}
 use Rattle.nddl_includes.specs.Includes.{includes_of, is_skipped, ask_in}
 use Rattle.nddl_includes.specs.Limits.{deepest}
 use Rattle.nddl_includes.specs.Outcomes.{FilesOutcome}
-use Rattle.nddl_includes.specs.Visits.{Visit, Takes, Enters, FollowsIncludes, VisitsBy, Visits, first_ask, with_file}
+use Rattle.nddl_includes.specs.Visits.{Visit, Enters, FollowsIncludes, VisitsBy, Visits, first_ask, with_file}
 use Rattle.nddl_files.specs.Language.{ReadsAs}
 use Rattle.nddl_given.specs.Given.{AreGiven}
 use Rattle.nddl_given.specs.Nodes.{text_nodes}
-use Rattle.nddl_given.specs.Trees.{IsTree, ReadsTrees, HasText}
+use Rattle.nddl_given.specs.Trees.{ReadsTrees, HasText}
 use Rattle.nddl_joined.proofs.Fills.{Pairs, pairs_all}
-use Rattle.nddl_given.proofs.Symbols.{fine_symbols, rising_symbols, Rise, rise_later, places_of}
+use Rattle.nddl_given.proofs.Symbols.{fine_symbols, rising_symbols, Rise, places_of}
 use Rattle.nddl_given.proofs.Shows.{picks_rise, rise_few}
 use Rattle.nddl_given.proofs.Trees.{text_shows}
 

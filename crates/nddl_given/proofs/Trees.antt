@@ -1,5 +1,5 @@
 -- What the words of each part of the grammar show of it, in the order of the grammar's definitions.
-use Rattle.std.proofs.Common.{◌≡◌, ℕ, ◌+◌, ◌<◌, ◌≤◌, true, false, List, [], ◌∷◌, ◌++◌, length, refl, sym, ◌∙◌, ap, subst, inl, inr, arith}
+use Rattle.std.proofs.Common.{◌≡◌, ℕ, ◌<◌, List, [], ◌∷◌, length, sym, ap, subst, inl, inr}
 use Rattle.std.specs.Prelude.{◌⊎◌, Option, Some, None, All, map}
 use Rattle.std.specs.List.{flat_map}
 use Rattle.eu_name.specs.Word.{IsName}
@@ -7,7 +7,7 @@ use Rattle.eu_name.specs.declared.word.Reserved.TheVariants as keywords
 use Rattle.nddl_reading.specs.declared.sort.Sort.{Sort}
 use Rattle.nddl_reading.specs.declared.sort.Sort.TheVariants as sorts
 use Rattle.nddl_reading.specs.Symbols.{PlainSymbol}
-use Rattle.nddl_reading.specs.Exact.{◌·◌, IsPlaced, IsMark, IsNothing, AreMany, AreFollowing, AreSeparated, AreListed, MayMark}
+use Rattle.nddl_reading.specs.Exact.{◌·◌, IsPlaced, IsMark, IsNothing, AreFollowing, AreSeparated, MayMark}
 use Rattle.nddl_ast.specs.declared.name.Name.{Name}
 use Rattle.nddl_ast.specs.declared.name.Path.{Path}
 use Rattle.nddl_ast.specs.declared.expression.Constant.{Constant}
@@ -60,9 +60,10 @@ name_shows name = record {
   shown = λ symbols is.
       let P : List PlainSymbol → Type 0 = λ s. Picks (name.at ∷ []) (places_of s) in
       let text : is.symbol.bytes ≡ name.text = sym (ap (λ n. n.text) is.is) in
-      let here : name.at ≡ is.symbol.at = ap (λ n. n.at) is.is in
-      ((λ fine. let all = subst AreFineSymbols is.only fine in subst IsName text (all.0.name is.sorted)),
-      subst P (sym is.only) (inl (here, tt)));
+      let here : name.at ≡ is.symbol.at = ap (λ n. n.at) is.is in (
+        (λ fine. let all = subst AreFineSymbols is.only fine in subst IsName text (all.0.name is.sorted)),
+        subst P (sym is.only) (inl (here, tt)),
+      );
 }
 
 names_show : (names : List Name) → Shows (AreFollowing sorts.Point IsWrittenName names) (All IsFineName names) (names_nodes names)
@@ -82,9 +83,10 @@ written_fine symbol (constants.Truth value) writes fine = tt
 literal_shows : (literal : Literal) → Shows (IsLiteral literal) (IsFineConstant literal.constant) (literal.at ∷ [])
 literal_shows literal = record {
   shown = λ symbols is.
-      let P : List PlainSymbol → Type 0 = λ s. Picks (literal.at ∷ []) (places_of s) in
-      ((λ fine. let all = subst AreFineSymbols is.only fine in written_fine is.symbol literal.constant is.written all.0),
-      subst P (sym is.only) (inl (is.placed, tt)));
+      let P : List PlainSymbol → Type 0 = λ s. Picks (literal.at ∷ []) (places_of s) in (
+        (λ fine. let all = subst AreFineSymbols is.only fine in written_fine is.symbol literal.constant is.written all.0),
+        subst P (sym is.only) (inl (is.placed, tt)),
+      );
 }
 
 expr_shows : (expr : Expr) → Shows (IsExpr expr) (IsFineExpr expr) (expr_nodes expr)

@@ -1,6 +1,6 @@
 -- The joined declarations of files that were read together go on to the end of the files.
-use Rattle.std.proofs.Common.{◌≡◌, ℕ, zero, suc, ◌+◌, ◌<◌, ◌≤◌, Bool, true, false, List, [], ◌∷◌, ◌++◌, length, refl, sym, ◌∙◌, ap, subst, inl, inr, arith, append_assoc, length-append}
-use Rattle.std.specs.Prelude.{◌⊎◌, ◌||◌, Option, Some, None, Ok, Err, MatchResult, MatchBool, bytes_eq}
+use Rattle.std.proofs.Common.{◌≡◌, ℕ, zero, suc, ◌+◌, ◌≤◌, Bool, true, false, List, [], ◌∷◌, ◌++◌, length, refl, sym, ◌∙◌, ap, subst, inl, inr, arith, append_assoc, length-append}
+use Rattle.std.specs.Prelude.{Option, Some, None, Ok, Err, MatchResult, MatchBool, bytes_eq}
 use Rattle.std.specs.List.{slice_get}
 use Rattle.std.specs.Option.{option_map_or}
 use Rattle.std.proofs.lemmas.List.{append-nil}
@@ -11,12 +11,11 @@ use Rattle.nddl_ast.specs.declared.declaration.Decl.TheVariants as decls
 use Rattle.nddl_ast.specs.declared.declaration.FileDecls.{FileDecls}
 use Rattle.nddl_includes.specs.declared.include.Ask.{Ask}
 use Rattle.nddl_includes.specs.declared.include.Include.{Include}
-use Rattle.nddl_includes.specs.Includes.{includes_of, include_in, is_skipped, ask_in}
+use Rattle.nddl_includes.specs.Includes.{includes_of, is_skipped, ask_in}
 use Rattle.nddl_includes.specs.Limits.{deepest}
 use Rattle.nddl_includes.specs.Outcomes.{Reading, FilesOutcome}
 use Rattle.nddl_includes.specs.Visits.{Visit, Enters, FollowsIncludes, VisitsBy, Visits, ReadsAll, first_ask, with_file}
-use Rattle.nddl_joined.specs.declared.site.Site.{Site}
-use Rattle.nddl_joined.specs.Joined.{Stretch, include_stretch, is_file_named, decl_stretch, decls_stretch, decls_in, file_stretch}
+use Rattle.nddl_joined.specs.Joined.{Stretch, include_stretch, is_file_named, decls_stretch, decls_in, file_stretch}
 
 -- ---- what is read has names that weren't skipped
 
@@ -178,10 +177,11 @@ same_out out read same = cc
 asked : (files read out : List FileDecls) (ask : Ask) (begins : Begins ask read out) → Leaves files out
     → (rest : List FileDecls) × (files ≡ read ++ record { name = ask.name; decls = begins.decls } ∷ rest)
 asked files read out ask begins leaves =
-    let file : FileDecls = record { name = ask.name; decls = begins.decls } in
-    (begins.more ++ leaves.rest,
-    leaves.is ∙ (ap (λ r. r ++ leaves.rest) begins.added
-    ∙ (append_assoc (read ++ file ∷ []) begins.more leaves.rest ∙ append_assoc read (file ∷ []) (begins.more ++ leaves.rest))))
+    let file : FileDecls = record { name = ask.name; decls = begins.decls } in (
+      begins.more ++ leaves.rest,
+      leaves.is ∙ (ap (λ r. r ++ leaves.rest) begins.added
+          ∙ (append_assoc (read ++ file ∷ []) begins.more leaves.rest ∙ append_assoc read (file ∷ []) (begins.more ++ leaves.rest))),
+    )
 
 module _ (files : List FileDecls) (file_from : ℕ → Stretch) (most : ℕ) (visit : Visit) (begins : IsBeginning visit)
     (goes : (ask : Ask) (read out : List FileDecls) → visit ask read (Ok out) → Leaves files out → length out ≤ length read + most

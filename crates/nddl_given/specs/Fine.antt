@@ -1,5 +1,5 @@
 -- What is so of the trees of texts: names are names, literals are in range, and no set and no enum is empty.
-use Rattle.std.specs.Prelude.{ℕ, ◌<◌, Option, Some, None, List, length, All, ⊤}
+use Rattle.std.specs.Prelude.{◌<◌, Option, Some, None, length, All, ⊤}
 use Rattle.eu_name.specs.Word.{IsName}
 use Rattle.nddl_ast.specs.declared.name.Name.{Name}
 use Rattle.nddl_ast.specs.declared.name.Path.{Path}
@@ -22,7 +22,7 @@ use Rattle.nddl_ast.specs.declared.statement.Call.{Call}
 use Rattle.nddl_ast.specs.declared.statement.Ask.{Ask}
 use Rattle.nddl_ast.specs.declared.statement.Condition.{Condition}
 use Rattle.nddl_ast.specs.declared.statement.Condition.TheVariants as conditions
-use Rattle.nddl_ast.specs.Tree.{Statements, Nothing, Declares, Calls, Asks, Tests, Chooses, Repeats, Braces}
+use Rattle.nddl_ast.specs.Tree.{Statements, Nothing, Declares, Calls, Asks, Tests, Chooses, Repeats}
 use Rattle.nddl_ast.specs.declared.declaration.Typed.{Typed}
 use Rattle.nddl_ast.specs.declared.declaration.PredicatePart.{PredicatePart}
 use Rattle.nddl_ast.specs.declared.declaration.PredicatePart.TheVariants as parts

@@ -8,8 +8,8 @@ use Rattle.nddl_given.specs.Fine.{IsFineDecl}
 use Rattle.nddl_joined.specs.Joined.{is_include, joined_sites}
 use Rattle.nddl_given.specs.Nodes.{decl_nodes, text_nodes}
 
--- The declarations of a text of so many bytes: their names are names, their literals in range, and no set and no enum is
--- empty; their nodes rise and lie in the text, so there are no more nodes than bytes.
+-- The declarations of a text of so many bytes: their names are names, their literals in range, and no set and no enum
+-- is empty; their nodes rise and lie in the text, so there are no more nodes than bytes.
 pub record IsTree (size : ℕ) (decls : List Decl) : Type 0 where
   pub fine : All IsFineDecl decls
   pub rising : AllPairs (λ one other. one < other) (text_nodes decls)

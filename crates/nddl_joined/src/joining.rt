@@ -9,8 +9,8 @@ use eu_name::sequence::Sequence;
 use nddl_ast::declaration::{Decl, FileDecls};
 use std::alloc::{AllocError, Global};
 
-/// The sites of all declarations of the files, which are in the order in which they were read: those of an included file
-/// stand at the place of its include, and the include is none of them.
+/// The sites of all declarations of the files, which are in the order in which they were read: those of an included
+/// file stand at the place of its include, and the include is none of them.
 pub fn join(alloc: Global, files: &[FileDecls]) -> Result<Sequence<Site>, AllocError>
     ensures { IfOk result (λ sites. sites ≡ joined_sites files.now) }
 {
