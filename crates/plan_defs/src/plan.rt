@@ -5,7 +5,8 @@ use eu_name::sequence::Sequence;
 
 /// A plan: what becomes of each token, and the value of each variable.
 ///
-/// Its lines stand in order of names, the locals of a token behind its own line. The definition `IsPlanOf` says which plans are plans of a model.
+/// Its lines stand in order of names, the locals of a token behind its own line. The definition `IsPlanOf` says which
+/// plans are plans of a model.
 #[derive(Drop)]
 pub struct Plan {
     /// The values of the globals by number, up to the first that is given none.
@@ -64,7 +65,8 @@ pub enum Clause {
     V10,
 }
 
-/// Where a clause is broken. A line is given by its place in the plan; rules, slots, locals and items are those of the predicate of the line's token, by number.
+/// Where a clause is broken. A line is given by its place in the plan; rules, slots, locals and items are those of the
+/// predicate of the line's token, by number.
 #[derive(Clone, Copy, Debug, PartialEq, Eq)]
 pub enum Place {
     Global(u32),
