@@ -4,7 +4,7 @@ use Rattle.std.specs.Prelude.{OnOk}
 use Rattle.std.proofs.lemmas.List.{get_or_default}
 use Rattle.eu_name.specs.declared.name.VarName.TheVariants as variables
 use Rattle.eu_name.specs.declared.name_text.NameText.{NameText}
-use Rattle.eu_name.specs.Spelling.{spelling_of}
+use Rattle.eu_name.specs.Spelling.{name_spelling}
 use Rattle.model_core.specs.declared.model.Model.{Model}
 use Rattle.model_core.specs.declared.variable.ValueKind.{ValueKind}
 use Rattle.model_core.specs.declared.variable.ValueKind.TheVariants.{Int}
@@ -38,7 +38,7 @@ global_value model number kind value lawful (variable, (is, of)) (other, (is', s
 
 pub global_line_put : {A E : Type 0} (model : Model) (number : ℕ) (kind : ValueKind) (value written : ℤ) (old mid named new : List ℕ) (r : Result A E) → written ≡ value → IsLawful model
     → (variable : VarDecl) × (IsGlobal model number variable × (kind ≡ variable.kind)) → Adds IsPaused OneKeyword keywords.Global old mid
-    → (text : NameText) × ((named ≡ mid ++ (codes " " ++ spelling_of text)) × NamesVariable model text (variables.Global number))
+    → (text : NameText) × ((named ≡ mid ++ (codes " " ++ name_spelling text)) × NamesVariable model text (variables.Global number))
     → OnOk r (Adds IsPaused (OneValue model kind) written named new) → OnOk r (AddsLine model (Global number value) old new)
 global_line_put model number kind value written old mid named new r same lawful (variable, (is, kinds_same)) key (text, (put, names_it)) adds =
     global_put model number kind variable value text old mid named new r lawful is kinds_same key names_it put (subst (λ v. OnOk r (Adds IsPaused (OneValue model kind) v named new)) same adds)

@@ -6,7 +6,7 @@ use Rattle.eu_name.specs.declared.name.TokenName.{TokenName}
 use Rattle.eu_name.specs.declared.name.VarName.{VarName}
 use Rattle.eu_name.specs.declared.name.VarName.TheVariants as variables
 use Rattle.eu_name.specs.declared.name_text.NameText.{NameText}
-use Rattle.eu_name.specs.Spelling.{spelling_of}
+use Rattle.eu_name.specs.Spelling.{name_spelling}
 use Rattle.model_core.specs.declared.model.Model.{Model}
 use Rattle.model_core.specs.declared.rule.Slot.{Slot}
 use Rattle.model_core.specs.declared.variable.ValueKind.{ValueKind}
@@ -102,14 +102,14 @@ active_put model fact name number values old mid named pred new (Err e) is preds
 -- ---- globals and locals
 
 pub global_put : {A E : Type 0} (model : Model) (number : ℕ) (kind : ValueKind) (variable : VarDecl) (value : ℤ) (text : NameText) (old mid named new : List ℕ) (r : Result A E) → IsLawful model → IsGlobal model number variable
-    → kind ≡ variable.kind → Adds IsPaused OneKeyword keywords.Global old mid → NamesVariable model text (variables.Global number) → named ≡ mid ++ (codes " " ++ spelling_of text)
+    → kind ≡ variable.kind → Adds IsPaused OneKeyword keywords.Global old mid → NamesVariable model text (variables.Global number) → named ≡ mid ++ (codes " " ++ name_spelling text)
     → OnOk r (Adds IsPaused (OneValue model kind) value named new) → OnOk r (AddsLine model (Global number value) old new)
 global_put model number kind variable value text old mid named new (Ok x) lawful is_global same key names_it put adds = λ names fresh.
     let found : NamedGlobal = record { number = number; kind = kind } in
     let well = variable_text_well_formed model text (variables.Global number) lawful names_it in
     line_adds model names keywords.Global (Global number value) old mid new key
     (adds_then EndsLine (OneGlobal model names) (λ found. Then (OneValue model found.kind) (λ value. Done (Some (Global found.number value)))) found _ mid named new
-    (adds_word 32 (spelling_of text) mid named (λ found. IsFreshName model names (IsGlobalOf model found)) _ found refl (spelling_unbroken text well)
+    (adds_word 32 (name_spelling text) mid named (λ found. IsFreshName model names (IsGlobalOf model found)) _ found refl (spelling_unbroken text well)
     (record { name = variables.Global number; is_name = record { text = text; spells = (well, refl); names = names_it }; wanted = (refl, (variable, (is_global, same))); new = fresh }) put)
     (adds_last EndsLine (OneValue model kind) (λ value. Some (Global number value)) value named new (adds_at_end _ _ named new adds)))
 global_put model number kind variable value text old mid named new (Err e) lawful is_global same key names_it put adds = tt
@@ -120,14 +120,14 @@ local_named model kind (variables.Token token part) text is names_it = absurd is
 local_named model kind (variables.Local token rule number) text is names_it = names_it
 
 pub local_put : {A E : Type 0} (model : Model) (name : VarName) (value written : ℤ) (text : NameText) (old mid named new : List ℕ) (r : Result A E) → written ≡ value → IsLawful model
-    → Adds IsPaused OneKeyword keywords.Local old mid → NamesVariable model text name → named ≡ mid ++ (codes " " ++ spelling_of text)
+    → Adds IsPaused OneKeyword keywords.Local old mid → NamesVariable model text name → named ≡ mid ++ (codes " " ++ name_spelling text)
     → OnOk r ((kind : ValueKind) × (IsLocalOfKind model kind name × Adds IsPaused (OneValue model kind) written named new)) → OnOk r (AddsLine model (Of (lines.Local name value)) old new)
 local_put model name value written text old mid named new (Ok x) same lawful key names_it put (kind, (is, adds)) = λ names fresh.
     let found : NamedLocal = record { name = name; kind = kind } in
     let well = variable_text_well_formed model text name lawful names_it in
     line_adds model names keywords.Local (Of (lines.Local name value)) old mid new key
     (adds_then EndsLine (OneLocal model names) (λ found. Then (OneValue model found.kind) (λ value. Done (Some (Of (lines.Local found.name value))))) found _ mid named new
-    (adds_word 32 (spelling_of text) mid named (λ found. IsFreshName model names (IsLocalOf model found)) _ found refl (spelling_unbroken text well)
+    (adds_word 32 (name_spelling text) mid named (λ found. IsFreshName model names (IsLocalOf model found)) _ found refl (spelling_unbroken text well)
     (record { name = name; is_name = record { text = text; spells = (well, refl); names = local_named model kind name text is names_it }; wanted = (refl, is); new = fresh }) put)
     (adds_last EndsLine (OneValue model kind) (λ value. Some (Of (lines.Local name value))) value named new (adds_at_end _ _ named new (subst (λ v. Adds IsPaused (OneValue model kind) v named new) same adds))))
 local_put model name value written text old mid named new (Err e) same lawful key names_it put is = tt

@@ -7,7 +7,7 @@ use Rattle.eu_name.specs.declared.name.Part.TheVariants.{Start}
 use Rattle.eu_name.specs.declared.name.TokenName.{TokenName}
 use Rattle.eu_name.specs.declared.name.VarName.TheVariants as variables
 use Rattle.eu_name.specs.declared.name_text.NameText.{NameText}
-use Rattle.eu_name.specs.Spelling.{spelling_of}
+use Rattle.eu_name.specs.Spelling.{name_spelling}
 use Rattle.model_core.specs.declared.class.Object.{Object}
 use Rattle.model_core.specs.declared.model.Model.{Model}
 use Rattle.model_core.specs.declared.variable.ValueKind.{ValueKind}
@@ -35,10 +35,10 @@ kept_object : (model : Model) (value : ℤ) → IsLawful model → (object : Obj
 kept_object model value lawful (object, (place, is_place, is_object)) = omega (arith, ints, is_place, item_within model.objects place object is_object, lawful.few_objects)
 
 -- a name of the token
-pub token_put : {A E : Type 0} (model : Model) (token : TokenName) (text : NameText) (old new : List ℕ) (r : Result A E) → IsLawful model → NamesToken model text token → OnOk r (new ≡ old ++ (codes " " ++ spelling_of text))
+pub token_put : {A E : Type 0} (model : Model) (token : TokenName) (text : NameText) (old new : List ℕ) (r : Result A E) → IsLawful model → NamesToken model text token → OnOk r (new ≡ old ++ (codes " " ++ name_spelling text))
     → OnOk r ((word : List ℕ) × ((new ≡ old ++ (codes " " ++ word)) × IsNameOf model (variables.Token token Start) word))
 token_put model token text old new (Ok x) lawful names put =
-    (spelling_of text, (put, record { text = text; spells = (token_text_well_formed model text token lawful names, refl); names = names }))
+    (name_spelling text, (put, record { text = text; spells = (token_text_well_formed model text token lawful names, refl); names = names }))
 token_put model token text old new (Err e) lawful names put = tt
 
 -- a value

@@ -12,7 +12,7 @@ use Rattle.eu_name.specs.declared.name.Step.{Step}
 use Rattle.eu_name.specs.declared.name_text.NameText.{NameText}
 use Rattle.eu_name.specs.declared.name_text.Tail.{Tail}
 use Rattle.eu_name.specs.declared.name_text.Tail.TheVariants as tails
-use Rattle.eu_name.specs.Spelling.{IsStep, IsTail, IsNumbered, IsWellFormed, step_text, tail_text, ending_text, spelling_of}
+use Rattle.eu_name.specs.Spelling.{IsStep, IsTail, IsNumbered, IsWellFormed, step_text, tail_text, ending_text, name_spelling}
 use Rattle.eu_name.specs.Word.{IsName, is_word_start, is_word_byte}
 use Rattle.eu_name.proofs.Fronts.{Passes}
 use Rattle.eu_name.proofs.Numbers.{own}
@@ -86,13 +86,13 @@ numbered_no_gap label is = subst NoGap (sym is.2) (refl, decimal_no_gap is.0 (om
 numbered_some : (label : List ℕ) → IsNumbered label → 0 < length label
 numbered_some label is = omega (arith, ap length is.2)
 
-pub spelling_unbroken : (text : NameText) → IsWellFormed text → IsUnbroken (spelling_of text)
+pub spelling_unbroken : (text : NameText) → IsWellFormed text → IsUnbroken (name_spelling text)
 spelling_unbroken text (inl (label, steps, tail)) =
-    unbroken_from (spelling_of text) (omega (arith, name_some text.label label, length-append text.label (ending_text text.steps text.tail)))
+    unbroken_from (name_spelling text) (omega (arith, name_some text.label label, length-append text.label (ending_text text.steps text.tail)))
     (no_gap_append text.label (ending_text text.steps text.tail) (name_no_gap text.label label) (ending_no_gap text.steps text.tail (recursion_from_All IsStep text.steps steps) tail))
 spelling_unbroken text (inr (label, steps, tail)) =
     let none : NoGap (ending_text text.steps text.tail) = rw (steps, tail) tt in
-    unbroken_from (spelling_of text) (omega (arith, numbered_some text.label label, length-append text.label (ending_text text.steps text.tail)))
+    unbroken_from (name_spelling text) (omega (arith, numbered_some text.label label, length-append text.label (ending_text text.steps text.tail)))
     (no_gap_append text.label (ending_text text.steps text.tail) (numbered_no_gap text.label label) none)
 
 -- ---- values

@@ -6,7 +6,7 @@ ghost use Rattle.std.specs.List.{AllZip};
 ghost use Rattle.eu_name.specs.declared.name.Part.TheVariants.{Start};
 ghost use Rattle.eu_name.specs.declared.name.VarName.TheVariants as variables;
 ghost use Rattle.eu_name.specs.declared.name_text.NameText.{NameText};
-ghost use Rattle.eu_name.specs.Spelling.{spelling_of};
+ghost use Rattle.eu_name.specs.Spelling.{name_spelling};
 ghost use Rattle.eu_name.specs.Word.{IsName};
 ghost use Rattle.model_core.specs.declared.variable.Base.{Base};
 ghost use Rattle.model_core.specs.declared.variable.ValueKind.{ValueKind};
@@ -113,7 +113,7 @@ fn truth_text(value: i32) -> &'static [u8]
 
 // The name, behind a space.
 fn put_name(out: &mut Vec<u8>, alloc: Global, name: &NameText) -> Result<(), AllocError>
-    ensures { OnOk result (out.new.items ≡ out.old.items ++ (codes " " ++ spelling_of name.now)) }
+    ensures { OnOk result (out.new.items ≡ out.old.items ++ (codes " " ++ name_spelling name.now)) }
 {
     let bytes = write_name(alloc, name)?;
     put_word(out, b" ", bytes.as_slice())
@@ -157,7 +157,7 @@ fn put_variable(
     variable: &VarName,
 ) -> Result<(), AllocError>
     requires { (base : Base) × HasBase model.now variable.now base }
-    ensures { OnOk result ((text : NameText) × ((out.new.items ≡ out.old.items ++ (codes " " ++ spelling_of text))
+    ensures { OnOk result ((text : NameText) × ((out.new.items ≡ out.old.items ++ (codes " " ++ name_spelling text))
         × NamesVariable model.now text variable.now)) }
 {
     let text = model.var_text(variable)?;
@@ -280,7 +280,7 @@ fn put_global_name(
     number: u32,
 ) -> Result<(), AllocError>
     requires { (variable : VarDecl) × IsGlobal model.now number variable }
-    ensures { OnOk result ((text : NameText) × ((out.new.items ≡ out.old.items ++ (codes " " ++ spelling_of text))
+    ensures { OnOk result ((text : NameText) × ((out.new.items ≡ out.old.items ++ (codes " " ++ name_spelling text))
         × NamesVariable model.now text (variables.Global number))) }
 {
     let name = VarName::Global(number);
