@@ -62,22 +62,27 @@ pub record WritesCell (cell : ℕ) (to : Domain) (since : ℕ) (old new : Celled
   pub stamps : new.stamps ≡ slice_set old.stamps cell (stamped (slice_index_or old.stamps cell 0))
   pub past : KeepsPast since old.past new.past
 
--- the cell keeps what the other domain has too; where nothing has to go, where nothing is left, and without memory, nothing changes
+-- the cell keeps what the other domain has too; where nothing has to go, where nothing is left, and without memory,
+-- nothing changes
 abbrev pub NarrowsCell : ℕ → Domain → ℕ → Celled → Result Change AllocError → Celled → Type 0
-NarrowsCell cell to since old (Ok Same) new = (new ≡ old) × Keeps (Has to) (domain_at (present old) cell) Same (domain_at (present old) cell)
+NarrowsCell cell to since old (Ok Same) new =
+    (new ≡ old) × Keeps (Has to) (domain_at (present old) cell) Same (domain_at (present old) cell)
 NarrowsCell cell to since old (Ok Smaller) new = WritesCell cell to since old new
-NarrowsCell cell to since old (Ok Empty) new = (new ≡ old) × Keeps (Has to) (domain_at (present old) cell) Empty (domain_at (present old) cell)
+NarrowsCell cell to since old (Ok Empty) new =
+    (new ≡ old) × Keeps (Has to) (domain_at (present old) cell) Empty (domain_at (present old) cell)
 NarrowsCell cell to since old (Err none) new = new ≡ old
 
 -- a stamp is greater, or the greatest, where the domain is another one, and stays where the domain does
 abbrev pub FollowsDomain : Domain → ℕ → Domain → ℕ → Type 0
 FollowsDomain old stamp new next = ((new ≡ old) × (next ≡ stamp)) ⊎ ((new ≢ old) × ((stamp < next) ⊎ (next ≡ 2 ^ 64 - 1)))
 
--- the cells and domains at the place are back, and what could be gone back to before it; exactly the cells are written whose domain wasn't that one
+-- the cells and domains at the place are back, and what could be gone back to before it; exactly the cells are written
+-- whose domain wasn't that one
 pub record GoesBack (place : ℕ) (old new : Celled) : Type 0 where
   pub newer : List (List Domain)
   pub past : old.past ≡ newer ++ new.past
   pub count : length new.past ≡ place + 1
   pub stamps : length new.stamps ≡ length (present new)
   pub follow : (cell : ℕ) → cell < length (present new)
-      → FollowsDomain (domain_at (present old) cell) (slice_index_or old.stamps cell 0) (domain_at (present new) cell) (slice_index_or new.stamps cell 0)
+      → FollowsDomain (domain_at (present old) cell) (slice_index_or old.stamps cell 0)
+      (domain_at (present new) cell) (slice_index_or new.stamps cell 0)

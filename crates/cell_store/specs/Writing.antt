@@ -71,7 +71,8 @@ SavesAt cell to old (Err none) new = (new.0 ≡ old.0) × (new.1 ≡ old.1)
 abbrev pub UndoesEntry : Entry → List Cell → List Cell → Type 0
 UndoesEntry Added old new = (last : Cell) × (old ≡ new ++ last ∷ [])
 UndoesEntry (Narrowed cell former saved) old new =
-    (was : Cell) × ((slice_get old cell ≡ Some was) × (new ≡ slice_set old cell (record { domain = former; stamp = stamped was.stamp; saved = saved })))
+    (was : Cell) × ((slice_get old cell ≡ Some was)
+    × (new ≡ slice_set old cell (record { domain = former; stamp = stamped was.stamp; saved = saved })))
 
 -- the last entry of the trail is taken back
 pub record StepsBack (old new : List Cell × List Entry) : Type 0 where

@@ -127,3 +127,11 @@ module _ (fits : ℕ → List Domain → Type 0) where
   -- where the first ones leave nothing, all of them do
   pub stopped : (n count : ℕ) (old new : List Domain) (change : Change) → n < count → change ≡ Empty → AdvancesTo (FitBefore fits (n + 1)) old change new → AdvancesTo (FitBefore fits count) old Empty new
   stopped n count old new change below empty p = none_fit (FitBefore fits (n + 1)) (FitBefore fits count) old new change empty (λ domains fit k within. fit k (omega arith)) p
+
+  -- where memory has run out at a step
+  pub failed_after : (n count : ℕ) (old middle new : List Domain) (one : Change) (result : Result Change AllocError) → n < count → All IsDomain old → IsErr result
+      → AdvancesTo (FitBefore fits n) old one middle → Advances (fits n) middle new → StepsTo (FitBefore fits count) old result new
+  failed_after n count old middle new one (Ok change) below are failed so_far step = absurd (cc failed)
+  failed_after n count old middle new one (Err none) below are failed so_far step =
+      advances_trans (FitBefore fits n) (fits n) (FitBefore fits count) old middle new (λ domains each. (λ k before. each k (omega arith), each n below))
+      (advanced (FitBefore fits n) old middle one are so_far) step

@@ -1,5 +1,5 @@
 -- What a network keeps stays so, and what its calls say of it.
-use Rattle.std.proofs.Common.{◌≡◌, ℕ, ◌-◌, ◌<◌, ◌≤◌, ℤ, List, [], ◌∷◌, ◌++◌, length, take, get_or, pos, length-append, refl, sym, ap, ◌∙◌, subst, arith}
+use Rattle.std.proofs.Common.{◌≡◌, ℕ, ◌+◌, ◌-◌, ◌<◌, ◌≤◌, ℤ, List, [], ◌∷◌, ◌++◌, length, take, get_or, pos, length-append, refl, sym, ap, ◌∙◌, subst, arith}
 use Rattle.std.specs.Prelude.{All, Vec, Option, Some, None, MatchOption, OnOk, OnErr, IsErr, Result, Ok, Err}
 use Rattle.std.proofs.lemmas.List.{append-nil, length_push, length-take}
 use Rattle.std.proofs.lemmas.List.Elements.{All-append, All-cons, All-nil, All-push, All-set}
@@ -19,7 +19,7 @@ use Rattle.constraint_net.specs.Agendas.{HasVariables, Grows, Enrols, AlertsAfte
 use Rattle.constraint_net.specs.Arguments.{IsArgument}
 use Rattle.constraint_net.specs.Calls.{AddsVar, Posts, Limits, GoesDown, Notes, TakesChanged}
 use Rattle.constraint_net.specs.Limits.{LimitsCell}
-use Rattle.constraint_net.specs.Marks.{IsMark, CanReturn, Returns}
+use Rattle.constraint_net.specs.Marks.{IsMark, IsLatest, CanReturn, Returns}
 use Rattle.constraint_net.specs.Moves.{IsSound, Sinks}
 use Rattle.constraint_net.specs.Networks.{Network, CanPost, cells_of}
 use Rattle.constraint_net.specs.Waiting.{WerePosted, NameWithin, IsKeptAgenda}
@@ -335,6 +335,16 @@ mark_is net domains tables constraints mark view kept place count =
       are = kept.sound.are;
       posted = kept.posted;
     })
+
+pub mark_latest : (net : Network) (domains : Domains) (tables : Vec Field Global) (constraints : List Constraint) (mark : Mark) → network_of domains tables constraints ≡ net → IsKeptNet domains tables constraints
+    → length domains.cells.past ≡ mark.cells + 1 → mark.constraints ≡ length constraints → IsLatest net mark
+mark_latest net domains tables constraints mark view kept newest count =
+    subst (λ (n : Network). IsLatest n mark) view (λ earlier can.
+    let place = can.2.place in
+    let whole = ap (λ (cells : Celled). length cells.past) (celled_is domains tables constraints kept.sound.place) in (
+      omega (arith, newest, whole, ap length place.2.0, length-append place.0 (can.0 ∷ place.1), place.2.1),
+      omega (arith, count, ap length can.2.first.1, length-append can.1 can.2.first.0, can.2.count),
+    ))
 
 module _ (net : Network) (old new : Domains) (tables : Vec Field Global) (constraints left : List Constraint) (mark : Mark) (view : network_of old tables constraints ≡ net) (kept : IsKeptNet old tables constraints) (can : CanReturn net mark) where
   there : IsMark (network_of old tables constraints) mark can.0 can.1

@@ -5,6 +5,7 @@ pub mod Moving
 pub mod Spreading
 pub mod Queueing
 pub mod Turns
+pub mod Rounds
 pub mod Alerting
 pub mod Storing
 pub mod Enrolling

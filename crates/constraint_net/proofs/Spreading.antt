@@ -1,88 +1,105 @@
--- What is left of the arguments goes back to the variables.
-use Rattle.std.proofs.Common.{◌≡◌, ℕ, zero, suc, ◌+◌, ◌<◌, ◌≤◌, ℤ, List, [], ◌∷◌, ◌++◌, length, get_or, take, drop, Some, refl, sym, ap, ◌∙◌, subst, arith}
-use Rattle.std.specs.Prelude.{All, sum_by, slice_get, Result, Ok, Err, IsErr}
+-- What one argument keeps, and the arguments one after another.
+use Rattle.std.proofs.Common.{◌≡◌, ℕ, zero, suc, ◌+◌, ◌-◌, ◌<◌, ◌≤◌, ℤ, List, [], ◌∷◌, ◌++◌, length, get_or, take, drop, refl, sym, ap, ◌∙◌, subst, arith}
+use Rattle.std.specs.Prelude.{All, ◌↔◌, map, Result, Ok, Err, IsErr}
 use Rattle.std.specs.declared.alloc.AllocError.{AllocError}
-use Rattle.std.proofs.lemmas.List.Elements.{All-head, All-tail, AllZip-get_or}
-use Rattle.std.proofs.lemmas.List.{length-map}
-use Rattle.std.proofs.lemmas.List.Sums.{sum_by-cons}
-use Rattle.std.proofs.lemmas.Option.{slice_get_read, slice_get-get_or, get_or_from_slice_get}
-use lib.Seq.{take-append_seam}
-use Rattle.domain_core.specs.Domain.{Domain, Range, IsDomain, IsSameKind, IsWithin, slack}
-use Rattle.domain_core.specs.Narrowing.{joined}
+use Rattle.std.proofs.lemmas.Int.{ints}
+use Rattle.std.proofs.lemmas.List.{length-map, length-append}
+use denote.Bor.{Bor}
+use lib.Seq.{get_or-append_seam}
+use Rattle.domain_core.specs.Domain.{Domain, Range, IsDomain, IsValue, IsSameKind, IsWithin, IsTested, slack}
+use Rattle.domain_core.specs.Narrowing.{Keeps}
 use Rattle.domain_core.specs.declared.Change.{Change}
 use Rattle.domain_core.specs.declared.Change.TheVariants.{Same, Smaller, Empty}
-use Rattle.domain_core.proofs.Words.{IsSameKind-sym, IsSameKind-trans, slack_within}
-use Rattle.model_core.specs.Consistency.{Reach}
-use Rattle.narrow_core.specs.Laws.{LieWithin, AreConsistentBelow, Narrows}
-use Rattle.narrow_core.specs.Sweeps.{Sweeps}
-use Rattle.narrow_core.proofs.Below.{are_domains}
-use Rattle.narrow_core.proofs.Sweeping.{narrows}
+use Rattle.domain_core.proofs.Words.{slack_within}
+use Rattle.domain_core.proofs.Keeping.{keeps_monotone}
+use Rattle.model_core.specs.Consistency.{Reach, IsSupported}
+use Rattle.narrow_core.specs.Laws.{LieWithin}
+use Rattle.narrow_core.proofs.Below.{are_domains, supported_along}
+use Rattle.narrow_core.proofs.Places.{all_before, same_split}
 use Rattle.constraint_net.specs.Arguments.{IsArgument, domain_of, domains_of, AgreeAt}
-use Rattle.constraint_net.specs.Steps.{FitWithin, Advances, AdvancesTo, StepsTo, FitBefore, LiesIn, LiesAt}
+use Rattle.constraint_net.specs.Reading.{literal_of, LeavesAt, SupportedAt}
+use Rattle.constraint_net.specs.Steps.{FitWithin, Advances, AdvancesTo, StepsTo, FitBefore, LiesIn}
 use Rattle.constraint_net.specs.declared.constraint.NetArg.{NetArg}
 use Rattle.constraint_net.specs.declared.constraint.NetArg.TheVariants.{Var, Lit}
-use Rattle.constraint_net.proofs.Within.{within_length, argument_along, argument_within, arguments_within, arguments_are}
-use Rattle.constraint_net.proofs.Advancing.{advances_same, advances_refl, advances_trans, advanced, one_more_to}
+use Rattle.constraint_net.specs.declared.reading.Left.{Left}
+use Rattle.constraint_net.specs.declared.reading.Left.TheVariants.{Whole, Part, Nothing}
+use Rattle.constraint_net.proofs.Within.{within_length, argument_along, arguments_within, arguments_are}
+use Rattle.constraint_net.proofs.Advancing.{advances_refl, steps_as}
 
-some_is : {X : Type 0} (one other : X) → Some one ≡ Some other → one ≡ other
-some_is one other e = cc e
+-- ---- the arguments, as they are read
 
--- a slice of a vector that was written is written back
-pub written : {X : Type 0} (new old : List X) (count : ℕ) → length new ≡ count → take count (new ++ drop (length new) old) ≡ new
-written new old count long = ap (λ n. take n (new ++ drop (length new) old)) (sym long) ∙ take-append_seam new (drop (length new) old)
+pub is_value : (count : ℕ) (arg : NetArg) → IsArgument count arg → IsValue (literal_of arg)
+is_value count (Var variable) is = (omega (arith, ints), omega (arith, ints))
+is_value count (Lit value) is = is
 
--- the domain at a place of the arguments
-domain_at : (domains : List Domain) (args : List NetArg) (place : ℕ) (arg : NetArg) (d : Domain) → slice_get args place ≡ Some arg → get_or (domains_of domains args) place d ≡ domain_of domains arg
-domain_at domains [] zero arg d at = absurd (cc at)
-domain_at domains [] (suc place) arg d at = absurd (cc at)
-domain_at domains (x ∷ args) zero arg d at = ap (domain_of domains) (some_is x arg at)
-domain_at domains (x ∷ args) (suc place) arg d at = domain_at domains args place arg d at
+pub are_values : (count : ℕ) (args : List NetArg) → All (IsArgument count) args → All (λ arg. IsValue (literal_of arg)) args
+are_values count args are k d below = is_value count (get_or args k d) (are k d below)
 
--- ---- one step of the loop
+-- what the code reads beside an argument are the arguments before it and those after it
+abbrev pub beside : List Domain → Bor Domain → Bor Domain → List (Bor Domain)
+beside domains one other = take (length domains - 1) (one ∷ other ∷ [])
 
--- what is left of an argument is of the kind of its domain, also after others have changed
-pub kind_at : (args : List NetArg) (left start domains : List Domain) (place : ℕ) (arg : NetArg) (outer : Domain) → slice_get args place ≡ Some arg → place < length left → outer ≡ get_or left place outer
-    → LieWithin left (domains_of start args) → LieWithin domains start → IsArgument (length start) arg → IsSameKind outer (domain_of domains arg)
-kind_at args left start domains place arg outer at below read lies within exists =
-    let first = AllZip-get_or IsWithin left (domains_of start args) place outer outer lies below in
-    let one : IsSameKind outer (domain_of start arg) =
-    subst (λ d. IsSameKind outer d) (domain_at start args place arg outer at) (subst (λ d. IsSameKind d (get_or (domains_of start args) place outer)) (sym read) first.kind) in
-    IsSameKind-trans outer (domain_of start arg) (domain_of domains arg) one (IsSameKind-sym (domain_of domains arg) (domain_of start arg) (argument_within domains start arg within exists).kind)
+abbrev pub led_to : List (Bor Domain) → List Domain
+led_to others = map (λ other. other.now) others
 
-pub lies_at : (args : List NetArg) (left old new : List Domain) (place : ℕ) (arg : NetArg) (outer : Domain) (change : Change) → slice_get args place ≡ Some arg → slice_get left place ≡ Some outer
-    → AdvancesTo (LiesIn arg outer) old change new → AdvancesTo (LiesAt args left place) old change new
-lies_at args left old new place arg outer change at outer_at step =
-    advances_same (LiesIn arg outer) (LiesAt args left place) old new change
-    (λ domains fit. fit arg outer at outer_at)
-    (λ domains fit other also at_other at_also.
-    let one : arg ≡ other = some_is arg other (sym at ∙ at_other) in
-    let two : outer ≡ also = some_is outer also (sym outer_at ∙ at_also) in
-    subst (λ x. LiesIn x also domains) one (subst (λ d. LiesIn arg d domains) two fit))
-    step
+pub split_others : (domains : List Domain) (place first second : ℕ) (one other : Bor Domain) (own d : Domain) → 1 < length domains → length domains < 4 → place < length domains
+    → (place ≡ 0 → first ≡ 1) → (0 < place → first ≡ 0) → (place ≡ length domains - 1 → second + 1 ≡ length domains - 1) → (place < length domains - 1 → second ≡ length domains - 1)
+    → own ≡ get_or domains place d → one.now ≡ get_or domains first d → other.now ≡ get_or domains second d
+    → domains ≡ led_to (take place (beside domains one other)) ++ own ∷ led_to (drop place (beside domains one other))
+split_others [] place first second one other own d more less below f0 f s0 s own_is one_is other_is = absurd (omega arith)
+split_others (x ∷ []) place first second one other own d more less below f0 f s0 s own_is one_is other_is = absurd (omega arith)
+split_others (x ∷ y ∷ []) zero first second one other own d more less below f0 f s0 s own_is one_is other_is =
+    let at = one_is ∙ ap (λ (n : ℕ). get_or (x ∷ y ∷ []) n d) (f0 refl) in
+    (λ i. sym own_is i ∷ sym at i ∷ [])
+split_others (x ∷ y ∷ []) (suc zero) first second one other own d more less below f0 f s0 s own_is one_is other_is =
+    let at = one_is ∙ ap (λ (n : ℕ). get_or (x ∷ y ∷ []) n d) (f (omega arith)) in
+    (λ i. sym at i ∷ sym own_is i ∷ [])
+split_others (x ∷ y ∷ []) (suc (suc place)) first second one other own d more less below f0 f s0 s own_is one_is other_is = absurd (omega arith)
+split_others (x ∷ y ∷ z ∷ []) zero first second one other own d more less below f0 f s0 s own_is one_is other_is =
+    let at = one_is ∙ ap (λ (n : ℕ). get_or (x ∷ y ∷ z ∷ []) n d) (f0 refl) in
+    let then = other_is ∙ ap (λ (n : ℕ). get_or (x ∷ y ∷ z ∷ []) n d) (s (omega arith)) in
+    (λ i. sym own_is i ∷ sym at i ∷ sym then i ∷ [])
+split_others (x ∷ y ∷ z ∷ []) (suc zero) first second one other own d more less below f0 f s0 s own_is one_is other_is =
+    let at = one_is ∙ ap (λ (n : ℕ). get_or (x ∷ y ∷ z ∷ []) n d) (f (omega arith)) in
+    let then = other_is ∙ ap (λ (n : ℕ). get_or (x ∷ y ∷ z ∷ []) n d) (s (omega arith)) in
+    (λ i. sym at i ∷ sym own_is i ∷ sym then i ∷ [])
+split_others (x ∷ y ∷ z ∷ []) (suc (suc zero)) first second one other own d more less below f0 f s0 s own_is one_is other_is =
+    let is_one : second ≡ 1 = omega (arith, s0 refl) in
+    let at = one_is ∙ ap (λ (n : ℕ). get_or (x ∷ y ∷ z ∷ []) n d) (f (omega arith)) in
+    let then = other_is ∙ ap (λ (n : ℕ). get_or (x ∷ y ∷ z ∷ []) n d) is_one in
+    (λ i. sym at i ∷ sym then i ∷ sym own_is i ∷ [])
+split_others (x ∷ y ∷ z ∷ []) (suc (suc (suc place))) first second one other own d more less below f0 f s0 s own_is one_is other_is = absurd (omega arith)
+split_others (x ∷ y ∷ z ∷ t ∷ domains) place first second one other own d more less below f0 f s0 s own_is one_is other_is = absurd (omega arith)
 
--- the step of the loop at a place
-pub step_at : (args : List NetArg) (left old middle new : List Domain) (place : ℕ) (outer : Domain) (one other both : Change) (d : NetArg) → All IsDomain old → LieWithin left (domains_of old args)
-    → place < length args → outer ≡ get_or left place outer → both ≡ joined one other
-    → AdvancesTo (FitBefore (LiesAt args left) place) old one middle → AdvancesTo (LiesIn (get_or args place d) outer) middle other new
-    → AdvancesTo (FitBefore (LiesAt args left) (place + 1)) old both new
-step_at args left old middle new place outer one other both d are within below read is so_far step =
-    let long : place < length left = omega (arith, below, within_length left (domains_of old args) within, length-map args (domain_of old)) in
-    one_more_to (LiesAt args left) place old middle new one other both are is so_far
-    (lies_at args left middle new place (get_or args place d) outer other (slice_get-get_or args place d below) (slice_get_read left (length left) place outer refl long read) step)
+-- ---- smaller lists split where larger ones do
 
--- where memory has run out at a place
-pub failed_at : (args : List NetArg) (left old middle new : List Domain) (place : ℕ) (outer : Domain) (one : Change) (answer : Result Change AllocError) (d : NetArg) → All IsDomain old → LieWithin left (domains_of old args)
-    → place < length args → outer ≡ get_or left place outer → IsErr answer
-    → AdvancesTo (FitBefore (LiesAt args left) place) old one middle → Advances (LiesIn (get_or args place d) outer) middle new
-    → StepsTo (FitBefore (LiesAt args left) (length args)) old answer new
-failed_at args left old middle new place outer one (Ok change) d are within below read failed so_far step = absurd (cc failed)
-failed_at args left old middle new place outer one (Err none) d are within below read failed so_far step =
-    let long : place < length left = omega (arith, below, within_length left (domains_of old args) within, length-map args (domain_of old)) in
-    advances_trans (FitBefore (LiesAt args left) place) (LiesIn (get_or args place d) outer) (FitBefore (LiesAt args left) (length args)) old middle new
-    (λ domains each. (λ k before. each k (omega arith), each place below (get_or args place d) outer (slice_get-get_or args place d below) (slice_get_read left (length left) place outer refl long read)))
-    (advanced (FitBefore (LiesAt args left) place) old middle one are so_far) step
+record SplitWithin (inner before : List Domain) (own : Domain) (after : List Domain) : Type 0 where
+  front : List Domain
+  middle : Domain
+  back : List Domain
+  is : inner ≡ front ++ middle ∷ back
+  front_within : LieWithin front before
+  own_within : IsWithin middle own
+  back_within : LieWithin back after
 
--- ---- the whole loop
+split_within : (inner before : List Domain) (own : Domain) (after : List Domain) → LieWithin inner (before ++ own ∷ after) → SplitWithin inner before own after
+split_within [] [] own after within = absurd within
+split_within (o ∷ inner) [] own after within = record { front = []; middle = o; back = inner; is = refl; front_within = tt; own_within = within.0; back_within = within.1 }
+split_within [] (b ∷ before) own after within = absurd within
+split_within (i ∷ inner) (b ∷ before) own after within =
+    let rest = split_within inner before own after within.1 in
+    record { front = i ∷ rest.front; middle = rest.middle; back = rest.back; is = ap (λ list. i ∷ list) rest.is; front_within = (within.0, rest.front_within); own_within = rest.own_within; back_within = rest.back_within }
+
+-- the domain at the place of an argument
+pub own_is : (domains : List Domain) (args : List NetArg) (before : List Domain) (own : Domain) (after : List Domain) (place : ℕ) (d : NetArg) → place < length args
+    → domains_of domains args ≡ before ++ own ∷ after → length before ≡ place → own ≡ domain_of domains (get_or args place d)
+own_is domains args before own after place d below split at =
+    sym (get_or-append_seam before own after own) ∙ ap (λ (n : ℕ). get_or (before ++ own ∷ after) n own) at ∙ ap (λ (list : List Domain). get_or list place own) (sym split) ∙ mapped args place below
+  where
+    mapped : (list : List NetArg) (k : ℕ) → k < length list → get_or (domains_of domains list) k own ≡ domain_of domains (get_or list k d)
+    mapped [] k under = absurd (omega arith)
+    mapped (x ∷ list) zero under = refl
+    mapped (x ∷ list) (suc k) under = mapped list k (omega arith)
 
 lies_of : (domains : List Domain) (arg : NetArg) (outer : Domain) → IsWithin (domain_of domains arg) outer → LiesIn arg outer domains
 lies_of domains (Var variable) outer inside = inside
@@ -95,68 +112,104 @@ argument_slack : (domains : List Domain) (arg : NetArg) (outer : Domain) → IsD
 argument_slack domains (Var variable) outer ok outer_ok lies = slack_within (domain_of domains (Var variable)) outer ok outer_ok lies
 argument_slack domains (Lit value) outer ok outer_ok lies = omega (arith, no_slack value)
 
--- arguments that lie within others have no more slack
-arguments_slack : (domains : List Domain) (args : List NetArg) (left : List Domain) → length left ≡ length args → All IsDomain (domains_of domains args) → All IsDomain left
-    → FitBefore (LiesAt args left) (length args) domains → sum_by slack (domains_of domains args) ≤ sum_by slack left
-arguments_slack domains [] [] long are left_are fit = omega arith
-arguments_slack domains [] (l ∷ left) long are left_are fit = absurd (omega arith)
-arguments_slack domains (arg ∷ args) [] long are left_are fit = absurd (omega arith)
-arguments_slack domains (arg ∷ args) (l ∷ left) long are left_are fit =
-    let head = argument_slack domains arg l (All-head IsDomain (domain_of domains arg) (domains_of domains args) are) (All-head IsDomain l left left_are) (fit 0 (omega arith) arg l refl refl) in
-    let tail = arguments_slack domains args left (omega arith) (All-tail IsDomain (domain_of domains arg) (domains_of domains args) are) (All-tail IsDomain l left left_are)
-    (λ k below. fit (suc k) (omega arith)) in
-    omega (arith, head, tail, sum_by-cons slack (domain_of domains arg) (domains_of domains args), sum_by-cons slack l left)
+-- ---- one argument
 
-module _ (reach : Reach) (holds : List ℤ → Type 0) (args : List NetArg) (old : List Domain) (are : All IsDomain old) (exist : All (IsArgument (length old)) args) where
-  abbrev agree : List Domain → Type 0
-  agree = AgreeAt reach holds args
+module _ (reach : Reach) (holds : List ℤ → Type 0) (args : List NetArg) (old : List Domain) (are : All IsDomain old) (exist : All (IsArgument (length old)) args) (place : ℕ) where
+  abbrev supported : List Domain → Type 0
+  supported = SupportedAt reach holds args place
 
-  -- domains in which the constraint is consistent, as its arguments have them
-  consistent_below : (below : List Domain) → FitWithin agree old below → AreConsistentBelow reach holds (domains_of old args) (domains_of below args)
-  consistent_below below fit = record {
-    are = arguments_are below args fit.are (λ k d within. argument_along (length old) (length below) (get_or args k d) (omega (arith, within_length below old fit.within)) (exist k d within));
-    within = arguments_within below old args fit.within exist;
-    consistent = fit.fit;
-  }
+  -- of domains below in which the argument is supported nothing goes
+  below_kept : (before : List Domain) (own : Domain) (after : List Domain) (left : Domain) (change : Change) (d : NetArg) → place < length args
+      → domains_of old args ≡ before ++ own ∷ after → length before ≡ place → IsDomain left → Keeps (λ value. IsSupported reach holds before value after) own change left
+      → (below : List Domain) → FitWithin supported old below → (change ≡ Empty → ⊥) × IsWithin (domain_of below (get_or args place d)) left
+  below_kept before own after left change d under split at left_ok keeps below fit =
+      let within = subst (λ list. LieWithin (domains_of below args) list) split (arguments_within below old args fit.within exist) in
+      let parts = split_within (domains_of below args) before own after within in
+      let front_at : length parts.front ≡ place = within_length parts.front before parts.front_within ∙ at in
+      let old_are = all_before before own after (subst (All IsDomain) split (arguments_are old args are exist)) in
+      let below_exist = λ (k : ℕ) (e : NetArg) (inside : k < length args). argument_along (length old) (length below) (get_or args k e) (omega (arith, within_length below old fit.within)) (exist k e inside) in
+      let below_are = all_before parts.front parts.middle parts.back (subst (All IsDomain) parts.is (arguments_are below args fit.are below_exist)) in
+      let result = keeps_monotone (λ value. IsSupported reach holds parts.front value parts.back) (λ value. IsSupported reach holds before value after) parts.middle parts.middle own left Same change
+      below_are.1 below_are.1 old_are.1 left_ok
+      (λ value. supported_along reach holds parts.front before parts.back after value (are_domains parts.front below_are.0) (are_domains before old_are.0) (are_domains parts.back below_are.2) (are_domains after old_are.2) parts.front_within parts.back_within)
+      parts.own_within (refl, fit.fit parts.front parts.middle parts.back parts.is front_at) keeps (λ e. cc) in
+      (result.0, subst (λ domain. IsWithin domain left) (own_is below args parts.front parts.middle parts.back place d under parts.is front_at) result.1)
 
-  -- where the constraint answers that nothing went, or nothing is left, the variables stay
-  pub stays : (left : List Domain) (change : Change) → (change ≡ Smaller → ⊥) → Narrows reach holds (domains_of old args) change left → AdvancesTo agree old change old
-  stays left Same some narrows = (refl, narrows.1)
-  stays left Smaller some narrows = absurd (some refl)
-  stays left Empty some narrows = (advances_refl agree old are, λ below fit. narrows.1 (domains_of below args) (consistent_below below fit))
+  -- what is left of the argument
+  leaves_as : (left other : Left) → left ≡ other → LeavesAt reach holds place (domains_of old args) (Ok left) → LeavesAt reach holds place (domains_of old args) (Ok other)
+  leaves_as left other is leaves = subst (λ (l : Left). LeavesAt reach holds place (domains_of old args) (Ok l)) is leaves
 
-  -- what one pass over the gathered domains says
-  pub narrowed : (gathered left : List Domain) (change : Change) → gathered ≡ domains_of old args → (All IsDomain gathered → All IsDomain left) → Sweeps reach holds [] gathered change left
-      → Narrows reach holds (domains_of old args) change left
-  narrowed gathered left change is ok sweep =
-      let gathered_are = subst (All IsDomain) (sym is) (arguments_are old args are exist) in
-      subst (λ list. Narrows reach holds list change left) is (narrows reach holds gathered left change (are_domains gathered gathered_are) (are_domains left (ok gathered_are)) sweep)
+  pub stays_whole : (left : Left) → left ≡ Whole → LeavesAt reach holds place (domains_of old args) (Ok left) → AdvancesTo supported old Same old
+  stays_whole left is leaves = whole (leaves_as left Whole is leaves)
+    where
+      whole : LeavesAt reach holds place (domains_of old args) (Ok Whole) → AdvancesTo supported old Same old
+      whole leaves = (
+        refl,
+        λ before own after split at value tested.
+            let same = same_split before leaves.before (own ∷ after) (leaves.own ∷ leaves.after) (at ∙ sym leaves.at) (sym split ∙ leaves.are) in
+            let own_same : own ≡ leaves.own = cc (same.1) in
+            let after_same : after ≡ leaves.after = cc (same.1) in
+            subst (λ list. IsSupported reach holds list value after) (sym same.0)
+            (subst (λ list. IsSupported reach holds leaves.before value list) (sym after_same) (leaves.leaves.1 value (subst (λ domain. IsTested domain value) own_same tested))),
+      )
 
-  -- consistent domains lie within what is left
-  lies_in_left : (left below : List Domain) → LieWithin (domains_of below args) left → FitBefore (LiesAt args left) (length args) below
-  lies_in_left left below within place in_args arg outer at outer_at =
-      let zipped = AllZip-get_or IsWithin (domains_of below args) left place outer outer within (omega (arith, length-map args (domain_of below))) in
-      let one : IsWithin (domain_of below arg) (get_or left place outer) = subst (λ d. IsWithin d (get_or left place outer)) (domain_at below args place arg outer at) zipped in
-      lies_of below arg outer (subst (λ d. IsWithin (domain_of below arg) d) (get_or_from_slice_get left place outer outer outer_at) one)
+  pub keeps_none : (left : Left) (d : NetArg) → place < length args → left ≡ Nothing → LeavesAt reach holds place (domains_of old args) (Ok left) → AdvancesTo supported old Empty old
+  keeps_none left d under is found =
+      let leaves = leaves_as left Nothing is found in
+      let old_are = all_before leaves.before leaves.own leaves.after (subst (All IsDomain) leaves.are (arguments_are old args are exist)) in (
+        advances_refl supported old are,
+        λ below fit. (below_kept leaves.before leaves.own leaves.after leaves.own Empty d under leaves.are leaves.at old_are.1 leaves.leaves below fit).0 refl,
+      )
 
-  in_left : (left : List Domain) → Narrows reach holds (domains_of old args) Smaller left → (below : List Domain) → FitWithin agree old below → FitWithin (FitBefore (LiesAt args left) (length args)) old below
-  in_left left narrows below fit = record { are = fit.are; within = fit.within; fit = lies_in_left left below (narrows.2 (domains_of below args) (consistent_below below fit)) }
+  module _ (part : Left) (left : Domain) (d : NetArg) (under : place < length args) (is : part ≡ Part left) (found : LeavesAt reach holds place (domains_of old args) (Ok part)) where
+    leaves : LeavesAt reach holds place (domains_of old args) (Ok (Part left))
+    leaves = leaves_as part (Part left) is found
 
-  spread_on : (left new : List Domain) → Narrows reach holds (domains_of old args) Smaller left → Advances (FitBefore (LiesAt args left) (length args)) old new → Advances agree old new
-  spread_on left new narrows step = record { are = step.are; within = step.within; keeps = λ below fit. step.keeps below (in_left left narrows below fit) }
+    abbrev arg : NetArg
+    arg = get_or args place d
 
-  spread_to : (left new : List Domain) (change : Change) → length left ≡ length args → All IsDomain left → Narrows reach holds (domains_of old args) Smaller left
-      → AdvancesTo (FitBefore (LiesAt args left) (length args)) old change new → AdvancesTo agree old change new
-  spread_to left new Same long left_are narrows step =
-      absurd (omega (arith, narrows.1, arguments_slack old args left long (arguments_are old args are exist) left_are step.1))
-  spread_to left new Smaller long left_are narrows step = (spread_on left new narrows step.0, step.1)
-  spread_to left new Empty long left_are narrows step = (spread_on left new narrows step.0, λ below fit. step.1 below (in_left left narrows below fit))
+    at_own : leaves.own ≡ domain_of old arg
+    at_own = own_is old args leaves.before leaves.own leaves.after place d under leaves.are leaves.at
 
-  -- after the variables have kept what is left of the arguments, or memory has run out on the way
-  pub spread_out : (gathered left new : List Domain) (result : Result Change AllocError) → gathered ≡ domains_of old args → (All IsDomain gathered → All IsDomain left) → Sweeps reach holds [] gathered Smaller left
-      → StepsTo (FitBefore (LiesAt args left) (length args)) old result new → StepsTo agree old result new
-  spread_out gathered left new (Ok change) is ok sweep step =
-      let result = narrowed gathered left Smaller is ok sweep in
-      let left_are = ok (subst (All IsDomain) (sym is) (arguments_are old args are exist)) in
-      spread_to left new change (within_length left (domains_of old args) result.0 ∙ length-map args (domain_of old)) left_are result step
-  spread_out gathered left new (Err none) is ok sweep step = spread_on left new (narrowed gathered left Smaller is ok sweep) step
+    pub part_kind : IsSameKind left (domain_of old arg)
+    part_kind = subst (λ domain. IsSameKind left domain) at_own leaves.leaves.1.0.within.kind
+
+    lies_below : (below : List Domain) → FitWithin supported old below → FitWithin (LiesIn arg left) old below
+    lies_below below fit = record {
+      are = fit.are;
+      within = fit.within;
+      fit = lies_of below arg left (below_kept leaves.before leaves.own leaves.after left Smaller d under leaves.are leaves.at leaves.leaves.0 leaves.leaves.1 below fit).1;
+    }
+
+    part_on : (new : List Domain) → Advances (LiesIn arg left) old new → Advances supported old new
+    part_on new step = record { are = step.are; within = step.within; keeps = λ below fit. step.keeps below (lies_below below fit) }
+
+    pub keeps_part : (new : List Domain) (result : Result Change AllocError) → StepsTo (LiesIn arg left) old result new → StepsTo supported old result new
+    keeps_part new (Ok Same) step =
+        let own_ok = argument_ok in
+        absurd (omega (arith, leaves.leaves.1.1, ap slack at_own, argument_slack old arg left own_ok leaves.leaves.0 step.1))
+      where
+        argument_ok : IsDomain (domain_of old arg)
+        argument_ok = subst IsDomain at_own (all_before leaves.before leaves.own leaves.after (subst (All IsDomain) leaves.are (arguments_are old args are exist))).1
+    keeps_part new (Ok Smaller) step = (part_on new step.0, step.1)
+    keeps_part new (Ok Empty) step = (part_on new step.0, λ below fit. step.1 below (lies_below below fit))
+    keeps_part new (Err none) step = part_on new step
+
+  -- where memory has run out before anything was written
+  pub supported_not_begun : (result : Result Change AllocError) → IsErr result → StepsTo supported old result old
+  supported_not_begun (Ok change) failed = absurd (cc failed)
+  supported_not_begun (Err none) failed = advances_refl supported old are
+
+-- ---- all arguments
+
+pub each_supported : (reach : Reach) (holds : List ℤ → Type 0) (args : List NetArg) (domains : List Domain) → FitBefore (SupportedAt reach holds args) (length args) domains ↔ AgreeAt reach holds args domains
+each_supported reach holds args domains = (
+  λ each before own after value split tested.
+      each (length before) (omega (arith, ap length split, length-append before (own ∷ after), length-map args (domain_of domains))) before own after split refl value tested,
+  λ agree k below before own after split at value tested. agree before own after value split tested,
+)
+
+pub agree_from_each : (reach : Reach) (holds : List ℤ → Type 0) (args : List NetArg) (old new : List Domain) (result : Result Change AllocError) → All IsDomain old
+    → StepsTo (FitBefore (SupportedAt reach holds args) (length args)) old result new → StepsTo (AgreeAt reach holds args) old result new
+agree_from_each reach holds args old new result are step =
+    steps_as (FitBefore (SupportedAt reach holds args) (length args)) (AgreeAt reach holds args) old new result are (λ domains _ _. each_supported reach holds args domains) step

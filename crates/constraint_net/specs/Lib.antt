@@ -1,6 +1,7 @@
 pub mod Arguments
 pub mod Moves
 pub mod Steps
+pub mod Reading
 pub mod Queues
 pub mod Agendas
 pub mod Networks

@@ -1,5 +1,5 @@
 -- Marks of a network, and going back to one.
-use Rattle.std.specs.Prelude.{◌≡◌, List, ◌++◌, length, All, take}
+use Rattle.std.specs.Prelude.{◌≡◌, ◌≤◌, List, ◌++◌, length, All, take}
 use Rattle.domain_core.specs.Domain.{Domain, IsDomain}
 use Rattle.cell_store.specs.Cells.{IsPlace, GoesBack}
 use Rattle.constraint_net.specs.Calls.{Notes}
@@ -19,6 +19,12 @@ pub record IsMark (net : Network) (mark : Mark) (domains : List Domain) (constra
 -- the mark is one of this network, and the network hasn't gone back behind it
 abbrev pub CanReturn : Network → Mark → Type 0
 CanReturn net mark = (domains : List Domain) × (constraints : List Constraint) × IsMark net mark domains constraints
+
+-- no mark to which the network can go back is a later one
+abbrev pub IsLatest : Network → Mark → Type 0
+IsLatest net mark =
+    (earlier : Mark) → CanReturn net earlier
+    → (earlier.cells ≤ mark.cells) × (earlier.constraints ≤ mark.constraints)
 
 -- each mark stays one of the same domains and constraints
 abbrev pub KeepMarks : Network → Network → Type 0

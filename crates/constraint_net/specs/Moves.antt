@@ -21,7 +21,8 @@ pub record Sinks (since : ℕ) (old new : Celled) : Type 0 where
   pub past : KeepsPast since old.past new.past
   pub stamps : length new.stamps ≡ length old.stamps
   pub follow : (cell : ℕ)
-      → FollowsDown (domain_at (present old) cell) (slice_index_or old.stamps cell 0) (domain_at (present new) cell) (slice_index_or new.stamps cell 0)
+      → FollowsDown (domain_at (present old) cell) (slice_index_or old.stamps cell 0)
+      (domain_at (present new) cell) (slice_index_or new.stamps cell 0)
 
 -- variables that no argument names have the domains that they had
 abbrev pub StayBut : List NetArg → List Domain → List Domain → Type 0

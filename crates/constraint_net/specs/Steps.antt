@@ -1,5 +1,5 @@
 -- Steps towards the greatest domains that fit: no domains that fit are lost.
-use Rattle.std.specs.Prelude.{◌≡◌, ℕ, ◌<◌, List, sum_by, All, ⊤, Some, slice_get, Result, Ok, Err}
+use Rattle.std.specs.Prelude.{◌≡◌, ℕ, ◌<◌, List, sum_by, All, ⊤, Result, Ok, Err}
 use Rattle.std.specs.declared.alloc.AllocError.{AllocError}
 use Rattle.domain_core.specs.Domain.{Domain, IsDomain, IsWithin, slack}
 use Rattle.domain_core.specs.declared.Change.{Change}
@@ -42,12 +42,6 @@ FitBefore fits count domains = (number : ℕ) → number < count → fits number
 abbrev pub LiesIn : NetArg → Domain → List Domain → Type 0
 LiesIn (Var variable) outer domains = IsWithin (domain_of domains (Var variable)) outer
 LiesIn (Lit value) outer domains = ⊤
-
--- so it is at this place of the arguments and the others
-abbrev pub LiesAt : List NetArg → List Domain → ℕ → List Domain → Type 0
-LiesAt args outers place domains =
-    (arg : NetArg) (outer : Domain) → slice_get args place ≡ Some arg → slice_get outers place ≡ Some outer
-    → LiesIn arg outer domains
 
 -- what steps until nothing changes come to: the greatest domains that fit; or none fit; or memory has run out on
 -- the way

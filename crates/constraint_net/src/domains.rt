@@ -1,18 +1,19 @@
 //! The domains of the variables, and what one constraint takes from them.
 
-ghost use Rattle.std.specs.Prelude.{◌≡◌, ◌-◌, ◌<◌, ◌≤◌, [], ◌∷◌, All, IfOk, OnOk, length};
+ghost use Rattle.std.specs.Prelude.{◌≡◌, ◌-◌, ◌<◌, ◌≤◌, [], ◌∷◌, All, length};
 ghost use Rattle.domain_core.specs.Domain.{IsDomain, IsSameKind};
 ghost use Rattle.cell_store.specs.Cells.{present, AddsCell};
-ghost use Rattle.narrow_core.specs.Laws.{LieWithin};
 ghost use Rattle.constraint_net.specs.Agendas.{HasVariables, Grows, LimitAlerts, Alerts, AlertsSince, TellsOfLoss};
-ghost use Rattle.constraint_net.specs.Arguments.{IsArgument, domain_of, domains_of, AgreeAt};
+ghost use Rattle.constraint_net.specs.Arguments.{IsArgument, domain_of, AgreeAt};
 ghost use Rattle.constraint_net.specs.Limits.{LimitsAt, LimitsCell};
 ghost use Rattle.constraint_net.specs.Moves.{IsSound, SinksAt};
-ghost use Rattle.constraint_net.specs.Steps.{StepsTo, FitBefore, LiesIn, LiesAt};
+ghost use Rattle.constraint_net.specs.Reading.{literals_of, SupportedAt};
+ghost use Rattle.constraint_net.specs.Steps.{StepsTo, FitBefore, LiesIn};
 ghost use Rattle.constraint_net.specs.declared.constraint.NetArg.TheVariants as arg;
 
 use super::agenda::{Agenda, alert};
 use super::constraint::NetArg;
+use super::reading::{Left, gather, left_at};
 use cell_store::{Cells, Mark};
 use domain_core::Change;
 use domain_core::domain::Dom;
@@ -26,8 +27,8 @@ pub struct Domains {
     /// How many narrowings there were; it stays at the greatest number.
     pub work: u64,
     pub agenda: Agenda,
-    // The arguments of the constraint that is narrowed.
-    room: Vec<Dom>,
+    // The values among the arguments of the constraint that is narrowed.
+    literals: Vec<Dom>,
 }
 
 impl Domains {
@@ -44,7 +45,7 @@ impl Domains {
             cells: Cells::new(alloc),
             work: 0,
             agenda: Agenda::new(alloc),
-            room: Vec::new(alloc),
+            literals: Vec::new(alloc),
         }
     }
 
@@ -107,77 +108,76 @@ impl Domains {
             self.old.agenda self.new.agenda }
         ensures counted { self.old.work ≤ self.new.work }
     {
-        gather(args, &self.cells, &mut self.room)?;
+        gather(args, &mut self.literals)?;
         self.work = self.work.saturating_add(1);
-        let change = constraint.narrow(self.room.as_mut_slice());
-        if let Change::Smaller = change {
-            return spread(
-                args,
-                self.room.as_slice(),
-                &mut self.cells,
-                &mut self.agenda,
-                since,
-            );
-        }
-        Ok(change)
+        narrow_each(
+            constraint,
+            args,
+            self.literals.as_slice(),
+            &mut self.cells,
+            &mut self.agenda,
+            since,
+        )
     }
 }
 
-// Brings copies of the arguments' domains together.
-fn gather(args: &[NetArg], cells: &Cells, room: &mut Vec<Dom>) -> Result<(), AllocError>
-    requires { All (IsArgument (length (present cells.now))) args.now }
-    ensures { OnOk result (room.new.items ≡ domains_of (present cells.now) args.now) }
-{
-    room.clear();
-    for arg in args {
-        room.push(copy_of(*arg, cells)?)?;
-    }
-    Ok(())
-}
-
-// A copy of the argument's domain.
-fn copy_of(arg: NetArg, cells: &Cells) -> Result<Dom, AllocError>
-    requires { IsArgument (length (present cells.now)) arg }
-    ensures { IfOk result (λ copied. copied ≡ domain_of (present cells.now) arg) }
-{
-    match arg {
-        NetArg::Var(variable) => match cells.get(variable) {
-            Some(domain) => domain.copy(),
-            None => unreachable!(),
-        },
-        NetArg::Lit(value) => match Dom::range(value, value) {
-            Some(domain) => Ok(domain),
-            None => unreachable!(),
-        },
-    }
-}
-
-// Keeps of each variable what its places among the arguments have left.
-fn spread(
+// Narrows the arguments, one after another.
+fn narrow_each<C: Narrow>(
+    constraint: &C,
     args: &[NetArg],
-    left: &[Dom],
+    literals: &[Dom],
     cells: &mut Cells,
     agenda: &mut Agenda,
     since: Mark,
 ) -> Result<Change, AllocError>
+    requires count { length args.now ≡ C.count constraint.now }
+    requires literals { literals.now ≡ literals_of args.now }
     requires sound { IsSound since cells.old }
     requires ready { HasVariables (length (present cells.old)) agenda.old }
     requires arguments { All (IsArgument (length (present cells.old))) args.now }
-    requires within { LieWithin left.now (domains_of (present cells.old) args.now) }
-    ensures steps { StepsTo (FitBefore (LiesAt args.now left.now) (length args.now))
-        (present cells.old) result (present cells.new) }
+    ensures steps { StepsTo (FitBefore (SupportedAt (C.reach constraint.now) (C.holds constraint.now) args.now)
+        (length args.now)) (present cells.old) result (present cells.new) }
     ensures sinks { SinksAt args.now since cells.old cells.new }
     ensures alerts { Alerts (present cells.old) (present cells.new) agenda.old agenda.new }
     ensures told_of_loss { TellsOfLoss (present cells.old) (present cells.new) agenda.old agenda.new }
 {
     let mut change = Change::Same;
-    for (place, arg) in args.iter().enumerate() {
-        change = change.then(keep_left(*arg, &left[place], cells, agenda, since)?);
+    for place in 0..args.len() {
+        change = change.then(narrow_at(constraint, args, place, literals, cells, agenda, since)?);
         if let Change::Empty = change {
             return Ok(Change::Empty);
         }
     }
     Ok(change)
+}
+
+// Narrows the argument at this place.
+fn narrow_at<C: Narrow>(
+    constraint: &C,
+    args: &[NetArg],
+    place: usize,
+    literals: &[Dom],
+    cells: &mut Cells,
+    agenda: &mut Agenda,
+    since: Mark,
+) -> Result<Change, AllocError>
+    requires count { length args.now ≡ C.count constraint.now }
+    requires place { place < length args.now }
+    requires literals { literals.now ≡ literals_of args.now }
+    requires sound { IsSound since cells.old }
+    requires ready { HasVariables (length (present cells.old)) agenda.old }
+    requires arguments { All (IsArgument (length (present cells.old))) args.now }
+    ensures steps { StepsTo (SupportedAt (C.reach constraint.now) (C.holds constraint.now) args.now place)
+        (present cells.old) result (present cells.new) }
+    ensures sinks { SinksAt args.now since cells.old cells.new }
+    ensures alerts { Alerts (present cells.old) (present cells.new) agenda.old agenda.new }
+    ensures told_of_loss { TellsOfLoss (present cells.old) (present cells.new) agenda.old agenda.new }
+{
+    match left_at(constraint, args, place, literals, cells)? {
+        Left::Whole => return Ok(Change::Same),
+        Left::Part(left) => return keep_left(args[place], &left, cells, agenda, since),
+        Left::Nothing => return Ok(Change::Empty),
+    }
 }
 
 // Keeps what is left of the argument, if it is a variable.

@@ -15,6 +15,7 @@ pub mod laws;
 pub mod network;
 mod posted;
 mod queue;
+mod reading;
 mod settling;
 mod watchers;
 

@@ -10,7 +10,7 @@ ghost use Rattle.constraint_net.specs.Calls.{IsAscending, given_by, table_of, Ad
 ghost use Rattle.constraint_net.specs.Calls.{GoesDown, TakesChanged};
 ghost use Rattle.constraint_net.specs.Agendas.{Forgets};
 ghost use Rattle.constraint_net.specs.Waiting.{NameWithin};
-ghost use Rattle.constraint_net.specs.Marks.{IsMark, CanReturn, Returns};
+ghost use Rattle.constraint_net.specs.Marks.{IsMark, IsLatest, CanReturn, Returns};
 
 use super::NetFault;
 use super::agenda::Agenda;
@@ -144,7 +144,8 @@ impl Net {
 
     /// A mark at the network as it is.
     pub fn mark(&self) -> Mark
-        ensures { IsMark self.now result self.now.domains self.now.constraints }
+        ensures is { IsMark self.now result self.now.domains self.now.constraints }
+        ensures latest { IsLatest self.now result }
     {
         Mark {
             cells: self.domains.cells.mark(),

@@ -1,7 +1,7 @@
 -- What a call on one form of a domain leaves is what it leaves of the domain.
 use Rattle.std.proofs.Common.{◌≡◌, ℤ, ◌≤ℤ◌, Bool, subst}
 use Rattle.std.specs.Prelude.{IsTrue, ◌↔◌}
-use Rattle.domain_core.specs.Domain.{Domain, Has, HaveCommon}
+use Rattle.domain_core.specs.Domain.{Domain, Has, HaveCommon, IsTested}
 use Rattle.domain_core.specs.Narrowing.{Keeps}
 use Rattle.domain_core.specs.declared.Change.{Change}
 
@@ -26,3 +26,10 @@ common_same one other old new change p keeps = subst (λ d. Keeps (Has d) old ch
 -- and what it answers of one form it answers of the domain
 pub decided_same : (answer : Bool) (one other this that : Domain) → one ≡ this → other ≡ that → IsTrue answer ↔ HaveCommon one other → IsTrue answer ↔ HaveCommon this that
 decided_same answer one other this that p q decided = subst (λ d. IsTrue answer ↔ HaveCommon this d) q (subst (λ d. IsTrue answer ↔ HaveCommon d other) p decided)
+
+-- the same of whether the one's tested values are the other's
+pub lies_same : (test : Type 0) (one other first second : Domain) → one ≡ first → other ≡ second
+    → test ↔ ((value : ℤ) → IsTested one value → Has other value) → test ↔ ((value : ℤ) → IsTested first value → Has second value)
+lies_same test one other first second is also decides =
+    subst (λ domain. test ↔ ((value : ℤ) → IsTested first value → Has domain value)) also
+    (subst (λ domain. test ↔ ((value : ℤ) → IsTested domain value → Has other value)) is decides)

@@ -114,3 +114,41 @@ apart_step others old read next then_next x ascending others_ascending apart wit
 pub apart_all : (others old : List ℤ) (read next : ℕ) → AreApart others old read next → length old ≤ read → (value : ℤ) → Contains old value → Contains others value → ⊥
 apart_all others old read next apart through value has also =
     apart.none has.0 (omega (arith, has.1)) has.1 (subst (Contains others) (sym (stands_at old value has (pos 0))) also)
+
+-- ---- whether all numbers are among the others
+
+-- each of the first `read` numbers is one of the others
+pub record AreAmong (others old : List ℤ) (read next : ℕ) : Type 0 where
+  pub bound : next ≤ length others
+  pub passed : IsBehind others old read next
+  pub each : (k : ℕ) → k < read → k < length old → Contains others (get_or old k (pos 0))
+
+pub among_step : (others old : List ℤ) (read next then_next : ℕ) (x : ℤ)
+    → AreAscending old → AreAscending others → AreAmong others old read next → read < length old → ((d : ℤ) → get_or old read d ≡ x)
+    → then_next ≤ length others → AllWithin (λ number. number <ℤ x) others next then_next → x ≤ℤ get_or others then_next x
+    → then_next < length others → get_or others then_next x ≡ x → AreAmong others old (read + 1) then_next
+among_step others old read next then_next x ascending others_ascending among within read_is bound below following there same = record {
+  bound = bound;
+  passed = passed_on others old read next then_next x ascending others_ascending among.passed within read_is below following;
+  each = λ k before inside.
+      ⊎_elim
+      (λ earlier. among.each k earlier inside)
+      (λ here.
+      let is : k ≡ read = omega arith in
+      subst (λ j. Contains others (get_or old j (pos 0))) (sym is) (subst (Contains others) (sym (read_is (pos 0))) (then_next, there, same)))
+      (cases_lt k read);
+}
+
+pub among_all : (others old : List ℤ) (read next : ℕ) → AreAmong others old read next → length old ≤ read → (value : ℤ) → Contains old value → Contains others value
+among_all others old read next among through value has =
+    subst (Contains others) (stands_at old value has (pos 0)) (among.each has.0 (omega (arith, has.1)) has.1)
+
+-- where a number is none of the others, not all are
+pub not_all_among : (others old : List ℤ) (read next then_next : ℕ) (x : ℤ)
+    → AreAscending old → AreAscending others → AreAmong others old read next → read < length old → ((d : ℤ) → get_or old read d ≡ x)
+    → AllWithin (λ number. number <ℤ x) others next then_next → x ≤ℤ get_or others then_next x
+    → (get_or others then_next x ≡ x → then_next < length others → ⊥)
+    → ((value : ℤ) → Contains old value → Contains others value) → ⊥
+not_all_among others old read next then_next x ascending others_ascending among within read_is below following differ all =
+    not_among others old read next then_next x ascending others_ascending among.passed within read_is below following differ
+    (all x (read, within, read_is x))

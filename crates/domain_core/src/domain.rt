@@ -146,13 +146,16 @@ impl Dom {
         }
     }
 
-    /// Whether `meet_set` with the other domain would change nothing. It writes nothing.
+    /// Whether `meet_set` with the other domain would change nothing. It writes nothing. Two sets are gone through once.
     pub fn lies_in(&self, other: &Dom) -> bool
         ensures { IsTrue result ↔ ((value : ℤ) → IsTested self.now value → Has other.now value) }
     {
         match &self.form {
             Form::Range(interval) => other.has(interval.lo) && other.has(interval.hi),
-            Form::Set(members) => members.iter().all(|member| other.has(*member)),
+            Form::Set(members) => match &other.form {
+                Form::Range(_interval) => members.iter().all(|member| other.has(*member)),
+                Form::Set(others) => members::are_among(members.as_slice(), others.as_slice()),
+            },
         }
     }
 

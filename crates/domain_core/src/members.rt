@@ -166,6 +166,25 @@ pub fn have_common(members: &[i32], others: &[i32]) -> bool
     false
 }
 
+/// Whether each member is among the others. Both are gone through once.
+pub fn are_among(members: &[i32], others: &[i32]) -> bool
+    requires members { AreAscending members.now }
+    requires others { AreAscending others.now }
+    ensures { IsTrue result ↔ ((value : ℤ) → Contains members.now value → Contains others.now value) }
+{
+    let mut next = 0;
+    for member in members {
+        next = skip_below(others, next, *member);
+        if next >= others.len() {
+            return false;
+        }
+        if others[next] != *member {
+            return false;
+        }
+    }
+    true
+}
+
 /// Whether a member lies between the ends of the interval.
 pub fn reach(members: &[i32], interval: &Interval) -> bool
     requires domain { IsDomain (range_between interval.now) }

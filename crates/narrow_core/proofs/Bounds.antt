@@ -6,7 +6,8 @@ use Rattle.domain_core.specs.Domain.{Domain, Range, Set, IsDomain, IsRange, Has,
 use Rattle.domain_core.specs.Narrowing.{Keeps}
 use Rattle.domain_core.specs.declared.Change.{Change}
 use Rattle.domain_core.proofs.Around.{met_around}
-use Rattle.domain_core.proofs.Words.{has_least, between_ends}
+use Rattle.domain_core.proofs.Words.{has_least, has_tested, tested_least, tested_greatest, between_ends}
+use Rattle.narrow_core.specs.Sweeps.{AllTested}
 use Rattle.narrow_core.proofs.Supports.{keeps_among}
 
 -- the ends of a domain are in order
@@ -26,6 +27,29 @@ pub keeps_from : (old new : Domain) (change : Change) (lowest highest from : ℤ
 keeps_from old new change lowest highest from ok nok high low keeps =
     keeps_among (λ value. (lowest ≤ℤ value) × (value ≤ℤ highest)) (λ value. from ≤ℤ value) old new change ok nok
     (λ value has. let between = between_ends old value ok has in (λ pass. omega (arith, ints, pass.0, low), λ pass. (omega (arith, ints, pass, low), omega (arith, ints, between.1, high)))) keeps
+
+-- ---- within ends
+
+pub all_between : (domain : Domain) (low high : ℤ) → IsDomain domain
+    → ((low ≤ℤ least domain) × (greatest domain ≤ℤ high)) ↔ AllTested (λ value. (low ≤ℤ value) × (value ≤ℤ high)) domain
+all_between domain low high ok = (
+  λ ends value tested.
+      let between = between_ends domain value ok (has_tested domain value ok tested) in
+      (omega (arith, ints, ends.0, between.0), omega (arith, ints, ends.1, between.1)),
+  λ all. ((all (least domain) (tested_least domain ok)).0, (all (greatest domain) (tested_greatest domain ok)).1),
+)
+
+pub all_up_to : (domain : Domain) (most : ℤ) → IsDomain domain → (greatest domain ≤ℤ most) ↔ AllTested (λ value. value ≤ℤ most) domain
+all_up_to domain most ok = (
+  λ le value tested. let between = between_ends domain value ok (has_tested domain value ok tested) in omega (arith, ints, le, between.1),
+  λ all. all (greatest domain) (tested_greatest domain ok),
+)
+
+pub all_from : (domain : Domain) (from : ℤ) → IsDomain domain → (from ≤ℤ least domain) ↔ AllTested (λ value. from ≤ℤ value) domain
+all_from domain from ok = (
+  λ le value tested. let between = between_ends domain value ok (has_tested domain value ok tested) in omega (arith, ints, le, between.0),
+  λ all. all (least domain) (tested_least domain ok),
+)
 
 -- ---- order
 

@@ -1,10 +1,11 @@
 -- Tests, and what says of them whether they come true.
-use Rattle.std.proofs.Common.{◌≡◌, ℤ, pos, ◌≤ℤ◌, ◌<ℤ◌, ◌+ℤ◌, Bool, refl, sym, subst, arith}
-use Rattle.std.specs.Prelude.{◌↔◌, IsTrue}
+use Rattle.std.proofs.Common.{◌≡◌, ℤ, pos, ◌≤ℤ◌, ◌<ℤ◌, ◌+ℤ◌, Bool, true, false, refl, sym, ◌∙◌, subst, arith}
+use Rattle.std.specs.Prelude.{◌↔◌, IsTrue, not}
 use lib.Signed.{lt_z, le_z}
 use Rattle.std.proofs.lemmas.Int.{ints, by_lt_z}
-use Rattle.domain_core.specs.Domain.{Domain, IsDomain, Has, HaveCommon, IsSingle, IsBetweenEnds, least, greatest}
-use Rattle.domain_core.proofs.Words.{has_least, has_greatest, between_ends}
+use Rattle.domain_core.specs.Domain.{Domain, IsDomain, IsTested, Has, HaveCommon, IsSingle, IsBetweenEnds, least, greatest}
+use Rattle.domain_core.proofs.Words.{has_least, has_greatest, has_tested, tested_least, tested_greatest, between_ends}
+use Rattle.narrow_core.specs.Sweeps.{AllTested}
 use Rattle.narrow_core.specs.Truths.{HasBesideOne, PassesTest}
 use Rattle.narrow_core.proofs.Bounds.{ends_ordered}
 use Rattle.narrow_core.proofs.Values.{same_or_not, IsApart}
@@ -95,10 +96,52 @@ order_outcomes x y may_hold may_fail value ok y_ok hold fail = (
   ),
 )
 
+-- whether the first argument keeps all that has to be supported
+
+module _ (own : Domain) (may_hold may_fail : Bool) where
+  pub outcomes_both : may_hold ≡ true → may_fail ≡ true → IsTrue true ↔ AllTested (PassesTest may_hold may_fail) own
+  outcomes_both hold fail = (λ _ value tested. (λ _. hold, λ _. fail), λ _. refl)
+
+  one_alone : IsDomain own → may_fail ≡ false → AllTested (PassesTest may_hold may_fail) own → HasBesideOne own → ⊥
+  one_alone ok fail all some =
+      let is_one = λ (value : ℤ) (tested : IsTested own value). same_or_not value (pos 1) (λ same. same) (λ apart. absurd (let bad = (all value tested).1 apart in cc (bad, fail))) in
+      let low = is_one (least own) (tested_least own ok) in
+      let high = is_one (greatest own) (tested_greatest own ok) in
+      let between = between_ends own some.0 ok some.1 in
+      some.2 (omega (arith, ints, low, high, between.0, between.1))
+
+  pub outcomes_hold : (test : Bool) → IsDomain own → may_hold ≡ true → may_fail ≡ false → IsTrue test ↔ HasBesideOne own → IsTrue (not test) ↔ AllTested (PassesTest may_hold may_fail) own
+  outcomes_hold true ok hold fail beside = (λ bad. absurd (cc bad), λ all. absurd (one_alone ok fail all (beside.0 refl)))
+  outcomes_hold false ok hold fail beside = (
+    λ _ value tested. (λ _. hold, λ apart. absurd (let bad = beside.1 (value, has_tested own value ok tested, apart) in cc bad)),
+    λ _. refl,
+  )
+
+  pub outcomes_fail : (test : Bool) (one : ℤ) → one ≡ pos 1 → may_hold ≡ false → may_fail ≡ true → IsTrue test ↔ IsTested own one → IsTrue (not test) ↔ AllTested (PassesTest may_hold may_fail) own
+  outcomes_fail true one is hold fail tests = (λ bad. absurd (cc bad), λ all. absurd (let bad = (all one (tests.0 refl)).0 is in cc (bad, hold)))
+  outcomes_fail false one is hold fail tests = (
+    λ _ value tested. (λ same. absurd (let bad = tests.1 (subst (IsTested own) (same ∙ sym is) tested) in cc bad), λ _. fail),
+    λ _. refl,
+  )
+
+  pub outcomes_none : IsDomain own → may_hold ≡ false → may_fail ≡ false → IsTrue false ↔ AllTested (PassesTest may_hold may_fail) own
+  outcomes_none ok hold fail = (
+    λ bad. absurd (cc bad),
+    λ all.
+        let passes = all (least own) (tested_least own ok) in
+        same_or_not (least own) (pos 1) (λ same. absurd (let bad = passes.0 same in cc (bad, hold))) (λ apart. absurd (let bad = passes.1 apart in cc (bad, fail))),
+  )
+
 -- ---- the sides of an equality
 
 abbrev pub EqualSide : Domain → Domain → ℤ → Type 0
 EqualSide truth other value = (t w : ℤ) × Has truth t × Has other w × ((t ≡ pos 1) ↔ (value ≡ w))
+
+pub side_holds : (truth other : Domain) (value : ℤ) → IsSingle truth (pos 1) → Has other value ↔ EqualSide truth other value
+side_holds truth other value single = (
+  λ has. (pos 1, value, single.has, has, (λ _. refl, λ _. refl)),
+  λ some. subst (Has other) (sym (some.4.0 (single.only some.0 some.2))) some.3,
+)
 
 pub side_fails : (truth other : Domain) (value : ℤ) → IsDomain truth → (Has truth (pos 1) → ⊥) → IsApart other value ↔ EqualSide truth other value
 side_fails truth other value ok none =

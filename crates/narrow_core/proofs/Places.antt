@@ -13,15 +13,15 @@ use Rattle.narrow_core.proofs.Sweeping.{joined_empty, joined_same, joined_assoc,
 
 -- ---- one place
 
-pub none_of : (xs : List Domain) → length xs ≡ 0 → xs ≡ []
+pub none_of : {X : Type 0} (xs : List X) → length xs ≡ 0 → xs ≡ []
 none_of [] long = refl
 none_of (x ∷ xs) long = absurd (omega arith)
 
-pub one_of : (xs : List Domain) (x : Domain) → length xs ≡ 1 → x ≡ get_or xs 0 x → xs ≡ x ∷ []
+pub one_of : {X : Type 0} (xs : List X) (x : X) → length xs ≡ 1 → x ≡ get_or xs 0 x → xs ≡ x ∷ []
 one_of [] x long at = absurd (omega arith)
 one_of (y ∷ ys) x long at = let rest = none_of ys (omega arith) in (λ i. sym at i ∷ rest i)
 
-pub two_of : (xs : List Domain) (x y : Domain) → length xs ≡ 2 → x ≡ get_or xs 0 x → y ≡ get_or xs 1 y → xs ≡ x ∷ y ∷ []
+pub two_of : {X : Type 0} (xs : List X) (x y : X) → length xs ≡ 2 → x ≡ get_or xs 0 x → y ≡ get_or xs 1 y → xs ≡ x ∷ y ∷ []
 two_of [] x y long at then = absurd (omega arith)
 two_of (z ∷ zs) x y long at then = let rest = one_of zs y (omega arith) then in (λ i. sym at i ∷ rest i)
 
@@ -71,7 +71,7 @@ pub swept_start : (reach : Reach) (holds : List ℤ → Type 0) (initial : List 
 swept_start reach holds initial = record { left = []; later = initial; args_are = refl; at = refl; some = λ e. cc; goes_on = λ next rest sweep. sweep }
 
 -- two ways to split a list at one place are one
-same_split : (left before : List Domain) (later rest : List Domain) → length left ≡ length before → left ++ later ≡ before ++ rest → (left ≡ before) × (later ≡ rest)
+pub same_split : (left before : List Domain) (later rest : List Domain) → length left ≡ length before → left ++ later ≡ before ++ rest → (left ≡ before) × (later ≡ rest)
 same_split [] [] later rest long same = (refl, same)
 same_split [] (b ∷ before) later rest long same = absurd (omega arith)
 same_split (l ∷ left) [] later rest long same = absurd (omega arith)

@@ -1,10 +1,14 @@
 -- What one pass over the arguments of a constraint answers and leaves.
 use Rattle.std.specs.Prelude.{◌≡◌, ℕ, ℤ, List, [], ◌∷◌, ◌++◌, length}
-use Rattle.domain_core.specs.Domain.{Domain}
+use Rattle.domain_core.specs.Domain.{Domain, IsTested}
 use Rattle.domain_core.specs.Narrowing.{Keeps, joined}
 use Rattle.domain_core.specs.declared.Change.{Change}
 use Rattle.domain_core.specs.declared.Change.TheVariants.{Same, Empty}
 use Rattle.model_core.specs.Consistency.{Reach, IsSupported}
+
+-- each value of the domain that has to be supported passes
+abbrev pub AllTested : (ℤ → Type 0) → Domain → Type 0
+AllTested passes domain = (value : ℤ) → IsTested domain value → passes value
 
 -- from the first argument on, each keeps the values that have a tuple with the arguments before it, as they are
 -- left, and those after it, as they still are; where one has none, the pass ends there

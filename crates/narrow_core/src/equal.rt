@@ -1,10 +1,12 @@
 //! Equality and its opposite.
 
-ghost use Rattle.std.specs.Prelude.{◌≡◌, ℤ};
+ghost use Rattle.std.specs.Prelude.{◌≡◌, ◌↔◌, ℤ, IsTrue};
 ghost use Rattle.domain_core.specs.Domain.{IsDomain, Has};
 ghost use Rattle.domain_core.specs.Narrowing.{Keeps};
+ghost use Rattle.narrow_core.specs.Sweeps.{AllTested};
 
 use super::narrow::Narrow;
+use super::passing::is_tested;
 use domain_core::Change;
 use domain_core::domain::Dom;
 
@@ -21,11 +23,24 @@ pub fn keep_apart(own: &mut Dom, other: &Dom) -> Change
     }
 }
 
+/// Whether `keep_apart` would take nothing.
+pub fn lies_apart(own: &Dom, other: &Dom) -> bool
+    ensures { IsTrue result ↔ AllTested (λ value. (w : ℤ) × Has other.now w × (value ≡ w → ⊥)) own.now }
+{
+    let value = other.lo();
+    if value == other.hi() {
+        !is_tested(own, value)
+    } else {
+        true
+    }
+}
+
 /// The arguments are equal.
 #[derive(Clone, Copy)]
 pub struct Eq;
 
 impl Narrow for Eq {
+    ghost use Rattle.std.proofs.Common.{lit<};
     ghost use Rattle.model_core.specs.Constraints.{HoldsOf, arity_of, reach_of};
     ghost use Rattle.model_core.specs.declared.item.Kind.TheVariants as kind;
 
@@ -35,10 +50,20 @@ impl Narrow for Eq {
 
     ghost holds = { λ _. HoldsOf kind.Eq };
 
-    fn keep_supported(&self, before: &[Dom], own: &mut Dom, after: &[Dom]) -> Change {
+    ghost few = { λ _. (lit< tt, lit< tt) };
+
+    fn keep_supported(&self, before: &[&Dom], own: &mut Dom, after: &[&Dom]) -> Change {
         match (before, after) {
             ([], [other]) => own.meet_set(other),
             ([other], []) => own.meet_set(other),
+            _ => unreachable!(),
+        }
+    }
+
+    fn supports(&self, before: &[&Dom], own: &Dom, after: &[&Dom]) -> bool {
+        match (before, after) {
+            ([], [other]) => own.lies_in(other),
+            ([other], []) => own.lies_in(other),
             _ => unreachable!(),
         }
     }
@@ -49,6 +74,7 @@ impl Narrow for Eq {
 pub struct Neq;
 
 impl Narrow for Neq {
+    ghost use Rattle.std.proofs.Common.{lit<};
     ghost use Rattle.model_core.specs.Constraints.{HoldsOf, arity_of, reach_of};
     ghost use Rattle.model_core.specs.declared.item.Kind.TheVariants as kind;
 
@@ -58,10 +84,20 @@ impl Narrow for Neq {
 
     ghost holds = { λ _. HoldsOf kind.Neq };
 
-    fn keep_supported(&self, before: &[Dom], own: &mut Dom, after: &[Dom]) -> Change {
+    ghost few = { λ _. (lit< tt, lit< tt) };
+
+    fn keep_supported(&self, before: &[&Dom], own: &mut Dom, after: &[&Dom]) -> Change {
         match (before, after) {
             ([], [other]) => keep_apart(own, other),
             ([other], []) => keep_apart(own, other),
+            _ => unreachable!(),
+        }
+    }
+
+    fn supports(&self, before: &[&Dom], own: &Dom, after: &[&Dom]) -> bool {
+        match (before, after) {
+            ([], [other]) => lies_apart(own, other),
+            ([other], []) => lies_apart(own, other),
             _ => unreachable!(),
         }
     }

@@ -8,8 +8,10 @@ ghost use Rattle.narrow_core.specs.declared.field.FieldEntry.{FieldEntry};
 ghost use Rattle.narrow_core.specs.Sides.{side_of, opposite, Pairs, IsPaired, Spans, IsWidened};
 ghost use Rattle.narrow_core.specs.Tables.{IsInOrderOf};
 ghost use Rattle.narrow_core.specs.Meanings.{IsByObject};
+ghost use Rattle.narrow_core.specs.Sweeps.{AllTested};
 
 use super::narrow::Narrow;
+use super::passing::all_tested;
 use domain_core::Change;
 use domain_core::domain::Dom;
 use domain_core::number::{greater, less};
@@ -144,7 +146,14 @@ impl Field {
         own.keep_members(|value| self.is_paired(side, other, value))
     }
 
-    // The same where the domain is a range: its ends move to the next value that is paired.
+    // Whether `keep_paired` would take nothing.
+    fn are_paired(&self, side: Side, own: &Dom, other: &Dom) -> bool
+        ensures { IsTrue result ↔ AllTested (IsPaired self.now.entries side other.now) own.now }
+    {
+        all_tested(own, |value| self.is_paired(side, other, value))
+    }
+
+    // Keeps the values of a range that are paired: its ends move to the next value that is paired.
     fn cut_to_paired(&self, side: Side, own: &mut Dom, other: &Dom) -> Change
         requires { IsRange own.old }
         ensures kept { Keeps (IsPaired self.now.entries side other.now) own.old result own.new }
@@ -223,6 +232,7 @@ fn spread(
 }
 
 impl Narrow for Field {
+    ghost use Rattle.std.proofs.Common.{lit<};
     ghost use Rattle.model_core.specs.Consistency.{Values};
     ghost use Rattle.model_core.specs.Constraints.{IsFieldOf};
     ghost use Rattle.narrow_core.specs.Meanings.{IsInTable};
@@ -233,10 +243,20 @@ impl Narrow for Field {
 
     ghost holds = { λ it. IsFieldOf (IsInTable it.entries) };
 
-    fn keep_supported(&self, before: &[Dom], own: &mut Dom, after: &[Dom]) -> Change {
+    ghost few = { λ _. (lit< tt, lit< tt) };
+
+    fn keep_supported(&self, before: &[&Dom], own: &mut Dom, after: &[&Dom]) -> Change {
         match (before, after) {
             ([], [values]) => self.keep_paired(Side::Object, own, values),
             ([objects], []) => self.keep_paired(Side::Value, own, objects),
+            _ => unreachable!(),
+        }
+    }
+
+    fn supports(&self, before: &[&Dom], own: &Dom, after: &[&Dom]) -> bool {
+        match (before, after) {
+            ([], [values]) => self.are_paired(Side::Object, own, values),
+            ([objects], []) => self.are_paired(Side::Value, own, objects),
             _ => unreachable!(),
         }
     }

@@ -10,6 +10,7 @@ pub mod laws;
 mod limits;
 pub mod narrow;
 pub mod order;
+mod passing;
 pub mod product;
 pub mod sum;
 pub mod tested;

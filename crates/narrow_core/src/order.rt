@@ -1,6 +1,6 @@
 //! Order. An argument is cut where the end of the other one is.
 
-use super::limits::{keep_from, keep_up_to};
+use super::limits::{keep_from, keep_up_to, lies_from, lies_up_to};
 use super::narrow::Narrow;
 use domain_core::Change;
 use domain_core::domain::Dom;
@@ -10,6 +10,7 @@ use domain_core::domain::Dom;
 pub struct Lt;
 
 impl Narrow for Lt {
+    ghost use Rattle.std.proofs.Common.{lit<};
     ghost use Rattle.model_core.specs.Constraints.{HoldsOf, arity_of, reach_of};
     ghost use Rattle.model_core.specs.declared.item.Kind.TheVariants as kind;
 
@@ -19,10 +20,20 @@ impl Narrow for Lt {
 
     ghost holds = { λ _. HoldsOf kind.Lt };
 
-    fn keep_supported(&self, before: &[Dom], own: &mut Dom, after: &[Dom]) -> Change {
+    ghost few = { λ _. (lit< tt, lit< tt) };
+
+    fn keep_supported(&self, before: &[&Dom], own: &mut Dom, after: &[&Dom]) -> Change {
         match (before, after) {
             ([], [y]) => keep_up_to(own, y.hi() - 1),
             ([x], []) => keep_from(own, x.lo() + 1),
+            _ => unreachable!(),
+        }
+    }
+
+    fn supports(&self, before: &[&Dom], own: &Dom, after: &[&Dom]) -> bool {
+        match (before, after) {
+            ([], [y]) => lies_up_to(own, y.hi() - 1),
+            ([x], []) => lies_from(own, x.lo() + 1),
             _ => unreachable!(),
         }
     }
@@ -33,6 +44,7 @@ impl Narrow for Lt {
 pub struct Leq;
 
 impl Narrow for Leq {
+    ghost use Rattle.std.proofs.Common.{lit<};
     ghost use Rattle.model_core.specs.Constraints.{HoldsOf, arity_of, reach_of};
     ghost use Rattle.model_core.specs.declared.item.Kind.TheVariants as kind;
 
@@ -42,10 +54,20 @@ impl Narrow for Leq {
 
     ghost holds = { λ _. HoldsOf kind.Leq };
 
-    fn keep_supported(&self, before: &[Dom], own: &mut Dom, after: &[Dom]) -> Change {
+    ghost few = { λ _. (lit< tt, lit< tt) };
+
+    fn keep_supported(&self, before: &[&Dom], own: &mut Dom, after: &[&Dom]) -> Change {
         match (before, after) {
             ([], [y]) => keep_up_to(own, y.hi()),
             ([x], []) => keep_from(own, x.lo()),
+            _ => unreachable!(),
+        }
+    }
+
+    fn supports(&self, before: &[&Dom], own: &Dom, after: &[&Dom]) -> bool {
+        match (before, after) {
+            ([], [y]) => lies_up_to(own, y.hi()),
+            ([x], []) => lies_from(own, x.lo()),
             _ => unreachable!(),
         }
     }

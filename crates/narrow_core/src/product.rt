@@ -5,8 +5,11 @@ ghost use Rattle.std.specs.Prelude.{◌≡◌, ◌↔◌, ℤ, pos, ◌≤ℤ◌
 ghost use Rattle.domain_core.specs.Domain.{IsDomain, IsRange, IsValue, IsBetweenEnds, least, greatest};
 ghost use Rattle.domain_core.specs.Narrowing.{Keeps};
 ghost use Rattle.narrow_core.specs.Products.{LiesBetween, AreMultiplied};
+ghost use Rattle.narrow_core.specs.Sweeps.{AllTested};
 
+use super::limits::lies_between;
 use super::narrow::Narrow;
+use super::passing::all_tested;
 use domain_core::Change;
 use domain_core::domain::Dom;
 use domain_core::number::{greater, less};
@@ -70,6 +73,14 @@ impl MulEq {
         first <= last
     }
 
+    // Whether `keep_products` would take nothing.
+    fn are_products(&self, products: &Dom, x: &Dom) -> bool
+        ensures { IsTrue result
+            ↔ AllTested (λ value. (w : ℤ) × IsBetweenEnds x.now w × ((w *ℤ self.now.factor) ≡ value)) products.now }
+    {
+        all_tested(products, |value| self.is_product(value, x))
+    }
+
     // Keeps the products of the numbers between the ends of x.
     fn keep_products(&self, products: &mut Dom, x: &Dom) -> Change
         ensures kept { Keeps (λ value. (w : ℤ) × IsBetweenEnds x.now w × ((w *ℤ self.now.factor) ≡ value))
@@ -123,6 +134,7 @@ impl MulEq {
 }
 
 impl Narrow for MulEq {
+    ghost use Rattle.std.proofs.Common.{lit<};
     ghost use Rattle.model_core.specs.Consistency.{Ends};
     ghost use Rattle.narrow_core.specs.Meanings.{IsProduct};
 
@@ -132,13 +144,26 @@ impl Narrow for MulEq {
 
     ghost holds = { λ it. IsProduct it.factor };
 
-    fn keep_supported(&self, before: &[Dom], own: &mut Dom, after: &[Dom]) -> Change {
+    ghost few = { λ _. (lit< tt, lit< tt) };
+
+    fn keep_supported(&self, before: &[&Dom], own: &mut Dom, after: &[&Dom]) -> Change {
         match (before, after) {
             ([], [z]) => {
                 let (first, last) = quotients(self.factor, z.lo(), z.hi());
                 own.meet_range(first, last)
             }
             ([x], []) => self.keep_products(own, x),
+            _ => unreachable!(),
+        }
+    }
+
+    fn supports(&self, before: &[&Dom], own: &Dom, after: &[&Dom]) -> bool {
+        match (before, after) {
+            ([], [z]) => {
+                let (first, last) = quotients(self.factor, z.lo(), z.hi());
+                lies_between(own, first, last)
+            }
+            ([x], []) => self.are_products(own, x),
             _ => unreachable!(),
         }
     }

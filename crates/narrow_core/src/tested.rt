@@ -4,11 +4,13 @@
 ghost use Rattle.std.specs.Prelude.{◌≡◌, ◌↔◌, ℤ, pos, ◌≤ℤ◌, IsTrue};
 ghost use Rattle.domain_core.specs.Domain.{IsDomain, IsBetweenEnds, Has};
 ghost use Rattle.domain_core.specs.Narrowing.{Keeps};
+ghost use Rattle.narrow_core.specs.Sweeps.{AllTested};
 ghost use Rattle.narrow_core.specs.Truths.{HasBesideOne, SaysOf, PassesTest};
 
-use super::equal::keep_apart;
-use super::limits::{keep_from, keep_up_to};
+use super::equal::{keep_apart, lies_apart};
+use super::limits::{keep_from, keep_up_to, lies_from, lies_up_to};
 use super::narrow::Narrow;
+use super::passing::is_tested;
 use domain_core::Change;
 use domain_core::domain::Dom;
 
@@ -63,6 +65,24 @@ fn keep_outcomes(domain: &mut Dom, may_hold: bool, may_fail: bool) -> Change
     Change::Empty
 }
 
+// Whether `keep_outcomes` would take nothing.
+fn are_outcomes(domain: &Dom, may_hold: bool, may_fail: bool) -> bool
+    ensures { IsTrue result ↔ AllTested (PassesTest may_hold may_fail) domain.now }
+{
+    // A domain is never empty.
+    let _least = domain.lo();
+    if may_hold {
+        if may_fail {
+            return true;
+        }
+        return !has_beside_one(domain);
+    }
+    if may_fail {
+        return !is_tested(domain, 1);
+    }
+    false
+}
+
 // Whether there are values of the two domains that differ.
 fn may_differ(x: &Dom, y: &Dom) -> bool
     ensures { IsTrue result ↔ ((v w : ℤ) × Has x.now v × Has y.now w × (v ≡ w → ⊥)) }
@@ -82,6 +102,19 @@ fn keep_side(truth: &Dom, own: &mut Dom, other: &Dom) -> Change
         Verdict::Holds => own.meet_set(other),
         Verdict::Fails => keep_apart(own, other),
         Verdict::Open => Change::Same,
+    }
+}
+
+// Whether `keep_side` would take nothing.
+fn side_stays(truth: &Dom, own: &Dom, other: &Dom) -> bool
+    ensures { IsTrue result ↔ AllTested (λ value. (t w : ℤ)
+        × Has truth.now t × Has other.now w × ((t ≡ pos 1) ↔ (value ≡ w))) own.now }
+{
+    let _least = other.lo();
+    match verdict_of(truth, truth.has(1)) {
+        Verdict::Holds => own.lies_in(other),
+        Verdict::Fails => lies_apart(own, other),
+        Verdict::Open => true,
     }
 }
 
@@ -122,11 +155,38 @@ fn keep_upper(truth: &Dom, own: &mut Dom, lower: &Dom) -> Change
     }
 }
 
+// Whether `keep_lower` would take nothing.
+fn lower_stays(truth: &Dom, own: &Dom, upper: &Dom) -> bool
+    ensures { IsTrue result ↔ AllTested (λ value. (t w : ℤ)
+        × IsBetweenEnds truth.now t × IsBetweenEnds upper.now w × ((t ≡ pos 1) ↔ (value ≤ℤ w))) own.now }
+{
+    let least = upper.lo();
+    match verdict_of(truth, reaches_one(truth)) {
+        Verdict::Holds => lies_up_to(own, upper.hi()),
+        Verdict::Fails => lies_from(own, least + 1),
+        Verdict::Open => true,
+    }
+}
+
+// Whether `keep_upper` would take nothing.
+fn upper_stays(truth: &Dom, own: &Dom, lower: &Dom) -> bool
+    ensures { IsTrue result ↔ AllTested (λ value. (t w : ℤ)
+        × IsBetweenEnds truth.now t × IsBetweenEnds lower.now w × ((t ≡ pos 1) ↔ (w ≤ℤ value))) own.now }
+{
+    let least = lower.lo();
+    match verdict_of(truth, reaches_one(truth)) {
+        Verdict::Holds => lies_from(own, least),
+        Verdict::Fails => lies_up_to(own, lower.hi() - 1),
+        Verdict::Open => true,
+    }
+}
+
 /// The first argument is 1 exactly where the two others are equal.
 #[derive(Clone, Copy)]
 pub struct TestEq;
 
 impl Narrow for TestEq {
+    ghost use Rattle.std.proofs.Common.{lit<};
     ghost use Rattle.model_core.specs.Constraints.{HoldsOf, arity_of, reach_of};
     ghost use Rattle.model_core.specs.declared.item.Kind.TheVariants as kind;
 
@@ -136,11 +196,22 @@ impl Narrow for TestEq {
 
     ghost holds = { λ _. HoldsOf kind.TestEq };
 
-    fn keep_supported(&self, before: &[Dom], own: &mut Dom, after: &[Dom]) -> Change {
+    ghost few = { λ _. (lit< tt, lit< tt) };
+
+    fn keep_supported(&self, before: &[&Dom], own: &mut Dom, after: &[&Dom]) -> Change {
         match (before, after) {
             ([], [x, y]) => keep_outcomes(own, x.has_common(y), may_differ(x, y)),
             ([b], [y]) => keep_side(b, own, y),
             ([b, x], []) => keep_side(b, own, x),
+            _ => unreachable!(),
+        }
+    }
+
+    fn supports(&self, before: &[&Dom], own: &Dom, after: &[&Dom]) -> bool {
+        match (before, after) {
+            ([], [x, y]) => are_outcomes(own, x.has_common(y), may_differ(x, y)),
+            ([b], [y]) => side_stays(b, own, y),
+            ([b, x], []) => side_stays(b, own, x),
             _ => unreachable!(),
         }
     }
@@ -151,6 +222,7 @@ impl Narrow for TestEq {
 pub struct TestLeq;
 
 impl Narrow for TestLeq {
+    ghost use Rattle.std.proofs.Common.{lit<};
     ghost use Rattle.model_core.specs.Constraints.{HoldsOf, arity_of, reach_of};
     ghost use Rattle.model_core.specs.declared.item.Kind.TheVariants as kind;
 
@@ -160,11 +232,22 @@ impl Narrow for TestLeq {
 
     ghost holds = { λ _. HoldsOf kind.TestLeq };
 
-    fn keep_supported(&self, before: &[Dom], own: &mut Dom, after: &[Dom]) -> Change {
+    ghost few = { λ _. (lit< tt, lit< tt) };
+
+    fn keep_supported(&self, before: &[&Dom], own: &mut Dom, after: &[&Dom]) -> Change {
         match (before, after) {
             ([], [x, y]) => keep_outcomes(own, x.lo() <= y.hi(), y.lo() < x.hi()),
             ([b], [y]) => keep_lower(b, own, y),
             ([b, x], []) => keep_upper(b, own, x),
+            _ => unreachable!(),
+        }
+    }
+
+    fn supports(&self, before: &[&Dom], own: &Dom, after: &[&Dom]) -> bool {
+        match (before, after) {
+            ([], [x, y]) => are_outcomes(own, x.lo() <= y.hi(), y.lo() < x.hi()),
+            ([b], [y]) => lower_stays(b, own, y),
+            ([b, x], []) => upper_stays(b, own, x),
             _ => unreachable!(),
         }
     }

@@ -1,21 +1,17 @@
-use Rattle.std.proofs.Common.{◌≡◌, ◌+◌, ◌-◌, ◌*◌, ◌≤◌, length}
+use Rattle.std.proofs.Common.{◌≡◌, ◌+◌, ◌*◌, ◌≤◌, length}
 use Rattle.std.specs.Prelude.{sum_by}
 use Rattle.domain_core.specs.Domain.{slack}
 use Rattle.cell_store.specs.Cells.{present}
-use Rattle.constraint_net.specs.Calls.{Notes}
-use Rattle.constraint_net.specs.Moves.{Sinks}
 use Rattle.constraint_net.specs.Steps.{Advances}
 use Rattle.constraint_net.specs.Networks.{AllConsistent}
-use Rattle.constraint_net.specs.Waiting.{IsKeptAgenda}
+use Rattle.constraint_net.proofs.Rounds.{Carried}
 use Rattle.constraint_net.proofs.settling.settle.Given as goal
 
 abbrev pub invariant-loop-number : goal.invariant-loop-number
 invariant-loop-number l = record {
   advances : Advances (AllConsistent l.tables l.constraints) (present l.fn.domains.cells) (present l.domains.cells);
-  sinks : Sinks (length l.fn.domains.cells.past - 1) l.fn.domains.cells l.domains.cells;
+  carried : Carried l.tables l.constraints l.fn.domains.cells l.fn.domains.agenda.changed.items l.domains.cells l.domains.agenda;
   counted : l.fn.domains.work ≤ l.domains.work;
-  kept : IsKeptAgenda l.tables l.constraints (present l.domains.cells) l.domains.agenda;
-  notes : Notes (present l.fn.domains.cells) (present l.domains.cells) l.fn.domains.agenda.changed.items l.domains.agenda.changed.items;
   room : l.domains.agenda.waiting.room ≡ l.fn.domains.agenda.waiting.room;
 }
 

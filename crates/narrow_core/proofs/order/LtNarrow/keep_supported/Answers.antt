@@ -11,14 +11,14 @@ use Rattle.narrow_core.proofs.order.LtNarrow.keep_supported.Goals as goal
 
 pub returns-in-empty-len1-clause-kept : goal.returns-in-empty-len1-clause-kept
 returns-in-empty-len1-clause-kept c =
-    let y = c.y-item.result in
+    let y = c.y-item.result.now in
     let value = greatest_is_value y c.hi.ensures.domain in
-    keeps_first_of_two Ends (HoldsOf kind.Lt) _ c.args.before.now c.args.after.now y c.args.own.now c.keep_up_to.new.domain c.keep_up_to.result
+    keeps_first_of_two Ends (HoldsOf kind.Lt) _ c.args.before.now c.args.after.now c.y-item.result c.args.own.now c.keep_up_to.new.domain c.keep_up_to.result
     (omega (arith, ltb-true, ltb-false)) (omega (arith, ltb-true, ltb-false)) c.y-item.is (λ value_of. less_than_some y _ value_of c.hi.ensures.domain (omega (arith, ints, c.hi.ensures.greatest, value.0, value.1))) c.keep_up_to.ensures.kept
 
 pub returns-in-len1-empty-clause-kept : goal.returns-in-len1-empty-clause-kept
 returns-in-len1-empty-clause-kept c =
-    let x = c.x-item.result in
+    let x = c.x-item.result.now in
     let value = least_is_value x c.lo.ensures.domain in
-    keeps_second_of_two Ends (HoldsOf kind.Lt) _ c.args.before.now c.args.after.now x c.args.own.now c.keep_from.new.domain c.keep_from.result
+    keeps_second_of_two Ends (HoldsOf kind.Lt) _ c.args.before.now c.args.after.now c.x-item.result c.args.own.now c.keep_from.new.domain c.keep_from.result
     (omega (arith, ltb-true, ltb-false)) (omega (arith, ltb-true, ltb-false)) c.x-item.is (λ value_of. more_than_some x _ value_of c.lo.ensures.domain (omega (arith, ints, c.lo.ensures.least, value.0, value.1))) c.keep_from.ensures.kept

@@ -13,7 +13,7 @@ pub returns-in-empty-len2-clause-kept : goal.returns-in-empty-len2-clause-kept
 returns-in-empty-len2-clause-kept c =
     let y = c.y-item.result in
     let z = c.z-item.result in
-    keeps_first_of_three Ends (HoldsOf kind.AddEq) (IsDifference y z) c.args.before.now c.args.after.now y z c.args.own.now c.keep_differences.new.own c.keep_differences.result
+    keeps_first_of_three Ends (HoldsOf kind.AddEq) (IsDifference y.now z.now) c.args.before.now c.args.after.now y z c.args.own.now c.keep_differences.new.own c.keep_differences.result
     (omega (arith, ltb-true, ltb-false)) (omega (arith, ltb-true, ltb-false)) c.y-item.is c.z-item.is (λ value. (λ some. some, λ some. some)) c.keep_differences.ensures.kept
 
 pub returns-in-len1-len1-clause-kept : goal.returns-in-len1-len1-clause-kept
@@ -21,20 +21,20 @@ returns-in-len1-len1-clause-kept c =
     let x = c.x-item.result in
     let z = c.z-item-then-this-lt2-2.result in
     let kept = c.keep_differences-in-len1-len1 in
-    keeps_second_of_three Ends (HoldsOf kind.AddEq) (IsDifference x z) c.args.before.now c.args.after.now x z c.args.own.now kept.new.own kept.result
-    (omega (arith, ltb-true, ltb-false)) (omega (arith, ltb-true, ltb-false)) c.x-item.is c.z-item-then-this-lt2-2.is (difference_back x z) kept.ensures.kept
+    keeps_second_of_three Ends (HoldsOf kind.AddEq) (IsDifference x.now z.now) c.args.before.now c.args.after.now x z c.args.own.now kept.new.own kept.result
+    (omega (arith, ltb-true, ltb-false)) (omega (arith, ltb-true, ltb-false)) c.x-item.is c.z-item-then-this-lt2-2.is (difference_back x.now z.now) kept.ensures.kept
 
 pub returns-in-len2-empty-clause-kept : goal.returns-in-len2-empty-clause-kept
 returns-in-len2-empty-clause-kept c =
     let x = c.x-item-then-this-lt1-2.result in
     let y = c.y-item-then-this-lt1-2.result in
-    let x_least = least_is_value x c.lo.ensures.domain in
-    let x_greatest = greatest_is_value x c.lo.ensures.domain in
-    let y_least = least_is_value y c.lo-in-len2-empty.ensures.domain in
-    let y_greatest = greatest_is_value y c.lo-in-len2-empty.ensures.domain in
+    let x_least = least_is_value x.now c.lo.ensures.domain in
+    let x_greatest = greatest_is_value x.now c.lo.ensures.domain in
+    let y_least = least_is_value y.now c.lo-in-len2-empty.ensures.domain in
+    let y_greatest = greatest_is_value y.now c.lo-in-len2-empty.ensures.domain in
     keeps_third_of_three Ends (HoldsOf kind.AddEq) _ c.args.before.now c.args.after.now x y c.args.own.now c.meet_range.new.self c.meet_range.result
     (omega (arith, ltb-true, ltb-false)) (omega (arith, ltb-true, ltb-false)) c.x-item-then-this-lt1-2.is c.y-item-then-this-lt1-2.is
-    (λ value. sums x y _ _ value c.lo.ensures.domain c.lo-in-len2-empty.ensures.domain
+    (λ value. sums x.now y.now _ _ value c.lo.ensures.domain c.lo-in-len2-empty.ensures.domain
     (omega (arith, ints, c.lo.ensures.least, c.lo-in-len2-empty.ensures.least, x_least.0, x_least.1, y_least.0, y_least.1))
     (omega (arith, ints, c.hi.ensures.greatest, c.hi-in-len2-empty.ensures.greatest, x_greatest.0, x_greatest.1, y_greatest.0, y_greatest.1)))
     c.meet_range.ensures.kept

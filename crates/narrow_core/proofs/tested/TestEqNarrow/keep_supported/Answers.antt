@@ -14,13 +14,13 @@ returns-in-empty-len2-clause-kept c =
     let y = c.y-item.result in
     keeps_first_of_three Values (HoldsOf kind.TestEq) (PassesTest c.has_common.result c.may_differ.result) c.args.before.now c.args.after.now x y c.args.own.now c.keep_outcomes.new.domain c.keep_outcomes.result
     (omega (arith, ltb-true, ltb-false)) (omega (arith, ltb-true, ltb-false)) c.x-item.is c.y-item.is
-    (λ value. equality_outcomes x y c.has_common.result c.may_differ.result value c.has_common.ensures c.may_differ.ensures) c.keep_outcomes.ensures.kept
+    (λ value. equality_outcomes x.now y.now c.has_common.result c.may_differ.result value c.has_common.ensures c.may_differ.ensures) c.keep_outcomes.ensures.kept
 
 pub returns-in-len1-len1-clause-kept : goal.returns-in-len1-len1-clause-kept
 returns-in-len1-len1-clause-kept c =
     let b = c.b-item.result in
     let y = c.y-item-then-this-lt2-2.result in
-    keeps_second_of_three Values (HoldsOf kind.TestEq) (EqualSide b y) c.args.before.now c.args.after.now b y c.args.own.now c.keep_side.new.own c.keep_side.result
+    keeps_second_of_three Values (HoldsOf kind.TestEq) (EqualSide b.now y.now) c.args.before.now c.args.after.now b y c.args.own.now c.keep_side.new.own c.keep_side.result
     (omega (arith, ltb-true, ltb-false)) (omega (arith, ltb-true, ltb-false)) c.b-item.is c.y-item-then-this-lt2-2.is (λ value. (λ some. some, λ some. some)) c.keep_side.ensures.kept
 
 pub returns-in-len2-empty-clause-kept : goal.returns-in-len2-empty-clause-kept
@@ -28,5 +28,5 @@ returns-in-len2-empty-clause-kept c =
     let b = c.b-item-then-this-lt1-2.result in
     let x = c.x-item-then-this-lt1-2.result in
     let kept = c.keep_side-in-len2-empty in
-    keeps_third_of_three Values (HoldsOf kind.TestEq) (EqualSide b x) c.args.before.now c.args.after.now b x c.args.own.now kept.new.own kept.result
-    (omega (arith, ltb-true, ltb-false)) (omega (arith, ltb-true, ltb-false)) c.b-item-then-this-lt1-2.is c.x-item-then-this-lt1-2.is (equal_back b x) kept.ensures.kept
+    keeps_third_of_three Values (HoldsOf kind.TestEq) (EqualSide b.now x.now) c.args.before.now c.args.after.now b x c.args.own.now kept.new.own kept.result
+    (omega (arith, ltb-true, ltb-false)) (omega (arith, ltb-true, ltb-false)) c.b-item-then-this-lt1-2.is c.x-item-then-this-lt1-2.is (equal_back b.now x.now) kept.ensures.kept
