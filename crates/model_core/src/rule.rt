@@ -34,14 +34,14 @@ pub enum Guard {
 }
 
 /// A turn on the way to a block: the place of the branch among the entries, and which of its two blocks.
-#[derive(Clone, Copy)]
+#[derive(Clone, Copy, PartialEq, Eq, Hash)]
 pub struct Turn {
     pub entry: u16,
     pub side: Side,
 }
 
 /// One of the two blocks of a branch.
-#[derive(Clone, Copy)]
+#[derive(Clone, Copy, PartialEq, Eq, Hash)]
 pub enum Side {
     /// The block that opens where the guard is true.
     Then,

@@ -1,0 +1,16 @@
+pub mod Places
+pub mod Supporting
+pub mod Falling
+pub mod Justifying
+pub mod Granting
+pub mod Mapping
+pub mod Blocks
+pub mod Counting
+pub mod Following
+pub mod Lawful
+pub mod Naming
+pub mod Ending
+pub mod Coming
+pub mod Growing
+pub mod Keeping
+pub mod Lessening
