@@ -13,3 +13,4 @@ mod names;
 pub use block::{Additions, open_block};
 pub use guard::entailed;
 pub use items::ItemAt;
+pub use names::slot_name;

@@ -12,8 +12,8 @@ use eu_name::sequence::Sequence;
 use model_core::rule::Entry;
 use std::alloc::{AllocError, Global};
 
-// The name of the token that the rule of this number of the token asks for by its slot of this number.
-fn slot_name(token: &TokenName, rule: u16, slot: u16) -> Result<TokenName, AllocError>
+/// The name of the token that the rule of this number of the token asks for by its slot of this number.
+pub fn slot_name(token: &TokenName, rule: u16, slot: u16) -> Result<TokenName, AllocError>
     ensures { IfOk result (λ name. name ≡ slot_token token.now rule slot) }
 {
     let mut steps = Vec::from_slice(token.steps.allocator(), token.steps.as_slice())?;

@@ -1,0 +1,4 @@
+pub mod Bringing
+pub mod Wanted
+pub mod Underway
+pub mod Opened

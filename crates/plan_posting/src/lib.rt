@@ -1,0 +1,28 @@
+//! What items and tokens ask of the network of a store: terms as arguments, items and relations as constraints, and the
+//! tables of fields.
+//!
+//! ```text
+//! add_tables(alloc, &mut store, model)?;
+//! let origin = Origin::Rule { token: place, rule: 0 };
+//! if counts(alloc, model, &store, origin, item) {
+//!     post_item(alloc, &mut store, origin, item)?;
+//! }
+//! post_lasts(&mut store, place)?;
+//! ```
+#![tactic(auto)]
+
+mod arguments;
+mod counting;
+pub mod laws;
+pub mod origin;
+mod posting;
+mod relations;
+mod tables;
+
+pub use arguments::argument_of;
+pub use counting::{counts, term_counts};
+pub use origin::{Origin, PartAt};
+pub use posting::{
+    post_at_most, post_constraint, post_equal, post_item, post_lasts, post_relation,
+};
+pub use tables::add_tables;
