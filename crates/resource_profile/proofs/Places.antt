@@ -3,12 +3,14 @@ use Rattle.std.proofs.Common.{◌≡◌, suc, ℤ, pos, ◌≤ℤ◌, ◌<ℤ◌
 use Rattle.std.specs.Prelude.{All, Contains, IfSome, IfNone, int_le, int_lt}
 use Rattle.std.proofs.lemmas.Int.{ints, by_lt_z}
 use Rattle.std.proofs.lemmas.List.Elements.{All-nil, All-cons, All-head, All-tail, All-weaker, All-contains}
-use Rattle.resource_profile.specs.Instant.{IsFirst}
+use Rattle.resource_profile.specs.Instant.{IsFirst, IsEarlier}
 use Rattle.resource_profile.specs.Usage.{quantity_at, taken_at, IsOverUsed}
-use Rattle.resource_profile.specs.Level.{added_at, level_at, IsOut, IsOutFrom}
+use Rattle.resource_profile.specs.Level.{added_at, level_at, IsPast, IsPastAt, IsPastFrom, IsOutFrom}
 use Rattle.resource_profile.specs.declared.usage.Use.{Use}
 use Rattle.resource_profile.specs.declared.level.LevelChange.{LevelChange}
-use Rattle.resource_profile.proofs.Firsts.{IsFirstAmong}
+use Rattle.resource_profile.specs.declared.level.Limit.{Limit}
+use Rattle.resource_profile.specs.declared.level.Limit.TheVariants.{Low, High}
+use Rattle.resource_profile.proofs.Firsts.{IsFirstAmong, first_of_both, first_along}
 
 -- whether one number is at most another, or below it, with what the test says
 at_most : (a b : ℤ) → ((int_le a b ≡ true) × (a ≤ℤ b)) ⊎ ((int_le a b ≡ false) × (b <ℤ a))
@@ -176,15 +178,15 @@ record ChangesBy (changes : List LevelChange) (is_so : ℤ → Type 0) (from ins
   reached : change.at ≤ℤ instant
   so : is_so change.at
 
-module _ (changes : List LevelChange) (initial low high from : ℤ) where
-  IsOut-same : (one other : ℤ) → level_at changes initial one ≡ level_at changes initial other → IsOut changes initial low high one → IsOut changes initial low high other
-  IsOut-same one other same out = subst (λ level. (level <ℤ low) ⊎ (high <ℤ level)) same out
+module _ (changes : List LevelChange) (initial : ℤ) (limit : Limit) (from : ℤ) where
+  past_same : (one other : ℤ) → level_at changes initial one ≡ level_at changes initial other → IsPastAt changes initial limit one → IsPastAt changes initial limit other
+  past_same one other same out = subst (IsPast limit) same out
 
-  -- a level that is out was out from the start or got out with a change
-  changes_by : (instant : ℤ) → from ≤ℤ instant → IsOut changes initial low high instant → (IsOut changes initial low high from) ⊎ ChangesBy changes (IsOut changes initial low high) from instant
+  -- a level that is past the limit was so from the start or got so with a change
+  changes_by : (instant : ℤ) → from ≤ℤ instant → IsPastAt changes initial limit instant → (IsPastAt changes initial limit from) ⊎ ChangesBy changes (IsPastAt changes initial limit) from instant
   changes_by instant order out =
       elim (latest (λ (change : LevelChange). change.at) instant changes) [
-        | inl later ↦ inl (IsOut-same instant from (level_at-same changes initial instant from
+        | inl later ↦ inl (past_same instant from (level_at-same changes initial instant from
             (All-weaker (λ change. instant <ℤ change.at) (λ change. change.at ≤ℤ instant ↔ change.at ≤ℤ from) (λ change after. (λ by. absurd (omega (arith, ints)), λ by. absurd (omega (arith, ints)))) changes later)) out)
         | inr found ↦
             let at = found.member.at in
@@ -194,33 +196,44 @@ module _ (changes : List LevelChange) (initial low high from : ℤ) where
               contained = found.contained;
               after = after;
               reached = found.reached;
-              so = IsOut-same instant at (level_at-same changes initial instant at
+              so = past_same instant at (level_at-same changes initial instant at
                   (All-weaker (λ change. change.at ≤ℤ instant → change.at ≤ℤ at) (λ change. change.at ≤ℤ instant ↔ change.at ≤ℤ at) (λ change last. (last, λ by. let reached = found.reached in omega (arith, ints))) changes found.last)) out;
             }))
-            (λ before. inl (IsOut-same instant from (level_at-same changes initial instant from
+            (λ before. inl (past_same instant from (level_at-same changes initial instant from
             (All-weaker (λ change. change.at ≤ℤ instant → change.at ≤ℤ at) (λ change. change.at ≤ℤ instant ↔ change.at ≤ℤ from) (λ change last. (λ by. let so = last by in omega (arith, ints), λ by. omega (arith, ints))) changes found.last)) out))
       ]
 
-  pub first_level_out : (found : Option ℤ) → (IsOut changes initial low high from → ⊥)
-      → IsFirstAmong (λ change. change.at) (λ at. (from <ℤ at) × IsOut changes initial low high at) changes found → IfSome found (IsFirst (IsOutFrom changes initial low high from))
-  first_level_out None in_limits among = tt
-  first_level_out (Some found) in_limits among = (
+  pub first_level_past : (found : Option ℤ) → (IsPastAt changes initial limit from → ⊥)
+      → IsFirstAmong (λ change. change.at) (λ at. (from <ℤ at) × IsPastAt changes initial limit at) changes found → IfSome found (IsFirst (IsPastFrom changes initial limit from))
+  first_level_past None not_at_once among = tt
+  first_level_past (Some found) not_at_once among = (
     (omega (arith, ints, among.0.0), among.0.1),
     λ earlier before out.
         elim (changes_by earlier out.0 out.1) [
-          | inl at_once ↦ in_limits at_once
+          | inl at_once ↦ not_at_once at_once
           | inr changed ↦
-              let after = All-contains (λ (change : LevelChange). (from <ℤ change.at) × IsOut changes initial low high change.at → found ≤ℤ change.at) changes changed.change among.1 changed.contained (changed.after, changed.so) in
+              let after = All-contains (λ (change : LevelChange). (from <ℤ change.at) × IsPastAt changes initial limit change.at → found ≤ℤ change.at) changes changed.change among.1 changed.contained (changed.after, changed.so) in
               let reached = changed.reached in
               omega (arith, ints)
         ],
   )
 
-  pub no_level_out : (found : Option ℤ) → (IsOut changes initial low high from → ⊥)
-      → IsFirstAmong (λ change. change.at) (λ at. (from <ℤ at) × IsOut changes initial low high at) changes found → IfNone found ((instant : ℤ) → IsOutFrom changes initial low high from instant → ⊥)
-  no_level_out None in_limits among = λ instant out.
+  pub no_level_past : (found : Option ℤ) → (IsPastAt changes initial limit from → ⊥)
+      → IsFirstAmong (λ change. change.at) (λ at. (from <ℤ at) × IsPastAt changes initial limit at) changes found → IfNone found ((instant : ℤ) → IsPastFrom changes initial limit from instant → ⊥)
+  no_level_past None not_at_once among = λ instant out.
       elim (changes_by instant out.0 out.1) [
-        | inl at_once ↦ in_limits at_once
-        | inr changed ↦ All-contains (λ (change : LevelChange). (from <ℤ change.at) × IsOut changes initial low high change.at → ⊥) changes changed.change among changed.contained (changed.after, changed.so)
+        | inl at_once ↦ not_at_once at_once
+        | inr changed ↦ All-contains (λ (change : LevelChange). (from <ℤ change.at) × IsPastAt changes initial limit change.at → ⊥) changes changed.change among changed.contained (changed.after, changed.so)
       ]
-  no_level_out (Some found) in_limits among = tt
+  no_level_past (Some found) not_at_once among = tt
+
+-- a level is outside of both limits where it is past the one or past the other
+pub first_level_out : (changes : List LevelChange) (initial low high from : ℤ) (below above found : Option ℤ) → IsEarlier below above found
+    → IfSome below (IsFirst (IsPastFrom changes initial (Low low) from)) → IfNone below ((instant : ℤ) → IsPastFrom changes initial (Low low) from instant → ⊥)
+    → IfSome above (IsFirst (IsPastFrom changes initial (High high) from)) → IfNone above ((instant : ℤ) → IsPastFrom changes initial (High high) from instant → ⊥)
+    → IfSome found (IsFirst (IsOutFrom changes initial low high from))
+first_level_out changes initial low high from below above found is first none first' none' =
+    first_along (λ instant. IsPastFrom changes initial (Low low) from instant ⊎ IsPastFrom changes initial (High high) from instant) (IsOutFrom changes initial low high from) found
+    (λ instant. elim [ inl past ↦ (past.0, inl past.1) | inr past ↦ (past.0, inr past.1) ])
+    (λ instant out. elim out.1 [ inl past ↦ inl (out.0, past) | inr past ↦ inr (out.0, past) ])
+    (first_of_both (IsPastFrom changes initial (Low low) from) (IsPastFrom changes initial (High high) from) below above found is first none first' none')

@@ -2,6 +2,8 @@
 use Rattle.std.specs.Prelude.{ℤ, pos, negsuc, ◌+ℤ◌, ◌≤ℤ◌, ◌<ℤ◌}
 use Rattle.std.specs.Prelude.{◌⊎◌, int_le, if◌then◌else◌, List, [], ◌∷◌}
 use Rattle.resource_profile.specs.declared.level.LevelChange.{LevelChange}
+use Rattle.resource_profile.specs.declared.level.Limit.{Limit}
+use Rattle.resource_profile.specs.declared.level.Limit.TheVariants.{Low, High}
 
 -- a change adds or takes a million at most
 abbrev pub IsSmall : LevelChange → Type 0
@@ -15,6 +17,19 @@ added_at change instant = if int_le change.at instant then change.add else pos 0
 abbrev pub level_at : List LevelChange → ℤ → ℤ → ℤ
 level_at [] initial instant = initial
 level_at (change ∷ changes) initial instant = added_at change instant +ℤ level_at changes initial instant
+
+-- the level is below the least that is allowed, or above the greatest
+abbrev pub IsPast : Limit → ℤ → Type 0
+IsPast (Low low) level = level <ℤ low
+IsPast (High high) level = high <ℤ level
+
+-- the level at the instant is past the limit
+abbrev pub IsPastAt : List LevelChange → ℤ → Limit → ℤ → Type 0
+IsPastAt changes initial limit instant = IsPast limit (level_at changes initial instant)
+
+-- the instant isn't before `from`, and the level at it is past the limit
+abbrev pub IsPastFrom : List LevelChange → ℤ → Limit → ℤ → ℤ → Type 0
+IsPastFrom changes initial limit from instant = (from ≤ℤ instant) × IsPastAt changes initial limit instant
 
 -- the level at the instant is outside of the limits
 abbrev pub IsOut : List LevelChange → ℤ → ℤ → ℤ → ℤ → Type 0

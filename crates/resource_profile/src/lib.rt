@@ -9,7 +9,7 @@ ghost use Rattle.std.specs.Prelude.{◌<ℤ◌};
 pub mod level;
 pub mod usage;
 
-pub use level::{LevelChange, level_out};
+pub use level::{LevelChange, Limit, level_out, level_past};
 pub use usage::{Use, over_use};
 
 // Whether the instant comes before the one found so far, or none is found yet.

@@ -29,8 +29,8 @@ fn is_timeline(model: &Model, object: i32) -> bool
     }
 }
 
-// Whether the token at this place takes place.
-fn is_active<V: View>(view: &V, place: u32) -> bool
+/// Whether the token at this place takes place.
+pub fn is_active<V: View>(view: &V, place: u32) -> bool
     requires { AreDecidedOnce (V.model view.now) (V.decisions view.now) }
     ensures { MatchBool result
         ((token : TokenName) × IsTokenAt (V.state view.now) place token
@@ -57,8 +57,8 @@ fn takes_place(state: TokenState) -> bool
     }
 }
 
-// The object of the token at this place, where it can be on one only.
-fn object_of<V: View>(view: &V, place: u32) -> Option<i32>
+/// The object of the token at this place, where it can be on one only.
+pub fn object_of<V: View>(view: &V, place: u32) -> Option<i32>
     requires { AreInOrder (V.state view.now) }
     ensures { MatchOption result
         ((token : TokenName) (object : ℤ)

@@ -1,0 +1,4 @@
+pub mod Picks
+pub mod Actors
+pub mod Effects
+pub mod Fits

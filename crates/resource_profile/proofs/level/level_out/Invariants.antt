@@ -1,8 +1,0 @@
-use Rattle.std.proofs.Common.{take, ◌<ℤ◌}
-use Rattle.resource_profile.specs.declared.level.LevelChange.{LevelChange}
-use Rattle.resource_profile.specs.Level.{IsOut}
-use Rattle.resource_profile.proofs.Firsts.{IsFirstAmong}
-use Rattle.resource_profile.proofs.level.level_out.Given as goal
-
-abbrev pub invariant-loop-change : goal.invariant-loop-change
-invariant-loop-change l = IsFirstAmong (λ (change : LevelChange). change.at) (λ at. (l.from <ℤ at) × IsOut l.changes l.initial' l.low l.high at) (take l.change-index l.changes) l.first
