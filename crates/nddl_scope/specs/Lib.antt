@@ -2,3 +2,5 @@ pub mod Builtin
 pub mod Finding
 pub mod Index
 pub mod Names
+pub mod Scope
+pub mod Repeats

@@ -2,6 +2,7 @@
 
 ghost use Rattle.std.specs.Prelude.{◌≡◌};
 ghost use Rattle.nddl_scope.specs.Builtin.{is_builtin_name, is_config_name};
+ghost use Rattle.nddl_scope.specs.Scope.{builtin_number};
 
 /// How many built-in classes there are.
 pub const BUILTIN_CLASSES: usize = 4;
@@ -11,6 +12,19 @@ pub fn is_config(name: &str) -> bool
     ensures { result ≡ is_config_name name.now }
 {
     name == "PlannerConfig"
+}
+
+/// The number of the built-in class of this name.
+pub fn builtin_number(name: &str) -> Option<u32>
+    ensures { result ≡ builtin_number name.now }
+{
+    match name {
+        "Object" => Some(0),
+        "Timeline" => Some(1),
+        "Reusable" => Some(2),
+        "Reservoir" => Some(3),
+        _ => None,
+    }
 }
 
 /// Whether no file may declare the name.

@@ -5,13 +5,13 @@ ghost use Rattle.nddl_scope.specs.Names.{declared_as, declared_members, enums_in
 ghost use Rattle.nddl_ast.specs.declared.declaration.Decl.TheVariants as decls;
 
 use super::builtin::is_config;
-use super::spot::Spot;
 use eu_name::sequence::Sequence;
 use eu_name::text::Text;
 use nddl_ast::declaration::Decl;
 use nddl_ast::expression::{BaseType, Bounds, Init, Type};
 use nddl_ast::name::Name;
 use nddl_ast::statement::{Ask, Variable};
+use nddl_joined::Place;
 use std::alloc::{AllocError, Global};
 
 /// As what a name is declared.
@@ -39,7 +39,7 @@ pub enum Sort {
 #[derive(Drop)]
 pub struct Declared {
     pub name: Text,
-    pub place: Spot,
+    pub place: Place,
     pub sort: Sort,
 }
 
@@ -174,7 +174,7 @@ fn push_name(
 {
     names.push(Declared {
         name: name.text.copy()?,
-        place: Spot { decl, at: name.at },
+        place: Place { decl, at: name.at },
         sort,
     })
 }

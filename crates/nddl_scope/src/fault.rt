@@ -1,33 +1,42 @@
 //! Faults of a program, and which of them comes first.
 
-ghost use Rattle.std.specs.Prelude.{◌≡◌, ◌↔◌, IsTrue};
-ghost use Rattle.nddl_scope.specs.Finding.{Finds, IsFaultBefore};
+ghost use Rattle.std.specs.Prelude.{◌≡◌, ◌||◌, ◌&&◌, ◌==◌, nat_lt};
+ghost use Rattle.nddl_ast.specs.Kinds.{kind_rank};
+ghost use Rattle.nddl_scope.specs.Finding.{FindsEarliest, earlier_fault, earliest_fault, fault_at, is_fault_before};
 
-use super::spot::Spot;
 use nddl_ast::TextKind;
+use nddl_joined::Place;
 
 /// What is wrong at a place in a program.
 #[derive(Clone, Copy, Debug, PartialEq, Eq)]
 pub struct Fault {
-    pub place: Spot,
+    pub place: Place,
     pub kind: TextKind,
 }
 
 impl Fault {
     /// Whether it comes before the other: by its place, and at one place by its kind.
     pub fn is_before(self, other: Fault) -> bool
-        ensures { IsTrue result ↔ IsFaultBefore self other }
+        ensures { result ≡ is_fault_before self other }
     {
-        self.place.is_before(other.place)
-            || (self.place == other.place && self.kind.rank() < other.kind.rank())
+        self.place.decl < other.place.decl
+            || (self.place.decl == other.place.decl && self.is_before_within(other))
+    }
+
+    // The same within one declaration.
+    fn is_before_within(self, other: Fault) -> bool
+        ensures { result ≡ (nat_lt self.place.at other.place.at || (self.place.at == other.place.at
+            && nat_lt (kind_rank self.kind) (kind_rank other.kind))) }
+    {
+        self.place.at < other.place.at
+            || (self.place.at == other.place.at && self.kind.rank() < other.kind.rank())
     }
 }
 
 /// Notes a fault, if it comes before the first one so far.
-pub fn note(first: &mut Option<Fault>, place: Spot, kind: TextKind)
-    ensures { Finds (λ fault. fault ≡ record { place = place; kind = kind }) first.old first.new }
+pub fn note(first: &mut Option<Fault>, fault: Fault)
+    ensures { first.new ≡ earlier_fault first.old fault }
 {
-    let fault = Fault { place, kind };
     match first {
         Some(found) => {
             if fault.is_before(*found) {
@@ -37,3 +46,23 @@ pub fn note(first: &mut Option<Fault>, place: Spot, kind: TextKind)
         None => *first = Some(fault),
     }
 }
+
+/// Notes the fault of the kind at the byte of the declaration of this number, if there is a kind.
+pub fn note_at(first: &mut Option<Fault>, decl: usize, at: u32, kind: Option<TextKind>)
+    ensures { first.new ≡ earliest_fault first.old (fault_at decl at kind) }
+{
+    if let Some(kind) = kind {
+        note(
+            first,
+            Fault {
+                place: Place { decl, at },
+                kind,
+            },
+        );
+    }
+}
+
+/// A law: the earliest of faults is one of them, and none of them comes before it.
+pub fn the_earliest_is_found()
+    ensures { FindsEarliest }
+{}

@@ -1,0 +1,9 @@
+//! What is wrong with the classes of a program: `note_class(alloc, basis, decl, ..)?` notes it for one declaration.
+#![tactic(auto)]
+
+pub mod classes;
+pub mod constructors;
+pub mod inherited;
+pub mod members;
+
+pub use classes::note_class;

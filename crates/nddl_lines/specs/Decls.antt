@@ -1,0 +1,29 @@
+-- What declarations say of what they stand under.
+use Rattle.std.specs.Prelude.{true, List, Option, Some, None, slice_get}
+use Rattle.std.specs.Option.{option_and_then}
+use Rattle.nddl_ast.specs.declared.declaration.Decl.{Decl}
+use Rattle.nddl_ast.specs.declared.declaration.Decl.TheVariants as decls
+use Rattle.nddl_ast.specs.declared.expression.Type as types
+use Rattle.nddl_ast.specs.declared.name.Name.{Name}
+use Rattle.nddl_scope.specs.declared.declared.Declared.{Declared}
+use Rattle.nddl_scope.specs.Scope.{named_number}
+
+-- what a class says that it extends
+abbrev pub class_parent : Decl → Option Name
+class_parent (decls.Class at name parent members) = parent
+class_parent decl = None
+
+-- what a typedef is declared as
+abbrev pub typedef_type : Decl → Option types.Type
+typedef_type (decls.Typedef at declared name) = Some declared
+typedef_type decl = None
+
+-- the declaration in which a name stands
+abbrev pub decl_of_name : List Decl → Declared → Option Decl
+decl_of_name program declared = slice_get program declared.place.decl
+
+-- the first declaration of this class with its members
+abbrev pub body_of : List Declared → List Decl → Declared → Option Decl
+body_of names program declared =
+    option_and_then (λ number. option_and_then (decl_of_name program) (slice_get names number))
+    (named_number true names declared.name)

@@ -1,0 +1,4 @@
+pub mod Ancestors
+pub mod Decls
+pub mod Facts
+pub mod Lines

@@ -1,0 +1,46 @@
+//! What declarations say of what they stand under.
+
+ghost use Rattle.std.specs.Prelude.{◌≡◌, map, slice_get};
+ghost use Rattle.std.specs.Option.{option_and_then, option_copied};
+ghost use Rattle.nddl_lines.specs.Decls.{body_of, class_parent, decl_of_name, typedef_type};
+
+use nddl_ast::declaration::Decl;
+use nddl_ast::expression::Type;
+use nddl_ast::name::Name;
+use nddl_scope::{Declared, Scope};
+
+/// The declaration of this number.
+pub fn decl_at<'a>(decls: &[&'a Decl], number: usize) -> Option<&'a Decl>
+    ensures { option_copied result ≡ slice_get (map (λ decl. decl.now) decls.now) number }
+{
+    Some(*decls.get(number)?)
+}
+
+/// What the class says that it extends.
+pub fn class_parent(decl: &Decl) -> Option<&Name>
+    ensures { option_copied result ≡ class_parent decl.now }
+{
+    match decl {
+        Decl::Class { parent, .. } => parent.as_ref(),
+        _ => None,
+    }
+}
+
+/// What the typedef is declared as.
+pub fn typedef_type(decl: &Decl) -> Option<&Type>
+    ensures { option_copied result ≡ typedef_type decl.now }
+{
+    match decl {
+        Decl::Typedef { declared, .. } => Some(declared),
+        _ => None,
+    }
+}
+
+/// The first declaration of this class with its members.
+pub fn body_of<'a>(scope: &Scope, decls: &[&'a Decl], declared: &Declared) -> Option<&'a Decl>
+    ensures { option_copied result ≡ body_of scope.now (map (λ decl. decl.now) decls.now) declared.now }
+{
+    let number = scope.body(&declared.name)?;
+    let body = scope.names().get(number)?;
+    decl_at(decls, body.place.decl)
+}
