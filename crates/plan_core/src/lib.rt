@@ -1,11 +1,11 @@
 //! Plans as text.
 //!
 //! `write_plan(alloc, &model, &plan)?` is the text of a plan, line by line in order. What a text is read as, and its first
-//! fault, is defined here too (`specs/PlanTexts`); the reader isn't here yet.
+//! fault, is defined here too (`specs/PlanTexts`): that is what plan_reader answers, by the words that are cut here.
 #![tactic(auto)]
 
 pub mod fault;
-mod names;
+pub mod names;
 pub mod statement;
 pub mod subject;
 pub mod words;

@@ -98,9 +98,8 @@ impl<'a> Cursor<'a> {
 
 /// The place in the text of the next word of this rest of it, or the text's length.
 pub fn place_in(text: &[u8], rest: &[u8]) -> usize
-    requires { length rest.now ≤ length text.now }
     ensures place { result ≡ place_in text.now rest.now }
     ensures within { result ≤ length text.now }
 {
-    text.len() - (rest.len() - gap_len(rest))
+    text.len().saturating_sub(rest.len() - gap_len(rest))
 }

@@ -1,0 +1,10 @@
+pub mod Declaring
+pub mod Finding
+pub mod Suiting
+pub mod Sweeping
+pub mod Turning
+pub mod Chaining
+pub mod Suited
+pub mod Using
+pub mod Rising
+pub mod Sorting

@@ -1,0 +1,12 @@
+pub mod Ranking
+pub mod Naming
+pub mod Bisecting
+pub mod Matching
+pub mod Counting
+pub mod Valuing
+pub mod Saying
+pub mod Opening
+pub mod Standing
+pub mod Walking
+pub mod Few
+pub mod Ruling
