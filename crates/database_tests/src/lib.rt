@@ -22,6 +22,8 @@ mod sample;
 #[cfg(test)]
 mod shapes;
 #[cfg(test)]
+mod stores;
+#[cfg(test)]
 mod timelines;
 #[cfg(test)]
 mod tokens;

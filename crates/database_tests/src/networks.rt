@@ -105,6 +105,30 @@ fn a_range_and_a_set_are_equal(rt: HostRuntime) {
     assert!(rt; after == [Some((true, 5, 5, 1)), Some((false, 5, 5, 1))]);
 }
 
+/// A range that is less than each member of a set.
+fn make_apart(net: &mut Net, alloc: Global) -> bool {
+    let added = add(net, alloc, Ends(0, 10)) == Some(0)
+        && add(net, alloc, Members([12, 15, 20])) == Some(1);
+    added && post_lt(net, 0, 1)
+}
+
+/// What is left of the range and the set after the range has become less, and how often the set was written.
+fn apart_run(alloc: Global) -> (bool, [Option<Shape>; 2], Option<u64>) {
+    let mut net = Net::new(alloc);
+    let made = make_apart(&mut net, alloc) && net.settle_all().is_ok();
+    let settled = limit(&mut net, 0, 4, 7).is_some() && net.settle_all().is_ok();
+    let after = [left(&net, 0), left(&net, 1)];
+    (made && settled, after, net.stamp(1))
+}
+
+#[test]
+fn a_set_that_stays_is_not_written(rt: HostRuntime) {
+    let (settled, after, written) = apart_run(rt.alloc());
+    assert!(rt; settled);
+    assert!(rt; after == [Some((true, 4, 7, 4)), Some((false, 12, 20, 3))]);
+    assert!(rt; written == Some(0));
+}
+
 /// z is three times x, and b says whether x is at most 2.
 fn make_product(net: &mut Net, alloc: Global) -> bool {
     let added = add(net, alloc, Ends(0, 10)) == Some(0)
