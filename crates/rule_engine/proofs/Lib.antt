@@ -3,3 +3,4 @@ pub mod Listing
 pub mod Counting
 pub mod Turning
 pub mod Limits
+pub mod Finding

@@ -127,6 +127,20 @@ fn block_at<'a>(top: &'a Block, path: &[Turn]) -> BlockAt<'a>
     at
 }
 
+/// The block of a rule of the token: of the rule of this number in the list of the token's predicate, that to which the
+/// way leads.
+pub fn block_of<'a>(model: &'a Model, token: &TokenName, rule: u16, path: &[Turn]) -> &'a Block
+    requires lawful { IsLawful model.now }
+    requires there { (entries : Entries)
+        × IsBlock model.now (record { token = token.now; rule = rule; path = path.now }) entries }
+    ensures { (entries : Entries)
+        → IsBlock model.now (record { token = token.now; rule = rule; path = path.now }) entries
+        → result.now ≡ entries }
+{
+    let found = rule_of(model, token, rule);
+    block_at(&found.top, path).block
+}
+
 // The places of the branches among the entries, in order.
 fn branches_at(alloc: Global, entries: &[Entry]) -> Result<Vec<u16>, AllocError>
     requires { length entries.now ≤ 2 ^ 16 }

@@ -2,36 +2,21 @@
 use Rattle.std.proofs.Common.{◌≡◌, ℕ, ◌<◌, List, length, All, sym, ap, subst, ◌∙◌, arith}
 use Rattle.std.proofs.lemmas.Result.{IfOk-weaker}
 use Rattle.eu_name.specs.declared.name.TokenName.{TokenName}
-use Rattle.model_core.specs.declared.model.Model.{Model}
 use Rattle.model_core.specs.declared.rule.Rule.{Rule}
 use Rattle.model_core.specs.declared.rule.Turn.{Turn}
 use Rattle.model_core.specs.Block.{plain_entries}
-use Rattle.model_core.specs.Blocks.{IsBlock, direct}
+use Rattle.model_core.specs.Blocks.{direct}
 use Rattle.model_core.specs.Entries.{Entries}
-use Rattle.model_core.specs.Lawful.{IsLawful, item_count}
+use Rattle.model_core.specs.Lawful.{item_count}
 use Rattle.model_core.specs.Numbers.{items_from, rule_items}
-use Rattle.model_core.specs.Standing.{LeadsToBlock}
 use Rattle.rule_engine.specs.declared.block.Additions.{Additions}
 use Rattle.rule_engine.specs.Contents.{IsIn, AreOfBlock, AreAdditions}
 use Rattle.rule_engine.specs.Lists.{slots_in, locals_in}
 use Rattle.rule_engine.specs.Places.{StandFrom, IsNumberIn}
-use Rattle.rule_engine.proofs.Limits.{IsFew, few_rule, as_many, block_short, block_slots, block_locals}
+use Rattle.rule_engine.proofs.Limits.{as_many, block_short, block_slots, block_locals}
+use Rattle.rule_engine.proofs.Finding.{found_by}
 use Rattle.rule_engine.proofs.Turning.{few_inside}
 use Rattle.rule_engine.proofs.block.open_block.Goals as goal
-
--- the rule that was found and the block in it, with what a lawful model says of them
-record IsFound (model : Model) (found : Rule) (path : List Turn) (block : Entries) : Type 0 where
-  pred : ℕ
-  few : IsFew model pred found
-  way : LeadsToBlock found.top path block
-
-found_by : (model : Model) (token : TokenName) (number : ℕ) (path : List Turn) (entries : Entries) (found : Rule) → IsLawful model
-    → (is : IsBlock model (record { token = token; rule = number; path = path }) entries) → found ≡ is.rule → IsFound model found path entries
-found_by model token number path entries found lawful is same = record {
-  pred = is.slot.pred;
-  few = subst (λ r. IsFew model is.slot.pred r) (sym same) (few_rule model is.slot.pred number is.rule lawful is.has_rule);
-  way = subst (λ (r : Rule). LeadsToBlock r.top path entries) (sym same) is.way;
-}
 
 -- what is in the block that was found is what the model's block adds
 of_block : (token : TokenName) (number first : ℕ) (found rule : Rule) (path : List Turn) (block plain entries : Entries) (additions : Additions) → plain ≡ block → block ≡ entries → found ≡ rule
