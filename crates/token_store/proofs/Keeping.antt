@@ -1,5 +1,5 @@
 -- What is kept stays kept.
-use Rattle.std.proofs.Common.{◌≡◌, ℕ, ◌+◌, ◌^◌, ◌<◌, ◌≤◌, nat_lt, filter, List, [], ◌∷◌, ◌++◌, length, map, take, insert, reverse, slice_get, Option, Some, sym, ap, ◌∙◌, subst, arith, length-append}
+use Rattle.std.proofs.Common.{◌≡◌, ℕ, ◌+◌, ◌^◌, ◌<◌, List, [], ◌∷◌, ◌++◌, length, insert, reverse, slice_get, Option, Some, sym, ap, ◌∙◌, subst, arith, length-append}
 use Rattle.std.proofs.lemmas.List.{map-append}
 use Rattle.std.specs.Map.{values_of}
 use Rattle.eu_name.specs.declared.name.TokenName.{TokenName}
@@ -11,10 +11,10 @@ use Rattle.token_store.specs.declared.trail.Edit.TheVariants.{Added, Was}
 use Rattle.token_store.specs.Tokens.{TokenList, TokenPast, tokens_now, token_names, IsNewName, with_state}
 use Rattle.token_store.specs.Orders.{IsRanking}
 use Rattle.token_store.specs.Kept.{token_past, HaveChildren, AreKeptTokens}
-use Rattle.token_store.specs.Pieces.{TokensReturnTo, Parts, FindsParent, with_child}
-use Rattle.token_store.proofs.Past.{now-past, length-names, length-with_state, names-with_state, state-back, before-added, edited_past, edited_trail}
-use Rattle.token_store.proofs.Ranks.{ranking_added, ranking_kept}
-use Rattle.token_store.proofs.Subgoals.{children_added, children_kept}
+use Rattle.token_store.specs.Pieces.{Parts, FindsParent, with_child}
+use Rattle.token_store.proofs.Past.{now-past, length-names, length-with_state, names-with_state, state-back, before-added, edited_past, edited_trail, last_edit}
+use Rattle.token_store.proofs.Ranks.{ranking_added}
+use Rattle.token_store.proofs.Subgoals.{children_added}
 
 -- a state was written
 pub set_kept : (tokens : TokenList) (trail : List Edit) (by_rank : List ℕ) (children : List (List ℕ)) (place : ℕ) (value : Token) (state : TokenState)
@@ -65,16 +65,15 @@ added_past tokens trail view name token is =
     ∙ ap (λ past. (tokens ++ (name, token) ∷ []) ∷ past) is
     ∙ ap (λ list. (list ++ (name, token) ∷ []) ∷ view) (sym (now-past tokens (reverse trail)) ∙ ap tokens_now is)
 
--- the tokens went back
-pub back_kept : (behind : ℕ) (tokens : TokenList) (trail : List Edit) (now : TokenList) (left : List Edit) (by_rank : List ℕ) (children : List (List ℕ))
-    → AreKeptTokens tokens (reverse trail) by_rank children → TokensReturnTo behind (tokens, trail) (now, left)
-    → AreKeptTokens now (reverse left) (filter (λ p. nat_lt p (length now)) by_rank) (map (filter (λ p. nat_lt p (length now))) (take (length now) children))
-back_kept behind tokens trail now left by_rank children kept back =
-    let few : length now ≤ length (token_names tokens) = omega (arith, back.fewer, length-names tokens) in
+-- a state was taken back
+pub unset_kept : (tokens : TokenList) (trail left : List Edit) (by_rank : List ℕ) (children : List (List ℕ)) (place : ℕ) (state : TokenState)
+    → trail ≡ left ++ Was place state ∷ [] → AreKeptTokens tokens (reverse trail) by_rank children
+    → AreKeptTokens (with_state tokens place state) (reverse left) by_rank children
+unset_kept tokens trail left by_rank children place state is kept =
+    let names = sym (names-with_state tokens place state) in
     record {
-      led = back.led;
-      few = omega (arith, back.fewer, kept.few);
-      ranked = subst (λ n. IsRanking n (filter (λ p. nat_lt p (length now)) by_rank)) (sym back.names) (ranking_kept (token_names tokens) by_rank (length now) few kept.ranked);
-      listed = subst (λ n. HaveChildren n (map (filter (λ p. nat_lt p (length now))) (take (length now) children))) (sym back.names)
-          (children_kept (token_names tokens) children (length now) few kept.listed);
+      led = (last_edit tokens trail left (Was place state) is kept.led).1;
+      few = omega (arith, kept.few, length-with_state tokens place state);
+      ranked = subst (λ n. IsRanking n by_rank) names kept.ranked;
+      listed = subst (λ n. HaveChildren n children) names kept.listed;
     }

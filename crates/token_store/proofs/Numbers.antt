@@ -1,6 +1,6 @@
 -- Lists of numbers in an order.
-use Rattle.std.proofs.Common.{◌≡◌, ◌↔◌, ℕ, zero, suc, ◌<◌, ◌⊎◌, inl, inr, Bool, true, false, cond, nat_lt, filter, List, [], ◌∷◌, ◌++◌, length, slice_index_or, Contains, refl, sym, ap, ◌∙◌, subst, true≢false, arith, length-append}
-use Rattle.std.proofs.lemmas.Bool.{ltb-true, lt-ltb, cases_lt}
+use Rattle.std.proofs.Common.{◌≡◌, ◌↔◌, ℕ, zero, suc, ◌<◌, ◌⊎◌, inl, inr, List, [], ◌∷◌, ◌++◌, length, take, drop, slice_get, slice_index_or, Contains, Some, refl, sym, ap, ◌∙◌, subst, arith, length-append}
+use Rattle.std.proofs.lemmas.Bool.{cases_lt}
 use Rattle.token_store.specs.Orders.{IsInOrder, IsListOf}
 
 pub contains_first : (x : ℕ) (xs : List ℕ) → Contains (x ∷ xs) x
@@ -80,54 +80,6 @@ list_like before other is are list of agree same = record {
   each = λ x. ((λ has. (same x).0 ((of.each x).0 has)), (λ are. (of.each x).1 ((same x).1 are)));
 }
 
--- what a filter leaves
-filtered_from : (test : ℕ → Bool) (list : List ℕ) (y : ℕ) → Contains (filter test list) y → Contains list y × (test y ≡ true)
-filtered_from test [] y has = absurd (contains_none y has)
-filtered_from test (x ∷ list) y has = by (test x) refl (filtered_from test list y)
-  where
-    by : (b : Bool) → test x ≡ b → (Contains (filter test list) y → Contains list y × (test y ≡ true)) → Contains (x ∷ list) y × (test y ≡ true)
-    by true passes more = elim (contains_cases x (filter test list) y (subst (λ b. Contains (cond b (x ∷ filter test list) (filter test list)) y) passes has)) [
-      | inl same ↦ (subst (Contains (x ∷ list)) same (contains_first x list), ap test (sym same) ∙ passes)
-      | inr has ↦ let rest = more has in (contains_behind x list y rest.0, rest.1)
-    ]
-    by false fails more =
-        let rest = more (subst (λ b. Contains (cond b (x ∷ filter test list) (filter test list)) y) fails has) in
-        (contains_behind x list y rest.0, rest.1)
-
-filtered_to : (test : ℕ → Bool) (list : List ℕ) (y : ℕ) → Contains list y → test y ≡ true → Contains (filter test list) y
-filtered_to test [] y has passes = absurd (contains_none y has)
-filtered_to test (x ∷ list) y has passes = by (test x) refl (λ has. filtered_to test list y has passes)
-  where
-    by : (b : Bool) → test x ≡ b → (Contains list y → Contains (filter test list) y) → Contains (filter test (x ∷ list)) y
-    by true first more = subst (λ b. Contains (cond b (x ∷ filter test list) (filter test list)) y) (sym first) (elim (contains_cases x list y has) [
-      | inl same ↦ subst (Contains (x ∷ filter test list)) same (contains_first x (filter test list))
-      | inr behind ↦ contains_behind x (filter test list) y (more behind)
-    ])
-    by false first more = subst (λ b. Contains (cond b (x ∷ filter test list) (filter test list)) y) (sym first) (elim (contains_cases x list y has) [
-      | inl same ↦ absurd (true≢false (sym passes ∙ ap test (sym same) ∙ first))
-      | inr behind ↦ more behind
-    ])
-
-in_order_filter : (before : ℕ → ℕ → Type 0) (test : ℕ → Bool) (list : List ℕ) → IsInOrder before list → IsInOrder before (filter test list)
-in_order_filter before test [] order = tt
-in_order_filter before test (x ∷ list) order = by (test x) refl (in_order_filter before test list order.1)
-  where
-    by : (b : Bool) → test x ≡ b → IsInOrder before (filter test list) → IsInOrder before (filter test (x ∷ list))
-    by true first more = subst (λ b. IsInOrder before (cond b (x ∷ filter test list) (filter test list))) (sym first)
-        ((λ y has. order.0 y (filtered_from test list y has).0), more)
-    by false first more = subst (λ b. IsInOrder before (cond b (x ∷ filter test list) (filter test list))) (sym first) more
-
--- the numbers below a bound
-pub list_below : (before : ℕ → ℕ → Type 0) (is : ℕ → Type 0) (list : List ℕ) (bound : ℕ) → IsListOf before is list
-    → IsListOf before (λ x. is x × (x < bound)) (filter (λ x. nat_lt x bound) list)
-list_below before is list bound of = record {
-  order = in_order_filter before (λ x. nat_lt x bound) list of.order;
-  each = λ x. (
-    (λ has. let from = filtered_from (λ x. nat_lt x bound) list x has in ((of.each x).0 from.0, ltb-true x bound from.1)),
-    (λ both. filtered_to (λ x. nat_lt x bound) list x ((of.each x).1 both.0) (lt-ltb x bound both.1)),
-  );
-}
-
 -- what stands at a place that there is
 pub index_default : (list : List ℕ) (place one other : ℕ) → place < length list → slice_index_or list place one ≡ slice_index_or list place other
 index_default [] place one other within = absurd (omega (arith, within))
@@ -163,6 +115,45 @@ in_order_less before (first ∷ front) back x order =
       ]),
     )
 
+-- a list without one of its numbers
+pub list_taken : (before : ℕ → ℕ → Type 0) (is : ℕ → Type 0) → ((x : ℕ) → before x x → ⊥) → (front back : List ℕ) (x : ℕ)
+    → IsListOf before is (front ++ x ∷ back) → IsListOf before (λ y. is y × (x ≡ y → ⊥)) (front ++ back)
+list_taken before is never front back x of =
+    let less = in_order_less before front back x of.order in
+    record {
+      order = less.0;
+      each = λ y. (
+        (λ has. (
+          (of.each y).0 (contains_also front back x y has),
+          (λ same. elim (less.1 y has) [
+            | inl one ↦ never x (subst (λ z. before z x) (sym same) one)
+            | inr other ↦ never x (subst (before x) (sym same) other)
+          ]),
+        )),
+        (λ both. elim (contains_put front back x y ((of.each y).1 both.0)) [
+          | inl has ↦ has
+          | inr same ↦ absurd (both.1 same)
+        ]),
+      );
+    }
+
+-- the last number comes behind all others
+pub in_order_last : (before : ℕ → ℕ → Type 0) (front : List ℕ) (x y : ℕ) → IsInOrder before (front ++ x ∷ []) → Contains front y → before y x
+in_order_last before [] x y order has = absurd (contains_none y has)
+in_order_last before (first ∷ front) x y order has = elim (contains_cases first front y has) [
+  | inl same ↦ subst (λ z. before z x) same (order.0 x (contains_the front [] x))
+  | inr more ↦ in_order_last before front x y order.1 more
+]
+
+some_number : (one other : ℕ) → Some one ≡ Some other → one ≡ other
+some_number one other same = cc
+
+-- the number at a place parts the list
+pub part_at : (list : List ℕ) (place x : ℕ) → slice_get list place ≡ Some x → list ≡ take place list ++ x ∷ drop (suc place) list
+part_at [] place x is = cc
+part_at (first ∷ list) zero x is = ap (λ y. y ∷ list) (some_number first x is)
+part_at (first ∷ list) (suc place) x is = ap (λ more. first ∷ more) (part_at list place x is)
+
 -- a list of the numbers below a bound has as many
 pub counted : (before : ℕ → ℕ → Type 0) → ((x : ℕ) → before x x → ⊥) → (bound : ℕ) (list : List ℕ) → IsListOf before (λ x. x < bound) list → length list ≡ bound
 counted before never zero [] of = refl
@@ -171,27 +162,14 @@ counted before never (suc bound) list of =
     let split = split_at list bound ((of.each bound).1 (omega arith)) in
     let front = split.0 in
     let back = split.1 in
-    let parted : IsListOf before (λ x. x < suc bound) (front ++ bound ∷ back) = subst (IsListOf before (λ x. x < suc bound)) split.2 of in
-    let less = in_order_less before front back bound parted.order in
-    let rest = counted before never bound (front ++ back) (record {
-      order = less.0;
-      each = λ y. (
-        (λ has. elim (cases_lt y bound) [
-          | inl below ↦ below
-          | inr over ↦
-              let same : y ≡ bound = omega (arith, over, (parted.each y).0 (contains_also front back bound y has)) in
-              absurd (elim (less.1 y has) [
-                | inl one ↦ never bound (subst (λ z. before z bound) same one)
-                | inr other ↦ never bound (subst (before bound) same other)
-              ])
-        ]),
-        (λ below. elim (contains_put front back bound y ((parted.each y).1 (omega (arith, below)))) [
-          | inl has ↦ has
-          | inr same ↦ absurd (omega (arith, same, below))
-        ]),
-      );
-    }) in
+    let less = list_taken before (λ x. x < suc bound) never front back bound (subst (IsListOf before (λ x. x < suc bound)) split.2 of) in
+    let rest = counted before never bound (front ++ back)
+    (list_like before before (λ x. (x < suc bound) × (bound ≡ x → ⊥)) (λ x. x < bound) (front ++ back) less (λ x y one two is. is)
+    (λ x. ((λ both. below x both.0 both.1), (λ under. (omega (arith, under), λ same. absurd (omega (arith, same, under))))))) in
     omega (arith, rest, ap length split.2, length-append front (bound ∷ back), length-append front back)
+  where
+    below : (x : ℕ) → x < suc bound → (bound ≡ x → ⊥) → x < bound
+    below x under not = elim (cases_lt x bound) [ inl less ↦ less | inr over ↦ absurd (not (omega (arith, over, under))) ]
 
 -- two lists of the same numbers in order are equal
 order_same : (before : ℕ → ℕ → Type 0) → ((x : ℕ) → before x x → ⊥) → ((x y z : ℕ) → before x y → before y z → before x z) → (one other : List ℕ)

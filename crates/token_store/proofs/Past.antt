@@ -1,7 +1,7 @@
 -- The tokens along the trail.
-use Rattle.std.proofs.Common.{◌≡◌, ℕ, zero, suc, ◌+◌, ◌-◌, ◌≤◌, List, [], ◌∷◌, ◌++◌, length, map, take, slice_get, Option, Some, refl, sym, ap, ◌∙◌, subst, reverse, arith, length-append, append_assoc}
-use Rattle.std.proofs.lemmas.List.{reverse-append, length-reverse, length-map, take-take, length-take-le}
-use Rattle.std.proofs.Math.Seq.{take-append_seam, take-length}
+use Rattle.std.proofs.Common.{◌≡◌, ℕ, zero, suc, ◌+◌, ◌-◌, List, [], ◌∷◌, ◌++◌, length, map, take, slice_get, Option, Some, refl, sym, ap, ◌∙◌, subst, reverse, arith, length-append, append_assoc}
+use Rattle.std.proofs.lemmas.List.{reverse-append, length-reverse, length-map}
+use Rattle.std.proofs.Math.Seq.{take-append_seam}
 use Rattle.std.proofs.lemmas.Option.{slice_get-map}
 use Rattle.std.specs.Option.{option_map}
 use Rattle.std.specs.Map.{values_of}
@@ -10,10 +10,9 @@ use Rattle.eu_name.specs.declared.name.TokenName.{TokenName}
 use Rattle.model_core.specs.declared.view.TokenState.{TokenState}
 use Rattle.token_store.specs.declared.trail.Token.{Token}
 use Rattle.token_store.specs.declared.trail.Edit.{Edit}
-use Rattle.token_store.specs.declared.trail.Edit.TheVariants.{Added, Was}
-use Rattle.token_store.specs.Tokens.{TokenList, TokenPast, tokens_now, token_names, with_state}
+use Rattle.token_store.specs.declared.trail.Edit.TheVariants.{Added}
+use Rattle.token_store.specs.Tokens.{TokenList, TokenPast, tokens_now, token_names, with_state, LeavesPast}
 use Rattle.token_store.specs.Kept.{before, token_past, CanLead, IsTokenTrail}
-use Rattle.token_store.specs.Pieces.{TokensReturnTo}
 
 pub now-past : (tokens : TokenList) (trail : List Edit) → tokens_now (token_past tokens trail) ≡ tokens
 now-past tokens [] = refl
@@ -85,66 +84,32 @@ pub edited_trail : (old new : TokenList) (trail : List Edit) (edit : Edit) → b
 edited_trail old new trail edit back can led =
     subst (IsTokenTrail new) (sym (reverse-last trail edit)) (can, subst (λ list. IsTokenTrail list (reverse trail)) (sym back) led)
 
--- the tokens before an edit are the first ones of those behind it
-names-take : (n : ℕ) (tokens : TokenList) → token_names (take n tokens) ≡ take n (token_names tokens)
-names-take zero tokens = refl
-names-take (suc n) [] = refl
-names-take (suc n) (token ∷ tokens) = ap (λ names. token.0 ∷ names) (names-take n tokens)
-
-names_before : (edit : Edit) (tokens : TokenList) → CanLead edit tokens
-    → (token_names (before edit tokens) ≡ take (length (before edit tokens)) (token_names tokens)) × (length (before edit tokens) ≤ length tokens)
-names_before Added tokens can =
-    let long : length (take (length tokens - 1) tokens) ≡ length tokens - 1 = length-take-le (length tokens - 1) tokens (omega arith) in
-    (names-take (length tokens - 1) tokens ∙ ap (λ n. take n (token_names tokens)) (sym long), omega (arith, long))
-names_before (Was place state) tokens can =
-    let long : length (with_state tokens place state) ≡ length tokens = length-with_state tokens place state in (
-      names-with_state tokens place state ∙ sym (take-length (token_names tokens))
-          ∙ ap (λ n. take n (token_names tokens)) (length-names tokens ∙ sym long),
-      omega (arith, long),
-    )
-
 -- the tokens after some edits were taken back
 pub record IsReturning (tokens : TokenList) (trail : List Edit) (now : TokenList) (left : List Edit) : Type 0 where
-  pub led : IsTokenTrail now left
   pub newer : TokenPast
   pub past : token_past tokens trail ≡ newer ++ token_past now left
-  pub names : token_names now ≡ take (length now) (token_names tokens)
-  pub fewer : length now ≤ length tokens
 
-pub returning_none : (tokens : TokenList) (trail : List Edit) → IsTokenTrail tokens trail → IsReturning tokens trail tokens trail
-returning_none tokens trail led = record {
-  led = led;
-  newer = [];
-  past = refl;
-  names = sym (take-length (token_names tokens)) ∙ ap (λ n. take n (token_names tokens)) (length-names tokens);
-  fewer = omega arith;
-}
+pub returning_none : (tokens : TokenList) (trail : List Edit) → IsReturning tokens trail tokens trail
+returning_none tokens trail = record { newer = []; past = refl }
 
 pub returning_more : (tokens : TokenList) (trail : List Edit) (now new : TokenList) (left : List Edit) (edit : Edit)
     → IsReturning tokens trail now (edit ∷ left) → new ≡ before edit now → IsReturning tokens trail new left
-returning_more tokens trail now new left edit returning is =
-    let front = names_before edit now returning.led.0 in
-    let same : length (before edit now) ≡ length new = ap length (sym is) in
-    record {
-      led = subst (λ list. IsTokenTrail list left) (sym is) returning.led.1;
-      newer = returning.newer ++ now ∷ [];
-      past = returning.past ∙ ap (λ list. returning.newer ++ now ∷ token_past list left) (sym is)
-          ∙ sym (append_assoc returning.newer (now ∷ []) (token_past new left));
-      names = ap token_names is ∙ front.0 ∙ ap (take (length (before edit now))) returning.names
-          ∙ take-take (length (before edit now)) (length now) (token_names tokens) front.1
-          ∙ ap (λ n. take n (token_names tokens)) same;
-      fewer = omega (arith, front.1, returning.fewer, same);
-    }
+returning_more tokens trail now new left edit returning is = record {
+  newer = returning.newer ++ now ∷ [];
+  past = returning.past ∙ ap (λ list. returning.newer ++ now ∷ token_past list left) (sym is)
+      ∙ sym (append_assoc returning.newer (now ∷ []) (token_past new left));
+}
 
 pub returned : (behind : ℕ) (tokens : TokenList) (trail : List Edit) (now : TokenList) (left : List Edit)
-    → IsReturning tokens (reverse trail) now (reverse left) → length left ≡ behind → TokensReturnTo behind (tokens, trail) (now, left)
+    → IsReturning tokens (reverse trail) now (reverse left) → length left ≡ behind
+    → LeavesPast behind (token_past tokens (reverse trail)) (token_past now (reverse left))
 returned behind tokens trail now left returning long = record {
-  led = returning.led;
-  leaves = record {
-    newer = returning.newer;
-    past = returning.past;
-    count = omega (arith, length-past now (reverse left), length-reverse left, long);
-  };
-  names = returning.names;
-  fewer = returning.fewer;
+  newer = returning.newer;
+  past = returning.past;
+  count = omega (arith, length-past now (reverse left), length-reverse left, long);
 }
+
+-- the last edit led to the tokens
+pub last_edit : (tokens : TokenList) (trail left : List Edit) (edit : Edit) → trail ≡ left ++ edit ∷ [] → IsTokenTrail tokens (reverse trail)
+    → CanLead edit tokens × IsTokenTrail (before edit tokens) (reverse left)
+last_edit tokens trail left edit is led = subst (IsTokenTrail tokens) (ap reverse is ∙ reverse-last left edit) led

@@ -1,14 +1,15 @@
 -- The ranking of the tokens.
-use Rattle.std.proofs.Common.{◌≡◌, ℕ, ◌+◌, ◌<◌, ◌≤◌, ◌⊎◌, inl, inr, nat_lt, filter, List, [], ◌∷◌, ◌++◌, length, take, drop, insert, slice_get, slice_index_or, Contains, Some, sym, ap, ◌∙◌, subst, arith, length-append}
+use Rattle.std.proofs.Common.{◌≡◌, ℕ, ◌+◌, ◌<◌, ◌≤◌, ◌⊎◌, inl, inr, suc, List, [], ◌∷◌, ◌++◌, length, take, drop, insert, slice_get, slice_index_or, Contains, Some, sym, ap, ◌∙◌, subst, arith, length-append}
 use Rattle.std.proofs.lemmas.Bool.{cases_lt}
 use Rattle.std.proofs.lemmas.List.{get_or_append_left, get_or-take, get_or-drop, take-append-drop, length-take-le, length-drop}
 use Rattle.std.proofs.lemmas.Option.{slice_get-get_or, slice_get_within, get_or_from_slice_get}
 use Rattle.std.proofs.Math.Seq.{get_or-append_seam}
+use Rattle.std.specs.List.{remove}
 use Rattle.eu_name.specs.declared.name.TokenName.{TokenName}
 use Rattle.eu_name.specs.NameOrder.{IsTokenBefore, IsStrictTotalOrder}
 use Rattle.token_store.specs.Orders.{IsInOrder, IsListOf, name_at, IsNameBefore, IsRanking, HasRank}
 use Rattle.token_store.specs.Pieces.{Parts}
-use Rattle.token_store.proofs.Numbers.{list_like, list_put, list_below, in_order_at, index_default, counted, list_one}
+use Rattle.token_store.proofs.Numbers.{list_like, list_put, list_taken, part_at, in_order_at, index_default, counted, list_one}
 
 -- what comes before the middle one comes before what it comes before
 pub below_middle : IsStrictTotalOrder IsTokenBefore → (names : List TokenName) (ranking : List ℕ) (name : TokenName) (middle other : ℕ)
@@ -83,25 +84,14 @@ ranking_added law names ranking name rank is parts new =
     below : (y : ℕ) → y < length (names ++ name ∷ []) → (y < length names) ⊎ (length names ≡ y)
     below y less = elim (cases_lt y (length names)) [ inl under ↦ inl under | inr over ↦ inr (omega (arith, over, less, length-append names (name ∷ []))) ]
 
--- the ranking of the first names
-pub ranking_kept : (names : List TokenName) (ranking : List ℕ) (count : ℕ) → count ≤ length names → IsRanking names ranking
-    → IsRanking (take count names) (filter (λ p. nat_lt p count) ranking)
-ranking_kept names ranking count few is =
-    let long : length (take count names) ≡ count = length-take-le count names few in
-    list_like (IsNameBefore names) (IsNameBefore (take count names)) (λ p. (p < length names) × (p < count)) (λ p. p < length (take count names))
-    (filter (λ p. nat_lt p count) ranking) (list_below (IsNameBefore names) (λ p. p < length names) ranking count is)
-    (λ x y one two before. subst (λ a. IsTokenBefore a (name_at (take count names) y)) (sym (name-take names count x one.1))
-    (subst (IsTokenBefore (name_at names x)) (sym (name-take names count y two.1)) before))
-    (λ x. ((λ both. omega (arith, both.1, long)), (λ below. (omega (arith, below, few, long), omega (arith, below, long)))))
-
 -- the place at a rank
 pub has_rank : (names : List TokenName) (ranking : List ℕ) (place rank : ℕ) → IsRanking names ranking → slice_get ranking rank ≡ Some place → HasRank names place rank
 has_rank names ranking place rank is at = (ranking, (is, at))
 
 -- the rank where a token's own name is parted from those before it
-pub rank_of_own : IsStrictTotalOrder IsTokenBefore → (names : List TokenName) (ranking : List ℕ) (place rank : ℕ) → place < length names → IsRanking names ranking
-    → Parts names ranking (name_at names place) rank → HasRank names place rank
-rank_of_own law names ranking place rank inside is parts =
+own_rank : IsStrictTotalOrder IsTokenBefore → (names : List TokenName) (ranking : List ℕ) (place rank : ℕ) → place < length names → IsRanking names ranking
+    → Parts names ranking (name_at names place) rank → slice_get ranking rank ≡ Some place
+own_rank law names ranking place rank inside is parts =
     let has = (is.each place).1 inside in
     let at : slice_index_or ranking has.0 0 ≡ place = index_default ranking has.0 0 place has.1 ∙ has.2 in
     let own : rank ≡ has.0 = elim (cases_lt has.0 rank) [
@@ -112,7 +102,38 @@ rank_of_own law names ranking place rank inside is parts =
         | inr under ↦ omega (arith, over, under)
       ]
     ] in
-    has_rank names ranking place rank is (ap (slice_get ranking) own ∙ slice_get-get_or ranking has.0 0 has.1 ∙ ap Some at)
+    ap (slice_get ranking) own ∙ slice_get-get_or ranking has.0 0 has.1 ∙ ap Some at
+
+pub rank_of_own : IsStrictTotalOrder IsTokenBefore → (names : List TokenName) (ranking : List ℕ) (place rank : ℕ) → place < length names → IsRanking names ranking
+    → Parts names ranking (name_at names place) rank → HasRank names place rank
+rank_of_own law names ranking place rank inside is parts = has_rank names ranking place rank is (own_rank law names ranking place rank inside is parts)
+
+-- the ranking without the last name
+pub ranking_less : IsStrictTotalOrder IsTokenBefore → (names : List TokenName) (ranking : List ℕ) (count rank : ℕ) → length names ≡ count + 1
+    → IsRanking names ranking → Parts names ranking (name_at names count) rank → IsRanking (take count names) (remove ranking rank)
+ranking_less law names ranking count rank long is parts =
+    let wide : length (take count names) ≡ count = length-take-le count names (omega (arith, long)) in
+    let split = part_at ranking rank count (own_rank law names ranking count rank (omega (arith, long)) is parts) in
+    list_like (IsNameBefore names) (IsNameBefore (take count names)) (λ p. (p < length names) × (count ≡ p → ⊥)) (λ p. p < length (take count names))
+    (remove ranking rank)
+    (list_taken (IsNameBefore names) (λ p. p < length names) (λ x. law.irreflexive (name_at names x)) (take rank ranking) (drop (suc rank) ranking) count
+    (subst (IsListOf (IsNameBefore names) (λ p. p < length names)) split is))
+    (λ x y one two before. subst (λ a. IsTokenBefore a (name_at (take count names) y)) (sym (name-take names count x (below x one.0 one.1)))
+    (subst (IsTokenBefore (name_at names x)) (sym (name-take names count y (below y two.0 two.1))) before))
+    (λ x. ((λ both. omega (arith, below x both.0 both.1, wide)), (λ under. (omega (arith, under, long, wide), λ same. absurd (omega (arith, same, under, wide))))))
+  where
+    below : (x : ℕ) → x < length names → (count ≡ x → ⊥) → x < count
+    below x under not = elim (cases_lt x count) [ inl less ↦ less | inr over ↦ absurd (not (omega (arith, over, under, long))) ]
+
+-- that name stands at the rank where the others are parted by it
+pub last_rank : IsStrictTotalOrder IsTokenBefore → (names : List TokenName) (ranking : List ℕ) (count rank : ℕ) (name : TokenName) → length names ≡ count + 1
+    → IsRanking names ranking → slice_get names count ≡ Some name → Parts names ranking name rank
+    → (rank < length ranking) × IsRanking (take count names) (remove ranking rank)
+last_rank law names ranking count rank name long is named parts =
+    let own : Parts names ranking (name_at names count) rank = subst (λ n. Parts names ranking n rank) (sym (get_or_from_slice_get names count name _ named)) parts in (
+      slice_get_within ranking rank count (own_rank law names ranking count rank (omega (arith, long)) is own),
+      ranking_less law names ranking count rank long is own,
+    )
 
 -- there is a rank for each token
 pub length-ranking : IsStrictTotalOrder IsTokenBefore → (names : List TokenName) (ranking : List ℕ) → IsRanking names ranking → length ranking ≡ length names

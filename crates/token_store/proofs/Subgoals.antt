@@ -1,9 +1,8 @@
 -- The lists of subgoals.
-use Rattle.std.proofs.Common.{◌≡◌, ℕ, zero, suc, ◌+◌, ◌<◌, ◌≤◌, ◌⊎◌, inl, inr, nat_lt, filter, List, [], ◌∷◌, ◌++◌, length, map, take, drop, slice_set, slice_index_or, Option, Some, None, Vec, Result, Ok, Err, OnErr, refl, sym, ap, ◌∙◌, subst, arith, length-append, append-nil}
+use Rattle.std.proofs.Common.{◌≡◌, ◌↔◌, ℕ, zero, suc, ◌+◌, ◌-◌, ◌<◌, ◌⊎◌, inl, inr, List, [], ◌∷◌, ◌++◌, length, take, slice_set, slice_index_or, Contains, Option, Some, None, Vec, Result, Ok, Err, OnErr, refl, sym, ap, ◌∙◌, subst, arith, length-append, append-nil}
 use Rattle.std.specs.Global.{Global}
 use Rattle.std.proofs.lemmas.Bool.{cases_lt}
-use Rattle.std.proofs.lemmas.List.{get_or_append_left, get_or-take, get_or-set_same, get_or-set_other, get_or-map, length-take-le, length-set, length-map, map-set, map-append, set-get_or, take_all, drop_all}
-use Rattle.std.proofs.lemmas.List.Edits.{map_over_more}
+use Rattle.std.proofs.lemmas.List.{get_or_append_left, get_or-take, get_or-set_same, get_or-set_other, get_or-map, length-take-le, length-set, length-map, map-set, map-append, set-get_or, drop_all}
 use Rattle.std.proofs.lemmas.Option.{slice_get-get_or, slice_get_within, get_or_from_slice_get}
 use Rattle.std.proofs.Math.Seq.{get_or-append_seam, take-append_seam}
 use Rattle.eu_name.specs.declared.name.Step.{Step}
@@ -12,8 +11,8 @@ use Rattle.token_store.specs.Tokens.{TokenList, token_names, FindsToken}
 use Rattle.token_store.specs.Orders.{IsListOf, name_at, IsChildOf, IsChildAt, AreChildren}
 use Rattle.token_store.specs.Kept.{HaveChildren, numbers_of}
 use Rattle.token_store.specs.Pieces.{FindsParent, with_child}
-use Rattle.token_store.proofs.Numbers.{list_like, list_put, list_below, contains_none}
-use Rattle.token_store.proofs.Ranks.{name-added, name-last, name-take}
+use Rattle.token_store.proofs.Numbers.{list_like, list_put, list_taken, in_order_last, part_at, contains_put, contains_the, contains_none}
+use Rattle.token_store.proofs.Ranks.{name-added, name-last}
 
 -- two lists with one item more each have equal fronts
 fronts : {X : Type 0} (one other : List X) (x y : X) → one ++ x ∷ [] ≡ other ++ y ∷ [] → one ≡ other
@@ -51,13 +50,12 @@ parent_found tokens parent name step (Some found) is finds = record {
     place_of : (one other : ℕ) → Some one ≡ Some other → one ≡ other
     place_of one other same = cc
 
--- the subgoals of a token stay where one is added that isn't its subgoal
-child_stays : (names : List TokenName) (name : TokenName) (parent : ℕ) (list : List ℕ) → parent < length names → (IsChildOf (name_at names parent) name → ⊥)
-    → AreChildren names parent list → AreChildren (names ++ name ∷ []) parent list
-child_stays names name parent list inside not are =
+-- a token's subgoals are the same with one name more that isn't one of them
+child_same : (names : List TokenName) (name : TokenName) (parent place : ℕ) → parent < length names → (IsChildOf (name_at names parent) name → ⊥)
+    → IsChildAt names parent place ↔ IsChildAt (names ++ name ∷ []) parent place
+child_same names name parent place inside not =
     let more = names ++ name ∷ [] in
-    let long : length more ≡ length names + 1 = length-append names (name ∷ []) in
-    list_like (λ one other. one < other) (λ one other. one < other) (IsChildAt names parent) (IsChildAt more parent) list are (λ x y one two less. less) (λ place. (
+    let long : length more ≡ length names + 1 = length-append names (name ∷ []) in (
       (λ at. (
         at.0,
         (
@@ -74,7 +72,20 @@ child_stays names name parent list inside not are =
                 let last : place ≡ length names = omega (arith, over, at.1.0, long) in
                 absurd (not (subst (IsChildOf (name_at names parent)) (ap (name_at more) last ∙ name-last names name) child))
           ]),
-    ))
+    )
+
+-- so they stay where that name comes, and where it goes
+child_stays : (names : List TokenName) (name : TokenName) (parent : ℕ) (list : List ℕ) → parent < length names → (IsChildOf (name_at names parent) name → ⊥)
+    → AreChildren names parent list → AreChildren (names ++ name ∷ []) parent list
+child_stays names name parent list inside not are =
+    list_like (λ one other. one < other) (λ one other. one < other) (IsChildAt names parent) (IsChildAt (names ++ name ∷ []) parent) list are
+    (λ x y one two less. less) (λ place. child_same names name parent place inside not)
+
+child_left : (names : List TokenName) (name : TokenName) (parent : ℕ) (list : List ℕ) → parent < length names → (IsChildOf (name_at names parent) name → ⊥)
+    → AreChildren (names ++ name ∷ []) parent list → AreChildren names parent list
+child_left names name parent list inside not are =
+    list_like (λ one other. one < other) (λ one other. one < other) (IsChildAt (names ++ name ∷ []) parent) (IsChildAt names parent) list are
+    (λ x y one two less. less) (λ place. let same = child_same names name parent place inside not in (same.1, same.0))
 
 -- and one that is its subgoal comes last
 child_joins : (names : List TokenName) (name : TokenName) (parent : ℕ) (list : List ℕ) → parent < length names → IsChildOf (name_at names parent) name
@@ -182,45 +193,107 @@ children_added names name children (Some found) have finds =
       ]
     ]
 
--- the subgoals among the first names
-pub children_kept : (names : List TokenName) (children : List (List ℕ)) (count : ℕ) → count ≤ length names → HaveChildren names children
-    → HaveChildren (take count names) (map (filter (λ p. nat_lt p count)) (take count children))
-children_kept names children count few have =
-    let kept = take count children in
-    let long : length kept ≡ count = length-take-le count children (omega (arith, few, have.count)) in
-    let wide : length (take count names) ≡ count = length-take-le count names few in
+-- without its last subgoal a token has the others
+child_goes : (names : List TokenName) (name : TokenName) (parent : ℕ) (list : List ℕ) → parent < length names → IsChildOf (name_at names parent) name
+    → AreChildren (names ++ name ∷ []) parent list → AreChildren names parent (take (length list - 1) list)
+child_goes names name parent list inside child are =
+    let more = names ++ name ∷ [] in
+    let long : length more ≡ length names + 1 = length-append names (name ∷ []) in
+    let at : IsChildAt more parent (length names) = (
+      inside,
+      (
+        omega (arith, long),
+        subst (λ p. IsChildOf p (name_at more (length names))) (sym (name-added names name parent inside))
+            (subst (IsChildOf (name_at names parent)) (sym (name-last names name)) child),
+      ),
+    ) in
+    let has : Contains list (length names) = (are.each (length names)).1 at in
+    let front = take (length list - 1) list in
+    let last = slice_index_or list (length list - 1) 0 in
+    let parted : list ≡ front ++ last ∷ [] = part_at list (length list - 1) last (slice_get-get_or list (length list - 1) 0 (omega (arith, has.1)))
+    ∙ ap (λ rest. front ++ last ∷ rest) (drop_all (suc (length list - 1)) list (omega arith)) in
+    let whole : AreChildren more parent (front ++ last ∷ []) = subst (AreChildren more parent) parted are in
+    let under : IsChildAt more parent last = (whole.each last).0 (contains_the front [] last) in
+    let is : last ≡ length names = elim (contains_put front [] last (length names) (subst (λ l. Contains l (length names)) parted has)) [
+      | inl before ↦ absurd (omega (arith, under.1.0, long, in_order_last (λ one other. one < other) front last (length names) whole.order (subst (λ l. Contains l (length names)) (append-nil front) before)))
+      | inr same ↦ same
+    ] in
+    let taken = list_taken (λ one other. one < other) (IsChildAt more parent) (λ x less. absurd (omega (arith, less))) front [] last whole in
+    list_like (λ one other. one < other) (λ one other. one < other) (λ place. IsChildAt more parent place × (last ≡ place → ⊥)) (IsChildAt names parent) front
+    (subst (IsListOf (λ one other. one < other) (λ place. IsChildAt more parent place × (last ≡ place → ⊥))) (append-nil front) taken)
+    (λ x y one two less. less) (λ place. (
+      (λ both. first place (below place last both.0.1.0 is both.1) both.0),
+      (λ kept. (
+        (
+          kept.0,
+          (
+            omega (arith, kept.1.0, long),
+            subst (λ p. IsChildOf p (name_at more place)) (sym (name-added names name parent inside))
+                (subst (IsChildOf (name_at names parent)) (sym (name-added names name place kept.1.0)) kept.1.1),
+          ),
+        ),
+        (λ same. absurd (omega (arith, same, is, kept.1.0))),
+      )),
+    ))
+  where
+    below : (place last : ℕ) → place < length (names ++ name ∷ []) → last ≡ length names → (last ≡ place → ⊥) → place < length names
+    below place last under is not = elim (cases_lt place (length names)) [
+      | inl less ↦ less
+      | inr over ↦ absurd (not (omega (arith, over, under, is, length-append names (name ∷ []))))
+    ]
+
+    first : (place : ℕ) → place < length names → IsChildAt (names ++ name ∷ []) parent place → IsChildAt names parent place
+    first place less kept = (
+      kept.0,
+      (
+        less,
+        subst (IsChildOf (name_at names parent)) (name-added names name place less)
+            (subst (λ p. IsChildOf p (name_at (names ++ name ∷ []) place)) (name-added names name parent inside) kept.1.1),
+      ),
+    )
+
+-- the lists without the last name, which is no subgoal
+pub children_less : (names : List TokenName) (name : TokenName) (children : List (List ℕ)) → HaveChildren (names ++ name ∷ []) children
+    → FindsParent names name None → HaveChildren names (take (length children - 1) children)
+children_less names name children have finds =
+    let long : length children ≡ length names + 1 = have.count ∙ length-append names (name ∷ []) in
     record {
-      count = omega (arith, length-map kept (filter (λ p. nat_lt p count)), long, wide);
-      each = λ parent below.
-          let under : parent < count = omega (arith, below, wide) in
-          let inside : parent < length names = omega (arith, under, few) in
-          let read : slice_index_or (map (filter (λ p. nat_lt p count)) kept) parent [] ≡ filter (λ p. nat_lt p count) (slice_index_or children parent [])
-          = get_or-map (filter (λ p. nat_lt p count)) kept parent [] [] (omega (arith, under, long)) ∙ ap (filter (λ p. nat_lt p count)) (get_or-take count children parent [] under) in
-          subst (AreChildren (take count names) parent) (sym read)
-          (list_like (λ one other. one < other) (λ one other. one < other) (λ p. IsChildAt names parent p × (p < count)) (IsChildAt (take count names) parent) _
-          (list_below (λ one other. one < other) (IsChildAt names parent) (slice_index_or children parent []) count (have.each parent inside))
-          (λ x y one two less. less)
-          (λ p. (
-            (λ both. (
-              both.0.0,
-              (
-                omega (arith, both.1, wide),
-                subst (λ a. IsChildOf a (name_at (take count names) p)) (sym (name-take names count parent under))
-                    (subst (IsChildOf (name_at names parent)) (sym (name-take names count p both.1)) both.0.1.1),
-              ),
-            )),
-            (λ at. (
-              (
-                at.0,
-                (
-                  omega (arith, at.1.0, wide, few),
-                  subst (λ a. IsChildOf a (name_at names p)) (name-take names count parent under)
-                      (subst (IsChildOf (name_at (take count names) parent)) (name-take names count p (omega (arith, at.1.0, wide))) at.1.1),
-                ),
-              ),
-              omega (arith, at.1.0, wide),
-            )),
-          )));
+      count = omega (arith, long, length-take-le (length children - 1) children (omega arith));
+      each = λ parent inside. subst (AreChildren names parent) (sym (get_or-take (length children - 1) children parent [] (omega (arith, inside, long))))
+          (child_left names name parent _ inside (λ child. none_some parent ((finds.parent parent inside).0 child))
+          (have.each parent (omega (arith, inside, length-append names (name ∷ [])))));
+    }
+
+-- and where it is one of this token
+pub children_taken : (names : List TokenName) (name : TokenName) (children : List (List ℕ)) (found : ℕ) (list : List ℕ)
+    → HaveChildren (names ++ name ∷ []) children → FindsParent names name (Some found) → list ≡ slice_index_or children found []
+    → HaveChildren names (slice_set (take (length children - 1) children) found (take (length list - 1) list))
+children_taken names name children found list have finds is =
+    let long : length children ≡ length names + 1 = have.count ∙ length-append names (name ∷ []) in
+    let kept = take (length children - 1) children in
+    let wide : length kept ≡ length names = omega (arith, long, length-take-le (length children - 1) children (omega arith)) in
+    let front = take (length list - 1) list in
+    let was : (parent : ℕ) → parent < length names → AreChildren (names ++ name ∷ []) parent (slice_index_or children parent [])
+    = λ parent inside. have.each parent (omega (arith, inside, length-append names (name ∷ []))) in
+    let same : AreChildren names found (slice_index_or (slice_set kept found front) found [])
+    = subst (AreChildren names found) (sym (get_or-set_same kept found front [] (omega (arith, finds.within, wide))))
+    (child_goes names name found list finds.within ((finds.parent found finds.within).1 refl)
+    (subst (AreChildren (names ++ name ∷ []) found) (sym is) (was found finds.within))) in
+    let other : (parent : ℕ) → parent < length names → (parent ≡ found → ⊥) → AreChildren names parent (slice_index_or (slice_set kept found front) parent [])
+    = λ parent inside differ. subst (AreChildren names parent)
+    (sym (get_or-set_other kept found parent front [] differ ∙ get_or-take (length children - 1) children parent [] (omega (arith, inside, long))))
+    (child_left names name parent _ inside (λ child. differ (sym (some_same found parent ((finds.parent parent inside).0 child)))) (was parent inside)) in
+    record {
+      count = length-set kept found front ∙ wide;
+      each = λ parent inside. elim (cases_lt parent found) [
+        | inl less ↦ other parent inside (λ equal. absurd (omega (arith, less, equal)))
+        | inr le ↦ elim (cases_lt found parent) [
+          | inl more ↦ other parent inside (λ equal. absurd (omega (arith, more, equal)))
+          | inr ge ↦
+              let equal : found ≡ parent = omega (arith, le, ge) in
+              subst (λ p. AreChildren names p (slice_index_or (slice_set kept found front) p [])) equal same
+        ]
+      ];
     }
 
 -- the numbers of vectors of which one was written
@@ -254,25 +327,31 @@ numbers-take zero lists = refl
 numbers-take (suc count) [] = refl
 numbers-take (suc count) (list ∷ lists) = ap (λ more. list.items ∷ more) (numbers-take count lists)
 
--- one more of the lists was filtered
-pub numbers-over : (f : List ℕ → List ℕ) (base lists : List (Vec ℕ Global)) (place : ℕ) (was new : Vec ℕ Global) → place < length lists → length lists ≡ length base
-    → numbers_of lists ≡ map f (take place (numbers_of base)) ++ drop place (numbers_of base) → was ≡ slice_index_or lists place was → new.items ≡ f was.items
-    → numbers_of (slice_set lists place new) ≡ map f (take (place + 1) (numbers_of base)) ++ drop (place + 1) (numbers_of base)
-numbers-over f base lists place was new below long kept is filtered =
-    numbers-set lists place new ∙ ap (slice_set (numbers_of lists) place) filtered
-    ∙ map_over_more f (numbers_of base) (numbers_of lists) place was.items (omega (arith, below, long, length-map base (λ (l : Vec ℕ Global). l.items))) kept
-    (sym (numbers-at lists place was was.items below is))
-
--- and then all were
-pub numbers-all : (f : List ℕ → List ℕ) (base lists whole : List (Vec ℕ Global)) (place count : ℕ) → length base ≤ place
-    → numbers_of lists ≡ map f (take place (numbers_of base)) ++ drop place (numbers_of base) → base ≡ take count whole
-    → numbers_of lists ≡ map f (take count (numbers_of whole))
-numbers-all f base lists whole place count all kept is =
-    let long : length (numbers_of base) ≤ place = omega (arith, all, length-map base (λ (l : Vec ℕ Global). l.items)) in
-    kept ∙ ap (λ l. map f l ++ drop place (numbers_of base)) (take_all place (numbers_of base) long)
-    ∙ ap (λ l. map f (numbers_of base) ++ l) (drop_all place (numbers_of base) long) ∙ append-nil (map f (numbers_of base))
-    ∙ ap (map f) (ap numbers_of is ∙ numbers-take count whole)
-
 pub on_err : {A E P : Type 0} (result : Result A E) → P → OnErr result P
 on_err (Ok x) p = tt
 on_err (Err e) p = p
+
+-- the same of vectors
+numbers-front : (lists left : List (Vec ℕ Global)) → left ≡ take (length lists - 1) lists → numbers_of left ≡ take (length (numbers_of lists) - 1) (numbers_of lists)
+numbers-front lists left is =
+    ap numbers_of is ∙ numbers-take (length lists - 1) lists
+    ∙ ap (λ n. take (n - 1) (numbers_of lists)) (sym (length-map lists (λ (l : Vec ℕ Global). l.items)))
+
+pub children_less_at : (names : List TokenName) (name : TokenName) (lists left : List (Vec ℕ Global)) → HaveChildren (names ++ name ∷ []) (numbers_of lists)
+    → FindsParent names name None → left ≡ take (length lists - 1) lists → HaveChildren names (numbers_of left)
+children_less_at names name lists left have finds is =
+    subst (HaveChildren names) (sym (numbers-front lists left is)) (children_less names name (numbers_of lists) have finds)
+
+pub children_taken_at : (names : List TokenName) (name : TokenName) (lists left : List (Vec ℕ Global)) (found : ℕ) (was new : Vec ℕ Global)
+    → HaveChildren (names ++ name ∷ []) (numbers_of lists) → FindsParent names name (Some found) → left ≡ take (length lists - 1) lists
+    → was ≡ slice_index_or left found was → new.items ≡ take (length was.items - 1) was.items → HaveChildren names (numbers_of (slice_set left found new))
+children_taken_at names name lists left found was new have finds is at less =
+    let front = numbers-front lists left is in
+    let long : length (numbers_of lists) ≡ length names + 1 = have.count ∙ length-append names (name ∷ []) in
+    let many : length lists ≡ length (numbers_of lists) = sym (length-map lists (λ (l : Vec ℕ Global). l.items)) in
+    let wide : length left ≡ length names = omega (arith, ap length is, length-take-le (length lists - 1) lists (omega arith), long, many) in
+    let same : was.items ≡ slice_index_or (numbers_of lists) found [] = sym (numbers-at left found was [] (omega (arith, finds.within, wide)) at)
+    ∙ ap (λ list. slice_index_or list found []) front ∙ get_or-take (length (numbers_of lists) - 1) (numbers_of lists) found [] (omega (arith, finds.within, long)) in
+    subst (HaveChildren names)
+    (sym (numbers-set left found new ∙ ap (λ list. slice_set list found new.items) front ∙ ap (slice_set (take (length (numbers_of lists) - 1) (numbers_of lists)) found) less))
+    (children_taken names name (numbers_of lists) found was.items have finds same)

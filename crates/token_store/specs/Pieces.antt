@@ -1,25 +1,18 @@
 -- What the pieces of the calls do. The public calls promise none of it.
 use Rattle.std.specs.Prelude.{◌≡◌, ◌↔◌, ℕ, ◌<◌, ◌≤◌, List, [], ◌∷◌, ◌++◌}
-use Rattle.std.specs.Prelude.{length, take, reverse, slice_index_or, slice_set, Option, Some, None, IfSome}
+use Rattle.std.specs.Prelude.{length, slice_index_or, slice_set, Option, Some, None, IfSome}
 use Rattle.eu_name.specs.declared.name.TokenName.{TokenName}
 use Rattle.eu_name.specs.NameOrder.{IsTokenBefore}
 use Rattle.token_store.specs.declared.trail.Edit.{Edit}
-use Rattle.token_store.specs.Tokens.{TokenList, token_names, LeavesPast}
+use Rattle.token_store.specs.Tokens.{TokenList}
 use Rattle.token_store.specs.Orders.{name_at, IsChildOf}
-use Rattle.token_store.specs.Kept.{before, token_past, IsTokenTrail}
+use Rattle.token_store.specs.Kept.{before}
 
 -- the last edit of the trail is taken back
 pub record TokensStepBack (old new : TokenList × List Edit) : Type 0 where
   pub edit : Edit
   pub trail : old.1 ≡ new.1 ++ edit ∷ []
   pub tokens : new.0 ≡ before edit old.0
-
--- the tokens and their trail went back until the trail had this length
-pub record TokensReturnTo (behind : ℕ) (old new : TokenList × List Edit) : Type 0 where
-  pub led : IsTokenTrail new.0 (reverse new.1)
-  pub leaves : LeavesPast behind (token_past old.0 (reverse old.1)) (token_past new.0 (reverse new.1))
-  pub names : token_names new.0 ≡ take (length new.0) (token_names old.0)
-  pub fewer : length new.0 ≤ length old.0
 
 -- in the ranking, the tokens of a lower rank come before the name, and none of the others does
 pub record Parts (names : List TokenName) (ranking : List ℕ) (name : TokenName) (rank : ℕ) : Type 0 where

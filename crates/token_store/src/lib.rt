@@ -11,6 +11,7 @@
 
 pub mod laws;
 mod orders;
+mod returning;
 pub mod tokens;
 mod trail;
 

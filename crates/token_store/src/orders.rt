@@ -1,6 +1,6 @@
 //! The order of names among the tokens, and their subgoals.
 
-ghost use Rattle.std.specs.Prelude.{◌≡◌, ◌<◌, ◌≤◌, ◌↔◌, IsTrue, nat_lt, filter, map, take, length, insert, vec_len, vec_capacity, IfOk, OnOk, OnErr, IfSome};
+ghost use Rattle.std.specs.Prelude.{◌≡◌, ◌<◌, ◌≤◌, ◌↔◌, IsTrue, length, insert, vec_len, vec_capacity, IfOk, OnOk, OnErr, IfSome};
 ghost use Rattle.eu_name.specs.NameOrder.{IsTokenBefore};
 ghost use Rattle.token_store.specs.Tokens.{token_names};
 ghost use Rattle.token_store.specs.Orders.{IsRanking, name_at};
@@ -55,25 +55,6 @@ pub fn insert_in_room(by_rank: &mut Vec<u32>, rank: usize, place: u32)
     match by_rank.insert(rank, place) {
         Ok(()) => {}
         Err(_full) => unreachable!(),
-    }
-}
-
-/// Keeps the places below the count.
-pub fn keep_below(places: &mut Vec<u32>, count: usize)
-    ensures { places.new.items ≡ filter (λ place. nat_lt place count) places.old.items }
-{
-    places.retain(|place| (*place as usize) < count);
-}
-
-/// Keeps the lists of the tokens below the count, with the places below the count.
-pub fn keep_lists_below(children: &mut Vec<Vec<u32>>, count: usize)
-    ensures { numbers_of children.new.items ≡ map (filter (λ place. nat_lt place count)) (take count (numbers_of children.old.items)) }
-{
-    children.truncate(count);
-    let mut parent = 0;
-    while parent < children.len() {
-        keep_below(&mut children[parent], count);
-        parent += 1;
     }
 }
 

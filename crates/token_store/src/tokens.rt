@@ -8,10 +8,9 @@ ghost use Rattle.token_store.specs.Kept.{numbers_of};
 ghost use Rattle.token_store.specs.Pieces.{with_child};
 
 use super::AddFault;
-use super::orders::{
-    add_child, insert_in_room, keep_below, keep_lists_below, rank_of, with_parent,
-};
-use super::trail::{Edit, Token, find_place, go_back, put_state, put_token};
+use super::orders::{add_child, insert_in_room, rank_of, with_parent};
+use super::returning::go_back;
+use super::trail::{Edit, Token, find_place, put_state, put_token};
 use eu_name::laws::names_are_in_order;
 use eu_name::name::TokenName;
 use indexmap::IndexMap;
@@ -222,10 +221,13 @@ impl Tokens {
         requires { mark < length self.old }
         ensures { LeavesPast mark self.old self.new }
     {
-        go_back(&mut self.tokens, &mut self.trail, mark.place);
-        let count = self.tokens.len();
-        keep_below(&mut self.by_rank, count);
-        keep_lists_below(&mut self.children, count);
+        go_back(
+            &mut self.tokens,
+            &mut self.trail,
+            &mut self.by_rank,
+            &mut self.children,
+            mark.place,
+        );
     }
 }
 

@@ -1,10 +1,8 @@
 //! What is kept of each token, and the trail of what was changed.
 
-ghost use Rattle.std.specs.Prelude.{◌≡◌, ◌<◌, ◌≤◌, ◌++◌, ◌∷◌, [], length, reverse, vec_len};
-ghost use Rattle.token_store.specs.Tokens.{FindsToken, IsNewName, LeavesPast, with_state};
-ghost use Rattle.token_store.specs.Kept.{IsTokenTrail, token_past};
+ghost use Rattle.std.specs.Prelude.{◌≡◌, ◌<◌, ◌++◌, ◌∷◌, [], length};
+ghost use Rattle.token_store.specs.Tokens.{FindsToken, IsNewName, with_state};
 ghost use Rattle.indexmap.specs.IndexMap.{spare};
-ghost use Rattle.token_store.specs.Pieces.{TokensStepBack, TokensReturnTo};
 
 use eu_name::laws::names_are_told_apart;
 use eu_name::name::TokenName;
@@ -53,31 +51,5 @@ pub fn put_token(tokens: &mut IndexMap<TokenName, Token>, name: TokenName, token
     match tokens.insert(name, token) {
         Ok(_none) => {}
         Err(_full) => unreachable!(),
-    }
-}
-
-/// Goes back along the trail until it has this length.
-pub fn go_back(tokens: &mut IndexMap<TokenName, Token>, trail: &mut Vec<Edit>, behind: usize)
-    requires led { IsTokenTrail tokens.old.entries (reverse trail.old.items) }
-    requires long { behind ≤ vec_len trail.old }
-    ensures { TokensReturnTo behind (tokens.old.entries, trail.old.items) (tokens.new.entries, trail.new.items) }
-{
-    while trail.len() > behind {
-        step_back(tokens, trail);
-    }
-}
-
-// Goes back over the last edit of the trail.
-fn step_back(tokens: &mut IndexMap<TokenName, Token>, trail: &mut Vec<Edit>)
-    requires led { IsTokenTrail tokens.old.entries (reverse trail.old.items) }
-    requires some { 0 < length trail.old.items }
-    ensures { TokensStepBack (tokens.old.entries, trail.old.items) (tokens.new.entries, trail.new.items) }
-{
-    match trail.pop() {
-        None => unreachable!(),
-        Some(Edit::Added) => {
-            let _added = tokens.pop();
-        }
-        Some(Edit::Was { place, state }) => put_state(tokens, place, state),
     }
 }
