@@ -405,20 +405,21 @@ module _ (model : Model) (lawful : IsLawful model) where
           | inr behind ↦ absurd (omega (arith, below, within, behind.1, length-map old.blocks (named_block had.tokens)))
         ]
 
-    pub opens_underway : (decisions : List Decision) (unfolded : ℕ) (due : List ℕ) → block.token < length (tokens_now old.past)
-        → IsStoreUnderway model decisions old unfolded due → AskForBlock model had named decisions → IsStoreUnderway model decisions new unfolded due
-    opens_underway decisions unfolded due below under ask =
+    pub opens_underway : (followed decisions : List Decision) (unfolded : ℕ) (due : List ℕ) → block.token < length (tokens_now old.past)
+        → IsStoreUnderway model followed decisions old unfolded due → AskForBlock model had named decisions
+        → IsStoreUnderway model followed decisions new unfolded due
+    opens_underway followed decisions unfolded due below under ask =
         let is = under.justified.is_content in
         let comes = block_comes is ask.entries (HasBlock-map model _ _ (λ guard side opened. tt) named ask.entries ask.supported.is_open.has_block) in
         let within : unfolded ≤ length had.blocks = omega (arith, under.within, length-map old.blocks (named_block had.tokens)) in
         let justified = block_justified model decisions old.net.tables old.net.constraints had has named ask.entries lawful under.justified not_there
         (name_there (tokens_now old.past) block.token below) ask.supported comes in
-        let misses = block_misses model decisions old.net.constraints had has named unfolded due lawful is under.complete within not_there comes ask.behind in
+        let misses = block_misses model followed old.net.constraints had has named unfolded due lawful is under.complete within not_there comes ask.behind in
         let long = ap length opens.blocks in
         record {
           justified = subst (λ (tables : List Field). IsJustified model decisions tables new.net.constraints has) (sym opens.tables)
               (subst (λ (posted : List Constraint). IsJustified model decisions old.net.tables posted has) (sym opens.constraints) justified);
-          complete = subst (λ (posted : List Constraint). MissesNothing model decisions posted has unfolded due) (sym opens.constraints) misses;
+          complete = subst (λ (posted : List Constraint). MissesNothing model followed posted has unfolded due) (sym opens.constraints) misses;
           states = states_new decisions under.states;
           preds = subst (λ (past : TokenPast). ArePreds model (tokens_now past)) (sym opens.past) under.preds;
           watched = watched_new unfolded under.within under.watched;
@@ -442,9 +443,9 @@ module _ (model : Model) (lawful : IsLawful model) where
 
 -- a local with a void base leaves nothing
 void_leaves_nothing : (model : Model) (block : OpenBlock) (old : Stored) (key : VarKey) → WantsOfBlock model (token_names (tokens_now old.past)) block key Void
-    → (decisions : List Decision) (unfolded : ℕ) (due : List ℕ) → IsStoreUnderway model decisions old unfolded due
+    → (followed decisions : List Decision) (unfolded : ℕ) (due : List ℕ) → IsStoreUnderway model followed decisions old unfolded due
     → AskForBlock model (named_content (snapshot_of old)) (named_block (token_names (tokens_now old.past)) block) decisions → LeaveNothing model decisions
-void_leaves_nothing model block old key wants decisions unfolded due under ask state fit =
+void_leaves_nothing model block old key wants followed decisions unfolded due under ask state fit =
     let content = named_content (snapshot_of old) in
     let named : TokenBlock = named_block content.tokens block in
     let there : Contains state.blocks named =
@@ -465,8 +466,10 @@ void_leaves_nothing model block old key wants decisions unfolded due under ask s
 module _ (model : Model) (lawful : IsLawful model) (block : OpenBlock) (old new : Stored) (sound : IsSnapshot (snapshot_of new)) where
   pub opened_stays : block.token < length (tokens_now old.past) → (result : Result (Unit {0}) NetFault) → OpensOrFails model block old result new
       → StaysUnderway model (AskForBlock model (named_content (snapshot_of old)) (named_block (token_names (tokens_now old.past)) block)) old result new
-  opened_stays below (Ok done) opens = λ decisions unfolded due under ask. opens_underway model lawful block old new sound opens decisions unfolded due below under ask
-  opened_stays below (Err Collapsed) fails = λ decisions unfolded due under ask. void_leaves_nothing model block old fails.0 fails.1 decisions unfolded due under ask
+  opened_stays below (Ok done) opens = λ followed decisions unfolded due under ask.
+      opens_underway model lawful block old new sound opens followed decisions unfolded due below under ask
+  opened_stays below (Err Collapsed) fails = λ followed decisions unfolded due under ask.
+      void_leaves_nothing model block old fails.0 fails.1 followed decisions unfolded due under ask
   opened_stays below (Err Memory) fails = tt
 
   pub opened_there : (result : Result (Unit {0}) NetFault) → OpensOrFails model block old result new → OnOk result (Contains new.blocks block)

@@ -34,12 +34,12 @@ AreWatched model content watches unfolded =
     → Contains (direct entries) (OfBranch guard then otherwise) → GuardNames (InRule block.token block.rule) guard name
     → IsWatched content watches number name
 
--- all that is so while a snapshot, with these tables, is on its way to the least state of the decisions: the first so many
--- blocks are unfolded, and these variables are due
-pub record IsUnderway (model : Model) (decisions : List Decision) (tables : List Field) (snapshot : Snapshot) (unfolded : ℕ)
-    (due : List ℕ) : Type 0 where
+-- all that is so while a snapshot, with these tables, is on its way to the least state of the decisions: what the first of
+-- them ask for is followed, the first so many blocks are unfolded, and these variables are due
+pub record IsUnderway (model : Model) (followed decisions : List Decision) (tables : List Field) (snapshot : Snapshot)
+    (unfolded : ℕ) (due : List ℕ) : Type 0 where
   pub justified : IsJustified model decisions tables snapshot.posted (named_content snapshot)
-  pub complete : MissesNothing model decisions snapshot.posted (named_content snapshot) unfolded due
+  pub complete : MissesNothing model followed snapshot.posted (named_content snapshot) unfolded due
   pub states : AreTokenStates model decisions snapshot
   pub preds : ArePreds model snapshot.tokens
   pub watched : AreWatched model (named_content snapshot) snapshot.watches unfolded
@@ -47,22 +47,23 @@ pub record IsUnderway (model : Model) (decisions : List Decision) (tables : List
 
 -- it has come to rest: all blocks are unfolded, nothing is due, and all constraints are consistent
 pub record IsAtRest (model : Model) (decisions : List Decision) (tables : List Field) (snapshot : Snapshot) : Type 0 where
-  pub underway : IsUnderway model decisions tables snapshot (length snapshot.blocks) []
+  pub underway : IsUnderway model decisions decisions tables snapshot (length snapshot.blocks) []
   pub consistent : AllConsistent tables snapshot.posted snapshot.domains
 
 -- the same of a store
-abbrev pub IsStoreUnderway : Model → List Decision → Stored → ℕ → List ℕ → Type 0
-IsStoreUnderway model decisions stored unfolded due =
-    IsUnderway model decisions stored.net.tables (snapshot_of stored) unfolded due
+abbrev pub IsStoreUnderway : Model → List Decision → List Decision → Stored → ℕ → List ℕ → Type 0
+IsStoreUnderway model followed decisions stored unfolded due =
+    IsUnderway model followed decisions stored.net.tables (snapshot_of stored) unfolded due
 
 -- what a call answers and leaves that goes on where the store is underway and what it asks for is so of the decisions
 abbrev pub StaysUnderway : Model → (List Decision → Type 0) → Stored → Result (Unit {0}) NetFault → Stored → Type 0
 StaysUnderway model Asked old (Ok done) new =
-    (decisions : List Decision) (unfolded : ℕ) (due : List ℕ)
-    → IsStoreUnderway model decisions old unfolded due → Asked decisions → IsStoreUnderway model decisions new unfolded due
+    (followed decisions : List Decision) (unfolded : ℕ) (due : List ℕ)
+    → IsStoreUnderway model followed decisions old unfolded due → Asked decisions
+    → IsStoreUnderway model followed decisions new unfolded due
 StaysUnderway model Asked old (Err Collapsed) new =
-    (decisions : List Decision) (unfolded : ℕ) (due : List ℕ)
-    → IsStoreUnderway model decisions old unfolded due → Asked decisions → LeaveNothing model decisions
+    (followed decisions : List Decision) (unfolded : ℕ) (due : List ℕ)
+    → IsStoreUnderway model followed decisions old unfolded due → Asked decisions → LeaveNothing model decisions
 StaysUnderway model Asked old (Err Memory) new = ⊤
 
 -- the one list goes on as the other
