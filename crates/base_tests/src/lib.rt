@@ -8,6 +8,8 @@ mod domains;
 #[cfg(test)]
 mod names;
 #[cfg(test)]
+mod problems;
+#[cfg(test)]
 mod profiles;
 #[cfg(test)]
 mod streams;
