@@ -3,7 +3,6 @@
 ghost use Rattle.std.specs.Prelude.{◌≡◌, ◌≤◌, ◌<◌, [], length, All, IfOk, OnOk};
 ghost use Rattle.model_core.specs.Lawful.{IsLawful};
 ghost use Rattle.plan_growth.specs.Claims.{AreFieldsOf};
-ghost use Rattle.plan_store.specs.StoreMarks.{KeepStoreMarks};
 ghost use Rattle.plan_posting.specs.Tables.{ListsField, AddsField, HaveTables, OnlyTables};
 
 use model_core::model::Model;
@@ -44,7 +43,6 @@ fn add_field(alloc: Global, store: &mut Store, model: &Model, number: u32) -> Re
     requires number { length store.old.net.tables ≡ number }
     ensures ok { OnOk result (AddsField model.now store.old.net.tables store.new.net.tables) }
     ensures only { OnlyTables store.old store.new }
-    ensures marks { KeepStoreMarks store.old store.new }
 {
     let pairs = field_pairs(alloc, model, number)?;
     store.add_table(pairs.as_slice())?;
@@ -58,7 +56,6 @@ pub fn add_tables(alloc: Global, store: &mut Store, model: &Model) -> Result<(),
     ensures fields { OnOk result (AreFieldsOf model.now store.new.net.tables) }
     ensures each { OnOk result (HaveTables model.now store.new.net.tables) }
     ensures only { OnlyTables store.old store.new }
-    ensures marks { KeepStoreMarks store.old store.new }
 {
     for number in 0..most_fields(model)? {
         add_field(alloc, store, model, number)?;

@@ -24,6 +24,7 @@ pub record GoesOn (old new : Stored) : Type 0 where
   pub blocks : (more : List OpenBlock) × (new.blocks ≡ old.blocks ++ more)
   pub watches : (more : List Watch) × (new.watches ≡ old.watches ++ more)
   pub net : KeepMarks old.net new.net
+  pub tables : new.net.tables ≡ old.net.tables
 
 first_on : {X : Type 0} (count : ℕ) (old new first : List X) → (more : List X) × (new ≡ old ++ more) → AreFirst count old first → AreFirst count new first
 first_on count old new first on is =
@@ -44,6 +45,7 @@ keeps_marks old new on mark there is = record {
   blocks = first_on mark.blocks old.blocks new.blocks there.blocks on.blocks is.blocks;
   watches = first_on mark.watches old.watches new.watches there.watches on.watches is.watches;
   net = on.net mark.net there.domains there.posted is.net;
+  tables = is.tables ∙ sym on.tables;
 }
 
 nothing_more : {X : Type 0} (list : List X) → (more : List X) × (list ≡ list ++ more)
@@ -59,15 +61,17 @@ keeps_tokens old new tokens is = subst (KeepStoreMarks old) (sym is) (keeps_mark
   blocks = nothing_more old.blocks;
   watches = nothing_more old.watches;
   net = λ mark domains constraints m. m;
+  tables = refl;
 }))
 
-pub keeps_key : (old new : Stored) (key : VarKey) (net : Network) → KeepMarks old.net net → new ≡ record old { keys = old.keys ++ key ∷ []; net = net } → KeepStoreMarks old new
-keeps_key old new key net keep is = subst (KeepStoreMarks old) (sym is) (keeps_marks old (record old { keys = old.keys ++ key ∷ []; net = net }) (record {
+pub keeps_key : (old new : Stored) (key : VarKey) (net : Network) → KeepMarks old.net net → net.tables ≡ old.net.tables → new ≡ record old { keys = old.keys ++ key ∷ []; net = net } → KeepStoreMarks old new
+keeps_key old new key net keep tables is = subst (KeepStoreMarks old) (sym is) (keeps_marks old (record old { keys = old.keys ++ key ∷ []; net = net }) (record {
   past = ([], refl);
   keys = (key ∷ [], refl);
   blocks = nothing_more old.blocks;
   watches = nothing_more old.watches;
   net = keep;
+  tables = tables;
 }))
 
 pub keeps_block : (old new : Stored) (block : OpenBlock) → new ≡ record old { blocks = old.blocks ++ block ∷ [] } → KeepStoreMarks old new
@@ -77,6 +81,7 @@ keeps_block old new block is = subst (KeepStoreMarks old) (sym is) (keeps_marks 
   blocks = (block ∷ [], refl);
   watches = nothing_more old.watches;
   net = λ mark domains constraints m. m;
+  tables = refl;
 }))
 
 pub keeps_watch : (old new : Stored) (watch : Watch) → new ≡ record old { watches = old.watches ++ watch ∷ [] } → KeepStoreMarks old new
@@ -86,15 +91,17 @@ keeps_watch old new watch is = subst (KeepStoreMarks old) (sym is) (keeps_marks 
   blocks = nothing_more old.blocks;
   watches = (watch ∷ [], refl);
   net = λ mark domains constraints m. m;
+  tables = refl;
 }))
 
-pub keeps_net : (old new : Stored) → KeepMarks old.net new.net → new ≡ record old { net = new.net } → KeepStoreMarks old new
-keeps_net old new keep is = subst (KeepStoreMarks old) (sym is) (keeps_marks old (record old { net = new.net }) (record {
+pub keeps_net : (old new : Stored) → KeepMarks old.net new.net → new.net.tables ≡ old.net.tables → new ≡ record old { net = new.net } → KeepStoreMarks old new
+keeps_net old new keep tables is = subst (KeepStoreMarks old) (sym is) (keeps_marks old (record old { net = new.net }) (record {
   past = ([], refl);
   keys = nothing_more old.keys;
   blocks = nothing_more old.blocks;
   watches = nothing_more old.watches;
   net = keep;
+  tables = tables;
 }))
 
 -- so it is with the store that is seen
@@ -106,9 +113,9 @@ tokens_marks view old past tokens is more = subst (λ stored. KeepStoreMarks sto
 pub same_marks : (view old new : Stored) → view ≡ old → new ≡ view → KeepStoreMarks old new
 same_marks view old new is same = keeps_same old new (same ∙ is)
 
-pub key_marks : (view old : Stored) (key : VarKey) (keys : List VarKey) (net : Network) → view ≡ old → KeepMarks view.net net → keys ≡ view.keys ++ key ∷ [] → KeepStoreMarks old (record view { keys = keys; net = net })
-key_marks view old key keys net is keep more = subst (λ stored. KeepStoreMarks stored (record view { keys = keys; net = net })) is
-    (keeps_key view (record view { keys = keys; net = net }) key net keep (ap (λ (k : List VarKey). record view { keys = k; net = net }) more))
+pub key_marks : (view old : Stored) (key : VarKey) (keys : List VarKey) (net : Network) → view ≡ old → KeepMarks view.net net → net.tables ≡ view.net.tables → keys ≡ view.keys ++ key ∷ [] → KeepStoreMarks old (record view { keys = keys; net = net })
+key_marks view old key keys net is keep tables more = subst (λ stored. KeepStoreMarks stored (record view { keys = keys; net = net })) is
+    (keeps_key view (record view { keys = keys; net = net }) key net keep tables (ap (λ (k : List VarKey). record view { keys = k; net = net }) more))
 
 pub block_marks : (view old : Stored) (block : OpenBlock) (blocks : List OpenBlock) → view ≡ old → blocks ≡ view.blocks ++ block ∷ [] → KeepStoreMarks old (record view { blocks = blocks })
 block_marks view old block blocks is more = subst (λ stored. KeepStoreMarks stored (record view { blocks = blocks })) is
@@ -118,8 +125,8 @@ pub watch_marks : (view old : Stored) (watch : Watch) (watches : List Watch) →
 watch_marks view old watch watches is more = subst (λ stored. KeepStoreMarks stored (record view { watches = watches })) is
     (keeps_watch view (record view { watches = watches }) watch (ap (λ (w : List Watch). record view { watches = w }) more))
 
-pub net_marks : (view old : Stored) (net : Network) → view ≡ old → KeepMarks view.net net → KeepStoreMarks old (record view { net = net })
-net_marks view old net is keep = subst (λ stored. KeepStoreMarks stored (record view { net = net })) is (keeps_net view (record view { net = net }) keep refl)
+pub net_marks : (view old : Stored) (net : Network) → view ≡ old → KeepMarks view.net net → net.tables ≡ view.net.tables → KeepStoreMarks old (record view { net = net })
+net_marks view old net is keep tables = subst (λ stored. KeepStoreMarks stored (record view { net = net })) is (keeps_net view (record view { net = net }) keep tables refl)
 
 -- ---- marks
 
@@ -146,6 +153,7 @@ mark_now stored seen mark same is reaches net = subst (λ s. IsStoreMark s mark 
   blocks = all_first mark.blocks stored.blocks reaches.blocks;
   watches = all_first mark.watches stored.watches reaches.watches;
   net = net;
+  tables = refl;
 })
 
 pub mark_latest : (stored seen : Stored) (mark : Mark) → stored ≡ seen → Reaches stored mark → IsLatest stored.net mark.net
@@ -211,6 +219,7 @@ module _ (mark : Mark) (old new : Stored) (back : HasGoneBack mark old new) wher
     watches = let e : new.watches ≡ there.watches = back.watches ∙ sym is.watches.1 in e i;
     domains = domains_again there is i;
     posted = posted_again there is i;
+    tables = let e : new.net.tables ≡ there.tables = back.net.tables ∙ sym is.tables in e i;
   }
 
   is_again : (there : Snapshot) → IsStoreMark old mark there → IsSnapshot (snapshot_of new)
@@ -239,6 +248,7 @@ marks_left mark old new back can stay earlier there order is =
       blocks = first_of_first earlier.blocks mark.blocks old.blocks new.blocks there.blocks order.blocks at.blocks.0 back.blocks is.blocks;
       watches = first_of_first earlier.watches mark.watches old.watches new.watches there.watches order.watches at.watches.0 back.watches is.watches;
       net = stay earlier.net mark.net there.domains there.posted is.net order.cells order.constraints back.net;
+      tables = is.tables ∙ sym back.net.tables;
     }
 
 pub goes_back : (view seen new : Stored) (mark : Mark) → view ≡ seen → HasGoneBack mark view new → CanGoBack seen mark → NetMarksStay view.net new.net → GoesBackTo mark seen new

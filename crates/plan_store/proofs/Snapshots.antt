@@ -7,6 +7,7 @@ use Rattle.domain_core.specs.Domain.{Domain, IsDomain}
 use Rattle.eu_name.specs.declared.name.TokenName.{TokenName}
 use Rattle.model_core.specs.declared.view.TokenState.{TokenState}
 use Rattle.model_core.specs.declared.view.TokenState.TheVariants.{Inactive}
+use Rattle.narrow_core.specs.declared.field.Field.{Field}
 use Rattle.constraint_net.specs.declared.constraint.Constraint.{Constraint}
 use Rattle.token_store.specs.Tokens.{TokenList, token_names, with_token, with_state, IsNewName}
 use Rattle.token_store.specs.declared.trail.Token.{Token}
@@ -114,9 +115,9 @@ with_a_watch snapshot variable block is one other = record {
   watched = All-push (IsWatchBelow (length snapshot.keys) (length snapshot.blocks)) snapshot.watches (record { variable = variable; block = block }) is.watched (one, other);
 }
 
-pub with_domains_posted : (snapshot : Snapshot) (domains : List Domain) (posted : List Constraint) → IsSnapshot snapshot → length domains ≡ length snapshot.domains → All IsDomain domains
-    → IsSnapshot (record snapshot { domains = domains; posted = posted })
-with_domains_posted snapshot domains posted is long all = record {
+pub with_domains_posted : (snapshot : Snapshot) (domains : List Domain) (posted : List Constraint) (tables : List Field) → IsSnapshot snapshot → length domains ≡ length snapshot.domains → All IsDomain domains
+    → IsSnapshot (record snapshot { domains = domains; posted = posted; tables = tables })
+with_domains_posted snapshot domains posted tables is long all = record {
   tokens_once = is.tokens_once;
   keys_once = is.keys_once;
   blocks_once = is.blocks_once;

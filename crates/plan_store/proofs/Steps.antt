@@ -67,13 +67,17 @@ variable_kept view old key domain number keys net seen placed fresh a_domain is 
     subst (λ list. IsSnapshot (snapshot_of (record view { keys = list; net = net }))) (sym is)
     (subst (λ n. IsSnapshot (snapshot_of (record view { keys = view.keys ++ key ∷ []; net = n }))) (sym adds.1) more)
 
+pub limit_tables : (variable : ℕ) (to : Domain) (result : Result Change AllocError) (old new : Network) → Limits old variable to result new → new.tables ≡ old.tables
+limit_tables variable to (Ok change) old new limits = limits.1.tables
+limit_tables variable to (Err none) old new limits = ap (λ (net : Network). net.tables) limits
+
 pub limit_kept : (view old : Stored) (variable : ℕ) (to : Domain) (result : Result Change AllocError) (net : Network) → view ≡ old → Limits view.net variable to result net
     → IsSnapshot (snapshot_of view) → IsSnapshot (snapshot_of (at_net view net))
 limit_kept view old variable to (Ok change) net seen limits is =
     let at = limits.0 in
     let domains = set view.net.domains variable at.left in
-    let kept = with_domains_posted (snapshot_of view) domains view.net.constraints is
+    let kept = with_domains_posted (snapshot_of view) domains view.net.constraints net.tables is
     (length-set view.net.domains variable at.left) (All-set IsDomain view.net.domains variable at.left at.is is.are) in
-    subst (λ list. IsSnapshot (record (snapshot_of view) { domains = list; posted = net.constraints })) (sym at.others)
-    (subst (λ list. IsSnapshot (record (snapshot_of view) { domains = domains; posted = list })) (sym limits.1.constraints) kept)
+    subst (λ list. IsSnapshot (record (snapshot_of view) { domains = list; posted = net.constraints; tables = net.tables })) (sym at.others)
+    (subst (λ list. IsSnapshot (record (snapshot_of view) { domains = domains; posted = list; tables = net.tables })) (sym limits.1.constraints) kept)
 limit_kept view old variable to (Err none) net seen limits is = subst (λ n. IsSnapshot (snapshot_of (at_net view n))) (sym limits) is

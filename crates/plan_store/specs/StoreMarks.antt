@@ -9,7 +9,7 @@ use Rattle.plan_store.specs.Stores.{Stored, Snapshot, snapshot_of, IsSnapshot}
 abbrev pub AreFirst : {X : Type 0} → ℕ → List X → List X → Type 0
 AreFirst count list first = (count ≤ length list) × (first ≡ take count list)
 
--- at the mark the store had this in it
+-- at the mark the store had this in it, and tables come only while it has no mark
 pub record IsStoreMark (stored : Stored) (mark : Mark) (snapshot : Snapshot) : Type 0 where
   pub is : IsSnapshot snapshot
   pub tokens : (newer older : TokenPast) × ((stored.past ≡ newer ++ snapshot.tokens ∷ older) × (length older ≡ mark.tokens))
@@ -17,6 +17,7 @@ pub record IsStoreMark (stored : Stored) (mark : Mark) (snapshot : Snapshot) : T
   pub blocks : AreFirst mark.blocks stored.blocks snapshot.blocks
   pub watches : AreFirst mark.watches stored.watches snapshot.watches
   pub net : IsMark stored.net mark.net snapshot.domains snapshot.posted
+  pub tables : snapshot.tables ≡ stored.net.tables
 
 -- the mark is one of this store, which hasn't gone back behind it
 abbrev pub CanGoBack : Stored → Mark → Type 0

@@ -3,6 +3,7 @@ use Rattle.std.specs.Prelude.{◌≡◌, ◌≢◌, ◌==◌, ℕ, ◌<◌, List
 use Rattle.domain_core.specs.Domain.{Domain, IsDomain}
 use Rattle.eu_name.specs.declared.name.VarName.{VarName}
 use Rattle.token_store.specs.Tokens.{TokenList, TokenPast, tokens_now, token_names}
+use Rattle.narrow_core.specs.declared.field.Field.{Field}
 use Rattle.constraint_net.specs.Networks.{Network}
 use Rattle.constraint_net.specs.declared.constraint.Constraint.{Constraint}
 use Rattle.plan_growth.specs.Content.{Content}
@@ -28,6 +29,7 @@ pub record Snapshot : Type 0 where
   pub watches : List Watch
   pub domains : List Domain
   pub posted : List Constraint
+  pub tables : List Field
 
 -- what there is now
 abbrev pub snapshot_of : Stored → Snapshot
@@ -39,6 +41,7 @@ snapshot_of stored =
       watches = stored.watches;
       domains = stored.net.domains;
       posted = stored.net.constraints;
+      tables = stored.net.tables;
     }
 
 -- nothing is there twice, each variable has a domain, and what goes by the number of a token, a variable or a block goes by

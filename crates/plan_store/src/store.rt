@@ -225,7 +225,8 @@ impl Store {
         self.watchers.of(variable)
     }
 
-    /// Adds a table of objects, each with its value in a field, and answers its number.
+    /// Adds a table of objects, each with its value in a field, and answers its number. A mark is one of the tables that
+    /// there were: none is left by this call.
     pub fn add_table(&mut self, pairs: &[(i32, i32)]) -> Result<u32, AllocError>
         requires ascending { IsAscending pairs.now }
         requires few { length self.old.net.tables < 2 ^ 32 }
@@ -233,7 +234,6 @@ impl Store {
             × (self.new.net ≡ record self.old.net { tables = self.old.net.tables ++ table_of pairs.now ∷ [] })) }
         ensures err { OnErr result (self.new ≡ self.old) }
         ensures others { ChangesNet self.old self.new }
-        ensures marks { KeepStoreMarks self.old self.new }
     {
         self.net.add_table(pairs)
     }

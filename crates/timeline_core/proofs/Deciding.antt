@@ -48,7 +48,7 @@ module _ (model : Model) (kept : List Decision) (decision : Decision) (once : Ar
     ]
   ]
 
-  once_more : AreDecidedOnce model (kept ++ decision ∷ [])
+  pub once_more : AreDecidedOnce model (kept ++ decision ∷ [])
   once_more token active = (λ merged. not_merged token merged.0 active merged.1, λ rejected. not_rejected token active rejected)
 
 settled_from : (model : Model) (kept decisions settled : List Decision) → AreDecidedOnce model kept → SettlesAfter model kept decisions settled → AreDecidedOnce model settled
@@ -57,7 +57,7 @@ settled_from model kept (decision ∷ decisions) settled once (inl (admissible, 
     settled_from model (kept ++ decision ∷ []) decisions settled (once_more model kept decision once (admissible.free Decided)) rest
 settled_from model kept (decision ∷ decisions) settled once (inr (not, rest)) = settled_from model kept decisions settled once rest
 
-none_decided : (model : Model) → AreDecidedOnce model []
+pub none_decided : (model : Model) → AreDecidedOnce model []
 none_decided model token active = (λ merged. omega (arith, merged.1.1), λ rejected. omega (arith, rejected.1))
 
 pub settled_once : (model : Model) (decisions : List Decision) → IsSettled model decisions → AreDecidedOnce model decisions

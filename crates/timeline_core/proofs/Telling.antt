@@ -32,14 +32,14 @@ decided_of model decisions token (inl fact) = inl fact
 decided_of model decisions token (inr activated) = inr (inl (inl activated))
 
 module _ (model : Model) (decisions : List Decision) (state : State) where
-  is_active : (found : TokenState) (token : TokenName) → TakesPlace found → HasTokenState model state decisions token found → IsActive model decisions token
+  pub is_active : (found : TokenState) (token : TokenName) → TakesPlace found → HasTokenState model state decisions token found → IsActive model decisions token
   is_active Active token takes has = inr has
   is_active Fact token takes has = inl has
   is_active Inactive token takes has = absurd takes
   is_active (Merged place) token takes has = absurd takes
   is_active Rejected token takes has = absurd takes
 
-  not_active : AreDecidedOnce model decisions → (found : TokenState) (token : TokenName) → (TakesPlace found → ⊥) → HasTokenState model state decisions token found → IsActive model decisions token → ⊥
+  pub not_active : AreDecidedOnce model decisions → (found : TokenState) (token : TokenName) → (TakesPlace found → ⊥) → HasTokenState model state decisions token found → IsActive model decisions token → ⊥
   not_active once Active token not has active = not tt
   not_active once Fact token not has active = not tt
   not_active once Inactive token not has active = has (decided_of model decisions token active)

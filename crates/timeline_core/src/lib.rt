@@ -8,4 +8,4 @@ pub mod order;
 pub mod unordered;
 
 pub use order::{Ends, ForcedOrder, forced};
-pub use unordered::{first_unordered, is_active, object_of};
+pub use unordered::{first_unordered, is_active, is_timeline, object_of, takes_place};

@@ -16,8 +16,8 @@ use model_core::class::ObjectKind;
 use model_core::model::Model;
 use model_core::view::{TokenState, View};
 
-// Whether the object of this number is a timeline.
-fn is_timeline(model: &Model, object: i32) -> bool
+/// Whether the object of this number is a timeline.
+pub fn is_timeline(model: &Model, object: i32) -> bool
     ensures { IsTrue result ↔ IsTimeline model.now object }
 {
     if object < 0 {
@@ -44,8 +44,8 @@ pub fn is_active<V: View>(view: &V, place: u32) -> bool
     }
 }
 
-// Whether a token in this state takes place by itself.
-fn takes_place(state: TokenState) -> bool
+/// Whether a token in this state takes place by itself.
+pub fn takes_place(state: TokenState) -> bool
     ensures { IsTrue result ↔ TakesPlace state }
 {
     match state {

@@ -2,7 +2,7 @@ use Rattle.std.proofs.Common.{◌≤◌, length, sym, subst, arith}
 use Rattle.std.proofs.lemmas.List.Elements.{All-weaker}
 use Rattle.plan_posting.specs.Tables.{HaveTables}
 use Rattle.plan_posting.proofs.Filling.{HasAtMost, tables_more, fields_are, tables_long, AreTablesTo}
-use Rattle.plan_posting.proofs.Storing.{only_tables_both, marks_both}
+use Rattle.plan_posting.proofs.Storing.{only_tables_both}
 use Rattle.plan_posting.proofs.tables.add_tables.Goals as goal
 
 pub loop-number-preserved : goal.loop-number-preserved
@@ -16,7 +16,6 @@ loop-number-preserved c =
       count = tables_long loop.store.net.tables new.net.tables loop.number added.0 loop.invariant.count added.2;
       each = tables_more c.args.model.now loop.store.net.tables new.net.tables loop.number added.0 loop.invariant.count added.1 added.2 loop.invariant.each;
       only = only_tables_both old loop.store new loop.invariant.only step.only;
-      marks = marks_both old loop.store new loop.invariant.marks step.marks;
     }
 
 pub returns-clause-fields : goal.returns-clause-fields

@@ -1,5 +1,4 @@
 use Rattle.std.proofs.Common.{◌≡◌, length}
-use Rattle.plan_store.specs.StoreMarks.{KeepStoreMarks}
 use Rattle.plan_posting.specs.Tables.{OnlyTables}
 use Rattle.plan_posting.proofs.Filling.{AreTablesTo}
 use Rattle.plan_posting.proofs.tables.add_tables.Given as goal
@@ -9,5 +8,4 @@ invariant-loop-number l = record {
   count : length l.store.net.tables ≡ l.number;
   each : AreTablesTo l.model l.store.net.tables l.number;
   only : OnlyTables l.fn.store l.store;
-  marks : KeepStoreMarks l.fn.store l.store;
 }

@@ -1,5 +1,6 @@
-use Rattle.std.proofs.Common.{Ok, refl, subst}
+use Rattle.std.proofs.Common.{Ok, refl, ap, subst}
 use Rattle.std.specs.Prelude.{Contains}
+use Rattle.constraint_net.specs.Networks.{Network}
 use Rattle.plan_store.specs.Stores.{Stored}
 use Rattle.plan_store.proofs.Going.{key_marks}
 use Rattle.plan_store.proofs.Lists.{found_there, found_nowhere}
@@ -24,4 +25,4 @@ pub returns-clause-marks : goal.returns-clause-marks
 returns-clause-marks c =
     let added = c.in_ok-number in
     key_marks _ c.args.self.now c.args.key c.add_key.new.variables.keys c.add_key.new.net c.self.view_is
-    (c.marks_stay.ensures.added _ _ c.args.domain (Ok added.number) added.ensures.net) added.ensures.added
+    (c.marks_stay.ensures.added _ _ c.args.domain (Ok added.number) added.ensures.net) (ap (λ (net : Network). net.tables) added.ensures.net.1) added.ensures.added
