@@ -15,12 +15,11 @@ use Rattle.model_core.specs.declared.rule.Slot.{Slot}
 use Rattle.model_core.specs.declared.variable.Base.{Base}
 use Rattle.model_core.specs.declared.variable.Base.TheVariants.{Given, Void}
 use Rattle.model_core.specs.declared.view.TokenState.{TokenState}
-use Rattle.model_core.specs.declared.view.TokenState.TheVariants.{Inactive, Active, Fact, Merged, Rejected}
 use Rattle.model_core.specs.Blocks.{TokenBlock, IsBlock, Direct, direct, OfLocal, OfSlot, OfItem, OfBranch}
 use Rattle.model_core.specs.Entries.{Entries}
 use Rattle.model_core.specs.Lawful.{IsLawful}
 use Rattle.model_core.specs.Standing.{StandsAt}
-use Rattle.model_core.specs.State.{VarDomain, State, StandsOpen}
+use Rattle.model_core.specs.State.{VarDomain, StandsOpen}
 use Rattle.model_core.specs.Tokens.{HasToken}
 use Rattle.model_core.specs.TokenStates.{HasTokenState}
 use Rattle.model_core.specs.Variables.{HasBase}
@@ -35,7 +34,7 @@ use Rattle.narrow_core.specs.declared.field.Field.{Field}
 use Rattle.constraint_net.specs.declared.constraint.Constraint.{Constraint}
 use Rattle.plan_defs.proofs.Lower.{HasBlock-map}
 use Rattle.plan_defs.proofs.Members.{get_below, get_from_contains, contains_from_get, all_from_get, get_all}
-use Rattle.plan_defs.proofs.Ordered.{contains_head, contains_later, contains_cases, contains_none, ordered_head, ordered_tail, ordered_none, ordered_cons}
+use Rattle.plan_defs.proofs.Ordered.{contains_head, contains_later, contains_cases, contains_none}
 use Rattle.plan_growth.specs.Content.{Content, shown, IsContent}
 use Rattle.plan_growth.specs.Growth.{LeaveNothing}
 use Rattle.plan_growth.proofs.Owing.{no_void, asked_is_owed}
@@ -59,32 +58,8 @@ use Rattle.plan_posting.specs.Counting.{AreTokenStates}
 use Rattle.plan_opening.specs.Underway.{AreWatched, IsStoreUnderway, StaysUnderway, OnlyAdds}
 use Rattle.plan_opening.specs.Wanted.{ArePreds, IsDeclaredLocal, WantsLocal, WantsLocals, WantsOfBlock, IsNamedLocal}
 use Rattle.plan_opening.proofs.Bringing.{key_of, domain_of, brings_as}
-
--- ---- lists
-
-contains_unmap : {X Y : Type 0} (f : X → Y) (xs : List X) (y : Y) → Contains (map f xs) y → (x : X) × Contains xs x × (f x ≡ y)
-contains_unmap f [] y there = absurd (contains_none y there)
-contains_unmap f (x ∷ xs) y there = elim (contains_cases (f x) y (map f xs) there) [
-  | inl same ↦ (x, contains_head x xs, same)
-  | inr later ↦ (let rest = contains_unmap f xs y later in (rest.0, contains_later x rest.0 xs rest.1, rest.2))
-]
-
-pairs_unmap : {X Y : Type 0} (f : X → Y) (R : Y → Y → Type 0) (xs : List X) → AllPairs R (map f xs) → AllPairs (λ x y. R (f x) (f y)) xs
-pairs_unmap f R [] p = ordered_none (λ x y. R (f x) (f y))
-pairs_unmap f R (x ∷ xs) p =
-    ordered_cons (λ x y. R (f x) (f y)) x xs (λ y there. ordered_head R (f x) (map f xs) p (f y) (contains_map f xs y there))
-    (pairs_unmap f R xs (ordered_tail R (f x) (map f xs) p))
-
-pairs_behind : {X : Type 0} (R : X → X → Type 0) (xs ys : List X) → AllPairs R (xs ++ ys) → AllPairs R ys
-pairs_behind R [] ys p = p
-pairs_behind R (x ∷ xs) ys p = pairs_behind R xs ys (ordered_tail R x (xs ++ ys) p)
-
-apart_before : {X : Type 0} (xs : List X) (y : X) → AllPairs (λ one other. one ≢ other) (xs ++ y ∷ []) → Contains xs y → ⊥
-apart_before [] y p there = contains_none y there
-apart_before (x ∷ xs) y p there = elim (contains_cases x y xs there) [
-  | inl same ↦ ordered_head (λ one other. one ≢ other) x (xs ++ y ∷ []) p y (Contains-push xs y) same
-  | inr later ↦ apart_before xs y (ordered_tail (λ one other. one ≢ other) x (xs ++ y ∷ []) p) later
-]
+use Rattle.plan_opening.proofs.Lists.{contains_unmap, pairs_unmap, pairs_behind, apart_before}
+use Rattle.plan_opening.proofs.Standing.{token_state}
 
 -- ---- the locals that stand directly in a block
 
@@ -255,11 +230,11 @@ module _ (names : List TokenName) where
   abbrev pub to_named : KeyDomain → VarDomain
   to_named each = record { name = named_variable names each.key; domain = each.domain }
 
-  named_added : (added : List KeyDomain) → map (named_variable names) (map key_of added) ≡ map (λ (each : VarDomain). each.name) (map to_named added)
+  pub named_added : (added : List KeyDomain) → map (named_variable names) (map key_of added) ≡ map (λ (each : VarDomain). each.name) (map to_named added)
   named_added [] = refl
   named_added (each ∷ added) = ap (λ (list : List VarName). named_variable names each.key ∷ list) (named_added added)
 
-  domains_added : (added : List KeyDomain) → map domain_of added ≡ map (λ (each : VarDomain). each.domain) (map to_named added)
+  pub domains_added : (added : List KeyDomain) → map domain_of added ≡ map (λ (each : VarDomain). each.domain) (map to_named added)
   domains_added [] = refl
   domains_added (each ∷ added) = ap (λ (list : List Domain). each.domain ∷ list) (domains_added added)
 
@@ -375,18 +350,10 @@ module _ (model : Model) (lawful : IsLawful model) where
 
     -- ---- underway
 
-    token_state : (one other : State) → ((k : ℕ) (t : TokenName) → slice_get one.tokens k ≡ Some t → slice_get other.tokens k ≡ Some t) → (decisions : List Decision) (token : TokenName)
-        → (state : TokenState) → HasTokenState model one decisions token state → HasTokenState model other decisions token state
-    token_state one other kept decisions token Inactive is = is
-    token_state one other kept decisions token Active is = is
-    token_state one other kept decisions token Fact is = is
-    token_state one other kept decisions token (Merged place) is = (is.0, kept place is.0 is.1, is.2)
-    token_state one other kept decisions token Rejected is = is
-
     states_new : (decisions : List Decision) → AreTokenStates model decisions (snapshot_of old) → AreTokenStates model decisions (snapshot_of new)
     states_new decisions are = record {
       states = λ place token state named_so stated. token_state (shown had) (shown has)
-          (λ k t at. subst (λ (list : List TokenName). slice_get list k ≡ Some t) (sym same_tokens) at) decisions token state
+          (λ k t at. subst (λ (list : List TokenName). slice_get list k ≡ Some t) (sym same_tokens) at) model decisions token state
           (subst (λ (past : TokenPast). (p : ℕ) (t : TokenName) (s : TokenState) → slice_get (token_names (tokens_now past)) p ≡ Some t
           → slice_get (token_states (tokens_now past)) p ≡ Some s → HasTokenState model (shown had) decisions t s)
           (sym opens.past) are.states place token state named_so stated);

@@ -26,8 +26,8 @@ pub struct RuleAt {
     pub rule: u16,
 }
 
-// The domain that the base gives, in memory of its own.
-fn base_of(base: &Base) -> Result<Dom, NetFault>
+/// The domain that the base gives, in memory of its own.
+pub fn base_of(base: &Base) -> Result<Dom, NetFault>
     ensures given { IfOk result (λ domain. base.now ≡ Given domain) }
     ensures void { result ≡ Err Collapsed → base.now ≡ Void }
 {
