@@ -1,9 +1,5 @@
-pub mod Declaring
-pub mod Finding
-pub mod Suiting
-pub mod Sweeping
+pub mod Itemizing
 pub mod Turning
-pub mod Chaining
 pub mod Suited
 pub mod Using
 pub mod Rising

@@ -22,7 +22,7 @@ use Rattle.plan_defs.specs.Valid.{IsLineAt, IsPartOf, HasArgumentValue, AreOnTim
 use Rattle.plan_defs.proofs.Saying.{one_own}
 use Rattle.plan_values.specs.Keys.{IsOrderly}
 use Rattle.plan_values.proofs.Naming.{gives_from, gives_there}
-use Rattle.plan_check.specs.Breaks.{IsFirstNumber}
+use Rattle.plan_inventory.specs.Breaks.{IsFirstNumber}
 use Rattle.plan_check.specs.Turns.{ShareTimelineBy, EndsByValues, TakeTurnsBy, LinesTakeTurns, IsPairKept}
 
 module _ (model : Model) (plan : Plan) (ok : IsOrderly plan) where

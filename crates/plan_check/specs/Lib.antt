@@ -1,7 +1,4 @@
-pub mod Bases
-pub mod Breaks
-pub mod Asking
 pub mod Judged
+pub mod Items
 pub mod Turns
-pub mod Verdicts
 pub mod Acts

@@ -1,82 +1,28 @@
-//! The clauses one after the other.
+//! The clauses behind the first six, one after the other.
 
-ghost use Rattle.std.specs.Prelude.{◌≡◌, MatchOption};
+ghost use Rattle.std.specs.Prelude.{◌≡◌, IfOk, MatchOption};
 ghost use Rattle.model_core.specs.Lawful.{IsLawful};
 ghost use Rattle.plan_defs.specs.Plans.{IsPlanOf};
 ghost use Rattle.plan_values.specs.Keys.{IsOrderly};
-ghost use Rattle.plan_check.specs.Verdicts.{KeptBelow, FindsBelow};
+ghost use Rattle.plan_inventory.specs.Verdicts.{KeptBelow, FindsBelow};
 
-use super::asked::broken_asking;
-use super::globals::broken_global;
 use super::items::broken_item;
-use super::open::broken_open;
-use super::roots::broken_root;
+use super::levels::broken_reservoir;
+use super::resources::broken_reusable;
 use super::timelines::broken_pair;
-use super::tokens::{broken_merge, broken_token};
 use model_core::model::Model;
-use plan_defs::plan::{Clause, Place, Plan};
+use plan_defs::plan::{Clause, Plan};
+use plan_inventory::Broken;
+use std::alloc::{AllocError, Global};
 
-/// The clause that a plan breaks first, and the place with the least names where it does.
-#[derive(Clone, Copy, Debug, PartialEq, Eq)]
-pub struct Broken {
-    pub clause: Clause,
-    pub place: Place,
-}
-
-// The first of V1 to V4 that the plan breaks.
-fn broken_by_values(model: &Model, plan: &Plan) -> Option<Broken>
+// The first of V7 and V8 that the plan breaks, where it keeps those before.
+fn broken_by_times(model: &Model, plan: &Plan) -> Option<Broken>
     requires lawful { IsLawful model.now }
     requires is_plan { IsPlanOf model.now plan.now }
     requires orderly { IsOrderly plan.now }
-    ensures { FindsBelow model.now plan.now 4 result }
-{
-    if let Some(place) = broken_global(model, plan) {
-        return Some(Broken {
-            clause: Clause::V1,
-            place,
-        });
-    }
-    if let Some(place) = broken_root(model, plan) {
-        return Some(Broken {
-            clause: Clause::V2,
-            place,
-        });
-    }
-    if let Some(place) = broken_token(model, plan) {
-        return Some(Broken {
-            clause: Clause::V3,
-            place,
-        });
-    }
-    match broken_merge(model, plan) {
-        Some(place) => Some(Broken {
-            clause: Clause::V4,
-            place,
-        }),
-        None => None,
-    }
-}
-
-// The first of V5 to V8 that the plan breaks, where it keeps those before.
-fn broken_by_blocks(model: &Model, plan: &Plan) -> Option<Broken>
-    requires lawful { IsLawful model.now }
-    requires is_plan { IsPlanOf model.now plan.now }
-    requires orderly { IsOrderly plan.now }
-    requires before { KeptBelow model.now plan.now 4 }
+    requires before { KeptBelow model.now plan.now 6 }
     ensures { FindsBelow model.now plan.now 8 result }
 {
-    if let Some(place) = broken_open(model, plan) {
-        return Some(Broken {
-            clause: Clause::V5,
-            place,
-        });
-    }
-    if let Some(place) = broken_asking(model, plan) {
-        return Some(Broken {
-            clause: Clause::V6,
-            place,
-        });
-    }
     if let Some(place) = broken_item(model, plan) {
         return Some(Broken {
             clause: Clause::V7,
@@ -92,25 +38,48 @@ fn broken_by_blocks(model: &Model, plan: &Plan) -> Option<Broken>
     }
 }
 
-// The first of V1 to V8 that the plan breaks, where its lines are in order.
-fn broken_in_order(model: &Model, plan: &Plan) -> Option<Broken>
+// The first of V9 and V10 that the plan breaks, where it keeps those before.
+fn broken_by_resources(
+    alloc: Global,
+    model: &Model,
+    plan: &Plan,
+) -> Result<Option<Broken>, AllocError>
     requires lawful { IsLawful model.now }
-    requires is_plan { IsPlanOf model.now plan.now }
     requires orderly { IsOrderly plan.now }
-    ensures { FindsBelow model.now plan.now 8 result }
+    requires before { KeptBelow model.now plan.now 8 }
+    ensures { IfOk result (FindsBelow model.now plan.now 10) }
 {
-    match broken_by_values(model, plan) {
-        Some(found) => Some(found),
-        None => broken_by_blocks(model, plan),
+    let over_used = broken_reusable(alloc, model, plan)?;
+    if let Some(place) = over_used {
+        return Ok(Some(Broken {
+            clause: Clause::V9,
+            place,
+        }));
+    }
+    let left = broken_reservoir(alloc, model, plan)?;
+    match left {
+        Some(place) => Ok(Some(Broken {
+            clause: Clause::V10,
+            place,
+        })),
+        None => Ok(None),
     }
 }
 
-/// The first of the clauses V1 to V8 that the plan breaks, all but those of resources. It takes no memory. The time is that of
-/// the lines with the logarithm of their number, and of the square of the lines for pairs of tokens.
-pub fn broken_before_resources(model: &Model, plan: &Plan) -> Option<Broken>
+/// The first of V7 to V10 that the plan breaks, where it keeps those before.
+pub fn broken_behind(
+    alloc: Global,
+    model: &Model,
+    plan: &Plan,
+) -> Result<Option<Broken>, AllocError>
     requires lawful { IsLawful model.now }
     requires is_plan { IsPlanOf model.now plan.now }
-    ensures { FindsBelow model.now plan.now 8 result }
+    requires orderly { IsOrderly plan.now }
+    requires before { KeptBelow model.now plan.now 6 }
+    ensures { IfOk result (FindsBelow model.now plan.now 10) }
 {
-    broken_in_order(model, plan)
+    match broken_by_times(model, plan) {
+        Some(found) => Ok(Some(found)),
+        None => broken_by_resources(alloc, model, plan),
+    }
 }

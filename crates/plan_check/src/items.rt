@@ -6,14 +6,14 @@ ghost use Rattle.plan_defs.specs.declared.plan.Clause.TheVariants.{V7};
 ghost use Rattle.plan_defs.specs.Plans.{IsPlanOf, IsActivatedIn};
 ghost use Rattle.plan_defs.specs.Valid.{IsTrueInRule, IsActivatedAt, IsLineAt};
 ghost use Rattle.plan_values.specs.Keys.{IsOrderly};
-ghost use Rattle.plan_check.specs.Breaks.{Finds, FindsNumber, IsFirstInRules};
-ghost use Rattle.plan_check.specs.Asking.{IsProblemItemTrue, FindsOnLine};
+ghost use Rattle.plan_inventory.specs.Breaks.{Finds, FindsNumber, IsFirstInRules};
+ghost use Rattle.plan_inventory.specs.Asking.{FindsOnLine};
+ghost use Rattle.plan_check.specs.Items.{IsProblemItemTrue};
 
-use super::asked::activated_by;
-use super::open::count_rules;
 use eu_name::name::TokenName;
 use model_core::model::Model;
 use plan_defs::plan::{Line, Place, Plan};
+use plan_inventory::{activated_by, count_rules};
 use plan_values::claims::is_item_true;
 use plan_values::rules::false_item;
 use plan_values::terms::Standpoint;

@@ -10,7 +10,7 @@ ghost use Rattle.plan_defs.specs.Resources.{IsInstant};
 ghost use Rattle.plan_defs.specs.Valid.{IsOfSort, IsClauseKept, IsLevelWithin, KeepsReservoirs};
 ghost use Rattle.plan_values.specs.Keys.{IsOrderly};
 ghost use Rattle.plan_check.specs.Acts.{ValuesAct, TokenChanges, IsChangeOf, Collects, FindsInstant};
-ghost use Rattle.plan_check.specs.Breaks.{Finds};
+ghost use Rattle.plan_inventory.specs.Breaks.{Finds};
 
 use super::resources::{is_of_kind, is_on, keep};
 use eu_name::name::{Part, TokenName};

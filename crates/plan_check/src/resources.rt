@@ -11,14 +11,14 @@ ghost use Rattle.plan_defs.specs.Resources.{IsInstant};
 ghost use Rattle.plan_defs.specs.Valid.{IsOfSort, IsPartOf, IsClauseKept, IsWithinCapacity, KeepsReusables};
 ghost use Rattle.resource_profile.specs.declared.usage.Use.{Use};
 ghost use Rattle.plan_values.specs.Keys.{IsOrderly};
-ghost use Rattle.plan_check.specs.Breaks.{Finds};
+ghost use Rattle.plan_inventory.specs.Breaks.{Finds};
 ghost use Rattle.plan_check.specs.Acts.{ValuesUse, TokenUses, IsUseOf, Collects, FindsInstant};
 
-use super::bases::pred_in;
 use eu_name::name::{Part, TokenName};
 use model_core::class::{Object, ObjectKind, PredKind};
 use model_core::model::Model;
 use plan_defs::plan::{Line, Place, Plan};
+use plan_inventory::pred_in;
 use plan_values::lines::value_in;
 use plan_values::tokens::pred_of;
 use resource_profile::{Use, over_use};

@@ -5,7 +5,7 @@ ghost use Rattle.plan_defs.specs.declared.plan.Clause.TheVariants.{V8};
 ghost use Rattle.plan_defs.specs.Plans.{IsPlanOf};
 ghost use Rattle.plan_defs.specs.Timelines.{IsTimeline};
 ghost use Rattle.plan_values.specs.Keys.{IsOrderly};
-ghost use Rattle.plan_check.specs.Breaks.{Finds, FindsNumber};
+ghost use Rattle.plan_inventory.specs.Breaks.{Finds, FindsNumber};
 ghost use Rattle.plan_check.specs.Turns.{ShareTimelineBy, EndsByValues, TakeTurnsBy, LinesTakeTurns, IsPairKept};
 
 use eu_name::name::Part;

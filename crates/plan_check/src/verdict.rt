@@ -3,15 +3,13 @@
 ghost use Rattle.std.specs.Prelude.{IfOk};
 ghost use Rattle.model_core.specs.Lawful.{IsLawful};
 ghost use Rattle.plan_defs.specs.Plans.{IsPlanOf};
-ghost use Rattle.plan_values.specs.Keys.{IsOrderly};
 ghost use Rattle.plan_check.specs.Judged.{IsVerdict};
-ghost use Rattle.plan_check.specs.Verdicts.{KeptBelow, FindsBelow};
+ghost use Rattle.plan_inventory.specs.Verdicts.{FindsBelow};
 
-use super::clauses::{Broken, broken_before_resources};
-use super::levels::broken_reservoir;
-use super::resources::broken_reusable;
+use super::clauses::broken_behind;
 use model_core::model::Model;
 use plan_defs::plan::{Clause, Place, Plan};
+use plan_inventory::{Broken, broken_inventory};
 use std::alloc::{AllocError, Global};
 
 /// What the checker says of a plan: it is valid, or this is the clause that it breaks first, and the place with the least names
@@ -22,43 +20,15 @@ pub enum Verdict {
     Invalid { clause: Clause, place: Place },
 }
 
-// The first of V9 and V10 that the plan breaks, where it keeps those before.
-fn broken_by_resources(
-    alloc: Global,
-    model: &Model,
-    plan: &Plan,
-) -> Result<Option<Broken>, AllocError>
-    requires lawful { IsLawful model.now }
-    requires orderly { IsOrderly plan.now }
-    requires before { KeptBelow model.now plan.now 8 }
-    ensures { IfOk result (FindsBelow model.now plan.now 10) }
-{
-    let over_used = broken_reusable(alloc, model, plan)?;
-    if let Some(place) = over_used {
-        return Ok(Some(Broken {
-            clause: Clause::V9,
-            place,
-        }));
-    }
-    let left = broken_reservoir(alloc, model, plan)?;
-    match left {
-        Some(place) => Ok(Some(Broken {
-            clause: Clause::V10,
-            place,
-        })),
-        None => Ok(None),
-    }
-}
-
 // The first clause that the plan breaks.
 fn broken_first(alloc: Global, model: &Model, plan: &Plan) -> Result<Option<Broken>, AllocError>
     requires lawful { IsLawful model.now }
     requires is_plan { IsPlanOf model.now plan.now }
     ensures { IfOk result (FindsBelow model.now plan.now 10) }
 {
-    match broken_before_resources(model, plan) {
+    match broken_inventory(model, plan) {
         Some(found) => Ok(Some(found)),
-        None => broken_by_resources(alloc, model, plan),
+        None => broken_behind(alloc, model, plan),
     }
 }
 

@@ -1,5 +1,3 @@
-pub mod Stepping
-pub mod Lining
 pub mod Sorting
 pub mod Making
 pub mod Wholes

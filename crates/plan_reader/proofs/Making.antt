@@ -19,7 +19,7 @@ use Rattle.plan_core.specs.declared.statement.Statement.TheVariants.{Global, Of}
 use Rattle.plan_core.specs.PlanTexts.{IsStatedBefore, Gathers, global_values, plan_lines}
 use Rattle.plan_reader.specs.declared.gathering.Named.{Named}
 use Rattle.plan_reader.specs.Gathering.{said_of, values_if, Takes}
-use Rattle.plan_reader.proofs.Lining.{IsSaidOf}
+use Rattle.plan_statements.proofs.Lining.{IsSaidOf}
 
 -- ---- statements are taken in turn
 

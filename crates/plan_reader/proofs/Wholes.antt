@@ -22,7 +22,7 @@ use Rattle.plan_core.specs.Words.{place_in}
 use Rattle.plan_core.proofs.Gatherings.{lines_more, contains_map}
 use Rattle.plan_reader.specs.declared.gathering.Named.{Named}
 use Rattle.plan_reader.specs.Gathering.{said_of, AreNamed, AreNamesOnce, AreKept}
-use Rattle.plan_reader.proofs.Lining.{IsSaidOf, line_shrinks, line_is_new, line_is_of, word_shrinks}
+use Rattle.plan_statements.proofs.Lining.{IsSaidOf, line_shrinks, line_is_new, line_is_of, word_shrinks}
 use Rattle.plan_reader.proofs.Making.{plan_is_of}
 
 -- ---- statements that are kept

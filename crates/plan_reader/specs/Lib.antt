@@ -1,3 +1,3 @@
-pub mod Reading
+pub mod Openings
 pub mod Gathering
 pub mod Laws

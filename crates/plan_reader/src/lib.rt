@@ -6,8 +6,7 @@
 
 mod gathering;
 pub mod laws;
-mod lines;
-mod readers;
+mod openings;
 pub mod reading;
 
 pub use reading::read_plan;

@@ -11,8 +11,7 @@ ghost use Rattle.plan_core.specs.Words.{place_in};
 ghost use Rattle.plan_reader.specs.Gathering.{said_of, AreNamed, AreNamesOnce, AreKept};
 
 use super::gathering::{Named, gathered};
-use super::lines::one_line;
-use super::readers::{opening, text_ending};
+use super::openings::{opening, text_ending};
 use eu_name::laws::names_are_told_apart;
 use eu_name::name::{Part, VarName};
 use indexmap::IndexSet;
@@ -21,6 +20,7 @@ use plan_core::fault::{PlanTextFault, Wrong};
 use plan_core::statement::Statement;
 use plan_core::words::{Cursor, place_in};
 use plan_defs::plan::{Line, Plan};
+use plan_statements::one_line;
 use std::alloc::{AllocError, Global};
 
 // The name that the line goes by.

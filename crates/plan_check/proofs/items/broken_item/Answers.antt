@@ -1,4 +1,4 @@
-use Rattle.plan_check.proofs.Sweeping.{problem_least}
+use Rattle.plan_check.proofs.Itemizing.{problem_least}
 use Rattle.plan_check.proofs.items.broken_item.Goals as goal
 
 pub returns-in-Some : goal.returns-in-Some

@@ -1,4 +1,5 @@
-use Rattle.plan_check.proofs.Sweeping.{activated_at, by_activated, items_idle}
+use Rattle.plan_inventory.proofs.Sweeping.{activated_at, by_activated}
+use Rattle.plan_check.proofs.Itemizing.{items_idle}
 use Rattle.plan_check.proofs.items.false_at.Goals as goal
 
 pub false_of-requires-clause-activated : goal.false_of-requires-clause-activated

@@ -1,5 +1,5 @@
 use Rattle.std.proofs.Common.{length, ap, arith}
-use Rattle.plan_check.proofs.Sweeping.{item_found, all_items_kept}
+use Rattle.plan_check.proofs.Itemizing.{item_found, all_items_kept}
 use Rattle.plan_check.proofs.items.false_in_blocks.Goals as goal
 
 pub returns-in-Some : goal.returns-in-Some

@@ -1,7 +1,7 @@
 use Rattle.std.proofs.Common.{ℕ, ◌<◌}
 use Rattle.plan_defs.specs.declared.plan.Place.{Place}
 use Rattle.plan_defs.specs.Valid.{KeepsItems}
-use Rattle.plan_check.specs.Asking.{IsOnLine}
+use Rattle.plan_inventory.specs.Asking.{IsOnLine}
 use Rattle.plan_check.proofs.items.false_in_blocks.Given as goal
 
 abbrev pub invariant-loop-place : goal.invariant-loop-place

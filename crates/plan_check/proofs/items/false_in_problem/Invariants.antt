@@ -1,5 +1,5 @@
 use Rattle.std.proofs.Common.{ℕ, ◌<◌}
-use Rattle.plan_check.specs.Asking.{IsProblemItemTrue}
+use Rattle.plan_check.specs.Items.{IsProblemItemTrue}
 use Rattle.plan_check.proofs.items.false_in_problem.Given as goal
 
 abbrev pub invariant-loop-number : goal.invariant-loop-number

@@ -1,6 +1,6 @@
 use Rattle.std.proofs.Common.{arith}
 use Rattle.plan_defs.specs.Valid.{IsTrueInRule}
-use Rattle.plan_check.proofs.Sweeping.{first_in_rules, more_rules}
+use Rattle.plan_inventory.proofs.Sweeping.{first_in_rules, more_rules}
 use Rattle.plan_check.proofs.items.false_in_rules.Goals as goal
 
 pub loop-rule-preserved : goal.loop-rule-preserved

@@ -1,4 +1,5 @@
-use Rattle.plan_check.proofs.Sweeping.{activated_in, item_least, items_kept}
+use Rattle.plan_inventory.proofs.Sweeping.{activated_in}
+use Rattle.plan_check.proofs.Itemizing.{item_least, items_kept}
 use Rattle.plan_check.proofs.items.false_of.Goals as goal
 
 pub false_in_rules-requires-clause-activated : goal.false_in_rules-requires-clause-activated

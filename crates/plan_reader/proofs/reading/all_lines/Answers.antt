@@ -1,5 +1,5 @@
 use Rattle.std.proofs.lemmas.Result.{err_from_is_err_and}
-use Rattle.plan_reader.proofs.Lining.{line_shrinks}
+use Rattle.plan_statements.proofs.Lining.{line_shrinks}
 use Rattle.plan_reader.proofs.Wholes.{no_line, line_at, line_new, line_more, lines_stop, lines_memory, lines_end}
 use Rattle.plan_reader.proofs.reading.all_lines.Goals as goal
 

@@ -1,0 +1,3 @@
+pub mod Declaring
+pub mod Naming
+pub mod SamePredicate

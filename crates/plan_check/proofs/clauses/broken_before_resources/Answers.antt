@@ -1,5 +1,0 @@
-use Rattle.plan_check.proofs.Chaining.{orderly_plan}
-use Rattle.plan_check.proofs.clauses.broken_before_resources.Goals as goal
-
-pub broken_in_order-requires-clause-orderly : goal.broken_in_order-requires-clause-orderly
-broken_in_order-requires-clause-orderly c = orderly_plan c.args.model.now c.args.plan.now c.requires.is_plan

@@ -1,6 +1,0 @@
-use Rattle.std.proofs.Common.{ℕ, ◌<◌}
-use Rattle.plan_check.specs.Asking.{IsLocalKept}
-use Rattle.plan_check.proofs.open.unkept_local.Given as goal
-
-abbrev pub invariant-loop-rule : goal.invariant-loop-rule
-invariant-loop-rule l = (other earlier : ℕ) → other < l.rule → IsLocalKept l.model l.plan l.token other earlier

@@ -1,6 +1,0 @@
-use Rattle.std.proofs.Common.{ℕ, ◌<◌}
-use Rattle.plan_check.specs.Asking.{IsSlotKept}
-use Rattle.plan_check.proofs.open.unkept_slot_in.Given as goal
-
-abbrev pub invariant-loop-slot : goal.invariant-loop-slot
-invariant-loop-slot l = (earlier : ℕ) → earlier < l.slot → IsSlotKept l.model l.plan l.token l.rule earlier

@@ -1,0 +1,12 @@
+use Rattle.std.proofs.Common.{below_more, arith}
+use Rattle.plan_inventory.proofs.open.unkept_slot_in.Goals as goal
+
+pub loop-slot-preserved : goal.loop-slot-preserved
+loop-slot-preserved c = below_more _ _ c.loop-slot.invariant c.if-not-is_slot_kept.ensures
+
+pub returns-then-not-is_slot_kept : goal.returns-then-not-is_slot_kept
+returns-then-not-is_slot_kept c = record { fails = c.if-not-is_slot_kept.ensures; before = c.loop-slot.invariant }
+
+pub returns : goal.returns
+returns c = λ slot stands.
+    c.loop-slot.invariant slot (omega (arith, c.count_slots-slot-end.ensures c.args.plan.now slot stands, c.loop-slot-test.false)) stands

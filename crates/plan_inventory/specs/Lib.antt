@@ -1,0 +1,4 @@
+pub mod Bases
+pub mod Breaks
+pub mod Asking
+pub mod Verdicts
