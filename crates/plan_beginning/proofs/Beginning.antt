@@ -1,7 +1,7 @@
 -- A store that has begun: its roots, and what the problem's constraints say.
 use borrow.Author.Count.{below_more}
 use Rattle.std.proofs.Common.{◌≡◌, ℕ, ◌+◌, ◌<◌, ◌≤◌, List, [], ◌∷◌, ◌++◌, length, map, get_or, Ok, Err, inl, inr, refl, sym, ap, ◌∙◌, subst, arith}
-use Rattle.std.specs.Prelude.{Contains, Result, OnOk}
+use Rattle.std.specs.Prelude.{Contains, Result, OnOk, MatchResult}
 use Rattle.std.proofs.lemmas.List.{map-append, length-map}
 use Rattle.std.proofs.lemmas.List.Elements.{Contains-append_left, Contains-append_right, Contains-push_cases}
 use Rattle.eu_name.specs.declared.name.Part.TheVariants.{Object}
@@ -47,7 +47,7 @@ use Rattle.plan_posting.proofs.Storing.{with_constraints}
 use Rattle.plan_opening.specs.Begun.{IsBegun, StaysBegun}
 use Rattle.plan_opening.specs.Underway.{OnlyAdds}
 use Rattle.plan_opening.proofs.Standing.{claims_justified}
-use Rattle.plan_beginning.specs.Beginning.{AreItemsSaid, IsBeginning, FillsStore}
+use Rattle.plan_beginning.specs.Beginning.{AreItemsSaid, IsBeginning, FillsStore, BeginsFrom}
 
 -- ---- roots
 
@@ -192,3 +192,9 @@ pub roots_fail : (model : Model) (stored : Stored) (result : Result (Unit {0}) N
     → result ≡ Err fault → FillsStore model (Err fault) stored
 roots_fail model stored result void Collapsed is = void is
 roots_fail model stored result void Memory is = tt
+
+pub begins_from : (model : Model) (filled : Result (Unit {0}) NetFault) (stored : Stored) (result : Result Stored NetFault) → FillsStore model filled stored
+    → MatchResult filled (λ done. result ≡ Ok stored) (λ fault. result ≡ Err fault) → BeginsFrom model result
+begins_from model (Ok done) stored result begins is = subst (BeginsFrom model) (sym is) begins
+begins_from model (Err Collapsed) stored result fails is = subst (BeginsFrom model) (sym is) fails
+begins_from model (Err Memory) stored result fails is = subst (BeginsFrom model) (sym is) tt

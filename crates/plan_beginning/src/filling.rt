@@ -1,9 +1,7 @@
 //! The store before any decision.
 
-ghost use Rattle.std.specs.Prelude.{◌≡◌, [], ◌∷◌};
+ghost use Rattle.std.specs.Prelude.{◌≡◌, Ok, Err, MatchResult};
 ghost use Rattle.model_core.specs.Lawful.{IsLawful};
-ghost use Rattle.plan_opening.specs.Begun.{IsBegun};
-ghost use Rattle.plan_posting.specs.Tables.{HaveTables};
 ghost use Rattle.plan_beginning.specs.Beginning.{IsBare, BeginsGlobals, FillsStore, BeginsFrom};
 
 use super::globals::bring_globals;
@@ -38,14 +36,22 @@ fn fill(alloc: Global, store: &mut Store, model: &Model) -> Result<(), NetFault>
     Ok(())
 }
 
+// The value, behind what making it answered.
+fn behind<T: Drop>(done: Result<(), NetFault>, value: T) -> Result<T, NetFault>
+    ensures { MatchResult done (λ _. result ≡ Ok value) (λ fault. result ≡ Err fault) }
+{
+    match done {
+        Ok(()) => Ok(value),
+        Err(fault) => Err(fault),
+    }
+}
+
 /// A store before any decision, with all that the problem asks for.
 pub fn begin(alloc: Global, model: &Model) -> Result<Store, NetFault>
     requires { IsLawful model.now }
     ensures { BeginsFrom model.now result }
 {
     let mut store = Store::new(alloc);
-    match fill(alloc, &mut store, model) {
-        Ok(()) => Ok(store),
-        Err(fault) => Err(fault),
-    }
+    let filled = fill(alloc, &mut store, model);
+    behind(filled, store)
 }
