@@ -1,0 +1,12 @@
+pub mod Agreeing
+pub mod Claims
+pub mod Counting
+pub mod Declaring
+pub mod Having
+pub mod Keeping
+pub mod Mapping
+pub mod Meaning
+pub mod Ordering
+pub mod Renaming
+pub mod Shuffling
+pub mod Trees
