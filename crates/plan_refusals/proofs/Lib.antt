@@ -1,0 +1,5 @@
+pub mod First
+pub mod Told
+pub mod Full
+pub mod Undecided
+pub mod Resting

@@ -1,0 +1,14 @@
+//! Why a plan database refuses a decision: the first of the reasons, in their order.
+//!
+//! `first_reason(&model, &store, &decisions, &decision)` looks in a store that is at rest for a settled list of decisions, and
+//! answers None where the decision may be taken. It takes no memory.
+#![tactic(auto)]
+
+mod checks;
+mod judge;
+mod reason;
+mod tokens;
+
+pub use judge::first_reason;
+pub use reason::Reason;
+pub use tokens::{is_rejectable, state_of};
