@@ -1,0 +1,3 @@
+pub mod Flaws
+pub mod StatePlans
+pub mod Surveying
