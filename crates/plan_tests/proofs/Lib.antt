@@ -1,1 +1,1 @@
-pub mod Lawfulness
+mod Lawfulness

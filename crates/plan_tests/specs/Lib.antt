@@ -1,1 +1,1 @@
-pub mod Trial
+pub mod Mission

@@ -3,6 +3,8 @@
 #![tactic(auto)]
 
 #[cfg(test)]
-mod texts;
+mod checks;
 #[cfg(test)]
-mod trial;
+mod mission;
+#[cfg(test)]
+mod texts;

@@ -1,6 +1,6 @@
 //! Texts of plans, read and written.
 
-use super::trial::trial;
+use super::mission::mission;
 use eu_name::bytes::Bytes;
 use plan_core::{PlanTextFault, write_plan};
 use plan_reader::read_plan;
@@ -9,13 +9,13 @@ use std::test::Fail;
 
 // What is wrong with the text; nothing, where it is a plan's.
 fn fault_of(alloc: Global, text: &[u8]) -> Result<Option<PlanTextFault>, AllocError> {
-    let model = trial(alloc)?;
+    let model = mission(alloc)?;
     Ok(read_plan(alloc, &model, text).err())
 }
 
 // The text that is written of the plan which this one says; no bytes, where it says none.
 fn written_again(alloc: Global, text: &[u8]) -> Result<Bytes, AllocError> {
-    let model = trial(alloc)?;
+    let model = mission(alloc)?;
     match read_plan(alloc, &model, text) {
         Ok(plan) => write_plan(alloc, &model, &plan),
         Err(_fault) => Ok(Bytes::from_vec(Vec::new(alloc))),
