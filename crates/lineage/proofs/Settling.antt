@@ -396,6 +396,7 @@ begun_walkable parents marked order begun = record {
 pub all_known : (parents : List (Option ℕ)) (marked : List Mark) (order : List ℕ) → AreWalkable parents marked order
     → ((number : ℕ) → number < length parents → (standing : Standing) × IsKnownAs marked number standing) → IsLineageOf parents marked order
 all_known parents marked order walkable known = record {
+  count = walkable.marks_are.count;
   standing = λ number below. let found = known number below in
       (found.0, known_in marked number found.0 found.1, walkable.settled.known number found.0 found.1);
   ordered = walkable.settled.ordered;

@@ -63,8 +63,9 @@ ParentsComeFirst parents order =
     (place number parent : ℕ) → slice_get order place ≡ Some number → StandsUnder parents number parent
     → (earlier : ℕ) × (earlier < place) × (slice_get order earlier ≡ Some parent)
 
--- each thing has its standing, and the order has the rooted ones, each after the one that it stands under
+-- each thing has its standing, and nothing else has one; the order has the rooted ones, each after the one that it stands under
 pub record IsLineageOf (parents : List (Option ℕ)) (marked : List Mark) (order : List ℕ) : Type 0 where
+  pub count : length marked ≡ length parents
   pub standing : (number : ℕ) → number < length parents
       → (standing : Standing) × (standing_in marked number ≡ Some standing) × StandsSo parents number standing
   pub ordered : ParentsComeFirst parents order

@@ -18,7 +18,7 @@ use Rattle.nddl_scope.proofs.Earliest.{earliest_append}
 use Rattle.nddl_lines.specs.Facts.{Facts}
 use Rattle.nddl_known.specs.Known.{all_type_faults}
 use Rattle.nddl_classes.specs.Classes.{class_faults, parent_faults}
-use Rattle.nddl_classes.specs.Inherited.{inherited_noted, member_names, words_noted}
+use Rattle.nddl_inherited.specs.Inherited.{inherited_noted, member_names, words_noted}
 use Rattle.nddl_classes.specs.Members.{constructors_faults, member_faults, predicate_faults, typed_faults, typed_names}
 
 -- the item that is read, and those behind it

@@ -13,7 +13,7 @@ use Rattle.nddl_scope.specs.Finding.{fault_at}
 use Rattle.nddl_scope.specs.Repeats.{repeated_faults}
 use Rattle.nddl_scope.specs.Scope.{is_class_at, meaning_of}
 use Rattle.nddl_lines.specs.Facts.{Facts}
-use Rattle.nddl_classes.specs.Inherited.{inherited_noted, member_names}
+use Rattle.nddl_inherited.specs.Inherited.{inherited_noted, member_names}
 use Rattle.nddl_classes.specs.Members.{constructors_faults, member_faults}
 
 -- what is wrong with what means this as a class

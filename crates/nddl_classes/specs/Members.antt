@@ -16,7 +16,7 @@ use Rattle.nddl_scope.specs.Repeats.{repeated_faults}
 use Rattle.nddl_scope.specs.Scope.{fault_if}
 use Rattle.nddl_lines.specs.Facts.{Facts}
 use Rattle.nddl_known.specs.Known.{all_type_faults}
-use Rattle.nddl_classes.specs.Inherited.{words_noted}
+use Rattle.nddl_inherited.specs.Inherited.{words_noted}
 
 -- what is wrong with the types of these
 abbrev pub typed_faults : Facts → ℕ → List Typed → List Fault

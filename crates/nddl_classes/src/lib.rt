@@ -3,7 +3,6 @@
 
 pub mod classes;
 pub mod constructors;
-pub mod inherited;
 pub mod members;
 
 pub use classes::note_class;

@@ -6,13 +6,13 @@ ghost use Rattle.model_core.specs.Naming.{token_part_words};
 ghost use Rattle.nddl_scope.specs.Finding.{earliest_fault};
 ghost use Rattle.nddl_scope.specs.Repeats.{repeated_faults};
 ghost use Rattle.nddl_lines.specs.Facts.{facts_of};
-ghost use Rattle.nddl_classes.specs.Inherited.{words_noted};
+ghost use Rattle.nddl_inherited.specs.Inherited.{words_noted};
 ghost use Rattle.nddl_classes.specs.Members.{formals_faults, member_faults, parameters_of, predicate_faults, typed_faults, typed_names};
 
-use super::inherited::note_word;
 use nddl_ast::TextKind;
 use nddl_ast::declaration::{Member, PredicatePart, Typed};
 use nddl_ast::name::Name;
+use nddl_inherited::note_word;
 use nddl_known::note_all_type_faults;
 use nddl_lines::Basis;
 use nddl_scope::Fault;
@@ -63,8 +63,8 @@ fn note_member(
     }
 }
 
-// The parameters of a predicate.
-fn parameters(alloc: Global, parts: &[PredicatePart]) -> Result<Vec<&Typed>, AllocError>
+/// The parameters of a predicate.
+pub fn parameters(alloc: Global, parts: &[PredicatePart]) -> Result<Vec<&Typed>, AllocError>
     ensures { IfOk result (λ found. map (λ typed. typed.now) found.items ≡ parameters_of parts.now) }
 {
     let mut found = Vec::new(alloc);

@@ -42,6 +42,13 @@ impl Members {
         self.numbers.as_ref().contains(&number)
     }
 
+    /// The numbers, in the order in which they were put in.
+    pub fn as_slice(&self) -> &[i32]
+        ensures { result.now ≡ self.now }
+    {
+        self.numbers.as_ref().as_slice()
+    }
+
     pub fn len(&self) -> usize
         ensures { result ≡ length self.now }
     {

@@ -1,4 +1,4 @@
--- The first fault, from what was noted to what is told.
+-- Faults that are noted one after another.
 use Rattle.std.proofs.Common.{◌≡◌, ℕ, ◌+◌, ◌<◌, List, [], ◌∷◌, ◌++◌, length, drop, get_or, map, Bor, refl, sym, ◌∙◌, ap, subst}
 use Rattle.std.specs.Prelude.{Option, None, Result, Ok, Err, IfOk}
 use Rattle.std.specs.Option.{option_and_then}
@@ -47,32 +47,3 @@ all_step facts one two three one_is two_is three_is =
     three_is
     ∙ (ap (λ o. earliest_fault o decls) (two_is ∙ ap (λ o. earliest_fault o circles) one_is)
     ∙ (sym (earliest_append (earliest_fault None names) circles decls) ∙ sym (earliest_append None names (circles ++ decls))))
-
--- the facts of a program with this knowledge
-abbrev pub facts_with : List Declared → List Decl → List (Option ℕ) → List Mark → List (Option TypeMeaning) → Facts
-facts_with names program parents marked known =
-    record { names = names; program = program; parents = parents; marked = marked; known = known }
-
--- what is found by the facts is the first fault
-pub first_found : {E : Type 0} (program : List Decl) (names : List Declared) (parents : List (Option ℕ)) (marked : List Mark)
-    (known other : List (Option TypeMeaning)) (r : Result (Option Fault) E) → names ≡ scope_names program
-    → AreFacts names program (facts_with names program parents marked known) → other ≡ known
-    → IfOk r (λ fault. fault ≡ earliest_fault None (all_faults (facts_with names program parents marked other)))
-    → IfOk r (IsFirstFault program)
-first_found program names parents marked known other (Err e) same are others found = tt
-first_found program names parents marked known other (Ok fault) same are others found =
-    let P : List Declared → Type 0 = λ n. AreFacts n program (facts_with names program parents marked known) in
-    record {
-      facts = facts_with names program parents marked known;
-      are = subst P same are;
-      first = found ∙ ap (λ k. earliest_fault None (all_faults (facts_with names program parents marked k))) others;
-    }
-
--- what is told of it
-pub tells : {E : Type 0} (files : List FileDecls) (program : List Decl) (fault : Option Fault) (r : Result (Option TextFault) E)
-    → program ≡ joined_decls files → IsFirstFault program fault
-    → IfOk r (λ answer. answer ≡ option_and_then (told_fault files) fault) → IfOk r (TellsFirst files)
-tells files program fault (Err e) same first told = tt
-tells files program fault (Ok answer) same first told =
-    let P : List Decl → Type 0 = λ p. IsFirstFault p fault in
-    record { fault = fault; is_first = subst P same first; told = told }

@@ -1,8 +1,7 @@
-//! The first fault of the names and types of a program: `first_fault(alloc, files)?`.
+//! What is wrong first with the names and types of a program: `first_wrong(alloc, &basis)?`.
 #![tactic(auto)]
 
 pub mod decls;
 pub mod faults;
-pub mod program;
 
-pub use program::first_fault;
+pub use faults::first_wrong;

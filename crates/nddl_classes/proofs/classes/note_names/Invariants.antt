@@ -1,7 +1,7 @@
 use Rattle.std.proofs.Common.{◌≡◌, drop}
 use Rattle.nddl_scope.specs.Finding.{earliest_fault}
 use Rattle.nddl_scope.specs.Repeats.{repeated_faults}
-use Rattle.nddl_classes.specs.Inherited.{member_names}
+use Rattle.nddl_inherited.specs.Inherited.{member_names}
 use Rattle.nddl_classes.proofs.classes.note_names.Given as goal
 
 -- the earliest so far and of the names that are left is the earliest of all

@@ -1,0 +1,169 @@
+//! The classes of a program with their fields.
+
+ghost use Rattle.std.specs.Prelude.{◌≡◌, ◌++◌, ◌∷◌, [], IfOk, OnOk, reverse};
+ghost use Rattle.std.specs.List.{flat_map};
+ghost use Rattle.std.specs.Option.{option_copied};
+ghost use Rattle.nddl_lines.specs.Ancestors.{line_of};
+ghost use Rattle.nddl_lines.specs.Facts.{facts_of};
+ghost use Rattle.nddl_schema.specs.Classes.{compiled_class, classes_of, declared_fields, member_field, fields_at, name_of_entry};
+
+use super::builtin::{builtin_classes, push_given_fields};
+use super::numbers::parent_number;
+use super::sources::Sources;
+use eu_name::sequence::Sequence;
+use eu_name::text::Text;
+use model_core::class::Class;
+use model_core::variable::VarDecl;
+use nddl_ast::declaration::{Member, Typed};
+use nddl_inherited::members_of;
+use nddl_lines::lines::{above, line_of};
+use nddl_scope::Scope;
+use nddl_variables::push_variable;
+use std::alloc::{AllocError, Global};
+
+/// The classes: the built-in ones, and one for each name, in the order in which they are declared first.
+pub fn classes_of(alloc: Global, sources: &Sources<'_>) -> Result<Sequence<Class>, AllocError>
+    ensures { IfOk result (λ classes. classes ≡ classes_of (facts_of sources.now.basis) sources.now.enums.now) }
+{
+    let mut classes = builtin_classes(alloc)?;
+    let entries = sources.entries;
+    for entry in entries {
+        push_class(alloc, sources, *entry, &mut classes)?;
+    }
+    Ok(classes)
+}
+
+// Puts the class whose name has this number at the end.
+fn push_class(
+    alloc: Global,
+    sources: &Sources<'_>,
+    entry: usize,
+    classes: &mut Sequence<Class>,
+) -> Result<(), AllocError>
+    ensures { OnOk result (classes.new
+        ≡ classes.old ++ compiled_class (facts_of sources.now.basis) sources.now.enums.now entry ∷ []) }
+{
+    let line = line_down(alloc, sources.basis.parents, entry)?;
+    let class = class_along(alloc, sources, entry, line.as_slice())?;
+    classes.push(class)
+}
+
+/// The class of this number and those that it extends, the topmost first.
+pub fn line_down(
+    alloc: Global,
+    parents: &[Option<usize>],
+    entry: usize,
+) -> Result<Vec<usize>, AllocError>
+    ensures { IfOk result (λ line. line.items ≡ reverse (line_of parents.now entry)) }
+{
+    let mut line = line_of(alloc, parents, entry)?;
+    line.reverse();
+    Ok(line)
+}
+
+// The class whose name has this number, with this line.
+fn class_along(
+    alloc: Global,
+    sources: &Sources<'_>,
+    entry: usize,
+    line: &[usize],
+) -> Result<Class, AllocError>
+    requires { line.now ≡ reverse (line_of sources.now.basis.parents.now entry) }
+    ensures { IfOk result (λ class. class ≡ compiled_class (facts_of sources.now.basis) sources.now.enums.now entry) }
+{
+    let basis = &sources.basis;
+    let name = name_of_entry(alloc, basis.types.scope, entry)?;
+    let meaning = above(basis.types.scope, basis.decls, entry);
+    let parent = Some(parent_number(basis.types.scope, sources.numbers, meaning));
+    let fields = fields_along(alloc, sources, line)?;
+    Ok(Class {
+        name,
+        parent,
+        fields,
+    })
+}
+
+// The name of this number.
+fn name_of_entry(alloc: Global, scope: &Scope, entry: usize) -> Result<Text, AllocError>
+    ensures { IfOk result (λ name. name ≡ name_of_entry scope.now entry) }
+{
+    match scope.names().get(entry) {
+        Some(declared) => declared.name.copy(),
+        None => Text::from_str(alloc, ""),
+    }
+}
+
+// The fields that the classes of a line have together.
+fn fields_along(
+    alloc: Global,
+    sources: &Sources<'_>,
+    line: &[usize],
+) -> Result<Sequence<VarDecl>, AllocError>
+    ensures { IfOk result (λ fields. fields
+        ≡ flat_map (fields_at (facts_of sources.now.basis) sources.now.enums.now) line.now) }
+{
+    let mut fields = Sequence::new(alloc);
+    for entry in line {
+        push_fields_at(alloc, sources, *entry, &mut fields)?;
+    }
+    Ok(fields)
+}
+
+// Puts what the class of this number adds to the fields of a line at the end.
+fn push_fields_at(
+    alloc: Global,
+    sources: &Sources<'_>,
+    entry: usize,
+    fields: &mut Sequence<VarDecl>,
+) -> Result<(), AllocError>
+    ensures { OnOk result (fields.new
+        ≡ fields.old ++ fields_at (facts_of sources.now.basis) sources.now.enums.now entry) }
+{
+    let basis = &sources.basis;
+    let meaning = above(basis.types.scope, basis.decls, entry);
+    push_given_fields(alloc, meaning, fields)?;
+    let members = members_of(basis.types.scope, basis.decls, entry);
+    push_declared_fields(alloc, sources, members, fields)
+}
+
+// Puts the fields that the members declare at the end.
+fn push_declared_fields(
+    alloc: Global,
+    sources: &Sources<'_>,
+    members: &[Member],
+    fields: &mut Sequence<VarDecl>,
+) -> Result<(), AllocError>
+    ensures { OnOk result (fields.new
+        ≡ fields.old ++ declared_fields (facts_of sources.now.basis) sources.now.enums.now members.now) }
+{
+    for member in members {
+        push_declared_field(alloc, sources, member, fields)?;
+    }
+    Ok(())
+}
+
+// Puts the field that the member is at the end, if it is one.
+fn push_declared_field(
+    alloc: Global,
+    sources: &Sources<'_>,
+    member: &Member,
+    fields: &mut Sequence<VarDecl>,
+) -> Result<(), AllocError>
+    ensures { OnOk result (fields.new
+        ≡ fields.old ++ declared_fields (facts_of sources.now.basis) sources.now.enums.now (member.now ∷ [])) }
+{
+    match member_field(member) {
+        Some(typed) => push_variable(alloc, &sources.basis, sources.enums, typed, fields),
+        None => Ok(()),
+    }
+}
+
+// The field that the member is.
+fn member_field(member: &Member) -> Option<&Typed>
+    ensures { option_copied result ≡ member_field member.now }
+{
+    match member {
+        Member::Field(typed) => Some(typed),
+        _ => None,
+    }
+}
