@@ -21,7 +21,7 @@ same_steps one other e =
 step_itself : (step : Step) → (step.rule == step.rule && step.slot == step.slot) ≡ true
 step_itself step = and_from (step.rule == step.rule) (step.slot == step.slot) (eq-eqb step.rule step.rule refl) (eq-eqb step.slot step.slot refl)
 
-no_some : {X : Type 0} (x : X) → None ≡ Some x → ⊥
+pub no_some : {X : Type 0} (x : X) → None ≡ Some x → ⊥
 no_some x e = cc
 
 behind_some : (front steps rest : List Step) → steps_behind front steps ≡ Some rest → steps ≡ front ++ rest
@@ -45,7 +45,7 @@ behind_itself (step ∷ front) rest =
 
 -- ---- tokens under a top
 
-from_some : (top token : TokenName) (steps : List Step) → steps_from top token ≡ Some steps → token ≡ token_under top steps
+pub from_some : (top token : TokenName) (steps : List Step) → steps_from top token ≡ Some steps → token ≡ token_under top steps
 from_some top token steps e = by_test (top.root == token.root) refl e
   where
     by_test : (test : Bool) → (top.root == token.root) ≡ test
@@ -56,7 +56,7 @@ from_some top token steps e = by_test (top.root == token.root) refl e
         λ i. record { root = sym roots i; steps = are i }
     by_test false same e = absurd (no_some steps e)
 
-from_itself : (top : TokenName) (steps : List Step) → steps_from top (token_under top steps) ≡ Some steps
+pub from_itself : (top : TokenName) (steps : List Step) → steps_from top (token_under top steps) ≡ Some steps
 from_itself top steps =
     ap (λ (test : Bool). if test then steps_behind top.steps (top.steps ++ steps) else None) (eq-eqb top.root top.root refl)
     ∙ behind_itself top.steps steps
@@ -199,7 +199,7 @@ under_step : (top : TokenName) (steps : List Step) (step : Step) → step_token 
 under_step top steps step = λ i. record { root = top.root; steps = append_assoc top.steps steps (step ∷ []) i }
 
 -- a step leads to what stands under the top where its token does, or else to the top itself
-step_under : (top token : TokenName) (step : Step) (steps : List Step) → step_token token step ≡ token_under top steps
+pub step_under : (top token : TokenName) (step : Step) (steps : List Step) → step_token token step ≡ token_under top steps
     → (step_token token step ≡ top) ⊎ ((more : List Step) × (token ≡ token_under top more))
 step_under top token step steps e = elim (last_step steps) [
   | inl none ↦ inl (e ∙ ap (token_under top) none ∙ sym (under_none top))
