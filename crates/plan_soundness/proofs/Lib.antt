@@ -1,0 +1,13 @@
+mod Deciding
+mod Pinning
+mod Having
+mod Agreeing
+mod Keeping
+mod Ways
+mod Opening
+mod Asking
+mod Lining
+mod Using
+mod Levelling
+mod Clauses
+mod Uniting
