@@ -5,7 +5,7 @@ ghost use Rattle.std.specs.Option.{option_copied};
 ghost use Rattle.nddl_scope.specs.declared.scope.Meaning.TheVariants.{Entry};
 ghost use Rattle.nddl_scope.specs.Index.{with_noted};
 ghost use Rattle.nddl_lines.specs.Facts.{facts_of};
-ghost use Rattle.nddl_inherited.specs.Inherited.{builtin_members, builtin_noted, class_noted, decl_members, inherited_noted, line_noted, meaning_noted, member_name, member_names, members_of, names_noted, reservoir_members, words_noted};
+ghost use Rattle.nddl_inherited.specs.Inherited.{builtin_members, class_noted, decl_members, inherited_noted, line_noted, meaning_noted, member_name, member_names, members_of, names_noted, reservoir_members, words_noted};
 
 use eu_name::text::Text;
 use nddl_ast::declaration::{Decl, Member};

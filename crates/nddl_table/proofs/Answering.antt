@@ -1,21 +1,19 @@
 -- What is answered, from what is known.
-use Rattle.std.proofs.Common.{◌≡◌, List, [], ◌∷◌, refl, sym, ◌∙◌, ap, subst, Bool, true, false}
-use Rattle.std.specs.Prelude.{Option, Some, None, Result, Ok, Err, IfOk, if◌then◌else◌, MatchResult, ⊤}
+use Rattle.std.proofs.Common.{◌≡◌, List, [], ◌∷◌, refl, sym, subst, Bool, true, false}
+use Rattle.std.specs.Prelude.{Some, None, Result, Ok, Err, IfOk, if◌then◌else◌, MatchResult}
 use Rattle.model_core.specs.declared.class.Enum.{Enum}
 use Rattle.nddl_ast.specs.declared.declaration.FileDecls.{FileDecls}
-use Rattle.nddl_ast.specs.declared.fault.TextFault.{TextFault}
-use Rattle.nddl_ast.specs.declared.fault.TextFault.TheVariants as texts
 use Rattle.nddl_joined.specs.Joined.{joined_decls}
 use Rattle.nddl_scope.specs.declared.fault.Fault.{Fault}
-use Rattle.nddl_scope.specs.Finding.{earlier_fault, earliest_fault, is_fault_before}
+use Rattle.nddl_scope.specs.Finding.{earliest_fault, is_fault_before}
 use Rattle.nddl_scope.specs.Names.{scope_names}
 use Rattle.nddl_lines.specs.Facts.{Facts}
 use Rattle.nddl_known.specs.Known.{AreFacts}
-use Rattle.nddl_types.specs.Faults.{all_faults, told_fault}
+use Rattle.nddl_types.specs.Faults.{all_faults}
 use Rattle.nddl_table.specs.declared.table.TypeTable.{TypeTable}
 use Rattle.nddl_table.specs.declared.tabling.Parts.{Parts}
 use Rattle.nddl_schema.specs.Classes.{enums_of}
-use Rattle.nddl_table.specs.Table.{AreEntries, HasEntries, IsTable, TellsTypes}
+use Rattle.nddl_table.specs.Table.{AreEntries, HasEntries, TellsTypes}
 
 -- once a fault is known, one stays known
 stays_some : (fault : Fault) (faults : List Fault) → earliest_fault (Some fault) faults ≡ None → ⊥

@@ -1,5 +1,5 @@
 -- The names of the scope of a program's files, as a table has them.
-use Rattle.std.specs.Prelude.{ℕ, ◌+◌, List, [], ◌∷◌, ◌++◌, Option, Some, None, if◌then◌else◌}
+use Rattle.std.specs.Prelude.{ℕ, ◌+◌, List, [], ◌∷◌, ◌++◌, if◌then◌else◌}
 use Rattle.std.specs.Option.{option_map_or}
 use Rattle.nddl_ast.specs.declared.declaration.FileDecls.{FileDecls}
 use Rattle.nddl_joined.specs.declared.site.Site.{Site}

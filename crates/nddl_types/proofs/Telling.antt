@@ -1,24 +1,15 @@
 -- Faults that are noted one after another.
-use Rattle.std.proofs.Common.{◌≡◌, ℕ, ◌+◌, ◌<◌, List, [], ◌∷◌, ◌++◌, length, drop, get_or, map, Bor, refl, sym, ◌∙◌, ap, subst}
-use Rattle.std.specs.Prelude.{Option, None, Result, Ok, Err, IfOk}
-use Rattle.std.specs.Option.{option_and_then}
+use Rattle.std.proofs.Common.{◌≡◌, ℕ, ◌+◌, ◌<◌, List, ◌∷◌, ◌++◌, length, drop, get_or, map, Bor, sym, ◌∙◌, ap}
+use Rattle.std.specs.Prelude.{Option, None}
 use Rattle.std.proofs.lemmas.List.{drop_more}
-use Rattle.lineage.specs.declared.walk.Mark.{Mark}
 use Rattle.nddl_ast.specs.declared.declaration.Decl.{Decl}
-use Rattle.nddl_ast.specs.declared.declaration.FileDecls.{FileDecls}
-use Rattle.nddl_ast.specs.declared.fault.TextFault.{TextFault}
-use Rattle.nddl_joined.specs.Joined.{joined_decls}
-use Rattle.nddl_scope.specs.declared.declared.Declared.{Declared}
 use Rattle.nddl_scope.specs.declared.fault.Fault.{Fault}
 use Rattle.nddl_scope.specs.Finding.{earliest_fault}
-use Rattle.nddl_scope.specs.Names.{scope_names}
 use Rattle.nddl_scope.specs.Scope.{second_name_faults}
 use Rattle.nddl_scope.proofs.Earliest.{earliest_append}
-use Rattle.nddl_sorts.specs.declared.kind.TypeMeaning.{TypeMeaning}
 use Rattle.nddl_lines.specs.Facts.{Facts}
 use Rattle.nddl_lines.specs.Lines.{circle_faults}
-use Rattle.nddl_known.specs.Known.{AreFacts}
-use Rattle.nddl_types.specs.Faults.{IsFirstFault, TellsFirst, all_faults, decl_faults, decls_faults, told_fault}
+use Rattle.nddl_types.specs.Faults.{all_faults, decl_faults, decls_faults}
 
 dropped : {X : Type 0} (xs : List X) (i : ℕ) (x : X) → i < length xs → x ≡ get_or xs i x → x ∷ drop (i + 1) xs ≡ drop i xs
 dropped xs i x within is = ap (λ y. y ∷ drop (i + 1) xs) is ∙ sym (drop_more xs i x within)

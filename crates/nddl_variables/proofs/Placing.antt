@@ -1,12 +1,11 @@
 -- Numbers put in their places.
-use Rattle.std.proofs.Common.{◌≡◌, ℕ, suc, zero, ◌<◌, ◌≤◌, Bool, true, false, List, [], ◌∷◌, length, ℤ, ◌≤ℤ◌, ◌<ℤ◌, ◌⊎◌, ⊎_elim, inl, inr, refl, sym, ap, ◌∙◌, subst, arith}
-use Rattle.std.specs.Prelude.{Contains, All, AllPairs, int_lt, if◌then◌else◌, Result, Ok}
+use Rattle.std.proofs.Common.{◌≡◌, suc, ◌<◌, ◌≤◌, Bool, true, false, List, [], ◌∷◌, ℤ, ◌≤ℤ◌, ◌<ℤ◌, ◌⊎◌, inl, inr, refl, sym, ap, ◌∙◌, subst, arith}
+use Rattle.std.specs.Prelude.{Contains, All, int_lt, if◌then◌else◌, Ok}
 use Rattle.std.proofs.lemmas.Int.{ints}
 use Rattle.std.proofs.lemmas.List.Kept.{AllPairs-cons}
 use Rattle.std.proofs.lemmas.List.Elements.{All-cons}
 use Rattle.domain_core.specs.Domain.{AreAscending, Domain, Set}
 use Rattle.domain_core.specs.Lists.{AreMembersOf, HaveSameItems, MakesSet}
-use Rattle.domain_core.specs.declared.SetFault.{SetFault}
 use Rattle.domain_core.proofs.Ascending.{contains_head, contains_later, contains_cases, contains_none, ascending_tail, same_ascending}
 use Rattle.nddl_variables.specs.Ascending.{with_placed, ascending_of}
 
