@@ -30,7 +30,7 @@ use Rattle.plan_grounds.proofs.Leasts.{low_closed}
 
 -- ---- whether a token is activated, and active
 
-abbrev IsOrNot : Type 0 → Type 0
+abbrev pub IsOrNot : Type 0 → Type 0
 IsOrNot P = P ⊎ (P → ⊥)
 
 same_token : (a b : TokenName) → IsOrNot (a ≡ b)
@@ -90,6 +90,15 @@ fact_or_not model token = by_steps token.steps refl
         no_step : (step : Step) (steps : List Step) → step ∷ steps ≡ [] → ⊥
         no_step step steps same = cc
 
+pub active_or_not : (model : Model) (decisions : List Decision) (token : TokenName) → IsOrNot (IsActive model decisions token)
+active_or_not model decisions token = elim (fact_or_not model token) [
+  | inl fact ↦ inl (inl fact)
+  | inr not_fact ↦ elim (activated_or_not decisions token) [
+    | inl activated ↦ inl (inr activated)
+    | inr not ↦ inr (λ active. ⊎_elim not_fact not active)
+  ]
+]
+
 -- what isn't impossible is so, where it can be told
 not_impossible : {P : Type 0} → IsOrNot P → ((P → ⊥) → ⊥) → P
 not_impossible (inl is) possible = is
@@ -100,10 +109,7 @@ stands_if_possible decisions token possible front step back are =
     not_impossible (activated_or_not decisions (front_token token front)) (λ not. possible (λ stands. not (stands front step back are)))
 
 active_if_possible : (model : Model) (decisions : List Decision) (token : TokenName) → ((IsActive model decisions token → ⊥) → ⊥) → IsActive model decisions token
-active_if_possible model decisions token possible = elim (fact_or_not model token) [
-  | inl fact ↦ inl fact
-  | inr not_fact ↦ inr (not_impossible (activated_or_not decisions token) (λ not. possible (λ active. ⊎_elim not_fact not active)))
-]
+active_if_possible model decisions token possible = not_impossible (active_or_not model decisions token) possible
 
 -- ---- least states
 

@@ -16,7 +16,7 @@ use Rattle.plan_defs.specs.declared.plan.Plan.{Plan}
 use Rattle.plan_defs.specs.Sums.{sum_of}
 use Rattle.plan_defs.specs.Valid.{IsValid, IsOfSort, HasActed, UsesAt, AddedBy, TookBy, IsUsed, LeavesLevel, IsRise, KeepsReusables, KeepsReservoirs}
 use Rattle.plan_swap.specs.Swapping.{swapped_token, swapped_line}
-use Rattle.plan_swap.specs.SwapLaws.{takes_place, count_of_tokens}
+use Rattle.plan_swap.specs.SwapLaws.{tokens_of_line, count_of_tokens}
 use Rattle.plan_swap.proofs.Having.{HaveSwapped, flipped, line_twice}
 use Rattle.plan_swap.proofs.Declaring.{slot_moved}
 use Rattle.plan_swap.proofs.Shuffling.{Summed, summed_map, summed_shuffled}
@@ -131,20 +131,20 @@ module _ (model : Model) (old new : Plan) (one other : TokenName) (has : HaveSwa
 
 -- ---- how many tokens take place
 
-takes_moved : (one other : TokenName) (line : the_line.Line) → takes_place (swapped_line one other line) ≡ takes_place line
+takes_moved : (one other : TokenName) (line : the_line.Line) → tokens_of_line (swapped_line one other line) ≡ tokens_of_line line
 takes_moved one other (lines.Token token fact values) = refl
 takes_moved one other (lines.Merged token target) = refl
 takes_moved one other (lines.Rejected token) = refl
 takes_moved one other (lines.Local name value) = refl
 
-count_mapped : (one other : TokenName) (some : List the_line.Line) → sum_by takes_place (map (swapped_line one other) some) ≡ sum_by takes_place some
+count_mapped : (one other : TokenName) (some : List the_line.Line) → sum_by tokens_of_line (map (swapped_line one other) some) ≡ sum_by tokens_of_line some
 count_mapped one other [] = refl
 count_mapped one other (line ∷ some) =
-    sum_by-cons takes_place (swapped_line one other line) (map (swapped_line one other) some)
-    ∙ ap (λ n. n + sum_by takes_place (map (swapped_line one other) some)) (takes_moved one other line)
-    ∙ ap (λ n. takes_place line + n) (count_mapped one other some)
-    ∙ sym (sum_by-cons takes_place line some)
+    sum_by-cons tokens_of_line (swapped_line one other line) (map (swapped_line one other) some)
+    ∙ ap (λ n. n + sum_by tokens_of_line (map (swapped_line one other) some)) (takes_moved one other line)
+    ∙ ap (λ n. tokens_of_line line + n) (count_mapped one other some)
+    ∙ sym (sum_by-cons tokens_of_line line some)
 
 pub count_kept : (model : Model) (old new : Plan) (one other : TokenName) → HaveSwapped model old new one other → count_of_tokens new ≡ count_of_tokens old
 count_kept model old new one other has =
-    sum_by-IsPermutation takes_place (map (swapped_line one other) old.lines) new.lines has.swap.lines ∙ count_mapped one other old.lines
+    sum_by-IsPermutation tokens_of_line (map (swapped_line one other) old.lines) new.lines has.swap.lines ∙ count_mapped one other old.lines

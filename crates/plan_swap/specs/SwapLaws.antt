@@ -73,16 +73,16 @@ pub record StandApart (plan : Plan) (one other : TokenName) : Type 0 where
   pub none : (line : Line) (step : Step) (steps : List Step)
       → Contains plan.lines line → IsLineAbout line (token_under one (step ∷ steps)) → ⊥
 
--- how many tokens the line says that take place
-abbrev pub takes_place : Line → ℕ
-takes_place (lines.Token token fact values) = 1
-takes_place (lines.Merged token target) = 0
-takes_place (lines.Rejected token) = 0
-takes_place (lines.Local name value) = 0
+-- how many tokens take place by the line
+abbrev pub tokens_of_line : Line → ℕ
+tokens_of_line (lines.Token token fact values) = 1
+tokens_of_line (lines.Merged token target) = 0
+tokens_of_line (lines.Rejected token) = 0
+tokens_of_line (lines.Local name value) = 0
 
 -- how many tokens take place in the plan
 abbrev pub count_of_tokens : Plan → ℕ
-count_of_tokens plan = sum_by takes_place plan.lines
+count_of_tokens plan = sum_by tokens_of_line plan.lines
 
 -- tokens that may change places stand apart
 abbrev pub SwappedTokensStandApart : Type 0

@@ -1,0 +1,4 @@
+pub mod Counting
+pub mod Covering
+pub mod Picking
+pub mod Searching
