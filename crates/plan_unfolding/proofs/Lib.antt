@@ -1,0 +1,7 @@
+pub mod Truths
+pub mod Adding
+pub mod Looking
+pub mod Naming
+pub mod Asking
+pub mod Posting
+pub mod Whole

@@ -1,0 +1,5 @@
+pub mod Guards
+pub mod Reading
+pub mod Branches
+pub mod Unfolding
+pub mod UnfoldingLaws
