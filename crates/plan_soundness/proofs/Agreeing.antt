@@ -50,8 +50,7 @@ module _ (model : Model) (decisions : List Decision) (state : State) (plan : Pla
 
   order_kept : (one other : TokenName) → Contains decisions (Order one other) → (IsRejected decisions one → ⊥) × (IsRejected decisions other → ⊥)
   order_kept one other there =
-      let found = admitted model decisions (Order one other) is.settled.settled there in
-      (
+      let found = admitted model decisions (Order one other) is.settled.settled there in (
         λ rejected. found.admissible.free NotActive (inl (λ active. active_not_rejected model decisions state plan is one (active_before model decisions state plan is found.front one found.before active) rejected)),
         λ rejected. found.admissible.free NotActive (inr (λ active. active_not_rejected model decisions state plan is other (active_before model decisions state plan is found.front other found.before active) rejected)),
       )

@@ -113,7 +113,7 @@ module _ (model : Model) (decisions : List Decision) (state : State) (plan : Pla
       let down = open_down model decisions state plan is block entries p in
       record { supported = is.founded.tokens block.token (active_there block.token down.activated); is_open = down }
 
-  block_there : (block : TokenBlock) (entries : Entries) → IsOpen model (plan_situation plan) block entries → Contains state.blocks block
+  pub block_there : (block : TokenBlock) (entries : Entries) → IsOpen model (plan_situation plan) block entries → Contains state.blocks block
   block_there block entries p = is.settled.consistent.blocks block entries (supported_down block entries p)
 
   -- ---- slots
@@ -126,20 +126,26 @@ module _ (model : Model) (decisions : List Decision) (state : State) (plan : Pla
     stands = asks.stands;
   }
 
-  slot_there : (token : TokenName) (rule slot : ℕ) → AsksFor model (plan_situation plan) token (record { rule = rule; slot = slot }) → Contains state.tokens (slot_token token rule slot)
-  slot_there token rule slot asks =
+  -- what is asked for by a supported token is supported
+  pub supported_slot : (token : TokenName) (rule slot : ℕ) → IsSupportedToken model (situation_of decisions state) token
+      → AsksFor model (situation_of decisions state) token (record { rule = rule; slot = slot }) → IsSupportedToken model (situation_of decisions state) (slot_token token rule slot)
+  supported_slot token rule slot parent asks =
       let step : Step = record { rule = rule; slot = slot } in
-      let down = asks_down token step asks in
-      let parent = is.founded.tokens token (active_there token down.is_open.activated) in
-      is.settled.consistent.tokens (slot_token token rule slot) (record {
+      record {
         root = parent.root;
         is_root = parent.is_root;
         asked = λ front other after e. elim (last_cases token.steps front step other after e) [
           | inl last ↦ subst (λ (steps : List Step). AsksFor model (situation_of decisions state) (front_token token steps) other) last.0
-              (subst (AsksFor model (situation_of decisions state) token) last.1 down)
+              (subst (AsksFor model (situation_of decisions state) token) last.1 asks)
           | inr inner ↦ parent.asked front other inner.0 inner.1
         ];
-      })
+      }
+
+  slot_there : (token : TokenName) (rule slot : ℕ) → AsksFor model (plan_situation plan) token (record { rule = rule; slot = slot }) → Contains state.tokens (slot_token token rule slot)
+  slot_there token rule slot asks =
+      let down = asks_down token (record { rule = rule; slot = slot }) asks in
+      is.settled.consistent.tokens (slot_token token rule slot)
+      (supported_slot token rule slot (is.founded.tokens token (active_there token down.is_open.activated)) down)
 
   no_root : (token : TokenName) (rule slot : ℕ) → (slot_token token rule slot).steps ≡ [] → ⊥
   no_root token rule slot none = omega (arith, ap length none, length-append token.steps (record { rule = rule; slot = slot } ∷ []))
@@ -156,7 +162,7 @@ module _ (model : Model) (decisions : List Decision) (state : State) (plan : Pla
 
   -- ---- locals
 
-  activated_kept : (token : TokenName) → IsActivated decisions token → IsRejected decisions token → ⊥
+  pub activated_kept : (token : TokenName) → IsActivated decisions token → IsRejected decisions token → ⊥
   activated_kept token activated rejected = takes_not_rejected model decisions state is.settled false token activated rejected
 
   local_value : (token : TokenName) (rule number : ℕ) → AsksForLocal model plan token rule number → HasDeclaredValue model plan (variables.Local token rule number)
@@ -265,14 +271,16 @@ module _ (model : Model) (decisions : List Decision) (state : State) (plan : Pla
         → IsClaimTrue model plan claim
     two_true slot claim has one other (inl are) =
         claim_true model decisions state plan is claim (part_of token one) (part_of (slot_token token rule slot) other ∷ []) are
-        (subst (λ list. AreKept model decisions state plan is list) (sym are)
-        (part_kept model decisions state plan is token one (activated_kept token token_activated),
-        (part_kept model decisions state plan is (slot_token token rule slot) other (slot_not_rejected token rule slot), tt))) has
+        (subst (λ list. AreKept model decisions state plan is list) (sym are) (
+          part_kept model decisions state plan is token one (activated_kept token token_activated),
+          (part_kept model decisions state plan is (slot_token token rule slot) other (slot_not_rejected token rule slot), tt),
+        )) has
     two_true slot claim has one other (inr are) =
         claim_true model decisions state plan is claim (part_of (slot_token token rule slot) other) (part_of token one ∷ []) are
-        (subst (λ list. AreKept model decisions state plan is list) (sym are)
-        (part_kept model decisions state plan is (slot_token token rule slot) other (slot_not_rejected token rule slot),
-        (part_kept model decisions state plan is token one (activated_kept token token_activated), tt))) has
+        (subst (λ list. AreKept model decisions state plan is list) (sym are) (
+          part_kept model decisions state plan is (slot_token token rule slot) other (slot_not_rejected token rule slot),
+          (part_kept model decisions state plan is token one (activated_kept token token_activated), tt),
+        )) has
 
     true_by : (item : Item) → IsLawfulItem model (OfRule open_block.has_block.slot.pred open_block.has_block.rule) item
         → ((claim : Claim) → ItemSays model (IsTaken decisions) (InRule token rule) item claim → IsClaimConsistent model state claim)

@@ -1,5 +1,5 @@
--- The plan of a state without a flaw keeps each clause but that of reservoirs.
-use Rattle.std.proofs.Common.{◌<◌, List, arith}
+-- The plan of a state without a flaw keeps each clause.
+use Rattle.std.proofs.Common.{List}
 use Rattle.model_core.specs.declared.decision.Decision.{Decision}
 use Rattle.model_core.specs.declared.model.Model.{Model}
 use Rattle.model_core.specs.State.{State}
@@ -7,33 +7,18 @@ use Rattle.plan_defs.specs.declared.plan.Clause.{Clause}
 use Rattle.plan_defs.specs.declared.plan.Clause.TheVariants.{V1, V2, V3, V4, V5, V6, V7, V8, V9, V10}
 use Rattle.plan_defs.specs.declared.plan.Place.{Place}
 use Rattle.plan_defs.specs.declared.plan.Plan.{Plan}
-use Rattle.plan_defs.specs.Broken.{clauses_before}
 use Rattle.plan_defs.specs.Closure.{IsClosed}
-use Rattle.plan_defs.specs.Resources.{FitReusables, IsTokenComplete}
 use Rattle.plan_defs.specs.Valid.{IsClauseKept, IsValid}
 use Rattle.plan_soundness.specs.Soundness.{IsFlawlessPlan}
 use Rattle.plan_soundness.proofs.Asking.{keeps_open, keeps_asked, keeps_items}
+use Rattle.plan_soundness.proofs.Certain.{token_complete}
 use Rattle.plan_soundness.proofs.Keeping.{keeps_globals, keeps_roots, keeps_tokens, keeps_merges, keeps_timelines}
 use Rattle.plan_soundness.proofs.Levelling.{keeps_reservoirs}
 use Rattle.plan_soundness.proofs.Using.{keeps_reusables}
 
-pub keeps_clauses : (model : Model) (decisions : List Decision) (state : State) (plan : Plan) (clause : Clause) (place : Place) → IsFlawlessPlan model decisions state plan
-    → FitReusables model decisions state → clauses_before clause < 9 → IsClauseKept model plan clause place
-keeps_clauses model decisions state plan V1 place is fit few = keeps_globals model decisions state plan is place
-keeps_clauses model decisions state plan V2 place is fit few = keeps_roots model decisions state plan is place
-keeps_clauses model decisions state plan V3 place is fit few = keeps_tokens model decisions state plan is place
-keeps_clauses model decisions state plan V4 place is fit few = keeps_merges model decisions state plan is place
-keeps_clauses model decisions state plan V5 place is fit few = keeps_open model decisions state plan is place
-keeps_clauses model decisions state plan V6 place is fit few = keeps_asked model decisions state plan is place
-keeps_clauses model decisions state plan V7 place is fit few = keeps_items model decisions state plan is place
-keeps_clauses model decisions state plan V8 place is fit few = keeps_timelines model decisions state plan is place
-keeps_clauses model decisions state plan V9 place is fit few = keeps_reusables model decisions state plan is fit place
-keeps_clauses model decisions state plan V10 place is fit few = absurd (omega (arith, few))
-
--- where no further token can come, it keeps that of reservoirs too
 pub is_valid : (model : Model) (decisions : List Decision) (state : State) (plan : Plan) → IsFlawlessPlan model decisions state plan → IsClosed model decisions state
-    → IsTokenComplete model decisions state → IsValid model plan
-is_valid model decisions state plan is closed complete = keeps
+    → IsValid model plan
+is_valid model decisions state plan is closed = keeps
   where
     keeps : (clause : Clause) (place : Place) → IsClauseKept model plan clause place
     keeps V1 place = keeps_globals model decisions state plan is place
@@ -45,4 +30,4 @@ is_valid model decisions state plan is closed complete = keeps
     keeps V7 place = keeps_items model decisions state plan is place
     keeps V8 place = keeps_timelines model decisions state plan is place
     keeps V9 place = keeps_reusables model decisions state plan is closed.reusables place
-    keeps V10 place = keeps_reservoirs model decisions state plan is closed.reservoirs complete place
+    keeps V10 place = keeps_reservoirs model decisions state plan is closed.reservoirs (token_complete model decisions state plan is) place

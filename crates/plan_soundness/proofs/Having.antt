@@ -199,7 +199,12 @@ module _ (model : Model) (decisions : List Decision) (state : State) (plan : Pla
       let known = is.founded.known (Merge token target) merged in
       let claim = equal (part_of token part) (part_of target part) in
       let consistent = is.settled.consistent.claims claim (inr (inr (inr (inl (record {
-        token = token; target = target; part = part; merged = merged; has_part = has_part; says = refl;
+        token = token;
+        target = target;
+        part = part;
+        merged = merged;
+        has_part = has_part;
+        says = refl;
       }))))) in
       let line = active_line target known.1 (target_active token target merged) in
       both consistent.domains consistent.have consistent.agree line.0 line.1 line.2
@@ -272,8 +277,12 @@ module _ (model : Model) (decisions : List Decision) (state : State) (plan : Pla
       → IsClaimConsistent model state claim → IsClaimTrue model plan claim
   claim_true claim argument arguments some kept consistent =
       let found = have_all claim.arguments consistent.domains consistent.have kept in
-      record { values = found.values; have = found.have; holds = holding consistent.domains found.values
-      (subst (λ list. AllZip (HasDomain (Gives state)) list consistent.domains) some consistent.have) found.pinned consistent.agree }
+      record {
+        values = found.values;
+        have = found.have;
+        holds = holding consistent.domains found.values
+            (subst (λ list. AllZip (HasDomain (Gives state)) list consistent.domains) some consistent.have) found.pinned consistent.agree;
+      }
     where
       holding : (domains : List Domain) (values : List ℤ) → AllZip (HasDomain (Gives state)) (argument ∷ arguments) domains → AllZip IsPinned domains values
           → AreConsistent (reach_of claim.kind) (Holds (HasField model) claim.kind) domains → Holds (HasField model) claim.kind values

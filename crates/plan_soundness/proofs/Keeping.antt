@@ -149,7 +149,7 @@ module _ (model : Model) (decisions : List Decision) (state : State) (plan : Pla
 
   -- ---- roots
 
-  root_there : (number : ℕ) (root : Root) → IsRoot model number root → Contains state.tokens (root_token number)
+  pub root_there : (number : ℕ) (root : Root) → IsRoot model number root → Contains state.tokens (root_token number)
   root_there number root is_root = is.settled.consistent.tokens (root_token number) (record {
     root = root;
     is_root = is_root;
@@ -390,18 +390,24 @@ module _ (model : Model) (decisions : List Decision) (state : State) (plan : Pla
           | inr not' ↦
               by_lt_z b.start a.end (λ late.
               by_lt_z a.start b.end (λ late'.
-              absurd (is.flawless (Unordered one other, (before, record {
-                share = record {
-                  apart = λ same. token_order.irreflexive other (subst (λ t. IsTokenBefore t other) same before);
-                  one_active = line_active at.0 one line.takes_place;
-                  other_active = line_active at'.0 other line'.takes_place;
-                  timeline = on.timeline;
-                  is_timeline = on.is_timeline;
-                  one_on = part_has one Object on.timeline on.one_on;
-                  other_on = part_has other Object on.timeline on.other_on;
-                };
-                no_order = record { not_before = not; not_after = not'; overruns = overruns one other a b late; overrun = overruns other one b a late' };
-              }))))
+              absurd (is.flawless (
+                Unordered one other,
+                (
+                  before,
+                  record {
+                    share = record {
+                      apart = λ same. token_order.irreflexive other (subst (λ t. IsTokenBefore t other) same before);
+                      one_active = line_active at.0 one line.takes_place;
+                      other_active = line_active at'.0 other line'.takes_place;
+                      timeline = on.timeline;
+                      is_timeline = on.is_timeline;
+                      one_on = part_has one Object on.timeline on.one_on;
+                      other_on = part_has other Object on.timeline on.other_on;
+                    };
+                    no_order = record { not_before = not; not_after = not'; overruns = overruns one other a b late; overrun = overruns other one b a late' };
+                  },
+                ),
+              )))
               (λ early. inr (ends_by other one b a (omega (arith, ints, early)))))
               (λ early. inl (ends_by one other a b (omega (arith, ints, early))))
         ]

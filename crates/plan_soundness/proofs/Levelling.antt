@@ -154,13 +154,13 @@ module _ (model : Model) (decisions : List Decision) (state : State) (plan : Pla
         | inl same ↦ elim (most_or_not start.value instant) [
           | inr late ↦ inr (λ other acted. late (subst (λ v. v ≤ℤ instant) (sym (same_at Start start acted.start acted.starts)) acted.started))
           | inl started ↦ inl (record {
-              sort = record { slot = slot; has_token = has_token; predicate = pred; is_predicate = is_pred; is_kind = is_kind };
-              on = subst (λ v. IsPartOf values Object v) same on.at;
-              start = start.value;
-              starts = start.at;
-              started = started;
-              has_quantity = amount.at;
-            })
+            sort = record { slot = slot; has_token = has_token; predicate = pred; is_predicate = is_pred; is_kind = is_kind };
+            on = subst (λ v. IsPartOf values Object v) same on.at;
+            start = start.value;
+            starts = start.at;
+            started = started;
+            has_quantity = amount.at;
+          })
         ]
       ]
 
@@ -187,8 +187,7 @@ module _ (model : Model) (decisions : List Decision) (state : State) (plan : Pla
       may_acted kind other may =
           let on_single = same_domain Object on may.on.0 may.on.1 in
           let start_single = same_domain Start start may.started.0 may.started.1 in
-          let amount_single = same_domain (Param 0) amount may.greatest.0 may.greatest.1 in
-          (
+          let amount_single = same_domain (Param 0) amount may.greatest.0 may.greatest.1 in (
             record {
               sort = record { slot = slot; has_token = has_token; predicate = pred; is_predicate = is_pred; is_kind = actor_kind kind may.actor };
               on = subst (λ v. IsPartOf values Object v) (sym (on_single.only object may.on.2)) on.at;
@@ -204,26 +203,26 @@ module _ (model : Model) (decisions : List Decision) (state : State) (plan : Pla
           → Rises (lines.Token token fact values) high low
       produce is_kind high low is_high is_low = elim (acted_or_not Produce is_kind) [
         | inl acted ↦ record {
-            rise = amount.value;
-            is_rise = inl acted;
-            above = elim is_high.adds [
-              | inl none ↦ omega (arith, ints, none, from_zero)
-              | inr adds ↦ (let same = (may_acted Produce adds.0 adds.1).1 in omega (arith, ints, adds.2, same))
-            ];
-            below = is_low.adds amount.value (surely Produce acted);
-          }
+          rise = amount.value;
+          is_rise = inl acted;
+          above = elim is_high.adds [
+            | inl none ↦ omega (arith, ints, none, from_zero)
+            | inr adds ↦ (let same = (may_acted Produce adds.0 adds.1).1 in omega (arith, ints, adds.2, same))
+          ];
+          below = is_low.adds amount.value (surely Produce acted);
+        }
         | inr none ↦ record {
-            rise = pos 0;
-            is_rise = inr (inr (record { adds_none = none; takes_none = λ other took. produce_or_consume pred.kind is_kind (sort_kind Consume took.sort) }, refl));
-            above = elim is_high.adds [
-              | inl nothing ↦ nothing
-              | inr adds ↦ absurd (none amount.value (may_acted Produce adds.0 adds.1).0)
-            ];
-            below = elim is_low.takes [
-              | inl nothing ↦ nothing
-              | inr takes ↦ absurd (produce_or_consume pred.kind is_kind (actor_kind Consume takes.1.actor))
-            ];
-          }
+          rise = pos 0;
+          is_rise = inr (inr (record { adds_none = none; takes_none = λ other took. produce_or_consume pred.kind is_kind (sort_kind Consume took.sort) }, refl));
+          above = elim is_high.adds [
+            | inl nothing ↦ nothing
+            | inr adds ↦ absurd (none amount.value (may_acted Produce adds.0 adds.1).0)
+          ];
+          below = elim is_low.takes [
+            | inl nothing ↦ nothing
+            | inr takes ↦ absurd (produce_or_consume pred.kind is_kind (actor_kind Consume takes.1.actor))
+          ];
+        }
       ]
 
       consume : pred.kind ≡ Consume → (high low : ℤ) → IsHighChange model decisions state object instant token high → IsLowChange model decisions state object instant token low
@@ -241,17 +240,17 @@ module _ (model : Model) (decisions : List Decision) (state : State) (plan : Pla
               ];
             }
         | inr none ↦ record {
-            rise = pos 0;
-            is_rise = inr (inr (record { adds_none = λ other added. produce_or_consume pred.kind (sort_kind Produce added.sort) is_kind; takes_none = none }, refl));
-            above = elim is_high.adds [
-              | inl nothing ↦ nothing
-              | inr adds ↦ absurd (produce_or_consume pred.kind (actor_kind Produce adds.1.actor) is_kind)
-            ];
-            below = elim is_low.takes [
-              | inl nothing ↦ nothing
-              | inr takes ↦ absurd (none amount.value (may_acted Consume takes.0 takes.1).0)
-            ];
-          }
+          rise = pos 0;
+          is_rise = inr (inr (record { adds_none = λ other added. produce_or_consume pred.kind (sort_kind Produce added.sort) is_kind; takes_none = none }, refl));
+          above = elim is_high.adds [
+            | inl nothing ↦ nothing
+            | inr adds ↦ absurd (produce_or_consume pred.kind (actor_kind Produce adds.1.actor) is_kind)
+          ];
+          below = elim is_low.takes [
+            | inl nothing ↦ nothing
+            | inr takes ↦ absurd (none amount.value (may_acted Consume takes.0 takes.1).0)
+          ];
+        }
       ]
         where
           negated : (n : ℤ) → (m : ℤ) × (m +ℤ n ≡ pos 0)

@@ -6,8 +6,10 @@ mod Keeping
 mod Ways
 mod Opening
 mod Asking
+mod Certain
 mod Lining
 mod Using
 mod Levelling
 mod Clauses
+mod Owning
 mod Uniting

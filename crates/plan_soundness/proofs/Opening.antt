@@ -96,9 +96,13 @@ module _ (model : Model) (decisions : List Decision) (state : State) (plan : Pla
           → (smaller : Domain) × (MayBe model (situation_of decisions state) context term smaller × ((value : ℤ) → Has smaller value → Has domain value))
       case (Value value) means counts has = (domain, (record { argument = Value value; means = means; counts = tt; has = has }, λ v inside. inside))
       case (Variable name) means counts has =
-          let up = value_up name has.0 has.1 in
-          (up.0, (record { argument = Variable name; means = means; counts = counts_further model (IsTakenIn plan) (IsTaken decisions) (taken_down model decisions state plan is) (Variable name) counts; has = up.1 },
-          λ v inside. subst (λ d. Has d v) (sym has.2) (subst (λ w. Has (Range has.0 has.0) w) (sym (up.2.only v inside)) (itself has.0))))
+          let up = value_up name has.0 has.1 in (
+            up.0,
+            (
+              record { argument = Variable name; means = means; counts = counts_further model (IsTakenIn plan) (IsTaken decisions) (taken_down model decisions state plan is) (Variable name) counts; has = up.1 },
+              λ v inside. subst (λ d. Has d v) (sym has.2) (subst (λ w. Has (Range has.0 has.0) w) (sym (up.2.only v inside)) (itself has.0)),
+            ),
+          )
 
   pub taken_up : (token : TokenName) → IsTaken decisions token → IsTakenIn plan token
   taken_up token (inl activated) =
@@ -116,13 +120,18 @@ module _ (model : Model) (decisions : List Decision) (state : State) (plan : Pla
       case (Variable name) means counts has =
           let kept = counted_kept model decisions state plan is (Variable name) counts in
           let value = value_of model decisions state plan is name domain has kept in
-          let gives = gives_value model decisions state plan is name value.0 (domain, has, value.1) kept in
-          (Range value.0 value.0, (record {
-            argument = Variable name;
-            means = means;
-            counts = counts_further model (IsTaken decisions) (IsTakenIn plan) taken_up (Variable name) counts;
-            has = (value.0, gives, refl);
-          }, λ v inside. subst (λ w. Has domain w) (let e : value.0 ≡ v = omega (arith, ints, inside.0, inside.1) in e) value.1.has))
+          let gives = gives_value model decisions state plan is name value.0 (domain, has, value.1) kept in (
+            Range value.0 value.0,
+            (
+              record {
+                argument = Variable name;
+                means = means;
+                counts = counts_further model (IsTaken decisions) (IsTakenIn plan) taken_up (Variable name) counts;
+                has = (value.0, gives, refl);
+              },
+              λ v inside. subst (λ w. Has domain w) (let e : value.0 ≡ v = omega (arith, ints, inside.0, inside.1) in e) value.1.has,
+            ),
+          )
 
   opens_down : (context : Context) (guard : Guard) (side : Side) → Opens model (plan_situation plan) context guard side → Opens model (situation_of decisions state) context guard side
   opens_down context guard side opens =

@@ -24,6 +24,7 @@ one_plan model decisions state one other p q = λ i. record { globals = globals 
   where
     globals : one.globals ≡ other.globals
     globals = same_lists one.globals other.globals (λ k v at. (q.globals k v).1 ((p.globals k v).0 at)) (λ k v at. (p.globals k v).1 ((q.globals k v).0 at))
+
     lines : one.lines ≡ other.lines
     lines = same_members IsLineBefore irreflexive transitive one.lines other.lines p.order q.order
         (λ line there. (q.lines line).1 ((p.lines line).0 there)) (λ line there. (p.lines line).1 ((q.lines line).0 there))

@@ -131,7 +131,9 @@ module _ (model : Model) (decisions : List Decision) (state : State) (plan : Pla
         | inr late ↦ inr (λ quantity acts. late (subst (λ v. v ≤ℤ instant) (sym (same_at Start start acts.acted.start acts.acted.starts)) acts.acted.started))
         | inl started ↦ elim (less_or_not instant end.value) [
           | inr early ↦ inr (λ quantity acts. early (subst (λ v. instant <ℤ v) (sym (same_at End end acts.end acts.ends)) acts.not_ended))
-          | inl not_ended ↦ inl (amount.value, record {
+          | inl not_ended ↦ inl (
+            amount.value,
+            record {
               acted = record {
                 sort = record { slot = slot; has_token = has_token; predicate = pred; is_predicate = is_pred; is_kind = kind };
                 on = subst (λ v. IsPartOf values Object v) same on.at;
@@ -143,7 +145,8 @@ module _ (model : Model) (decisions : List Decision) (state : State) (plan : Pla
               end = end.value;
               ends = end.at;
               not_ended = not_ended;
-            })
+            },
+          )
         ]
       ]
     ]

@@ -1,21 +1,20 @@
 -- What is proved of the plans of states without a flaw.
-use Rattle.std.specs.Prelude.{◌≡◌, ◌<◌, List, Contains}
+use Rattle.std.specs.Prelude.{◌≡◌, List, Contains}
 use Rattle.eu_name.specs.declared.name.TokenName.{TokenName}
 use Rattle.model_core.specs.declared.decision.Decision.{Decision}
 use Rattle.model_core.specs.declared.model.Model.{Model}
 use Rattle.model_core.specs.Blocks.{TokenBlock}
 use Rattle.model_core.specs.Entries.{Entries}
 use Rattle.model_core.specs.State.{State}
-use Rattle.plan_defs.specs.declared.plan.Clause.{Clause}
-use Rattle.plan_defs.specs.declared.plan.Place.{Place}
 use Rattle.plan_defs.specs.declared.plan.Plan.{Plan}
-use Rattle.plan_defs.specs.Broken.{AgreesWith, clauses_before}
+use Rattle.plan_defs.specs.Broken.{AgreesWith}
+use Rattle.plan_defs.specs.PlanStates.{IsPlanState}
 use Rattle.plan_defs.specs.Refusals.{IsKnown}
 use Rattle.plan_defs.specs.Closure.{IsClosed}
-use Rattle.plan_defs.specs.Resources.{FitReusables, IsTokenComplete}
+use Rattle.plan_defs.specs.Resources.{IsTokenComplete}
 use Rattle.plan_defs.specs.Situations.{situation_of}
 use Rattle.plan_defs.specs.Support.{IsSupportedToken, IsSupportedBlock}
-use Rattle.plan_defs.specs.Valid.{IsClauseKept, IsValid}
+use Rattle.plan_defs.specs.Valid.{IsValid}
 use Rattle.plan_states.specs.Flaws.{HasFlaw}
 use Rattle.plan_states.specs.StatePlans.{IsSettledState, IsStatePlan}
 
@@ -39,22 +38,26 @@ FlawlessPlansAgree =
     (model : Model) (decisions : List Decision) (state : State) (plan : Plan)
     → IsFlawlessPlan model decisions state plan → AgreesWith model plan decisions
 
--- where reusables fit in the state, it keeps each clause of a valid plan but that of reservoirs, which is the tenth
-abbrev pub FlawlessPlansKeepClauses : Type 0
-FlawlessPlansKeepClauses =
-    (model : Model) (decisions : List Decision) (state : State) (plan : Plan) (clause : Clause) (place : Place)
-    → IsFlawlessPlan model decisions state plan → FitReusables model decisions state → clauses_before clause < 9
-    → IsClauseKept model plan clause place
-
 -- a state has one plan at most
 abbrev pub StatesHaveOnePlan : Type 0
 StatesHaveOnePlan =
     (model : Model) (decisions : List Decision) (state : State) (one other : Plan)
     → IsStatePlan model decisions state one → IsStatePlan model decisions state other → one ≡ other
 
--- where the state is closed and no further token can come in it, the plan is valid
+-- where resources fit in the state, and so it is closed, the plan is valid
 abbrev pub FlawlessPlansAreValid : Type 0
 FlawlessPlansAreValid =
     (model : Model) (decisions : List Decision) (state : State) (plan : Plan)
-    → IsFlawlessPlan model decisions state plan → IsClosed model decisions state → IsTokenComplete model decisions state
-    → IsValid model plan
+    → IsFlawlessPlan model decisions state plan → IsClosed model decisions state → IsValid model plan
+
+-- no further token can come in a state that has such a plan
+abbrev pub FlawlessStatesAreComplete : Type 0
+FlawlessStatesAreComplete =
+    (model : Model) (decisions : List Decision) (state : State) (plan : Plan)
+    → IsFlawlessPlan model decisions state plan → IsTokenComplete model decisions state
+
+-- a state that has such a plan is the plan's own state
+abbrev pub FlawlessStatesAreOwn : Type 0
+FlawlessStatesAreOwn =
+    (model : Model) (decisions : List Decision) (state : State) (plan : Plan)
+    → IsFlawlessPlan model decisions state plan → IsPlanState model plan state

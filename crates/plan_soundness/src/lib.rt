@@ -1,7 +1,7 @@
 //! Laws: what is so of the plan of a state without a flaw.
 #![tactic(auto)]
 
-ghost use Rattle.plan_soundness.specs.Soundness.{StatesHaveOnePlan, FlawlessPlansAgree, FlawlessPlansKeepClauses, FlawlessPlansAreValid};
+ghost use Rattle.plan_soundness.specs.Soundness.{StatesHaveOnePlan, FlawlessPlansAgree, FlawlessStatesAreComplete, FlawlessStatesAreOwn, FlawlessPlansAreValid};
 
 /// A state has one plan at most.
 pub fn a_state_has_one_plan()
@@ -13,12 +13,17 @@ pub fn flawless_plans_agree()
     ensures { FlawlessPlansAgree }
 {}
 
-/// Where reusables fit in the state, the plan keeps each clause of a valid plan but that of reservoirs.
-pub fn flawless_plans_keep_clauses()
-    ensures { FlawlessPlansKeepClauses }
+/// No further token can come in such a state.
+pub fn flawless_states_are_complete()
+    ensures { FlawlessStatesAreComplete }
 {}
 
-/// Where the state is closed and no further token can come, the plan is valid.
+/// Such a state is the own state of its plan.
+pub fn flawless_states_are_own()
+    ensures { FlawlessStatesAreOwn }
+{}
+
+/// Where resources fit in such a state, its plan is valid.
 pub fn flawless_plans_are_valid()
     ensures { FlawlessPlansAreValid }
 {}
