@@ -1,5 +1,5 @@
 -- The tokens that the slots in a block ask for.
-use Rattle.std.proofs.Common.{◌≡◌, ℕ, ◌<◌, ◌+◌, List, [], ◌∷◌, ◌++◌, length, take, get_or, map, Some, Ok, Err, ◌⊎◌, inl, inr, refl, sym, ◌∙◌, subst, arith}
+use Rattle.std.proofs.Common.{◌≡◌, ℕ, ◌<◌, ◌+◌, List, [], ◌∷◌, length, take, get_or, Some, Ok, Err, ◌⊎◌, inl, inr, sym, subst}
 use Rattle.std.specs.Prelude.{All, Contains, Result, OnOk, slice_get}
 use Rattle.std.proofs.lemmas.List.{take_more}
 use Rattle.std.proofs.lemmas.List.Elements.{All-get_or, All-map, All-nil, All-push, All-weaker, All-contains}

@@ -1,9 +1,9 @@
 -- What the items in a block say is posted, and what its guards name is watched, one entry after another.
 use Rattle.std.proofs.Common.{◌≡◌, ℕ, ◌<◌, ◌≤◌, ◌+◌, zero, suc, List, [], ◌∷◌, ◌++◌, length, get_or, Some, Ok, Err, ◌⊎◌, inl, inr, refl, sym, ap, ◌∙◌, subst, arith}
-use Rattle.std.specs.Prelude.{All, Contains, Result, OnOk, slice_get}
+use Rattle.std.specs.Prelude.{Contains, Result, OnOk, slice_get}
 use Rattle.std.specs.declared.alloc.AllocError.{AllocError}
 use Rattle.std.proofs.lemmas.Bool.{cases_lt}
-use Rattle.std.proofs.lemmas.List.Elements.{Contains-append_left, Contains-push}
+use Rattle.std.proofs.lemmas.List.Elements.{Contains-push}
 use Rattle.std.proofs.lemmas.Option.{slice_get-get_or}
 use Rattle.eu_name.specs.declared.name.TokenName.{TokenName}
 use Rattle.eu_name.specs.declared.name.VarName.{VarName}
@@ -15,7 +15,7 @@ use Rattle.model_core.specs.declared.rule.Entry.{Entry}
 use Rattle.model_core.specs.declared.rule.Entry.TheVariants as entry
 use Rattle.model_core.specs.declared.rule.Guard.{Guard}
 use Rattle.model_core.specs.Block.{plain_entries}
-use Rattle.model_core.specs.Blocks.{TokenBlock, IsBlock, Direct, direct, OfSlot, OfLocal, OfItem, OfBranch}
+use Rattle.model_core.specs.Blocks.{TokenBlock, Direct, direct, OfSlot, OfLocal, OfItem, OfBranch}
 use Rattle.model_core.specs.Decided.{IsTaken}
 use Rattle.model_core.specs.Entries.{Entries}
 use Rattle.model_core.specs.Kinds.{OfRule}
@@ -32,9 +32,7 @@ use Rattle.plan_defs.specs.Terms.{Context, InRule, Argument, Value, Variable, Me
 use Rattle.plan_defs.proofs.Members.{get_below, get_from_contains, contains_from_get}
 use Rattle.plan_growth.specs.Content.{Content, IsContent}
 use Rattle.plan_progress.specs.Coming.{IsTermThere}
-use Rattle.plan_progress.specs.Progress.{GuardNames}
 use Rattle.plan_progress.proofs.Lawful.{rule_lawful}
-use Rattle.plan_progress.proofs.Places.{contains_map}
 use Rattle.plan_store.specs.Keys.{named_block}
 use Rattle.plan_store.specs.StoreMarks.{KeepStoreMarks}
 use Rattle.plan_store.specs.Stores.{Stored, snapshot_of, IsSnapshot}
@@ -54,7 +52,7 @@ use Rattle.plan_posting.proofs.Said.{posts_nothing, posts_same, posts_both}
 use Rattle.plan_posting.proofs.Storing.{only_both}
 use Rattle.plan_opening.specs.Underway.{IsWatched}
 use Rattle.plan_opening.proofs.Opening.{name_there}
-use Rattle.plan_unfolding.specs.Reading.{block_named, AreOpenEntries, CanRead, IsGuardNamed, AreGuardsNamed}
+use Rattle.plan_unfolding.specs.Reading.{block_named, CanRead, IsGuardNamed, AreGuardsNamed}
 use Rattle.plan_unfolding.specs.Unfolding.{BlockSays, PostsEntries, OnlyWatches, IsTermWatched, IsGuardWatched, AreGuardsWatched}
 use Rattle.plan_unfolding.proofs.Adding.{goes_nowhere, goes_both, goes_there}
 use Rattle.plan_unfolding.proofs.Looking.{guard_stands, guard_there, states_same, token_below}

@@ -1,16 +1,14 @@
 -- A block is unfolded: what its slots, items and guards ask for is there.
-use Rattle.std.proofs.Common.{◌≡◌, ℕ, ◌<◌, ◌≤◌, ◌+◌, List, [], ◌∷◌, ◌++◌, length, Some, Ok, Err, inl, inr, refl, sym, ap, ◌∙◌, subst, arith}
+use Rattle.std.proofs.Common.{◌≡◌, ℕ, ◌+◌, List, length, Some, Ok, Err, inl, inr, sym, ap, ◌∙◌, subst, arith}
 use Rattle.std.specs.Prelude.{All, Contains, Result, OnOk, slice_get}
 use Rattle.std.proofs.lemmas.Bool.{cases_lt}
 use Rattle.std.proofs.lemmas.List.Elements.{Contains-append_right}
 use Rattle.std.specs.Option.{option_map}
 use Rattle.std.proofs.lemmas.Option.{slice_get_within, slice_get-map}
-use Rattle.eu_name.specs.declared.name.TokenName.{TokenName}
 use Rattle.eu_name.specs.declared.name.VarName.{VarName}
 use Rattle.model_core.specs.declared.decision.Decision.{Decision}
 use Rattle.model_core.specs.declared.model.Model.{Model}
 use Rattle.model_core.specs.declared.rule.Entry.{Entry}
-use Rattle.model_core.specs.declared.rule.Guard.{Guard}
 use Rattle.model_core.specs.Block.{plain_entries}
 use Rattle.model_core.specs.Blocks.{TokenBlock, IsBlock, direct, OfSlot, OfBranch}
 use Rattle.model_core.specs.Entries.{Entries}
@@ -22,10 +20,8 @@ use Rattle.constraint_net.specs.declared.NetFault.TheVariants.{Collapsed, Memory
 use Rattle.constraint_net.specs.declared.constraint.Constraint.{Constraint}
 use Rattle.plan_defs.specs.Claims.{Claim, IsClaim}
 use Rattle.plan_defs.specs.Terms.{InRule}
-use Rattle.plan_defs.proofs.Members.{get_same, contains_from_get}
-use Rattle.plan_growth.specs.Claims.{IsPostedIn}
+use Rattle.plan_defs.proofs.Members.{get_same}
 use Rattle.plan_growth.specs.Content.{Content, shown}
-use Rattle.plan_growth.specs.Growth.{LeaveNothing}
 use Rattle.plan_progress.specs.Laws.{AreItemsPosted}
 use Rattle.plan_progress.specs.Progress.{MissesNothing, GuardNames}
 use Rattle.plan_progress.proofs.Blocks.{block_once}
@@ -39,7 +35,7 @@ use Rattle.plan_store.specs.declared.key.OpenBlock.{OpenBlock}
 use Rattle.plan_posting.specs.Counting.{AreTokenStates}
 use Rattle.plan_posting.specs.Origins.{content_now}
 use Rattle.plan_posting.specs.Posted.{OnlyPosts}
-use Rattle.plan_opening.specs.Underway.{IsStoreUnderway, StaysUnderway, IsWatched, AreWatched, GoesOnAs, OnlyAdds}
+use Rattle.plan_opening.specs.Underway.{IsStoreUnderway, StaysUnderway, IsWatched, AreWatched, OnlyAdds}
 use Rattle.plan_opening.specs.Wanted.{ArePreds}
 use Rattle.plan_opening.proofs.Standing.{claims_justified}
 use Rattle.plan_unfolding.specs.Branches.{StaysOnWay, FollowsFirst, FollowsBranches}
@@ -49,7 +45,7 @@ use Rattle.plan_unfolding.proofs.Adding.{Adds, goes_nowhere, goes_there, goes_at
 use Rattle.plan_unfolding.proofs.Asking.{slot_of_all}
 use Rattle.plan_unfolding.proofs.Looking.{branches_followed, entries_on, token_below}
 use Rattle.plan_unfolding.proofs.Naming.{entries_read}
-use Rattle.plan_unfolding.proofs.Posting.{content_same, reads_posted, guards_named, watched_on}
+use Rattle.plan_unfolding.proofs.Posting.{content_same, reads_posted, guards_named}
 
 -- ---- what is posted
 

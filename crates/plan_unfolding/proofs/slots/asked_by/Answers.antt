@@ -1,8 +1,6 @@
 -- The slots of the block that is open.
-use Rattle.std.proofs.Common.{List, slice_get, sym, ap, ◌∙◌, subst}
+use Rattle.std.proofs.Common.{List, slice_get, ap, ◌∙◌, subst}
 use Rattle.model_core.specs.declared.rule.Turn.{Turn}
-use Rattle.model_core.specs.Blocks.{IsBlock}
-use Rattle.model_core.specs.Entries.{Entries}
 use Rattle.rule_engine.specs.Contents.{AreAdditions}
 use Rattle.token_store.specs.Tokens.{TokenPast, tokens_now, token_names}
 use Rattle.plan_posting.specs.Origins.{content_now}

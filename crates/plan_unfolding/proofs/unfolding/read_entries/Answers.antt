@@ -1,10 +1,9 @@
 -- What is posted and watched leaves what the block names as it is.
-use Rattle.std.proofs.Common.{◌<◌, List, length, sym, ap, subst, arith}
+use Rattle.std.proofs.Common.{◌<◌, length, sym, subst}
 use Rattle.std.proofs.lemmas.Option.{slice_get_within}
 use Rattle.model_core.specs.Block.{plain_entries}
-use Rattle.token_store.specs.Tokens.{TokenPast, tokens_now}
+use Rattle.token_store.specs.Tokens.{tokens_now}
 use Rattle.plan_store.specs.Stores.{Stored}
-use Rattle.plan_store.specs.declared.key.OpenBlock.{OpenBlock}
 use Rattle.plan_unfolding.proofs.Looking.{token_below}
 use Rattle.plan_unfolding.proofs.Whole.{guards_named_on, watching_reads, entries_unfold, all_adds, all_past}
 use Rattle.plan_unfolding.proofs.unfolding.read_entries.Goals as goal

@@ -1,9 +1,8 @@
 -- Behind its slots, all that the block names is there.
-use Rattle.std.proofs.Common.{Err, sym, subst}
+use Rattle.std.proofs.Common.{sym, subst}
 use Rattle.std.proofs.lemmas.Result.{err_from_is_err_and}
 use Rattle.model_core.specs.Block.{plain_entries}
 use Rattle.model_core.specs.Entries.{Entries}
-use Rattle.narrow_core.specs.declared.field.Field.{Field}
 use Rattle.plan_posting.specs.Tables.{HaveTables}
 use Rattle.plan_unfolding.specs.Reading.{AreOpenEntries}
 use Rattle.plan_unfolding.proofs.Naming.{has_entries, open_entries}

@@ -3,7 +3,7 @@ use Rattle.std.proofs.Common.{◌+◌, sym, subst, arith}
 use Rattle.model_core.specs.Block.{plain_entries}
 use Rattle.plan_store.specs.Stores.{Stored}
 use Rattle.plan_unfolding.specs.Reading.{block_named}
-use Rattle.plan_unfolding.proofs.Posting.{WatchedTo, watched_none, watched_other, watched_branch, watched_all, branch_stands, guard_named_on, guard_watched_as}
+use Rattle.plan_unfolding.proofs.Posting.{WatchedTo, watched_other, watched_branch, watched_all, branch_stands, guard_named_on, guard_watched_as}
 use Rattle.plan_unfolding.proofs.watching.watch_guards.Goals as goal
 use Rattle.plan_unfolding.proofs.watching.watch_guards.Goals.{in-Branch+in_ok-watch_guard, in_default}
 

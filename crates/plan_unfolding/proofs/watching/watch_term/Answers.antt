@@ -1,5 +1,5 @@
 -- The variable has a name, and from now on the block watches it.
-use Rattle.std.proofs.Common.{length, subst, arith}
+use Rattle.std.proofs.Common.{subst, arith}
 use Rattle.std.proofs.lemmas.List.{length-map}
 use Rattle.constraint_net.specs.declared.constraint.NetArg.{NetArg}
 use Rattle.plan_store.specs.Keys.{named_variable}
