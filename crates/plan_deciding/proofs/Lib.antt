@@ -1,0 +1,17 @@
+pub mod Longer
+pub mod Placing
+pub mod Stating
+pub mod Claiming
+pub mod Specifying
+pub mod Rejecting
+pub mod Ordering
+pub mod Saying
+pub mod Sharing
+pub mod Ruling
+pub mod Counted
+pub mod Followed
+pub mod Merged
+pub mod Opened
+pub mod Activated
+pub mod Seeing
+pub mod Numbering

@@ -1,0 +1,3 @@
+pub mod TakingUp
+pub mod RootItems
+pub mod Merging
