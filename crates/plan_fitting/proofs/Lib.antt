@@ -1,0 +1,5 @@
+pub mod Branching
+pub mod Completing
+pub mod Fitting
+pub mod Looping
+pub mod Opened

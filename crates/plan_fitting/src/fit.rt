@@ -1,0 +1,89 @@
+//! Whether resources fit.
+
+ghost use Rattle.std.specs.Prelude.{IfOk, MatchBool};
+ghost use Rattle.model_core.specs.Lawful.{IsLawful};
+ghost use Rattle.plan_defs.specs.Closure.{IsLeast, IsCollapsed};
+ghost use Rattle.plan_defs.specs.Resources.{FitReusables, FitReservoirs};
+ghost use Rattle.plan_defs.specs.Settling.{IsSettled};
+ghost use Rattle.plan_opening.specs.Underway.{IsAtRest};
+ghost use Rattle.plan_store.specs.Stores.{snapshot_of};
+ghost use Rattle.plan_view.specs.Seeing.{seen_state};
+
+use super::complete::{are_all_decided, are_all_settled};
+use model_core::decision::Decision;
+use model_core::model::Model;
+use plan_growth::laws::resources_decide;
+use plan_resources::{reservoirs_fit, reusables_fit};
+use plan_store::Store;
+use plan_view::StoreView;
+use std::alloc::{AllocError, Global};
+use timeline_core::unordered::settled_lists_decide_once;
+
+// Whether the levels of the reservoirs are within their limits, if no further token can come.
+fn levels_fit(
+    alloc: Global,
+    model: &Model,
+    store: &Store,
+    decisions: &[Decision],
+) -> Result<bool, AllocError>
+    requires lawful { IsLawful model.now }
+    requires settled { IsSettled model.now decisions.now }
+    requires rest { IsAtRest model.now decisions.now store.now.net.tables (snapshot_of store.now) }
+    ensures { IfOk result (λ fit. MatchBool fit
+        (FitReservoirs model.now decisions.now (seen_state store.now))
+        (FitReservoirs model.now decisions.now (seen_state store.now) → ⊥)) }
+{
+    settled_lists_decide_once();
+    store.is_sound();
+    if !are_all_decided(store.tokens()) {
+        return Ok(true);
+    }
+    if reservoirs_fit(alloc, model, &StoreView::new(model, store, decisions))? {
+        return Ok(true);
+    }
+    let settled = are_all_settled(alloc, model, store)?;
+    Ok(!settled)
+}
+
+// Whether the reusables fit.
+fn uses_fit(
+    alloc: Global,
+    model: &Model,
+    store: &Store,
+    decisions: &[Decision],
+) -> Result<bool, AllocError>
+    requires lawful { IsLawful model.now }
+    requires settled { IsSettled model.now decisions.now }
+    requires rest { IsAtRest model.now decisions.now store.now.net.tables (snapshot_of store.now) }
+    ensures { IfOk result (λ fit. MatchBool fit
+        (FitReusables model.now decisions.now (seen_state store.now))
+        (FitReusables model.now decisions.now (seen_state store.now) → ⊥)) }
+{
+    settled_lists_decide_once();
+    store.is_sound();
+    reusables_fit(alloc, model, &StoreView::new(model, store, decisions))
+}
+
+/// Whether resources fit what a store at rest for a settled list leaves: then this is the least state of the decisions, and
+/// else they leave none.
+pub fn resources_fit(
+    alloc: Global,
+    model: &Model,
+    store: &Store,
+    decisions: &[Decision],
+) -> Result<bool, AllocError>
+    requires lawful { IsLawful model.now }
+    requires settled { IsSettled model.now decisions.now }
+    requires rest { IsAtRest model.now decisions.now store.now.net.tables (snapshot_of store.now) }
+    ensures { IfOk result (λ fit. MatchBool fit
+        (IsLeast model.now decisions.now (seen_state store.now))
+        (IsCollapsed model.now decisions.now)) }
+{
+    settled_lists_decide_once();
+    store.is_sound();
+    resources_decide();
+    if !uses_fit(alloc, model, store, decisions)? {
+        return Ok(false);
+    }
+    levels_fit(alloc, model, store, decisions)
+}
