@@ -7,49 +7,32 @@ use model_core::model::Model;
 use plan_check::{Verdict, check};
 use plan_defs::plan::{Clause, Place};
 use plan_reader::read_plan;
-use std::alloc::{AllocError, Global};
-use std::test::Fail;
+use std::alloc::Global;
 
-const GLOBALS: &str = "global total 4\nglobal !1 0\nglobal mode slow\nglobal on false\n";
-
-const BASE: &str = "fact base Rover.At start 0 end 1 duration 1 object spirit place 1\n";
-
-const MERGED: &str = "merged here base\n";
-
-const NONE: &str = "rejected there\nrejected drill\nrejected sun\nrejected work\n";
-
-// The lines of plans, those of globals first, then of the fact, of the goal, and of all that may be rejected; and what is said
-// of each plan. Lines are counted in order of names.
-const PLANS: [([&str; 4], Verdict); 44] = [
+// Texts of plans, and what is said of each plan. Lines are counted in order of names.
+const PLANS: [(&str, Verdict); 44] = [
     // nothing takes place but the fact
-    ([GLOBALS, BASE, MERGED, NONE], Verdict::Valid),
+    (
+        "plan\nglobal total 4\nglobal !1 0\nglobal mode slow\nglobal on false\nfact base Rover.At start 0 end 1 duration 1 object spirit place 1\nmerged here base\nrejected there\nrejected drill\nrejected sun\nrejected work\nend\n",
+        Verdict::Valid,
+    ),
     // globals without values, and with values that aren't in their bases
     (
-        ["global total 4\n", BASE, MERGED, NONE],
+        "plan\nglobal total 4\nfact base Rover.At start 0 end 1 duration 1 object spirit place 1\nmerged here base\nrejected there\nrejected drill\nrejected sun\nrejected work\nend\n",
         Verdict::Invalid {
             clause: Clause::V1,
             place: Place::Global(1),
         },
     ),
     (
-        [
-            "global !1 0\nglobal mode slow\nglobal on false\n",
-            BASE,
-            MERGED,
-            NONE,
-        ],
+        "plan\nglobal !1 0\nglobal mode slow\nglobal on false\nfact base Rover.At start 0 end 1 duration 1 object spirit place 1\nmerged here base\nrejected there\nrejected drill\nrejected sun\nrejected work\nend\n",
         Verdict::Invalid {
             clause: Clause::V1,
             place: Place::Global(0),
         },
     ),
     (
-        [
-            "global total 11\nglobal !1 6\nglobal mode slow\nglobal on false\n",
-            BASE,
-            MERGED,
-            NONE,
-        ],
+        "plan\nglobal total 11\nglobal !1 6\nglobal mode slow\nglobal on false\nfact base Rover.At start 0 end 1 duration 1 object spirit place 1\nmerged here base\nrejected there\nrejected drill\nrejected sun\nrejected work\nend\n",
         Verdict::Invalid {
             clause: Clause::V1,
             place: Place::Global(0),
@@ -57,50 +40,35 @@ const PLANS: [([&str; 4], Verdict); 44] = [
     ),
     // a root without a line, and with lines of other sorts
     (
-        [GLOBALS, BASE, "", NONE],
+        "plan\nglobal total 4\nglobal !1 0\nglobal mode slow\nglobal on false\nfact base Rover.At start 0 end 1 duration 1 object spirit place 1\nrejected there\nrejected drill\nrejected sun\nrejected work\nend\n",
         Verdict::Invalid {
             clause: Clause::V2,
             place: Place::Root(1),
         },
     ),
     (
-        [GLOBALS, BASE, "rejected here\n", NONE],
+        "plan\nglobal total 4\nglobal !1 0\nglobal mode slow\nglobal on false\nfact base Rover.At start 0 end 1 duration 1 object spirit place 1\nrejected here\nrejected there\nrejected drill\nrejected sun\nrejected work\nend\n",
         Verdict::Invalid {
             clause: Clause::V2,
             place: Place::Root(1),
         },
     ),
     (
-        [
-            GLOBALS,
-            "token base Rover.At start 0 end 1 duration 1 object spirit place 1\n",
-            MERGED,
-            NONE,
-        ],
+        "plan\nglobal total 4\nglobal !1 0\nglobal mode slow\nglobal on false\ntoken base Rover.At start 0 end 1 duration 1 object spirit place 1\nmerged here base\nrejected there\nrejected drill\nrejected sun\nrejected work\nend\n",
         Verdict::Invalid {
             clause: Clause::V2,
             place: Place::Root(0),
         },
     ),
     (
-        [
-            GLOBALS,
-            BASE,
-            MERGED,
-            "fact there Rover.At start 0 end 1 duration 1 object twin place 0\nrejected drill\nrejected sun\nrejected work\n",
-        ],
+        "plan\nglobal total 4\nglobal !1 0\nglobal mode slow\nglobal on false\nfact base Rover.At start 0 end 1 duration 1 object spirit place 1\nmerged here base\nfact there Rover.At start 0 end 1 duration 1 object twin place 0\nrejected drill\nrejected sun\nrejected work\nend\n",
         Verdict::Invalid {
             clause: Clause::V2,
             place: Place::Root(2),
         },
     ),
     (
-        [
-            GLOBALS,
-            BASE,
-            "token here Rover.At start 2 end 4 duration 2 object spirit place 3\nlocal here/0!0 1\nrejected here/0:1\n",
-            NONE,
-        ],
+        "plan\nglobal total 4\nglobal !1 0\nglobal mode slow\nglobal on false\nfact base Rover.At start 0 end 1 duration 1 object spirit place 1\ntoken here Rover.At start 2 end 4 duration 2 object spirit place 3\nlocal here/0!0 1\nrejected here/0:1\nrejected there\nrejected drill\nrejected sun\nrejected work\nend\n",
         Verdict::Invalid {
             clause: Clause::V2,
             place: Place::Line(7),
@@ -108,48 +76,28 @@ const PLANS: [([&str; 4], Verdict); 44] = [
     ),
     // values out of their bases, and a token that doesn't last as it says
     (
-        [
-            GLOBALS,
-            "fact base Rover.At start 0 end 1 duration 1 object spirit place 4\n",
-            MERGED,
-            NONE,
-        ],
+        "plan\nglobal total 4\nglobal !1 0\nglobal mode slow\nglobal on false\nfact base Rover.At start 0 end 1 duration 1 object spirit place 4\nmerged here base\nrejected there\nrejected drill\nrejected sun\nrejected work\nend\n",
         Verdict::Invalid {
             clause: Clause::V3,
             place: Place::Line(0),
         },
     ),
     (
-        [
-            GLOBALS,
-            "fact base Rover.At start 10 end 11 duration 1 object spirit place 1\n",
-            MERGED,
-            NONE,
-        ],
+        "plan\nglobal total 4\nglobal !1 0\nglobal mode slow\nglobal on false\nfact base Rover.At start 10 end 11 duration 1 object spirit place 1\nmerged here base\nrejected there\nrejected drill\nrejected sun\nrejected work\nend\n",
         Verdict::Invalid {
             clause: Clause::V3,
             place: Place::Line(0),
         },
     ),
     (
-        [
-            GLOBALS,
-            "fact base Rover.At start 0 end 2 duration 1 object spirit place 1\n",
-            MERGED,
-            NONE,
-        ],
+        "plan\nglobal total 4\nglobal !1 0\nglobal mode slow\nglobal on false\nfact base Rover.At start 0 end 2 duration 1 object spirit place 1\nmerged here base\nrejected there\nrejected drill\nrejected sun\nrejected work\nend\n",
         Verdict::Invalid {
             clause: Clause::V3,
             place: Place::Line(0),
         },
     ),
     (
-        [
-            GLOBALS,
-            BASE,
-            MERGED,
-            "token there Rover.At start 0 end 1 duration 1 object spirit place 1\nrejected drill\nrejected sun\nrejected work\n",
-        ],
+        "plan\nglobal total 4\nglobal !1 0\nglobal mode slow\nglobal on false\nfact base Rover.At start 0 end 1 duration 1 object spirit place 1\nmerged here base\ntoken there Rover.At start 0 end 1 duration 1 object spirit place 1\nrejected drill\nrejected sun\nrejected work\nend\n",
         Verdict::Invalid {
             clause: Clause::V3,
             place: Place::Line(2),
@@ -157,38 +105,28 @@ const PLANS: [([&str; 4], Verdict); 44] = [
     ),
     // targets: the token itself, one that doesn't take place, one of another predicate, and one on another object
     (
-        [GLOBALS, BASE, "merged here here\n", NONE],
+        "plan\nglobal total 4\nglobal !1 0\nglobal mode slow\nglobal on false\nfact base Rover.At start 0 end 1 duration 1 object spirit place 1\nmerged here here\nrejected there\nrejected drill\nrejected sun\nrejected work\nend\n",
         Verdict::Invalid {
             clause: Clause::V4,
             place: Place::Line(1),
         },
     ),
     (
-        [GLOBALS, BASE, "merged here there\n", NONE],
+        "plan\nglobal total 4\nglobal !1 0\nglobal mode slow\nglobal on false\nfact base Rover.At start 0 end 1 duration 1 object spirit place 1\nmerged here there\nrejected there\nrejected drill\nrejected sun\nrejected work\nend\n",
         Verdict::Invalid {
             clause: Clause::V4,
             place: Place::Line(1),
         },
     ),
     (
-        [
-            GLOBALS,
-            BASE,
-            "merged here drill\n",
-            "rejected there\ntoken drill Arm.uses start 0 end 1 duration 1 object arm quantity 1\nrejected sun\nrejected work\n",
-        ],
+        "plan\nglobal total 4\nglobal !1 0\nglobal mode slow\nglobal on false\nfact base Rover.At start 0 end 1 duration 1 object spirit place 1\nmerged here drill\nrejected there\ntoken drill Arm.uses start 0 end 1 duration 1 object arm quantity 1\nrejected sun\nrejected work\nend\n",
         Verdict::Invalid {
             clause: Clause::V4,
             place: Place::Line(1),
         },
     ),
     (
-        [
-            GLOBALS,
-            BASE,
-            "merged here there\n",
-            "token there Rover.At start 0 end 1 duration 1 object twin place 1\nrejected drill\nrejected sun\nrejected work\n",
-        ],
+        "plan\nglobal total 4\nglobal !1 0\nglobal mode slow\nglobal on false\nfact base Rover.At start 0 end 1 duration 1 object spirit place 1\nmerged here there\ntoken there Rover.At start 0 end 1 duration 1 object twin place 1\nrejected drill\nrejected sun\nrejected work\nend\n",
         Verdict::Invalid {
             clause: Clause::V4,
             place: Place::Line(1),
@@ -196,12 +134,7 @@ const PLANS: [([&str; 4], Verdict); 44] = [
     ),
     // a slot of an open block without a token, a local without a value or with one that isn't in its base
     (
-        [
-            GLOBALS,
-            BASE,
-            "token here Rover.At start 2 end 4 duration 2 object spirit place 3\n",
-            NONE,
-        ],
+        "plan\nglobal total 4\nglobal !1 0\nglobal mode slow\nglobal on false\nfact base Rover.At start 0 end 1 duration 1 object spirit place 1\ntoken here Rover.At start 2 end 4 duration 2 object spirit place 3\nrejected there\nrejected drill\nrejected sun\nrejected work\nend\n",
         Verdict::Invalid {
             clause: Clause::V5,
             place: Place::Slot {
@@ -212,12 +145,7 @@ const PLANS: [([&str; 4], Verdict); 44] = [
         },
     ),
     (
-        [
-            GLOBALS,
-            BASE,
-            "token here Rover.At start 2 end 4 duration 2 object spirit place 3\nlocal here/0!0 1\n",
-            NONE,
-        ],
+        "plan\nglobal total 4\nglobal !1 0\nglobal mode slow\nglobal on false\nfact base Rover.At start 0 end 1 duration 1 object spirit place 1\ntoken here Rover.At start 2 end 4 duration 2 object spirit place 3\nlocal here/0!0 1\nrejected there\nrejected drill\nrejected sun\nrejected work\nend\n",
         Verdict::Invalid {
             clause: Clause::V5,
             place: Place::Slot {
@@ -228,12 +156,7 @@ const PLANS: [([&str; 4], Verdict); 44] = [
         },
     ),
     (
-        [
-            GLOBALS,
-            BASE,
-            "token here Rover.At start 2 end 4 duration 2 object spirit place 3\ntoken here/0:1 Arm.uses start 2 end 4 duration 2 object arm quantity 1\n",
-            NONE,
-        ],
+        "plan\nglobal total 4\nglobal !1 0\nglobal mode slow\nglobal on false\nfact base Rover.At start 0 end 1 duration 1 object spirit place 1\ntoken here Rover.At start 2 end 4 duration 2 object spirit place 3\ntoken here/0:1 Arm.uses start 2 end 4 duration 2 object arm quantity 1\nrejected there\nrejected drill\nrejected sun\nrejected work\nend\n",
         Verdict::Invalid {
             clause: Clause::V5,
             place: Place::Local {
@@ -244,12 +167,7 @@ const PLANS: [([&str; 4], Verdict); 44] = [
         },
     ),
     (
-        [
-            GLOBALS,
-            BASE,
-            "token here Rover.At start 2 end 4 duration 2 object spirit place 3\nlocal here/0!0 10\ntoken here/0:1 Arm.uses start 2 end 4 duration 2 object arm quantity 1\n",
-            NONE,
-        ],
+        "plan\nglobal total 4\nglobal !1 0\nglobal mode slow\nglobal on false\nfact base Rover.At start 0 end 1 duration 1 object spirit place 1\ntoken here Rover.At start 2 end 4 duration 2 object spirit place 3\nlocal here/0!0 10\ntoken here/0:1 Arm.uses start 2 end 4 duration 2 object arm quantity 1\nrejected there\nrejected drill\nrejected sun\nrejected work\nend\n",
         Verdict::Invalid {
             clause: Clause::V5,
             place: Place::Local {
@@ -261,12 +179,7 @@ const PLANS: [([&str; 4], Verdict); 44] = [
     ),
     // the same behind an `else`
     (
-        [
-            GLOBALS,
-            BASE,
-            "token here Rover.At start 2 end 4 duration 2 object spirit place 2\ntoken here/0:1 Arm.uses start 2 end 4 duration 2 object arm quantity 1\n",
-            NONE,
-        ],
+        "plan\nglobal total 4\nglobal !1 0\nglobal mode slow\nglobal on false\nfact base Rover.At start 0 end 1 duration 1 object spirit place 1\ntoken here Rover.At start 2 end 4 duration 2 object spirit place 2\ntoken here/0:1 Arm.uses start 2 end 4 duration 2 object arm quantity 1\nrejected there\nrejected drill\nrejected sun\nrejected work\nend\n",
         Verdict::Invalid {
             clause: Clause::V5,
             place: Place::Slot {
@@ -278,48 +191,28 @@ const PLANS: [([&str; 4], Verdict); 44] = [
     ),
     // what no block asks for: of a merged token, of a fact, behind the `else` of a guard that is true, and the other way round
     (
-        [
-            GLOBALS,
-            BASE,
-            "merged here base\ntoken here/0:1 Arm.uses start 2 end 4 duration 2 object arm quantity 1\n",
-            NONE,
-        ],
+        "plan\nglobal total 4\nglobal !1 0\nglobal mode slow\nglobal on false\nfact base Rover.At start 0 end 1 duration 1 object spirit place 1\nmerged here base\ntoken here/0:1 Arm.uses start 2 end 4 duration 2 object arm quantity 1\nrejected there\nrejected drill\nrejected sun\nrejected work\nend\n",
         Verdict::Invalid {
             clause: Clause::V6,
             place: Place::Line(6),
         },
     ),
     (
-        [
-            GLOBALS,
-            "fact base Rover.At start 0 end 1 duration 1 object spirit place 1\ntoken base/0:1 Arm.uses start 0 end 1 duration 1 object arm quantity 1\n",
-            MERGED,
-            NONE,
-        ],
+        "plan\nglobal total 4\nglobal !1 0\nglobal mode slow\nglobal on false\nfact base Rover.At start 0 end 1 duration 1 object spirit place 1\ntoken base/0:1 Arm.uses start 0 end 1 duration 1 object arm quantity 1\nmerged here base\nrejected there\nrejected drill\nrejected sun\nrejected work\nend\n",
         Verdict::Invalid {
             clause: Clause::V6,
             place: Place::Line(6),
         },
     ),
     (
-        [
-            GLOBALS,
-            BASE,
-            "token here Rover.At start 2 end 4 duration 2 object spirit place 3\nlocal here/0!0 1\ntoken here/0:1 Arm.uses start 2 end 4 duration 2 object arm quantity 1\nmerged here/0:0 base\n",
-            NONE,
-        ],
+        "plan\nglobal total 4\nglobal !1 0\nglobal mode slow\nglobal on false\nfact base Rover.At start 0 end 1 duration 1 object spirit place 1\ntoken here Rover.At start 2 end 4 duration 2 object spirit place 3\nlocal here/0!0 1\ntoken here/0:1 Arm.uses start 2 end 4 duration 2 object arm quantity 1\nmerged here/0:0 base\nrejected there\nrejected drill\nrejected sun\nrejected work\nend\n",
         Verdict::Invalid {
             clause: Clause::V6,
             place: Place::Line(7),
         },
     ),
     (
-        [
-            GLOBALS,
-            BASE,
-            "token here Rover.At start 2 end 4 duration 2 object spirit place 2\nlocal here/0!0 1\ntoken here/0:1 Arm.uses start 2 end 4 duration 2 object arm quantity 1\nmerged here/0:0 base\n",
-            NONE,
-        ],
+        "plan\nglobal total 4\nglobal !1 0\nglobal mode slow\nglobal on false\nfact base Rover.At start 0 end 1 duration 1 object spirit place 1\ntoken here Rover.At start 2 end 4 duration 2 object spirit place 2\nlocal here/0!0 1\ntoken here/0:1 Arm.uses start 2 end 4 duration 2 object arm quantity 1\nmerged here/0:0 base\nrejected there\nrejected drill\nrejected sun\nrejected work\nend\n",
         Verdict::Invalid {
             clause: Clause::V6,
             place: Place::Line(2),
@@ -327,43 +220,23 @@ const PLANS: [([&str; 4], Verdict); 44] = [
     ),
     // the blocks as they should be
     (
-        [
-            GLOBALS,
-            BASE,
-            "token here Rover.At start 2 end 4 duration 2 object spirit place 3\nlocal here/0!0 1\ntoken here/0:1 Arm.uses start 2 end 4 duration 2 object arm quantity 1\n",
-            NONE,
-        ],
+        "plan\nglobal total 4\nglobal !1 0\nglobal mode slow\nglobal on false\nfact base Rover.At start 0 end 1 duration 1 object spirit place 1\ntoken here Rover.At start 2 end 4 duration 2 object spirit place 3\nlocal here/0!0 1\ntoken here/0:1 Arm.uses start 2 end 4 duration 2 object arm quantity 1\nrejected there\nrejected drill\nrejected sun\nrejected work\nend\n",
         Verdict::Valid,
     ),
     (
-        [
-            GLOBALS,
-            BASE,
-            "token here Rover.At start 2 end 4 duration 2 object spirit place 2\ntoken here/0:1 Arm.uses start 2 end 4 duration 2 object arm quantity 1\nmerged here/0:0 base\n",
-            NONE,
-        ],
+        "plan\nglobal total 4\nglobal !1 0\nglobal mode slow\nglobal on false\nfact base Rover.At start 0 end 1 duration 1 object spirit place 1\ntoken here Rover.At start 2 end 4 duration 2 object spirit place 2\ntoken here/0:1 Arm.uses start 2 end 4 duration 2 object arm quantity 1\nmerged here/0:0 base\nrejected there\nrejected drill\nrejected sun\nrejected work\nend\n",
         Verdict::Valid,
     ),
     // items of the problem
     (
-        [
-            "global total 6\nglobal !1 0\nglobal mode slow\nglobal on false\n",
-            BASE,
-            MERGED,
-            NONE,
-        ],
+        "plan\nglobal total 6\nglobal !1 0\nglobal mode slow\nglobal on false\nfact base Rover.At start 0 end 1 duration 1 object spirit place 1\nmerged here base\nrejected there\nrejected drill\nrejected sun\nrejected work\nend\n",
         Verdict::Invalid {
             clause: Clause::V7,
             place: Place::Problem(0),
         },
     ),
     (
-        [
-            GLOBALS,
-            BASE,
-            MERGED,
-            "token there Rover.At start 0 end 1 duration 1 object twin place 3\nlocal there/0!0 1\ntoken there/0:1 Arm.uses start 0 end 1 duration 1 object arm quantity 1\ntoken drill Arm.uses start 1 end 2 duration 1 object arm quantity 1\nrejected sun\nrejected work\n",
-        ],
+        "plan\nglobal total 4\nglobal !1 0\nglobal mode slow\nglobal on false\nfact base Rover.At start 0 end 1 duration 1 object spirit place 1\nmerged here base\ntoken there Rover.At start 0 end 1 duration 1 object twin place 3\nlocal there/0!0 1\ntoken there/0:1 Arm.uses start 0 end 1 duration 1 object arm quantity 1\ntoken drill Arm.uses start 1 end 2 duration 1 object arm quantity 1\nrejected sun\nrejected work\nend\n",
         Verdict::Invalid {
             clause: Clause::V7,
             place: Place::Problem(1),
@@ -371,22 +244,12 @@ const PLANS: [([&str; 4], Verdict); 44] = [
     ),
     // the same, where one of the two doesn't take place
     (
-        [
-            GLOBALS,
-            BASE,
-            MERGED,
-            "rejected there\ntoken drill Arm.uses start 1 end 2 duration 1 object arm quantity 1\nrejected sun\nrejected work\n",
-        ],
+        "plan\nglobal total 4\nglobal !1 0\nglobal mode slow\nglobal on false\nfact base Rover.At start 0 end 1 duration 1 object spirit place 1\nmerged here base\nrejected there\ntoken drill Arm.uses start 1 end 2 duration 1 object arm quantity 1\nrejected sun\nrejected work\nend\n",
         Verdict::Valid,
     ),
     // items of open blocks
     (
-        [
-            GLOBALS,
-            BASE,
-            "token here Rover.At start 2 end 4 duration 2 object spirit place 3\nlocal here/0!0 1\ntoken here/0:1 Arm.uses start 2 end 5 duration 3 object arm quantity 1\n",
-            NONE,
-        ],
+        "plan\nglobal total 4\nglobal !1 0\nglobal mode slow\nglobal on false\nfact base Rover.At start 0 end 1 duration 1 object spirit place 1\ntoken here Rover.At start 2 end 4 duration 2 object spirit place 3\nlocal here/0!0 1\ntoken here/0:1 Arm.uses start 2 end 5 duration 3 object arm quantity 1\nrejected there\nrejected drill\nrejected sun\nrejected work\nend\n",
         Verdict::Invalid {
             clause: Clause::V7,
             place: Place::Item {
@@ -397,12 +260,7 @@ const PLANS: [([&str; 4], Verdict); 44] = [
         },
     ),
     (
-        [
-            GLOBALS,
-            BASE,
-            "token here Rover.At start 2 end 4 duration 2 object spirit place 3\nlocal here/0!0 2\ntoken here/0:1 Arm.uses start 2 end 4 duration 2 object arm quantity 1\n",
-            NONE,
-        ],
+        "plan\nglobal total 4\nglobal !1 0\nglobal mode slow\nglobal on false\nfact base Rover.At start 0 end 1 duration 1 object spirit place 1\ntoken here Rover.At start 2 end 4 duration 2 object spirit place 3\nlocal here/0!0 2\ntoken here/0:1 Arm.uses start 2 end 4 duration 2 object arm quantity 1\nrejected there\nrejected drill\nrejected sun\nrejected work\nend\n",
         Verdict::Invalid {
             clause: Clause::V7,
             place: Place::Item {
@@ -413,12 +271,7 @@ const PLANS: [([&str; 4], Verdict); 44] = [
         },
     ),
     (
-        [
-            GLOBALS,
-            BASE,
-            "token here Rover.At start 0 end 4 duration 4 object spirit place 2\ntoken here/0:1 Arm.uses start 0 end 4 duration 4 object arm quantity 1\nmerged here/0:0 base\n",
-            NONE,
-        ],
+        "plan\nglobal total 4\nglobal !1 0\nglobal mode slow\nglobal on false\nfact base Rover.At start 0 end 1 duration 1 object spirit place 1\ntoken here Rover.At start 0 end 4 duration 4 object spirit place 2\ntoken here/0:1 Arm.uses start 0 end 4 duration 4 object arm quantity 1\nmerged here/0:0 base\nrejected there\nrejected drill\nrejected sun\nrejected work\nend\n",
         Verdict::Invalid {
             clause: Clause::V7,
             place: Place::Item {
@@ -430,24 +283,14 @@ const PLANS: [([&str; 4], Verdict); 44] = [
     ),
     // tokens of one timeline that overlap
     (
-        [
-            GLOBALS,
-            BASE,
-            "token here Rover.At start 0 end 4 duration 4 object spirit place 3\nlocal here/0!0 1\ntoken here/0:1 Arm.uses start 0 end 4 duration 4 object arm quantity 1\n",
-            NONE,
-        ],
+        "plan\nglobal total 4\nglobal !1 0\nglobal mode slow\nglobal on false\nfact base Rover.At start 0 end 1 duration 1 object spirit place 1\ntoken here Rover.At start 0 end 4 duration 4 object spirit place 3\nlocal here/0!0 1\ntoken here/0:1 Arm.uses start 0 end 4 duration 4 object arm quantity 1\nrejected there\nrejected drill\nrejected sun\nrejected work\nend\n",
         Verdict::Invalid {
             clause: Clause::V8,
             place: Place::Pair(0, 1),
         },
     ),
     (
-        [
-            GLOBALS,
-            BASE,
-            "token here Rover.At start 2 end 4 duration 2 object spirit place 2\ntoken here/0:1 Arm.uses start 2 end 4 duration 2 object arm quantity 1\ntoken here/0:0 Rover.At start 0 end 2 duration 2 object spirit place 3\nlocal here/0:0/0!0 1\ntoken here/0:0/0:1 Arm.uses start 0 end 2 duration 2 object arm quantity 1\n",
-            NONE,
-        ],
+        "plan\nglobal total 4\nglobal !1 0\nglobal mode slow\nglobal on false\nfact base Rover.At start 0 end 1 duration 1 object spirit place 1\ntoken here Rover.At start 2 end 4 duration 2 object spirit place 2\ntoken here/0:1 Arm.uses start 2 end 4 duration 2 object arm quantity 1\ntoken here/0:0 Rover.At start 0 end 2 duration 2 object spirit place 3\nlocal here/0:0/0!0 1\ntoken here/0:0/0:1 Arm.uses start 0 end 2 duration 2 object arm quantity 1\nrejected there\nrejected drill\nrejected sun\nrejected work\nend\n",
         Verdict::Invalid {
             clause: Clause::V8,
             place: Place::Pair(0, 6),
@@ -455,100 +298,52 @@ const PLANS: [([&str; 4], Verdict); 44] = [
     ),
     // that touch, and that are on two timelines
     (
-        [
-            GLOBALS,
-            BASE,
-            "token here Rover.At start 1 end 4 duration 3 object spirit place 3\nlocal here/0!0 1\ntoken here/0:1 Arm.uses start 1 end 4 duration 3 object arm quantity 1\n",
-            NONE,
-        ],
+        "plan\nglobal total 4\nglobal !1 0\nglobal mode slow\nglobal on false\nfact base Rover.At start 0 end 1 duration 1 object spirit place 1\ntoken here Rover.At start 1 end 4 duration 3 object spirit place 3\nlocal here/0!0 1\ntoken here/0:1 Arm.uses start 1 end 4 duration 3 object arm quantity 1\nrejected there\nrejected drill\nrejected sun\nrejected work\nend\n",
         Verdict::Valid,
     ),
     (
-        [
-            GLOBALS,
-            BASE,
-            MERGED,
-            "token there Rover.At start 0 end 1 duration 1 object twin place 3\nlocal there/0!0 1\ntoken there/0:1 Arm.uses start 0 end 1 duration 1 object arm quantity 1\nrejected drill\nrejected sun\nrejected work\n",
-        ],
+        "plan\nglobal total 4\nglobal !1 0\nglobal mode slow\nglobal on false\nfact base Rover.At start 0 end 1 duration 1 object spirit place 1\nmerged here base\ntoken there Rover.At start 0 end 1 duration 1 object twin place 3\nlocal there/0!0 1\ntoken there/0:1 Arm.uses start 0 end 1 duration 1 object arm quantity 1\nrejected drill\nrejected sun\nrejected work\nend\n",
         Verdict::Valid,
     ),
     // more uses than the arm has, and uses that touch
     (
-        [
-            GLOBALS,
-            BASE,
-            "token here Rover.At start 2 end 4 duration 2 object spirit place 3\nlocal here/0!0 1\ntoken here/0:1 Arm.uses start 2 end 4 duration 2 object arm quantity 2\n",
-            "rejected there\ntoken drill Arm.uses start 3 end 5 duration 2 object arm quantity 1\nrejected sun\nrejected work\n",
-        ],
+        "plan\nglobal total 4\nglobal !1 0\nglobal mode slow\nglobal on false\nfact base Rover.At start 0 end 1 duration 1 object spirit place 1\ntoken here Rover.At start 2 end 4 duration 2 object spirit place 3\nlocal here/0!0 1\ntoken here/0:1 Arm.uses start 2 end 4 duration 2 object arm quantity 2\nrejected there\ntoken drill Arm.uses start 3 end 5 duration 2 object arm quantity 1\nrejected sun\nrejected work\nend\n",
         Verdict::Invalid {
             clause: Clause::V9,
             place: Place::Instant { object: 2, at: 3 },
         },
     ),
     (
-        [
-            GLOBALS,
-            BASE,
-            MERGED,
-            "rejected there\ntoken drill Arm.uses start 6 end 9 duration 3 object arm quantity 3\nrejected sun\nrejected work\n",
-        ],
+        "plan\nglobal total 4\nglobal !1 0\nglobal mode slow\nglobal on false\nfact base Rover.At start 0 end 1 duration 1 object spirit place 1\nmerged here base\nrejected there\ntoken drill Arm.uses start 6 end 9 duration 3 object arm quantity 3\nrejected sun\nrejected work\nend\n",
         Verdict::Invalid {
             clause: Clause::V9,
             place: Place::Instant { object: 2, at: 6 },
         },
     ),
     (
-        [
-            GLOBALS,
-            BASE,
-            "token here Rover.At start 2 end 4 duration 2 object spirit place 3\nlocal here/0!0 1\ntoken here/0:1 Arm.uses start 2 end 4 duration 2 object arm quantity 2\n",
-            "rejected there\ntoken drill Arm.uses start 4 end 6 duration 2 object arm quantity 2\nrejected sun\nrejected work\n",
-        ],
+        "plan\nglobal total 4\nglobal !1 0\nglobal mode slow\nglobal on false\nfact base Rover.At start 0 end 1 duration 1 object spirit place 1\ntoken here Rover.At start 2 end 4 duration 2 object spirit place 3\nlocal here/0!0 1\ntoken here/0:1 Arm.uses start 2 end 4 duration 2 object arm quantity 2\nrejected there\ntoken drill Arm.uses start 4 end 6 duration 2 object arm quantity 2\nrejected sun\nrejected work\nend\n",
         Verdict::Valid,
     ),
     // a level out of its limits, which later comes back, and one that stays within them
     (
-        [
-            GLOBALS,
-            BASE,
-            MERGED,
-            "rejected there\nrejected drill\ntoken sun Cell.produce start 4 end 5 duration 1 object cell quantity 6\ntoken work Cell.consume start 2 end 3 duration 1 object cell quantity 6\n",
-        ],
+        "plan\nglobal total 4\nglobal !1 0\nglobal mode slow\nglobal on false\nfact base Rover.At start 0 end 1 duration 1 object spirit place 1\nmerged here base\nrejected there\nrejected drill\ntoken sun Cell.produce start 4 end 5 duration 1 object cell quantity 6\ntoken work Cell.consume start 2 end 3 duration 1 object cell quantity 6\nend\n",
         Verdict::Invalid {
             clause: Clause::V10,
             place: Place::Instant { object: 3, at: 2 },
         },
     ),
     (
-        [
-            GLOBALS,
-            BASE,
-            MERGED,
-            "rejected there\nrejected drill\ntoken sun Cell.produce start 3 end 4 duration 1 object cell quantity 6\nrejected work\n",
-        ],
+        "plan\nglobal total 4\nglobal !1 0\nglobal mode slow\nglobal on false\nfact base Rover.At start 0 end 1 duration 1 object spirit place 1\nmerged here base\nrejected there\nrejected drill\ntoken sun Cell.produce start 3 end 4 duration 1 object cell quantity 6\nrejected work\nend\n",
         Verdict::Invalid {
             clause: Clause::V10,
             place: Place::Instant { object: 3, at: 3 },
         },
     ),
     (
-        [
-            GLOBALS,
-            BASE,
-            MERGED,
-            "rejected there\nrejected drill\ntoken sun Cell.produce start 2 end 3 duration 1 object cell quantity 6\ntoken work Cell.consume start 2 end 3 duration 1 object cell quantity 6\n",
-        ],
+        "plan\nglobal total 4\nglobal !1 0\nglobal mode slow\nglobal on false\nfact base Rover.At start 0 end 1 duration 1 object spirit place 1\nmerged here base\nrejected there\nrejected drill\ntoken sun Cell.produce start 2 end 3 duration 1 object cell quantity 6\ntoken work Cell.consume start 2 end 3 duration 1 object cell quantity 6\nend\n",
         Verdict::Valid,
     ),
 ];
-
-// The text of the plan of these lines.
-fn text_of(alloc: Global, lines: &[&str; 4]) -> Result<String, AllocError> {
-    format!(in alloc;
-        "plan\n{}{}{}{}end\n",
-        lines[0], lines[1], lines[2], lines[3]
-    )
-}
 
 // What the checker says of the plan that the text says; none, where it says none.
 fn verdict_of(alloc: Global, model: &Model, text: &str) -> Option<Verdict>
@@ -560,17 +355,17 @@ fn verdict_of(alloc: Global, model: &Model, text: &str) -> Option<Verdict>
     }
 }
 
-// The same of the plan of these lines, for the mission.
-fn judged(alloc: Global, lines: &[&str; 4]) -> Result<Option<Verdict>, AllocError> {
-    let text = text_of(alloc, lines)?;
-    let model = mission(alloc)?;
-    Ok(verdict_of(alloc, &model, text.as_str()))
+// The same, for the small model.
+fn judged(alloc: Global, text: &str) -> Option<Verdict> {
+    match mission(alloc) {
+        Ok(model) => verdict_of(alloc, &model, text),
+        Err(_none) => None,
+    }
 }
 
 #[test]
-fn plans_are_judged(rt: HostRuntime) -> Result<(), Fail> {
+fn plans_are_judged(rt: HostRuntime) {
     for row in &PLANS {
-        assert_eq!(rt; judged(rt.alloc(), &row.0)?, Some(row.1));
+        assert_eq!(rt; judged(rt.alloc(), row.0), Some(row.1));
     }
-    Ok(())
 }
