@@ -1,29 +1,26 @@
 -- The plan of a state without a flaw agrees with the decisions.
 use Rattle.std.proofs.Common.{◌≡◌, ℤ, false, List, [], ◌∷◌, inl, inr, refl, sym, subst}
 use Rattle.std.specs.Prelude.{Contains}
-use Rattle.domain_core.specs.Domain.{Domain}
 use Rattle.eu_name.specs.declared.name.Part.TheVariants.{Start, End}
 use Rattle.eu_name.specs.declared.name.TokenName.{TokenName}
 use Rattle.eu_name.specs.declared.name.VarName.{VarName}
-use Rattle.eu_name.specs.declared.name.VarName.TheVariants as variables
 use Rattle.model_core.specs.declared.decision.Decision.{Decision}
 use Rattle.model_core.specs.declared.decision.Decision.TheVariants.{Specify, Activate, Merge, Reject, Order}
 use Rattle.model_core.specs.declared.model.Model.{Model}
-use Rattle.model_core.specs.Decided.{IsTaken, IsActive, IsRejected}
+use Rattle.model_core.specs.Decided.{IsTaken, IsRejected}
 use Rattle.model_core.specs.State.{State}
 use Rattle.model_core.specs.Tokens.{IsRejectable}
 use Rattle.plan_defs.specs.declared.plan.Line.TheVariants as lines
 use Rattle.plan_defs.specs.declared.plan.Plan.{Plan}
 use Rattle.plan_defs.specs.Broken.{IsTrueIn, AgreesWith}
 use Rattle.plan_defs.specs.Claims.{at_most, part_of}
-use Rattle.plan_defs.specs.Plans.{GivesValue}
 use Rattle.plan_defs.specs.Refusals.{NotActive, NotRejectable}
 use Rattle.plan_defs.specs.Terms.{Counts}
 use Rattle.plan_states.specs.Flaws.{IsOfRejectedToken}
 use Rattle.plan_states.proofs.Admitting.{admitted}
 use Rattle.plan_states.proofs.Deciding.{decides_once}
 use Rattle.plan_soundness.specs.Soundness.{IsFlawlessPlan}
-use Rattle.plan_soundness.proofs.Having.{IsKept, is_state, takes_line, gives_value, claim_true, active_before, active_not_rejected}
+use Rattle.plan_soundness.proofs.Having.{takes_line, gives_value, claim_true, active_before, active_not_rejected}
 
 module _ (model : Model) (decisions : List Decision) (state : State) (plan : Plan) (is : IsFlawlessPlan model decisions state plan) where
   taken_before : (front : List Decision) (token : TokenName) → ((other : Decision) → Contains front other → Contains decisions other) → IsTaken front token → IsTaken decisions token

@@ -1,13 +1,12 @@
 -- Open blocks of the plan ask for what it has, it has what they ask for, and what stands in them is true.
-use Rattle.std.proofs.Common.{◌≡◌, ℕ, ◌<◌, ℤ, Bool, true, false, List, [], ◌∷◌, ◌++◌, length, Some, ◌⊎◌, inl, inr, refl, sym, ap, ◌∙◌, subst, arith}
-use Rattle.std.specs.Prelude.{Contains, slice_get, All, ⊤}
+use Rattle.std.proofs.Common.{◌≡◌, ℕ, ℤ, false, List, [], ◌∷◌, length, Some, ◌⊎◌, inl, inr, refl, sym, ap, subst, arith}
+use Rattle.std.specs.Prelude.{Contains, slice_get, ⊤}
 use Rattle.std.proofs.lemmas.List.{length-append}
 use Rattle.std.proofs.lemmas.List.Elements.{All-contains}
 use Rattle.std.proofs.lemmas.Slice.Zip.{AllZip-long}
 use Rattle.eu_name.specs.declared.name.Part.{Part}
 use Rattle.eu_name.specs.declared.name.Step.{Step}
 use Rattle.eu_name.specs.declared.name.TokenName.{TokenName}
-use Rattle.eu_name.specs.declared.name.VarName.{VarName}
 use Rattle.eu_name.specs.declared.name.VarName.TheVariants as variables
 use Rattle.eu_name.proofs.Members.{contains_from_get}
 use Rattle.model_core.specs.declared.decision.Decision.{Decision}
@@ -16,44 +15,36 @@ use Rattle.model_core.specs.declared.item.Item.{Item}
 use Rattle.model_core.specs.declared.item.Item.TheVariants.{Constraint, Relation}
 use Rattle.model_core.specs.declared.item.Rel.{Rel}
 use Rattle.model_core.specs.declared.item.Rel.TheVariants as rel
-use Rattle.model_core.specs.declared.item.Term.{Term}
 use Rattle.model_core.specs.declared.model.Model.{Model}
-use Rattle.model_core.specs.declared.rule.Guard.{Guard}
-use Rattle.model_core.specs.declared.rule.Rule.{Rule}
-use Rattle.model_core.specs.declared.rule.Side.{Side}
-use Rattle.model_core.specs.declared.rule.Slot.{Slot}
-use Rattle.model_core.specs.declared.rule.Turn.{Turn}
-use Rattle.model_core.specs.Blocks.{TokenBlock, HasBlock, direct, OfItem, OfLocal, OfSlot}
+use Rattle.model_core.specs.Blocks.{TokenBlock, direct, OfItem, OfLocal}
 use Rattle.model_core.specs.Decided.{IsTaken, IsActivated, IsRejected}
 use Rattle.model_core.specs.Entries.{Entries}
 use Rattle.model_core.specs.Kinds.{OfRule}
 use Rattle.model_core.specs.Lawful.{IsLawfulItem}
 use Rattle.model_core.specs.Numbers.{PlacedItem, IsItemOf}
-use Rattle.model_core.specs.Standing.{StandsAt}
-use Rattle.model_core.specs.State.{State, Gives, StandsOpen}
+use Rattle.model_core.specs.State.{State, StandsOpen}
 use Rattle.model_core.specs.Tokens.{slot_token}
 use Rattle.plan_defs.specs.declared.plan.Line as the_line
 use Rattle.plan_defs.specs.declared.plan.Line.TheVariants as lines
 use Rattle.plan_defs.specs.declared.plan.Place.{Place}
 use Rattle.plan_defs.specs.declared.plan.Place.TheVariants as places
 use Rattle.plan_defs.specs.declared.plan.Plan.{Plan}
-use Rattle.plan_defs.specs.Claims.{Claim, ItemSays, relates, at_most, equal, part_of}
+use Rattle.plan_defs.specs.Claims.{Claim, ItemSays, relates, part_of}
 use Rattle.plan_defs.specs.Consistency.{IsClaimConsistent}
 use Rattle.plan_defs.specs.Plans.{IsTakenIn, plan_situation}
 use Rattle.plan_defs.specs.Situations.{situation_of}
 use Rattle.plan_defs.specs.Support.{IsOpen, AsksFor, IsSupportedToken, IsSupportedBlock, front_token}
-use Rattle.plan_defs.specs.Terms.{Context, InRule, Argument, Variable, Means, ArgumentCounts}
-use Rattle.plan_defs.specs.Valid.{HasDeclaredValue, IsLineAt, IsActivatedAt, IsOpenIn, AsksForLocal, IsAskedToken, IsAskedLocal, IsAsked, IsTrueInRule, IsClaimTrue, KeepsOpen, KeepsAsked, KeepsItems}
+use Rattle.plan_defs.specs.Terms.{InRule, Means, ArgumentCounts}
+use Rattle.plan_defs.specs.Valid.{HasDeclaredValue, IsOpenIn, AsksForLocal, IsAskedToken, IsAsked, IsClaimTrue, KeepsOpen, KeepsAsked, KeepsItems}
 use Rattle.plan_defs.proofs.Lower.{HasBlock-map, Follows-map, says_further}
 use Rattle.plan_defs.proofs.Ordered.{contains_cases, contains_none}
-use Rattle.plan_states.specs.Flaws.{IsOfRejectedToken}
 use Rattle.plan_states.specs.StatePlans.{GivesOnly, IsLineIn}
 use Rattle.plan_states.proofs.Stating.{takes_not_rejected}
 use Rattle.plan_values.proofs.Few.{few_rule}
 use Rattle.plan_soundness.specs.Soundness.{IsFlawlessPlan}
 use Rattle.plan_soundness.proofs.Agreeing.{surely_rejectable}
 use Rattle.plan_soundness.proofs.Deciding.{Becoming, IsAFact, IsActivatedOne, IsMergedOne, IsRejectedOne}
-use Rattle.plan_soundness.proofs.Having.{IsKept, is_state, becomes_of, AreKept, claim_true}
+use Rattle.plan_soundness.proofs.Having.{is_state, becomes_of, AreKept, claim_true}
 use Rattle.plan_soundness.proofs.Keeping.{said, declared_value, part_kept, taken_down, all_kept, some_arguments, keeps_problem}
 use Rattle.plan_soundness.proofs.Opening.{taken_up, open_down, open_up}
 use Rattle.plan_soundness.proofs.Ways.{last_cases, block_once, item_stands}

@@ -1,49 +1,44 @@
 -- In a state without a flaw no further token can come: what becomes of each is decided, and which way each guard goes is certain.
-use Rattle.std.proofs.Common.{◌≡◌, ◌≢◌, ℕ, ◌+◌, ◌<◌, ℤ, pos, Bool, true, false, List, [], ◌∷◌, ◌++◌, length, Some, ◌⊎◌, inl, inr, refl, sym, ap, ◌∙◌, subst, arith}
-use Rattle.std.specs.Prelude.{Contains, slice_get, All, ⊤}
+use Rattle.std.proofs.Common.{◌≡◌, ℕ, ◌<◌, ℤ, List, [], ◌∷◌, ◌++◌, length, Some, ◌⊎◌, inl, inr, refl, sym, ap, ◌∙◌, subst, arith}
+use Rattle.std.specs.Prelude.{Contains, slice_get, ⊤}
 use Rattle.std.proofs.lemmas.Int.{ints}
 use Rattle.std.proofs.lemmas.List.{length-append}
 use Rattle.std.proofs.lemmas.List.Elements.{All-contains}
-use Rattle.domain_core.specs.Domain.{Domain, Range, Has, IsSingle}
+use Rattle.domain_core.specs.Domain.{Domain, Range, Has}
 use Rattle.eu_name.specs.declared.name.Part.{Part}
 use Rattle.eu_name.specs.declared.name.Part.TheVariants as parts
 use Rattle.eu_name.specs.declared.name.Step.{Step}
 use Rattle.eu_name.specs.declared.name.TokenName.{TokenName}
-use Rattle.eu_name.specs.declared.name.VarName.{VarName}
 use Rattle.eu_name.specs.declared.name.VarName.TheVariants as variables
 use Rattle.eu_name.proofs.Members.{get_below, get_same, get_from_contains, contains_from_get}
 use Rattle.model_core.specs.declared.decision.Decision.{Decision}
-use Rattle.model_core.specs.declared.decision.Decision.TheVariants.{Activate, Merge, Reject}
 use Rattle.model_core.specs.declared.item.Term.{Term}
 use Rattle.model_core.specs.declared.item.Term.TheVariants as terms
 use Rattle.model_core.specs.declared.model.Model.{Model}
 use Rattle.model_core.specs.declared.model.Root.{Root}
-use Rattle.model_core.specs.declared.model.RootKind.{RootKind}
 use Rattle.model_core.specs.declared.model.RootKind.TheVariants as root_kinds
 use Rattle.model_core.specs.declared.rule.Guard.{Guard}
 use Rattle.model_core.specs.declared.rule.Guard.TheVariants.{Equal, Differ}
-use Rattle.model_core.specs.declared.rule.Rule.{Rule}
 use Rattle.model_core.specs.declared.rule.Side.{Side}
-use Rattle.model_core.specs.declared.rule.Side.TheVariants.{Then, Otherwise}
 use Rattle.model_core.specs.declared.rule.Slot as slots
 use Rattle.model_core.specs.declared.rule.Turn.{Turn}
 use Rattle.model_core.specs.declared.variable.Base.{Base}
 use Rattle.model_core.specs.declared.variable.Base.TheVariants.{Given}
 use Rattle.model_core.specs.declared.variable.ValueKind.{ValueKind}
-use Rattle.model_core.specs.Blocks.{TokenBlock, Direct, HasBlock, Follows, OfSlot, OfLocal, OfBranch, chosen, direct}
-use Rattle.model_core.specs.Decided.{IsTaken, IsActivated, IsRejected, IsDecided}
+use Rattle.model_core.specs.Blocks.{TokenBlock, Direct, Follows, OfSlot, OfLocal, OfBranch, chosen, direct}
+use Rattle.model_core.specs.Decided.{IsTaken, IsRejected, IsDecided}
 use Rattle.model_core.specs.Entries.{Entries}
 use Rattle.model_core.specs.Kinds.{OfRule, IsOfKind, IsPartOfKind}
 use Rattle.model_core.specs.Lawful.{IsLawfulGuard}
-use Rattle.model_core.specs.Standing.{StandsAt, IsSeen, IsTermSeen}
-use Rattle.model_core.specs.State.{State, Gives, StandsOpen}
+use Rattle.model_core.specs.Standing.{IsSeen, IsTermSeen}
+use Rattle.model_core.specs.State.{State, StandsOpen}
 use Rattle.model_core.specs.Tokens.{HasToken, IsRoot, IsRejectable, IsFact, Reaches, LeadsToSlot, slot_of, slot_token, root_token}
 use Rattle.model_core.specs.Variables.{HasPartBase}
 use Rattle.plan_defs.specs.declared.plan.Plan.{Plan}
 use Rattle.plan_defs.specs.Resources.{IsCertain, IsOfRejected, IsTokenComplete}
 use Rattle.plan_defs.specs.Situations.{situation_of}
-use Rattle.plan_defs.specs.Support.{MayBe, Opens, IsOpen, AsksFor, IsSupportedToken, IsSupportedBlock, front_token}
-use Rattle.plan_defs.specs.Terms.{InRule, Argument, Value, Variable, Means, Counts}
+use Rattle.plan_defs.specs.Support.{MayBe, Opens, IsOpen, AsksFor, IsSupportedBlock}
+use Rattle.plan_defs.specs.Terms.{InRule, Argument, Value, Variable, Means}
 use Rattle.plan_defs.proofs.Lower.{HasBlock-map, Follows-map}
 use Rattle.plan_defs.proofs.Ordered.{contains_head, contains_later}
 use Rattle.plan_values.proofs.Few.{few_rule}

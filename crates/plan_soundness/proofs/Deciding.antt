@@ -1,6 +1,6 @@
 -- What becomes of a token can be found out.
-use Rattle.std.proofs.Common.{◌≡◌, List, [], ◌∷◌, Some, ◌⊎◌, inl, inr, refl, sym, ap, ◌∙◌, subst}
-use Rattle.std.specs.Prelude.{Contains, slice_get}
+use Rattle.std.proofs.Common.{◌≡◌, List, [], ◌∷◌, ◌⊎◌, inl, inr, refl, sym, ap, ◌∙◌, subst}
+use Rattle.std.specs.Prelude.{Contains}
 use Rattle.eu_name.specs.declared.name.Step.{Step}
 use Rattle.eu_name.specs.declared.name.TokenName.{TokenName}
 use Rattle.eu_name.proofs.Members.{get_same}
@@ -11,8 +11,8 @@ use Rattle.model_core.specs.declared.model.Root.{Root}
 use Rattle.model_core.specs.declared.model.RootKind.{RootKind}
 use Rattle.model_core.specs.declared.model.RootKind.TheVariants.{Goal, Rejectable, Fact}
 use Rattle.model_core.specs.declared.rule.Slot.{Slot}
-use Rattle.model_core.specs.Decided.{IsActivated, IsMerged, IsRejected, IsTaken, IsActive, IsDecided}
-use Rattle.model_core.specs.Tokens.{HasToken, IsRoot, IsFact, IsRootOfKind}
+use Rattle.model_core.specs.Decided.{IsActivated, IsRejected, IsDecided}
+use Rattle.model_core.specs.Tokens.{HasToken, IsFact, IsRootOfKind}
 use Rattle.plan_defs.proofs.Ordered.{contains_head, contains_later, contains_cases, contains_none}
 use Rattle.plan_states.proofs.Admitting.{same_token}
 use Rattle.plan_states.proofs.Deciding.{Decides}

@@ -1,8 +1,8 @@
 -- What the plan of a state without a flaw says, and that what is consistent in the state is true in the plan.
-use Rattle.std.proofs.Common.{◌≡◌, ℕ, zero, suc, ◌+◌, ◌<◌, ◌≤◌, ℤ, Bool, true, false, List, [], ◌∷◌, ◌++◌, length, Some, ◌⊎◌, inl, inr, refl, sym, ap, ◌∙◌, subst, arith}
+use Rattle.std.proofs.Common.{◌≡◌, ℕ, zero, suc, ◌+◌, ◌≤◌, ℤ, Bool, true, false, List, [], ◌∷◌, ◌++◌, length, Some, inl, inr, refl, sym, ap, subst, arith}
 use Rattle.std.specs.Prelude.{Contains, slice_get, ⊤}
 use Rattle.std.specs.List.{AllZip}
-use Rattle.domain_core.specs.Domain.{Domain, Range, IsSingle, IsDomain}
+use Rattle.domain_core.specs.Domain.{Domain, IsSingle, IsDomain}
 use Rattle.eu_name.specs.declared.name.Part.{Part}
 use Rattle.eu_name.specs.declared.name.TokenName.{TokenName}
 use Rattle.eu_name.specs.declared.name.VarName.{VarName}
@@ -10,42 +10,48 @@ use Rattle.eu_name.specs.declared.name.VarName.TheVariants as variables
 use Rattle.eu_name.proofs.Members.{get_from_contains, get_same}
 use Rattle.model_core.specs.declared.class.Pred.{Pred}
 use Rattle.model_core.specs.declared.decision.Decision.{Decision}
-use Rattle.model_core.specs.declared.decision.Decision.TheVariants.{Specify, Activate, Merge, Reject, Order}
+use Rattle.model_core.specs.declared.decision.Decision.TheVariants.{Activate, Merge}
 use Rattle.model_core.specs.declared.item.Kind.TheVariants.{Eq}
 use Rattle.model_core.specs.declared.model.Model.{Model}
 use Rattle.model_core.specs.declared.rule.Slot.{Slot}
-use Rattle.model_core.specs.declared.variable.Base.{Base}
 use Rattle.model_core.specs.Consistency.{AreConsistent}
 use Rattle.model_core.specs.Constraints.{Holds, reach_of}
-use Rattle.model_core.specs.Decided.{IsActivated, IsRejected, IsActive, IsDecided}
+use Rattle.model_core.specs.Decided.{IsRejected, IsActive, IsDecided}
 use Rattle.model_core.specs.Lawful.{IsToken}
 use Rattle.model_core.specs.State.{State, Gives, IsState}
-use Rattle.model_core.specs.Tokens.{HasToken, IsFact}
-use Rattle.model_core.specs.Variables.{HasPartBase}
+use Rattle.model_core.specs.Tokens.{HasToken}
 use Rattle.model_core.specs.Views.{IsTokenAt}
 use Rattle.model_core.proofs.Leading.{token_once}
 use Rattle.plan_defs.specs.declared.plan.Line.TheVariants as lines
 use Rattle.plan_defs.specs.declared.plan.Plan.{Plan}
 use Rattle.plan_defs.specs.Claims.{Claim, HasPart, equal, part_of}
 use Rattle.plan_defs.specs.Consistency.{IsClaimConsistent, HasField}
-use Rattle.plan_defs.specs.Plans.{TakesPlaceWith, HasPartValue, HasTargetValue, GivesValue, place_in_values}
+use Rattle.plan_defs.specs.Plans.{TakesPlaceWith, HasTargetValue, GivesValue, place_in_values}
 use Rattle.plan_defs.specs.Refusals.{NotActive}
-use Rattle.plan_defs.specs.Terms.{Argument, Value, Variable, HasDomain, BelongsTo}
+use Rattle.plan_defs.specs.Terms.{Argument, Value, Variable, HasDomain}
 use Rattle.plan_defs.specs.Valid.{IsClaimTrue, HasArgumentValue}
 use Rattle.plan_defs.proofs.States.{gives_same, gives_domain}
-use Rattle.plan_states.specs.Flaws.{Flaw, Undecided, Undetermined, HasFlaw, IsOfRejectedToken}
+use Rattle.plan_states.specs.Flaws.{Undecided, Undetermined, HasFlaw, IsOfRejectedToken}
 use Rattle.plan_states.specs.StatePlans.{GivesOnly, ArePartValues, TakesPlaceAs}
 use Rattle.plan_states.specs.Surveying.{AreFirstValues, HasPartCount}
 use Rattle.plan_states.proofs.Admitting.{admitted, target_of_model, token_of_state}
-use Rattle.plan_states.proofs.Deciding.{Decides, DecidesOnce, decides_once}
-use Rattle.plan_states.proofs.Determining.{single_or_not, left_open, value_once, part_flaw}
+use Rattle.plan_states.proofs.Deciding.{DecidesOnce, decides_once}
+use Rattle.plan_states.proofs.Determining.{single_or_not, left_open, part_flaw}
 use Rattle.plan_states.proofs.Kinding.{pred_of_slot}
 use Rattle.plan_states.proofs.Parting.{part_there, has_part}
-use Rattle.plan_states.proofs.Stating.{are_values, takes_not_rejected, merged_not_rejected}
+use Rattle.plan_states.proofs.Stating.{are_values, takes_not_rejected}
 use Rattle.plan_states.proofs.Telling.{one_at, first_none, first_more}
 use Rattle.plan_soundness.specs.Soundness.{IsFlawlessPlan}
 use Rattle.plan_soundness.proofs.Deciding.{Becoming, IsAFact, IsActivatedOne, IsMergedOne, IsRejectedOne, becoming}
 use Rattle.plan_soundness.proofs.Pinning.{IsPinned, pinned_value, pinned_domain, pinned_holds}
+
+-- one value more
+pushed : (state : State) (place count : ℕ) (old : List ℤ) (part : Part) (value : ℤ) → AreFirstValues state place count old → place_in_values part ≡ count
+    → ((token : TokenName) × IsTokenAt state place token × GivesOnly state (variables.Token token part) value) → (values : List ℤ) × AreFirstValues state place (suc count) values
+pushed state place count old part value first next has =
+    let more = first_more state place count old (old ++ value ∷ []) part value first next refl has in
+    let e : count + 1 ≡ suc count = omega arith in
+    (old ++ value ∷ [], subst (λ n. AreFirstValues state place n (old ++ value ∷ [])) e more)
 
 module _ (model : Model) (decisions : List Decision) (state : State) (plan : Plan) (is : IsFlawlessPlan model decisions state plan) where
   pub is_state : IsState model state
@@ -131,15 +137,13 @@ module _ (model : Model) (decisions : List Decision) (state : State) (plan : Pla
         let base = has_part model slot pred part.0 is_pred (omega (arith, within, part.1)) in
         let given = (is_state.variables (variables.Token token part.0)).0 (there, (base.0, (slot, has_token, base.1))) in
         let value = value_of (variables.Token token part.0) given.0 given.1 (λ rejected. kept (subst (λ t. IsRejected decisions t) (sym rejected.1) rejected.2)) in
-        let more = first_more state place count before.0 (before.0 ++ value.0 ∷ []) part.0 value.0 before.1 part.1 refl (token, at, (given.0, given.1, value.1)) in
-        let next : count + 1 ≡ suc count = omega arith in
-        (before.0 ++ value.0 ∷ [], subst (λ n. AreFirstValues state place n (before.0 ++ value.0 ∷ [])) next more)
+        pushed state place count before.0 part.0 value.0 before.1 part.1 (token, at, (given.0, given.1, value.1))
 
     all : (values : List ℤ) × AreFirstValues state place (4 + length pred.params) values
     all = first (4 + length pred.params) (omega arith)
 
-    pub values : (values : List ℤ) × ArePartValues state token values
-    values =
+    pub part_values : (values : List ℤ) × ArePartValues state token values
+    part_values =
         let found = all in
         (found.0, are_values model decisions state is.settled place token at (4 + length pred.params) found.0 counts found.1)
 
@@ -147,7 +151,7 @@ module _ (model : Model) (decisions : List Decision) (state : State) (plan : Pla
   pub takes_line : (fact : Bool) (token : TokenName) → Contains state.tokens token → TakesPlaceAs model decisions fact token
       → (values : List ℤ) × Contains plan.lines (lines.Token token fact values) × ArePartValues state token values
   takes_line fact token there takes =
-      let found = values token there (λ rejected. takes_not_rejected model decisions state is.settled fact token takes rejected) in
+      let found = part_values token there (λ rejected. takes_not_rejected model decisions state is.settled fact token takes rejected) in
       (found.0, (is.is_plan.lines (lines.Token token fact found.0)).1 (record { there = there; takes_place = takes; values_are = found.1 }), found.1)
 
   pub active_line : (token : TokenName) → Contains state.tokens token → IsActive model decisions token

@@ -1,22 +1,20 @@
 -- The plan of a state without a flaw keeps what is asked of values, roots, tokens, merges and timelines.
-use Rattle.std.proofs.Common.{get_or, ◌≡◌, ◌≢◌, ℕ, ◌<◌, ◌≤◌, ℤ, ◌≤ℤ◌, ◌<ℤ◌, Bool, true, false, List, [], ◌∷◌, ◌++◌, length, Some, ◌⊎◌, inl, inr, refl, sym, ap, ◌∙◌, subst, arith}
-use Rattle.std.specs.Prelude.{Contains, slice_get, All, ⊤}
-use Rattle.std.specs.List.{AllZip}
+use Rattle.std.proofs.Common.{get_or, ◌≡◌, ℕ, ◌<◌, ℤ, ◌≤ℤ◌, ◌<ℤ◌, Bool, true, false, List, [], ◌∷◌, length, Some, ◌⊎◌, inl, inr, refl, sym, ap, ◌∙◌, subst, arith}
+use Rattle.std.specs.Prelude.{Contains, slice_get}
 use Rattle.std.proofs.lemmas.Bool.{cases_eq}
 use Rattle.std.proofs.lemmas.Int.{ints, by_lt_z}
 use Rattle.std.proofs.lemmas.List.{length-append}
 use Rattle.std.proofs.lemmas.List.Elements.{All-contains}
 use Rattle.std.proofs.lemmas.Option.{slice_get_within, get_or_from_slice_get}
 use Rattle.std.proofs.lemmas.Slice.Zip.{AllZip-long}
-use Rattle.domain_core.specs.Domain.{Domain, Has, IsSingle, least, greatest}
+use Rattle.domain_core.specs.Domain.{Domain, Has}
 use Rattle.domain_core.proofs.Words.{single_least, single_greatest}
 use Rattle.eu_name.specs.declared.name.Part.{Part}
 use Rattle.eu_name.specs.declared.name.Part.TheVariants.{Start, End, Duration, Object}
-use Rattle.eu_name.specs.declared.name.Step.{Step}
 use Rattle.eu_name.specs.declared.name.TokenName.{TokenName}
 use Rattle.eu_name.specs.declared.name.VarName.{VarName}
 use Rattle.eu_name.specs.declared.name.VarName.TheVariants as variables
-use Rattle.eu_name.specs.NameOrder.{IsTokenBefore, IsVarBefore, ByToken, place_of}
+use Rattle.eu_name.specs.NameOrder.{IsTokenBefore, ByToken, place_of}
 use Rattle.eu_name.proofs.Members.{get_all, get_same, contains_from_get}
 use Rattle.eu_name.proofs.Orders.{token_order}
 use Rattle.model_core.specs.declared.decision.Decision.{Decision}
@@ -38,34 +36,30 @@ use Rattle.model_core.specs.Decided.{IsTaken, IsActive, IsRejected}
 use Rattle.model_core.specs.Kinds.{Scope, OfProblem, AreArguments}
 use Rattle.model_core.specs.Lawful.{IsLawfulItem}
 use Rattle.model_core.specs.State.{State, Gives}
-use Rattle.model_core.specs.Tokens.{HasToken, IsRoot, IsFact, IsRejectable, root_token}
-use Rattle.model_core.specs.Variables.{HasBase, HasPartBase, IsInBase}
+use Rattle.model_core.specs.Tokens.{IsRoot, IsFact, root_token}
+use Rattle.model_core.specs.Variables.{HasBase, IsInBase}
 use Rattle.model_core.proofs.Leading.{token_once}
 use Rattle.plan_defs.specs.declared.plan.Line as the_line
 use Rattle.plan_defs.specs.declared.plan.Line.TheVariants as lines
 use Rattle.plan_defs.specs.declared.plan.Place.{Place}
 use Rattle.plan_defs.specs.declared.plan.Place.TheVariants as places
 use Rattle.plan_defs.specs.declared.plan.Plan.{Plan}
-use Rattle.plan_defs.specs.Claims.{Claim, ItemSays, HasPart, lasts, at_most, part_of}
-use Rattle.plan_defs.specs.Plans.{TakesPlaceWith, IsTakenIn, HasPartValue, GivesValue, IsLineBefore, place_in_values}
+use Rattle.plan_defs.specs.Claims.{lasts, part_of}
+use Rattle.plan_defs.specs.Plans.{IsTakenIn, HasPartValue, IsLineBefore}
 use Rattle.plan_defs.specs.Refusals.{IsDeclared, HaveSamePredicate, NotSamePredicate}
-use Rattle.plan_defs.specs.Support.{IsSupportedToken, AsksFor}
-use Rattle.plan_defs.specs.Situations.{situation_of}
-use Rattle.plan_defs.specs.Terms.{Argument, Value, Variable, InProblem, Means, ArgumentCounts, BelongsTo}
-use Rattle.plan_defs.specs.Timelines.{IsOn}
-use Rattle.plan_defs.specs.Valid.{HasDeclaredValue, HasDeclaredParts, IsLineAt, TakesPlaceAt, Becomes, IsLineOfSort, SuitsToken, SuitsMerge, SuitsIfToken, SuitsIfMerged, IsTrueItem, AreOnTimeline, EndsBy, TakeTurns, KeepsGlobals, KeepsRoots, KeepsTokens, KeepsMerges, KeepsTimelines}
+use Rattle.plan_defs.specs.Terms.{Argument, Value, Variable, InProblem, Means, ArgumentCounts}
+use Rattle.plan_defs.specs.Valid.{HasDeclaredValue, HasDeclaredParts, IsLineAt, TakesPlaceAt, Becomes, IsLineOfSort, SuitsToken, SuitsMerge, SuitsIfToken, SuitsIfMerged, IsTrueItem, EndsBy, TakeTurns, KeepsGlobals, KeepsRoots, KeepsTokens, KeepsMerges, KeepsTimelines}
 use Rattle.plan_defs.proofs.Lower.{says_further}
 use Rattle.plan_defs.proofs.Ordered.{contains_head, contains_later, contains_cases, contains_none}
-use Rattle.plan_states.specs.Flaws.{Unordered, IsOfRejectedToken}
-use Rattle.plan_states.specs.StatePlans.{GivesOnly, ArePartValues, TakesPlaceAs, IsTokenLine, IsLineIn}
+use Rattle.plan_states.specs.Flaws.{Unordered}
+use Rattle.plan_states.specs.StatePlans.{GivesOnly, TakesPlaceAs, IsTokenLine, IsLineIn}
 use Rattle.plan_states.proofs.Admitting.{admitted, same_token}
-use Rattle.plan_states.proofs.Deciding.{decides_once}
 use Rattle.plan_states.proofs.Stating.{takes_not_rejected, merged_not_rejected}
 use Rattle.plan_soundness.specs.Soundness.{IsFlawlessPlan}
 use Rattle.plan_soundness.proofs.Agreeing.{agrees, surely_rejectable, taken_not_rejected}
 use Rattle.plan_soundness.proofs.Deciding.{Becoming, IsAFact, IsActivatedOne, IsMergedOne, IsRejectedOne, no_steps}
 use Rattle.plan_soundness.proofs.Having.{IsKept, IsKeptArgument, is_state, token_has, domain_of, value_of, becomes_of, takes_line, active_line, target_active, active_not_merged, gives_value, AreKept, claim_true}
-use Rattle.timeline_core.specs.Unordered.{HaveNoOrder, MayOverrun}
+use Rattle.timeline_core.specs.Unordered.{MayOverrun}
 
 -- ---- what is on lists can be found out
 

@@ -1,19 +1,16 @@
 -- Where no further token can come, the level of a reservoir in the plan of a state without a flaw lies between those that the
 -- state leaves.
-use Rattle.std.proofs.Common.{◌≡◌, ℕ, ◌+◌, ◌<◌, ℤ, pos, ◌≤ℤ◌, ◌<ℤ◌, ◌+ℤ◌, ◌-ℤ◌, Bool, true, false, List, [], ◌∷◌, ◌++◌, length, Some, ◌⊎◌, inl, inr, refl, sym, ap, ◌∙◌, subst, arith}
-use Rattle.std.specs.Prelude.{Contains, AllPairs, slice_get, codes}
+use Rattle.std.proofs.Common.{◌≡◌, ℤ, pos, ◌≤ℤ◌, ◌+ℤ◌, ◌-ℤ◌, Bool, List, [], ◌∷◌, Some, ◌⊎◌, inl, inr, refl, sym, ap, ◌∙◌, subst, arith}
+use Rattle.std.specs.Prelude.{Contains, slice_get, codes}
 use Rattle.std.specs.List.{AllZip}
-use Rattle.std.proofs.lemmas.Int.{ints, by_lt_z}
-use Rattle.domain_core.specs.Domain.{Domain, Range, Has, IsSingle, IsWithin, least, greatest}
+use Rattle.std.proofs.lemmas.Int.{ints}
+use Rattle.domain_core.specs.Domain.{Domain, Range, IsSingle, IsWithin}
 use Rattle.domain_core.proofs.Words.{single_least, single_greatest}
 use Rattle.eu_name.specs.declared.name.Part.{Part}
-use Rattle.eu_name.specs.declared.name.Part.TheVariants.{Start, End, Duration, Object, Param}
+use Rattle.eu_name.specs.declared.name.Part.TheVariants.{Start, Object, Param}
 use Rattle.eu_name.specs.declared.name.TokenName.{TokenName}
 use Rattle.eu_name.specs.declared.name.VarName.TheVariants as variables
-use Rattle.eu_name.specs.NameOrder.{IsTokenBefore}
 use Rattle.eu_name.proofs.Members.{get_same}
-use Rattle.eu_name.proofs.Orders.{token_order}
-use Rattle.model_core.specs.declared.class.Object as classes
 use Rattle.model_core.specs.declared.class.Pred.{Pred}
 use Rattle.model_core.specs.declared.class.PredKind.{PredKind}
 use Rattle.model_core.specs.declared.class.PredKind.TheVariants.{Plain, Uses, Produce, Consume}
@@ -28,20 +25,19 @@ use Rattle.model_core.specs.Decided.{IsActive}
 use Rattle.model_core.specs.Lawful.{HasQuantity}
 use Rattle.model_core.specs.State.{State, Gives}
 use Rattle.model_core.specs.Tokens.{HasToken}
-use Rattle.model_core.specs.Variables.{HasBase, HasPartBase, HasParameter, IsInBase}
+use Rattle.model_core.specs.Variables.{HasPartBase, IsInBase}
 use Rattle.model_core.proofs.Leading.{token_once}
 use Rattle.plan_defs.specs.declared.plan.Line as the_line
 use Rattle.plan_defs.specs.declared.plan.Line.TheVariants as lines
 use Rattle.plan_defs.specs.declared.plan.Place.{Place}
 use Rattle.plan_defs.specs.declared.plan.Place.TheVariants as places
 use Rattle.plan_defs.specs.declared.plan.Plan.{Plan}
-use Rattle.plan_defs.specs.Plans.{place_in_values}
 use Rattle.plan_defs.specs.Resources.{FitReservoirs, IsTokenComplete, IsActor, MayChange, SurelyChanges, IsHighChange, IsLowChange, StaysWithin}
 use Rattle.plan_defs.specs.Sums.{sum_of}
-use Rattle.plan_defs.specs.Valid.{IsOfSort, IsPartOf, HasActed, AddedBy, TookBy, LeavesLevel, IsRise, IsLevelWithin, KeepsReservoirs}
+use Rattle.plan_defs.specs.Valid.{IsOfSort, IsPartOf, HasActed, LeavesLevel, IsRise, IsLevelWithin, KeepsReservoirs}
 use Rattle.plan_defs.proofs.States.{gives_same}
 use Rattle.plan_defs.proofs.Ordered.{contains_head, contains_later}
-use Rattle.plan_states.specs.StatePlans.{GivesOnly, TakesPlaceAs, IsTokenLine, IsLineIn}
+use Rattle.plan_states.specs.StatePlans.{GivesOnly, IsTokenLine, IsLineIn}
 use Rattle.plan_states.proofs.Kinding.{pred_of_slot}
 use Rattle.plan_states.proofs.Stating.{takes_not_rejected}
 use Rattle.plan_soundness.specs.Soundness.{IsFlawlessPlan}

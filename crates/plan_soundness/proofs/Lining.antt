@@ -1,5 +1,5 @@
 -- The tokens of the lines of the plan of a state are those of the state, in order.
-use Rattle.std.proofs.Common.{◌≡◌, ℕ, ℤ, Bool, true, false, List, [], ◌∷◌, ⊎_elim, ◌⊎◌, inl, inr, refl, sym, ap, ◌∙◌, subst, arith}
+use Rattle.std.proofs.Common.{◌≡◌, true, false, List, [], ◌∷◌, ⊎_elim, inl, inr, refl, sym, ap, subst, arith}
 use Rattle.std.specs.Prelude.{AllPairs, Contains}
 use Rattle.eu_name.specs.declared.name.Part.TheVariants.{Start}
 use Rattle.eu_name.specs.declared.name.TokenName.{TokenName}

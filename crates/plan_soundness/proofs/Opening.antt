@@ -1,8 +1,8 @@
 -- The same blocks are open in the plan as in the state.
-use Rattle.std.proofs.Common.{◌≡◌, ◌≢◌, ℕ, ℤ, Bool, false, List, [], ◌∷◌, Some, inl, inr, refl, sym, ap, ◌∙◌, subst, arith}
-use Rattle.std.specs.Prelude.{Contains, slice_get}
+use Rattle.std.proofs.Common.{◌≡◌, ℤ, false, List, inl, inr, refl, sym, ap, ◌∙◌, subst, arith}
+use Rattle.std.specs.Prelude.{Contains}
 use Rattle.std.proofs.lemmas.Int.{ints}
-use Rattle.domain_core.specs.Domain.{Domain, Range, Has, IsSingle}
+use Rattle.domain_core.specs.Domain.{Domain, Range, Has}
 use Rattle.eu_name.specs.declared.name.Part.{Part}
 use Rattle.eu_name.specs.declared.name.Part.TheVariants.{Start, End, Duration, Object, Param}
 use Rattle.eu_name.specs.declared.name.TokenName.{TokenName}
@@ -21,13 +21,11 @@ use Rattle.model_core.specs.Blocks.{TokenBlock}
 use Rattle.model_core.specs.Decided.{IsTaken}
 use Rattle.model_core.specs.Entries.{Entries}
 use Rattle.model_core.specs.State.{State, Gives}
-use Rattle.model_core.specs.Tokens.{HasToken}
 use Rattle.model_core.specs.Variables.{HasPartBase, HasParameter}
 use Rattle.model_core.proofs.Leading.{token_once}
 use Rattle.plan_defs.specs.declared.plan.Line.TheVariants as lines
 use Rattle.plan_defs.specs.declared.plan.Plan.{Plan}
-use Rattle.plan_defs.specs.Claims.{HasPart}
-use Rattle.plan_defs.specs.Plans.{IsTakenIn, HasPartValue, HasTargetValue, GivesValue, plan_situation}
+use Rattle.plan_defs.specs.Plans.{IsTakenIn, HasPartValue, GivesValue, plan_situation}
 use Rattle.plan_defs.specs.Situations.{situation_of}
 use Rattle.plan_defs.specs.Support.{MayBe, Opens, IsOpen, one_side, other_side}
 use Rattle.plan_defs.specs.Terms.{Context, InRule, Argument, Value, Variable, Means, HasDomain, ArgumentCounts}

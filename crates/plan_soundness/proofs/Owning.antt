@@ -1,5 +1,5 @@
 -- A state without a flaw is the own state of its plan.
-use Rattle.std.proofs.Common.{◌≡◌, ℤ, true, false, List, ◌⊎◌, inl, inr, refl, subst}
+use Rattle.std.proofs.Common.{ℤ, true, false, List, inl, inr, refl, subst}
 use Rattle.std.specs.Prelude.{Contains}
 use Rattle.domain_core.specs.Domain.{Domain, IsSingle}
 use Rattle.eu_name.specs.declared.name.TokenName.{TokenName}

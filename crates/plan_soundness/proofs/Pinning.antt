@@ -1,5 +1,5 @@
 -- Where a constraint is consistent in single values, it holds of them.
-use Rattle.std.proofs.Common.{◌≡◌, ℤ, ◌≤ℤ◌, List, [], ◌∷◌, ◌++◌, inl, refl, sym, ap, ◌∙◌, subst, arith}
+use Rattle.std.proofs.Common.{◌≡◌, ℤ, List, [], ◌∷◌, ◌++◌, inl, refl, subst, arith}
 use Rattle.std.proofs.lemmas.Int.{ints}
 use Rattle.std.specs.List.{AllZip}
 use Rattle.domain_core.specs.Domain.{Domain, Range, Has, IsDomain, IsSingle, IsTested, least, greatest}

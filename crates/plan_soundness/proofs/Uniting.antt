@@ -1,6 +1,5 @@
 -- A state has one plan.
-use Rattle.std.proofs.Common.{◌≡◌, ℕ, ℤ, List, Some, sym, subst}
-use Rattle.std.specs.Prelude.{Contains, AllPairs, slice_get}
+use Rattle.std.proofs.Common.{◌≡◌, List}
 use Rattle.eu_name.proofs.Orders.{var_order}
 use Rattle.model_core.specs.declared.decision.Decision.{Decision}
 use Rattle.model_core.specs.declared.model.Model.{Model}
