@@ -18,8 +18,8 @@ use Rattle.nddl_schema.specs.Predicates.{preds_of}
 use Rattle.nddl_table.specs.Scoped.{named_from}
 
 -- beside these enums a program of these facts has these classes and predicates, and these names
-pub record AreEntries (files : List FileDecls) (facts : Facts) (enums : List Enum) (classes : List Class) (preds : List Pred) (scope : List Named)
-    : Type 0 where
+pub record AreEntries (files : List FileDecls) (facts : Facts) (enums : List Enum) (classes : List Class) (preds : List Pred)
+    (scope : List Named) : Type 0 where
   pub classes_are : classes ≡ classes_of facts enums
   pub preds_are : preds ≡ preds_of facts enums
   pub scope_is : scope ≡ named_from files (joined_sites files) facts.names 0 facts.names
