@@ -11,11 +11,12 @@ use Rattle.model_core.specs.Blocks.{TokenBlock, IsBlock}
 use Rattle.model_core.specs.Entries.{Entries}
 use Rattle.model_core.specs.State.{IsBlockOf}
 use Rattle.token_store.specs.Orders.{name_at}
+use Rattle.token_store.specs.Tokens.{tokens_now}
 use Rattle.plan_defs.specs.Terms.{InRule}
-use Rattle.plan_defs.proofs.Members.{get_same, get_within, contains_from_get}
+use Rattle.plan_defs.proofs.Members.{get_same, get_within, get_all, contains_from_get}
 use Rattle.plan_growth.specs.Content.{Content, shown, IsContent}
 use Rattle.plan_store.specs.Keys.{named_block}
-use Rattle.plan_store.specs.Stores.{Stored}
+use Rattle.plan_store.specs.Stores.{Stored, snapshot_of, IsSnapshot}
 use Rattle.plan_store.specs.declared.key.OpenBlock.{OpenBlock}
 use Rattle.plan_posting.specs.Origins.{content_now}
 
@@ -55,3 +56,8 @@ open_at model stored is number below =
     let content = content_now stored in
     let found = get_within content.blocks number (omega (arith, below, length-map stored.blocks (named_block content.tokens))) in
     (found.0, found.1, (All-contains (IsBlockOf model (shown content)) content.blocks found.0 is.blocks (contains_from_get content.blocks number found.0 found.1)).1)
+
+-- its token is there
+pub seen_below : (stored : Stored) → IsSnapshot (snapshot_of stored) → (number : ℕ) (found : OpenBlock) → slice_get stored.blocks number ≡ Some found
+    → found.token < length (tokens_now stored.past)
+seen_below stored sound number found at = get_all (λ (block : OpenBlock). block.token < length (tokens_now stored.past)) stored.blocks number found sound.of_tokens at

@@ -1,10 +1,8 @@
-use Rattle.std.proofs.Common.{◌<◌, length, slice_get, refl, sym, ap, ◌∙◌, subst}
+use Rattle.std.proofs.Common.{length, slice_get, refl, sym, ap, ◌∙◌, subst}
 use Rattle.token_store.specs.Tokens.{TokenPast, tokens_now, token_names}
-use Rattle.plan_defs.proofs.Members.{get_all}
 use Rattle.plan_posting.specs.Origins.{content_now, origin_context, IsOriginBelow}
-use Rattle.plan_store.specs.declared.key.OpenBlock.{OpenBlock}
 use Rattle.plan_opening.proofs.Opening.{named_at}
-use Rattle.plan_deciding.proofs.Seeing.{seen_there, seen_context, seen_block}
+use Rattle.plan_deciding.proofs.Seeing.{seen_below, seen_there, seen_context, seen_block}
 use Rattle.plan_deciding.proofs.begun.block_seen.Goals as goal
 
 pub seen-requires-clause-there : goal.seen-requires-clause-there
@@ -18,9 +16,8 @@ seen-requires-clause-there c =
 pub returns-clause-below : goal.returns-clause-below
 returns-clause-below c =
     let store = c.args.store.now in
-    let found = c.in-Some.found.now in
     subst (IsOriginBelow (length (tokens_now store.past))) (sym c.seen.ensures.origin)
-    (get_all (λ (block : OpenBlock). block.token < length (tokens_now store.past)) store.blocks c.args.number found c.is_sound.ensures.of_tokens (sym c.in-Some.ensures))
+    (seen_below store c.is_sound.ensures c.args.number c.in-Some.found.now (sym c.in-Some.ensures))
 
 pub returns-clause-context : goal.returns-clause-context
 returns-clause-context c = λ block here.
