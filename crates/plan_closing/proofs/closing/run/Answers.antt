@@ -1,0 +1,35 @@
+use Rattle.std.proofs.Common.{Err, refl, sym, ◌∙◌, subst}
+use Rattle.std.proofs.lemmas.Result.{err_from_is_err_and}
+use Rattle.plan_posting.specs.Tables.{HaveTables}
+use Rattle.plan_closing.specs.Closing.{GoesOn}
+use Rattle.plan_closing.proofs.Resting.{run_fails, run_ends}
+use Rattle.plan_closing.proofs.closing.run.Goals as goal
+
+pub loop-round-init : goal.loop-round-init
+loop-round-init c = record { on = λ decisions way. way; tables = refl; marks = λ mark snapshot is. is }
+
+pub take_step-requires-clause-tables : goal.take_step-requires-clause-tables
+take_step-requires-clause-tables c = subst (HaveTables c.args.model.now) (sym c.loop-round.invariant.tables) c.requires.tables
+
+pub take_step-requires-clause-way : goal.take_step-requires-clause-way
+take_step-requires-clause-way c = (c.requires.way.0, c.loop-round.invariant.on c.requires.way.0 c.requires.way.1)
+
+pub returns-in_err-next-clause-runs : goal.returns-in_err-next-clause-runs
+returns-in_err-next-clause-runs c =
+    let p = err_from_is_err_and c.from_residual.result c.from_residual.ensures.1 in
+    rw (p.1, p.2)
+    (run_fails c.args.model.now c.args.unfolded c.args.store.now c.loop-round.store c.loop-round.count c.loop-round.invariant.on c.take_step.new.store c.in_err-next.field-0.0 c.in_err-next.ensures.steps)
+
+pub returns-in_default-clause-runs : goal.returns-in_default-clause-runs
+returns-in_default-clause-runs c =
+    run_ends c.args.model.now c.args.unfolded c.args.store.now c.loop-round.store c.loop-round.count c.loop-round.invariant.on c.take_step.new.store _
+    c.in_default.not-On c.in_ok-next.ensures.steps
+
+pub loop-round-preserved : goal.loop-round-preserved
+loop-round-preserved c =
+    let taken = c.in_ok-next.ensures in
+    record {
+      on = λ decisions way. subst (λ next. GoesOn c.args.model.now decisions next c.take_step.new.store) c.in-On.is (taken.steps decisions (c.loop-round.invariant.on decisions way));
+      tables = taken.tables ∙ c.loop-round.invariant.tables;
+      marks = λ mark snapshot is. taken.marks mark snapshot (c.loop-round.invariant.marks mark snapshot is);
+    }

@@ -1,0 +1,152 @@
+//! A store is brought to rest.
+
+ghost use Rattle.std.specs.Prelude.{◌≡◌, ◌≤◌, length, OnOk};
+ghost use Rattle.model_core.specs.Lawful.{IsLawful};
+ghost use Rattle.plan_store.specs.StoreMarks.{KeepStoreMarks};
+ghost use Rattle.plan_posting.specs.Tables.{HaveTables};
+ghost use Rattle.plan_closing.specs.Looking.{HasWay};
+ghost use Rattle.plan_closing.specs.Closing.{CanGoOn, CanClose, Heeds, Steps, Runs, LooksAtAll, Closes};
+
+use super::looking::look_at;
+use constraint_net::NetFault;
+use model_core::model::Model;
+use plan_store::Store;
+use plan_unfolding::unfold;
+use std::alloc::Global;
+
+/// What one step comes to.
+#[derive(Clone, Copy)]
+pub enum Step {
+    /// So many blocks are unfolded, and more is to come.
+    On(usize),
+    /// Nothing more comes.
+    AtRest,
+}
+
+// Looks at the next variable that has changed, and tells whether there was one.
+fn heed_next(
+    alloc: Global,
+    store: &mut Store,
+    model: &Model,
+    unfolded: usize,
+) -> Result<bool, NetFault>
+    requires lawful { IsLawful model.now }
+    requires way { CanGoOn model.now store.old unfolded }
+    ensures heeds { Heeds model.now unfolded store.old result store.new }
+    ensures tables { OnOk result (store.new.net.tables ≡ store.old.net.tables) }
+    ensures marks { KeepStoreMarks store.old store.new }
+{
+    let Some(variable) = store.next_changed() else {
+        return Ok(false);
+    };
+    look_at(alloc, store, model, unfolded, variable)?;
+    Ok(true)
+}
+
+// Settles the network, of a store whose blocks are all unfolded, and looks at the first variable that has changed.
+fn settle(
+    alloc: Global,
+    store: &mut Store,
+    model: &Model,
+    unfolded: usize,
+) -> Result<Step, NetFault>
+    requires lawful { IsLawful model.now }
+    requires way { CanGoOn model.now store.old unfolded }
+    requires all { length store.old.blocks ≤ unfolded }
+    ensures steps { Steps model.now unfolded store.old result store.new }
+    ensures tables { OnOk result (store.new.net.tables ≡ store.old.net.tables) }
+    ensures marks { KeepStoreMarks store.old store.new }
+{
+    store.settle()?;
+    let heeded = heed_next(alloc, store, model, unfolded)?;
+    if heeded {
+        return Ok(Step::On(unfolded));
+    }
+    Ok(Step::AtRest)
+}
+
+// Unfolds a block, or looks at a variable that has changed, or settles the network.
+fn take_step(
+    alloc: Global,
+    store: &mut Store,
+    model: &Model,
+    unfolded: usize,
+) -> Result<Step, NetFault>
+    requires lawful { IsLawful model.now }
+    requires tables { HaveTables model.now store.old.net.tables }
+    requires way { CanGoOn model.now store.old unfolded }
+    ensures steps { Steps model.now unfolded store.old result store.new }
+    ensures tables { OnOk result (store.new.net.tables ≡ store.old.net.tables) }
+    ensures marks { KeepStoreMarks store.old store.new }
+{
+    let blocks = store.block_count();
+    if unfolded < blocks {
+        unfold(alloc, store, model, unfolded)?;
+        return Ok(Step::On(unfolded + 1));
+    }
+    let heeded = heed_next(alloc, store, model, unfolded)?;
+    if heeded {
+        return Ok(Step::On(unfolded));
+    }
+    settle(alloc, store, model, unfolded)
+}
+
+// Takes step after step until nothing more comes. Memory stands for more steps than can be counted.
+fn run(alloc: Global, store: &mut Store, model: &Model, unfolded: usize) -> Result<(), NetFault>
+    requires lawful { IsLawful model.now }
+    requires tables { HaveTables model.now store.old.net.tables }
+    requires way { CanGoOn model.now store.old unfolded }
+    ensures runs { Runs model.now unfolded store.old result store.new }
+    ensures tables { OnOk result (store.new.net.tables ≡ store.old.net.tables) }
+    ensures marks { KeepStoreMarks store.old store.new }
+{
+    let mut count = unfolded;
+    for _round in 0..u32::MAX {
+        let Step::On(next) = take_step(alloc, store, model, count)? else {
+            return Ok(());
+        };
+        count = next;
+    }
+    Err(NetFault::Memory)
+}
+
+// Looks at each of the variables.
+fn look_at_all(
+    alloc: Global,
+    store: &mut Store,
+    model: &Model,
+    unfolded: usize,
+    due: &[usize],
+) -> Result<(), NetFault>
+    requires lawful { IsLawful model.now }
+    requires way { HasWay model.now store.old unfolded }
+    ensures looks { LooksAtAll model.now unfolded due.now store.old result store.new }
+    ensures tables { OnOk result (store.new.net.tables ≡ store.old.net.tables) }
+    ensures changed { OnOk result (store.new.net.changed ≡ store.old.net.changed) }
+    ensures marks { KeepStoreMarks store.old store.new }
+{
+    for variable in due {
+        look_at(alloc, store, model, unfolded, *variable)?;
+    }
+    Ok(())
+}
+
+/// Brings the store to rest, of which so many blocks are unfolded, and in which these variables have to be looked at beside
+/// those that have changed: blocks are unfolded, variables looked at and the network settled until nothing more comes.
+pub fn close(
+    alloc: Global,
+    store: &mut Store,
+    model: &Model,
+    unfolded: usize,
+    due: &[usize],
+) -> Result<(), NetFault>
+    requires lawful { IsLawful model.now }
+    requires tables { HaveTables model.now store.old.net.tables }
+    requires way { CanClose model.now store.old unfolded due.now }
+    ensures closes { Closes model.now unfolded due.now store.old result store.new }
+    ensures tables { OnOk result (store.new.net.tables ≡ store.old.net.tables) }
+    ensures marks { KeepStoreMarks store.old store.new }
+{
+    look_at_all(alloc, store, model, unfolded, due)?;
+    run(alloc, store, model, unfolded)
+}
