@@ -1,5 +1,5 @@
 -- A typedef of which the base names a typedef stands under it.
-use Rattle.std.proofs.Common.{◌≡◌, ℕ, zero, suc, Bool, true, false, List, [], ◌∷◌, ◌++◌, length, map, refl, ◌∙◌, ap}
+use Rattle.std.proofs.Common.{◌≡◌, ℕ, zero, suc, List, [], ◌∷◌, ◌++◌, length, map, refl, ◌∙◌, ap}
 use Rattle.std.specs.Prelude.{Option, Some, None, slice_get, if◌then◌else◌}
 use Rattle.std.specs.Option.{option_and_then}
 use Rattle.std.proofs.lemmas.Option.{same_Some}
@@ -11,7 +11,6 @@ use Rattle.nddl_ast.specs.declared.expression.Type as types
 use Rattle.nddl_scope.specs.declared.declared.Declared.{Declared}
 use Rattle.nddl_scope.specs.declared.declared.Sort.{Sort}
 use Rattle.nddl_scope.specs.declared.declared.Sort.TheVariants as sorts
-use Rattle.nddl_scope.specs.declared.scope.Meaning.{Meaning}
 use Rattle.nddl_scope.specs.declared.scope.Meaning.TheVariants as meanings
 use Rattle.nddl_lines.specs.Decls.{decl_of_name, typedef_type}
 use Rattle.nddl_lines.specs.Lines.{base_under, is_typedef_sort, parents_of, sort_under, typedef_of_meaning}
