@@ -1,6 +1,6 @@
 -- Claims that are seen to.
 use Rattle.std.proofs.Common.{◌≡◌, ◌⊎◌, inl, inr, List, [], ◌++◌, Ok, Err, sym, ap, ◌∙◌, subst}
-use Rattle.std.specs.Prelude.{All, Result, OnOk}
+use Rattle.std.specs.Prelude.{Result, OnOk}
 use Rattle.std.specs.declared.alloc.AllocError.{AllocError}
 use Rattle.std.proofs.lemmas.List.{append_assoc, append-nil}
 use Rattle.std.proofs.lemmas.List.Elements.{All-append, All-nil, All-weaker, Contains-append_left, Contains-append_right}

@@ -1,6 +1,6 @@
 -- What a store gives a variable.
-use Rattle.std.proofs.Common.{◌≡◌, ℕ, ◌<◌, ◌≤◌, List, length, map, slice_get, Option, Some, None, refl, sym, ap, ◌∙◌, subst, arith}
-use Rattle.std.specs.Prelude.{All, Contains, MatchOption}
+use Rattle.std.proofs.Common.{◌≡◌, ℕ, ◌<◌, ◌≤◌, List, length, slice_get, Option, Some, None, sym, ap, ◌∙◌, subst, arith}
+use Rattle.std.specs.Prelude.{Contains, MatchOption}
 use Rattle.std.specs.Option.{option_map}
 use Rattle.std.proofs.lemmas.List.Elements.{All-contains}
 use Rattle.std.proofs.lemmas.Option.{slice_get-map, slice_get_within}
@@ -13,9 +13,9 @@ use Rattle.eu_name.specs.declared.name.VarName.TheVariants as name
 use Rattle.model_core.specs.State.{Gives}
 use Rattle.token_store.specs.Orders.{name_at}
 use Rattle.token_store.specs.Tokens.{tokens_now, token_names}
-use Rattle.plan_growth.specs.Content.{Content, shown}
+use Rattle.plan_growth.specs.Content.{shown}
 use Rattle.plan_store.specs.Keys.{named_variable, IsKeyBelow}
-use Rattle.plan_store.specs.Stores.{Stored, snapshot_of, IsSnapshot, named_content}
+use Rattle.plan_store.specs.Stores.{Stored, snapshot_of, IsSnapshot}
 use Rattle.plan_store.specs.declared.key.VarKey.{VarKey}
 use Rattle.plan_store.specs.declared.key.VarKey.TheVariants as key
 use Rattle.plan_store.proofs.Lists.{contains_at, unmapped}

@@ -1,11 +1,10 @@
 -- Variables that are looked at.
-use Rattle.std.proofs.Common.{◌≡◌, inl, inr, ◌⊎◌, ℕ, ◌+◌, ◌<◌, ◌≤◌, List, [], ◌∷◌, ◌++◌, length, map, filter, Ok, Err, refl, sym, ap, ◌∙◌, subst, arith}
-use Rattle.std.specs.Prelude.{◌==◌, All, Contains, Result, Option, Some, None, slice_get, slice_index_or, ⊤, OnOk}
-use Rattle.std.specs.Option.{option_map}
+use Rattle.std.proofs.Common.{◌≡◌, inl, inr, ◌⊎◌, ℕ, ◌+◌, ◌<◌, List, ◌∷◌, length, map, filter, Ok, Err, refl, sym, ap, ◌∙◌, subst, arith}
+use Rattle.std.specs.Prelude.{◌==◌, Contains, Result, Some, slice_get, slice_index_or}
 use Rattle.std.proofs.lemmas.Bool.{cases_lt}
 use Rattle.std.proofs.lemmas.List.{map-append, length-map}
 use Rattle.std.proofs.lemmas.List.Elements.{All-contains, filter-append}
-use Rattle.std.proofs.lemmas.Option.{slice_get-map, slice_get_within, slice_get-get_or}
+use Rattle.std.proofs.lemmas.Option.{slice_get-get_or}
 use Rattle.eu_name.specs.declared.name.Part.{Part}
 use Rattle.eu_name.specs.declared.name.Part.TheVariants.{Start, End, Object}
 use Rattle.eu_name.specs.declared.name.TokenName.{TokenName}
@@ -14,7 +13,6 @@ use Rattle.eu_name.specs.declared.name.VarName.TheVariants as name
 use Rattle.model_core.specs.declared.decision.Decision.{Decision}
 use Rattle.model_core.specs.declared.model.Model.{Model}
 use Rattle.model_core.specs.declared.rule.Guard.{Guard}
-use Rattle.model_core.specs.declared.rule.Side.{Side}
 use Rattle.model_core.specs.Blocks.{TokenBlock, IsBlock, direct, OfBranch}
 use Rattle.model_core.specs.Entries.{Entries}
 use Rattle.model_core.specs.Lawful.{IsLawful}
@@ -26,21 +24,19 @@ use Rattle.model_core.specs.Tokens.{HasToken}
 use Rattle.domain_core.specs.Domain.{Range}
 use Rattle.constraint_net.specs.declared.NetFault.{NetFault}
 use Rattle.constraint_net.specs.declared.NetFault.TheVariants.{Collapsed, Memory}
-use Rattle.plan_defs.specs.Claims.{Claim}
 use Rattle.plan_defs.specs.Laws.{HaveToTurn}
 use Rattle.plan_defs.specs.Terms.{InRule}
 use Rattle.plan_defs.proofs.Ordered.{contains_later}
 use Rattle.plan_defs.proofs.Members.{get_below, get_within, get_from_contains, contains_from_get, get_same}
 use Rattle.plan_growth.specs.Claims.{IsPostedIn}
 use Rattle.plan_growth.specs.Content.{Content, shown}
-use Rattle.plan_growth.specs.Growth.{LeaveNothing, ends_before}
+use Rattle.plan_growth.specs.Growth.{ends_before}
 use Rattle.plan_progress.specs.Coming.{IsWhatIsNamedThere}
 use Rattle.plan_progress.specs.Progress.{MissesNothing, IsUnfolded, GuardNames, AreBranchesFollowed, IsTurnFollowed}
 use Rattle.plan_progress.proofs.Following.{looking_misses, stale_misses}
 use Rattle.plan_progress.proofs.Naming.{named_there}
-use Rattle.timeline_core.specs.Unordered.{AreDecidedOnce}
 use Rattle.token_store.specs.Orders.{name_at}
-use Rattle.token_store.specs.Tokens.{tokens_now, token_names}
+use Rattle.token_store.specs.Tokens.{tokens_now}
 use Rattle.plan_store.specs.Keys.{IsKeyBelow, named_variable, named_block}
 use Rattle.plan_store.specs.Stores.{Stored, snapshot_of, IsSnapshot, blocks_watching}
 use Rattle.plan_store.specs.StoreMarks.{KeepStoreMarks}
@@ -49,12 +45,12 @@ use Rattle.plan_store.specs.declared.key.VarKey.{VarKey}
 use Rattle.plan_store.specs.declared.key.VarKey.TheVariants as key
 use Rattle.plan_store.specs.declared.watchers.Watch.{Watch}
 use Rattle.plan_store.proofs.Lists.{unmapped}
-use Rattle.plan_store.proofs.Naming.{length_names, names_are_once, names_have_one_number}
+use Rattle.plan_store.proofs.Naming.{names_are_once, names_have_one_number}
 use Rattle.plan_store.proofs.Watched.{watchers_are_listed}
 use Rattle.plan_posting.specs.Origins.{content_now}
 use Rattle.plan_posting.specs.Posted.{OnlyPosts}
 use Rattle.plan_posting.specs.Terms.{HasTimesAt}
-use Rattle.plan_opening.specs.Underway.{IsStoreUnderway, OnlyAdds, GoesOnAs, IsWatched}
+use Rattle.plan_opening.specs.Underway.{IsStoreUnderway, OnlyAdds, GoesOnAs}
 use Rattle.plan_opening.proofs.Opening.{name_there}
 use Rattle.plan_unfolding.specs.Branches.{StaysOnWay, FollowsBranches}
 use Rattle.plan_unfolding.specs.Reading.{CanReadAt}
@@ -62,7 +58,7 @@ use Rattle.plan_unfolding.proofs.Adding.{Adds, adds_nothing, adds_both, content_
 use Rattle.plan_unfolding.proofs.Looking.{KeepsUnderway}
 use Rattle.plan_unfolding.proofs.Naming.{unfolded_blocks_can_be_read}
 use Rattle.plan_closing.specs.Looking.{IsOnWay, HasWay, IsBlockFollowed, FollowsWatchers, TellsTurns, OwnerTakesTurns, KeepsWay, LooksAt}
-use Rattle.plan_closing.specs.Turns.{SeesToClaims, IsTurnOf, TakesTurns}
+use Rattle.plan_closing.specs.Turns.{IsTurnOf, TakesTurns}
 use Rattle.plan_closing.proofs.Sharing.{same_content}
 use Rattle.plan_closing.proofs.Staying.{turns_underway, underway_more}
 

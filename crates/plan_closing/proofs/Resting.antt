@@ -1,6 +1,6 @@
 -- A store that comes to rest.
 use Rattle.std.proofs.Common.{◌≡◌, inl, inr, ◌⊎◌, ℕ, zero, suc, ◌+◌, ◌<◌, ◌≤◌, Bool, true, false, List, [], ◌∷◌, ◌++◌, length, drop, Ok, Err, refl, sym, ap, ◌∙◌, subst, arith}
-use Rattle.std.specs.Prelude.{All, Contains, Result, Some, slice_index_or}
+use Rattle.std.specs.Prelude.{Contains, Result, Some, slice_index_or}
 use Rattle.std.proofs.lemmas.List.Elements.{All-contains, Contains-append_left, Contains-append_right}
 use Rattle.model_core.specs.declared.decision.Decision.{Decision}
 use Rattle.model_core.specs.declared.model.Model.{Model}
@@ -9,11 +9,10 @@ use Rattle.constraint_net.specs.Networks.{Network, AllConsistent}
 use Rattle.constraint_net.specs.Steps.{SettlesTo}
 use Rattle.constraint_net.specs.declared.NetFault.{NetFault}
 use Rattle.constraint_net.specs.declared.NetFault.TheVariants.{Collapsed, Memory}
-use Rattle.plan_defs.proofs.Ordered.{contains_later}
 use Rattle.plan_store.specs.Puts.{ChangesNet}
 use Rattle.plan_store.specs.Stores.{Stored, snapshot_of}
 use Rattle.plan_opening.specs.Underway.{IsUnderway, IsStoreUnderway}
-use Rattle.plan_closing.specs.Closing.{CanGoOn, AreKnownDue, HasComeToRest, Heeds, GoesOn, Steps, Runs, LooksAtAll, Closes}
+use Rattle.plan_closing.specs.Closing.{AreKnownDue, HasComeToRest, Heeds, LeadsOn, Steps, TakesSteps, LooksAtAll, BringsToRest}
 use Rattle.plan_closing.specs.Looking.{IsOnWay, HasWay, KeepsWay, LooksAt}
 use Rattle.plan_closing.specs.declared.closing.Step.{Step}
 use Rattle.plan_closing.specs.declared.closing.Step.TheVariants as step
@@ -114,15 +113,15 @@ module _ (model : Model) (unfolded : ℕ) (old : Stored) where
 
 module _ (model : Model) (unfolded : ℕ) (old mid : Stored) (count : ℕ)
     (on : (decisions : List Decision) → IsOnWay model decisions old unfolded old.net.changed → IsOnWay model decisions mid count mid.net.changed) where
-  pub run_fails : (new : Stored) (fault : NetFault) → Steps model count mid (Err fault) new → Runs model unfolded old (Err fault) new
+  pub run_fails : (new : Stored) (fault : NetFault) → Steps model count mid (Err fault) new → TakesSteps model unfolded old (Err fault) new
   run_fails new Collapsed steps = λ decisions way. steps decisions (on decisions way)
   run_fails new Memory steps = tt
 
-  came_to_rest : (decisions : List Decision) (new : Stored) (next : Step) → ((n : ℕ) → next ≡ step.On n → ⊥) → GoesOn model decisions next new → HasComeToRest model decisions new
+  came_to_rest : (decisions : List Decision) (new : Stored) (next : Step) → ((n : ℕ) → next ≡ step.On n → ⊥) → LeadsOn model decisions next new → HasComeToRest model decisions new
   came_to_rest decisions new (step.On n) not goes = absurd (not n refl)
   came_to_rest decisions new step.AtRest not goes = goes
 
-  pub run_ends : (new : Stored) (next : Step) → ((n : ℕ) → next ≡ step.On n → ⊥) → Steps model count mid (Ok next) new → Runs model unfolded old (Ok tt) new
+  pub run_ends : (new : Stored) (next : Step) → ((n : ℕ) → next ≡ step.On n → ⊥) → Steps model count mid (Ok next) new → TakesSteps model unfolded old (Ok tt) new
   run_ends new next not steps = λ decisions way. came_to_rest decisions new next not (steps decisions (on decisions way))
 
 -- ---- many variables
@@ -181,7 +180,7 @@ module _ (model : Model) (unfolded : ℕ) (due : List ℕ) (old mid : Stored) wh
         | inr other ↦ Contains-append_right due old.net.changed number other
       ]) way
 
-  pub close_fails : (new : Stored) (fault : NetFault) → LooksAtAll model unfolded due old (Err fault) new → Closes model unfolded due old (Err fault) new
+  pub close_fails : (new : Stored) (fault : NetFault) → LooksAtAll model unfolded due old (Err fault) new → BringsToRest model unfolded due old (Err fault) new
   close_fails new Collapsed looks = λ decisions waiting known way. looks decisions old.net.changed (all_due decisions waiting known way)
   close_fails new Memory looks = tt
 
@@ -191,7 +190,7 @@ module _ (model : Model) (unfolded : ℕ) (due : List ℕ) (old mid : Stored) wh
     close_way decisions waiting known way =
         subst (IsOnWay model decisions mid unfolded) (sym kept) (looks decisions old.net.changed (all_due decisions waiting known way))
 
-    pub closes_on : (new : Stored) (result : Result (Unit {0}) NetFault) → Runs model unfolded mid result new → Closes model unfolded due old result new
+    pub closes_on : (new : Stored) (result : Result (Unit {0}) NetFault) → TakesSteps model unfolded mid result new → BringsToRest model unfolded due old result new
     closes_on new (Ok done) runs = λ decisions waiting known way. runs decisions (close_way decisions waiting known way)
     closes_on new (Err Collapsed) runs = λ decisions waiting known way. runs decisions (close_way decisions waiting known way)
     closes_on new (Err Memory) runs = tt

@@ -1,5 +1,5 @@
 -- Tokens that share a timeline.
-use Rattle.std.proofs.Common.{◌≡◌, ◌⊎◌, inl, inr, ℕ, ◌+◌, ◌<◌, ◌≤◌, List, length, slice_get, Bool, true, false, Option, Some, None, refl, sym, ap, ◌∙◌, subst, arith}
+use Rattle.std.proofs.Common.{◌≡◌, ◌⊎◌, inl, inr, ℕ, ◌+◌, ◌<◌, List, length, slice_get, Bool, true, false, Option, Some, None, refl, sym, ap, ◌∙◌, subst, arith}
 use Rattle.std.specs.Prelude.{ℤ, ◌<ℤ◌, ◌↔◌, ◌≢◌, IsTrue, MatchBool, MatchOption, IfSome, IfNone, Result, OnOk}
 use Rattle.std.specs.declared.alloc.AllocError.{AllocError}
 use Rattle.std.proofs.lemmas.Bool.{cases_lt}
@@ -16,7 +16,6 @@ use Rattle.model_core.specs.State.{State, Gives}
 use Rattle.token_store.specs.Orders.{name_at}
 use Rattle.token_store.specs.Tokens.{tokens_now, token_states}
 use Rattle.plan_defs.specs.Claims.{Claim}
-use Rattle.plan_defs.specs.Laws.{HaveToTurn}
 use Rattle.plan_defs.specs.Timelines.{IsOn, EndsTooLate}
 use Rattle.plan_growth.specs.Content.{Content, shown}
 use Rattle.plan_growth.specs.Growth.{ends_before}
@@ -26,7 +25,7 @@ use Rattle.plan_store.specs.Stores.{Stored, snapshot_of, IsSnapshot}
 use Rattle.plan_store.proofs.Naming.{same_place, length_names}
 use Rattle.plan_posting.specs.Origins.{content_now}
 use Rattle.plan_posting.specs.Posted.{OnlyPosts, PostsClaims}
-use Rattle.plan_closing.specs.Turns.{HaveDecided, FindsTimeline, SeesToClaims, SaysTurn, IsTurnOf, TakeTurns, TakesTurnsBefore, TakesTurns}
+use Rattle.plan_closing.specs.Turns.{HaveDecided, FindsTimeline, SeesToClaims, SaysTurn, IsTurnOf, TakeTheirTurns, TakesTurnsBefore, TakesTurns}
 use Rattle.plan_closing.proofs.Claimed.{sees_none, sees_posted, sees_same, sees_both, ok_then}
 use Rattle.plan_closing.proofs.Domains.{gives_same, token_place}
 
@@ -130,20 +129,20 @@ module _ (model : Model) (old : Stored) (is : IsSnapshot (snapshot_of old)) (one
   second = name_at (content_now old).tokens other
 
   -- a token takes no turns with itself
-  pub same_turns : one ≡ other → TakeTurns model one other old old
+  pub same_turns : one ≡ other → TakeTheirTurns model one other old old
   same_turns same decisions decided =
       sees_none (content_now old).names (IsTurnOf model decisions (shown (content_now old)) first second) old.net.constraints
       (λ claim turn. turn_apart model decisions (shown (content_now old)) first second claim turn (ap (name_at (content_now old).tokens) same))
 
   -- nor with one that is on no timeline
-  pub loose_turns : FindsTimeline model old other None → TakeTurns model one other old old
+  pub loose_turns : FindsTimeline model old other None → TakeTheirTurns model one other old old
   loose_turns finds decisions decided =
       sees_none (content_now old).names (IsTurnOf model decisions (shown (content_now old)) first second) old.net.constraints
       (λ claim turn. let on = turn_on model decisions (shown (content_now old)) first second claim turn in finds decisions decided on.0 on.2)
 
   module _ (timeline : ℤ) (finds : FindsTimeline model old one (Some timeline)) where
     -- nor with one that is on another timeline
-    pub other_turns : (found : ℤ) → FindsTimeline model old other (Some found) → (found ≡ timeline → ⊥) → TakeTurns model one other old old
+    pub other_turns : (found : ℤ) → FindsTimeline model old other (Some found) → (found ≡ timeline → ⊥) → TakeTheirTurns model one other old old
     other_turns found there differ decisions decided =
         sees_none (content_now old).names (IsTurnOf model decisions (shown (content_now old)) first second) old.net.constraints
         (λ claim turn.
@@ -204,7 +203,7 @@ module _ (model : Model) (old : Stored) (is : IsSnapshot (snapshot_of old)) (one
         → (result : Result (Unit {0}) AllocError)
         → OnOk result (SeesToClaims (content_now middle).names
         (SaysTurn (shown (content_now middle)) (name_at (content_now middle).tokens other) (name_at (content_now middle).tokens one)) middle.net.constraints new.net.constraints)
-        → OnOk result (TakeTurns model one other old new)
+        → OnOk result (TakeTheirTurns model one other old new)
     turns_taken there below within differ middle new only posted result back = ok_then result (λ more decisions decided.
         let content = content_now old in
         let long = length_names (tokens_now old.past) in
@@ -226,7 +225,7 @@ module _ (model : Model) (old : Stored) (one : ℕ) where
   turns_first decisions decided =
       sees_none (content_now old).names (λ claim. (other : ℕ) × (other < 0) × with_place decisions other claim) old.net.constraints (λ claim turn. absurd (omega (arith, turn.1)))
 
-  pub turns_more : (count : ℕ) (middle new : Stored) → OnlyPosts old middle → TakesTurnsBefore model one count old middle → TakeTurns model one count middle new
+  pub turns_more : (count : ℕ) (middle new : Stored) → OnlyPosts old middle → TakesTurnsBefore model one count old middle → TakeTheirTurns model one count middle new
       → TakesTurnsBefore model one (count + 1) old new
   turns_more count middle new only before next decisions decided =
       let content = content_now old in

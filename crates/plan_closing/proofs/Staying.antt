@@ -1,9 +1,9 @@
 -- Steps that leave a store on its way.
-use Rattle.std.proofs.Common.{◌≡◌, inl, inr, ℕ, ◌<◌, List, [], ◌∷◌, ◌++◌, length, Ok, Err, refl, sym, ap, ◌∙◌, subst}
+use Rattle.std.proofs.Common.{◌≡◌, inl, inr, ℕ, List, [], ◌∷◌, ◌++◌, Ok, Err, refl, sym, subst}
 use Rattle.std.specs.Prelude.{All, Contains, Result, Some, slice_get}
 use Rattle.std.proofs.lemmas.List.{append_assoc, append-nil}
 use Rattle.std.proofs.lemmas.List.Elements.{All-head, All-tail, All-weaker}
-use Rattle.domain_core.specs.Domain.{Domain, IsDomain}
+use Rattle.domain_core.specs.Domain.{IsDomain}
 use Rattle.eu_name.specs.declared.name.TokenName.{TokenName}
 use Rattle.model_core.specs.declared.decision.Decision.{Decision}
 use Rattle.model_core.specs.declared.model.Model.{Model}
@@ -13,7 +13,7 @@ use Rattle.model_core.specs.State.{State}
 use Rattle.model_core.specs.TokenStates.{HasTokenState}
 use Rattle.narrow_core.specs.declared.field.Field.{Field}
 use Rattle.narrow_core.proofs.Below.{within_refl}
-use Rattle.constraint_net.specs.Calls.{Notes, GoesDown}
+use Rattle.constraint_net.specs.Calls.{GoesDown}
 use Rattle.constraint_net.specs.Networks.{Network, AllConsistent}
 use Rattle.constraint_net.specs.Steps.{SettlesTo}
 use Rattle.constraint_net.specs.declared.NetFault.{NetFault}
@@ -21,7 +21,6 @@ use Rattle.constraint_net.specs.declared.NetFault.TheVariants.{Collapsed, Memory
 use Rattle.constraint_net.specs.declared.constraint.Constraint.{Constraint}
 use Rattle.plan_defs.specs.Claims.{Claim}
 use Rattle.plan_defs.specs.Laws.{HaveToTurn}
-use Rattle.plan_growth.specs.Claims.{SaysClaim}
 use Rattle.plan_growth.specs.Content.{Content, shown}
 use Rattle.plan_growth.specs.Growth.{LeaveNothing, ends_before}
 use Rattle.plan_growth.specs.Laws.{with_domains}
@@ -32,12 +31,11 @@ use Rattle.plan_progress.proofs.Lessening.{falling_misses}
 use Rattle.timeline_core.specs.Unordered.{AreDecidedOnce}
 use Rattle.token_store.specs.Orders.{name_at}
 use Rattle.plan_store.specs.Puts.{ChangesNet}
-use Rattle.plan_store.specs.Stores.{Stored, Snapshot, snapshot_of, named_content}
-use Rattle.plan_posting.specs.Counting.{AreTokenStates}
+use Rattle.plan_store.specs.Stores.{Stored}
 use Rattle.plan_posting.specs.Origins.{content_now}
 use Rattle.plan_posting.specs.Posted.{OnlyPosts}
 use Rattle.plan_opening.specs.Underway.{IsStoreUnderway}
-use Rattle.plan_closing.specs.Turns.{HaveDecided, SeesToClaims, IsTurnOf, TakesTurns}
+use Rattle.plan_closing.specs.Turns.{IsTurnOf, TakesTurns}
 use Rattle.plan_closing.proofs.Claimed.{SaysOne}
 
 -- ---- turns

@@ -41,25 +41,25 @@ Heeds model unfolded old (Err Collapsed) new =
 Heeds model unfolded old (Err Memory) new = ⊤
 
 -- after the step the store is on its way with so many blocks unfolded, or has come to rest
-abbrev pub GoesOn : Model → List Decision → Step → Stored → Type 0
-GoesOn model decisions (step.On unfolded) new = IsOnWay model decisions new unfolded new.net.changed
-GoesOn model decisions step.AtRest new = HasComeToRest model decisions new
+abbrev pub LeadsOn : Model → List Decision → Step → Stored → Type 0
+LeadsOn model decisions (step.On unfolded) new = IsOnWay model decisions new unfolded new.net.changed
+LeadsOn model decisions step.AtRest new = HasComeToRest model decisions new
 
 -- what a step answers and leaves, for whatever decisions the old store was on its way
 abbrev pub Steps : Model → ℕ → Stored → Result Step NetFault → Stored → Type 0
 Steps model unfolded old (Ok next) new =
-    (decisions : List Decision) → IsOnWay model decisions old unfolded old.net.changed → GoesOn model decisions next new
+    (decisions : List Decision) → IsOnWay model decisions old unfolded old.net.changed → LeadsOn model decisions next new
 Steps model unfolded old (Err Collapsed) new =
     (decisions : List Decision) → IsOnWay model decisions old unfolded old.net.changed → LeaveNothing model decisions
 Steps model unfolded old (Err Memory) new = ⊤
 
 -- and many steps
-abbrev pub Runs : Model → ℕ → Stored → Result (Unit {0}) NetFault → Stored → Type 0
-Runs model unfolded old (Ok done) new =
+abbrev pub TakesSteps : Model → ℕ → Stored → Result (Unit {0}) NetFault → Stored → Type 0
+TakesSteps model unfolded old (Ok done) new =
     (decisions : List Decision) → IsOnWay model decisions old unfolded old.net.changed → HasComeToRest model decisions new
-Runs model unfolded old (Err Collapsed) new =
+TakesSteps model unfolded old (Err Collapsed) new =
     (decisions : List Decision) → IsOnWay model decisions old unfolded old.net.changed → LeaveNothing model decisions
-Runs model unfolded old (Err Memory) new = ⊤
+TakesSteps model unfolded old (Err Memory) new = ⊤
 
 -- what looking at all of these variables answers and leaves: they aren't due any more
 abbrev pub LooksAtAll : Model → ℕ → List ℕ → Stored → Result (Unit {0}) NetFault → Stored → Type 0
@@ -73,11 +73,11 @@ LooksAtAll model unfolded due old (Err Memory) new = ⊤
 
 -- what bringing the store to rest answers and leaves, for whatever decisions it was on its way, where only these variables and
 -- those that have changed were due
-abbrev pub Closes : Model → ℕ → List ℕ → Stored → Result (Unit {0}) NetFault → Stored → Type 0
-Closes model unfolded due old (Ok done) new =
+abbrev pub BringsToRest : Model → ℕ → List ℕ → Stored → Result (Unit {0}) NetFault → Stored → Type 0
+BringsToRest model unfolded due old (Ok done) new =
     (decisions : List Decision) (waiting : List ℕ) → AreKnownDue due old waiting
     → IsOnWay model decisions old unfolded waiting → HasComeToRest model decisions new
-Closes model unfolded due old (Err Collapsed) new =
+BringsToRest model unfolded due old (Err Collapsed) new =
     (decisions : List Decision) (waiting : List ℕ) → AreKnownDue due old waiting
     → IsOnWay model decisions old unfolded waiting → LeaveNothing model decisions
-Closes model unfolded due old (Err Memory) new = ⊤
+BringsToRest model unfolded due old (Err Memory) new = ⊤

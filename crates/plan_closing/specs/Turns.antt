@@ -11,7 +11,7 @@ use Rattle.plan_defs.specs.Claims.{Claim}
 use Rattle.plan_defs.specs.Laws.{HaveToTurn}
 use Rattle.plan_defs.specs.Timelines.{EndsTooLate}
 use Rattle.plan_growth.specs.Claims.{SaysClaim, IsPostedIn}
-use Rattle.plan_growth.specs.Content.{Content, shown}
+use Rattle.plan_growth.specs.Content.{shown}
 use Rattle.plan_growth.specs.Growth.{ends_before}
 use Rattle.timeline_core.specs.Unordered.{AreDecidedOnce, IsActiveOn}
 use Rattle.plan_store.specs.Stores.{Stored, snapshot_of}
@@ -49,8 +49,8 @@ IsTurnOf model decisions state one other claim =
     ⊎ (HaveToTurn model decisions state other one × (claim ≡ ends_before one other))
 
 -- the tokens at these two places take turns
-abbrev pub TakeTurns : Model → ℕ → ℕ → Stored → Stored → Type 0
-TakeTurns model one other old new =
+abbrev pub TakeTheirTurns : Model → ℕ → ℕ → Stored → Stored → Type 0
+TakeTheirTurns model one other old new =
     (decisions : List Decision) → HaveDecided model decisions old
     → let content = content_now old in
     SeesToClaims content.names

@@ -5,7 +5,7 @@ ghost use Rattle.model_core.specs.Lawful.{IsLawful};
 ghost use Rattle.plan_store.specs.StoreMarks.{KeepStoreMarks};
 ghost use Rattle.plan_posting.specs.Tables.{HaveTables};
 ghost use Rattle.plan_closing.specs.Looking.{HasWay};
-ghost use Rattle.plan_closing.specs.Closing.{CanGoOn, CanClose, Heeds, Steps, Runs, LooksAtAll, Closes};
+ghost use Rattle.plan_closing.specs.Closing.{CanGoOn, CanClose, Heeds, Steps, TakesSteps, LooksAtAll, BringsToRest};
 
 use super::looking::look_at;
 use constraint_net::NetFault;
@@ -96,7 +96,7 @@ fn run(alloc: Global, store: &mut Store, model: &Model, unfolded: usize) -> Resu
     requires lawful { IsLawful model.now }
     requires tables { HaveTables model.now store.old.net.tables }
     requires way { CanGoOn model.now store.old unfolded }
-    ensures runs { Runs model.now unfolded store.old result store.new }
+    ensures runs { TakesSteps model.now unfolded store.old result store.new }
     ensures tables { OnOk result (store.new.net.tables ≡ store.old.net.tables) }
     ensures marks { KeepStoreMarks store.old store.new }
 {
@@ -143,7 +143,7 @@ pub fn close(
     requires lawful { IsLawful model.now }
     requires tables { HaveTables model.now store.old.net.tables }
     requires way { CanClose model.now store.old unfolded due.now }
-    ensures closes { Closes model.now unfolded due.now store.old result store.new }
+    ensures closes { BringsToRest model.now unfolded due.now store.old result store.new }
     ensures tables { OnOk result (store.new.net.tables ≡ store.old.net.tables) }
     ensures marks { KeepStoreMarks store.old store.new }
 {

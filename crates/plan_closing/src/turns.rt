@@ -15,7 +15,7 @@ ghost use Rattle.plan_store.specs.StoreMarks.{KeepStoreMarks};
 ghost use Rattle.plan_posting.specs.Origins.{content_now};
 ghost use Rattle.plan_posting.specs.Posted.{OnlyPosts};
 ghost use Rattle.plan_posting.specs.Terms.{HasTimesAt};
-ghost use Rattle.plan_closing.specs.Turns.{HaveDecided, FindsTimeline, SeesToClaims, SaysTurn, TakeTurns, TakesTurnsBefore, TakesTurns};
+ghost use Rattle.plan_closing.specs.Turns.{HaveDecided, FindsTimeline, SeesToClaims, SaysTurn, TakeTheirTurns, TakesTurnsBefore, TakesTurns};
 
 use domain_core::domain::Dom;
 use eu_name::name::Part;
@@ -144,7 +144,7 @@ fn take_turns(
     requires one { HasTimesAt store.old one }
     requires other { HasTimesAt store.old other }
     requires on { FindsTimeline model.now store.old one (Some timeline) }
-    ensures turns { OnOk result (TakeTurns model.now one other store.old store.new) }
+    ensures turns { OnOk result (TakeTheirTurns model.now one other store.old store.new) }
     ensures only { OnlyPosts store.old store.new }
     ensures marks { KeepStoreMarks store.old store.new }
 {

@@ -1,4 +1,4 @@
-use Rattle.std.proofs.Common.{Err, sym, subst}
+use Rattle.std.proofs.Common.{sym, subst}
 use Rattle.std.proofs.lemmas.Result.{err_from_is_err_and}
 use Rattle.plan_posting.specs.Tables.{HaveTables}
 use Rattle.plan_closing.proofs.Resting.{close_fails, close_way, closes_on}

@@ -1,4 +1,4 @@
-use Rattle.std.proofs.Common.{Err, ap, ◌∙◌}
+use Rattle.std.proofs.Common.{◌∙◌}
 use Rattle.std.proofs.lemmas.Result.{err_from_is_err_and}
 use Rattle.plan_closing.proofs.Resting.{taken_way, taken_tables, heeds_some, heeds_fails, heeds_none}
 use Rattle.plan_closing.proofs.closing.heed_next.Goals as goal

@@ -1,4 +1,4 @@
-use Rattle.std.proofs.Common.{Err, refl, slice_index_or, ◌∙◌}
+use Rattle.std.proofs.Common.{refl, slice_index_or, ◌∙◌}
 use Rattle.std.proofs.lemmas.List.{drop_all}
 use Rattle.std.proofs.lemmas.Result.{err_from_is_err_and}
 use Rattle.plan_closing.proofs.Resting.{looked_way, looked_more, looked_fails, looked_all}

@@ -1,4 +1,3 @@
-use Rattle.std.proofs.Common.{Err, ap, ◌∙◌}
 use Rattle.std.proofs.lemmas.Result.{err_from_is_err_and}
 use Rattle.plan_closing.proofs.Resting.{settle_fails, settled_way, behind_fails, behind_on, behind_rest}
 use Rattle.plan_closing.proofs.closing.settle.Goals as goal

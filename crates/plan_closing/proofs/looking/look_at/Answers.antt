@@ -1,4 +1,4 @@
-use Rattle.std.proofs.Common.{Err, ap, ◌∙◌}
+use Rattle.std.proofs.Common.{ap, ◌∙◌}
 use Rattle.std.proofs.lemmas.Result.{err_from_is_err_and}
 use Rattle.plan_store.specs.Stores.{Stored}
 use Rattle.plan_closing.proofs.Heeding.{keep_way, look_fails, looked}

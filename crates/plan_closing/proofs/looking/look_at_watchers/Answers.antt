@@ -1,6 +1,5 @@
-use Rattle.std.proofs.Common.{◌<◌, length, Err, subst, ap, arith}
+use Rattle.std.proofs.Common.{length, Err, ap, arith}
 use Rattle.std.proofs.lemmas.Result.{err_from_is_err_and}
-use Rattle.plan_store.specs.Stores.{blocks_watching}
 use Rattle.plan_closing.proofs.Heeding.{keep_way, watcher_at, heeded_none, heeded_more, heeded_fails}
 use Rattle.plan_closing.proofs.looking.look_at_watchers.Goals as goal
 

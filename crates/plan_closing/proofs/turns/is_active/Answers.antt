@@ -1,4 +1,4 @@
-use Rattle.std.proofs.Common.{◌≡◌, slice_get, Some, sym, ap, ◌∙◌}
+use Rattle.std.proofs.Common.{slice_get, sym, ap, ◌∙◌}
 use Rattle.token_store.specs.Tokens.{tokens_now, token_states, TokenPast}
 use Rattle.plan_closing.proofs.Sharing.{active_said}
 use Rattle.plan_closing.proofs.turns.is_active.Goals as goal

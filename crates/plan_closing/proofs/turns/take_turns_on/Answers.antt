@@ -1,10 +1,9 @@
-use Rattle.std.proofs.Common.{◌≡◌, ◌<◌, Some, length, ap, subst, sym, w32, arith}
-use Rattle.std.proofs.lemmas.Int.{ints, to_z-of_z}
+use Rattle.std.proofs.Common.{Some, length, ap, subst, sym, w32, arith}
+use Rattle.std.proofs.lemmas.Int.{to_z-of_z}
 use Rattle.token_store.specs.Tokens.{TokenPast, tokens_now}
-use Rattle.plan_store.specs.Stores.{Stored}
 use Rattle.plan_posting.proofs.Storing.{only_both, marks_both, times_stay}
 use Rattle.plan_closing.specs.Turns.{FindsTimeline}
-use Rattle.plan_closing.proofs.Sharing.{finds_on, turns_first, turns_more}
+use Rattle.plan_closing.proofs.Sharing.{finds_on, turns_more}
 use Rattle.plan_closing.proofs.turns.take_turns_on.Goals as goal
 
 pub take_turns-requires-clause-one : goal.take_turns-requires-clause-one
