@@ -1,0 +1,5 @@
+pub mod Listing
+pub mod Opening
+pub mod Outlining
+pub mod Paths
+pub mod Telling
