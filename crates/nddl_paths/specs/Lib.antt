@@ -1,0 +1,5 @@
+pub mod Fields
+pub mod Files
+pub mod Paths
+pub mod Predicates
+pub mod Steps
