@@ -118,33 +118,53 @@ fn variable_in(
     }
 }
 
-// The token of the small problem that the text names.
-fn token_named(alloc: Global, text: &str) -> Option<Numbers> {
-    match (sample(alloc), read_name(alloc, text.as_bytes())) {
-        (Ok(model), Ok(name)) => token_in(&model, &name),
-        (_, _) => Some((8, 0, 0, 0)),
+// The token of the model that the text names.
+fn token_named(alloc: Global, model: &Model, text: &str) -> Option<Numbers>
+    requires { IsLawful model.now }
+{
+    match read_name(alloc, text.as_bytes()) {
+        Ok(name) => token_in(model, &name),
+        Err(_) => Some((8, 0, 0, 0)),
     }
 }
 
-// The variable of the small problem that the text names.
-fn variable_named(alloc: Global, text: &str) -> Option<(&'static str, Numbers, u32)> {
-    match (sample(alloc), read_name(alloc, text.as_bytes())) {
-        (Ok(model), Ok(name)) => variable_in(alloc, &model, &name, text),
-        (_, _) => Some(("no name", (0, 0, 0, 0), 0)),
+// The variable of the model that the text names.
+fn variable_named(alloc: Global, model: &Model, text: &str) -> Option<(&'static str, Numbers, u32)>
+    requires { IsLawful model.now }
+{
+    match read_name(alloc, text.as_bytes()) {
+        Ok(name) => variable_in(alloc, model, &name, text),
+        Err(_) => Some(("no name", (0, 0, 0, 0), 0)),
+    }
+}
+
+// Whether the text names the token in the small problem.
+fn names_token(alloc: Global, row: &(&str, Option<Numbers>)) -> bool {
+    match sample(alloc) {
+        Ok(model) => token_named(alloc, &model, row.0) == row.1,
+        Err(_) => false,
+    }
+}
+
+// Whether the text names the variable in the small problem.
+fn names_variable(alloc: Global, row: &(&str, Option<(&str, Numbers, u32)>)) -> bool {
+    match sample(alloc) {
+        Ok(model) => variable_named(alloc, &model, row.0) == row.1,
+        Err(_) => false,
     }
 }
 
 #[test]
 fn texts_name_tokens(rt: HostRuntime) {
-    for (text, expected) in &TOKENS {
-        assert!(rt; token_named(rt.alloc(), text) == *expected, "{text}");
+    for row in &TOKENS {
+        assert!(rt; names_token(rt.alloc(), row), "{}", row.0);
     }
 }
 
 #[test]
 fn texts_name_variables(rt: HostRuntime) {
-    for (text, expected) in &VARIABLES {
-        assert!(rt; variable_named(rt.alloc(), text) == *expected, "{text}");
+    for row in &VARIABLES {
+        assert!(rt; names_variable(rt.alloc(), row), "{}", row.0);
     }
 }
 
@@ -165,13 +185,12 @@ fn root(alloc: Global, number: u32) -> TokenName {
 }
 
 fn decision(alloc: Global, kind: &str, number: u32, other: i32) -> Decision {
-    let first = root(alloc, number);
-    let second = root(alloc, other.unsigned_abs());
+    let second = other.unsigned_abs();
     match kind {
-        "activate" => Decision::Activate(first),
-        "reject" => Decision::Reject(first),
-        "merge" => Decision::Merge(first, second),
-        "order" => Decision::Order(first, second),
+        "activate" => Decision::Activate(root(alloc, number)),
+        "reject" => Decision::Reject(root(alloc, number)),
+        "merge" => Decision::Merge(root(alloc, number), root(alloc, second)),
+        "order" => Decision::Order(root(alloc, number), root(alloc, second)),
         _ => Decision::Specify(VarName::Global(number), other),
     }
 }
@@ -193,12 +212,17 @@ fn summary(decision: &Decision) -> (&'static str, u32, i64) {
 }
 
 // What a copy of the decision is.
-fn copied(alloc: Global, kind: &str, number: u32, other: i32) -> Option<(&'static str, u32, i64)> {
-    let made = decision(alloc, kind, number, other);
+fn copy_of(made: &Decision) -> Option<(&'static str, u32, i64)> {
     match made.copy() {
         Ok(copy) => Some(summary(&copy)),
         Err(_) => None,
     }
+}
+
+// The same of the decision that is described.
+fn copied(alloc: Global, kind: &str, number: u32, other: i32) -> Option<(&'static str, u32, i64)> {
+    let made = decision(alloc, kind, number, other);
+    copy_of(&made)
 }
 
 #[test]

@@ -86,14 +86,21 @@ fn make_equal(net: &mut Net, alloc: Global) -> bool {
 }
 
 /// What is left of the range and the set, and again after the range has become a single value.
+fn run_equal(
+    net: &mut Net,
+    alloc: Global,
+) -> (bool, [Option<Shape>; 2], Option<Change>, [Option<Shape>; 2]) {
+    let made = make_equal(net, alloc) && net.settle_all().is_ok();
+    let before = [left(net, 0), left(net, 1)];
+    let change = limit(net, 0, 5, 5);
+    let settled = net.settle_all().is_ok();
+    let after = [left(net, 0), left(net, 1)];
+    (made && settled, before, change, after)
+}
+
 fn equal_run(alloc: Global) -> (bool, [Option<Shape>; 2], Option<Change>, [Option<Shape>; 2]) {
     let mut net = Net::new(alloc);
-    let made = make_equal(&mut net, alloc) && net.settle_all().is_ok();
-    let before = [left(&net, 0), left(&net, 1)];
-    let change = limit(&mut net, 0, 5, 5);
-    let settled = net.settle_all().is_ok();
-    let after = [left(&net, 0), left(&net, 1)];
-    (made && settled, before, change, after)
+    run_equal(&mut net, alloc)
 }
 
 #[test]
@@ -113,12 +120,16 @@ fn make_apart(net: &mut Net, alloc: Global) -> bool {
 }
 
 /// What is left of the range and the set after the range has become less, and how often the set was written.
+fn run_apart(net: &mut Net, alloc: Global) -> (bool, [Option<Shape>; 2], Option<u64>) {
+    let made = make_apart(net, alloc) && net.settle_all().is_ok();
+    let settled = limit(net, 0, 4, 7).is_some() && net.settle_all().is_ok();
+    let after = [left(net, 0), left(net, 1)];
+    (made && settled, after, net.stamp(1))
+}
+
 fn apart_run(alloc: Global) -> (bool, [Option<Shape>; 2], Option<u64>) {
     let mut net = Net::new(alloc);
-    let made = make_apart(&mut net, alloc) && net.settle_all().is_ok();
-    let settled = limit(&mut net, 0, 4, 7).is_some() && net.settle_all().is_ok();
-    let after = [left(&net, 0), left(&net, 1)];
-    (made && settled, after, net.stamp(1))
+    run_apart(&mut net, alloc)
 }
 
 #[test]
@@ -138,13 +149,17 @@ fn make_product(net: &mut Net, alloc: Global) -> bool {
 }
 
 /// What is left of x, z and b, and again after b has become false.
+fn run_product(net: &mut Net, alloc: Global) -> (bool, [Option<Shape>; 3], [Option<Shape>; 3]) {
+    let made = make_product(net, alloc) && net.settle_all().is_ok();
+    let before = [left(net, 0), left(net, 1), left(net, 2)];
+    let settled = limit(net, 2, 0, 0).is_some() && net.settle_all().is_ok();
+    let after = [left(net, 0), left(net, 1), left(net, 2)];
+    (made && settled, before, after)
+}
+
 fn product_run(alloc: Global) -> (bool, [Option<Shape>; 3], [Option<Shape>; 3]) {
     let mut net = Net::new(alloc);
-    let made = make_product(&mut net, alloc) && net.settle_all().is_ok();
-    let before = [left(&net, 0), left(&net, 1), left(&net, 2)];
-    let settled = limit(&mut net, 2, 0, 0).is_some() && net.settle_all().is_ok();
-    let after = [left(&net, 0), left(&net, 1), left(&net, 2)];
-    (made && settled, before, after)
+    run_product(&mut net, alloc)
 }
 
 #[test]
@@ -232,13 +247,17 @@ fn make_chain(net: &mut Net, alloc: Global, count: usize) -> bool {
 
 /// How many narrowings settling takes after the first of so many variables has become less, and what is left of the
 /// last one.
+fn run_chain(net: &mut Net, alloc: Global, count: usize) -> (bool, u64, Option<Shape>) {
+    let made = make_chain(net, alloc, count) && net.settle_all().is_ok();
+    let before = net.work();
+    let settled = limit(net, 0, 7, 9).is_some() && net.settle_all().is_ok();
+    let spent = net.work().saturating_sub(before);
+    (made && settled, spent, left(net, count.saturating_sub(1)))
+}
+
 fn chain_run(alloc: Global, count: usize) -> (bool, u64, Option<Shape>) {
     let mut net = Net::new(alloc);
-    let made = make_chain(&mut net, alloc, count) && net.settle_all().is_ok();
-    let before = net.work();
-    let settled = limit(&mut net, 0, 7, 9).is_some() && net.settle_all().is_ok();
-    let spent = net.work().saturating_sub(before);
-    (made && settled, spent, left(&net, count.saturating_sub(1)))
+    run_chain(&mut net, alloc, count)
 }
 
 #[test]
@@ -297,15 +316,28 @@ fn there_and_back(net: &mut Net, first: &Dom, third: &Dom) -> Visited {
 
 /// Going there and back on a chain of three, and a fourth variable by itself: the faults, what the third may be, how
 /// often it and the fourth were written, and whether the network settles after going back.
-fn back_run(alloc: Global, first: (i32, i32), third: (i32, i32)) -> Option<(Visited, bool)> {
-    let mut net = Net::new(alloc);
-    if !make_chain(&mut net, alloc, 3) || add(&mut net, alloc, Ends(0, 9)) != Some(3) {
+fn run_back(net: &mut Net, alloc: Global, first: &Dom, third: &Dom) -> Option<(Visited, bool)> {
+    if !make_chain(net, alloc, 3) || add(net, alloc, Ends(0, 9)) != Some(3) {
         return None;
     }
-    let first = Dom::range(first.0, first.1)?;
-    let third = Dom::range(third.0, third.1)?;
-    let visited = there_and_back(&mut net, &first, &third);
+    let visited = there_and_back(net, first, third);
     Some((visited, net.settle_all().is_ok()))
+}
+
+/// The same on a new network.
+fn run_back_for(alloc: Global, first: &Dom, third: &Dom) -> Option<(Visited, bool)> {
+    let mut net = Net::new(alloc);
+    run_back(&mut net, alloc, first, third)
+}
+
+fn back_run(alloc: Global, first: (i32, i32), third: (i32, i32)) -> Option<(Visited, bool)> {
+    match Dom::range(first.0, first.1) {
+        Some(first) => match Dom::range(third.0, third.1) {
+            Some(third) => run_back_for(alloc, &first, &third),
+            None => None,
+        },
+        None => None,
+    }
 }
 
 #[test]
@@ -322,12 +354,11 @@ fn a_chain_goes_back_to_a_mark(rt: HostRuntime) {
 
 /// The first four variables on the list of those that have changed, after the first of a chain of three became less and
 /// the network settled.
-fn changed_run(alloc: Global) -> Option<[Option<usize>; 4]> {
-    let mut net = Net::new(alloc);
-    if !make_chain(&mut net, alloc, 3) || add(&mut net, alloc, Ends(0, 9)) != Some(3) {
+fn run_changed(net: &mut Net, alloc: Global) -> Option<[Option<usize>; 4]> {
+    if !make_chain(net, alloc, 3) || add(net, alloc, Ends(0, 9)) != Some(3) {
         return None;
     }
-    if limit(&mut net, 0, 7, 9).is_none() || net.settle_all().is_err() {
+    if limit(net, 0, 7, 9).is_none() || net.settle_all().is_err() {
         return None;
     }
     Some([
@@ -336,6 +367,11 @@ fn changed_run(alloc: Global) -> Option<[Option<usize>; 4]> {
         net.next_changed(),
         net.next_changed(),
     ])
+}
+
+fn changed_run(alloc: Global) -> Option<[Option<usize>; 4]> {
+    let mut net = Net::new(alloc);
+    run_changed(&mut net, alloc)
 }
 
 #[test]

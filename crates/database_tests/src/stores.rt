@@ -206,13 +206,28 @@ fn there_and_back(store: &mut Store, alloc: Global, start: &VarName) -> Visited 
     ([before, behind, seen(store, start)], again, come, done)
 }
 
-fn run(alloc: Global) -> Option<Visited> {
-    let start = VarName::Token(name(alloc, 5, None).ok()?, Part::Start);
-    let mut store = Store::new(alloc);
-    if !make(&mut store, alloc) {
+/// The same, of a store with a token whose start has this name.
+fn made_and_visited(store: &mut Store, alloc: Global, start: &VarName) -> Option<Visited> {
+    if !make(store, alloc) {
         return None;
     }
-    Some(there_and_back(&mut store, alloc, &start))
+    Some(there_and_back(store, alloc, start))
+}
+
+/// The same, of a new store.
+fn run_for(alloc: Global, start: &VarName) -> Option<Visited> {
+    let mut store = Store::new(alloc);
+    made_and_visited(&mut store, alloc, start)
+}
+
+fn run(alloc: Global) -> Option<Visited> {
+    match name(alloc, 5, None) {
+        Ok(token) => {
+            let start = VarName::Token(token, Part::Start);
+            run_for(alloc, &start)
+        }
+        Err(_) => None,
+    }
 }
 
 #[test]
