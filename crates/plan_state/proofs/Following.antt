@@ -1,0 +1,136 @@
+-- A decision that is admissible after the decisions of a store at rest may follow there.
+use Rattle.std.proofs.Common.{◌≡◌, ℕ, List, [], ◌∷◌, ◌++◌, ◌⊎◌, inl, inr, ◌∙◌, ap, subst, ⊎_elim, arith}
+use Rattle.std.specs.Prelude.{Contains}
+use Rattle.std.proofs.lemmas.Bool.{cases_lt}
+use Rattle.std.proofs.lemmas.List.Elements.{All-contains}
+use Rattle.domain_core.specs.Domain.{Domain}
+use Rattle.eu_name.specs.declared.name.TokenName.{TokenName}
+use Rattle.eu_name.specs.declared.name.VarName.{VarName}
+use Rattle.eu_name.specs.NameOrder.{IsStrictTotalOrder}
+use Rattle.eu_name.proofs.Orders.{token_order, var_order}
+use Rattle.model_core.specs.declared.decision.Decision.{Decision}
+use Rattle.model_core.specs.declared.decision.Decision.TheVariants.{Specify, Activate, Merge, Reject, Order}
+use Rattle.model_core.specs.declared.model.Model.{Model}
+use Rattle.model_core.specs.declared.rule.Slot.{Slot}
+use Rattle.model_core.specs.State.{State, VarDomain}
+use Rattle.model_core.specs.Tokens.{HasToken}
+use Rattle.model_core.proofs.Leading.{token_once}
+use Rattle.plan_defs.specs.Refusals.{Refusal, Unknown, Decided, NotSamePredicate, Hinders, IsKnown, HaveSamePredicate, IsAdmissible}
+use Rattle.plan_defs.proofs.Ordered.{contains_head, contains_later, contains_cases, contains_none}
+use Rattle.plan_defs.proofs.Settling.{least_same}
+use Rattle.plan_growth.specs.Content.{shown, AreAlike}
+use Rattle.plan_store.specs.Stores.{Stored, snapshot_of, IsSnapshot, named_content}
+use Rattle.plan_store.proofs.Naming.{names_are_once}
+use Rattle.plan_view.specs.InOrder.{state_of}
+use Rattle.plan_view.proofs.Seen.{put_in_order}
+use Rattle.timeline_core.specs.Unordered.{AreDecidedOnce}
+use Rattle.plan_state.specs.Advancing.{IsLeastOf, CanFollow}
+
+-- ---- what is there or isn't
+
+same_or_not : {X : Type 0} (before : X → X → Type 0) → IsStrictTotalOrder before → (one other : X) → (one ≡ other) ⊎ (one ≡ other → ⊥)
+same_or_not {X} before order one other = elim (order.total one other) [
+  | inl less ↦ inr (λ same. order.irreflexive other (subst (λ x. before x other) same less))
+  | inr (inl same) ↦ inl same
+  | inr (inr more) ↦ inr (λ same. order.irreflexive other (subst (λ x. before other x) same more))
+]
+
+number_same_or_not : (one other : ℕ) → (one ≡ other) ⊎ (one ≡ other → ⊥)
+number_same_or_not one other = elim (cases_lt one other) [
+  | inl less ↦ inr (λ same. omega (arith, less, same))
+  | inr not_less ↦ elim (cases_lt other one) [
+    | inl more ↦ inr (λ same. omega (arith, more, same))
+    | inr not_more ↦ inl (omega (arith, not_less, not_more))
+  ]
+]
+
+there_or_not : {X : Type 0} → ((one other : X) → (one ≡ other) ⊎ (one ≡ other → ⊥)) → (xs : List X) (x : X) → Contains xs x ⊎ (Contains xs x → ⊥)
+there_or_not decide [] x = inr (contains_none x)
+there_or_not decide (y ∷ xs) x = elim (decide y x) [
+  | inl same ↦ inl (subst (Contains (y ∷ xs)) same (contains_head y xs))
+  | inr apart ↦ elim (there_or_not decide xs x) [
+    | inl there ↦ inl (contains_later y x xs there)
+    | inr none ↦ inr (λ there. ⊎_elim apart none (contains_cases y x xs there))
+  ]
+]
+
+token_or_not : (tokens : List TokenName) (token : TokenName) → Contains tokens token ⊎ (Contains tokens token → ⊥)
+token_or_not = there_or_not (same_or_not _ token_order)
+
+abbrev IsGivenIn : List VarDomain → VarName → Type 0
+IsGivenIn entries name = (domain : Domain) × Contains entries (record { name = name; domain = domain })
+
+given_or_not : (entries : List VarDomain) (name : VarName) → IsGivenIn entries name ⊎ (IsGivenIn entries name → ⊥)
+given_or_not [] name = inr (λ given. contains_none _ given.1)
+given_or_not (entry ∷ entries) name = elim (same_or_not _ var_order entry.name name) [
+  | inl same ↦ inl (entry.domain, subst (λ n. Contains (entry ∷ entries) (record { name = n; domain = entry.domain })) same (contains_head entry entries))
+  | inr apart ↦ elim (given_or_not entries name) [
+    | inl given ↦ inl (given.0, contains_later entry _ entries given.1)
+    | inr none ↦ inr (λ given. ⊎_elim (λ same. apart (ap (λ (e : VarDomain). e.name) same)) (λ later. none (given.0, later)) (contains_cases entry _ entries given.1))
+  ]
+]
+
+both_or_not : (P Q : Type 0) → P ⊎ (P → ⊥) → Q ⊎ (Q → ⊥) → (P × Q) ⊎ (P × Q → ⊥)
+both_or_not P Q (inl p) (inl q) = inl (p, q)
+both_or_not P Q (inl p) (inr none) = inr (λ both. none both.1)
+both_or_not P Q (inr none) q = inr (λ both. none both.0)
+
+known_or_not : (state : State) (decision : Decision) → IsKnown state decision ⊎ (IsKnown state decision → ⊥)
+known_or_not state (Specify name value) = given_or_not state.entries name
+known_or_not state (Activate token) = token_or_not state.tokens token
+known_or_not state (Merge token target) = both_or_not _ _ (token_or_not state.tokens token) (token_or_not state.tokens target)
+known_or_not state (Reject token) = token_or_not state.tokens token
+known_or_not state (Order one other) = both_or_not _ _ (token_or_not state.tokens one) (token_or_not state.tokens other)
+
+-- ---- alike states
+
+pub known_alike : (one other : State) → AreAlike one other → (decision : Decision) → IsKnown other decision → IsKnown one decision
+known_alike one other alike (Specify name value) known = (known.0, (alike.gives name known.0).1 known.1)
+known_alike one other alike (Activate token) known = (alike.tokens token).1 known
+known_alike one other alike (Merge token target) known = ((alike.tokens token).1 known.0, (alike.tokens target).1 known.1)
+known_alike one other alike (Reject token) known = (alike.tokens token).1 known
+known_alike one other alike (Order before after) known = ((alike.tokens before).1 known.0, (alike.tokens after).1 known.1)
+
+module _ (model : Model) (decisions : List Decision) (stored : Stored) (decision : Decision) (is : IsSnapshot (snapshot_of stored))
+    (least : IsLeastOf model decisions (snapshot_of stored)) (admissible : IsAdmissible model decisions decision)
+    (once : AreDecidedOnce model (decisions ++ decision ∷ [])) where
+  abbrev seen : State
+  seen = state_of (named_content (snapshot_of stored))
+
+  free : (reason : Refusal) → Hinders model decisions seen reason decision → ⊥
+  free =
+      subst (λ (state : State). (reason : Refusal) → Hinders model decisions state reason decision → ⊥)
+      (least_same model decisions admissible.state seen admissible.least least.least) admissible.free
+
+  known_seen : IsKnown seen decision
+  known_seen = elim (known_or_not seen decision) [
+    | inl known ↦ known
+    | inr none ↦ absurd (free Unknown none)
+  ]
+
+  slot_of : (token : TokenName) → Contains seen.tokens token → (slot : Slot) × HasToken model token slot
+  slot_of token there = All-contains (λ token. (slot : Slot) × HasToken model token slot) seen.tokens token least.least.closed.consistent.is_state.tokens there
+
+  same_predicate : (token target : TokenName) → Contains seen.tokens token → Contains seen.tokens target
+      → ((HaveSamePredicate model token target → ⊥) → ⊥) → HaveSamePredicate model token target
+  same_predicate token target there other not_apart =
+      let one = slot_of token there in
+      let two = slot_of target other in
+      elim (number_same_or_not one.0.pred two.0.pred) [
+        | inl same ↦ record { slot = one.0; other_slot = two.0; has_one = one.1; has_other = two.1; same = same }
+        | inr apart ↦ absurd (not_apart (λ have. apart (
+            ap (λ (slot : Slot). slot.pred) (token_once model token one.0 have.slot one.1 have.has_one)
+            ∙ (have.same ∙ ap (λ (slot : Slot). slot.pred) (token_once model target have.other_slot two.0 have.has_other two.1)))))
+      ]
+
+  pub can_follow : CanFollow model decisions stored decision
+  can_follow = record {
+    rest = least.rest;
+    known = known_alike (shown (named_content (snapshot_of stored))) seen (put_in_order (named_content (snapshot_of stored)) (names_are_once (snapshot_of stored) is)).alike decision known_seen;
+    undecided = free Decided;
+    alike = λ token target same.
+        let there = subst (IsKnown seen) same known_seen in
+        same_predicate token target there.0 there.1
+        (subst (λ (d : Decision). Hinders model decisions seen NotSamePredicate d → ⊥) same (free NotSamePredicate));
+    once = once;
+  }

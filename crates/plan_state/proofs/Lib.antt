@@ -1,0 +1,4 @@
+pub mod Returning
+pub mod Following
+pub mod Resting
+pub mod Going

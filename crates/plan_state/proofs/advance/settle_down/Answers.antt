@@ -1,0 +1,14 @@
+use Rattle.std.proofs.Common.{subst}
+use Rattle.plan_closing.specs.Closing.{BringsToRest}
+use Rattle.plan_state.proofs.Going.{can_begin, settles_down}
+use Rattle.plan_state.proofs.advance.settle_down.Goals as goal
+
+pub close-requires-clause-way : goal.close-requires-clause-way
+close-requires-clause-way c =
+    rw (c.as_slice.ensures.value)
+    (can_begin c.args.model.now c.args.store.now c.requires.beginning c.in_ok-due.due.items c.in_ok-due.ensures)
+
+pub returns : goal.returns
+returns c =
+    settles_down c.args.model.now c.args.store.now c.requires.beginning c.in_ok-due.due.items c.in_ok-due.ensures c.close.new.store c.close.result
+    (subst (λ due. BringsToRest c.args.model.now 0 due c.args.store.now c.close.result c.close.new.store) c.as_slice.ensures.value c.close.ensures.closes) c.close.ensures.tables
