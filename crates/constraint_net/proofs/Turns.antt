@@ -11,7 +11,7 @@ use Rattle.narrow_core.specs.Laws.{LieWithin}
 use Rattle.narrow_core.specs.declared.field.Field.{Field}
 use Rattle.constraint_net.specs.Agendas.{Waits}
 use Rattle.constraint_net.specs.Networks.{IsConsistent, AllConsistent}
-use Rattle.constraint_net.specs.Queues.{Queued, IsFirst}
+use Rattle.constraint_net.specs.Queues.{Queued, IsForemost}
 use Rattle.constraint_net.specs.Waiting.{IsConsistentAt, WerePosted, NameWithin, IsKeptAgenda}
 use Rattle.constraint_net.specs.Steps.{FitWithin, Advances, AdvancesTo, StepsTo, SettlesTo}
 use Rattle.constraint_net.specs.declared.agenda.Agenda.{Agenda}
@@ -122,7 +122,7 @@ module _ (tables : List Field) (constraints : List Constraint) (number : ℕ) (s
   turned_out result failed is p = ran_out fits start old new so_far result failed is (advances_all tables constraints number old new p)
 
 -- the first number was taken off, and the others are there
-pub taken_off : (number : ℕ) (old middle new : Queued) (result : Option ℕ) → IsFirst number old → middle ≡ old → MatchOption result ((middle.items ≡ []) × (new ≡ middle)) (λ first. middle.items ≡ first ∷ new.items)
+pub taken_off : (number : ℕ) (old middle new : Queued) (result : Option ℕ) → IsForemost number old → middle ≡ old → MatchOption result ((middle.items ≡ []) × (new ≡ middle)) (λ first. middle.items ≡ first ∷ new.items)
     → (length new.items < length old.items) × ((other : ℕ) → Contains middle.items other → (other ≡ number) ⊎ Contains new.items other)
 taken_off number old middle new None first same took =
     absurd (let bad : [] ≡ number ∷ first.0 = sym took.0 ∙ ap (λ (q : Queued). q.items) same ∙ first.1 in omega (arith, ap length bad))

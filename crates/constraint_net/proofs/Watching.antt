@@ -8,7 +8,7 @@ use Rattle.std.specs.declared.alloc.Global.{Global}
 use Rattle.std.proofs.lemmas.Bool.{cases_eq}
 use Rattle.std.proofs.lemmas.List.{append-nil, length_push, length-map, length-set, map-set, get_or-map, set-get_or, get_or-set_same, get_or-set_other}
 use Rattle.std.proofs.lemmas.List.Elements.{Contains-push_cases}
-use Rattle.constraint_net.specs.Agendas.{listed, KeepsLists, KeepsBelow, Shortens}
+use Rattle.constraint_net.specs.Agendas.{watchers_at, KeepsLists, KeepsBelow, Shortens}
 
 -- a list more that is empty changes none
 push_default : {X : Type 0} (xs : List X) (d : X) (n : ℕ) → get_or (xs ++ d ∷ []) n d ≡ get_or xs n d
@@ -18,12 +18,12 @@ push_default (x ∷ xs) d zero = refl
 push_default (x ∷ xs) d (suc n) = push_default xs d n
 
 pub keeps_same : (old new : List (List ℕ)) → new ≡ old → KeepsLists old new
-keeps_same old new same = record { lists = omega (arith, ap length same); each = λ variable number member. subst (λ lists. Contains (listed lists variable) number) (sym same) member }
+keeps_same old new same = record { lists = omega (arith, ap length same); each = λ variable number member. subst (λ lists. Contains (watchers_at lists variable) number) (sym same) member }
 
 pub keeps_grown : (old new : List (List ℕ)) → new ≡ old ++ [] ∷ [] → KeepsLists old new
 keeps_grown old new is = record {
   lists = omega (arith, ap length is, length_push old []);
-  each = λ variable number member. subst (λ list. Contains list number) (sym (ap (λ lists. listed lists variable) is ∙ push_default old [] variable)) member;
+  each = λ variable number member. subst (λ list. Contains list number) (sym (ap (λ lists. watchers_at lists variable) is ∙ push_default old [] variable)) member;
 }
 
 abbrev pub lists_of : List (Vec ℕ Global) → List (List ℕ)

@@ -11,8 +11,8 @@ use Rattle.constraint_net.specs.declared.constraint.NetArg.{NetArg}
 use Rattle.constraint_net.specs.declared.constraint.NetArg.TheVariants.{Var}
 
 -- the numbers in the list of the variable
-abbrev pub listed : List (List ℕ) → ℕ → List ℕ
-listed watchers variable = slice_index_or watchers variable []
+abbrev pub watchers_at : List (List ℕ) → ℕ → List ℕ
+watchers_at watchers variable = slice_index_or watchers variable []
 
 -- the constraint of this number waits to be narrowed
 abbrev pub Waits : Agenda → ℕ → Type 0
@@ -20,7 +20,7 @@ Waits agenda number = Contains agenda.waiting.items number
 
 -- the constraint of this number is told when the variable changes
 abbrev pub Watches : Agenda → ℕ → ℕ → Type 0
-Watches agenda number variable = Contains (listed agenda.watchers variable) number
+Watches agenda number variable = Contains (watchers_at agenda.watchers variable) number
 
 -- the variable is among those that have changed
 abbrev pub IsNoted : Agenda → ℕ → Type 0
@@ -34,13 +34,13 @@ pub record HasVariables (count : ℕ) (agenda : Agenda) : Type 0 where
 -- there may be more lists, and each has what it had
 pub record KeepsLists (old new : List (List ℕ)) : Type 0 where
   pub lists : length old ≤ length new
-  pub each : (variable number : ℕ) → Contains (listed old variable) number → Contains (listed new variable) number
+  pub each : (variable number : ℕ) → Contains (watchers_at old variable) number → Contains (watchers_at new variable) number
 
 -- numbers below the count stay in the lists
 pub record KeepsBelow (count : ℕ) (old new : List (List ℕ)) : Type 0 where
   pub lists : length new ≡ length old
   pub below : (variable number : ℕ) → number < count
-      → Contains (listed old variable) number → Contains (listed new variable) number
+      → Contains (watchers_at old variable) number → Contains (watchers_at new variable) number
 
 -- so it is in one list
 abbrev pub Shortens : ℕ → List ℕ → List ℕ → Type 0
@@ -60,8 +60,8 @@ pub record Grows (old new : Agenda) : Type 0 where
 pub record Joins (number : ℕ) (args : List NetArg) (old : List (List ℕ))
     (result : Result (Unit {0}) AllocError) (new : List (List ℕ)) : Type 0 where
   pub lists : length new ≡ length old
-  pub others : (variable other : ℕ) → Contains (listed old variable) other → Contains (listed new variable) other
-  pub joined : OnOk result ((variable : ℕ) → Contains args (Var variable) → Contains (listed new variable) number)
+  pub others : (variable other : ℕ) → Contains (watchers_at old variable) other → Contains (watchers_at new variable) other
+  pub joined : OnOk result ((variable : ℕ) → Contains args (Var variable) → Contains (watchers_at new variable) number)
 
 -- the constraint waits, and watches each variable among its arguments, unless memory has run out
 pub record Enrols (number : ℕ) (args : List NetArg) (old : Agenda)

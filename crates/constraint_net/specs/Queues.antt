@@ -7,8 +7,8 @@ pub record Queued : Type 0 where
   pub room : ℕ
 
 -- the number is the first one
-abbrev pub IsFirst : ℕ → Queued → Type 0
-IsFirst number queue = (others : List ℕ) × (queue.items ≡ number ∷ others)
+abbrev pub IsForemost : ℕ → Queued → Type 0
+IsForemost number queue = (others : List ℕ) × (queue.items ≡ number ∷ others)
 
 -- numbers may have come behind the others, and there are no more of them than may come
 pub record Lengthens (old new : Queued) : Type 0 where

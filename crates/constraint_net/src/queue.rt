@@ -1,7 +1,7 @@
 //! Queues of numbers, each of which stands there at most once.
 
 ghost use Rattle.std.specs.Prelude.{◌≡◌, ◌+◌, ◌≤◌, [], ◌∷◌, length, OnOk, MatchOption};
-ghost use Rattle.constraint_net.specs.Queues.{Takes, IsFirst};
+ghost use Rattle.constraint_net.specs.Queues.{Takes, IsForemost};
 
 use std::alloc::{AllocError, Global};
 use std::collections::VecDeque;
@@ -74,7 +74,7 @@ impl Queue {
 
     /// The first of the numbers.
     pub fn first(&self) -> Option<usize>
-        ensures first { MatchOption result (self.now.items ≡ []) (λ number. IsFirst number self.now) }
+        ensures first { MatchOption result (self.now.items ≡ []) (λ number. IsForemost number self.now) }
         ensures few { length self.now.items ≤ self.now.room }
     {
         self.items.front().copied()

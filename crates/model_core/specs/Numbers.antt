@@ -1,12 +1,15 @@
 -- The numbers of a rule's items.
 use Rattle.std.specs.Prelude.{◌≡◌, ℕ, ◌+◌, List, [], ◌∷◌, ◌++◌, Some, slice_get}
 use Rattle.model_core.specs.declared.item.Item.{Item}
+use Rattle.model_core.specs.declared.rule.Entry.{Entry}
+use Rattle.model_core.specs.declared.rule.Entry.TheVariants as entry
 use Rattle.model_core.specs.declared.rule.Rule.{Rule}
 use Rattle.model_core.specs.declared.rule.Side.{Side}
 use Rattle.model_core.specs.declared.rule.Side.TheVariants.{Then, Otherwise}
 use Rattle.model_core.specs.declared.rule.Turn.{Turn}
 use Rattle.model_core.specs.Blocks.{OfItem}
 use Rattle.model_core.specs.Entries.{Entries, NoEntry, WithSlot, WithLocal, WithItem, WithBranch}
+use Rattle.model_core.specs.Lawful.{item_count}
 use Rattle.model_core.specs.Standing.{StandsAt}
 
 -- an item, with the way to the block in which it stands and its place there
@@ -30,6 +33,13 @@ items_from path place (WithBranch guard then otherwise more) =
     items_from (turned path place Then) 0 then
     ++ (items_from (turned path place Otherwise) 0 otherwise
     ++ items_from path (place + 1) more)
+
+-- how many items the entry is or holds
+abbrev pub items_inside : Entry → ℕ
+items_inside (entry.Slot number) = 0
+items_inside (entry.Local number) = 0
+items_inside (entry.Item item) = 1
+items_inside (entry.Branch guard then otherwise) = item_count then + item_count otherwise
 
 -- all items of the rule, open or not: the number of each is how many come before it
 abbrev pub rule_items : Rule → List PlacedItem

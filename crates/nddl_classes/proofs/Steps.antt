@@ -10,7 +10,7 @@ use Rattle.nddl_ast.specs.declared.kind.TextKind.{TextKind}
 use Rattle.nddl_ast.specs.declared.kind.TextKind.TheVariants as kinds
 use Rattle.nddl_ast.specs.declared.name.Name.{Name}
 use Rattle.nddl_scope.specs.declared.fault.Fault.{Fault}
-use Rattle.nddl_scope.specs.Finding.{earliest_fault, fault_at}
+use Rattle.nddl_scope.specs.Finding.{earliest_fault, faults_here}
 use Rattle.nddl_scope.specs.Index.{Noted}
 use Rattle.nddl_scope.specs.Repeats.{repeated_faults}
 use Rattle.nddl_scope.specs.Scope.{fault_if}
@@ -52,15 +52,15 @@ pub predicate_step : (facts : Facts) (decl : ℕ) (name : Name) (some : List (Bo
     → noted ≡ words_noted [] token_part_words
     → two ≡ earliest_fault one (repeated_faults decl noted (typed_names (map (λ typed. typed.now) some)))
     → kind ≡ fault_if (nat_lt 32 (length some)) kinds.LimitParameters
-    → three ≡ earliest_fault two (fault_at decl name.at kind)
+    → three ≡ earliest_fault two (faults_here decl name.at kind)
     → three ≡ earliest_fault first (predicate_faults facts decl name (map (λ typed. typed.now) some))
 predicate_step facts decl name some first one two three noted kind one_is noted_is two_is kind_is three_is =
     let parameters = map (λ (typed : Bor Typed). typed.now) some in
     let types = typed_faults facts decl parameters in
     let names = repeated_faults decl (words_noted [] token_part_words) (typed_names parameters) in
-    let number = fault_at decl name.at (fault_if (nat_lt 32 (length parameters)) kinds.LimitParameters) in
+    let number = faults_here decl name.at (fault_if (nat_lt 32 (length parameters)) kinds.LimitParameters) in
     three_is
-    ∙ (ap (λ k. earliest_fault two (fault_at decl name.at k))
+    ∙ (ap (λ k. earliest_fault two (faults_here decl name.at k))
     (kind_is ∙ ap (λ n. fault_if (nat_lt 32 n) kinds.LimitParameters) (sym (length-map some (λ (typed : Bor Typed). typed.now))))
     ∙ (ap (λ o. earliest_fault o number)
     (two_is ∙ (ap (λ n. earliest_fault one (repeated_faults decl n (typed_names parameters))) noted_is ∙ ap (λ o. earliest_fault o names) one_is))

@@ -9,7 +9,7 @@ use Rattle.nddl_scope.specs.declared.declared.Declared.{Declared}
 use Rattle.nddl_scope.specs.declared.fault.Fault.{Fault}
 use Rattle.nddl_scope.specs.declared.scope.Meaning.{Meaning}
 use Rattle.nddl_scope.specs.declared.scope.Meaning.TheVariants as meanings
-use Rattle.nddl_scope.specs.Finding.{fault_at}
+use Rattle.nddl_scope.specs.Finding.{faults_here}
 use Rattle.nddl_scope.specs.Repeats.{repeated_faults}
 use Rattle.nddl_scope.specs.Scope.{is_class_at, meaning_of}
 use Rattle.nddl_lines.specs.Facts.{Facts}
@@ -25,7 +25,7 @@ class_meaning_fault names (Some (meanings.Entry entry)) = if is_class_at names e
 -- what is wrong with what a class extends
 abbrev pub parent_faults : List Declared → ℕ → Option Name → List Fault
 parent_faults names decl None = []
-parent_faults names decl (Some name) = fault_at decl name.at (class_meaning_fault names (meaning_of names name.text))
+parent_faults names decl (Some name) = faults_here decl name.at (class_meaning_fault names (meaning_of names name.text))
 
 -- All that is wrong with a class: with what it extends, with the names of its fields and predicates, of which none is one
 -- that it has already, inside its members, and with its constructors.

@@ -11,7 +11,7 @@ use Rattle.nddl_ast.specs.declared.declaration.Typed.{Typed}
 use Rattle.nddl_ast.specs.declared.kind.TextKind.TheVariants as faults
 use Rattle.nddl_ast.specs.declared.name.Name.{Name}
 use Rattle.nddl_scope.specs.declared.fault.Fault.{Fault}
-use Rattle.nddl_scope.specs.Finding.{fault_at}
+use Rattle.nddl_scope.specs.Finding.{faults_here}
 use Rattle.nddl_scope.specs.Repeats.{repeated_faults}
 use Rattle.nddl_scope.specs.Scope.{fault_if}
 use Rattle.nddl_lines.specs.Facts.{Facts}
@@ -39,7 +39,7 @@ abbrev pub predicate_faults : Facts → ℕ → Name → List Typed → List Fau
 predicate_faults facts decl name parameters =
     typed_faults facts decl parameters
     ++ (repeated_faults decl (words_noted [] token_part_words) (typed_names parameters)
-    ++ fault_at decl name.at (fault_if (nat_lt 32 (length parameters)) faults.LimitParameters))
+    ++ faults_here decl name.at (fault_if (nat_lt 32 (length parameters)) faults.LimitParameters))
 
 -- what is wrong with the formals of a constructor
 abbrev pub formals_faults : Facts → ℕ → List Typed → List Fault
@@ -55,8 +55,8 @@ member_faults facts decl (members.Constructor name formals sets) = formals_fault
 -- what is wrong with a member as a constructor of a class, where there is one before it or not
 abbrev pub constructor_fault : ℕ → Name → Bool → Member → List Fault
 constructor_fault decl class seen (members.Constructor name formals sets) =
-    fault_at decl name.at (fault_if seen faults.Twice)
-    ++ fault_at decl name.at (fault_if (not (bytes_eq name.text class.text)) faults.WrongType)
+    faults_here decl name.at (fault_if seen faults.Twice)
+    ++ faults_here decl name.at (fault_if (not (bytes_eq name.text class.text)) faults.WrongType)
 constructor_fault decl class seen member = []
 
 abbrev pub is_constructor : Member → Bool

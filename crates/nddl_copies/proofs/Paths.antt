@@ -2,11 +2,11 @@
 use Rattle.std.proofs.Common.{◌≡◌, List, [], ◌∷◌, ◌++◌, length, refl, ◌∙◌, ap, arith}
 use Rattle.std.specs.Prelude.{Some, None}
 use Rattle.nddl_ast.specs.declared.name.Name.{Name}
-use Rattle.nddl_copies.specs.Path.{last_of, all_but_last, path_until}
+use Rattle.nddl_copies.specs.Path.{last_in_path, all_but_last, path_until}
 
-pub last_behind : (first name : Name) (names rest : List Name) → names ≡ rest ++ name ∷ [] → last_of first names ≡ name
-last_behind first name names rest is = ap (last_of first) is ∙ behind first rest where
-  behind : (first : Name) (rest : List Name) → last_of first (rest ++ name ∷ []) ≡ name
+pub last_behind : (first name : Name) (names rest : List Name) → names ≡ rest ++ name ∷ [] → last_in_path first names ≡ name
+last_behind first name names rest is = ap (last_in_path first) is ∙ behind first rest where
+  behind : (first : Name) (rest : List Name) → last_in_path first (rest ++ name ∷ []) ≡ name
   behind first [] = refl
   behind first (next ∷ rest) = behind next rest
 
@@ -21,6 +21,6 @@ until first name (next ∷ rest) = ap (λ (names : List Name). Some (record { fi
 pub path_behind : (first name : Name) (names rest : List Name) → names ≡ rest ++ name ∷ [] → path_until first names ≡ Some (record { first = first; rest = rest })
 path_behind first name names rest is = ap (path_until first) is ∙ until first name rest
 
-pub no_path : (first : Name) (names : List Name) → length names ≡ 0 → (last_of first names ≡ first) × (path_until first names ≡ None)
+pub no_path : (first : Name) (names : List Name) → length names ≡ 0 → (last_in_path first names ≡ first) × (path_until first names ≡ None)
 no_path first [] none = (refl, refl)
 no_path first (name ∷ names) none = absurd (let never : ⊥ = omega arith in never)

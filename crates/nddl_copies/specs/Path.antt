@@ -4,9 +4,9 @@ use Rattle.nddl_ast.specs.declared.name.Name.{Name}
 use Rattle.nddl_ast.specs.declared.name.Path.{Path}
 
 -- the last of a name and others behind it
-abbrev pub last_of : Name → List Name → Name
-last_of name [] = name
-last_of name (next ∷ more) = last_of next more
+abbrev pub last_in_path : Name → List Name → Name
+last_in_path name [] = name
+last_in_path name (next ∷ more) = last_in_path next more
 
 -- those before it
 abbrev pub all_but_last : Name → List Name → List Name
@@ -14,7 +14,7 @@ all_but_last name [] = []
 all_but_last name (next ∷ more) = name ∷ all_but_last next more
 
 abbrev pub last_name : Path → Name
-last_name path = last_of path.first path.rest
+last_name path = last_in_path path.first path.rest
 
 -- a path of these names without the last of them, if that leaves one
 abbrev pub path_until : Name → List Name → Option Path

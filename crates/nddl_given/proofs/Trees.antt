@@ -42,7 +42,7 @@ use Rattle.nddl_ast.specs.declared.declaration.Member.TheVariants as members
 use Rattle.nddl_ast.specs.declared.declaration.Decl.{Decl}
 use Rattle.nddl_ast.specs.declared.declaration.Decl.TheVariants as decls
 use Rattle.nddl_lexer.specs.Spelling.{IsNumberInRange}
-use Rattle.nddl_statements.specs.Grammar.{IsWrittenName, IsPath, Writes, IsLiteral, IsExpr, IsWrittenValue, AreArguments, IsCreation, IsInit, IsBase, IsBounds, IsType, IsTyped, IsStart, IsVariable, IsCall, IsAsk, IsCondition, Encloses, IsLoneIf, AreStatements, IsBlock}
+use Rattle.nddl_statements.specs.Grammar.{IsWrittenName, IsPath, Writes, IsLiteral, IsExpr, IsWrittenValue, AreExpressions, IsCreation, IsInit, IsBase, IsBounds, IsType, IsTyped, IsStart, IsVariable, IsCall, IsAsk, IsCondition, Encloses, IsLoneIf, AreStatements, IsBraced}
 use Rattle.nddl_parser.specs.Grammar.{IsPredicatePart, IsSet, IsMember, IsFile, IsParent, IsDecl, IsText}
 use Rattle.nddl_given.specs.Fine.{IsFineName, IsFinePath, IsFineConstant, IsFineExpr, IsFineValue, IsFineCreation, IsFineInit, IsFineBase, IsFineBounds, IsFineType, IsFineTyped, IsFineStart, IsFineVariable, IsFineCall, IsFineAsk, IsFineCondition, AreFineStatements, IsFinePart, IsFineSet, IsFineMember, IsFineParent, IsFineDecl}
 use Rattle.nddl_given.specs.Nodes.{names_nodes, path_nodes, expr_nodes, creation_nodes, init_nodes, bounds_nodes, type_nodes, typed_nodes, start_nodes, variable_nodes, call_nodes, ask_nodes, condition_nodes, statements_nodes, block_nodes, part_nodes, set_nodes, member_nodes, parent_nodes, decl_nodes}
@@ -97,7 +97,7 @@ value_shows : (value : Value) → Shows (IsWrittenValue value) (IsFineValue valu
 value_shows (values.Name name) = name_shows name
 value_shows (values.Literal literal) = literal_shows literal
 
-arguments_show : (arguments : List Expr) → Shows (AreArguments arguments) (All IsFineExpr arguments) (flat_map expr_nodes arguments)
+arguments_show : (arguments : List Expr) → Shows (AreExpressions arguments) (All IsFineExpr arguments) (flat_map expr_nodes arguments)
 arguments_show arguments = listed sorts.Comma IsExpr IsFineExpr expr_nodes expr_shows arguments
 
 -- a mark, and then this
@@ -216,7 +216,7 @@ statements_show (Repeats at name class body_at body more) =
     (past_mark sorts.ParenClose (enclosed body_at (statements_show body))))))))
     (statements_show more)
 
-block_shows : (block : Braces) → Shows (IsBlock block) (AreFineStatements block.statements) (block_nodes block)
+block_shows : (block : Braces) → Shows (IsBraced block) (AreFineStatements block.statements) (block_nodes block)
 block_shows block = enclosed block.at (statements_show block.statements)
 
 -- ---- declarations

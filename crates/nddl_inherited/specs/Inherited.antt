@@ -13,8 +13,8 @@ use Rattle.nddl_scope.specs.declared.scope.Meaning.{Meaning}
 use Rattle.nddl_scope.specs.declared.scope.Meaning.TheVariants as meanings
 use Rattle.nddl_scope.specs.Index.{Noted, with_noted}
 use Rattle.nddl_scope.specs.Scope.{is_class_at, meaning_of}
-use Rattle.nddl_lines.specs.Ancestors.{above, line_of}
-use Rattle.nddl_lines.specs.Decls.{body_of}
+use Rattle.nddl_lines.specs.Ancestors.{above, ancestry}
+use Rattle.nddl_lines.specs.Decls.{declaration_with_body}
 use Rattle.nddl_lines.specs.Facts.{Facts}
 use Rattle.nddl_lines.specs.Lines.{is_rooted}
 
@@ -48,7 +48,7 @@ decl_members decl = []
 -- the members of the class of this number
 abbrev pub members_of : List Declared → List Decl → ℕ → List Member
 members_of names program entry =
-    option_map_or decl_members (option_and_then (body_of names program) (slice_get names entry)) []
+    option_map_or decl_members (option_and_then (declaration_with_body names program) (slice_get names entry)) []
 
 -- the fields and predicates of a reservoir
 abbrev pub reservoir_members : List (List ℕ)
@@ -85,7 +85,7 @@ meaning_noted facts None = []
 meaning_noted facts (Some (meanings.BuiltIn number)) = words_noted [] (builtin_members number)
 meaning_noted facts (Some (meanings.Entry entry)) =
     if is_class_at facts.names entry && is_rooted (standing_in facts.marked entry)
-    then line_noted facts.names facts.program [] (line_of facts.parents entry) else []
+    then line_noted facts.names facts.program [] (ancestry facts.parents entry) else []
 
 -- the names that a class has from those that it extends
 abbrev pub inherited_noted : Facts → Option Name → Noted

@@ -12,8 +12,8 @@ use nddl_ast::declaration::{Decl, Member};
 use nddl_ast::name::Name;
 use nddl_lines::Basis;
 use nddl_lines::circles::is_rooted;
-use nddl_lines::decls::body_of;
-use nddl_lines::lines::{above, line_of};
+use nddl_lines::decls::declaration_with_body;
+use nddl_lines::lines::{above, ancestry};
 use nddl_scope::index::NameIndex;
 use nddl_scope::{Meaning, Scope};
 use std::alloc::{AllocError, Global};
@@ -71,7 +71,7 @@ fn by_entry(alloc: Global, basis: &Basis<'_>, entry: usize) -> Result<NameIndex,
 {
     let scope = basis.types.scope;
     if scope.is_class(entry) && is_rooted(basis.lineage.standing(entry)) {
-        let line = line_of(alloc, basis.parents, entry)?;
+        let line = ancestry(alloc, basis.parents, entry)?;
         line_index(alloc, scope, basis.decls, line.as_slice())
     } else {
         Ok(NameIndex::new(alloc))
@@ -116,7 +116,7 @@ pub fn members_of<'a>(scope: &Scope, decls: &[&'a Decl], entry: usize) -> &'a [M
     ensures { result.now ≡ members_of scope.now (map (λ decl. decl.now) decls.now) entry }
 {
     match scope.names().get(entry) {
-        Some(declared) => match body_of(scope, decls, declared) {
+        Some(declared) => match declaration_with_body(scope, decls, declared) {
             Some(decl) => decl_members(decl),
             None => &[],
         },

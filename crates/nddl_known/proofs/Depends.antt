@@ -10,7 +10,7 @@ use Rattle.nddl_scope.specs.declared.declared.Sort.{Sort}
 use Rattle.nddl_scope.specs.declared.declared.Sort.TheVariants as sorts
 use Rattle.nddl_scope.specs.declared.scope.Meaning.{Meaning}
 use Rattle.nddl_scope.specs.declared.scope.Meaning.TheVariants as meanings
-use Rattle.nddl_scope.specs.Finding.{fault_at}
+use Rattle.nddl_scope.specs.Finding.{faults_here}
 use Rattle.nddl_scope.specs.Scope.{meaning_of}
 use Rattle.nddl_sorts.specs.declared.kind.Extent.{Extent}
 use Rattle.nddl_sorts.specs.declared.kind.Extent.TheVariants as extents
@@ -89,7 +89,7 @@ with_known facts known =
 -- the meaning by the kind and the values of the base
 abbrev by_base : Facts → types.Type → Option TypeKind → Extent → Option TypeMeaning
 by_base facts type kind extent =
-    let faults = fault_at 0 type.at (base_fault facts.names type.base)
+    let faults = faults_here 0 type.at (base_fault facts.names type.base)
     ++ option_map_or (λ (found : TypeKind). bounds_faults facts.names found extent 0 type.bounds) kind [] in
     if is_fine (faults ++ objects_faults facts.names facts.program facts.parents facts.marked 0 kind type.bounds)
     then (if is_fine faults

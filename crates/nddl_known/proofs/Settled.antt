@@ -154,10 +154,10 @@ base_named names bases.Bool = refl
 base_named names bases.Str = refl
 
 -- a typedef of which the base names a typedef stands under it
-stands_under : (names : List Declared) (program : List Decl) (entry parent : ℕ) (type other : types.Type)
+pub typedef_under : (names : List Declared) (program : List Decl) (entry parent : ℕ) (type other : types.Type)
     → declared_type names program entry ≡ Some type → declared_type names program parent ≡ Some other
     → named_by names type.base ≡ Some (meanings.Entry parent) → StandsUnder (parents_of names program) entry parent
-stands_under names program entry parent type other is above named =
+typedef_under names program entry parent type other is above named =
     let one = is_typedef names program entry type is in
     let two = is_typedef names program parent other above in
     let under : Declared → Option ℕ = λ declared. sort_under names program declared declared.sort in
@@ -206,7 +206,7 @@ module _ (facts : Facts) (order : List ℕ) (are : facts.parents ≡ parents_of 
   agrees count place other entry known meaning type declared upto at none is fresh (Some (meanings.Entry base)) named =
       sym (set_other known entry base meaning (λ same.
       let by_entry : named_by facts.names type.base ≡ Some (meanings.Entry entry) = named ∙ ap (λ n. Some (meanings.Entry n)) same in
-      let under = stands_under facts.names facts.program other entry type declared is fresh by_entry in
+      let under = typedef_under facts.names facts.program other entry type declared is fresh by_entry in
       let P : List (Option ℕ) → Type 0 = λ p. StandsUnder p other entry in
       let earlier = first place other entry at (subst P (sym are) under) in
       none (earlier.0, (let less : earlier.0 < place = earlier.1 in omega arith), earlier.2)))

@@ -14,7 +14,7 @@ use Rattle.nddl_scope.specs.declared.scope.Meaning.{Meaning}
 use Rattle.nddl_scope.specs.declared.scope.Meaning.TheVariants as meanings
 use Rattle.nddl_scope.specs.Names.{is_class_sort}
 use Rattle.nddl_scope.specs.Scope.{is_class_at, meaning_of}
-use Rattle.nddl_lines.specs.Decls.{body_of, class_parent, decl_of_name, typedef_type}
+use Rattle.nddl_lines.specs.Decls.{declaration_with_body, class_parent, decl_of_name, typedef_type}
 use Rattle.nddl_lines.specs.Lines.{base_under, class_under, is_typedef_sort, parents_of, sort_under, typedef_of_meaning, under_meaning}
 
 -- if there is a number, it is at most this
@@ -63,9 +63,9 @@ base_at_most names bases.Bool = tt
 base_at_most names bases.Str = tt
 
 parent_at_most : (names : List Declared) (program : List Decl) (declared : Declared)
-    → AtMost (length names) (option_and_then (class_under names) (option_and_then class_parent (body_of names program declared)))
+    → AtMost (length names) (option_and_then (class_under names) (option_and_then class_parent (declaration_with_body names program declared)))
 parent_at_most names program declared =
-    at_most_then (class_under names) (option_and_then class_parent (body_of names program declared)) (length names)
+    at_most_then (class_under names) (option_and_then class_parent (declaration_with_body names program declared)) (length names)
     (λ name is. meaning_at_most names (meaning_of names name.text))
 
 sort_at_most : (names : List Declared) (program : List Decl) (declared : Declared) (sort : Sort) → AtMost (length names) (sort_under names program declared sort)

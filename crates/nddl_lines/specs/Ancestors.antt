@@ -21,11 +21,11 @@ use Rattle.nddl_scope.specs.declared.declared.Sort.TheVariants as sorts
 use Rattle.nddl_scope.specs.declared.fault.Fault.{Fault}
 use Rattle.nddl_scope.specs.declared.scope.Meaning.{Meaning}
 use Rattle.nddl_scope.specs.declared.scope.Meaning.TheVariants as meanings
-use Rattle.nddl_scope.specs.Finding.{fault_at}
+use Rattle.nddl_scope.specs.Finding.{faults_here}
 use Rattle.nddl_scope.specs.Scope.{fault_if, is_class_at, meaning_of}
 use Rattle.nddl_sorts.specs.declared.kind.TypeKind.{TypeKind}
 use Rattle.nddl_sorts.specs.declared.kind.TypeKind.TheVariants as kinds
-use Rattle.nddl_lines.specs.Decls.{body_of, class_parent, decl_of_name}
+use Rattle.nddl_lines.specs.Decls.{declaration_with_body, class_parent, decl_of_name}
 use Rattle.nddl_lines.specs.Lines.{is_rooted}
 
 -- what the thing of this number stands under
@@ -42,15 +42,15 @@ line_from zero parents next = []
 line_from (suc levels) parents next = line_more (line_from levels parents) parents next
 
 -- A thing and what it leads up to, in order. What stands on no circle leads up to fewer things than there are.
-abbrev pub line_of : List (Option ℕ) → ℕ → List ℕ
-line_of parents number = line_from (length parents) parents (Some number)
+abbrev pub ancestry : List (Option ℕ) → ℕ → List ℕ
+ancestry parents number = line_from (length parents) parents (Some number)
 
 -- what the class of this number extends
 abbrev pub above : List Declared → List Decl → ℕ → Option Meaning
 above names program entry =
     option_and_then
     (λ declared. option_and_then (λ name. meaning_of names name.text)
-    (option_and_then class_parent (body_of names program declared)))
+    (option_and_then class_parent (declaration_with_body names program declared)))
     (slice_get names entry)
 
 abbrev pub is_same_meaning : Meaning → Meaning → Bool
@@ -74,7 +74,7 @@ is_every class = is_same_meaning class (meanings.BuiltIn 0)
 -- the class of this number is the other one, or under it
 abbrev pub is_under : List Declared → List Decl → List (Option ℕ) → Meaning → ℕ → Bool
 is_under names program parents class entry =
-    is_every class || (is_same_meaning class (meanings.Entry entry) || is_extended names program class (line_of parents entry))
+    is_every class || (is_same_meaning class (meanings.Entry entry) || is_extended names program class (ancestry parents entry))
 
 -- ---- objects in written sets
 
@@ -125,7 +125,7 @@ is_foreign names program parents marked class value =
 abbrev pub foreign_faults : List Declared → List Decl → List (Option ℕ) → List Mark → ℕ → Meaning → List Value → List Fault
 foreign_faults names program parents marked decl class values =
     flat_map
-    (λ value. fault_at decl (value_place value)
+    (λ value. faults_here decl (value_place value)
     (fault_if (is_foreign names program parents marked class value) faults.NotInDomain))
     values
 

@@ -23,7 +23,7 @@ abbrev pub decl_of_name : List Decl → Declared → Option Decl
 decl_of_name program declared = slice_get program declared.place.decl
 
 -- the first declaration of this class with its members
-abbrev pub body_of : List Declared → List Decl → Declared → Option Decl
-body_of names program declared =
+abbrev pub declaration_with_body : List Declared → List Decl → Declared → Option Decl
+declaration_with_body names program declared =
     option_and_then (λ number. option_and_then (decl_of_name program) (slice_get names number))
     (named_number true names declared.name)

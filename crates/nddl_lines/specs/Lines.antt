@@ -17,10 +17,10 @@ use Rattle.nddl_scope.specs.declared.declared.Sort.TheVariants as sorts
 use Rattle.nddl_scope.specs.declared.fault.Fault.{Fault}
 use Rattle.nddl_scope.specs.declared.scope.Meaning.{Meaning}
 use Rattle.nddl_scope.specs.declared.scope.Meaning.TheVariants as meanings
-use Rattle.nddl_scope.specs.Finding.{fault_at}
+use Rattle.nddl_scope.specs.Finding.{faults_here}
 use Rattle.nddl_scope.specs.Names.{is_class_sort}
 use Rattle.nddl_scope.specs.Scope.{is_class_at, meaning_of, named_number}
-use Rattle.nddl_lines.specs.Decls.{class_parent, typedef_type, decl_of_name, body_of}
+use Rattle.nddl_lines.specs.Decls.{class_parent, typedef_type, decl_of_name, declaration_with_body}
 
 -- Names stand for what is declared first under them. One thing more, nowhere, has the number behind theirs and stands under
 -- itself: a class stands under it whose parent isn't there or is no class, so that it is known as one that leads up to
@@ -59,9 +59,9 @@ abbrev pub sort_under : List Declared → List Decl → Declared → Sort → Op
 sort_under names program declared sorts.Typedef =
     option_and_then (λ type. base_under names type.base) (option_and_then typedef_type (decl_of_name program declared))
 sort_under names program declared sorts.Forward =
-    option_and_then (class_under names) (option_and_then class_parent (body_of names program declared))
+    option_and_then (class_under names) (option_and_then class_parent (declaration_with_body names program declared))
 sort_under names program declared sorts.Body =
-    option_and_then (class_under names) (option_and_then class_parent (body_of names program declared))
+    option_and_then (class_under names) (option_and_then class_parent (declaration_with_body names program declared))
 sort_under names program declared sort = None
 
 -- what each name stands under, and at the end nowhere
@@ -88,7 +88,7 @@ declared_place names declared =
 
 -- it is its own ancestor
 abbrev pub circle_fault : Option Place → Bool → List Fault
-circle_fault (Some place) true = fault_at place.decl place.at (Some faults.WrongType)
+circle_fault (Some place) true = faults_here place.decl place.at (Some faults.WrongType)
 circle_fault place circle = []
 
 -- what is wrong with these of the names, of which the first has this number, where what all stand under has these marks

@@ -2,7 +2,7 @@
 
 ghost use Rattle.std.specs.Prelude.{◌≡◌, map, slice_get};
 ghost use Rattle.std.specs.Option.{option_and_then, option_copied};
-ghost use Rattle.nddl_lines.specs.Decls.{body_of, class_parent, decl_of_name, typedef_type};
+ghost use Rattle.nddl_lines.specs.Decls.{declaration_with_body, class_parent, decl_of_name, typedef_type};
 
 use nddl_ast::declaration::Decl;
 use nddl_ast::expression::Type;
@@ -37,8 +37,12 @@ pub fn typedef_type(decl: &Decl) -> Option<&Type>
 }
 
 /// The first declaration of this class with its members.
-pub fn body_of<'a>(scope: &Scope, decls: &[&'a Decl], declared: &Declared) -> Option<&'a Decl>
-    ensures { option_copied result ≡ body_of scope.now (map (λ decl. decl.now) decls.now) declared.now }
+pub fn declaration_with_body<'a>(
+    scope: &Scope,
+    decls: &[&'a Decl],
+    declared: &Declared,
+) -> Option<&'a Decl>
+    ensures { option_copied result ≡ declaration_with_body scope.now (map (λ decl. decl.now) decls.now) declared.now }
 {
     let number = scope.body(&declared.name)?;
     let body = scope.names().get(number)?;

@@ -1,20 +1,20 @@
 //! What classes lead up to.
 
 ghost use Rattle.std.specs.Prelude.{◌≡◌, IfOk, Some, length, map};
-ghost use Rattle.nddl_lines.specs.Ancestors.{above, is_extended, is_same_meaning, is_under, line_from, line_of, means, parent_in};
+ghost use Rattle.nddl_lines.specs.Ancestors.{above, is_extended, is_same_meaning, is_under, line_from, ancestry, means, parent_in};
 
-use super::decls::{body_of, class_parent};
+use super::decls::{class_parent, declaration_with_body};
 use nddl_ast::declaration::Decl;
 use nddl_scope::{Meaning, Scope};
 use std::alloc::{AllocError, Global};
 
 /// The thing of this number and what it leads up to, in order. The things stand under these.
-pub fn line_of(
+pub fn ancestry(
     alloc: Global,
     parents: &[Option<usize>],
     number: usize,
 ) -> Result<Vec<usize>, AllocError>
-    ensures { IfOk result (λ line. line.items ≡ line_of parents.now number) }
+    ensures { IfOk result (λ line. line.items ≡ ancestry parents.now number) }
 {
     let mut line = Vec::new(alloc);
     let mut next = Some(number);
@@ -42,7 +42,7 @@ pub fn above(scope: &Scope, decls: &[&Decl], entry: usize) -> Option<Meaning>
     ensures { result ≡ above scope.now (map (λ decl. decl.now) decls.now) entry }
 {
     let declared = scope.names().get(entry)?;
-    let body = body_of(scope, decls, declared)?;
+    let body = declaration_with_body(scope, decls, declared)?;
     let name = class_parent(body)?;
     scope.meaning(&name.text)
 }
@@ -96,6 +96,6 @@ pub fn is_under(
     {
         return Ok(true);
     }
-    let line = line_of(alloc, parents, entry)?;
+    let line = ancestry(alloc, parents, entry)?;
     Ok(is_extended(scope, decls, class, line.as_slice()))
 }

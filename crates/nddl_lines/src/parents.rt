@@ -4,7 +4,7 @@ ghost use Rattle.std.specs.Prelude.{◌≡◌, IfOk, map};
 ghost use Rattle.lineage.specs.Lines.{AreParents};
 ghost use Rattle.nddl_lines.specs.Lines.{base_under, class_under, parents_of, sort_under, typedef_at};
 
-use super::decls::{body_of, class_parent, decl_at, typedef_type};
+use super::decls::{class_parent, decl_at, declaration_with_body, typedef_type};
 use nddl_ast::declaration::Decl;
 use nddl_ast::expression::BaseType;
 use nddl_ast::name::Name;
@@ -40,7 +40,7 @@ fn name_under(scope: &Scope, decls: &[&Decl], declared: &Declared) -> Option<usi
             base_under(scope, &written.base)
         }
         Sort::Forward | Sort::Body => {
-            let body = body_of(scope, decls, declared)?;
+            let body = declaration_with_body(scope, decls, declared)?;
             let name = class_parent(body)?;
             class_under(scope, name)
         }

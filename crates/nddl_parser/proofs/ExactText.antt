@@ -19,7 +19,7 @@ use Rattle.nddl_ast.specs.declared.declaration.Decl.TheVariants as decls
 use Rattle.nddl_ast.specs.Tree.{Braces}
 use Rattle.nddl_statements.specs.declared.statements.SimpleStmt.{SimpleStmt}
 use Rattle.nddl_statements.specs.declared.statements.SimpleStmt.TheVariants as plains
-use Rattle.nddl_statements.specs.Grammar.{IsWrittenName, IsType, IsVariable, IsBlock}
+use Rattle.nddl_statements.specs.Grammar.{IsWrittenName, IsType, IsVariable, IsBraced}
 use Rattle.nddl_parser.specs.Grammar.{IsMember, IsFile, IsParent, IsDecl, IsText, deep_decl, deep_text}
 use Rattle.nddl_parser.specs.Productions.{begins_member, file, include, enumeration, typedef, parent, class_body, class_after, class, rule_after, decl_of, decl_after, decl_named, decl, begins_decl, text}
 use Rattle.nddl_statements.proofs.Flat.{Starts, front_starts, flat, refuses, apart, ◌>>◌, closed}
@@ -146,7 +146,7 @@ class_exact left = bound_exact (λ at. Bound IsWrittenName (ClassAfter at)) (dee
 -- ---- behind a name
 
 abbrev RuleParts : Unit {0} × (Name × Braces) → List PlainSymbol → Type 0
-RuleParts = Paired (MarkOf sorts.DoubleColon) (Paired IsWrittenName IsBlock)
+RuleParts = Paired (MarkOf sorts.DoubleColon) (Paired IsWrittenName IsBraced)
 
 abbrev rule_with : Name → Unit {0} × (Name × Braces) → Decl
 rule_with first p = decls.Rule first p.1.0 p.1.1
@@ -166,7 +166,7 @@ DeclAfter first y w = Image (rule_with first) RuleParts y w ⊎ Image decl_of (P
 decl_after_exact : (left : ℕ) (first : Name) → IsExact (DeclAfter first) (deep_decl left) no_more (decl_after left first)
 unfolding decl_after same refuses
 decl_after_exact left first = choice_exact (is sorts.DoubleColon) (rule_after_exact left first) (image_exact (deep_decl left) decl_of (plain_after_exact first) (plain_flat left))
-    (image_begins (rule_with first) (is sorts.DoubleColon) (pair_begins (Paired IsWrittenName IsBlock) (is sorts.DoubleColon) (mark_begins sorts.DoubleColon (is sorts.DoubleColon) refl)))
+    (image_begins (rule_with first) (is sorts.DoubleColon) (pair_begins (Paired IsWrittenName IsBraced) (is sorts.DoubleColon) (mark_begins sorts.DoubleColon (is sorts.DoubleColon) refl)))
     (apart (Image decl_of (PlainAfter first)) (is sorts.DoubleColon) no_more (image_begins decl_of (refuses (is sorts.DoubleColon)) (plain_after_begins (refuses (is sorts.DoubleColon)) refl refl refl refl refl first)))
 
 -- ---- declarations

@@ -14,8 +14,8 @@ use Rattle.nddl_ast.specs.declared.declaration.Member.{Member}
 use Rattle.nddl_ast.specs.declared.declaration.Member.TheVariants as members
 use Rattle.nddl_ast.specs.declared.declaration.Decl.{Decl}
 use Rattle.nddl_ast.specs.declared.declaration.Decl.TheVariants as decls
-use Rattle.nddl_statements.specs.Grammar.{IsWrittenName, AreArguments, IsInit, IsType, IsTyped}
-use Rattle.nddl_statements.specs.Grammar.{IsVariable, IsCall, IsAsk, IsBlock, deep_block}
+use Rattle.nddl_statements.specs.Grammar.{IsWrittenName, AreExpressions, IsInit, IsType, IsTyped}
+use Rattle.nddl_statements.specs.Grammar.{IsVariable, IsCall, IsAsk, IsBraced, deep_block}
 
 -- ---- declarations
 
@@ -26,7 +26,7 @@ IsPredicatePart (parts.Constraint call) = IsCall call
 abbrev pub IsSet : Set → List PlainSymbol → Type 0
 IsSet (sets.Field name value) = IsWrittenName name · IsMark sorts.Assign · IsInit value · IsMark sorts.Semicolon
 IsSet (sets.Super at arguments) =
-    IsPlaced (sorts.Word keywords.Super) at · IsMark sorts.ParenOpen · AreArguments arguments
+    IsPlaced (sorts.Word keywords.Super) at · IsMark sorts.ParenOpen · AreExpressions arguments
     · IsMark sorts.ParenClose · IsMark sorts.Semicolon
 
 abbrev pub IsMember : Member → List PlainSymbol → Type 0
@@ -62,7 +62,7 @@ IsDecl (decls.Class at name parent members) =
     IsPlaced (sorts.Word keywords.Class) at · IsWrittenName name · IsParent parent · IsMark sorts.BraceOpen
     · AreMany IsMember members · IsMark sorts.BraceClose · MayMark sorts.Semicolon
 IsDecl (decls.Rule class predicate body) =
-    IsWrittenName class · IsMark sorts.DoubleColon · IsWrittenName predicate · IsBlock body
+    IsWrittenName class · IsMark sorts.DoubleColon · IsWrittenName predicate · IsBraced body
 IsDecl (decls.Variable variable) = IsVariable variable
 IsDecl (decls.Call call) = IsCall call
 IsDecl (decls.Ask ask) = IsAsk ask

@@ -9,7 +9,7 @@ use Rattle.nddl_paths.specs.declared.denoted.Denoted.{Denoted}
 use Rattle.nddl_paths.specs.declared.denoted.PathFault.{PathFault}
 use Rattle.nddl_paths.specs.declared.denoted.Seen.{Seen}
 use Rattle.nddl_paths.specs.Paths.{last_seen, named_seen}
-use Rattle.nddl_paths.specs.Steps.{Found, asked_rest, found_next, path_step, path_steps, token_step}
+use Rattle.nddl_paths.specs.Steps.{Understood, asked_rest, found_next, path_step, path_steps, token_step}
 
 -- the item that is read, and those behind it
 dropped : {X : Type 0} (xs : List X) (i : ℕ) (x : X) → i < length xs → x ≡ get_or xs i x → x ∷ drop (i + 1) xs ≡ drop i xs
@@ -18,7 +18,7 @@ dropped xs i x within is = ap (λ y. y ∷ drop (i + 1) xs) is ∙ sym (drop_mor
 -- ---- paths
 
 -- what the next name gives goes on with those behind it
-goes_on : (facts : Facts) (first : ℕ) (here : Denoted) (names : List Name) (i : ℕ) (name : Name) (found whole : Found)
+goes_on : (facts : Facts) (first : ℕ) (here : Denoted) (names : List Name) (i : ℕ) (name : Name) (found whole : Understood)
     → i < length names → name ≡ get_or names i name → found ≡ path_step facts first here name
     → path_steps facts first here (drop i names) ≡ whole
     → found_next (λ next. path_steps facts first next (drop (i + 1) names)) found ≡ whole
@@ -27,14 +27,14 @@ goes_on facts first here names i name found whole within is gives so_far =
     ∙ (ap (path_steps facts first here) (dropped names i name within is) ∙ so_far)
 
 -- one name more means something
-pub steps_on : (facts : Facts) (first : ℕ) (here next : Denoted) (names : List Name) (i : ℕ) (name : Name) (whole : Found)
+pub steps_on : (facts : Facts) (first : ℕ) (here next : Denoted) (names : List Name) (i : ℕ) (name : Name) (whole : Understood)
     → i < length names → name ≡ get_or names i name → Ok next ≡ path_step facts first here name
     → path_steps facts first here (drop i names) ≡ whole → path_steps facts first next (drop (i + 1) names) ≡ whole
 steps_on facts first here next names i name whole within is gives so_far =
     goes_on facts first here names i name (Ok next) whole within is gives so_far
 
 -- a name is at fault
-pub steps_end : (facts : Facts) (first : ℕ) (here : Denoted) (fault : PathFault) (names : List Name) (i : ℕ) (name : Name) (whole : Found)
+pub steps_end : (facts : Facts) (first : ℕ) (here : Denoted) (fault : PathFault) (names : List Name) (i : ℕ) (name : Name) (whole : Understood)
     → i < length names → name ≡ get_or names i name → Err fault ≡ path_step facts first here name
     → path_steps facts first here (drop i names) ≡ whole → Err fault ≡ whole
 steps_end facts first here fault names i name whole within is gives so_far =
@@ -43,7 +43,7 @@ steps_end facts first here fault names i name whole within is gives so_far =
 -- ---- predicates behind paths
 
 -- the names behind the next one ask for what they ask for, whatever it means
-asks_on : (facts : Facts) (first : ℕ) (more : List Name) (last : Name) (found : Found)
+asks_on : (facts : Facts) (first : ℕ) (more : List Name) (last : Name) (found : Understood)
     → ((here : Denoted) → asked_rest facts first here (more ++ last ∷ [])
     ≡ found_next (λ further. token_step facts first further last) (path_steps facts first here more))
     → found_next (λ here. asked_rest facts first here (more ++ last ∷ [])) found
@@ -63,7 +63,7 @@ asks_last facts first here (name ∷ (next ∷ more)) last =
     (λ further. asks_last facts first further (next ∷ more) last)
 
 -- they mean something, of which the last is asked
-pub asks_found : {E : Type 0} (facts : Facts) (first : ℕ) (owner here : Denoted) (names : List Name) (last : Name) (result : Result Found E)
+pub asks_found : {E : Type 0} (facts : Facts) (first : ℕ) (owner here : Denoted) (names : List Name) (last : Name) (result : Result Understood E)
     → Ok here ≡ path_steps facts first owner names
     → IfOk result (λ found. found ≡ token_step facts first here last)
     → IfOk result (λ found. found ≡ asked_rest facts first owner (names ++ last ∷ []))

@@ -12,7 +12,7 @@ use Rattle.nddl_scope.specs.declared.scope.Meaning.TheVariants as meanings
 use Rattle.nddl_sorts.specs.declared.kind.TypeKind.TheVariants as kinds
 use Rattle.nddl_sorts.specs.declared.kind.TypeMeaning.{TypeMeaning}
 use Rattle.nddl_sorts.specs.Bases.{base_kind}
-use Rattle.nddl_lines.specs.Ancestors.{above, line_of}
+use Rattle.nddl_lines.specs.Ancestors.{above, ancestry}
 use Rattle.nddl_lines.specs.Facts.{Facts}
 use Rattle.nddl_inherited.specs.Inherited.{members_of}
 use Rattle.nddl_schema.specs.Classes.{builtin_fields, member_field}
@@ -68,4 +68,4 @@ line_field facts constant name line =
 -- the field of this name of a class, its own or an ancestor's
 abbrev pub class_field : Facts → Bool → List ℕ → Meaning → Option Denoted
 class_field facts constant name (meanings.BuiltIn number) = number_field constant (is_builtin_field name number)
-class_field facts constant name (meanings.Entry entry) = line_field facts constant name (line_of facts.parents entry)
+class_field facts constant name (meanings.Entry entry) = line_field facts constant name (ancestry facts.parents entry)

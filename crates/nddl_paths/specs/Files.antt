@@ -51,9 +51,9 @@ file_owner facts name = option_and_then (meaning_owner facts) (meaning_of facts.
 
 -- ---- labels of posted tokens
 
-abbrev pub ask_in : Decl → Option Ask
-ask_in (decls.Ask ask) = Some ask
-ask_in decl = None
+abbrev pub declared_ask : Decl → Option Ask
+declared_ask (decls.Ask ask) = Some ask
+declared_ask decl = None
 
 -- the token that is posted by this path, of an object or a class
 abbrev pub root_by : Facts → Path → Denoted
@@ -63,7 +63,7 @@ root_by facts path =
 -- the token whose label the name is
 abbrev pub root_value : Facts → Declared → Denoted
 root_value facts declared =
-    option_map_or (λ ask. root_by facts ask.path) (option_and_then ask_in (decl_of_name facts.program declared))
+    option_map_or (λ ask. root_by facts ask.path) (option_and_then declared_ask (decl_of_name facts.program declared))
     denoted.Unsettled
 
 -- ---- any name

@@ -18,7 +18,7 @@ use Rattle.nddl_paths.specs.declared.denoted.Seen.{Seen}
 use Rattle.nddl_paths.specs.declared.denoted.TokenSort.{TokenSort}
 use Rattle.nddl_paths.specs.Files.{file_denoted}
 use Rattle.nddl_paths.specs.Predicates.{token_part}
-use Rattle.nddl_paths.specs.Steps.{Found, asked_by, path_steps, unknown_at}
+use Rattle.nddl_paths.specs.Steps.{Understood, asked_by, path_steps, unknown_at}
 
 -- What names mean where a path stands, beside those of the files: the formals of a constructor, the variables of `foreach`,
 -- locals and labels of slots, of each the innermost last, and the token whose rule it is.
@@ -68,13 +68,13 @@ first_denoted facts around name =
 -- ---- paths and arguments
 
 -- what the path means, or what is wrong with it
-abbrev pub path_denoted : Facts → Surroundings → Path → Found
+abbrev pub path_denoted : Facts → Surroundings → Path → Understood
 path_denoted facts around path =
     option_map_or (λ begin. path_steps facts path.first.at begin path.rest) (first_denoted facts around path.first.text)
     (unknown_at path.first.at)
 
 -- the token for which the path asks, whose last name is a predicate, or what is wrong with it
-abbrev pub asked_token : Facts → Surroundings → Path → Found
+abbrev pub asked_token : Facts → Surroundings → Path → Understood
 asked_token facts around path =
     option_map_or (λ owner. asked_by facts owner path) (first_denoted facts around path.first.text)
     (unknown_at path.first.at)
@@ -84,12 +84,12 @@ abbrev pub constant_of : TypeKind → Denoted
 constant_of kind = denoted.Value kind true
 
 -- what is written out at a place; decimals mean nothing yet
-abbrev pub literal_denoted : ℕ → Constant → Found
+abbrev pub literal_denoted : ℕ → Constant → Understood
 literal_denoted at (constants.Number number) = Ok (constant_of kinds.Int)
 literal_denoted at (constants.Truth truth) = Ok (constant_of kinds.Bool)
 literal_denoted at (constants.Decimal thousandths) = Err (record { kind = faults.Float; at = at })
 
 -- what an argument means, or what is wrong with it by itself
-abbrev pub expr_denoted : Facts → Surroundings → Expr → Found
+abbrev pub expr_denoted : Facts → Surroundings → Expr → Understood
 expr_denoted facts around (exprs.Path path) = path_denoted facts around path
 expr_denoted facts around (exprs.Literal literal) = literal_denoted literal.at literal.constant

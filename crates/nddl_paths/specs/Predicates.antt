@@ -12,7 +12,7 @@ use Rattle.nddl_scope.specs.declared.scope.Meaning.{Meaning}
 use Rattle.nddl_scope.specs.declared.scope.Meaning.TheVariants as meanings
 use Rattle.nddl_sorts.specs.declared.kind.TypeKind.{TypeKind}
 use Rattle.nddl_sorts.specs.declared.kind.TypeKind.TheVariants as kinds
-use Rattle.nddl_lines.specs.Ancestors.{above, line_of}
+use Rattle.nddl_lines.specs.Ancestors.{above, ancestry}
 use Rattle.nddl_lines.specs.Facts.{Facts}
 use Rattle.nddl_inherited.specs.Inherited.{members_of}
 use Rattle.nddl_classes.specs.Members.{parameters_of}
@@ -68,13 +68,13 @@ line_predicate names program name line =
 abbrev pub class_predicate : Facts → List ℕ → Meaning → Option Predicate
 class_predicate facts name (meanings.BuiltIn number) = builtin_if (is_builtin_pred name number)
 class_predicate facts name (meanings.Entry entry) =
-    line_predicate facts.names facts.program name (line_of facts.parents entry)
+    line_predicate facts.names facts.program name (ancestry facts.parents entry)
 
 -- ---- the parts of a token
 
 -- a variable of this kind
-abbrev pub variable_of : TypeKind → Denoted
-variable_of kind = denoted.Value kind false
+abbrev pub changing_value : TypeKind → Denoted
+changing_value kind = denoted.Value kind false
 
 abbrev pub is_time_word : List ℕ → Bool
 is_time_word name = bytes_eq name (codes "start") || (bytes_eq name (codes "end") || bytes_eq name (codes "duration"))
@@ -91,7 +91,7 @@ declared_parts names program entry member =
 -- the parameter of this name
 abbrev pub parameter_value : Facts → List ℕ → Predicate → Option Denoted
 parameter_value facts name predicates.BuiltIn =
-    if bytes_eq name (codes "quantity") then Some (variable_of kinds.Int) else None
+    if bytes_eq name (codes "quantity") then Some (changing_value kinds.Int) else None
 parameter_value facts name (predicates.Declared entry member) =
     option_map (λ typed. type_value facts.names facts.known false typed.declared)
     (named_typed name (parameters_of (declared_parts facts.names facts.program entry member)))
@@ -99,6 +99,6 @@ parameter_value facts name (predicates.Declared entry member) =
 -- the part of this name: a time, the object, which is of the class by which the token is asked for, or a parameter
 abbrev pub token_part : Facts → List ℕ → TokenSort → Option Denoted
 token_part facts name token =
-    if is_time_word name then Some (variable_of kinds.Int)
-    else (if bytes_eq name (codes "object") then Some (variable_of (kinds.Object token.class))
+    if is_time_word name then Some (changing_value kinds.Int)
+    else (if bytes_eq name (codes "object") then Some (changing_value (kinds.Object token.class))
     else parameter_value facts name token.predicate)

@@ -13,7 +13,7 @@ use nddl_ast::declaration::{Decl, Member, Typed};
 use nddl_ast::expression::Type;
 use nddl_inherited::members_of;
 use nddl_lines::Basis;
-use nddl_lines::lines::{above, line_of};
+use nddl_lines::lines::{above, ancestry};
 use nddl_scope::{Meaning, Scope};
 use nddl_sorts::base::base_kind;
 use nddl_sorts::{TypeKind, Types};
@@ -42,7 +42,7 @@ pub fn class_field(
     match class {
         Meaning::BuiltIn(number) => Ok(number_field(constant, is_builtin_field(name, number))),
         Meaning::Entry(entry) => {
-            let line = line_of(alloc, basis.parents, entry)?;
+            let line = ancestry(alloc, basis.parents, entry)?;
             Ok(line_field(basis, constant, name, line.as_slice()))
         }
     }

@@ -3,7 +3,7 @@
 ghost use Rattle.std.specs.Prelude.{◌≡◌, IfOk};
 ghost use Rattle.std.specs.Option.{option_copied};
 ghost use Rattle.nddl_lines.specs.Facts.{facts_of};
-ghost use Rattle.nddl_paths.specs.Files.{ask_in, declared_value, file_denoted, file_owner, root_by, root_value, sort_denoted, sort_owner, variable_type};
+ghost use Rattle.nddl_paths.specs.Files.{declared_ask, declared_value, file_denoted, file_owner, root_by, root_value, sort_denoted, sort_owner, variable_type};
 
 use super::denoted::{Denoted, settled};
 use super::fields::type_value;
@@ -96,7 +96,7 @@ fn root_value(alloc: Global, basis: &Basis<'_>, declared: &Declared) -> Result<D
     ensures { IfOk result (λ denoted. denoted ≡ root_value (facts_of basis.now) declared.now) }
 {
     match decl_at(basis.decls, declared.place.decl) {
-        Some(decl) => match ask_in(decl) {
+        Some(decl) => match declared_ask(decl) {
             Some(ask) => root_by(alloc, basis, &ask.path),
             None => Ok(Denoted::Unsettled),
         },
@@ -104,8 +104,8 @@ fn root_value(alloc: Global, basis: &Basis<'_>, declared: &Declared) -> Result<D
     }
 }
 
-fn ask_in(decl: &Decl) -> Option<&Ask>
-    ensures { option_copied result ≡ ask_in decl.now }
+fn declared_ask(decl: &Decl) -> Option<&Ask>
+    ensures { option_copied result ≡ declared_ask decl.now }
 {
     match decl {
         Decl::Ask(ask) => Some(ask),

@@ -6,7 +6,7 @@ ghost use Rattle.std.specs.Option.{option_copied};
 ghost use Rattle.nddl_classes.specs.Members.{parameters_of};
 ghost use Rattle.nddl_lines.specs.Facts.{facts_of};
 ghost use Rattle.nddl_paths.specs.Fields.{named_typed};
-ghost use Rattle.nddl_paths.specs.Predicates.{builtin_if, class_predicate, variable_of, declared_parts, is_builtin_pred, is_given_pred, is_pred_given_along, is_predicate_named, is_time_word, line_predicate, member_parts, parameter_value, predicate_along, token_part};
+ghost use Rattle.nddl_paths.specs.Predicates.{builtin_if, class_predicate, changing_value, declared_parts, is_builtin_pred, is_given_pred, is_pred_given_along, is_predicate_named, is_time_word, line_predicate, member_parts, parameter_value, predicate_along, token_part};
 
 use super::denoted::{Denoted, Predicate, TokenSort};
 use super::fields::{has_name, type_value};
@@ -14,7 +14,7 @@ use eu_name::text::Text;
 use nddl_ast::declaration::{Decl, Member, PredicatePart, Typed};
 use nddl_inherited::members_of;
 use nddl_lines::Basis;
-use nddl_lines::lines::{above, line_of};
+use nddl_lines::lines::{above, ancestry};
 use nddl_scope::{Meaning, Scope};
 use nddl_sorts::TypeKind;
 use std::alloc::{AllocError, Global};
@@ -31,7 +31,7 @@ pub fn class_predicate(
     match class {
         Meaning::BuiltIn(number) => Ok(builtin_if(is_builtin_pred(name, number))),
         Meaning::Entry(entry) => {
-            let line = line_of(alloc, basis.parents, entry)?;
+            let line = ancestry(alloc, basis.parents, entry)?;
             Ok(line_predicate(basis.types.scope, basis.decls, name, line.as_slice()))
         }
     }
@@ -144,7 +144,7 @@ pub fn token_part(basis: &Basis<'_>, name: &Text, token: TokenSort) -> Option<De
 
 // A variable of this kind.
 fn variable(kind: TypeKind) -> Denoted
-    ensures { result ≡ variable_of kind }
+    ensures { result ≡ changing_value kind }
 {
     Denoted::Value {
         kind,

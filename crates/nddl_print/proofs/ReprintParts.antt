@@ -19,7 +19,7 @@ use Rattle.nddl_ast.specs.declared.expression.Bounds.TheVariants as bounds
 use Rattle.nddl_ast.specs.declared.expression.Type as types
 use Rattle.nddl_ast.specs.declared.expression.Init.TheVariants as inits
 use Rattle.nddl_ast.specs.Same.{AllSame, SameName, SamePath, SameLiteral, SameExpr, SameValue, SameBase, SameBounds, SameType, SameCreation, SameInit, SameTyped}
-use Rattle.nddl_statements.specs.Grammar.{IsWrittenName, IsPath, Writes, IsLiteral, IsExpr, IsWrittenValue, AreArguments, IsCreation, IsInit, IsBase, IsBounds, IsType, IsTyped}
+use Rattle.nddl_statements.specs.Grammar.{IsWrittenName, IsPath, Writes, IsLiteral, IsExpr, IsWrittenValue, AreExpressions, IsCreation, IsInit, IsBase, IsBounds, IsType, IsTyped}
 use Rattle.nddl_print.specs.Words.{Fixed, Named, Number, Decimal}
 use Rattle.nddl_print.specs.Canonical.{name_words, path_words, constant_words, literal_words, expr_words, value_words, argument_words, creation_words, init_words, base_words, bounds_words, type_words, typed_words}
 use Rattle.nddl_print.proofs.Saying.{AreSound, AreFine, Say, one_said}
@@ -76,7 +76,7 @@ pub value_reprints : EachReprints IsWrittenValue SameValue value_words
 value_reprints (values.Name name) = mapped values.Name name (λ p symbols is. is) (λ symbols is. is) (λ p same. same) (name_reprints name)
 value_reprints (values.Literal literal) = mapped values.Literal literal (λ p symbols is. is) (λ symbols is. is) (λ p same. same) (literal_reprints literal)
 
-pub arguments_reprint : EachReprints (λ arguments. IsMark sorts.ParenOpen · AreArguments arguments · IsMark sorts.ParenClose) (AllSame SameExpr) argument_words
+pub arguments_reprint : EachReprints (λ arguments. IsMark sorts.ParenOpen · AreExpressions arguments · IsMark sorts.ParenClose) (AllSame SameExpr) argument_words
 arguments_reprint arguments = after (mark sorts.ParenOpen refl) (before (listed expr_reprints arguments) (mark sorts.ParenClose refl))
 
 pub creation_reprints : EachReprints IsCreation SameCreation creation_words

@@ -15,7 +15,7 @@ use Rattle.nddl_ast.specs.declared.statement.Condition.{Condition}
 use Rattle.nddl_ast.specs.declared.statement.Condition.TheVariants as conditions
 use Rattle.nddl_ast.specs.Tree.{Statements, Nothing, Declares, Calls, Asks, Tests, Chooses, Repeats}
 use Rattle.nddl_ast.specs.Same.{BothSame, SameInit, SameCondition, SameVariable, SameCall, SameAsk, SameStatements, SameBlock}
-use Rattle.nddl_statements.specs.Grammar.{IsStart, IsVariable, IsCall, IsAsk, IsCondition, IsLoneIf, Encloses, AreStatements, IsBlock}
+use Rattle.nddl_statements.specs.Grammar.{IsStart, IsVariable, IsCall, IsAsk, IsCondition, IsLoneIf, Encloses, AreStatements, IsBraced}
 use Rattle.nddl_print.specs.Words.{Word, Fixed}
 use Rattle.nddl_print.specs.Canonical.{◌⌢◌, fixed, braced, start_words, variable_words, call_words, ask_words, condition_words, expr_words, listed_words, statements_words, block_words}
 use Rattle.nddl_print.proofs.Saying.{AreSound, then_assoc, three_first, sound_then, say_then, one_said}
@@ -142,7 +142,7 @@ statements_reprint (Repeats at name class body_at body more) =
     (after (mark sorts.ParenClose refl) (braces_reprint body_at body (statements_reprint body)))))))))
     (statements_reprint more))
 
-pub block_reprints : EachReprints IsBlock SameBlock block_words
+pub block_reprints : EachReprints IsBraced SameBlock block_words
 block_reprints block =
     mapped {X = ℕ × Statements} (λ p. record { at = p.0; statements = p.1 }) (block.at, block.statements) (λ p symbols is. is) (λ symbols is. is) (λ p same. same)
     (braces_reprint block.at block.statements (statements_reprint block.statements))

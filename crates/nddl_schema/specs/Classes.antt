@@ -16,7 +16,7 @@ use Rattle.nddl_scope.specs.declared.scope.Meaning.{Meaning}
 use Rattle.nddl_scope.specs.declared.scope.Meaning.TheVariants as meanings
 use Rattle.nddl_scope.specs.Names.{is_class_sort}
 use Rattle.nddl_scope.specs.Scope.{named_number}
-use Rattle.nddl_lines.specs.Ancestors.{above, line_of}
+use Rattle.nddl_lines.specs.Ancestors.{above, ancestry}
 use Rattle.nddl_lines.specs.Facts.{Facts}
 use Rattle.nddl_inherited.specs.Inherited.{members_of}
 use Rattle.nddl_variables.specs.Declares.{number_variable, variables_of}
@@ -99,7 +99,7 @@ fields_at facts enums entry =
 
 -- the class and those that it extends, the topmost first
 abbrev pub line_down : Facts → ℕ → List ℕ
-line_down facts entry = reverse (line_of facts.parents entry)
+line_down facts entry = reverse (ancestry facts.parents entry)
 
 -- the fields of a class: those of its ancestors, the topmost first, and then its own
 abbrev pub class_fields : Facts → List Enum → ℕ → List VarDecl

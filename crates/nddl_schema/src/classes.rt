@@ -3,7 +3,7 @@
 ghost use Rattle.std.specs.Prelude.{◌≡◌, ◌++◌, ◌∷◌, [], IfOk, OnOk, reverse};
 ghost use Rattle.std.specs.List.{flat_map};
 ghost use Rattle.std.specs.Option.{option_copied};
-ghost use Rattle.nddl_lines.specs.Ancestors.{line_of};
+ghost use Rattle.nddl_lines.specs.Ancestors.{ancestry};
 ghost use Rattle.nddl_lines.specs.Facts.{facts_of};
 ghost use Rattle.nddl_schema.specs.Classes.{compiled_class, classes_of, declared_fields, member_field, fields_at, name_of_entry};
 
@@ -16,7 +16,7 @@ use model_core::class::Class;
 use model_core::variable::VarDecl;
 use nddl_ast::declaration::{Member, Typed};
 use nddl_inherited::members_of;
-use nddl_lines::lines::{above, line_of};
+use nddl_lines::lines::{above, ancestry};
 use nddl_scope::Scope;
 use nddl_variables::push_variable;
 use std::alloc::{AllocError, Global};
@@ -54,9 +54,9 @@ pub fn line_down(
     parents: &[Option<usize>],
     entry: usize,
 ) -> Result<Vec<usize>, AllocError>
-    ensures { IfOk result (λ line. line.items ≡ reverse (line_of parents.now entry)) }
+    ensures { IfOk result (λ line. line.items ≡ reverse (ancestry parents.now entry)) }
 {
-    let mut line = line_of(alloc, parents, entry)?;
+    let mut line = ancestry(alloc, parents, entry)?;
     line.reverse();
     Ok(line)
 }
@@ -68,7 +68,7 @@ fn class_along(
     entry: usize,
     line: &[usize],
 ) -> Result<Class, AllocError>
-    requires { line.now ≡ reverse (line_of sources.now.basis.parents.now entry) }
+    requires { line.now ≡ reverse (ancestry sources.now.basis.parents.now entry) }
     ensures { IfOk result (λ class. class ≡ compiled_class (facts_of sources.now.basis) sources.now.enums.now entry) }
 {
     let basis = &sources.basis;

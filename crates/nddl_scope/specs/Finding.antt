@@ -42,6 +42,6 @@ abbrev pub FindsEarliest : Type 0
 FindsEarliest = (old : Option Fault) (faults : List Fault) → Finds (Contains faults) old (earliest_fault old faults)
 
 -- the fault of this kind at the byte of the declaration of this number, if there is a kind
-abbrev pub fault_at : ℕ → ℕ → Option TextKind → List Fault
-fault_at decl at None = []
-fault_at decl at (Some kind) = record { place = record { decl = decl; at = at }; kind = kind } ∷ []
+abbrev pub faults_here : ℕ → ℕ → Option TextKind → List Fault
+faults_here decl at None = []
+faults_here decl at (Some kind) = record { place = record { decl = decl; at = at }; kind = kind } ∷ []

@@ -10,7 +10,7 @@ use Rattle.nddl_scope.specs.declared.fault.Fault.{Fault}
 use Rattle.nddl_scope.specs.declared.scope.Meaning.{Meaning}
 use Rattle.nddl_scope.specs.declared.scope.Meaning.TheVariants as meanings
 use Rattle.nddl_scope.specs.Builtin.{builtin_class_names, is_builtin_name}
-use Rattle.nddl_scope.specs.Finding.{fault_at}
+use Rattle.nddl_scope.specs.Finding.{faults_here}
 use Rattle.nddl_scope.specs.Index.{Noted, noted_number}
 use Rattle.nddl_scope.specs.Names.{is_class_sort, is_body_sort, is_config_sort}
 
@@ -84,7 +84,7 @@ fault_if false kind = None
 -- what is wrong with the name of this number
 abbrev pub second_name_fault : List Declared → ℕ → Declared → List Fault
 second_name_fault names number declared =
-    fault_at declared.place.decl declared.place.at (fault_if (is_second_name names number declared) kinds.Twice)
+    faults_here declared.place.decl declared.place.at (fault_if (is_second_name names number declared) kinds.Twice)
 
 -- what is wrong with these of the names, the first of which has this number
 abbrev pub second_name_faults : List Declared → ℕ → List Declared → List Fault

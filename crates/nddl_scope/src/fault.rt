@@ -2,7 +2,7 @@
 
 ghost use Rattle.std.specs.Prelude.{◌≡◌, ◌||◌, ◌&&◌, ◌==◌, nat_lt};
 ghost use Rattle.nddl_ast.specs.Kinds.{kind_rank};
-ghost use Rattle.nddl_scope.specs.Finding.{FindsEarliest, earlier_fault, earliest_fault, fault_at, is_fault_before};
+ghost use Rattle.nddl_scope.specs.Finding.{FindsEarliest, earlier_fault, earliest_fault, faults_here, is_fault_before};
 
 use nddl_ast::TextKind;
 use nddl_joined::Place;
@@ -49,7 +49,7 @@ pub fn note(first: &mut Option<Fault>, fault: Fault)
 
 /// Notes the fault of the kind at the byte of the declaration of this number, if there is a kind.
 pub fn note_at(first: &mut Option<Fault>, decl: usize, at: u32, kind: Option<TextKind>)
-    ensures { first.new ≡ earliest_fault first.old (fault_at decl at kind) }
+    ensures { first.new ≡ earliest_fault first.old (faults_here decl at kind) }
 {
     if let Some(kind) = kind {
         note(

@@ -8,7 +8,7 @@ use Rattle.nddl_ast.specs.declared.expression.Value.{Value}
 use Rattle.nddl_ast.specs.Places.{value_place}
 use Rattle.nddl_scope.specs.declared.declared.Declared.{Declared}
 use Rattle.nddl_scope.specs.declared.fault.Fault.{Fault}
-use Rattle.nddl_scope.specs.Finding.{fault_at}
+use Rattle.nddl_scope.specs.Finding.{faults_here}
 use Rattle.nddl_scope.specs.Scope.{fault_if}
 use Rattle.nddl_sorts.specs.declared.kind.Extent.{Extent}
 use Rattle.nddl_sorts.specs.declared.kind.Extent.TheVariants as extents
@@ -28,17 +28,17 @@ is_wrong_range extent least greatest = false
 -- what is wrong with a range behind a type that may have one
 abbrev pub ends_faults : List Declared → Extent → ℕ → ℕ → Value → Value → List Fault
 ends_faults names extent decl at least greatest =
-    fault_at decl at
+    faults_here decl at
     (fault_if (is_wrong_range extent (end_number names least) (end_number names greatest)) faults.NotInDomain)
-    ++ fault_at decl (value_place least) (end_fault names least)
-    ++ fault_at decl (value_place greatest) (end_fault names greatest)
+    ++ faults_here decl (value_place least) (end_fault names least)
+    ++ faults_here decl (value_place greatest) (end_fault names greatest)
 
 -- what is wrong with a range behind another type
 abbrev pub no_range_faults : List Declared → ℕ → Value → Value → List Fault
 no_range_faults names decl least greatest =
-    fault_at decl (value_place least) (value_fault names least)
-    ++ fault_at decl (value_place least) (Some faults.WrongType)
-    ++ fault_at decl (value_place greatest) (value_fault names greatest)
+    faults_here decl (value_place least) (value_fault names least)
+    ++ faults_here decl (value_place least) (Some faults.WrongType)
+    ++ faults_here decl (value_place greatest) (value_fault names greatest)
 
 abbrev pub range_faults : List Declared → TypeKind → Extent → ℕ → ℕ → Value → Value → List Fault
 range_faults names kind extent decl at least greatest =
@@ -46,16 +46,16 @@ range_faults names kind extent decl at least greatest =
     else no_range_faults names decl least greatest
 
 -- the range between two numbers
-abbrev pub range_between : Option ℤ → Option ℤ → Extent
-range_between (Some least) (Some greatest) = extents.Range least greatest
-range_between least greatest = extents.Whole
+abbrev pub extent_between : Option ℤ → Option ℤ → Extent
+extent_between (Some least) (Some greatest) = extents.Range least greatest
+extent_between least greatest = extents.Whole
 
 -- ---- sets
 
 -- what is wrong with each value of a set
 abbrev pub members_faults : List Declared → TypeKind → Extent → ℕ → List Value → List Fault
 members_faults names kind extent decl values =
-    flat_map (λ value. fault_at decl (value_place value) (member_fault names kind extent value)) values
+    flat_map (λ value. faults_here decl (value_place value) (member_fault names kind extent value)) values
 
 -- the numbers of the values that may be members
 abbrev pub own_numbers : List Declared → TypeKind → Extent → List Value → List ℤ
@@ -67,7 +67,7 @@ has_too_many names kind extent values = nat_lt 4096 (length (distinct_from [] (o
 
 abbrev pub set_faults : List Declared → TypeKind → Extent → ℕ → ℕ → List Value → List Fault
 set_faults names kind extent decl at values =
-    fault_at decl at (fault_if (has_too_many names kind extent values) faults.LimitMembers)
+    faults_here decl at (fault_if (has_too_many names kind extent values) faults.LimitMembers)
     ++ members_faults names kind extent decl values
 
 -- ---- both
@@ -83,6 +83,6 @@ bounds_faults names kind extent decl (bounds.Set at values) = set_faults names k
 abbrev pub bounds_extent : List Declared → TypeKind → Extent → Bounds → Extent
 bounds_extent names kind extent bounds.All = extent
 bounds_extent names kind extent (bounds.Range at least greatest) =
-    range_between (end_number names least) (end_number names greatest)
+    extent_between (end_number names least) (end_number names greatest)
 bounds_extent names kind extent (bounds.Set at values) =
     extents.Set (distinct_from [] (own_numbers names kind extent values))

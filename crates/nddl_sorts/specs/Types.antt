@@ -4,7 +4,7 @@ use Rattle.std.specs.Option.{option_map, option_map_or}
 use Rattle.nddl_ast.specs.declared.expression.Type as types
 use Rattle.nddl_scope.specs.declared.declared.Declared.{Declared}
 use Rattle.nddl_scope.specs.declared.fault.Fault.{Fault}
-use Rattle.nddl_scope.specs.Finding.{fault_at}
+use Rattle.nddl_scope.specs.Finding.{faults_here}
 use Rattle.nddl_sorts.specs.declared.kind.TypeMeaning.{TypeMeaning}
 use Rattle.nddl_sorts.specs.Bases.{base_extent, base_fault, base_kind}
 use Rattle.nddl_sorts.specs.Bounds.{bounds_extent, bounds_faults}
@@ -13,7 +13,7 @@ use Rattle.nddl_sorts.specs.Bounds.{bounds_extent, bounds_faults}
 -- looked at.
 abbrev pub type_faults : List Declared → List (Option TypeMeaning) → ℕ → types.Type → List Fault
 type_faults names known decl type =
-    fault_at decl type.at (base_fault names type.base)
+    faults_here decl type.at (base_fault names type.base)
     ++ option_map_or (λ kind. bounds_faults names kind (base_extent names known type.base) decl type.bounds)
     (base_kind names known type.base) []
 

@@ -3,7 +3,7 @@
 ghost use Rattle.std.specs.Prelude.{◌≡◌};
 ghost use Rattle.nddl_scope.specs.Finding.{earliest_fault};
 ghost use Rattle.nddl_sorts.specs.Values.{end_number};
-ghost use Rattle.nddl_sorts.specs.Bounds.{is_wrong_range, range_between, range_faults};
+ghost use Rattle.nddl_sorts.specs.Bounds.{is_wrong_range, extent_between, range_faults};
 
 use super::kind::{Extent, TypeKind};
 use super::values::{end_fault, end_number, value_fault};
@@ -57,7 +57,7 @@ fn is_wrong_range(extent: &Extent, least: Option<i32>, greatest: Option<i32>) ->
 
 /// The range between two values.
 pub fn range_meaning(scope: &Scope, least: &Value, greatest: &Value) -> Extent
-    ensures { result ≡ range_between (end_number scope.now least.now) (end_number scope.now greatest.now) }
+    ensures { result ≡ extent_between (end_number scope.now least.now) (end_number scope.now greatest.now) }
 {
     match (end_number(scope, least), end_number(scope, greatest)) {
         (Some(least), Some(greatest)) => Extent::Range { least, greatest },

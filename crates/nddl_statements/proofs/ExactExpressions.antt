@@ -21,7 +21,7 @@ use Rattle.nddl_ast.specs.declared.expression.BaseType.{BaseType}
 use Rattle.nddl_ast.specs.declared.expression.BaseType.TheVariants as bases
 use Rattle.nddl_ast.specs.declared.expression.Init.{Init}
 use Rattle.nddl_ast.specs.declared.expression.Init.TheVariants as inits
-use Rattle.nddl_statements.specs.Grammar.{IsWrittenName, IsPath, Writes, IsLiteral, IsExpr, IsWrittenValue, AreArguments, IsCreation, IsInit, IsBase}
+use Rattle.nddl_statements.specs.Grammar.{IsWrittenName, IsPath, Writes, IsLiteral, IsExpr, IsWrittenValue, AreExpressions, IsCreation, IsInit, IsBase}
 use Rattle.nddl_statements.specs.Productions.{name, name_of, path, literal, number_of, decimal_of, truth_of, expr, value, begins_value, arguments, creation, init, placed, named, base}
 use Rattle.nddl_statements.proofs.Flat.{front_starts, flat, refuses, apart, ◌>>◌, closed}
 
@@ -146,7 +146,7 @@ comma_apart other test = subst (λ (s : Sort). more_path s ≡ false) (sym (same
 pub more_exprs_exact : IsExact (AreFollowing sorts.Comma IsExpr) no_blocks (wider (is sorts.Comma) more_path) (following sorts.Comma expr)
 more_exprs_exact = flat (following_exact sorts.Comma expr_exact comma_apart)
 
-pub arguments_exact : IsExact AreArguments no_blocks more_arguments arguments
+pub arguments_exact : IsExact AreExpressions no_blocks more_arguments arguments
 unfolding arguments
 arguments_exact = flat (listed_exact begins_value sorts.Comma expr_exact (expr_begins begins_value refl refl refl refl refl) comma_apart)
 

@@ -20,7 +20,7 @@ use Rattle.nddl_ast.specs.Tree.{Statements, Nothing, Declares, Calls, Asks, Test
 use Rattle.nddl_ast.specs.Block.{statements_of}
 use Rattle.nddl_statements.specs.declared.statements.SimpleStmt.{SimpleStmt}
 use Rattle.nddl_statements.specs.declared.statements.SimpleStmt.TheVariants as plains
-use Rattle.nddl_statements.specs.Grammar.{IsWrittenName, IsVariable, IsCall, IsAsk, IsCondition, IsLoneIf, Encloses, AreStatements, IsBlock, deep_statements, deep_block}
+use Rattle.nddl_statements.specs.Grammar.{IsWrittenName, IsVariable, IsCall, IsAsk, IsCondition, IsLoneIf, Encloses, AreStatements, IsBraced, deep_statements, deep_block}
 use Rattle.nddl_statements.specs.Productions.{condition, begins_stmt, stmt_of, lone, too_deep, Inner, otherwise_with, if_with, foreach_with, stmt_with, block_with, blocks, block}
 use Rattle.nddl_statements.proofs.Flat.{Starts, front_starts, refuses, apart, ◌>>◌, closed}
 use Rattle.nddl_statements.proofs.ExactExpressions.{name_exact}
@@ -38,13 +38,13 @@ IsOtherwise None = IsNothing
 IsOtherwise (Some b) = IsMark (sorts.Word keywords.Else) · IsElse b
 
 abbrev IfParts : ℕ × (Unit {0} × (Condition × (Unit {0} × (Braces × Option Braces)))) → List PlainSymbol → Type 0
-IfParts = Paired (IsPlaced (sorts.Word keywords.If)) (Paired (MarkOf sorts.ParenOpen) (Paired IsCondition (Paired (MarkOf sorts.ParenClose) (Paired IsBlock IsOtherwise))))
+IfParts = Paired (IsPlaced (sorts.Word keywords.If)) (Paired (MarkOf sorts.ParenOpen) (Paired IsCondition (Paired (MarkOf sorts.ParenClose) (Paired IsBraced IsOtherwise))))
 
 abbrev if_of : ℕ × (Unit {0} × (Condition × (Unit {0} × (Braces × Option Braces)))) → Stmt
 if_of p = stmts.If p.0 p.1.1.0 p.1.1.1.1.0 p.1.1.1.1.1
 
 abbrev ForeachParts : ℕ × (Unit {0} × (Name × (Unit {0} × (Name × (Unit {0} × Braces))))) → List PlainSymbol → Type 0
-ForeachParts = Paired (IsPlaced (sorts.Word keywords.Foreach)) (Paired (MarkOf sorts.ParenOpen) (Paired IsWrittenName (Paired (MarkOf (sorts.Word keywords.In)) (Paired IsWrittenName (Paired (MarkOf sorts.ParenClose) IsBlock)))))
+ForeachParts = Paired (IsPlaced (sorts.Word keywords.Foreach)) (Paired (MarkOf sorts.ParenOpen) (Paired IsWrittenName (Paired (MarkOf (sorts.Word keywords.In)) (Paired IsWrittenName (Paired (MarkOf sorts.ParenClose) IsBraced)))))
 
 abbrev foreach_of : ℕ × (Unit {0} × (Name × (Unit {0} × (Name × (Unit {0} × Braces))))) → Stmt
 foreach_of p = stmts.Foreach p.0 p.1.1.0 p.1.1.1.1.0 p.1.1.1.1.1.1
@@ -53,8 +53,8 @@ abbrev pub IsStmt : Stmt → List PlainSymbol → Type 0
 IsStmt (stmts.Variable v) = IsVariable v
 IsStmt (stmts.Call c) = IsCall c
 IsStmt (stmts.Ask a) = IsAsk a
-IsStmt (stmts.If at condition then otherwise) = IsPlaced (sorts.Word keywords.If) at · IsMark sorts.ParenOpen · IsCondition condition · IsMark sorts.ParenClose · IsBlock then · IsOtherwise otherwise
-IsStmt (stmts.Foreach at name class body) = IsPlaced (sorts.Word keywords.Foreach) at · IsMark sorts.ParenOpen · IsWrittenName name · IsMark (sorts.Word keywords.In) · IsWrittenName class · IsMark sorts.ParenClose · IsBlock body
+IsStmt (stmts.If at condition then otherwise) = IsPlaced (sorts.Word keywords.If) at · IsMark sorts.ParenOpen · IsCondition condition · IsMark sorts.ParenClose · IsBraced then · IsOtherwise otherwise
+IsStmt (stmts.Foreach at name class body) = IsPlaced (sorts.Word keywords.Foreach) at · IsMark sorts.ParenOpen · IsWrittenName name · IsMark (sorts.Word keywords.In) · IsWrittenName class · IsMark sorts.ParenClose · IsBraced body
 
 abbrev deep_other : ℕ → Option Braces → Option ℕ
 deep_other left None = None
@@ -67,7 +67,7 @@ deep_stmt left other = None
 
 -- the readers of blocks that may be nested so deep are exact
 pub record AreExact (left : ℕ) (inner : Inner) : Type 0 where
-  pub block : IsExact IsBlock (deep_block left) no_more inner.0
+  pub block : IsExact IsBraced (deep_block left) no_more inner.0
   pub else : IsExact IsElse (deep_block left) (is (sorts.Word keywords.Else)) inner.1
 
 -- ---- statements
@@ -94,7 +94,7 @@ otherwise_exact left inner a = relabelled_exact IsOtherwise (deep_other left)
 if_exact : (left : ℕ) (inner : Inner) → AreExact left inner → IsExact (Image if_of IfParts) (deep_stmt left) (is (sorts.Word keywords.Else)) (if_with inner)
 unfolding same refuses
 if_exact left inner a = image_exact (deep_stmt left) if_of
-    (place_exact (sorts.Word keywords.If) >> mark_exact sorts.ParenOpen >> closed condition_exact (mark_exact sorts.ParenClose >> a.block >> otherwise_exact left inner a) (pair_begins (Paired IsBlock IsOtherwise) (refuses more_condition) (mark_begins sorts.ParenClose (refuses more_condition) refl)))
+    (place_exact (sorts.Word keywords.If) >> mark_exact sorts.ParenOpen >> closed condition_exact (mark_exact sorts.ParenClose >> a.block >> otherwise_exact left inner a) (pair_begins (Paired IsBraced IsOtherwise) (refuses more_condition) (mark_begins sorts.ParenClose (refuses more_condition) refl)))
     (λ p. refl)
 
 foreach_exact : (left : ℕ) (inner : Inner) → AreExact left inner → IsExact (Image foreach_of ForeachParts) (deep_stmt left) no_more (foreach_with inner)
@@ -162,12 +162,12 @@ not_that test sort fails other holds = by (is sort other) refl where
 -- ---- lists of statements
 
 with_none : (at : ℕ) (condition : Condition) (then : Braces) (word : List PlainSymbol) → IsStmt (stmts.If at condition then None) word
-    → (IsPlaced (sorts.Word keywords.If) at · IsMark sorts.ParenOpen · IsCondition condition · IsMark sorts.ParenClose · IsBlock then) word
-with_none at condition then = in_back (IsPlaced (sorts.Word keywords.If) at) _ _ (in_back (IsMark sorts.ParenOpen) _ _ (in_back (IsCondition condition) _ _ (in_back (IsMark sorts.ParenClose) (IsBlock then · IsNothing) (IsBlock then) (without_nothing (IsBlock then)))))
+    → (IsPlaced (sorts.Word keywords.If) at · IsMark sorts.ParenOpen · IsCondition condition · IsMark sorts.ParenClose · IsBraced then) word
+with_none at condition then = in_back (IsPlaced (sorts.Word keywords.If) at) _ _ (in_back (IsMark sorts.ParenOpen) _ _ (in_back (IsCondition condition) _ _ (in_back (IsMark sorts.ParenClose) (IsBraced then · IsNothing) (IsBraced then) (without_nothing (IsBraced then)))))
 
-to_none : (at : ℕ) (condition : Condition) (then : Braces) (word : List PlainSymbol) → (IsPlaced (sorts.Word keywords.If) at · IsMark sorts.ParenOpen · IsCondition condition · IsMark sorts.ParenClose · IsBlock then) word
+to_none : (at : ℕ) (condition : Condition) (then : Braces) (word : List PlainSymbol) → (IsPlaced (sorts.Word keywords.If) at · IsMark sorts.ParenOpen · IsCondition condition · IsMark sorts.ParenClose · IsBraced then) word
     → IsStmt (stmts.If at condition then None) word
-to_none at condition then = in_back (IsPlaced (sorts.Word keywords.If) at) _ _ (in_back (IsMark sorts.ParenOpen) _ _ (in_back (IsCondition condition) _ _ (in_back (IsMark sorts.ParenClose) (IsBlock then) (IsBlock then · IsNothing) (with_nothing (IsBlock then)))))
+to_none at condition then = in_back (IsPlaced (sorts.Word keywords.If) at) _ _ (in_back (IsMark sorts.ParenOpen) _ _ (in_back (IsCondition condition) _ _ (in_back (IsMark sorts.ParenClose) (IsBraced then) (IsBraced then · IsNothing) (with_nothing (IsBraced then)))))
 
 list_to : (xs : List Stmt) (word : List PlainSymbol) → AreMany IsStmt xs word → AreStatements (statements_of xs) word
 list_to [] word h = h
@@ -214,9 +214,9 @@ list_deep left (stmts.Foreach at name class body ∷ xs) = ap (λ (o : Option �
 
 -- ---- blocks, one deeper
 
-block_exact : (left : ℕ) (inner : Inner) → AreExact left inner → IsExact IsBlock (deep_block (suc left)) no_more (block_with inner)
+block_exact : (left : ℕ) (inner : Inner) → AreExact left inner → IsExact IsBraced (deep_block (suc left)) no_more (block_with inner)
 unfolding same refuses
-block_exact left inner a = mapped_exact IsBlock (deep_block (suc left)) (λ p. record { at = p.0; statements = statements_of p.1.0 })
+block_exact left inner a = mapped_exact IsBraced (deep_block (suc left)) (λ p. record { at = p.0; statements = statements_of p.1.0 })
     (place_exact sorts.BraceOpen >> closed (many_exact begins_stmt (stmt_exact left inner a) stmt_begins (not_that begins_stmt (sorts.Word keywords.Else) refl)) (mark_exact sorts.BraceClose) (mark_begins sorts.BraceClose (refuses (wider begins_stmt (is (sorts.Word keywords.Else)))) refl))
     (λ p word h. (h.0, h.1, h.2, h.3, (h.4.0, h.4.1, h.4.2, list_to p.1.0 h.4.0 h.4.3, h.4.4)))
     (λ b word h.
@@ -224,7 +224,7 @@ block_exact left inner a = mapped_exact IsBlock (deep_block (suc left)) (λ p. r
     ((b.at, (xs.0, tt)), (λ i. record { at = b.at; statements = xs.1 i }), (h.0, h.1, h.2, h.3, (h.4.0, h.4.1, h.4.2, xs.2, h.4.4))))
     (λ p. list_deep left p.1.0 ∙ sym (earlier_right (earliest (deep_stmt left) p.1.0)))
 
-block_begins : (test : Sort → Bool) → test sorts.BraceOpen ≡ true → BeginsWith IsBlock test
+block_begins : (test : Sort → Bool) → test sorts.BraceOpen ≡ true → BeginsWith IsBraced test
 block_begins test holds b word h = front_starts test (IsPlaced sorts.BraceOpen b.at) _ (place_begins sorts.BraceOpen test holds b.at) word h
 
 abbrev LoneIf : Braces → List PlainSymbol → Type 0
@@ -257,18 +257,18 @@ lone_exact left inner a = mapped_exact LoneIf (deep_block (suc left)) lone (if_e
     (λ b word h. lone_from b.at b.statements word h.0 h.1)
     (λ s. list_deep left (s ∷ []) ∙ earlier_right (deep_stmt left s))
 
-else_of : (left : ℕ) {one other : List PlainSymbol → Outcome Braces} → IsExact LoneIf (deep_block left) (is (sorts.Word keywords.Else)) one → IsExact IsBlock (deep_block left) no_more other → IsExact IsElse (deep_block left) (is (sorts.Word keywords.Else)) (choice (is (sorts.Word keywords.If)) one other)
+else_of : (left : ℕ) {one other : List PlainSymbol → Outcome Braces} → IsExact LoneIf (deep_block left) (is (sorts.Word keywords.Else)) one → IsExact IsBraced (deep_block left) no_more other → IsExact IsElse (deep_block left) (is (sorts.Word keywords.Else)) (choice (is (sorts.Word keywords.If)) one other)
 unfolding same refuses
 else_of left a b = relabelled_exact IsElse (deep_block left)
     (choice_exact (is (sorts.Word keywords.If)) a (widened_exact (is (sorts.Word keywords.Else)) b (λ sort out. refl)) (lone_begins (is (sorts.Word keywords.If)) refl)
-    (apart IsBlock (is (sorts.Word keywords.If)) (is (sorts.Word keywords.Else)) (block_begins (refuses (is (sorts.Word keywords.If))) refl)))
+    (apart IsBraced (is (sorts.Word keywords.If)) (is (sorts.Word keywords.Else)) (block_begins (refuses (is (sorts.Word keywords.If))) refl)))
     (λ b word h. elim h as (λ f. IsElse b word) [ inl g ↦ inr g | inr g ↦ inl g ])
-    (λ b word h. elim h as (λ f. LoneIf b word ⊎ IsBlock b word) [ inl g ↦ inr g | inr g ↦ inl g ])
+    (λ b word h. elim h as (λ f. LoneIf b word ⊎ IsBraced b word) [ inl g ↦ inr g | inr g ↦ inl g ])
     (λ b. refl)
 
 -- ---- where nothing more may be nested
 
-block_opens : (b : Braces) (word : List PlainSymbol) → IsBlock b word → Opens sorts.BraceOpen b word
+block_opens : (b : Braces) (word : List PlainSymbol) → IsBraced b word → Opens sorts.BraceOpen b word
 block_opens b word h = (h.3.symbol, h.1, h.2 ∙ ap (λ (l : List PlainSymbol). l ++ h.1) h.3.only, h.3.sorted, h.3.placed)
 
 lone_opens : (b : Braces) (word : List PlainSymbol) → LoneIf b word → Opens (sorts.Word keywords.If) b word
@@ -283,7 +283,7 @@ lone_opens b word (is, h) =
       g.3.placed ∙ sym (ap (λ (x : Braces). x.at) s.1 ∙ ap stmt_place p.1),
     )
 
-block_complete : (c : PlainSymbol) → c.sort ≡ sorts.BraceOpen → (after : List PlainSymbol) × (b : Braces) × IsBlock b (c ∷ after) × (b.at ≡ c.at)
+block_complete : (c : PlainSymbol) → c.sort ≡ sorts.BraceOpen → (after : List PlainSymbol) × (b : Braces) × IsBraced b (c ∷ after) × (b.at ≡ c.at)
 block_complete c is =
     let close = (mark_exact sorts.BraceClose).sample 0 in (
       close.0,
@@ -292,13 +292,13 @@ block_complete c is =
       refl,
     )
 
-blocks_none : IsExact IsBlock (deep_block 0) no_more (too_deep sorts.BraceOpen)
-blocks_none = too_deep_exact sorts.BraceOpen IsBlock no_more block_opens block_complete
+blocks_none : IsExact IsBraced (deep_block 0) no_more (too_deep sorts.BraceOpen)
+blocks_none = too_deep_exact sorts.BraceOpen IsBraced no_more block_opens block_complete
 
 lone_complete : (c : PlainSymbol) → c.sort ≡ (sorts.Word keywords.If) → (after : List PlainSymbol) × (b : Braces) × LoneIf b (c ∷ after) × (b.at ≡ c.at)
 unfolding same refuses
 lone_complete c is =
-    let end = (mark_exact sorts.ParenOpen >> closed condition_exact (mark_exact sorts.ParenClose >> blocks_none) (pair_begins IsBlock (refuses more_condition) (mark_begins sorts.ParenClose (refuses more_condition) refl))).sample 0 in (
+    let end = (mark_exact sorts.ParenOpen >> closed condition_exact (mark_exact sorts.ParenClose >> blocks_none) (pair_begins IsBraced (refuses more_condition) (mark_begins sorts.ParenClose (refuses more_condition) refl))).sample 0 in (
       end.0,
       lone (stmts.If c.at end.1.1.0 end.1.1.1.1 None),
       (refl, (c ∷ end.0, [], sym (append_none (c ∷ end.0)), (c ∷ [], end.0, refl, record { symbol = c; only = refl; sorted = is; placed = refl }, end.2), refl)),
@@ -316,6 +316,6 @@ blocks_exact (suc left) = record {
   else = else_of (suc left) (lone_exact left (blocks left) (blocks_exact left)) (block_exact left (blocks left) (blocks_exact left));
 }
 
-pub nested_exact : (left : ℕ) → IsExact IsBlock (deep_block left) no_more (block left)
+pub nested_exact : (left : ℕ) → IsExact IsBraced (deep_block left) no_more (block left)
 unfolding block
 nested_exact left = (blocks_exact left).block

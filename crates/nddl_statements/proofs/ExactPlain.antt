@@ -18,7 +18,7 @@ use Rattle.nddl_ast.specs.declared.expression.Bounds.{Bounds}
 use Rattle.nddl_ast.specs.declared.expression.Init.{Init}
 use Rattle.nddl_statements.specs.declared.statements.SimpleStmt.{SimpleStmt}
 use Rattle.nddl_statements.specs.declared.statements.SimpleStmt.TheVariants as plains
-use Rattle.nddl_statements.specs.Grammar.{IsWrittenName, IsPath, IsLiteral, AreArguments, IsBounds, IsType, IsVariable, IsCall}
+use Rattle.nddl_statements.specs.Grammar.{IsWrittenName, IsPath, IsLiteral, AreExpressions, IsBounds, IsType, IsVariable, IsCall}
 use Rattle.nddl_statements.specs.Productions.{calls, plain_after, plain_named, plain}
 use Rattle.nddl_statements.proofs.Flat.{Starts, front_starts, refuses}
 use Rattle.nddl_statements.proofs.ExactExpressions.{name_exact, name_begins, path_begins, literal_begins}
@@ -39,7 +39,7 @@ abbrev Parens : Name → SimpleStmt → List PlainSymbol → Type 0
 Parens first y = IsWrittenName first · IsMark sorts.ParenOpen · Inside first y · Closing
 
 abbrev CallParens : Name → List Expr → List PlainSymbol → Type 0
-CallParens first list = IsWrittenName first · IsMark sorts.ParenOpen · AreArguments list · Closing
+CallParens first list = IsWrittenName first · IsMark sorts.ParenOpen · AreExpressions list · Closing
 
 call_of_parens : (first : Name) (list : List Expr) (word : List PlainSymbol) → CallParens first list word → IsPlain (calls first list) word
 call_of_parens first list word h = (h.0, h.1, h.2, path_of_name first h.0 h.3, h.4)

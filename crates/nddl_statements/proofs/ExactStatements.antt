@@ -27,7 +27,7 @@ use Rattle.nddl_ast.specs.declared.statement.Call.{Call}
 use Rattle.nddl_ast.specs.declared.declaration.Typed.{Typed}
 use Rattle.nddl_statements.specs.declared.statements.SimpleStmt.{SimpleStmt}
 use Rattle.nddl_statements.specs.declared.statements.SimpleStmt.TheVariants as plains
-use Rattle.nddl_statements.specs.Grammar.{IsWrittenName, IsPath, IsExpr, IsWrittenValue, AreArguments, IsInit, IsBase, IsBounds, IsType, IsTyped, IsStart, IsVariable, IsCall, IsAsk}
+use Rattle.nddl_statements.specs.Grammar.{IsWrittenName, IsPath, IsExpr, IsWrittenValue, AreExpressions, IsInit, IsBase, IsBounds, IsType, IsTyped, IsStart, IsVariable, IsCall, IsAsk}
 use Rattle.nddl_statements.specs.Productions.{range, set, bounds, type_of, type_named, typed, field, field_after, start, variable, variable_after, call_end, dotted_after, call_after, asks, calls, behind_path, inside_path, inside, parens_after, plain_after}
 use Rattle.nddl_statements.proofs.Flat.{Starts, front_starts, flat, refuses, apart, ◌>>◌, closed}
 use Rattle.nddl_statements.proofs.ExactExpressions.{name_exact, name_begins, more_path, path_exact, path_begins, literal_begins, value_exact, more_arguments, more_exprs_exact, arguments_exact, init_exact, base_begins, base_exact}
@@ -224,7 +224,7 @@ field_after_begins test p q r first v word (x, eq, h) = bounds_then test p q r x
 -- ---- calls
 
 abbrev pub IsCallEnd : List Expr → List PlainSymbol → Type 0
-IsCallEnd arguments = IsMark sorts.ParenOpen · AreArguments arguments · IsMark sorts.ParenClose · IsMark sorts.Semicolon
+IsCallEnd arguments = IsMark sorts.ParenOpen · AreExpressions arguments · IsMark sorts.ParenClose · IsMark sorts.Semicolon
 
 pub call_end_exact : IsExact IsCallEnd no_blocks no_more call_end
 unfolding call_end same refuses
@@ -307,7 +307,7 @@ abbrev more_inside : Sort → Bool
 more_inside = wider more_behind more_arguments
 
 abbrev pub Inside : Name → SimpleStmt → List PlainSymbol → Type 0
-Inside word y w = InsidePath word y w ⊎ Beside (is sorts.Name) (Image (calls word) AreArguments) y w
+Inside word y w = InsidePath word y w ⊎ Beside (is sorts.Name) (Image (calls word) AreExpressions) y w
 
 or_name : (sort : Sort) → more_inside sort ≡ false → is sorts.Name sort ≡ false
 or_name sort out = or_second (is sorts.Comma sort) (is sorts.Name sort) (or_one (is sorts.Comma sort || is sorts.Name sort) (more_path sort) (or_one (more_behind sort) (more_arguments sort) out))

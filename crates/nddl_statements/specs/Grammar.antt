@@ -64,13 +64,13 @@ abbrev pub IsWrittenValue : Value → List PlainSymbol → Type 0
 IsWrittenValue (values.Name name) = IsWrittenName name
 IsWrittenValue (values.Literal literal) = IsLiteral literal
 
-abbrev pub AreArguments : List Expr → List PlainSymbol → Type 0
-AreArguments = AreListed sorts.Comma IsExpr
+abbrev pub AreExpressions : List Expr → List PlainSymbol → Type 0
+AreExpressions = AreListed sorts.Comma IsExpr
 
 abbrev pub IsCreation : Creation → List PlainSymbol → Type 0
 IsCreation creation =
     IsPlaced (sorts.Word keywords.New) creation.at · IsWrittenName creation.class · IsMark sorts.ParenOpen
-    · AreArguments creation.arguments · IsMark sorts.ParenClose
+    · AreExpressions creation.arguments · IsMark sorts.ParenClose
 
 abbrev pub IsInit : Init → List PlainSymbol → Type 0
 IsInit (inits.Expr expr) = IsExpr expr
@@ -112,7 +112,7 @@ IsVariable variable =
 
 abbrev pub IsCall : Call → List PlainSymbol → Type 0
 IsCall call =
-    IsPath call.path · IsMark sorts.ParenOpen · AreArguments call.arguments · IsMark sorts.ParenClose
+    IsPath call.path · IsMark sorts.ParenOpen · AreExpressions call.arguments · IsMark sorts.ParenClose
     · IsMark sorts.Semicolon
 
 abbrev pub IsAsk : Ask → List PlainSymbol → Type 0
@@ -154,8 +154,8 @@ AreStatements (Repeats at name class body_at body more) =
     · IsMark (sorts.Word keywords.In) · IsWrittenName class · IsMark sorts.ParenClose
     · Encloses body_at (AreStatements body)) · AreStatements more
 
-abbrev pub IsBlock : Braces → List PlainSymbol → Type 0
-IsBlock block = Encloses block.at (AreStatements block.statements)
+abbrev pub IsBraced : Braces → List PlainSymbol → Type 0
+IsBraced block = Encloses block.at (AreStatements block.statements)
 
 -- ---- nesting
 

@@ -10,7 +10,7 @@ use Rattle.nddl_ast.specs.declared.kind.TextKind.TheVariants as faults
 use Rattle.nddl_joined.specs.Joined.{joined_decls, joined_sites}
 use Rattle.nddl_joined.specs.Place.{file_of_place}
 use Rattle.nddl_scope.specs.declared.fault.Fault.{Fault}
-use Rattle.nddl_scope.specs.Finding.{earliest_fault, fault_at}
+use Rattle.nddl_scope.specs.Finding.{earliest_fault, faults_here}
 use Rattle.nddl_scope.specs.Names.{is_config_sort, scope_names, sort_of_variable}
 use Rattle.nddl_scope.specs.Scope.{fault_if, second_name_faults}
 use Rattle.nddl_lines.specs.Facts.{Facts}
@@ -21,7 +21,7 @@ use Rattle.nddl_classes.specs.Classes.{class_faults}
 -- what is wrong with the declaration of this number: an enum of too many members, a type, or a class
 abbrev pub decl_faults : Facts → ℕ → Decl → List Fault
 decl_faults facts number (decls.Enum at name members_at members) =
-    fault_at number members_at (fault_if (nat_lt 4096 (length members)) faults.LimitMembers)
+    faults_here number members_at (fault_if (nat_lt 4096 (length members)) faults.LimitMembers)
 decl_faults facts number (decls.Typedef at declared name) = all_type_faults facts number declared
 decl_faults facts number (decls.Class at name parent members) = class_faults facts number name parent members
 decl_faults facts number (decls.Variable variable) =

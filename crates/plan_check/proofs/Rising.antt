@@ -27,7 +27,7 @@ use Rattle.plan_values.specs.Keys.{IsOrderly}
 use Rattle.resource_profile.specs.declared.level.LevelChange.{LevelChange}
 use Rattle.resource_profile.specs.Instant.{IsFirst}
 use Rattle.resource_profile.specs.Level.{added_at, level_at, IsSmall, IsOut, IsOutFrom}
-use Rattle.plan_check.specs.Acts.{present, Collects, ValuesAct, TokenChanges, IsChangeOf, FindsInstant}
+use Rattle.plan_check.specs.Acts.{acts_among, Collects, ValuesAct, TokenChanges, IsChangeOf, FindsInstant}
 use Rattle.plan_check.proofs.Suited.{starts_within, quantity_within}
 use Rattle.plan_check.proofs.Using.{at_most, part_once}
 
@@ -92,7 +92,7 @@ module _ (model : Model) (object instant : ℤ) where
   rise_at (lines.Local name value) None is = inr (inr (record { adds_none = λ quantity h. h; takes_none = λ quantity h. h }, refl))
 
   rises : (initial : ℤ) (listed : List Line) (each : List (Option LevelChange)) → AllZip (IsChangeOf model object) listed each
-      → (amounts : List ℤ) × AllZip (IsRise model object instant) listed amounts × (initial +ℤ sum_of amounts ≡ level_at (present each) initial instant)
+      → (amounts : List ℤ) × AllZip (IsRise model object instant) listed amounts × (initial +ℤ sum_of amounts ≡ level_at (acts_among each) initial instant)
   rises initial [] [] zip = ([], tt, omega (arith, ints))
   rises initial [] (found ∷ each) zip = absurd zip
   rises initial (line ∷ listed) [] zip = absurd zip
@@ -193,7 +193,7 @@ level_stays (change ∷ changes) initial last instant all later =
     ]
 
 -- each change is that of a line
-change_line : (model : Model) (object : ℤ) (listed : List Line) (each : List (Option LevelChange)) → AllZip (IsChangeOf model object) listed each → (change : LevelChange) → Contains (present each) change
+change_line : (model : Model) (object : ℤ) (listed : List Line) (each : List (Option LevelChange)) → AllZip (IsChangeOf model object) listed each → (change : LevelChange) → Contains (acts_among each) change
     → (token : TokenName) × ((fact : Bool) × ((values : List ℤ) × Contains listed (lines.Token token fact values) × IsChangeOf model object (lines.Token token fact values) (Some change)))
 change_line model object [] [] zip change there = absurd (contains_none change there)
 change_line model object [] (found ∷ each) zip change there = absurd zip
@@ -201,7 +201,7 @@ change_line model object (line ∷ listed) [] zip change there = absurd zip
 change_line model object (line ∷ listed) (None ∷ each) zip change there =
     let rest = change_line model object listed each zip.1 change there in
     (rest.0, (rest.1.0, (rest.1.1.0, contains_later line (lines.Token rest.0 rest.1.0 rest.1.1.0) listed rest.1.1.1, rest.1.1.2)))
-change_line model object (line ∷ listed) (Some first ∷ each) zip change there = elim (contains_cases first change (present each) there) [
+change_line model object (line ∷ listed) (Some first ∷ each) zip change there = elim (contains_cases first change (acts_among each) there) [
   | inl same ↦ here line zip.0 same
   | inr later ↦ (
       let rest = change_line model object listed each zip.1 change later in

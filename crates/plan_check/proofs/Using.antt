@@ -26,7 +26,7 @@ use Rattle.plan_values.specs.Keys.{IsOrderly}
 use Rattle.resource_profile.specs.declared.usage.Use.{Use}
 use Rattle.resource_profile.specs.Instant.{IsFirst}
 use Rattle.resource_profile.specs.Usage.{quantity_at, taken_at, IsOverUsed}
-use Rattle.plan_check.specs.Acts.{present, Collects, TokenUses, IsUseOf, FindsInstant}
+use Rattle.plan_check.specs.Acts.{acts_among, Collects, TokenUses, IsUseOf, FindsInstant}
 use Rattle.plan_check.proofs.Suited.{starts_within, ends_within, quantity_within}
 
 -- ---- collecting
@@ -37,7 +37,7 @@ zip_push P [] (b ∷ ys) x y zip p = absurd zip
 zip_push P (a ∷ xs) [] x y zip p = absurd zip
 zip_push P (a ∷ xs) (b ∷ ys) x y zip p = (zip.0, zip_push P xs ys x y zip.1 p)
 
-present_push : {A : Type 0} (each : List (Option A)) (found : Option A) → present (each ++ found ∷ []) ≡ present each ++ option_to_list found
+present_push : {A : Type 0} (each : List (Option A)) (found : Option A) → acts_among (each ++ found ∷ []) ≡ acts_among each ++ option_to_list found
 present_push [] None = refl
 present_push [] (Some a) = refl
 present_push (None ∷ each) found = present_push each found
@@ -125,7 +125,7 @@ module _ (model : Model) (object instant : ℤ) where
   used_at (lines.Local name value) None none = inr (λ quantity h. h, refl)
 
   sums : (listed : List Line) (each : List (Option Use)) → AllZip (IsUseOf model object) listed each
-      → (amounts : List ℤ) × AllZip (IsUsed model object instant) listed amounts × (sum_of amounts ≡ taken_at (present each) instant)
+      → (amounts : List ℤ) × AllZip (IsUsed model object instant) listed amounts × (sum_of amounts ≡ taken_at (acts_among each) instant)
   sums [] [] zip = ([], tt, refl)
   sums [] (found ∷ each) zip = absurd zip
   sums (line ∷ listed) [] zip = absurd zip
@@ -199,7 +199,7 @@ going_on (usage ∷ uses) instant some = elim (at_most usage.from instant) [
 ]
 
 -- each use is that of a line
-of_line : (model : Model) (object : ℤ) (listed : List Line) (each : List (Option Use)) → AllZip (IsUseOf model object) listed each → (usage : Use) → Contains (present each) usage
+of_line : (model : Model) (object : ℤ) (listed : List Line) (each : List (Option Use)) → AllZip (IsUseOf model object) listed each → (usage : Use) → Contains (acts_among each) usage
     → (token : TokenName) × ((fact : Bool) × ((values : List ℤ) × Contains listed (lines.Token token fact values) × TokenUses model token values object usage))
 of_line model object [] [] zip usage there = absurd (contains_none usage there)
 of_line model object [] (found ∷ each) zip usage there = absurd zip
@@ -207,7 +207,7 @@ of_line model object (line ∷ listed) [] zip usage there = absurd zip
 of_line model object (line ∷ listed) (None ∷ each) zip usage there =
     let rest = of_line model object listed each zip.1 usage there in
     (rest.0, (rest.1.0, (rest.1.1.0, contains_later line (lines.Token rest.0 rest.1.0 rest.1.1.0) listed rest.1.1.1, rest.1.1.2)))
-of_line model object (line ∷ listed) (Some first ∷ each) zip usage there = elim (contains_cases first usage (present each) there) [
+of_line model object (line ∷ listed) (Some first ∷ each) zip usage there = elim (contains_cases first usage (acts_among each) there) [
   | inl same ↦ here line zip.0 same
   | inr later ↦ (
       let rest = of_line model object listed each zip.1 usage later in

@@ -14,16 +14,16 @@ use Rattle.resource_profile.specs.declared.usage.Use.{Use}
 -- ---- what is done by lines
 
 -- what is done by each of the lines in order, where a line does one thing or nothing
-abbrev pub present : {A : Type 0} → List (Option A) → List A
-present [] = []
-present (None ∷ each) = present each
-present (Some act ∷ each) = act ∷ present each
+abbrev pub acts_among : {A : Type 0} → List (Option A) → List A
+acts_among [] = []
+acts_among (None ∷ each) = acts_among each
+acts_among (Some act ∷ each) = act ∷ acts_among each
 
 -- these are what the lines do, in order
 pub record Collects {A : Type 0} (IsDone : Line → Option A → Type 0) (listed : List Line) (acts : List A) : Type 0 where
   pub each : List (Option A)
   pub are : AllZip IsDone listed each
-  pub acts_are : present each ≡ acts
+  pub acts_are : acts_among each ≡ acts
 
 -- it is so at each instant, or this is the first at which it isn't
 pub record IsFirstInstant (IsSo : ℤ → Type 0) (at : ℤ) : Type 0 where

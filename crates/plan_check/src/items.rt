@@ -6,7 +6,7 @@ ghost use Rattle.plan_defs.specs.declared.plan.Clause.TheVariants.{V7};
 ghost use Rattle.plan_defs.specs.Plans.{IsPlanOf, IsActivatedIn};
 ghost use Rattle.plan_defs.specs.Valid.{IsTrueInRule, IsActivatedAt, IsLineAt};
 ghost use Rattle.plan_values.specs.Keys.{IsOrderly};
-ghost use Rattle.plan_inventory.specs.Breaks.{Finds, FindsNumber, IsFirstInRules};
+ghost use Rattle.plan_inventory.specs.Breaks.{FindsBreak, FindsNumber, IsFirstInRules};
 ghost use Rattle.plan_inventory.specs.Asking.{FindsOnLine};
 ghost use Rattle.plan_check.specs.Items.{IsProblemItemTrue};
 
@@ -92,7 +92,7 @@ fn false_in_blocks(model: &Model, plan: &Plan) -> Option<Place>
     requires is_plan { IsPlanOf model.now plan.now }
     requires orderly { IsOrderly plan.now }
     requires problem { (number : ℕ) → IsProblemItemTrue model.now plan.now number }
-    ensures { Finds model.now plan.now V7 result }
+    ensures { FindsBreak model.now plan.now V7 result }
 {
     for (place, line) in plan.lines.as_slice().iter().enumerate() {
         if let Some(found) = false_at(model, plan, place as u32, line) {
@@ -107,7 +107,7 @@ pub fn broken_item(model: &Model, plan: &Plan) -> Option<Place>
     requires lawful { IsLawful model.now }
     requires is_plan { IsPlanOf model.now plan.now }
     requires orderly { IsOrderly plan.now }
-    ensures { Finds model.now plan.now V7 result }
+    ensures { FindsBreak model.now plan.now V7 result }
 {
     match false_in_problem(model, plan) {
         Some(number) => Some(Place::Problem(number)),

@@ -10,7 +10,7 @@ ghost use Rattle.plan_defs.specs.Resources.{IsInstant};
 ghost use Rattle.plan_defs.specs.Valid.{IsOfSort, IsClauseKept, IsLevelWithin, KeepsReservoirs};
 ghost use Rattle.plan_values.specs.Keys.{IsOrderly};
 ghost use Rattle.plan_check.specs.Acts.{ValuesAct, TokenChanges, IsChangeOf, Collects, FindsInstant};
-ghost use Rattle.plan_inventory.specs.Breaks.{Finds};
+ghost use Rattle.plan_inventory.specs.Breaks.{FindsBreak};
 
 use super::resources::{is_of_kind, is_on, keep};
 use eu_name::name::{Part, TokenName};
@@ -145,7 +145,7 @@ pub fn broken_reservoir(
     requires lawful { IsLawful model.now }
     requires orderly { IsOrderly plan.now }
     requires tokens { (place : Place) → IsClauseKept model.now plan.now V3 place }
-    ensures { IfOk result (Finds model.now plan.now V10) }
+    ensures { IfOk result (FindsBreak model.now plan.now V10) }
 {
     for (number, object) in model.objects.as_slice().iter().enumerate() {
         let found = left_limits_of(alloc, model, plan, number as u32, object)?;

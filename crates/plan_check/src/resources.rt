@@ -11,7 +11,7 @@ ghost use Rattle.plan_defs.specs.Resources.{IsInstant};
 ghost use Rattle.plan_defs.specs.Valid.{IsOfSort, IsPartOf, IsClauseKept, IsWithinCapacity, KeepsReusables};
 ghost use Rattle.resource_profile.specs.declared.usage.Use.{Use};
 ghost use Rattle.plan_values.specs.Keys.{IsOrderly};
-ghost use Rattle.plan_inventory.specs.Breaks.{Finds};
+ghost use Rattle.plan_inventory.specs.Breaks.{FindsBreak};
 ghost use Rattle.plan_check.specs.Acts.{ValuesUse, TokenUses, IsUseOf, Collects, FindsInstant};
 
 use eu_name::name::{Part, TokenName};
@@ -195,7 +195,7 @@ pub fn broken_reusable(
     requires lawful { IsLawful model.now }
     requires orderly { IsOrderly plan.now }
     requires tokens { (place : Place) → IsClauseKept model.now plan.now V3 place }
-    ensures { IfOk result (Finds model.now plan.now V9) }
+    ensures { IfOk result (FindsBreak model.now plan.now V9) }
 {
     for (number, object) in model.objects.as_slice().iter().enumerate() {
         let found = over_used_object(alloc, model, plan, number as u32, object)?;

@@ -5,7 +5,7 @@ ghost use Rattle.plan_defs.specs.declared.plan.Clause.TheVariants.{V8};
 ghost use Rattle.plan_defs.specs.Plans.{IsPlanOf};
 ghost use Rattle.plan_defs.specs.Timelines.{IsTimeline};
 ghost use Rattle.plan_values.specs.Keys.{IsOrderly};
-ghost use Rattle.plan_inventory.specs.Breaks.{Finds, FindsNumber};
+ghost use Rattle.plan_inventory.specs.Breaks.{FindsBreak, FindsNumber};
 ghost use Rattle.plan_check.specs.Turns.{ShareTimelineBy, EndsByValues, TakeTurnsBy, LinesTakeTurns, IsPairKept};
 
 use eu_name::name::Part;
@@ -109,7 +109,7 @@ fn overlapping(model: &Model, plan: &Plan, first: u32) -> Option<u32>
 pub fn broken_pair(model: &Model, plan: &Plan) -> Option<Place>
     requires is_plan { IsPlanOf model.now plan.now }
     requires orderly { IsOrderly plan.now }
-    ensures { Finds model.now plan.now V8 result }
+    ensures { FindsBreak model.now plan.now V8 result }
 {
     for first in 0..plan.lines.len() as u32 {
         if let Some(second) = overlapping(model, plan, first) {

@@ -12,7 +12,7 @@ use Rattle.constraint_net.specs.declared.NetFault.TheVariants.{Collapsed, Memory
 use Rattle.plan_store.specs.Puts.{ChangesNet}
 use Rattle.plan_store.specs.Stores.{Stored, snapshot_of}
 use Rattle.plan_opening.specs.Underway.{IsUnderway, IsStoreUnderway}
-use Rattle.plan_closing.specs.Closing.{AreKnownDue, HasComeToRest, Heeds, LeadsOn, Steps, TakesSteps, LooksAtAll, BringsToRest}
+use Rattle.plan_closing.specs.Closing.{AreKnownDue, HasComeToRest, Heeds, StepLeaves, Steps, TakesSteps, LooksAtAll, BringsToRest}
 use Rattle.plan_closing.specs.Looking.{IsOnWay, HasWay, KeepsWay, LooksAt}
 use Rattle.plan_closing.specs.declared.closing.Step.{Step}
 use Rattle.plan_closing.specs.declared.closing.Step.TheVariants as step
@@ -117,7 +117,7 @@ module _ (model : Model) (unfolded : ℕ) (old mid : Stored) (count : ℕ)
   run_fails new Collapsed steps = λ decisions way. steps decisions (on decisions way)
   run_fails new Memory steps = tt
 
-  came_to_rest : (decisions : List Decision) (new : Stored) (next : Step) → ((n : ℕ) → next ≡ step.On n → ⊥) → LeadsOn model decisions next new → HasComeToRest model decisions new
+  came_to_rest : (decisions : List Decision) (new : Stored) (next : Step) → ((n : ℕ) → next ≡ step.On n → ⊥) → StepLeaves model decisions next new → HasComeToRest model decisions new
   came_to_rest decisions new (step.On n) not goes = absurd (not n refl)
   came_to_rest decisions new step.AtRest not goes = goes
 

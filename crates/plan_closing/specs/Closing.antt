@@ -41,14 +41,14 @@ Heeds model unfolded old (Err Collapsed) new =
 Heeds model unfolded old (Err Memory) new = ⊤
 
 -- after the step the store is on its way with so many blocks unfolded, or has come to rest
-abbrev pub LeadsOn : Model → List Decision → Step → Stored → Type 0
-LeadsOn model decisions (step.On unfolded) new = IsOnWay model decisions new unfolded new.net.changed
-LeadsOn model decisions step.AtRest new = HasComeToRest model decisions new
+abbrev pub StepLeaves : Model → List Decision → Step → Stored → Type 0
+StepLeaves model decisions (step.On unfolded) new = IsOnWay model decisions new unfolded new.net.changed
+StepLeaves model decisions step.AtRest new = HasComeToRest model decisions new
 
 -- what a step answers and leaves, for whatever decisions the old store was on its way
 abbrev pub Steps : Model → ℕ → Stored → Result Step NetFault → Stored → Type 0
 Steps model unfolded old (Ok next) new =
-    (decisions : List Decision) → IsOnWay model decisions old unfolded old.net.changed → LeadsOn model decisions next new
+    (decisions : List Decision) → IsOnWay model decisions old unfolded old.net.changed → StepLeaves model decisions next new
 Steps model unfolded old (Err Collapsed) new =
     (decisions : List Decision) → IsOnWay model decisions old unfolded old.net.changed → LeaveNothing model decisions
 Steps model unfolded old (Err Memory) new = ⊤

@@ -16,7 +16,7 @@ use Rattle.plan_defs.specs.History.{IsHistory}
 use Rattle.plan_db.specs.declared.fault.DbFault.{DbFault}
 use Rattle.plan_db.specs.declared.fault.DbFault.TheVariants.{InInconsistent, Unknown, Decided, NotInDomain, Nothing, Memory}
 use Rattle.plan_db.specs.Kept.{IsLeastNet, KeepsLeast, global_state, outcome_where}
-use Rattle.plan_db.specs.Database.{Database, OutcomeIs, Applies, Finds, HasLeast, HasCollapsed, HasFormer}
+use Rattle.plan_db.specs.Database.{Database, OutcomeIs, Applies, FindsRefusal, HasLeast, HasCollapsed, HasFormer}
 use Rattle.decision_log.specs.Undoing.{Pops}
 use Rattle.plan_db.proofs.Positions.{gives_at, given_at, number_same}
 
@@ -61,7 +61,7 @@ outcome_is database None collapsed = collapsed
 outcome_is database (Some net) least = (global_state net.domains, least)
 
 -- a reason that the tests find in the least state is why the decision is refused
-pub refused : (database : Database) (decision : Decision) (state : State) (fault : DbFault) → HasLeast database state → Finds database.model (standing database.history) state decision (Err fault) → Applies database decision (Err fault) database
+pub refused : (database : Database) (decision : Decision) (state : State) (fault : DbFault) → HasLeast database state → FindsRefusal database.model (standing database.history) state decision (Err fault) → Applies database decision (Err fault) database
 refused database decision state InInconsistent least finds = absurd finds
 refused database decision state Unknown least finds = (refl, record { state = state; least = least; refusal = finds })
 refused database decision state Decided least finds = (refl, record { state = state; least = least; refusal = finds })
@@ -70,7 +70,7 @@ refused database decision state Nothing least finds = absurd finds
 refused database decision state Memory least finds = absurd finds
 
 -- and where they find none it is admissible
-pub admissible : (database : Database) (decision : Decision) (state : State) → HasLeast database state → Finds database.model (standing database.history) state decision (Ok tt) → IsAdmissible database.model (standing database.history) decision
+pub admissible : (database : Database) (decision : Decision) (state : State) → HasLeast database state → FindsRefusal database.model (standing database.history) state decision (Ok tt) → IsAdmissible database.model (standing database.history) decision
 admissible database decision state least finds = record { state = state; least = least; free = finds }
 
 -- whether the kept state is there says whether the decisions leave something

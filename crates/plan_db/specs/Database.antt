@@ -83,9 +83,9 @@ IsUntold database name query.Unknown =
     (state : State) × HasLeast database state × ((domain : Domain) → Gives state name domain → ⊥)
 
 -- what the tests of a decision in the least state find
-abbrev pub Finds : Model → List Decision → State → Decision → Result (Unit {0}) DbFault → Type 0
-Finds model decisions state decision (Ok done) = (reason : Refusal) → Hinders model decisions state reason decision → ⊥
-Finds model decisions state decision (Err fault.Unknown) = IsFirstRefusal model decisions state decision Unknown
-Finds model decisions state decision (Err fault.Decided) = IsFirstRefusal model decisions state decision Decided
-Finds model decisions state decision (Err fault.NotInDomain) = IsFirstRefusal model decisions state decision NotInDomain
-Finds model decisions state decision (Err _) = ⊥
+abbrev pub FindsRefusal : Model → List Decision → State → Decision → Result (Unit {0}) DbFault → Type 0
+FindsRefusal model decisions state decision (Ok done) = (reason : Refusal) → Hinders model decisions state reason decision → ⊥
+FindsRefusal model decisions state decision (Err fault.Unknown) = IsFirstRefusal model decisions state decision Unknown
+FindsRefusal model decisions state decision (Err fault.Decided) = IsFirstRefusal model decisions state decision Decided
+FindsRefusal model decisions state decision (Err fault.NotInDomain) = IsFirstRefusal model decisions state decision NotInDomain
+FindsRefusal model decisions state decision (Err _) = ⊥

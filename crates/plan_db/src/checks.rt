@@ -8,7 +8,7 @@ ghost use Rattle.model_core.specs.declared.decision.Decision.TheVariants.{Specif
 ghost use Rattle.model_core.specs.declared.variable.Base.TheVariants.{Given};
 ghost use Rattle.model_core.specs.State.{State, IsState};
 ghost use Rattle.model_core.specs.Variables.{IsGiven};
-ghost use Rattle.plan_db.specs.Database.{Finds};
+ghost use Rattle.plan_db.specs.Database.{FindsRefusal};
 
 use super::fault::DbFault;
 use super::least::specified_global;
@@ -19,7 +19,7 @@ use model_core::variable::Base;
 /// Looks for the reasons against the decision, in their order, where the decisions leave a least state.
 pub fn check(model: &Model, decisions: &[Decision], decision: &Decision) -> Result<(), DbFault>
     requires { IsBuilt model.now }
-    ensures { (state : State) → IsState model.now state → Finds model.now decisions.now state decision.now result }
+    ensures { (state : State) → IsState model.now state → FindsRefusal model.now decisions.now state decision.now result }
 {
     let Some((number, value)) = specified_global(decision) else {
         return Err(DbFault::Unknown);

@@ -14,7 +14,7 @@ use Rattle.plan_growth.specs.Claims.{IsPostedIn}
 use Rattle.plan_growth.specs.Content.{Content, shown}
 use Rattle.plan_progress.specs.Coming.{TakesToken}
 use Rattle.plan_store.specs.Stores.{Stored}
-use Rattle.plan_posting.specs.Origins.{content_now, part_named}
+use Rattle.plan_posting.specs.Origins.{content_now, argument_named}
 use Rattle.plan_posting.specs.Posted.{PostsClaims, OnlyPosts}
 use Rattle.plan_posting.proofs.Storing.{with_constraints}
 use Rattle.plan_opening.specs.Underway.{IsStoreUnderway}
@@ -42,9 +42,9 @@ module _ (model : Model) (decisions : List Decision) (first second : TokenName) 
   content = content_now old
 
   abbrev Said : Claim → Type 0
-  Said claim = claim ≡ at_most (part_named content.tokens (record { token = one; part = End })) (part_named content.tokens (record { token = other; part = Start }))
+  Said claim = claim ≡ at_most (argument_named content.tokens (record { token = one; part = End })) (argument_named content.tokens (record { token = other; part = Start }))
 
-  named : at_most (part_named content.tokens (record { token = one; part = End })) (part_named content.tokens (record { token = other; part = Start }))
+  named : at_most (argument_named content.tokens (record { token = one; part = End })) (argument_named content.tokens (record { token = other; part = Start }))
       ≡ at_most (part_of first End) (part_of second Start)
   named =
       let from : first ≡ name_at content.tokens one = named_at content.tokens one first (sym named_first) in

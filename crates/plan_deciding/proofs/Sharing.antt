@@ -19,7 +19,7 @@ use Rattle.plan_defs.proofs.Members.{all_from_get, contains_from_get}
 use Rattle.plan_defs.proofs.Ordered.{contains_none}
 use Rattle.plan_growth.specs.Content.{Content, IsContent}
 use Rattle.plan_store.specs.Stores.{Stored}
-use Rattle.plan_posting.specs.Origins.{content_now, part_named}
+use Rattle.plan_posting.specs.Origins.{content_now, argument_named}
 use Rattle.plan_posting.specs.Posted.{PostsClaims, OnlyPosts}
 use Rattle.plan_posting.specs.Terms.{HasPartAt}
 use Rattle.plan_posting.proofs.Said.{posts_nothing, posts_same, posts_both}
@@ -36,7 +36,7 @@ part_kept old new only place parts k d below has =
 
 module _ (names : List VarName) (tokens : List TokenName) (one other : ℕ) where
   abbrev SamePart : Part → Claim → Type 0
-  SamePart part claim = claim ≡ equal (part_named tokens (record { token = one; part = part })) (part_named tokens (record { token = other; part = part }))
+  SamePart part claim = claim ≡ equal (argument_named tokens (record { token = one; part = part })) (argument_named tokens (record { token = other; part = part }))
 
   pub no_part : (posted : List Constraint) → PostsClaims names (ClaimsSamePart tokens one other []) posted posted
   no_part posted = posts_nothing names (ClaimsSamePart tokens one other []) posted (λ claim said. contains_none said.0 said.1)

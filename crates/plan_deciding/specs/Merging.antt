@@ -5,7 +5,7 @@ use Rattle.eu_name.specs.declared.name.TokenName.{TokenName}
 use Rattle.model_core.specs.declared.model.Model.{Model}
 use Rattle.plan_defs.specs.Claims.{Claim, HasPart, equal, part_of}
 use Rattle.plan_store.specs.Stores.{Stored}
-use Rattle.plan_posting.specs.Origins.{part_named}
+use Rattle.plan_posting.specs.Origins.{argument_named}
 use Rattle.plan_posting.specs.Terms.{HasPartAt}
 
 -- the token at the place has each of these parts
@@ -16,7 +16,7 @@ HasPartsAt stored place parts = All (λ part. HasPartAt stored (record { token =
 abbrev pub ClaimsSamePart : List TokenName → ℕ → ℕ → List Part → Claim → Type 0
 ClaimsSamePart names one other parts claim =
     (part : Part) × Contains parts part
-    × (claim ≡ equal (part_named names (record { token = one; part = part })) (part_named names (record { token = other; part = part })))
+    × (claim ≡ equal (argument_named names (record { token = one; part = part })) (argument_named names (record { token = other; part = part })))
 
 -- a part of the token, which may be any that it has, is claimed to be the same of the target
 abbrev pub ClaimsToBeSame : Model → TokenName → TokenName → Claim → Type 0

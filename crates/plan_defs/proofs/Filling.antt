@@ -69,7 +69,7 @@ tokens_of (lines.Merged name target ∷ more) = name ∷ tokens_of more
 tokens_of (lines.Rejected name ∷ more) = name ∷ tokens_of more
 tokens_of (lines.Local name value ∷ more) = tokens_of more
 
-tokens_in : (listed : List the_line.Line) (token : TokenName) → Contains (tokens_of listed) token → (line : the_line.Line) × Contains listed line × IsTokensLine line token
+pub tokens_in : (listed : List the_line.Line) (token : TokenName) → Contains (tokens_of listed) token → (line : the_line.Line) × Contains listed line × IsTokensLine line token
 tokens_in [] token there = absurd (contains_none token there)
 tokens_in (lines.Token name fact values ∷ more) token there = ⊎_elim
     (λ same. (lines.Token name fact values, contains_head (lines.Token name fact values) more, same))
@@ -87,7 +87,7 @@ tokens_in (lines.Local name value ∷ more) token there =
     let found = tokens_in more token there in (found.0, contains_later (lines.Local name value) found.0 more found.1, found.2)
 
 -- a token whose line comes first is first
-first_token : (first line : the_line.Line) (name token : TokenName) → IsTokensLine first name → IsTokensLine line token → IsLineBefore first line → IsTokenBefore name token
+pub first_token : (first line : the_line.Line) (name token : TokenName) → IsTokensLine first name → IsTokensLine line token → IsLineBefore first line → IsTokenBefore name token
 first_token first line name token p q before = by_token name token (names first line name token p q before)
   where
     by_token : (a b : TokenName) → IsVarBefore (Token a Start) (Token b Start) → IsTokenBefore a b
@@ -105,7 +105,7 @@ first_token first line name token p q before = by_token name token (names first 
         subst (λ (n : VarName). IsVarBefore (Token name Start) n) (named line token q)
         (subst (λ (n : VarName). IsVarBefore n (order_name line)) (named first name p) before)
 
-tokens_ordered : (listed : List the_line.Line) → AllPairs IsLineBefore listed → AllPairs IsTokenBefore (tokens_of listed)
+pub tokens_ordered : (listed : List the_line.Line) → AllPairs IsLineBefore listed → AllPairs IsTokenBefore (tokens_of listed)
 tokens_ordered [] order = ordered_none IsTokenBefore
 tokens_ordered (lines.Token name fact values ∷ more) order =
     let line = lines.Token name fact values in
@@ -124,7 +124,7 @@ tokens_ordered (lines.Rejected name ∷ more) order =
     (tokens_ordered more (ordered_tail IsLineBefore line more order))
 tokens_ordered (lines.Local name value ∷ more) order = tokens_ordered more (ordered_tail IsLineBefore (lines.Local name value) more order)
 
-tokens_there : (listed : List the_line.Line) (line : the_line.Line) (token : TokenName) → Contains listed line → IsTokensLine line token → Contains (tokens_of listed) token
+pub tokens_there : (listed : List the_line.Line) (line : the_line.Line) (token : TokenName) → Contains listed line → IsTokensLine line token → Contains (tokens_of listed) token
 tokens_there [] line token there is = absurd (contains_none line there)
 tokens_there (first ∷ more) line token there is = ⊎_elim
     (λ same. here first (subst (λ (l : the_line.Line). IsTokensLine l token) (sym same) is))

@@ -15,7 +15,7 @@ use Rattle.plan_defs.specs.Plans.{IsPlanOf, IsLineOf}
 use Rattle.plan_defs.specs.Valid.{IsClauseKept, IsValid}
 use Rattle.plan_values.specs.Keys.{IsOrderly, HasProperName}
 use Rattle.plan_inventory.specs.declared.inventory.Broken.{Broken}
-use Rattle.plan_inventory.specs.Breaks.{Finds}
+use Rattle.plan_inventory.specs.Breaks.{FindsBreak}
 use Rattle.plan_inventory.specs.Verdicts.{KeptBelow, FindsBelow}
 
 -- as many clauses come before two only if they are one
@@ -136,11 +136,11 @@ module _ (model : Model) (plan : Plan) where
   first_broken clause place before least = record { here = least; first = λ earlier other less. before earlier other less }
 
   -- by what was found of one clause
-  pub first_at : (clause : Clause) (place : Place) (found : Option Place) → found ≡ Some place → KeptBelow model plan (clauses_before clause) → Finds model plan clause found
+  pub first_at : (clause : Clause) (place : Place) (found : Option Place) → found ≡ Some place → KeptBelow model plan (clauses_before clause) → FindsBreak model plan clause found
       → IsFirstBroken model plan clause place
-  first_at clause place found is before finds = first_broken clause place before (subst (Finds model plan clause) is finds)
+  first_at clause place found is before finds = first_broken clause place before (subst (FindsBreak model plan clause) is finds)
 
-  pub kept_where : (clause : Clause) (found : Option Place) → ((place : Place) → found ≡ Some place → ⊥) → KeptBelow model plan (clauses_before clause) → Finds model plan clause found
+  pub kept_where : (clause : Clause) (found : Option Place) → ((place : Place) → found ≡ Some place → ⊥) → KeptBelow model plan (clauses_before clause) → FindsBreak model plan clause found
       → KeptBelow model plan (clauses_before clause + 1)
   kept_where clause None none before finds = one_kept clause before finds
   kept_where clause (Some place) none before finds = absurd (none place refl)

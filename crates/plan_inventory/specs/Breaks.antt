@@ -16,8 +16,8 @@ use Rattle.plan_defs.specs.Broken.{IsLeastBroken}
 use Rattle.plan_defs.specs.Valid.{Becomes, IsClauseKept, IsLineAt}
 
 -- the clause is kept everywhere, or this is the place with the least names where it is broken
-abbrev pub Finds : Model → Plan → Clause → Option Place → Type 0
-Finds model plan clause found =
+abbrev pub FindsBreak : Model → Plan → Clause → Option Place → Type 0
+FindsBreak model plan clause found =
     MatchOption found ((place : Place) → IsClauseKept model plan clause place) (IsLeastBroken model plan clause)
 
 -- ---- lines

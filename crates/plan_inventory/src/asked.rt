@@ -8,7 +8,7 @@ ghost use Rattle.plan_defs.specs.Plans.{IsPlanOf, IsActivatedIn, plan_situation}
 ghost use Rattle.plan_defs.specs.Support.{AsksFor};
 ghost use Rattle.plan_defs.specs.Valid.{AsksForLocal, IsAskedToken, IsAskedLocal, IsAsked};
 ghost use Rattle.plan_values.specs.Keys.{key_token, IsLocal, HasProperName, IsOrderly};
-ghost use Rattle.plan_inventory.specs.Breaks.{Finds, FindsLine, IsActivatedBy};
+ghost use Rattle.plan_inventory.specs.Breaks.{FindsBreak, FindsLine, IsActivatedBy};
 
 use eu_name::name::{Step, TokenName, VarName};
 use model_core::model::Model;
@@ -148,7 +148,7 @@ fn unasked_line(model: &Model, plan: &Plan) -> Option<u32>
 pub fn broken_asking(model: &Model, plan: &Plan) -> Option<Place>
     requires is_plan { IsPlanOf model.now plan.now }
     requires orderly { IsOrderly plan.now }
-    ensures { Finds model.now plan.now V6 result }
+    ensures { FindsBreak model.now plan.now V6 result }
 {
     match unasked_line(model, plan) {
         Some(place) => Some(Place::Line(place)),

@@ -5,7 +5,7 @@ ghost use Rattle.eu_name.specs.declared.name.VarName.TheVariants.{Global};
 ghost use Rattle.model_core.specs.Lawful.{IsLawful};
 ghost use Rattle.plan_defs.specs.declared.plan.Clause.TheVariants.{V1};
 ghost use Rattle.plan_defs.specs.Valid.{HasDeclaredValue};
-ghost use Rattle.plan_inventory.specs.Breaks.{Finds};
+ghost use Rattle.plan_inventory.specs.Breaks.{FindsBreak};
 
 use model_core::model::Model;
 use plan_bases::base_has;
@@ -29,7 +29,7 @@ fn is_global_kept(model: &Model, plan: &Plan, number: u32) -> bool
 /// The first global that has no value of its base.
 pub fn broken_global(model: &Model, plan: &Plan) -> Option<Place>
     requires { IsLawful model.now }
-    ensures { Finds model.now plan.now V1 result }
+    ensures { FindsBreak model.now plan.now V1 result }
 {
     for number in 0..model.problem.globals.len() as u32 {
         if !is_global_kept(model, plan, number) {

@@ -14,7 +14,7 @@ ghost use Rattle.plan_defs.specs.Valid.{HasDeclaredValue, IsActivatedAt, IsLineA
 ghost use Rattle.plan_values.specs.Keys.{IsOrderly};
 ghost use Rattle.plan_values.specs.Openings.{StandsInRule};
 ghost use Rattle.plan_values.specs.Walks.{HasRuleOf};
-ghost use Rattle.plan_inventory.specs.Breaks.{Finds, FindsNumber, IsFirstInRules};
+ghost use Rattle.plan_inventory.specs.Breaks.{FindsBreak, FindsNumber, IsFirstInRules};
 ghost use Rattle.plan_inventory.specs.Asking.{IsSlotKept, IsLocalKept, FindsOnLine};
 
 use super::asked::activated_by;
@@ -219,7 +219,7 @@ pub fn broken_open(model: &Model, plan: &Plan) -> Option<Place>
     requires lawful { IsLawful model.now }
     requires is_plan { IsPlanOf model.now plan.now }
     requires orderly { IsOrderly plan.now }
-    ensures { Finds model.now plan.now V5 result }
+    ensures { FindsBreak model.now plan.now V5 result }
 {
     for (place, line) in plan.lines.as_slice().iter().enumerate() {
         if let Some(found) = unkept_at(model, plan, place as u32, line) {

@@ -7,7 +7,7 @@ ghost use Rattle.plan_defs.specs.declared.plan.Clause.TheVariants.{V2};
 ghost use Rattle.plan_defs.specs.Plans.{IsPlanOf};
 ghost use Rattle.plan_defs.specs.Valid.{Becomes, IsLineOfSort};
 ghost use Rattle.plan_values.specs.Keys.{IsOrderly};
-ghost use Rattle.plan_inventory.specs.Breaks.{Finds, FindsLine, FindsNumber, SuitsKind, RootBecomes};
+ghost use Rattle.plan_inventory.specs.Breaks.{FindsBreak, FindsLine, FindsNumber, SuitsKind, RootBecomes};
 
 use model_core::model::{Model, RootKind};
 use plan_defs::plan::{Line, Place, Plan};
@@ -91,7 +91,7 @@ pub fn broken_root(model: &Model, plan: &Plan) -> Option<Place>
     requires lawful { IsLawful model.now }
     requires is_plan { IsPlanOf model.now plan.now }
     requires orderly { IsOrderly plan.now }
-    ensures { Finds model.now plan.now V2 result }
+    ensures { FindsBreak model.now plan.now V2 result }
 {
     match unsuited_root(model, plan) {
         Some(number) => Some(Place::Root(number)),

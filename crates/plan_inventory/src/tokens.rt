@@ -8,7 +8,7 @@ ghost use Rattle.plan_defs.specs.Claims.{lasts};
 ghost use Rattle.plan_defs.specs.Plans.{IsPlanOf, TakesPlaceWith};
 ghost use Rattle.plan_defs.specs.Valid.{IsClaimTrue, SuitsToken, SuitsMerge, SuitsIfToken, SuitsIfMerged};
 ghost use Rattle.plan_values.specs.Keys.{IsOrderly};
-ghost use Rattle.plan_inventory.specs.Breaks.{Finds, FindsLine};
+ghost use Rattle.plan_inventory.specs.Breaks.{FindsBreak, FindsLine};
 
 use super::bases::are_declared;
 use eu_name::name::{Part, TokenName};
@@ -90,7 +90,7 @@ pub fn broken_token(model: &Model, plan: &Plan) -> Option<Place>
     requires lawful { IsLawful model.now }
     requires is_plan { IsPlanOf model.now plan.now }
     requires orderly { IsOrderly plan.now }
-    ensures { Finds model.now plan.now V3 result }
+    ensures { FindsBreak model.now plan.now V3 result }
 {
     match unsuited_token(model, plan) {
         Some(place) => Some(Place::Line(place)),
@@ -164,7 +164,7 @@ pub fn broken_merge(model: &Model, plan: &Plan) -> Option<Place>
     requires lawful { IsLawful model.now }
     requires is_plan { IsPlanOf model.now plan.now }
     requires orderly { IsOrderly plan.now }
-    ensures { Finds model.now plan.now V4 result }
+    ensures { FindsBreak model.now plan.now V4 result }
 {
     match unsuited_merge(model, plan) {
         Some(place) => Some(Place::Line(place)),

@@ -25,5 +25,5 @@ IsOriginBelow count Problem = ⊤
 IsOriginBelow count (Rule token rule) = token < count
 
 -- the part, as an argument of a claim
-abbrev pub part_named : List TokenName → PartAt → Argument
-part_named names at = part_of (name_at names at.token) at.part
+abbrev pub argument_named : List TokenName → PartAt → Argument
+argument_named names at = part_of (name_at names at.token) at.part

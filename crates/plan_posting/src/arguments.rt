@@ -10,7 +10,7 @@ ghost use Rattle.plan_defs.specs.Terms.{InProblem, InRule, Variable};
 ghost use Rattle.plan_growth.specs.Claims.{IsNamedArgument};
 ghost use Rattle.plan_progress.specs.Coming.{IsTermThere};
 ghost use Rattle.plan_store.specs.Keys.{named_variable, IsKeyBelow};
-ghost use Rattle.plan_posting.specs.Origins.{content_now, origin_context, IsOriginBelow, part_named};
+ghost use Rattle.plan_posting.specs.Origins.{content_now, origin_context, IsOriginBelow, argument_named};
 ghost use Rattle.plan_posting.specs.Terms.{CanStand, IsTermArgument, IsPartThere, HasPartAt};
 
 use super::origin::{Origin, PartAt};
@@ -81,7 +81,7 @@ fn variable_at(store: &Store, key: VarKey) -> NetArg
 pub fn part_argument(store: &Store, at: PartAt) -> NetArg
     requires { HasPartAt store.now at }
     ensures { let content = content_now store.now in
-        IsNamedArgument content.names (part_named content.tokens at) result }
+        IsNamedArgument content.names (argument_named content.tokens at) result }
 {
     variable_at(store, VarKey::Part(at.token, at.part))
 }

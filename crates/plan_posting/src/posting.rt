@@ -11,7 +11,7 @@ ghost use Rattle.plan_defs.specs.Claims.{at_most, equal, lasts, relates};
 ghost use Rattle.plan_progress.specs.Coming.{IsTermThere};
 ghost use Rattle.plan_store.specs.StoreMarks.{KeepStoreMarks};
 ghost use Rattle.plan_store.specs.Stores.{Stored};
-ghost use Rattle.plan_posting.specs.Origins.{content_now, origin_context, IsOriginBelow, part_named};
+ghost use Rattle.plan_posting.specs.Origins.{content_now, origin_context, IsOriginBelow, argument_named};
 ghost use Rattle.plan_posting.specs.Terms.{HasTimes, HasPartAt, HasTimesAt};
 ghost use Rattle.plan_posting.specs.Postable.{CanPostTerms, CanPostItem, IsItemNamed};
 ghost use Rattle.plan_posting.specs.Posted.{PostsClaims, OnlyPosts, AssertsOf, Asserts};
@@ -54,7 +54,7 @@ pub fn post_at_most(store: &mut Store, one: PartAt, other: PartAt) -> Result<(),
     requires other { HasPartAt store.old other }
     ensures posted { OnOk result (let content = content_now store.old in
         PostsClaims content.names
-        (λ claim. claim ≡ at_most (part_named content.tokens one) (part_named content.tokens other))
+        (λ claim. claim ≡ at_most (argument_named content.tokens one) (argument_named content.tokens other))
         store.old.net.constraints store.new.net.constraints) }
     ensures only { OnlyPosts store.old store.new }
     ensures marks { KeepStoreMarks store.old store.new }
@@ -70,7 +70,7 @@ pub fn post_equal(store: &mut Store, one: PartAt, other: PartAt) -> Result<(), A
     requires other { HasPartAt store.old other }
     ensures posted { OnOk result (let content = content_now store.old in
         PostsClaims content.names
-        (λ claim. claim ≡ equal (part_named content.tokens one) (part_named content.tokens other))
+        (λ claim. claim ≡ equal (argument_named content.tokens one) (argument_named content.tokens other))
         store.old.net.constraints store.new.net.constraints) }
     ensures only { OnlyPosts store.old store.new }
     ensures marks { KeepStoreMarks store.old store.new }
@@ -120,7 +120,7 @@ pub fn post_lasts(store: &mut Store, token: u32) -> Result<(), AllocError>
 // The part of one of the two tokens that the moment is.
 fn part_at(one: u32, other: u32, moment: Moment) -> PartAt
     ensures is { (names : List TokenName)
-        → part_named names result ≡ moment_of (name_at names one) (name_at names other) moment }
+        → argument_named names result ≡ moment_of (name_at names one) (name_at names other) moment }
     ensures there { (stored : Stored) → HasTimesAt stored one → HasTimesAt stored other → HasPartAt stored result }
 {
     match moment {

@@ -43,7 +43,8 @@ use Rattle.plan_states.proofs.Stating.{takes_not_rejected}
 use Rattle.plan_soundness.specs.Soundness.{IsFlawlessPlan}
 use Rattle.plan_soundness.proofs.Having.{is_state, token_has, domain_of, value_of, active_not_merged, active_not_rejected}
 use Rattle.plan_soundness.proofs.Keeping.{part_kept, line_active}
-use Rattle.plan_soundness.proofs.Lining.{tokens_of, tokens_are}
+use Rattle.plan_defs.proofs.Filling.{tokens_of}
+use Rattle.plan_soundness.proofs.Lining.{tokens_are}
 use Rattle.plan_soundness.proofs.Using.{number_or_not, most_or_not, same_value}
 
 quantity : VarDecl

@@ -15,7 +15,7 @@ use Rattle.plan_defs.specs.Support.{Opens, MayBe, Selects, one_side, other_side}
 use Rattle.plan_defs.specs.Terms.{Context, Argument, Value, Variable, HasDomain}
 use Rattle.plan_defs.specs.Valid.{HasArgumentValue}
 use Rattle.plan_values.specs.Keys.{IsOrderly}
-use Rattle.plan_values.specs.Openings.{IsRead, AreRead, side_of}
+use Rattle.plan_values.specs.Openings.{IsRead, AreRead, side_when}
 use Rattle.plan_values.proofs.Valuing.{means_once, value_once}
 
 -- with two values a guard opens one side
@@ -103,19 +103,19 @@ module _ (model : Model) (plan : Plan) (ok : IsOrderly plan) (context : Context)
   abbrev Compared : Term → Term → Bool → Type 0
   Compared one other same = (v w : ℤ) × (AreRead model plan context one other v w × MatchBool same (v ≡ w) (v ≢ w))
 
-  equal_is : (one other : Term) (same : Bool) → Compared one other same → Found (Equal one other) (side_of same)
+  equal_is : (one other : Term) (same : Bool) → Compared one other same → Found (Equal one other) (side_when same)
   equal_is one other true (v, w, (read, is)) = opened_is (Equal one other) Then v w read is
   equal_is one other false (v, w, (read, isnt)) = opened_is (Equal one other) Otherwise v w read isnt
 
-  differ_is : (one other : Term) (same : Bool) → Compared one other same → Found (Differ one other) (side_of (not same))
+  differ_is : (one other : Term) (same : Bool) → Compared one other same → Found (Differ one other) (side_when (not same))
   differ_is one other true (v, w, (read, is)) = opened_is (Differ one other) Otherwise v w read is
   differ_is one other false (v, w, (read, isnt)) = opened_is (Differ one other) Then v w read isnt
 
-  pub opened_equal : (guard : Guard) (one other : Term) (same : Bool) (found : Side) → guard ≡ Equal one other → found ≡ side_of same → Compared one other same → Found guard found
+  pub opened_equal : (guard : Guard) (one other : Term) (same : Bool) (found : Side) → guard ≡ Equal one other → found ≡ side_when same → Compared one other same → Found guard found
   opened_equal guard one other same found is side compared =
       subst (λ (g : Guard). Found g found) (sym is) (subst (Found (Equal one other)) (sym side) (equal_is one other same compared))
 
-  pub opened_differ : (guard : Guard) (one other : Term) (same : Bool) (found : Side) → guard ≡ Differ one other → found ≡ side_of (not same) → Compared one other same → Found guard found
+  pub opened_differ : (guard : Guard) (one other : Term) (same : Bool) (found : Side) → guard ≡ Differ one other → found ≡ side_when (not same) → Compared one other same → Found guard found
   opened_differ guard one other same found is side compared =
       subst (λ (g : Guard). Found g found) (sym is) (subst (Found (Differ one other)) (sym side) (differ_is one other same compared))
 

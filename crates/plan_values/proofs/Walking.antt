@@ -17,12 +17,12 @@ use Rattle.model_core.specs.Block.{plain_entries}
 use Rattle.model_core.specs.Blocks.{OfBranch, Follows, chosen, direct}
 use Rattle.model_core.specs.Entries.{Entries, NoEntry, WithSlot, WithLocal, WithItem, WithBranch}
 use Rattle.model_core.specs.Lawful.{item_count}
-use Rattle.model_core.specs.Numbers.{PlacedItem, items_from, turned}
+use Rattle.model_core.specs.Numbers.{PlacedItem, items_from, turned, items_inside}
 use Rattle.plan_defs.specs.declared.plan.Plan.{Plan}
 use Rattle.plan_defs.specs.Terms.{Context}
 use Rattle.plan_values.specs.Openings.{Allows, entry_direct}
 use Rattle.plan_values.specs.Truths.{IsTrueWhere}
-use Rattle.plan_values.specs.Walks.{FirstFails, Scans, IsOpened, IsClosed, IsReached, IsEntryReached, IsTruePlaced, items_inside, items_of}
+use Rattle.plan_values.specs.Walks.{FirstFails, Scans, IsOpened, IsClosed, IsReached, IsEntryReached, IsTruePlaced, items_of}
 use Rattle.plan_values.proofs.Matching.{read_item}
 use Rattle.plan_values.proofs.Standing.{direct_at}
 

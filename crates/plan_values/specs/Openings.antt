@@ -35,9 +35,9 @@ abbrev pub Allows : Model → Plan → Context → Guard → Side → Type 0
 Allows model plan context guard side = Opens model (plan_situation plan) context guard side
 
 -- the side that opens where the guard is true, or where it is false
-abbrev pub side_of : Bool → Side
-side_of true = Then
-side_of false = Otherwise
+abbrev pub side_when : Bool → Side
+side_when true = Then
+side_when false = Otherwise
 
 -- the slot or the local, as it stands in a block
 abbrev pub standing_direct : Standing → Direct

@@ -12,7 +12,6 @@ use Rattle.model_core.specs.declared.rule.Turn.{Turn}
 use Rattle.model_core.specs.declared.model.Model.{Model}
 use Rattle.model_core.specs.Blocks.{Follows, direct}
 use Rattle.model_core.specs.Entries.{Entries}
-use Rattle.model_core.specs.Lawful.{item_count}
 use Rattle.model_core.specs.Numbers.{PlacedItem, items_from, turned}
 use Rattle.model_core.specs.Tokens.{HasToken, HasRule}
 use Rattle.plan_defs.specs.declared.plan.Plan.{Plan}
@@ -55,13 +54,6 @@ IsReached Allowed top path block reached = MatchBool reached (Follows Allowed to
 abbrev pub IsEntryReached : (Guard → Side → Type 0) → Entries → List Turn → ℕ → Entry → Bool → Type 0
 IsEntryReached Allowed top path place entry reached =
     (block : Entries) × IsReached Allowed top path block reached × (slice_get (direct block) place ≡ Some (entry_direct entry))
-
--- how many items the entry is or holds
-abbrev pub items_inside : Entry → ℕ
-items_inside (entry.Slot number) = 0
-items_inside (entry.Local number) = 0
-items_inside (entry.Item item) = 1
-items_inside (entry.Branch guard then otherwise) = item_count then + item_count otherwise
 
 -- the items that the entry at this place is or holds
 abbrev pub items_of : List Turn → ℕ → Entry → List PlacedItem

@@ -5,12 +5,12 @@ ghost use Rattle.model_core.specs.declared.rule.Turn.{Turn};
 ghost use Rattle.model_core.specs.Block.{plain_entries};
 ghost use Rattle.model_core.specs.Entries.{Entries};
 ghost use Rattle.model_core.specs.Lawful.{item_count};
-ghost use Rattle.model_core.specs.Numbers.{items_from};
+ghost use Rattle.model_core.specs.Numbers.{items_from, items_inside};
 ghost use Rattle.plan_values.specs.Keys.{IsOrderly};
 ghost use Rattle.plan_values.specs.Meanings.{context_of};
 ghost use Rattle.plan_values.specs.Openings.{Allows};
 ghost use Rattle.plan_values.specs.Truths.{IsTrueWhere};
-ghost use Rattle.plan_values.specs.Walks.{IsOpened, IsReached, IsEntryReached, Scans, IsTruePlaced, items_of, items_inside};
+ghost use Rattle.plan_values.specs.Walks.{IsOpened, IsReached, IsEntryReached, Scans, IsTruePlaced, items_of};
 
 use super::claims::is_item_true;
 use super::open::opened_side;

@@ -8,7 +8,7 @@ ghost use Rattle.plan_defs.specs.Plans.{plan_situation};
 ghost use Rattle.plan_defs.specs.Support.{Opens};
 ghost use Rattle.plan_values.specs.Keys.{IsOrderly};
 ghost use Rattle.plan_values.specs.Meanings.{context_of};
-ghost use Rattle.plan_values.specs.Openings.{IsRead, AreRead, Allows, side_of, standing_direct, StandsWith, StandsInside};
+ghost use Rattle.plan_values.specs.Openings.{IsRead, AreRead, Allows, side_when, standing_direct, StandsWith, StandsInside};
 
 use super::terms::{Standpoint, term_counts, term_value};
 use model_core::item::Term;
@@ -76,7 +76,7 @@ pub fn opened_side(model: &Model, plan: &Plan, at: Standpoint, guard: Guard) -> 
 
 // The side that opens where the guard is true, or where it is false.
 fn side_where(truth: bool) -> Side
-    ensures { result ≡ side_of truth }
+    ensures { result ≡ side_when truth }
 {
     if truth { Side::Then } else { Side::Otherwise }
 }

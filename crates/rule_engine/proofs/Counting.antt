@@ -11,10 +11,10 @@ use Rattle.model_core.specs.declared.rule.Turn.{Turn}
 use Rattle.model_core.specs.Block.{plain_entries}
 use Rattle.model_core.specs.Entries.{Entries, NoEntry, WithSlot, WithLocal, WithItem, WithBranch}
 use Rattle.model_core.specs.Lawful.{item_count}
-use Rattle.model_core.specs.Numbers.{PlacedItem, items_from, turned}
+use Rattle.model_core.specs.Numbers.{PlacedItem, items_from, turned, items_inside}
 use Rattle.rule_engine.specs.declared.items.ItemAt.{ItemAt}
 use Rattle.rule_engine.specs.Lists.{item_places}
-use Rattle.rule_engine.specs.Places.{StandFrom, IsNumberIn, items_inside}
+use Rattle.rule_engine.specs.Places.{StandFrom, IsNumberIn}
 use Rattle.rule_engine.proofs.Listing.{standing, next, item_first, item_none}
 
 -- as many items are numbered as there are

@@ -12,8 +12,8 @@ use Rattle.model_core.specs.Block.{plain_entries}
 use Rattle.model_core.specs.Blocks.{OfBranch}
 use Rattle.model_core.specs.Entries.{Entries}
 use Rattle.model_core.specs.Lawful.{item_count}
-use Rattle.model_core.specs.Numbers.{PlacedItem, items_from, turned}
-use Rattle.rule_engine.specs.Places.{StandFrom, items_inside}
+use Rattle.model_core.specs.Numbers.{PlacedItem, items_from, turned, items_inside}
+use Rattle.rule_engine.specs.Places.{StandFrom}
 use Rattle.rule_engine.proofs.Listing.{standing}
 use Rattle.rule_engine.proofs.Counting.{all_numbered, behind, ahead, count_first, stand_next}
 

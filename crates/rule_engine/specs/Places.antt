@@ -1,12 +1,9 @@
 -- Where the items of a block stand among those of a rule.
 use Rattle.std.specs.Prelude.{◌≡◌, ℕ, ◌+◌, List, ◌++◌, length, Some, slice_get, All, map}
 use Rattle.model_core.specs.declared.item.Item as what
-use Rattle.model_core.specs.declared.rule.Entry.{Entry}
-use Rattle.model_core.specs.declared.rule.Entry.TheVariants.{Slot, Local, Item, Branch}
 use Rattle.model_core.specs.declared.rule.Turn.{Turn}
 use Rattle.model_core.specs.Blocks.{direct}
 use Rattle.model_core.specs.Entries.{Entries}
-use Rattle.model_core.specs.Lawful.{item_count}
 use Rattle.model_core.specs.Numbers.{PlacedItem, items_from}
 use Rattle.rule_engine.specs.declared.items.ItemAt.{ItemAt}
 use Rattle.rule_engine.specs.Lists.{item_places}
@@ -17,13 +14,6 @@ pub record StandFrom (items : List PlacedItem) (first : ℕ) (part : List Placed
   pub after : List PlacedItem
   pub are : items ≡ before ++ (part ++ after)
   pub count : length before ≡ first
-
--- how many items the entry is or holds
-abbrev pub items_inside : Entry → ℕ
-items_inside (Slot number) = 0
-items_inside (Local number) = 0
-items_inside (Item item) = 1
-items_inside (Branch guard then otherwise) = item_count then + item_count otherwise
 
 -- the item of this number among these stands at this place of the block to which the way leads
 abbrev pub IsNumberIn : List PlacedItem → List Turn → ItemAt → Type 0

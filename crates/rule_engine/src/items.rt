@@ -3,7 +3,8 @@
 ghost use Rattle.std.specs.Prelude.{◌≡◌, ◌+◌, ◌<◌, ◌≤◌, ◌^◌, length, IfOk};
 ghost use Rattle.model_core.specs.Block.{plain_entries};
 ghost use Rattle.model_core.specs.Lawful.{item_count};
-ghost use Rattle.rule_engine.specs.Places.{items_inside, AreItemsOf};
+ghost use Rattle.model_core.specs.Numbers.{items_inside};
+ghost use Rattle.rule_engine.specs.Places.{AreItemsOf};
 
 use model_core::rule::Entry;
 use std::alloc::{AllocError, Global};

@@ -22,7 +22,7 @@ use Rattle.nddl_scope.specs.declared.scope.Meaning.TheVariants as meanings
 use Rattle.nddl_scope.specs.Names.{is_class_sort}
 use Rattle.nddl_scope.specs.Scope.{is_class_at, meaning_of, named_number, second_name_faults}
 use Rattle.nddl_lines.specs.Ancestors.{above}
-use Rattle.nddl_lines.specs.Decls.{body_of, class_parent, decl_of_name}
+use Rattle.nddl_lines.specs.Decls.{declaration_with_body, class_parent, decl_of_name}
 use Rattle.nddl_lines.specs.Facts.{Facts}
 use Rattle.nddl_lines.specs.Lines.{circle_fault, circle_faults, class_under, declared_place, is_circle, parents_of, sort_under, under_meaning}
 use Rattle.nddl_types.specs.Faults.{all_faults, decls_faults}
@@ -40,7 +40,7 @@ record Extends (names : List Declared) (program : List Decl) (entry : ℕ) (mean
   declared : Declared
   there : slice_get names entry ≡ Some declared
   decl : Decl
-  body : body_of names program declared ≡ Some decl
+  body : declaration_with_body names program declared ≡ Some decl
   name : Name
   parent : class_parent decl ≡ Some name
   means : meaning_of names name.text ≡ Some meaning
@@ -49,14 +49,14 @@ extends_is : (names : List Declared) (program : List Decl) (entry : ℕ) (meanin
     → Extends names program entry meaning
 extends_is names program entry meaning is = by (slice_get names entry) refl is
   where
-    last : (declared : Declared) → slice_get names entry ≡ Some declared → (decl : Decl) → body_of names program declared ≡ Some decl
+    last : (declared : Declared) → slice_get names entry ≡ Some declared → (decl : Decl) → declaration_with_body names program declared ≡ Some decl
         → (name : Option Name) → class_parent decl ≡ name → option_and_then (λ (name : Name). meaning_of names name.text) name ≡ Some meaning
         → Extends names program entry meaning
     last declared there decl body None parent is = absurd (cc)
     last declared there decl body (Some name) parent is =
         record { declared = declared; there = there; decl = decl; body = body; name = name; parent = parent; means = is }
 
-    middle : (declared : Declared) → slice_get names entry ≡ Some declared → (decl : Option Decl) → body_of names program declared ≡ decl
+    middle : (declared : Declared) → slice_get names entry ≡ Some declared → (decl : Option Decl) → declaration_with_body names program declared ≡ decl
         → option_and_then (λ (name : Name). meaning_of names name.text) (option_and_then class_parent decl) ≡ Some meaning
         → Extends names program entry meaning
     middle declared there None body is = absurd (cc)
@@ -64,10 +64,10 @@ extends_is names program entry meaning is = by (slice_get names entry) refl is
 
     by : (o : Option Declared) → slice_get names entry ≡ o
         → option_and_then (λ (declared : Declared). option_and_then (λ (name : Name). meaning_of names name.text)
-        (option_and_then class_parent (body_of names program declared))) o ≡ Some meaning
+        (option_and_then class_parent (declaration_with_body names program declared))) o ≡ Some meaning
         → Extends names program entry meaning
     by None there is = absurd (cc)
-    by (Some declared) there is = middle declared there (body_of names program declared) refl is
+    by (Some declared) there is = middle declared there (declaration_with_body names program declared) refl is
 
 -- where the body of a class stands
 record HasBody (names : List Declared) (program : List Decl) (declared : Declared) (decl : Decl) : Type 0 where
@@ -77,7 +77,7 @@ record HasBody (names : List Declared) (program : List Decl) (declared : Declare
   there : slice_get names number ≡ Some other
   at : slice_get program other.place.decl ≡ Some decl
 
-body_is : (names : List Declared) (program : List Decl) (declared : Declared) (decl : Decl) → body_of names program declared ≡ Some decl
+body_is : (names : List Declared) (program : List Decl) (declared : Declared) (decl : Decl) → declaration_with_body names program declared ≡ Some decl
     → HasBody names program declared decl
 body_is names program declared decl is = by (named_number true names declared.name) refl is
   where
@@ -100,7 +100,7 @@ listed_at f (x ∷ names) last (suc entry) declared is = listed_at f names last 
 
 class_sort_under : (names : List Declared) (program : List Decl) (declared : Declared) (sort : Sort) → is_class_sort sort ≡ true
     → sort_under names program declared sort
-    ≡ option_and_then (class_under names) (option_and_then class_parent (body_of names program declared))
+    ≡ option_and_then (class_under names) (option_and_then class_parent (declaration_with_body names program declared))
 class_sort_under names program declared sorts.Forward is = refl
 class_sort_under names program declared sorts.Body is = refl
 class_sort_under names program declared sort is = absurd (cc)
@@ -141,7 +141,7 @@ no_circle (Some there) true at is none = absurd (cc)
 -- a class that has a body is on no circle
 off_circle : (names : List Declared) (program : List Decl) (parents : List (Option ℕ)) (marked : List Mark) (order : List ℕ) (entry : ℕ)
     (declared : Declared) (decl : Decl) → IsLineageOf parents marked order → entry < length parents → circle_faults names marked 0 names ≡ []
-    → slice_get names entry ≡ Some declared → is_class_sort declared.sort ≡ true → body_of names program declared ≡ Some decl
+    → slice_get names entry ≡ Some declared → is_class_sort declared.sort ≡ true → declaration_with_body names program declared ≡ Some decl
     → IsOnCircle parents entry → ⊥
 off_circle names program parents marked order entry declared decl lineage within fine there sort body circle =
     let at = body_is names program declared decl body in

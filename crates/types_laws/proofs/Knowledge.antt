@@ -18,7 +18,7 @@ use Rattle.nddl_lines.specs.Lines.{is_rooted, parents_of}
 use Rattle.nddl_known.specs.Known.{AreFacts, declared_type, fine_meaning, known_meaning}
 use Rattle.nddl_known.proofs.Depends.{AgreesAt, fine_same, named_by, with_known}
 use Rattle.types_laws.proofs.Standings.{one_marking, same_places}
-use Rattle.types_laws.proofs.Typedefs.{typedef_under}
+use Rattle.nddl_known.proofs.Settled.{typedef_under}
 
 rooted_is : (standing : Option Standing) → is_rooted standing ≡ true → standing ≡ Some standings.Rooted
 rooted_is None is = cc

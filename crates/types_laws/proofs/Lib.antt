@@ -6,4 +6,3 @@ pub mod Nothing
 pub mod Numbered
 pub mod Parents
 pub mod Standings
-pub mod Typedefs

@@ -13,7 +13,7 @@ use Rattle.nddl_ast.specs.declared.kind.TextKind.TheVariants as faults
 use Rattle.nddl_ast.specs.declared.name.Name.{Name}
 use Rattle.nddl_scope.specs.declared.declared.Declared.{Declared}
 use Rattle.nddl_scope.specs.declared.scope.Meaning.TheVariants as meanings
-use Rattle.nddl_scope.specs.Finding.{fault_at}
+use Rattle.nddl_scope.specs.Finding.{faults_here}
 use Rattle.nddl_scope.specs.Names.{is_class_sort}
 use Rattle.nddl_scope.specs.Repeats.{repeated_faults}
 use Rattle.nddl_scope.specs.Scope.{builtin_number, is_class_at, is_named, meaning_of, named_number}
@@ -41,11 +41,11 @@ decl_fine facts number (here ∷ program) (suc place) decl fine is =
     sym (ap (λ n. decl_faults facts n decl) e) ∙ decl_fine facts (number + 1) program place decl rest is
 
 class_or_fault : (names : List Declared) (number at entry : ℕ) (b : Bool) → is_class_at names entry ≡ b
-    → fault_at number at (class_meaning_fault names (Some (meanings.Entry entry))) ≡ [] → is_class_at names entry ≡ true
+    → faults_here number at (class_meaning_fault names (Some (meanings.Entry entry))) ≡ [] → is_class_at names entry ≡ true
 class_or_fault names number at entry true is none = is
 class_or_fault names number at entry false is none =
-    let e : fault_at number at (Some faults.WrongType) ≡ [] =
-    sym (ap (λ b. fault_at number at (if b then None else Some faults.WrongType)) is) ∙ none in absurd (cc)
+    let e : faults_here number at (Some faults.WrongType) ≡ [] =
+    sym (ap (λ b. faults_here number at (if b then None else Some faults.WrongType)) is) ∙ none in absurd (cc)
 
 -- what such a declaration of a class extends is a class
 pub extends_class : (facts : Facts) (number : ℕ) (decl : Decl) (name : Name) (entry : ℕ) → decl_faults facts number decl ≡ []
@@ -56,9 +56,9 @@ extends_class facts number (decls.Class at class parent members) name entry fine
     none_first (parent_faults facts.names number parent)
     (repeated_faults number (inherited_noted facts parent) (member_names members)
     ++ (flat_map (member_faults facts number) members ++ constructors_faults number class false members)) fine in
-    let told : fault_at number name.at (class_meaning_fault facts.names (meaning_of facts.names name.text)) ≡ [] = subst P is first in
+    let told : faults_here number name.at (class_meaning_fault facts.names (meaning_of facts.names name.text)) ≡ [] = subst P is first in
     class_or_fault facts.names number name.at entry (is_class_at facts.names entry) refl
-    (sym (ap (λ m. fault_at number name.at (class_meaning_fault facts.names m)) means) ∙ told)
+    (sym (ap (λ m. faults_here number name.at (class_meaning_fault facts.names m)) means) ∙ told)
 extends_class facts number decl name entry fine is means = absurd (cc)
 
 -- what a name means that is declared is declared first under it

@@ -1,7 +1,7 @@
 use Rattle.std.proofs.Common.{refl, sym, ◌∙◌, subst}
 use Rattle.std.proofs.lemmas.Result.{err_from_is_err_and}
 use Rattle.plan_posting.specs.Tables.{HaveTables}
-use Rattle.plan_closing.specs.Closing.{LeadsOn}
+use Rattle.plan_closing.specs.Closing.{StepLeaves}
 use Rattle.plan_closing.proofs.Resting.{run_fails, run_ends}
 use Rattle.plan_closing.proofs.closing.run.Goals as goal
 
@@ -29,7 +29,7 @@ pub loop-round-preserved : goal.loop-round-preserved
 loop-round-preserved c =
     let taken = c.in_ok-next.ensures in
     record {
-      on = λ decisions way. subst (λ next. LeadsOn c.args.model.now decisions next c.take_step.new.store) c.in-On.is (taken.steps decisions (c.loop-round.invariant.on decisions way));
+      on = λ decisions way. subst (λ next. StepLeaves c.args.model.now decisions next c.take_step.new.store) c.in-On.is (taken.steps decisions (c.loop-round.invariant.on decisions way));
       tables = taken.tables ∙ c.loop-round.invariant.tables;
       marks = λ mark snapshot is. taken.marks mark snapshot (c.loop-round.invariant.marks mark snapshot is);
     }

@@ -3,7 +3,7 @@ use Rattle.eu_name.specs.declared.name.Part.{Part}
 use Rattle.eu_name.specs.declared.name.Part.TheVariants.{Start}
 use Rattle.plan_defs.specs.Claims.{equal}
 use Rattle.plan_store.specs.Stores.{Stored}
-use Rattle.plan_posting.specs.Origins.{content_now, part_named}
+use Rattle.plan_posting.specs.Origins.{content_now, argument_named}
 use Rattle.plan_posting.specs.Posted.{PostsClaims}
 use Rattle.plan_posting.proofs.Storing.{only_both, marks_both}
 use Rattle.plan_deciding.proofs.Sharing.{part_kept, no_part, part_more}
@@ -31,7 +31,7 @@ loop-part-preserved c =
     let step = c.in_ok-post_equal.ensures in
     let part : Part = get_or c.args.parts.now loop.part-index Start in
     let claims = subst (λ (stored : Stored). PostsClaims (content_now stored).names
-    (λ claim. claim ≡ equal (part_named (content_now stored).tokens (record { token = c.args.one; part = part })) (part_named (content_now stored).tokens (record { token = c.args.other; part = part })))
+    (λ claim. claim ≡ equal (argument_named (content_now stored).tokens (record { token = c.args.one; part = part })) (argument_named (content_now stored).tokens (record { token = c.args.other; part = part })))
     loop.store.net.constraints new.net.constraints) loop.invariant.only step.posted in
     record {
       posted = part_more content.names content.tokens c.args.one c.args.other c.args.parts.now loop.part-index Start c.loop-part-test.true

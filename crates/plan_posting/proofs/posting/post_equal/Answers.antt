@@ -1,7 +1,7 @@
 use Rattle.std.proofs.Common.{[], ◌∷◌, refl}
 use Rattle.model_core.specs.declared.item.Kind.TheVariants.{Eq}
 use Rattle.plan_defs.specs.Claims.{equal}
-use Rattle.plan_posting.specs.Origins.{content_now, part_named}
+use Rattle.plan_posting.specs.Origins.{content_now, argument_named}
 use Rattle.plan_posting.proofs.Said.{posts_claim}
 use Rattle.plan_posting.proofs.Naming.{two_are}
 use Rattle.plan_posting.proofs.posting.post_equal.Goals as goal
@@ -18,4 +18,4 @@ pub returns-clause-posted : goal.returns-clause-posted
 returns-clause-posted c =
     let content = content_now c.args.store.now in
     posts_claim content.names c.args.store.now.net c.post.new.self.net c.post.result Eq (c.part_argument.result ∷ c.part_argument-2.result ∷ [])
-    (equal (part_named content.tokens c.args.one) (part_named content.tokens c.args.other)) c.post.ensures.posted refl (c.part_argument.ensures, (c.part_argument-2.ensures, tt))
+    (equal (argument_named content.tokens c.args.one) (argument_named content.tokens c.args.other)) c.post.ensures.posted refl (c.part_argument.ensures, (c.part_argument-2.ensures, tt))

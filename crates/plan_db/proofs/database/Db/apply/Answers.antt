@@ -3,7 +3,7 @@ use Rattle.std.proofs.lemmas.Result.{err_from_is_err_and}
 use Rattle.model_core.specs.History.{standing}
 use Rattle.plan_defs.specs.History.{IsHistory}
 use Rattle.plan_defs.specs.Refusals.{IsAdmissible}
-use Rattle.plan_db.specs.Database.{Database, Finds, Applies}
+use Rattle.plan_db.specs.Database.{Database, FindsRefusal, Applies}
 use Rattle.plan_db.specs.Kept.{KeepsLeast}
 use Rattle.plan_db.proofs.Keeping.{collapsed_where, least_where, refused, admissible, IsHistory-accepted}
 use Rattle.plan_db.proofs.database.Db.apply.Goals as goal
@@ -19,7 +19,7 @@ returns-in_err-check-clause-applied c =
     let database : Database = record { model = c.self.inside.model; history = c.self.inside.log } in
     let least = least_where c.self.inside.model (standing c.self.inside.log) c.self.inside.net c.self.invariant.state c.if-is_none.ensures in
     let fault = c.in_err-check.field-0.0 in
-    let finds = subst (λ list. Finds c.self.inside.model list least.0 c.args.decision.now (Err fault)) c.standing.ensures
+    let finds = subst (λ list. FindsRefusal c.self.inside.model list least.0 c.args.decision.now (Err fault)) c.standing.ensures
     (c.in_err-check.ensures least.0 least.1.closed.consistent.is_state) in
     rw (p.1, p.2) (subst (λ db. Applies db c.args.decision.now (Err fault) db) c.self.view_is (refused database c.args.decision.now least.0 fault least.1 finds))
 
@@ -28,7 +28,7 @@ accepts : (c : In_ok-outcome) → IsAdmissible c.self.inside.model (standing c.s
 accepts c =
     let database : Database = record { model = c.self.inside.model; history = c.self.inside.log } in
     let least = least_where c.self.inside.model (standing c.self.inside.log) c.self.inside.net c.self.invariant.state c.if-is_none.ensures in
-    let finds = subst (λ list. Finds c.self.inside.model list least.0 c.args.decision.now (Ok tt)) c.standing.ensures
+    let finds = subst (λ list. FindsRefusal c.self.inside.model list least.0 c.args.decision.now (Ok tt)) c.standing.ensures
     (c.in_ok-check.ensures least.0 least.1.closed.consistent.is_state) in
     admissible database c.args.decision.now least.0 least.1 finds
 
