@@ -1,5 +1,11 @@
+pub mod Guards
 pub mod Listing
+pub mod Lists
+pub mod Making
+pub mod Naming
 pub mod Opening
 pub mod Outlining
+pub mod Owning
 pub mod Paths
 pub mod Telling
+pub mod Valuing

@@ -47,9 +47,9 @@ pub record Sifted {X : Type 0} (P : X → Type 0) (xs : List X) : Type 0 where
   pub list : List X
   pub are : (x : X) → Contains list x ↔ (Contains xs x × P x)
 
-pub sift : {X : Type 0} (P : X → Type 0) → ((x : X) → IsOrNot (P x)) → (xs : List X) → Sifted P xs
-sift P decide [] = record { list = []; are = λ x. (λ there. absurd (contains_none x there), λ both. both.0) }
-sift {X} P decide (first ∷ xs) = by_decision (decide first) (sift P decide xs)
+pub sift_in : {X : Type 0} (P : X → Type 0) (xs : List X) → ((x : X) → Contains xs x → IsOrNot (P x)) → Sifted P xs
+sift_in P [] decide = record { list = []; are = λ x. (λ there. absurd (contains_none x there), λ both. both.0) }
+sift_in {X} P (first ∷ xs) decide = by_decision (decide first (contains_head first xs)) (sift_in P xs (λ x there. decide x (contains_later first x xs there)))
   where
     by_decision : IsOrNot (P first) → Sifted P xs → Sifted P (first ∷ xs)
     by_decision (inl is) rest = record {
@@ -76,6 +76,20 @@ sift {X} P decide (first ∷ xs) = by_decision (decide first) (sift P decide xs)
       );
     }
 
+pub sift : {X : Type 0} (P : X → Type 0) → ((x : X) → IsOrNot (P x)) → (xs : List X) → Sifted P xs
+sift P decide xs = sift_in P xs (λ x there. decide x)
+
+-- whether there is one of which it is so
+pub any_or_not : {X : Type 0} (P : X → Type 0) → ((x : X) → IsOrNot (P x)) → (xs : List X) → IsOrNot ((x : X) × (Contains xs x × P x))
+any_or_not P decide [] = inr (λ found. contains_none found.0 found.1.0)
+any_or_not P decide (first ∷ xs) = elim (decide first) [
+  | inl is ↦ inl (first, (contains_head first xs, is))
+  | inr not ↦ elim (any_or_not P decide xs) [
+    | inl found ↦ inl (found.0, (contains_later first found.0 xs found.1.0, found.1.1))
+    | inr none ↦ inr (λ found. ⊎_elim (λ same. not (subst P (sym same) found.1.1)) (λ later. none (found.0, (later, found.1.1))) (contains_cases first found.0 xs found.1.0))
+  ]
+]
+
 -- ---- order
 
 -- the same members in order, each once
@@ -83,6 +97,12 @@ pub record InOrder {X : Type 0} (before : X → X → Type 0) (xs : List X) : Ty
   pub list : List X
   pub order : AllPairs before list
   pub are : (x : X) → Contains list x ↔ Contains xs x
+
+-- those of which it is so, in order
+pub record Chosen {X : Type 0} (before : X → X → Type 0) (P : X → Type 0) (xs : List X) : Type 0 where
+  pub list : List X
+  pub order : AllPairs before list
+  pub are : (x : X) → Contains list x ↔ (Contains xs x × P x)
 
 module _ {X : Type 0} (before : X → X → Type 0) (is : IsStrictTotalOrder before) where
   -- one more, unless it is there
@@ -145,3 +165,31 @@ module _ {X : Type 0} (before : X → X → Type 0) (is : IsStrictTotalOrder bef
               λ there. ⊎_elim (λ same. (more.are y).1 (inl same)) (λ later. (more.are y).1 (inr ((rest.are y).1 later))) (contains_cases first y xs there),
             );
           }
+
+  -- whether it is in a list
+  pub same_or_not : (x y : X) → IsOrNot (x ≡ y)
+  same_or_not x y = elim (is.total x y) [
+    | inl less ↦ inr (λ same. is.irreflexive y (subst (λ (z : X). before z y) same less))
+    | inr (inl same) ↦ inl same
+    | inr (inr more) ↦ inr (λ same. is.irreflexive y (subst (λ (z : X). before y z) same more))
+  ]
+
+  pub there_or_not : (xs : List X) (x : X) → IsOrNot (Contains xs x)
+  there_or_not [] x = inr (contains_none x)
+  there_or_not (first ∷ xs) x = elim (same_or_not first x) [
+    | inl same ↦ inl (subst (Contains (first ∷ xs)) same (contains_head first xs))
+    | inr other ↦ elim (there_or_not xs x) [
+      | inl later ↦ inl (contains_later first x xs later)
+      | inr none ↦ inr (λ there. ⊎_elim other none (contains_cases first x xs there))
+    ]
+  ]
+
+  pub chosen : (P : X → Type 0) (xs : List X) → ((x : X) → Contains xs x → IsOrNot (P x)) → Chosen before P xs
+  chosen P xs decide =
+      let some = sift_in P xs decide in
+      let ordered = in_order some.list in
+      record {
+        list = ordered.list;
+        order = ordered.order;
+        are = λ x. (λ there. (some.are x).0 ((ordered.are x).0 there), λ both. (ordered.are x).1 ((some.are x).1 both));
+      }

@@ -41,9 +41,10 @@ use Rattle.plan_swap.specs.SwapLaws.{MayChangePlaces, count_of_tokens}
 use Rattle.plan_swap.proofs.Agreeing.{swap_is_there, swaps_well}
 use Rattle.plan_swap.proofs.Mapping.{contains_map}
 use Rattle.plan_grounds.proofs.Grounding as grounds
+use Rattle.own_states.proofs.Owning.{plan_state}
+use Rattle.least_states.proofs.Founding.{well_founded}
 use Rattle.plan_search.specs.Choices.{IsActivationLeft, IsRejectionLeft, AreTokenChoices, AreValueChoices, IsLeftOut}
-use Rattle.plan_search.specs.Search.{HasWhatIsNamed}
-use Rattle.plan_search.specs.SearchLaws.{IsChoiceOf, IsPlanFor, PlansHaveStates, AgreesWithSome, IsWithinBound}
+use Rattle.plan_search.specs.SearchLaws.{IsChoiceOf, IsPlanFor, AgreesWithSome, IsWithinBound}
 use Rattle.plan_search.proofs.Counting.{TakesPlaceAmong, no_more_tokens}
 use Rattle.plan_search.proofs.Picking.{owner_there, none_undecided, rejectable_no_fact}
 
@@ -116,14 +117,14 @@ module _ (model : Model) (decisions : List Decision) (plan : Plan) (fits : IsPla
     ];
   }
 
-module _ (model : Model) (decisions : List Decision) (state : State) (bound : ℕ) (flaw : Flaw) (choices : List Decision) (plan : Plan) (have : PlansHaveStates model)
-    (is : IsChoiceOf model decisions state bound flaw choices) (named : HasWhatIsNamed decisions state) (fits : IsPlanFor model decisions plan)
+module _ (model : Model) (decisions : List Decision) (state : State) (bound : ℕ) (flaw : Flaw) (choices : List Decision) (plan : Plan)
+    (is : IsChoiceOf model decisions state bound flaw choices) (fits : IsPlanFor model decisions plan)
     (within : IsWithinBound model decisions state bound flaw plan) where
   abbrev own : State
-  own = (have plan fits.is_plan fits.valid).0
+  own = (plan_state model plan is.lawful fits.is_plan fits.valid).0
 
   is_own : IsPlanState model plan own
-  is_own = (have plan fits.is_plan fits.valid).1
+  is_own = (plan_state model plan is.lawful fits.is_plan fits.valid).1
 
   below : IsBelow state own
   below = is.least.below own (closed_state model decisions plan own is.lawful fits.is_plan fits.valid fits.agrees is_own).0
@@ -292,7 +293,7 @@ module _ (model : Model) (decisions : List Decision) (state : State) (bound : �
         no_step : (front : List Step) (step : Step) (back : List Step) → front ++ step ∷ back ≡ [] → ⊥
         no_step [] step back same = cc
         no_step (first ∷ front) step back same = cc
-    active_there target (inr activated) = named (Activate target) activated
+    active_there target (inr activated) = (well_founded model decisions state is.lawful is.settled is.least).known (Activate target) activated
 
     merge_of : (target : TokenName) → Contains plan.lines (lines.Merged token target) → SuitsMerge model plan token target
     merge_of target merged = let at = get_from_contains plan.lines (lines.Merged token target) merged in fits.valid V4 (places.Line at.0) (lines.Merged token target) at.1
@@ -339,14 +340,14 @@ module _ (model : Model) (decisions : List Decision) (state : State) (bound : �
         by_line (inr (inl merged)) = by_merge merged.0 merged.1 (grounds.active_or_not model decisions merged.0)
         by_line (inr (inr rejected)) = this (Reject token) (rejection_there (rejectable_of model decisions plan fits token rejected)) rejected
 
-pub choices_cover : (model : Model) (decisions : List Decision) (state : State) (bound : ℕ) (flaw : Flaw) (choices : List Decision) (plan : Plan) → PlansHaveStates model
-    → IsChoiceOf model decisions state bound flaw choices → HasWhatIsNamed decisions state → IsPlanFor model decisions plan
+pub choices_cover : (model : Model) (decisions : List Decision) (state : State) (bound : ℕ) (flaw : Flaw) (choices : List Decision) (plan : Plan)
+    → IsChoiceOf model decisions state bound flaw choices → IsPlanFor model decisions plan
     → IsWithinBound model decisions state bound flaw plan → AgreesWithSome model decisions choices plan
-choices_cover model decisions state bound (Undecided token) choices plan have is named fits within =
-    token_covered model decisions state bound (Undecided token) choices plan have is named fits within token refl is.first.is.0 is.first.is.1 is.are
-choices_cover model decisions state bound (Undetermined name) choices plan have is named fits within =
-    value_covered model decisions state bound (Undetermined name) choices plan have is named fits within name (λ other same. cc) is.first.is.1 is.are
-choices_cover model decisions state bound (Unordered one other) choices plan have is named fits within =
-    order_covered model decisions state bound (Unordered one other) choices plan have is named fits within one other is.first.is.1 is.are
-choices_cover model decisions state bound (Untimed name) choices plan have is named fits within =
-    value_covered model decisions state bound (Untimed name) choices plan have is named fits within name (λ other same. cc) is.first.is.1 is.are
+choices_cover model decisions state bound (Undecided token) choices plan is fits within =
+    token_covered model decisions state bound (Undecided token) choices plan is fits within token refl is.first.is.0 is.first.is.1 is.are
+choices_cover model decisions state bound (Undetermined name) choices plan is fits within =
+    value_covered model decisions state bound (Undetermined name) choices plan is fits within name (λ other same. cc) is.first.is.1 is.are
+choices_cover model decisions state bound (Unordered one other) choices plan is fits within =
+    order_covered model decisions state bound (Unordered one other) choices plan is fits within one other is.first.is.1 is.are
+choices_cover model decisions state bound (Untimed name) choices plan is fits within =
+    value_covered model decisions state bound (Untimed name) choices plan is fits within name (λ other same. cc) is.first.is.1 is.are

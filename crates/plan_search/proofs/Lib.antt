@@ -1,4 +1,5 @@
 pub mod Counting
 pub mod Covering
+pub mod Once
 pub mod Picking
 pub mod Searching

@@ -1,6 +1,6 @@
 -- What the search finds, and what its failure proves.
 use Rattle.std.proofs.Common.{◌≡◌, ℕ, zero, suc, ◌≤◌, ◌⊎◌, inl, inr, ⊎_elim, Bool, true, false, ◌||◌, List, [], ◌∷◌, ◌++◌, refl, sym, ap, ◌∙◌, subst, append_assoc}
-use Rattle.std.specs.Prelude.{Contains, ⊤}
+use Rattle.std.specs.Prelude.{Contains}
 use Rattle.std.proofs.lemmas.List.{append-nil}
 use Rattle.model_core.specs.declared.decision.Decision.{Decision}
 use Rattle.model_core.specs.declared.model.Model.{Model}
@@ -14,9 +14,10 @@ use Rattle.plan_defs.proofs.Ordered.{contains_head, contains_later, contains_cas
 use Rattle.plan_defs.proofs.Settling.{IsSettled-push}
 use Rattle.plan_states.specs.Flaws.{Flaw, HasFlaw}
 use Rattle.plan_swap.specs.SwapLaws.{count_of_tokens}
+use Rattle.own_states.proofs.Owning.{plan_state}
 use Rattle.plan_search.specs.Choices.{IsFirstFlaw, AreChoices, IsLeftOut}
-use Rattle.plan_search.specs.Search.{Finds, Fails, Stops, SearchOutcome, VisitsEach, TellsLeftOut, LooksAtFlaw, IsVisitOf, HasWhatIsNamed}
-use Rattle.plan_search.specs.SearchLaws.{IsChoiceOf, IsPlanFor, PlansHaveStates, IsFoundList}
+use Rattle.plan_search.specs.Search.{Finds, Fails, Stops, SearchOutcome, VisitsEach, TellsLeftOut, LooksAtFlaw, IsVisitOf}
+use Rattle.plan_search.specs.SearchLaws.{IsChoiceOf, IsPlanFor, IsFoundList}
 use Rattle.plan_search.proofs.Picking.{choice_admissible}
 use Rattle.plan_search.proofs.Covering.{choices_cover}
 
@@ -65,75 +66,36 @@ module _ (model : Model) (lawful : IsLawful model) (bound : ℕ) (few : bound �
       found_later decisions choice found (only units (decisions ++ choice ∷ []) found first (settled choice (contains_head choice choices)) visit
       (sym (ap (λ (o : SearchOutcome). o.ending) same) ∙ ends))
 
-  module _ (Known : List Decision → State → Type 0) where
-    choices_settled : (decisions : List Decision) (state : State) (flaw : Flaw) (choices : List Decision) → IsSettled model decisions → IsLeast model decisions state
-        → IsFirstFlaw model decisions state flaw → AreChoices model decisions state bound flaw choices
-        → (choice : Decision) → Contains choices choice → IsSettled model (decisions ++ choice ∷ [])
-    choices_settled decisions state flaw choices settled least first are choice there =
-        IsSettled-push model decisions choice settled (choice_admissible model decisions state bound flaw choices choice few
-        (record { lawful = lawful; settled = settled; least = least; first = first; are = are }) there)
+  pub choices_settled : (decisions : List Decision) (state : State) (flaw : Flaw) (choices : List Decision) → IsSettled model decisions → IsLeast model decisions state
+      → IsFirstFlaw model decisions state flaw → AreChoices model decisions state bound flaw choices
+      → (choice : Decision) → Contains choices choice → IsSettled model (decisions ++ choice ∷ [])
+  choices_settled decisions state flaw choices settled least first are choice there =
+      IsSettled-push model decisions choice settled (choice_admissible model decisions state bound flaw choices choice few
+      (record { lawful = lawful; settled = settled; least = least; first = first; are = are }) there)
 
-    pub found_by : (depth : ℕ) → FindsOnly (IsVisitOf model Known bound depth)
-    found_by depth zero decisions found outcome settled visits ends =
-        absurd (stops_not_finds found (sym (ap (λ (o : SearchOutcome). o.ending) visits) ∙ ends))
-    found_by zero (suc units) decisions found outcome settled visits ends = absurd visits
-    found_by (suc depth) (suc units) decisions found outcome settled (inl (collapsed, same)) ends =
-        absurd (fails_not_finds found (sym (ap (λ (o : SearchOutcome). o.ending) same) ∙ ends))
-    found_by (suc depth) (suc units) decisions found outcome settled (inr looks) ends = by_looks (found_by depth) looks.looks
-      where
-        by_looks : FindsOnly (IsVisitOf model Known bound depth) → ((HasFlaw model decisions looks.state → ⊥) × (outcome ≡ record { ending = Finds decisions; left = units; left_out = false }))
-            ⊎ LooksAtFlaw model bound (IsVisitOf model Known bound depth) decisions looks.state units outcome → IsFoundList model decisions found
-        by_looks inner (inl (flawless, same)) =
-            let is : decisions ≡ found = finds_same decisions found (sym (ap (λ (o : SearchOutcome). o.ending) same) ∙ ends) in
-            record {
-              more = [];
-              longer = sym is ∙ sym (append-nil decisions);
-              settled = subst (IsSettled model) is settled;
-              state = looks.state;
-              least = subst (λ (l : List Decision). IsLeast model l looks.state) is looks.least;
-              flawless = subst (λ (l : List Decision). HasFlaw model l looks.state → ⊥) is flawless;
-            }
-        by_looks inner (inr at) =
-            found_each (IsVisitOf model Known bound depth) inner decisions at.choices units at.out found outcome
-            (choices_settled decisions looks.state at.flaw at.choices settled looks.least at.is_first at.are) at.visits ends
-
--- ---- what is known besides
-
-known_each : (One Other : ℕ → List Decision → SearchOutcome → Type 0) → ((units : ℕ) (decisions : List Decision) (outcome : SearchOutcome) → One units decisions outcome → Other units decisions outcome)
-    → (decisions choices : List Decision) (units : ℕ) (out : Bool) (outcome : SearchOutcome) → VisitsEach One decisions choices units out outcome → VisitsEach Other decisions choices units out outcome
-known_each One Other to decisions [] units out outcome visits = visits
-known_each One Other to decisions (choice ∷ choices) units out outcome (first, visit, inl (failed, rest)) =
-    (first, to units (decisions ++ choice ∷ []) first visit, inl (failed, known_each One Other to decisions choices first.left (out || first.left_out) outcome rest))
-known_each One Other to decisions (choice ∷ choices) units out outcome (first, visit, inr ended) =
-    (first, to units (decisions ++ choice ∷ []) first visit, inr ended)
-
-pub less_known : (model : Model) (Known : List Decision → State → Type 0) (bound depth units : ℕ) (decisions : List Decision) (outcome : SearchOutcome)
-    → IsVisitOf model Known bound depth units decisions outcome → IsVisitOf model (λ list state. ⊤) bound depth units decisions outcome
-less_known model Known bound depth zero decisions outcome visits = visits
-less_known model Known bound zero (suc units) decisions outcome visits = absurd visits
-less_known model Known bound (suc depth) (suc units) decisions outcome (inl collapsed) = inl collapsed
-less_known model Known bound (suc depth) (suc units) decisions outcome (inr looks) = inr (record {
-  state = looks.state;
-  least = looks.least;
-  known = tt;
-  looks = by_looks (less_known model Known bound depth) looks.looks;
-})
-  where
-    by_looks : ((units : ℕ) (list : List Decision) (out : SearchOutcome) → IsVisitOf model Known bound depth units list out → IsVisitOf model (λ list state. ⊤) bound depth units list out)
-        → ((HasFlaw model decisions looks.state → ⊥) × (outcome ≡ record { ending = Finds decisions; left = units; left_out = false }))
-        ⊎ LooksAtFlaw model bound (IsVisitOf model Known bound depth) decisions looks.state units outcome
-        → ((HasFlaw model decisions looks.state → ⊥) × (outcome ≡ record { ending = Finds decisions; left = units; left_out = false }))
-        ⊎ LooksAtFlaw model bound (IsVisitOf model (λ list state. ⊤) bound depth) decisions looks.state units outcome
-    by_looks each (inl found) = inl found
-    by_looks each (inr at) = inr (record {
-      flaw = at.flaw;
-      is_first = at.is_first;
-      choices = at.choices;
-      are = at.are;
-      out = at.out;
-      tells = at.tells;
-      visits = known_each (IsVisitOf model Known bound depth) (IsVisitOf model (λ list state. ⊤) bound depth) each decisions at.choices units at.out outcome at.visits;
-    })
+  pub found_by : (depth : ℕ) → FindsOnly (IsVisitOf model bound depth)
+  found_by depth zero decisions found outcome settled visits ends =
+      absurd (stops_not_finds found (sym (ap (λ (o : SearchOutcome). o.ending) visits) ∙ ends))
+  found_by zero (suc units) decisions found outcome settled visits ends = absurd visits
+  found_by (suc depth) (suc units) decisions found outcome settled (inl (collapsed, same)) ends =
+      absurd (fails_not_finds found (sym (ap (λ (o : SearchOutcome). o.ending) same) ∙ ends))
+  found_by (suc depth) (suc units) decisions found outcome settled (inr looks) ends = by_looks (found_by depth) looks.looks
+    where
+      by_looks : FindsOnly (IsVisitOf model bound depth) → ((HasFlaw model decisions looks.state → ⊥) × (outcome ≡ record { ending = Finds decisions; left = units; left_out = false }))
+          ⊎ LooksAtFlaw model bound (IsVisitOf model bound depth) decisions looks.state units outcome → IsFoundList model decisions found
+      by_looks inner (inl (flawless, same)) =
+          let is : decisions ≡ found = finds_same decisions found (sym (ap (λ (o : SearchOutcome). o.ending) same) ∙ ends) in
+          record {
+            more = [];
+            longer = sym is ∙ sym (append-nil decisions);
+            settled = subst (IsSettled model) is settled;
+            state = looks.state;
+            least = subst (λ (l : List Decision). IsLeast model l looks.state) is looks.least;
+            flawless = subst (λ (l : List Decision). HasFlaw model l looks.state → ⊥) is flawless;
+          }
+      by_looks inner (inr at) =
+          found_each (IsVisitOf model bound depth) inner decisions at.choices units at.out found outcome
+          (choices_settled decisions looks.state at.flaw at.choices settled looks.least at.is_first at.are) at.visits ends
 
 -- ---- what failing proves
 
@@ -148,7 +110,7 @@ or_right true b e = absurd (true_false e)
     true_false same = cc
 or_right false b e = e
 
-module _ (model : Model) (lawful : IsLawful model) (bound : ℕ) (few : bound ≤ 512) (have : PlansHaveStates model) where
+module _ (model : Model) (lawful : IsLawful model) (bound : ℕ) (few : bound ≤ 512) where
   -- the plan is within the bound, or no activation was left out
   abbrev IsCovered : Plan → SearchOutcome → Type 0
   IsCovered plan outcome = (count_of_tokens plan ≤ bound) ⊎ (outcome.left_out ≡ false)
@@ -182,24 +144,24 @@ module _ (model : Model) (lawful : IsLawful model) (bound : ℕ) (few : bound �
       (λ other at. settled other (contains_later next other choices at)) rest ends choice later plan fits covered)
       (contains_cases next choice choices there)
 
-  pub none_by : (depth : ℕ) → ProvesNone (IsVisitOf model HasWhatIsNamed bound depth)
+  pub none_by : (depth : ℕ) → ProvesNone (IsVisitOf model bound depth)
   none_by depth zero decisions outcome plan settled visits ends fits covered = stops_not_fails (sym (ap (λ (o : SearchOutcome). o.ending) visits) ∙ ends)
   none_by zero (suc units) decisions outcome plan settled visits ends fits covered = visits
   none_by (suc depth) (suc units) decisions outcome plan settled (inl (collapsed, same)) ends fits covered =
-      let own = have plan fits.is_plan fits.valid in
+      let own = plan_state model plan lawful fits.is_plan fits.valid in
       collapsed own.0 (closed_state model decisions plan own.0 lawful fits.is_plan fits.valid fits.agrees own.1).0
   none_by (suc depth) (suc units) decisions outcome plan settled (inr looks) ends fits covered = by_looks (none_by depth) looks.looks
     where
-      by_looks : ProvesNone (IsVisitOf model HasWhatIsNamed bound depth) → ((HasFlaw model decisions looks.state → ⊥) × (outcome ≡ record { ending = Finds decisions; left = units; left_out = false }))
-          ⊎ LooksAtFlaw model bound (IsVisitOf model HasWhatIsNamed bound depth) decisions looks.state units outcome → ⊥
+      by_looks : ProvesNone (IsVisitOf model bound depth) → ((HasFlaw model decisions looks.state → ⊥) × (outcome ≡ record { ending = Finds decisions; left = units; left_out = false }))
+          ⊎ LooksAtFlaw model bound (IsVisitOf model bound depth) decisions looks.state units outcome → ⊥
       by_looks inner (inl (flawless, same)) = finds_not_fails decisions (sym (ap (λ (o : SearchOutcome). o.ending) same) ∙ ends)
       by_looks inner (inr at) =
           let is : IsChoiceOf model decisions looks.state bound at.flaw at.choices =
           record { lawful = lawful; settled = settled; least = looks.least; first = at.is_first; are = at.are } in
-          let some = choices_cover model decisions looks.state bound at.flaw at.choices plan have is looks.known fits
+          let some = choices_cover model decisions looks.state bound at.flaw at.choices plan is fits
           (⊎_elim (λ less. inl less) (λ none. inr (not_left_out at.out at.tells
-          (left_before (IsVisitOf model HasWhatIsNamed bound depth) decisions at.choices units at.out outcome at.visits none))) covered) in
-          none_each (IsVisitOf model HasWhatIsNamed bound depth) inner decisions at.choices units at.out outcome
+          (left_before (IsVisitOf model bound depth) decisions at.choices units at.out outcome at.visits none))) covered) in
+          none_each (IsVisitOf model bound depth) inner decisions at.choices units at.out outcome
           (λ choice there. IsSettled-push model decisions choice settled (choice_admissible model decisions looks.state bound at.flaw at.choices choice few is there))
           at.visits ends some.choice some.chosen some.changed some.fits
           (⊎_elim (λ less. inl (subst (λ n. n ≤ bound) (sym some.count) less)) (λ none. inr none) covered)

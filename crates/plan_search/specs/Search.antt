@@ -1,10 +1,9 @@
 -- The search for a list of decisions whose least state has no flaw, visit for visit.
-use Rattle.std.specs.Prelude.{◌≡◌, ℕ, zero, suc, ◌⊎◌, Bool, true, false, ◌||◌, ⊤, List, [], ◌∷◌, ◌++◌, Contains}
+use Rattle.std.specs.Prelude.{◌≡◌, ℕ, zero, suc, ◌⊎◌, Bool, true, false, ◌||◌, List, [], ◌∷◌, ◌++◌}
 use Rattle.model_core.specs.declared.decision.Decision.{Decision}
 use Rattle.model_core.specs.declared.model.Model.{Model}
 use Rattle.model_core.specs.State.{State}
 use Rattle.plan_defs.specs.Closure.{IsLeast, IsCollapsed}
-use Rattle.plan_defs.specs.Refusals.{IsKnown}
 use Rattle.plan_states.specs.Flaws.{Flaw, HasFlaw}
 use Rattle.plan_search.specs.Choices.{IsFirstFlaw, AreChoices, IsLeftOut}
 
@@ -50,34 +49,24 @@ pub record LooksAtFlaw (model : Model) (bound : ℕ) (Visit : ℕ → List Decis
   pub tells : TellsLeftOut model decisions bound flaw out
   pub visits : VisitsEach Visit decisions choices units out outcome
 
--- the least state of the list, in which more may be known, has no flaw, or its first flaw is looked at
-pub record LooksAtState (model : Model) (Known : List Decision → State → Type 0) (bound : ℕ)
-    (Visit : ℕ → List Decision → SearchOutcome → Type 0) (decisions : List Decision) (units : ℕ) (outcome : SearchOutcome) : Type 0 where
+-- the least state of the list has no flaw, or its first flaw is looked at
+pub record LooksAtState (model : Model) (bound : ℕ) (Visit : ℕ → List Decision → SearchOutcome → Type 0) (decisions : List Decision)
+    (units : ℕ) (outcome : SearchOutcome) : Type 0 where
   pub state : State
   pub least : IsLeast model decisions state
-  pub known : Known decisions state
   pub looks :
       ((HasFlaw model decisions state → ⊥) × (outcome ≡ record { ending = Finds decisions; left = units; left_out = false }))
       ⊎ LooksAtFlaw model bound Visit decisions state units outcome
 
 -- A visit takes a unit. A list that collapses fails, one whose least state has no flaw is found, and else the choices of the
 -- first flaw are visited.
-abbrev pub IsVisitOf : Model → (List Decision → State → Type 0) → ℕ → ℕ → ℕ → List Decision → SearchOutcome → Type 0
-IsVisitOf model Known bound depth zero decisions outcome =
-    outcome ≡ record { ending = Stops; left = 0; left_out = false }
-IsVisitOf model Known bound zero (suc units) decisions outcome = ⊥
-IsVisitOf model Known bound (suc depth) (suc units) decisions outcome =
+abbrev pub IsVisitOf : Model → ℕ → ℕ → ℕ → List Decision → SearchOutcome → Type 0
+IsVisitOf model bound depth zero decisions outcome = outcome ≡ record { ending = Stops; left = 0; left_out = false }
+IsVisitOf model bound zero (suc units) decisions outcome = ⊥
+IsVisitOf model bound (suc depth) (suc units) decisions outcome =
     (IsCollapsed model decisions × (outcome ≡ record { ending = Fails; left = units; left_out = false }))
-    ⊎ LooksAtState model Known bound (IsVisitOf model Known bound depth) decisions units outcome
+    ⊎ LooksAtState model bound (IsVisitOf model bound depth) decisions units outcome
 
 -- The search from a list with so many units. Each visit takes one, so none is deeper than there are units.
 abbrev pub Searches : Model → ℕ → ℕ → List Decision → SearchOutcome → Type 0
-Searches model bound units decisions outcome = IsVisitOf model (λ list state. ⊤) bound units units decisions outcome
-
--- the state has what the decisions name
-abbrev pub HasWhatIsNamed : List Decision → State → Type 0
-HasWhatIsNamed decisions state = (decision : Decision) → Contains decisions decision → IsKnown state decision
-
--- the same search, where each state that is visited has what its list names
-abbrev pub SearchesKnown : Model → ℕ → ℕ → List Decision → SearchOutcome → Type 0
-SearchesKnown model bound units decisions outcome = IsVisitOf model HasWhatIsNamed bound units units decisions outcome
+Searches model bound units decisions outcome = IsVisitOf model bound units units decisions outcome

@@ -8,14 +8,13 @@ use Rattle.plan_defs.specs.declared.plan.Plan.{Plan}
 use Rattle.plan_defs.specs.Broken.{AgreesWith}
 use Rattle.plan_defs.specs.Closure.{IsLeast}
 use Rattle.plan_defs.specs.Plans.{IsPlanOf}
-use Rattle.plan_defs.specs.PlanStates.{IsPlanState}
 use Rattle.plan_defs.specs.Refusals.{IsAdmissible}
 use Rattle.plan_defs.specs.Settling.{IsSettled}
 use Rattle.plan_defs.specs.Valid.{IsValid}
 use Rattle.plan_states.specs.Flaws.{Flaw, HasFlaw}
 use Rattle.plan_swap.specs.SwapLaws.{count_of_tokens}
 use Rattle.plan_search.specs.Choices.{IsFirstFlaw, AreChoices, IsLeftOut}
-use Rattle.plan_search.specs.Search.{SearchOutcome, Finds, Fails, Searches, SearchesKnown, HasWhatIsNamed}
+use Rattle.plan_search.specs.Search.{SearchOutcome, Finds, Fails, Searches}
 
 -- a list has one least state, and this is its first flaw, with these choices
 pub record IsChoiceOf (model : Model) (decisions : List Decision) (state : State) (bound : ℕ) (flaw : Flaw)
@@ -40,11 +39,6 @@ pub record IsPlanFor (model : Model) (decisions : List Decision) (plan : Plan) :
   pub valid : IsValid model plan
   pub agrees : AgreesWith model plan decisions
 
--- each valid plan of the model has a state of its own
-abbrev pub PlansHaveStates : Model → Type 0
-PlansHaveStates model =
-    (plan : Plan) → IsPlanOf model plan → IsValid model plan → (state : State) × IsPlanState model plan state
-
 -- the plan can be changed into one that agrees with one of the choices too, and has as many tokens
 pub record AgreesWithSome (model : Model) (decisions choices : List Decision) (plan : Plan) : Type 0 where
   pub choice : Decision
@@ -62,8 +56,7 @@ IsWithinBound model decisions state bound flaw plan =
 abbrev pub ChoicesCover : Type 0
 ChoicesCover =
     (model : Model) (decisions : List Decision) (state : State) (bound : ℕ) (flaw : Flaw) (choices : List Decision) (plan : Plan)
-    → PlansHaveStates model → IsChoiceOf model decisions state bound flaw choices → HasWhatIsNamed decisions state
-    → IsPlanFor model decisions plan
+    → IsChoiceOf model decisions state bound flaw choices → IsPlanFor model decisions plan
     → IsWithinBound model decisions state bound flaw plan → AgreesWithSome model decisions choices plan
 
 -- a list that is found is settled, begins with the decisions, and its least state has no flaw
@@ -81,19 +74,13 @@ FoundListsAreFlawless =
     → IsLawful model → bound ≤ 512 → IsSettled model decisions
     → Searches model bound units decisions outcome → outcome.ending ≡ Finds found → IsFoundList model decisions found
 
--- a search that knows more is the search
-abbrev pub KnownSearchesAreSearches : Type 0
-KnownSearchesAreSearches =
-    (model : Model) (bound units : ℕ) (decisions : List Decision) (outcome : SearchOutcome)
-    → SearchesKnown model bound units decisions outcome → Searches model bound units decisions outcome
-
 -- Where the search fails, no valid plan within the bound agrees with the decisions, and where no activation was left out
 -- for the bound none of any size does.
 abbrev pub ExhaustedIsAProof : Type 0
 ExhaustedIsAProof =
     (model : Model) (bound units : ℕ) (decisions : List Decision) (outcome : SearchOutcome) (plan : Plan)
-    → IsLawful model → bound ≤ 512 → PlansHaveStates model → IsSettled model decisions
-    → SearchesKnown model bound units decisions outcome → outcome.ending ≡ Fails
+    → IsLawful model → bound ≤ 512 → IsSettled model decisions
+    → Searches model bound units decisions outcome → outcome.ending ≡ Fails
     → IsPlanFor model decisions plan → (count_of_tokens plan ≤ bound) ⊎ (outcome.left_out ≡ false) → ⊥
 
 -- the search has one outcome

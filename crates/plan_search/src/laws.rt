@@ -1,6 +1,6 @@
 //! Laws of flaws, choices and the search.
 
-ghost use Rattle.plan_search.specs.SearchLaws.{ChoicesAreAdmissible, ChoicesCover, FoundListsAreFlawless, KnownSearchesAreSearches, ExhaustedIsAProof};
+ghost use Rattle.plan_search.specs.SearchLaws.{ChoicesAreAdmissible, ChoicesCover, FoundListsAreFlawless, ExhaustedIsAProof, SearchHasOneOutcome};
 
 /// Each choice of a first flaw is admissible, and between them they leave no valid plan out.
 pub fn choices_cover()
@@ -11,6 +11,10 @@ pub fn choices_cover()
 /// A list that the search finds has a least state without a flaw, and where it fails there is no valid plan.
 pub fn exhausted_is_a_proof()
     ensures found { FoundListsAreFlawless }
-    ensures known { KnownSearchesAreSearches }
     ensures exhausted { ExhaustedIsAProof }
+{}
+
+/// The search from a settled list has one outcome.
+pub fn searches_have_one_outcome()
+    ensures { SearchHasOneOutcome }
 {}

@@ -33,7 +33,7 @@ use Rattle.plan_defs.specs.Claims.{Claim, ItemSays, relates, part_of}
 use Rattle.plan_defs.specs.Consistency.{IsClaimConsistent}
 use Rattle.plan_defs.specs.Plans.{IsTakenIn, plan_situation}
 use Rattle.plan_defs.specs.Situations.{situation_of}
-use Rattle.plan_defs.specs.Support.{IsOpen, AsksFor, IsSupportedToken, IsSupportedBlock, front_token}
+use Rattle.plan_defs.specs.Support.{IsOpen, AsksFor, IsSupportedBlock, front_token}
 use Rattle.plan_defs.specs.Terms.{InRule, Means, ArgumentCounts}
 use Rattle.plan_defs.specs.Valid.{HasDeclaredValue, IsOpenIn, AsksForLocal, IsAskedToken, IsAsked, IsClaimTrue, KeepsOpen, KeepsAsked, KeepsItems}
 use Rattle.plan_defs.proofs.Lower.{HasBlock-map, Follows-map, says_further}
@@ -47,15 +47,16 @@ use Rattle.plan_soundness.proofs.Deciding.{Becoming, IsAFact, IsActivatedOne, Is
 use Rattle.plan_soundness.proofs.Having.{is_state, becomes_of, AreKept, claim_true}
 use Rattle.plan_soundness.proofs.Keeping.{said, declared_value, part_kept, taken_down, all_kept, some_arguments, keeps_problem}
 use Rattle.plan_soundness.proofs.Opening.{taken_up, open_down, open_up}
-use Rattle.plan_soundness.proofs.Ways.{last_cases, block_once, item_stands}
+use Rattle.plan_soundness.proofs.Seeing.{supported_slot}
+use Rattle.plan_soundness.proofs.Ways.{block_once, item_stands}
 
 -- ---- what relations say
 
 -- it is of one part each of these two tokens
-record IsOfTwo (a b : TokenName) (claim : Claim) : Type 0 where
-  one : Part
-  other : Part
-  are : (claim.arguments ≡ part_of a one ∷ part_of b other ∷ []) ⊎ (claim.arguments ≡ part_of b other ∷ part_of a one ∷ [])
+pub record IsOfTwo (a b : TokenName) (claim : Claim) : Type 0 where
+  pub one : Part
+  pub other : Part
+  pub are : (claim.arguments ≡ part_of a one ∷ part_of b other ∷ []) ⊎ (claim.arguments ≡ part_of b other ∷ part_of a one ∷ [])
 
 one_claim : (a b : TokenName) (first claim : Claim) → IsOfTwo a b first → Contains (first ∷ []) claim → IsOfTwo a b claim
 one_claim a b first claim is there = elim (contains_cases first claim [] there) [
@@ -75,7 +76,7 @@ forth a b p q claim same = record { one = p; other = q; are = inl same }
 back : (a b : TokenName) (p q : Part) (claim : Claim) → claim.arguments ≡ part_of b q ∷ part_of a p ∷ [] → IsOfTwo a b claim
 back a b p q claim same = record { one = p; other = q; are = inr same }
 
-of_two : (relation : Rel) (a b : TokenName) (claim : Claim) → Contains (relates relation a b) claim → IsOfTwo a b claim
+pub of_two : (relation : Rel) (a b : TokenName) (claim : Claim) → Contains (relates relation a b) claim → IsOfTwo a b claim
 of_two rel.Any a b claim there = absurd (contains_none claim there)
 of_two rel.Before a b claim there = one_claim a b _ claim (forth a b _ _ _ refl) there
 of_two rel.After a b claim there = one_claim a b _ claim (back a b _ _ _ refl) there
@@ -117,26 +118,11 @@ module _ (model : Model) (decisions : List Decision) (state : State) (plan : Pla
     stands = asks.stands;
   }
 
-  -- what is asked for by a supported token is supported
-  pub supported_slot : (token : TokenName) (rule slot : ℕ) → IsSupportedToken model (situation_of decisions state) token
-      → AsksFor model (situation_of decisions state) token (record { rule = rule; slot = slot }) → IsSupportedToken model (situation_of decisions state) (slot_token token rule slot)
-  supported_slot token rule slot parent asks =
-      let step : Step = record { rule = rule; slot = slot } in
-      record {
-        root = parent.root;
-        is_root = parent.is_root;
-        asked = λ front other after e. elim (last_cases token.steps front step other after e) [
-          | inl last ↦ subst (λ (steps : List Step). AsksFor model (situation_of decisions state) (front_token token steps) other) last.0
-              (subst (AsksFor model (situation_of decisions state) token) last.1 asks)
-          | inr inner ↦ parent.asked front other inner.0 inner.1
-        ];
-      }
-
   slot_there : (token : TokenName) (rule slot : ℕ) → AsksFor model (plan_situation plan) token (record { rule = rule; slot = slot }) → Contains state.tokens (slot_token token rule slot)
   slot_there token rule slot asks =
       let down = asks_down token (record { rule = rule; slot = slot }) asks in
       is.settled.consistent.tokens (slot_token token rule slot)
-      (supported_slot token rule slot (is.founded.tokens token (active_there token down.is_open.activated)) down)
+      (supported_slot model (situation_of decisions state) token (record { rule = rule; slot = slot }) (is.founded.tokens token (active_there token down.is_open.activated)) down)
 
   no_root : (token : TokenName) (rule slot : ℕ) → (slot_token token rule slot).steps ≡ [] → ⊥
   no_root token rule slot none = omega (arith, ap length none, length-append token.steps (record { rule = rule; slot = slot } ∷ []))

@@ -10,7 +10,7 @@ use Rattle.eu_name.specs.declared.name.Part.TheVariants as parts
 use Rattle.eu_name.specs.declared.name.Step.{Step}
 use Rattle.eu_name.specs.declared.name.TokenName.{TokenName}
 use Rattle.eu_name.specs.declared.name.VarName.TheVariants as variables
-use Rattle.eu_name.proofs.Members.{get_below, get_same, get_from_contains, contains_from_get}
+use Rattle.eu_name.proofs.Members.{get_below, get_same, get_from_contains}
 use Rattle.model_core.specs.declared.decision.Decision.{Decision}
 use Rattle.model_core.specs.declared.item.Term.{Term}
 use Rattle.model_core.specs.declared.item.Term.TheVariants as terms
@@ -19,13 +19,11 @@ use Rattle.model_core.specs.declared.model.Root.{Root}
 use Rattle.model_core.specs.declared.model.RootKind.TheVariants as root_kinds
 use Rattle.model_core.specs.declared.rule.Guard.{Guard}
 use Rattle.model_core.specs.declared.rule.Guard.TheVariants.{Equal, Differ}
-use Rattle.model_core.specs.declared.rule.Side.{Side}
 use Rattle.model_core.specs.declared.rule.Slot as slots
-use Rattle.model_core.specs.declared.rule.Turn.{Turn}
 use Rattle.model_core.specs.declared.variable.Base.{Base}
 use Rattle.model_core.specs.declared.variable.Base.TheVariants.{Given}
 use Rattle.model_core.specs.declared.variable.ValueKind.{ValueKind}
-use Rattle.model_core.specs.Blocks.{TokenBlock, Direct, Follows, OfSlot, OfLocal, OfBranch, chosen, direct}
+use Rattle.model_core.specs.Blocks.{TokenBlock, OfSlot, OfLocal, OfBranch, direct}
 use Rattle.model_core.specs.Decided.{IsTaken, IsRejected, IsDecided}
 use Rattle.model_core.specs.Entries.{Entries}
 use Rattle.model_core.specs.Kinds.{OfRule, IsOfKind, IsPartOfKind}
@@ -37,7 +35,7 @@ use Rattle.model_core.specs.Variables.{HasPartBase}
 use Rattle.plan_defs.specs.declared.plan.Plan.{Plan}
 use Rattle.plan_defs.specs.Resources.{IsCertain, IsOfRejected, IsTokenComplete}
 use Rattle.plan_defs.specs.Situations.{situation_of}
-use Rattle.plan_defs.specs.Support.{MayBe, Opens, IsOpen, AsksFor, IsSupportedBlock}
+use Rattle.plan_defs.specs.Support.{MayBe, AsksFor, IsSupportedBlock}
 use Rattle.plan_defs.specs.Terms.{InRule, Argument, Value, Variable, Means}
 use Rattle.plan_defs.proofs.Lower.{HasBlock-map, Follows-map}
 use Rattle.plan_defs.proofs.Ordered.{contains_head, contains_later}
@@ -45,11 +43,11 @@ use Rattle.plan_values.proofs.Few.{few_rule}
 use Rattle.plan_states.proofs.Determining.{same_number}
 use Rattle.plan_soundness.specs.Soundness.{IsFlawlessPlan}
 use Rattle.plan_soundness.proofs.Agreeing.{surely_rejectable, taken_not_rejected}
-use Rattle.plan_soundness.proofs.Asking.{activated_kept, slot_not_rejected, supported_slot}
+use Rattle.plan_soundness.proofs.Asking.{activated_kept, slot_not_rejected}
+use Rattle.plan_soundness.proofs.Seeing.{outer_open, supported_slot}
 use Rattle.plan_soundness.proofs.Deciding.{Becoming, IsAFact, IsActivatedOne, IsMergedOne, IsRejectedOne, kind_or_not}
 use Rattle.plan_soundness.proofs.Having.{is_state, becomes_of, value_of}
 use Rattle.plan_soundness.proofs.Keeping.{part_kept, root_there}
-use Rattle.plan_soundness.proofs.Ways.{follows_once}
 
 -- ---- parts that there are
 
@@ -64,18 +62,6 @@ reaches_join : (model : Model) (slot : slots.Slot) (steps : List Step) (last : S
     → Reaches model slot (steps ++ last ∷ []) reached
 reaches_join model slot [] last middle reached same leads = (reached, subst (λ (s : slots.Slot). LeadsToSlot model s.pred last reached) same leads, refl)
 reaches_join model slot (step ∷ steps) last middle reached (next, first, rest) leads = (next, first, reaches_join model next steps last middle reached rest leads)
-
--- ---- a way to a block leads through those round it
-
-record Round (P : Guard → Side → Type 0) (top : Entries) (outer : List Turn) : Type 0 where
-  block : Entries
-  way : Follows P top outer block
-
-round : (P : Guard → Side → Type 0) (top : Entries) (outer inner : List Turn) (block : Entries) → Follows P top (outer ++ inner) block → Round P top outer
-round P top [] inner block way = record { block = top; way = refl }
-round P top (turn ∷ outer) inner block way =
-    let rest = round P (chosen turn.side way.1.0 way.1.1) outer inner block way.1.2.1.1 in
-    record { block = rest.block; way = (way.0, (way.1.0, way.1.1, (way.1.2.0, (way.1.2.1.0, rest.way)))) }
 
 module _ (model : Model) (decisions : List Decision) (state : State) (plan : Plan) (is : IsFlawlessPlan model decisions state plan) where
   -- ---- terms of an open block
@@ -109,34 +95,14 @@ module _ (model : Model) (decisions : List Decision) (state : State) (plan : Pla
       }
 
   module _ (block : TokenBlock) (entries : Entries) (supported : IsSupportedBlock model (situation_of decisions state) block entries) where
-    record Outer (outer : List Turn) (what : Direct) : Type 0 where
-      inside : Entries
-      is_open : IsOpen model (situation_of decisions state) (record { token = block.token; rule = block.rule; path = outer }) inside
-      stands : Contains (direct inside) what
-
-    outer_open : (what : Direct) (seen : IsSeen supported.is_open.has_block.rule.top block.path what) → Outer seen.outer what
-    outer_open what seen =
-        let has = supported.is_open.has_block in
-        let r = round (Opens model (situation_of decisions state) (InRule block.token block.rule)) has.rule.top seen.outer seen.inner entries
-        (subst (λ (p : List Turn). Follows (Opens model (situation_of decisions state) (InRule block.token block.rule)) has.rule.top p entries) seen.within has.way) in
-        let same = follows_once (λ guard side. ⊤) (Opens model (situation_of decisions state) (InRule block.token block.rule)) has.rule.top seen.outer seen.stands.block r.block seen.stands.way r.way in
-        record {
-          inside = r.block;
-          is_open = record {
-            activated = supported.is_open.activated;
-            has_block = record { slot = has.slot; has_token = has.has_token; rule = has.rule; has_rule = has.has_rule; way = r.way };
-          };
-          stands = subst (λ (e : Entries). Contains (direct e) what) same (contains_from_get (direct seen.stands.block) seen.place what seen.stands.stands);
-        }
-
     slot_value : (number : ℕ) (part : Part) (kind : ValueKind) (slot : slots.Slot) → slice_get supported.is_open.has_block.rule.slots number ≡ Some slot → IsPartOfKind model slot.pred kind part
         → IsSeen supported.is_open.has_block.rule.top block.path (OfSlot number) → HasTermValue block.token block.rule (terms.Slot number part)
     slot_value number part kind slot at of_kind seen =
-        let out = outer_open (OfSlot number) seen in
+        let out = outer_open model (situation_of decisions state) block entries supported.is_open (OfSlot number) seen in
         let has = supported.is_open.has_block in
         let owner = slot_token block.token block.rule number in
         let asks : AsksFor model (situation_of decisions state) block.token (record { rule = block.rule; slot = number }) = record { path = seen.outer; entries = out.inside; is_open = out.is_open; stands = out.stands } in
-        let owner_there = is.settled.consistent.tokens owner (supported_slot model decisions state plan is block.token block.rule number supported.supported asks) in
+        let owner_there = is.settled.consistent.tokens owner (supported_slot model (situation_of decisions state) block.token (record { rule = block.rule; slot = number }) supported.supported asks) in
         let owner_has : HasToken model owner slot = record {
           root = has.has_token.root;
           is_root = has.has_token.is_root;
@@ -152,7 +118,7 @@ module _ (model : Model) (decisions : List Decision) (state : State) (plan : Pla
 
     local_value : (number : ℕ) → IsSeen supported.is_open.has_block.rule.top block.path (OfLocal number) → HasTermValue block.token block.rule (terms.Local number)
     local_value number seen =
-        let out = outer_open (OfLocal number) seen in
+        let out = outer_open model (situation_of decisions state) block entries supported.is_open (OfLocal number) seen in
         let outer : TokenBlock = record { token = block.token; rule = block.rule; path = seen.outer } in
         let stands : StandsOpen model state block.token block.rule number = record {
           block = outer;

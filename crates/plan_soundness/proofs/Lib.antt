@@ -1,15 +1,16 @@
 mod Deciding
 mod Pinning
 mod Having
-mod Agreeing
+pub mod Agreeing
 mod Keeping
-mod Ways
+pub mod Ways
 mod Opening
-mod Asking
+pub mod Asking
 mod Certain
 mod Lining
 mod Using
 mod Levelling
-mod Clauses
+pub mod Clauses
 mod Owning
+pub mod Seeing
 mod Uniting

@@ -1,11 +1,8 @@
 -- The tokens of the lines of the plan of a state are those of the state, in order.
-use Rattle.std.proofs.Common.{◌≡◌, true, false, List, [], ◌∷◌, ⊎_elim, inl, inr, refl, sym, ap, subst, arith}
-use Rattle.std.specs.Prelude.{AllPairs, Contains}
-use Rattle.eu_name.specs.declared.name.Part.TheVariants.{Start}
+use Rattle.std.proofs.Common.{◌≡◌, true, false, List, refl, subst}
+use Rattle.std.specs.Prelude.{Contains}
 use Rattle.eu_name.specs.declared.name.TokenName.{TokenName}
-use Rattle.eu_name.specs.declared.name.VarName.{VarName}
-use Rattle.eu_name.specs.declared.name.VarName.TheVariants.{Token}
-use Rattle.eu_name.specs.NameOrder.{IsTokenBefore, IsVarBefore}
+use Rattle.eu_name.specs.NameOrder.{IsTokenBefore}
 use Rattle.eu_name.proofs.Orders.{token_order}
 use Rattle.model_core.specs.declared.decision.Decision.{Decision}
 use Rattle.model_core.specs.declared.model.Model.{Model}
@@ -13,9 +10,8 @@ use Rattle.model_core.specs.State.{State}
 use Rattle.plan_defs.specs.declared.plan.Line as the_line
 use Rattle.plan_defs.specs.declared.plan.Line.TheVariants as lines
 use Rattle.plan_defs.specs.declared.plan.Plan.{Plan}
-use Rattle.plan_defs.specs.Plans.{IsLineBefore, order_name}
-use Rattle.plan_defs.proofs.Filling.{IsTokensLine, tokens_of, tokens_in, first_token, tokens_ordered, tokens_there}
-use Rattle.plan_defs.proofs.Ordered.{contains_head, contains_later, contains_cases, contains_none, ordered_head, ordered_tail, ordered_none, ordered_cons, same_members}
+use Rattle.plan_defs.proofs.Filling.{IsTokensLine, tokens_of, tokens_in, tokens_ordered, tokens_there}
+use Rattle.plan_defs.proofs.Ordered.{same_members}
 use Rattle.plan_states.specs.StatePlans.{IsLineIn}
 use Rattle.plan_soundness.specs.Soundness.{IsFlawlessPlan}
 use Rattle.plan_soundness.proofs.Deciding.{Becoming, IsAFact, IsActivatedOne, IsMergedOne, IsRejectedOne}

@@ -1,0 +1,5 @@
+pub mod Founding
+pub mod Hulls
+pub mod Joining
+pub mod Pruning
+pub mod Telling
