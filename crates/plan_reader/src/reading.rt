@@ -21,6 +21,7 @@ use plan_core::statement::Statement;
 use plan_core::words::{Cursor, place_in};
 use plan_defs::plan::{Line, Plan};
 use plan_statements::one_line;
+use plan_words::indexed::IndexedModel;
 use std::alloc::{AllocError, Global};
 
 // The name that the line goes by.
@@ -76,7 +77,7 @@ fn add(
 fn all_lines(
     cursor: &mut Cursor<'_>,
     alloc: Global,
-    model: &Model,
+    model: &IndexedModel<'_>,
     known: &mut IndexSet<VarName>,
     said: &mut Vec<Named>,
 ) -> Result<(), Wrong>
@@ -101,7 +102,7 @@ fn all_lines(
 fn whole_text(
     cursor: &mut Cursor<'_>,
     alloc: Global,
-    model: &Model,
+    model: &IndexedModel<'_>,
     known: &mut IndexSet<VarName>,
     said: &mut Vec<Named>,
 ) -> Result<(), Wrong>
@@ -156,6 +157,20 @@ fn answer(
     }
 }
 
+// The same, of a text whose places have numbers, where the model has an index.
+fn read_indexed(alloc: Global, model: &IndexedModel<'_>, text: &[u8]) -> Result<Plan, PlanTextFault>
+    requires lawful { IsLawful model.now }
+    requires small { length text.now < 2 ^ 32 }
+    ensures reads { ReadsPlan model.now text.now result }
+    ensures plan { IfOk result (IsPlanOf model.now) }
+{
+    let mut known = IndexSet::new(alloc);
+    let mut said = Vec::new(alloc);
+    let mut cursor = Cursor { rest: text };
+    let read = whole_text(&mut cursor, alloc, model, &mut known, &mut said);
+    answer(alloc, text, cursor.rest, read, said)
+}
+
 /// Reads the plan that the text says, whatever the order of its lines; or says what is wrong with the text first, by place. A
 /// text of 2^32 bytes or more, whose places have no numbers, is answered by `Memory`.
 pub fn read_plan(alloc: Global, model: &Model, text: &[u8]) -> Result<Plan, PlanTextFault>
@@ -166,9 +181,8 @@ pub fn read_plan(alloc: Global, model: &Model, text: &[u8]) -> Result<Plan, Plan
     if text.len() > u32::MAX as usize {
         return Err(PlanTextFault::Memory);
     }
-    let mut known = IndexSet::new(alloc);
-    let mut said = Vec::new(alloc);
-    let mut cursor = Cursor { rest: text };
-    let read = whole_text(&mut cursor, alloc, model, &mut known, &mut said);
-    answer(alloc, text, cursor.rest, read, said)
+    match IndexedModel::new(alloc, model) {
+        Ok(indexed) => read_indexed(alloc, &indexed, text),
+        Err(_none) => Err(PlanTextFault::Memory),
+    }
 }

@@ -15,18 +15,18 @@ use super::readers::{
 use eu_name::name::{TokenName, VarName};
 use eu_name::sequence::Sequence;
 use indexmap::IndexSet;
-use model_core::model::Model;
 use plan_core::fault::Wrong;
 use plan_core::statement::{Keyword, Statement};
 use plan_core::words::Cursor;
 use plan_defs::plan::Line;
+use plan_words::indexed::IndexedModel;
 use std::alloc::Global;
 
 // What follows `global`.
 fn after_global(
     cursor: &mut Cursor<'_>,
     alloc: Global,
-    model: &Model,
+    model: &IndexedModel<'_>,
     known: &IndexSet<VarName>,
 ) -> Result<Option<Statement>, Wrong>
     requires { IsLawful model.now }
@@ -57,7 +57,7 @@ fn active_line(
 fn after_active(
     cursor: &mut Cursor<'_>,
     alloc: Global,
-    model: &Model,
+    model: &IndexedModel<'_>,
     known: &IndexSet<VarName>,
     fact: bool,
 ) -> Result<Option<Statement>, Wrong>
@@ -88,7 +88,7 @@ fn merged_line(
 fn after_merged(
     cursor: &mut Cursor<'_>,
     alloc: Global,
-    model: &Model,
+    model: &IndexedModel<'_>,
     known: &IndexSet<VarName>,
 ) -> Result<Option<Statement>, Wrong>
     requires { IsLawful model.now }
@@ -103,7 +103,7 @@ fn after_merged(
 fn after_rejected(
     cursor: &mut Cursor<'_>,
     alloc: Global,
-    model: &Model,
+    model: &IndexedModel<'_>,
     known: &IndexSet<VarName>,
 ) -> Result<Option<Statement>, Wrong>
     requires { IsLawful model.now }
@@ -129,7 +129,7 @@ fn local_line(name: VarName, value: Result<i32, Wrong>) -> Result<Option<Stateme
 fn after_local(
     cursor: &mut Cursor<'_>,
     alloc: Global,
-    model: &Model,
+    model: &IndexedModel<'_>,
     known: &IndexSet<VarName>,
 ) -> Result<Option<Statement>, Wrong>
     requires { IsLawful model.now }
@@ -144,7 +144,7 @@ fn after_local(
 fn after_keyword(
     cursor: &mut Cursor<'_>,
     alloc: Global,
-    model: &Model,
+    model: &IndexedModel<'_>,
     known: &IndexSet<VarName>,
     keyword: Keyword,
 ) -> Result<Option<Statement>, Wrong>
@@ -166,7 +166,7 @@ fn after_keyword(
 pub fn one_line(
     cursor: &mut Cursor<'_>,
     alloc: Global,
-    model: &Model,
+    model: &IndexedModel<'_>,
     known: &IndexSet<VarName>,
 ) -> Result<Option<Statement>, Wrong>
     requires { IsLawful model.now }

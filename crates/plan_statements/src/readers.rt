@@ -14,12 +14,12 @@ use eu_name::name::{TokenName, VarName};
 use eu_name::sequence::Sequence;
 use eu_name::word::is_name;
 use indexmap::IndexSet;
-use model_core::model::Model;
 use model_core::variable::{ValueKind, VarDecl};
 use plan_core::fault::Wrong;
 use plan_core::statement::Keyword;
 use plan_core::subject::{NamedGlobal, NamedLocal, NamedToken};
 use plan_core::words::{Cursor, is_word, word_behind};
+use plan_words::indexed::IndexedModel;
 use plan_words::subjects::{judge_global, judge_local, judge_predicate, judge_target, judge_token};
 use plan_words::values::judge_value;
 use std::alloc::{AllocError, Global};
@@ -63,7 +63,11 @@ pub fn one_keyword(cursor: &mut Cursor<'_>) -> Result<Keyword, Wrong>
 }
 
 /// A value of the kind.
-pub fn one_value(cursor: &mut Cursor<'_>, model: &Model, kind: ValueKind) -> Result<i32, Wrong>
+pub fn one_value(
+    cursor: &mut Cursor<'_>,
+    model: &IndexedModel<'_>,
+    kind: ValueKind,
+) -> Result<i32, Wrong>
     requires { IsLawful model.now }
     ensures { FindsWords (OneValue model.now kind cursor.old.rest.now) result cursor.new.rest.now }
 {
@@ -77,7 +81,7 @@ pub fn one_value(cursor: &mut Cursor<'_>, model: &Model, kind: ValueKind) -> Res
 pub fn one_global(
     cursor: &mut Cursor<'_>,
     alloc: Global,
-    model: &Model,
+    model: &IndexedModel<'_>,
     known: &IndexSet<VarName>,
 ) -> Result<NamedGlobal, Wrong>
     requires { IsLawful model.now }
@@ -93,7 +97,7 @@ pub fn one_global(
 pub fn one_token(
     cursor: &mut Cursor<'_>,
     alloc: Global,
-    model: &Model,
+    model: &IndexedModel<'_>,
     known: &IndexSet<VarName>,
 ) -> Result<NamedToken, Wrong>
     requires { IsLawful model.now }
@@ -109,7 +113,7 @@ pub fn one_token(
 pub fn one_local(
     cursor: &mut Cursor<'_>,
     alloc: Global,
-    model: &Model,
+    model: &IndexedModel<'_>,
     known: &IndexSet<VarName>,
 ) -> Result<NamedLocal, Wrong>
     requires { IsLawful model.now }
@@ -122,7 +126,11 @@ pub fn one_local(
 }
 
 /// The token that another one is merged into.
-pub fn one_target(cursor: &mut Cursor<'_>, alloc: Global, model: &Model) -> Result<TokenName, Wrong>
+pub fn one_target(
+    cursor: &mut Cursor<'_>,
+    alloc: Global,
+    model: &IndexedModel<'_>,
+) -> Result<TokenName, Wrong>
     requires { IsLawful model.now }
     ensures { FindsWords (OneTarget model.now cursor.old.rest.now) result cursor.new.rest.now }
 {
@@ -133,7 +141,11 @@ pub fn one_target(cursor: &mut Cursor<'_>, alloc: Global, model: &Model) -> Resu
 }
 
 /// The predicate of this number.
-pub fn one_predicate(cursor: &mut Cursor<'_>, model: &Model, number: u32) -> Result<(), Wrong>
+pub fn one_predicate(
+    cursor: &mut Cursor<'_>,
+    model: &IndexedModel<'_>,
+    number: u32,
+) -> Result<(), Wrong>
     requires lawful { IsLawful model.now }
     requires there { number < length model.now.preds }
     ensures { FindsWords (OnePredicate model.now number cursor.old.rest.now) result cursor.new.rest.now }
@@ -147,7 +159,7 @@ pub fn one_predicate(cursor: &mut Cursor<'_>, model: &Model, number: u32) -> Res
 // The part of a token with its value.
 fn one_part(
     cursor: &mut Cursor<'_>,
-    model: &Model,
+    model: &IndexedModel<'_>,
     label: &[u8],
     kind: ValueKind,
 ) -> Result<i32, Wrong>
@@ -159,7 +171,7 @@ fn one_part(
 }
 
 // What a token line has before the parameters.
-fn first_parts(cursor: &mut Cursor<'_>, model: &Model) -> Result<[i32; 4], Wrong>
+fn first_parts(cursor: &mut Cursor<'_>, model: &IndexedModel<'_>) -> Result<[i32; 4], Wrong>
     requires { IsLawful model.now }
     ensures { FindsWords (FirstParts model.now cursor.old.rest.now) result cursor.new.rest.now }
 {
@@ -225,7 +237,7 @@ fn one_label(cursor: &mut Cursor<'_>, params: &[VarDecl], expected: &[u8]) -> Re
 // The parameter's name with its value.
 fn one_parameter(
     cursor: &mut Cursor<'_>,
-    model: &Model,
+    model: &IndexedModel<'_>,
     params: &[VarDecl],
     variable: &VarDecl,
 ) -> Result<i32, Wrong>
@@ -247,7 +259,7 @@ fn push(values: &mut Vec<i32>, value: i32) -> Result<(), AllocError>
 // The parameters, whose values are put behind those that are there.
 fn parameters(
     cursor: &mut Cursor<'_>,
-    model: &Model,
+    model: &IndexedModel<'_>,
     params: &[VarDecl],
     values: &mut Vec<i32>,
 ) -> Result<(), Wrong>
@@ -285,7 +297,7 @@ fn none_left(cursor: &Cursor<'_>, params: &[VarDecl]) -> Result<(), Wrong>
 // The parameters, and nothing behind them.
 fn last_parts(
     cursor: &mut Cursor<'_>,
-    model: &Model,
+    model: &IndexedModel<'_>,
     params: &[VarDecl],
     values: &mut Vec<i32>,
 ) -> Result<(), Wrong>
@@ -310,14 +322,14 @@ fn all_values(read: Result<(), Wrong>, values: Vec<i32>) -> Result<Sequence<i32>
 fn token_values(
     cursor: &mut Cursor<'_>,
     alloc: Global,
-    model: &Model,
+    model: &IndexedModel<'_>,
     number: u32,
 ) -> Result<Sequence<i32>, Wrong>
     requires lawful { IsLawful model.now }
     requires there { number < length model.now.preds }
     ensures { FindsWords (TokenValues model.now number cursor.old.rest.now) result cursor.new.rest.now }
 {
-    let pred = &model.preds.as_slice()[number as usize];
+    let pred = &model.model().preds.as_slice()[number as usize];
     let first = first_parts(cursor, model)?;
     let mut values = Vec::from_slice(alloc, &first)?;
     let read = last_parts(cursor, model, pred.params.as_slice(), &mut values);
@@ -328,7 +340,7 @@ fn token_values(
 pub fn active_values(
     cursor: &mut Cursor<'_>,
     alloc: Global,
-    model: &Model,
+    model: &IndexedModel<'_>,
     number: u32,
 ) -> Result<Sequence<i32>, Wrong>
     requires lawful { IsLawful model.now }

@@ -1,2 +1,4 @@
-pub mod Valuing
+pub mod Indexing
 pub mod Naming
+pub mod Subjecting
+pub mod Valuing

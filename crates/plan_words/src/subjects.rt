@@ -5,75 +5,38 @@ ghost use Rattle.eu_name.specs.declared.name.Part.{Part};
 ghost use Rattle.eu_name.specs.declared.name.TokenName.{TokenName};
 ghost use Rattle.eu_name.specs.declared.name.VarName.{VarName};
 ghost use Rattle.eu_name.specs.declared.name.VarName.TheVariants as variables;
-ghost use Rattle.eu_name.specs.declared.name_text.NameText.{NameText};
 ghost use Rattle.model_core.specs.declared.variable.VarDecl.{VarDecl};
-ghost use Rattle.model_core.specs.Lawful.{IsLawful};
+ghost use Rattle.model_core.specs.declared.rule.Slot.{Slot};
+ghost use Rattle.model_core.specs.Lawful.{IsLawful, IsToken};
+ghost use Rattle.model_core.specs.Tokens.{HasToken};
 ghost use Rattle.model_core.specs.Variables.{IsGlobal};
 ghost use Rattle.plan_core.specs.declared.fault.Wrong.TheVariants as wrongs;
 ghost use Rattle.plan_core.specs.declared.subject.NamedGlobal.{NamedGlobal};
 ghost use Rattle.plan_core.specs.declared.subject.NamedToken.{NamedToken};
 ghost use Rattle.plan_core.specs.declared.subject.NamedLocal.{NamedLocal};
 ghost use Rattle.plan_core.specs.Found.{Judges};
-ghost use Rattle.plan_core.specs.Subjects.{NamesSubject, IsFreshName, IsNoFreshName, IsGlobalOf, IsTokenOf, IsLocalOf, IsLocalOfKind, IsTargetName, IsNoTarget, IsPredicateText, AreTwoNames, IsNoPredicate};
+ghost use Rattle.plan_core.specs.Subjects.{IsFreshName, IsNoFreshName, IsGlobalOf, IsTokenOf, IsLocalOf, IsLocalOfKind, IsTargetName, IsNoTarget, IsPredicateText, AreTwoNames, IsNoPredicate};
 ghost use Rattle.plan_words.specs.Naming.{SaysSubject, IsNoName, SaysFresh, IsNoFresh, IsLocalName};
 
+use super::indexed::IndexedModel;
+use super::resolving::subject_of;
 use super::values::cut_at_point;
 use eu_name::laws::{names_are_read_back, names_are_told_apart};
-use eu_name::name::{Part, TokenName, VarName};
-use eu_name::name_text::{NameFault, NameText};
+use eu_name::name::{TokenName, VarName};
+use eu_name::name_text::NameFault;
 use eu_name::reading::read_name;
 use eu_name::word::is_name;
 use indexmap::IndexSet;
-use model_core::model::Model;
-use model_core::resolve::{texts_name_one, texts_name_what_there_is};
+use model_core::resolve::texts_name_one;
 use model_core::variable::ValueKind;
 use plan_core::fault::Wrong;
-use plan_core::names::{local_kind, pred_of};
+use plan_core::names::{self, local_kind};
 use plan_core::subject::{NamedGlobal, NamedLocal, NamedToken};
 use plan_core::words::is_word;
 use std::alloc::{AllocError, Global};
 
-// What a line can be about among what texts name: no part of a token.
-fn without_parts(found: Option<VarName>) -> Option<VarName>
-    ensures part { (token : TokenName) (part : Part) → found ≡ Some (variables.Token token part) → result ≡ None }
-    ensures global { (number : ℕ) → found ≡ Some (variables.Global number) → result ≡ found }
-    ensures local { (token : TokenName) (rule number : ℕ) → found ≡ Some (variables.Local token rule number) → result ≡ found }
-    ensures none { found ≡ None → result ≡ found }
-{
-    match found {
-        Some(VarName::Global(number)) => Some(VarName::Global(number)),
-        Some(
-            VarName::Local {
-                token,
-                rule,
-                number,
-            },
-        ) => Some(VarName::Local {
-            token,
-            rule,
-            number,
-        }),
-        Some(VarName::Token(_token, _part)) => None,
-        None => None,
-    }
-}
-
-// The global, token or local that the text names.
-fn subject_of(model: &Model, text: &NameText) -> Result<Option<VarName>, AllocError>
-    requires { IsLawful model.now }
-    ensures { IfOk result (λ answer. MatchOption answer
-        ((name : VarName) → NamesSubject model.now text.now name → ⊥)
-        (NamesSubject model.now text.now)) }
-{
-    texts_name_one();
-    match model.resolve_token(text)? {
-        Some(token) => Ok(Some(VarName::Token(token, Part::Start))),
-        None => Ok(without_parts(model.resolve_var(text)?)),
-    }
-}
-
 // The global, token or local that the word names.
-fn subject(alloc: Global, model: &Model, word: &[u8]) -> Result<Option<VarName>, Wrong>
+fn subject(alloc: Global, model: &IndexedModel<'_>, word: &[u8]) -> Result<Option<VarName>, Wrong>
     requires { IsLawful model.now }
     ensures { Judges (SaysSubject model.now) IsNoName word.now result }
 {
@@ -116,7 +79,7 @@ fn unless_known(known: &IndexSet<VarName>, found: Option<VarName>) -> Result<Opt
 // What the word names, if lines have said nothing of it.
 fn fresh(
     alloc: Global,
-    model: &Model,
+    model: &IndexedModel<'_>,
     known: &IndexSet<VarName>,
     word: &[u8],
 ) -> Result<Option<VarName>, Wrong>
@@ -180,16 +143,24 @@ fn as_local(found: Option<VarName>) -> Option<VarName>
 }
 
 // The kind of a global of the model.
-fn global_kind(model: &Model, number: u32) -> ValueKind
+fn global_kind(model: &IndexedModel<'_>, number: u32) -> ValueKind
     requires { (variable : VarDecl) × IsGlobal model.now number variable }
     ensures { (variable : VarDecl) × (IsGlobal model.now number variable × (result ≡ variable.kind)) }
 {
-    let variable = &model.problem.globals.as_slice()[number as usize];
+    let variable = &model.model().problem.globals.as_slice()[number as usize];
     variable.kind
 }
 
+// The number of the predicate of a token of the model.
+fn pred_of(model: &IndexedModel<'_>, token: &TokenName) -> u32
+    requires { IsToken model.now token.now }
+    ensures { (slot : Slot) → HasToken model.now token.now slot → slot.pred ≡ result }
+{
+    names::pred_of(model.model(), token)
+}
+
 // The kind of a local of the model.
-fn kind_of_local(model: &Model, name: &VarName) -> ValueKind
+fn kind_of_local(model: &IndexedModel<'_>, name: &VarName) -> ValueKind
     requires { (kind : ValueKind) × IsLocalOfKind model.now kind name.now }
     ensures { IsLocalOfKind model.now result name.now }
 {
@@ -198,7 +169,7 @@ fn kind_of_local(model: &Model, name: &VarName) -> ValueKind
             token,
             rule,
             number,
-        } => local_kind(model, token, *rule, *number),
+        } => local_kind(model.model(), token, *rule, *number),
         _ => unreachable!(),
     }
 }
@@ -206,7 +177,7 @@ fn kind_of_local(model: &Model, name: &VarName) -> ValueKind
 /// What the word says where the name of a global is due of which no line has said anything.
 pub fn judge_global(
     alloc: Global,
-    model: &Model,
+    model: &IndexedModel<'_>,
     known: &IndexSet<VarName>,
     word: &[u8],
 ) -> Result<NamedGlobal, Wrong>
@@ -229,7 +200,7 @@ pub fn judge_global(
 /// What the word says where the name of a token is due of which no line has said anything.
 pub fn judge_token(
     alloc: Global,
-    model: &Model,
+    model: &IndexedModel<'_>,
     known: &IndexSet<VarName>,
     word: &[u8],
 ) -> Result<NamedToken, Wrong>
@@ -252,7 +223,7 @@ pub fn judge_token(
 /// What the word says where the name of a local is due of which no line has said anything.
 pub fn judge_local(
     alloc: Global,
-    model: &Model,
+    model: &IndexedModel<'_>,
     known: &IndexSet<VarName>,
     word: &[u8],
 ) -> Result<NamedLocal, Wrong>
@@ -273,7 +244,11 @@ pub fn judge_local(
 }
 
 /// What the word says where the token is due that another one is merged into.
-pub fn judge_target(alloc: Global, model: &Model, word: &[u8]) -> Result<TokenName, Wrong>
+pub fn judge_target(
+    alloc: Global,
+    model: &IndexedModel<'_>,
+    word: &[u8],
+) -> Result<TokenName, Wrong>
     requires { IsLawful model.now }
     ensures { Judges (IsTargetName model.now) (IsNoTarget model.now) word.now result }
 {
@@ -309,13 +284,14 @@ fn is_pair(first: &[u8], second: &[u8], word: &[u8]) -> bool
 }
 
 // Whether the word is the class and the name of the predicate.
-fn is_predicate(model: &Model, number: u32, word: &[u8]) -> bool
+fn is_predicate(model: &IndexedModel<'_>, number: u32, word: &[u8]) -> bool
     requires lawful { IsLawful model.now }
     requires there { number < length model.now.preds }
     ensures { IsTrue result ↔ IsPredicateText model.now number word.now }
 {
-    let pred = &model.preds.as_slice()[number as usize];
-    let class = &model.classes.as_slice()[pred.class as usize];
+    let plain = model.model();
+    let pred = &plain.preds.as_slice()[number as usize];
+    let class = &plain.classes.as_slice()[pred.class as usize];
     is_pair(class.name.as_bytes(), pred.name.as_bytes(), word)
 }
 
@@ -330,7 +306,7 @@ fn are_two_names(word: &[u8]) -> bool
 }
 
 /// What the word says where the predicate of this number is due.
-pub fn judge_predicate(model: &Model, number: u32, word: &[u8]) -> Result<(), Wrong>
+pub fn judge_predicate(model: &IndexedModel<'_>, number: u32, word: &[u8]) -> Result<(), Wrong>
     requires lawful { IsLawful model.now }
     requires there { number < length model.now.preds }
     ensures { Judges (λ said. IsPredicateText model.now number) (IsNoPredicate model.now number) word.now result }

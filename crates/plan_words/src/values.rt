@@ -10,12 +10,12 @@ ghost use Rattle.model_core.specs.Lawful.{IsLawful};
 ghost use Rattle.plan_core.specs.Found.{Judges};
 ghost use Rattle.plan_core.specs.Values.{is_point, IsPlainNumber, IsNumberWord, IsTruthWord, IsPathWord, IsValueWord, IsValueText, IsNoValueText};
 
+use super::indexed::IndexedModel;
 use domain_core::domain::{GREATEST_VALUE, LEAST_VALUE};
 use eu_name::text::Text;
 use eu_name::word::is_name;
 use itoa::Buffer;
 use model_core::class::{Enum, Object};
-use model_core::model::Model;
 use model_core::variable::ValueKind;
 use plan_core::fault::Wrong;
 use plan_core::words::is_word;
@@ -95,14 +95,14 @@ fn object_place(objects: &[Object], word: &[u8]) -> Option<usize>
 }
 
 // The enum of this number.
-fn enum_at(model: &Model, number: u32) -> Option<&Enum>
+fn enum_at<'a>(model: &'a IndexedModel<'_>, number: u32) -> Option<&'a Enum>
     ensures { option_copied result ≡ slice_get model.now.enums number }
 {
-    model.enums.as_slice().get(number as usize)
+    model.model().enums.as_slice().get(number as usize)
 }
 
 // The place of the member of this name of the enum.
-fn member_place(model: &Model, number: u32, word: &[u8]) -> Option<usize>
+fn member_place(model: &IndexedModel<'_>, number: u32, word: &[u8]) -> Option<usize>
     ensures { MatchOption result
         ((found : Enum) (place : ℕ) → slice_get model.now.enums number ≡ Some found → slice_get found.members place ≡ Some word.now → ⊥)
         (λ place. (found : Enum) × (slice_get model.now.enums number ≡ Some found) × (slice_get found.members place ≡ Some word.now)) }
@@ -125,7 +125,7 @@ fn value_at(place: Option<usize>) -> Option<i32>
 }
 
 // The value of the kind of which the word is the text.
-fn value_of(model: &Model, kind: ValueKind, word: &[u8]) -> Option<i32>
+fn value_of(model: &IndexedModel<'_>, kind: ValueKind, word: &[u8]) -> Option<i32>
     requires { IsLawful model.now }
     ensures { MatchOption result
         ((value : ℤ) → IsValueText model.now kind value word.now → ⊥)
@@ -135,7 +135,7 @@ fn value_of(model: &Model, kind: ValueKind, word: &[u8]) -> Option<i32>
         ValueKind::Int => number_value(word),
         ValueKind::Bool => truth_value(word),
         ValueKind::Enum(number) => value_at(member_place(model, number, word)),
-        ValueKind::Object => value_at(object_place(model.objects.as_slice(), word)),
+        ValueKind::Object => value_at(object_place(model.model().objects.as_slice(), word)),
     }
 }
 
@@ -208,7 +208,7 @@ fn is_value_word(word: &[u8]) -> bool
 }
 
 /// What the word says where a value of the kind is due.
-pub fn judge_value(model: &Model, kind: ValueKind, word: &[u8]) -> Result<i32, Wrong>
+pub fn judge_value(model: &IndexedModel<'_>, kind: ValueKind, word: &[u8]) -> Result<i32, Wrong>
     requires { IsLawful model.now }
     ensures { Judges (IsValueText model.now kind) (IsNoValueText model.now kind) word.now result }
 {

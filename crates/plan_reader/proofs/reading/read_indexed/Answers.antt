@@ -1,6 +1,6 @@
 use Rattle.std.proofs.Common.{arith}
 use Rattle.plan_reader.proofs.Wholes.{text_reads, text_plan, kept_named, kept_once}
-use Rattle.plan_reader.proofs.reading.read_plan.Goals as goal
+use Rattle.plan_reader.proofs.reading.read_indexed.Goals as goal
 
 pub answer-requires-clause-named : goal.answer-requires-clause-named
 answer-requires-clause-named c = kept_named c.whole_text-read.result c.whole_text-read.new.known.keys c.whole_text-read.new.said.items c.whole_text-read.ensures.kept
@@ -14,4 +14,4 @@ returns-clause-reads c =
 
 pub returns-clause-plan : goal.returns-clause-plan
 returns-clause-plan c =
-    text_plan c.args.model.now c.args.text.now c.whole_text-read.new.cursor.rest.now c.whole_text-read.result c.whole_text-read.new.said.items c.answer.result (omega arith) c.whole_text-read.ensures.text c.answer.ensures
+    text_plan c.args.model.now c.args.text.now c.whole_text-read.new.cursor.rest.now c.whole_text-read.result c.whole_text-read.new.said.items c.answer.result (let small = c.requires.small in omega (arith, small)) c.whole_text-read.ensures.text c.answer.ensures
