@@ -1,7 +1,11 @@
-//! The tests of the crates that compile texts, of what they rest on first: nddl_joined, nddl_copies and nddl_scope.
-//! Nothing here is called by others: `rt test` runs it.
+//! The tests of the crates that compile texts: of what they rest on (nddl_joined, nddl_copies and nddl_scope), and of the
+//! table of names and types. Nothing here is called by others: `rt test` runs it.
 #![tactic(auto)]
 
+#[cfg(test)]
+mod answers;
+#[cfg(test)]
+mod faults;
 #[cfg(test)]
 mod rules;
 #[cfg(test)]
@@ -10,3 +14,5 @@ mod scopes;
 mod shelves;
 #[cfg(test)]
 mod sites;
+#[cfg(test)]
+mod tables;

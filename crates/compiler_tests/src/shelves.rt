@@ -1,4 +1,4 @@
-//! A shelf with files that include each other.
+//! Shelves with files that include each other.
 
 use eu_io::calm::shelf::CalmShelf;
 use eu_io::shelf::FileEntry;
@@ -11,6 +11,14 @@ fn entry(alloc: Global, name: &str, text: &str) -> Result<FileEntry, AllocError>
         name: Text::from_str(alloc, name)?,
         bytes: Bytes::from_slice(alloc, text.as_bytes())?,
     })
+}
+
+/// A file `m` of the first text, and a file `q` of the second.
+pub fn pair(alloc: Global, text: &str, other: &str) -> Result<CalmShelf, AllocError> {
+    let mut files = Vec::new(alloc);
+    files.push(entry(alloc, "m", text)?)?;
+    files.push(entry(alloc, "q", other)?)?;
+    Ok(CalmShelf::new(files))
 }
 
 /// A file `m` of this text, and two others, of which `q` includes `r`, and `r` includes `m`.

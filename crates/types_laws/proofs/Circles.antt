@@ -36,16 +36,16 @@ use Rattle.types_laws.proofs.Standings.{one_standing}
 
 -- ---- what a class extends
 
-record Extends (names : List Declared) (program : List Decl) (entry : ℕ) (meaning : Meaning) : Type 0 where
-  declared : Declared
-  there : slice_get names entry ≡ Some declared
-  decl : Decl
-  body : declaration_with_body names program declared ≡ Some decl
-  name : Name
-  parent : class_parent decl ≡ Some name
-  means : meaning_of names name.text ≡ Some meaning
+pub record Extends (names : List Declared) (program : List Decl) (entry : ℕ) (meaning : Meaning) : Type 0 where
+  pub declared : Declared
+  pub there : slice_get names entry ≡ Some declared
+  pub decl : Decl
+  pub body : declaration_with_body names program declared ≡ Some decl
+  pub name : Name
+  pub parent : class_parent decl ≡ Some name
+  pub means : meaning_of names name.text ≡ Some meaning
 
-extends_is : (names : List Declared) (program : List Decl) (entry : ℕ) (meaning : Meaning) → above names program entry ≡ Some meaning
+pub extends_is : (names : List Declared) (program : List Decl) (entry : ℕ) (meaning : Meaning) → above names program entry ≡ Some meaning
     → Extends names program entry meaning
 extends_is names program entry meaning is = by (slice_get names entry) refl is
   where
@@ -70,14 +70,14 @@ extends_is names program entry meaning is = by (slice_get names entry) refl is
     by (Some declared) there is = middle declared there (declaration_with_body names program declared) refl is
 
 -- where the body of a class stands
-record HasBody (names : List Declared) (program : List Decl) (declared : Declared) (decl : Decl) : Type 0 where
-  number : ℕ
-  other : Declared
-  first : named_number true names declared.name ≡ Some number
-  there : slice_get names number ≡ Some other
-  at : slice_get program other.place.decl ≡ Some decl
+pub record HasBody (names : List Declared) (program : List Decl) (declared : Declared) (decl : Decl) : Type 0 where
+  pub number : ℕ
+  pub other : Declared
+  pub first : named_number true names declared.name ≡ Some number
+  pub there : slice_get names number ≡ Some other
+  pub at : slice_get program other.place.decl ≡ Some decl
 
-body_is : (names : List Declared) (program : List Decl) (declared : Declared) (decl : Decl) → declaration_with_body names program declared ≡ Some decl
+pub body_is : (names : List Declared) (program : List Decl) (declared : Declared) (decl : Decl) → declaration_with_body names program declared ≡ Some decl
     → HasBody names program declared decl
 body_is names program declared decl is = by (named_number true names declared.name) refl is
   where
@@ -92,13 +92,13 @@ body_is names program declared decl is = by (named_number true names declared.na
     by None first is = absurd (cc)
     by (Some number) first is = inside number first (slice_get names number) refl is
 
-listed_at : (f : Declared → Option ℕ) (names : List Declared) (last : List (Option ℕ)) (entry : ℕ) (declared : Declared)
+pub listed_at : (f : Declared → Option ℕ) (names : List Declared) (last : List (Option ℕ)) (entry : ℕ) (declared : Declared)
     → slice_get names entry ≡ Some declared → slice_get (map f names ++ last) entry ≡ Some (f declared)
 listed_at f [] last entry declared is = absurd (cc)
 listed_at f (x ∷ names) last zero declared is = ap (λ d. Some (f d)) (same_Some x declared is)
 listed_at f (x ∷ names) last (suc entry) declared is = listed_at f names last entry declared is
 
-class_sort_under : (names : List Declared) (program : List Decl) (declared : Declared) (sort : Sort) → is_class_sort sort ≡ true
+pub class_sort_under : (names : List Declared) (program : List Decl) (declared : Declared) (sort : Sort) → is_class_sort sort ≡ true
     → sort_under names program declared sort
     ≡ option_and_then (class_under names) (option_and_then class_parent (declaration_with_body names program declared))
 class_sort_under names program declared sorts.Forward is = refl
@@ -106,7 +106,7 @@ class_sort_under names program declared sorts.Body is = refl
 class_sort_under names program declared sort is = absurd (cc)
 
 -- such a class stands under the one that it extends
-stands : (names : List Declared) (program : List Decl) (entry other : ℕ) (it : Extends names program entry (meanings.Entry other))
+pub stands : (names : List Declared) (program : List Decl) (entry other : ℕ) (it : Extends names program entry (meanings.Entry other))
     → is_class_sort it.declared.sort ≡ true → is_class_at names other ≡ true → StandsUnder (parents_of names program) entry other
 stands names program entry other it sort class =
     listed_at (λ declared. sort_under names program declared declared.sort) names (Some (length names) ∷ []) entry it.declared it.there
@@ -118,7 +118,7 @@ stands names program entry other it sort class =
 
 -- ---- none is on a circle
 
-circle_fine : (names : List Declared) (marked : List Mark) (number : ℕ) (some : List Declared) (place : ℕ) (declared : Declared)
+pub circle_fine : (names : List Declared) (marked : List Mark) (number : ℕ) (some : List Declared) (place : ℕ) (declared : Declared)
     → circle_faults names marked number some ≡ [] → slice_get some place ≡ Some declared
     → circle_fault (declared_place names declared) (is_circle (standing_in marked (number + place))) ≡ []
 circle_fine names marked number [] place declared fine is = absurd (cc)
@@ -133,13 +133,13 @@ circle_fine names marked number (here ∷ some) (suc place) declared fine is =
     sym (ap (λ n. circle_fault (declared_place names declared) (is_circle (standing_in marked n))) e)
     ∙ circle_fine names marked (number + 1) some place declared rest is
 
-no_circle : (place : Option Place) (circle : Bool) (at : Place) → place ≡ Some at → circle_fault place circle ≡ [] → circle ≡ false
+pub no_circle : (place : Option Place) (circle : Bool) (at : Place) → place ≡ Some at → circle_fault place circle ≡ [] → circle ≡ false
 no_circle place false at is none = refl
 no_circle None true at is none = absurd (cc)
 no_circle (Some there) true at is none = absurd (cc)
 
 -- a class that has a body is on no circle
-off_circle : (names : List Declared) (program : List Decl) (parents : List (Option ℕ)) (marked : List Mark) (order : List ℕ) (entry : ℕ)
+pub off_circle : (names : List Declared) (program : List Decl) (parents : List (Option ℕ)) (marked : List Mark) (order : List ℕ) (entry : ℕ)
     (declared : Declared) (decl : Decl) → IsLineageOf parents marked order → entry < length parents → circle_faults names marked 0 names ≡ []
     → slice_get names entry ≡ Some declared → is_class_sort declared.sort ≡ true → declaration_with_body names program declared ≡ Some decl
     → IsOnCircle parents entry → ⊥
@@ -159,7 +159,7 @@ off_circle names program parents marked order entry declared decl lineage within
     let on : is_circle (standing_in marked entry) ≡ true = ap is_circle (found.1 ∙ ap (λ s. Some s) same) in
     let never : true ≡ false = sym on ∙ off in cc
 
-circles_fine : (facts : Facts) → all_faults facts ≡ [] → circle_faults facts.names facts.marked 0 facts.names ≡ []
+pub circles_fine : (facts : Facts) → all_faults facts ≡ [] → circle_faults facts.names facts.marked 0 facts.names ≡ []
 circles_fine facts fine =
     let names = second_name_faults facts.names 0 facts.names in
     let circles = circle_faults facts.names facts.marked 0 facts.names in
@@ -181,7 +181,7 @@ module _ (facts : Facts) (enums : List Enum) (model : Model) (are : facts.parent
   abbrev entries : List ℕ
   entries = class_entries facts.names 0 facts.names
 
-  class_is : (entry : ℕ) (place : ℕ) → slice_get entries place ≡ Some entry → (declared : Declared) × (slice_get facts.names entry ≡ Some declared)
+  pub class_is : (entry : ℕ) (place : ℕ) → slice_get entries place ≡ Some entry → (declared : Declared) × (slice_get facts.names entry ≡ Some declared)
       × (is_class_sort declared.sort ≡ true)
   class_is entry place is =
       let found = entry_is facts.names 0 facts.names place entry is in
@@ -193,7 +193,7 @@ module _ (facts : Facts) (enums : List Enum) (model : Model) (are : facts.parent
       and_first false other both = cc
 
   -- the number of a class that is meant
-  number_is : (entry : ℕ) (declared : Declared) → slice_get facts.names entry ≡ Some declared → is_first_class facts.names entry declared ≡ true
+  pub number_is : (entry : ℕ) (declared : Declared) → slice_get facts.names entry ≡ Some declared → is_first_class facts.names entry declared ≡ true
       → (at : ℕ) × (slice_get entries at ≡ Some entry) × (class_number facts.names (meanings.Entry entry) ≡ 4 + at)
   number_is entry declared there first =
       let e : 0 + entry ≡ entry = omega arith in

@@ -20,7 +20,7 @@ use Rattle.nddl_known.proofs.Depends.{AgreesAt, fine_same, named_by, with_known}
 use Rattle.types_laws.proofs.Standings.{one_marking, same_places}
 use Rattle.nddl_known.proofs.Settled.{typedef_under}
 
-rooted_is : (standing : Option Standing) → is_rooted standing ≡ true → standing ≡ Some standings.Rooted
+pub rooted_is : (standing : Option Standing) → is_rooted standing ≡ true → standing ≡ Some standings.Rooted
 rooted_is None is = cc
 rooted_is (Some standings.Rooted) is = refl
 rooted_is (Some standings.OnCircle) is = cc

@@ -62,7 +62,7 @@ extends_class facts number (decls.Class at class parent members) name entry fine
 extends_class facts number decl name entry fine is means = absurd (cc)
 
 -- what a name means that is declared is declared first under it
-found_at : (test : Declared → Bool) (names : List Declared) (number place : ℕ) → position_from test number names ≡ Some place
+pub found_at : (test : Declared → Bool) (names : List Declared) (number place : ℕ) → position_from test number names ≡ Some place
     → (offset : ℕ) × (place ≡ number + offset) × ((found : Declared) × (slice_get names offset ≡ Some found) × (test found ≡ true))
 found_at test [] number place is = absurd (cc)
 found_at test (declared ∷ names) number place is = by (test declared) refl is (λ rest. found_at test names (number + 1) place rest)
@@ -82,7 +82,7 @@ pub record IsFound (names : List Declared) (entry : ℕ) : Type 0 where
   pub there : slice_get names entry ≡ Some found
   pub first : is_first names entry found ≡ true
 
-found_first : (names : List Declared) (name : List ℕ) (entry : ℕ) → named_number false names name ≡ Some entry → IsFound names entry
+pub found_first : (names : List Declared) (name : List ℕ) (entry : ℕ) → named_number false names name ≡ Some entry → IsFound names entry
 found_first names name entry is =
     let at = found_at (is_named false name) names 0 entry is in
     let e : at.0 ≡ entry = (let sum : entry ≡ 0 + at.0 = at.1 in omega arith) in

@@ -22,7 +22,7 @@ same_places (x ∷ xs) (y ∷ ys) long same =
     λ i. first i ∷ rest i
 
 -- what leads up to a root is on no circle
-rooted_off : (parents : List (Option ℕ)) (number : ℕ) (path : List ℕ) (root : ℕ) → LeadsUp parents number path root
+pub rooted_off : (parents : List (Option ℕ)) (number : ℕ) (path : List ℕ) (root : ℕ) → LeadsUp parents number path root
     → slice_get parents root ≡ Some None → IsOnCircle parents number → ⊥
 rooted_off parents number path root leads ends circle =
     let back = circle_returns parents number path root circle leads in by back.0 back.1
