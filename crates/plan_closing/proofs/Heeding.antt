@@ -61,6 +61,7 @@ use Rattle.plan_closing.specs.Looking.{IsOnWay, HasWay, IsBlockFollowed, Follows
 use Rattle.plan_closing.specs.Turns.{IsTurnOf, TakesTurns}
 use Rattle.plan_closing.proofs.Sharing.{same_content}
 use Rattle.plan_closing.proofs.Staying.{turns_underway, underway_more}
+use Rattle.plan_posting.proofs.Storing.{marks_same, marks_both}
 
 -- ---- what a store on its way has
 
@@ -144,7 +145,7 @@ heeded_none model unfolded variable stored = record {
   followed = λ decisions due heeded place number under below at within. absurd (omega (arith, below));
   tokens = refl;
   adds = adds_nothing stored;
-  marks = λ mark snapshot is. is;
+  marks = marks_same _;
 }
 
 -- who watched a variable still does, at the same place
@@ -191,7 +192,7 @@ module _ (model : Model) (lawful : IsLawful model) (unfolded variable : ℕ) (ol
         ];
     tokens = tokens ∙ so_far.tokens;
     adds = adds_both old mid new so_far.adds adds;
-    marks = λ mark snapshot is. marks mark snapshot (so_far.marks mark snapshot is);
+    marks = marks_both _ _ _ so_far.marks marks;
   }
 
 -- where a step fails

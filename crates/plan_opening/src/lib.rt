@@ -14,5 +14,5 @@ mod variables;
 pub use blocks::open;
 pub use items::post_what_counts;
 pub use parts::parts_of;
-pub use tokens::bring_token;
+pub use tokens::{bring_token, is_fact};
 pub use variables::bring_variable;

@@ -56,7 +56,7 @@ fn asked_for<'a>(model: &'a Model, token: &TokenName) -> Asked<'a>
 }
 
 // Whether the token takes place whatever is decided.
-fn is_fact(model: &Model, token: &TokenName) -> bool
+pub fn is_fact(model: &Model, token: &TokenName) -> bool
     ensures { IsTrue result ↔ IsFact model.now token.now }
 {
     if !token.steps.is_empty() {

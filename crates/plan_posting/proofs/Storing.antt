@@ -30,8 +30,14 @@ posts_only old new (Err none) kind args posts = posts ∙ ap (λ list. record ol
 pub post_only : (old new : Stored) (result : Result (Unit {0}) AllocError) (kind : Kind) (args : List NetArg) → ChangesNet old new → Posts old.net kind args result new.net → OnlyPosts old new
 post_only old new result kind args changes posts = changes ∙ ap (λ (net : Network). record old { net = net }) (posts_only old.net new.net result kind args posts)
 
+pub marks_same : (stored : Stored) → KeepStoreMarks stored stored
+marks_same stored = record { marks = λ mark snapshot is. is; stamps = λ former on. on }
+
 pub marks_both : (old middle new : Stored) → KeepStoreMarks old middle → KeepStoreMarks middle new → KeepStoreMarks old new
-marks_both old middle new first second = λ mark snapshot is. second mark snapshot (first mark snapshot is)
+marks_both old middle new first second = record {
+  marks = λ mark snapshot is. second.marks mark snapshot (first.marks mark snapshot is);
+  stamps = λ former on. second.stamps former (first.stamps former on);
+}
 
 -- what is there in a store is there still
 pub times_stay : (old new : Stored) → OnlyPosts old new → (place : ℕ) → HasTimesAt old place → HasTimesAt new place

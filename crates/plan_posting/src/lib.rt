@@ -16,7 +16,7 @@ mod counting;
 pub mod laws;
 pub mod origin;
 mod posting;
-mod relations;
+pub mod relations;
 mod tables;
 
 pub use arguments::argument_of;

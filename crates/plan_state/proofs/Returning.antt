@@ -89,12 +89,12 @@ module _ (model : Model) (decisions : List Decision) (marks : List Mark) where
         marked_more k earlier (inl at) =
             let was = stands.marked k earlier at in
             let below = get_below marks k earlier at in
-            (was.0, keep earlier was.0 was.1, subst (λ list. IsLeastOf model list was.0) (front_of k (omega (arith, below, stands.count))) was.2)
+            (was.0, keep.marks earlier was.0 was.1, subst (λ list. IsLeastOf model list was.0) (front_of k (omega (arith, below, stands.count))) was.2)
         marked_more k earlier (inr (n, far, at)) =
             let only = one_only n earlier at in
             let place : length decisions ≡ k = omega (arith, far, only.0, stands.count) in
             subst (IsMarkOf model (take k longer) mid) only.1
-            (subst (λ list. IsMarkOf model list mid mark) (sym front ∙ ap (λ number. take number longer) place) (snapshot_of old, keep mark (snapshot_of old) is, stands.here))
+            (subst (λ list. IsMarkOf model list mid mark) (sym front ∙ ap (λ number. take number longer) place) (snapshot_of old, keep.marks mark (snapshot_of old) is, stands.here))
 
         ordered : (one other : ℕ) (earlier later : Mark) → one < other → Behind one earlier → Behind other later → IsMarkBefore earlier later
         ordered one other earlier later less (inl a) (inl b) = stands.order one other earlier later less a b
@@ -109,10 +109,10 @@ module _ (model : Model) (decisions : List Decision) (marks : List Mark) where
     -- or from which it goes back
     pub kept_back : (new : Stored) → GoesBackTo mark mid new → StandsForList model decisions new marks
     kept_back new back = record {
-      here = subst (IsLeastOf model decisions) (sym (back.again (snapshot_of old) (keep mark (snapshot_of old) is))) stands.here;
+      here = subst (IsLeastOf model decisions) (sym (back.again (snapshot_of old) (keep.marks mark (snapshot_of old) is))) stands.here;
       count = stands.count;
       marked = λ k earlier at.
           let was = stands.marked k earlier at in
-          (was.0, back.marks earlier was.0 (latest earlier (was.0, was.1)) (keep earlier was.0 was.1), was.2);
+          (was.0, back.marks earlier was.0 (latest earlier (was.0, was.1)) (keep.marks earlier was.0 was.1), was.2);
       order = stands.order;
     }

@@ -1,10 +1,11 @@
 //! The store, with the marks to which it can go back.
 
-ghost use Rattle.std.specs.Prelude.{◌≡◌, [], ◌≤◌, ◌<◌, List, length, take, IfOk, OnErr};
+ghost use Rattle.std.specs.Prelude.{◌≡◌, [], ◌≤◌, ◌<◌, List, length, take, true, IfOk, OnErr};
 ghost use Rattle.model_core.specs.declared.decision.Decision.{Decision as Taken};
 ghost use Rattle.model_core.specs.declared.model.Model.{Model as Problem};
 ghost use Rattle.model_core.specs.Lawful.{IsLawful};
 ghost use Rattle.plan_defs.specs.Settling.{IsSettled};
+ghost use Rattle.plan_store.specs.Stamps.{FollowStamps};
 ghost use Rattle.plan_state.specs.declared.footing.Footing.TheVariants.{Rest, Fallen, Void};
 ghost use Rattle.plan_state.specs.Advancing.{but_last, EndsAdmissibly};
 ghost use Rattle.plan_state.specs.Standing.{KeepsList, StandsForList, GoesOnTo};
@@ -13,6 +14,7 @@ use super::advance::{begin, take};
 use super::footing::Footing;
 use model_core::decision::Decision;
 use model_core::model::Model;
+use plan_store::laws::stamps_follow;
 use plan_store::{Mark, Store};
 use std::alloc::{AllocError, Global};
 use std::marker;
@@ -64,6 +66,7 @@ impl Standing {
         requires kept { KeepsList model.now (but_last decisions.now) self.old }
         ensures ok { IfOk result (λ footing. (footing ≡ self.new.footing) × KeepsList model.now decisions.now self.new) }
         ensures err { OnErr result ((self.new.footing ≡ Rest) × KeepsList model.now (but_last decisions.now) self.new) }
+        ensures stamps { IfOk result (λ footing. footing ≡ Rest → FollowStamps self.old.stored self.new.stored) }
     {
         let fit = push(alloc, &mut self.store, &mut self.marks, model, decisions)?;
         if !fit {
@@ -75,9 +78,10 @@ impl Standing {
     /// Goes back to the first so many of the decisions, which are fewer than those that are kept. It takes no memory.
     pub fn back_to(&mut self, number: usize)
         requires { (model : Problem) × ((decisions : List Taken) × KeepsList model decisions self.old × (number < length decisions)) }
-        ensures { (model : Problem) (decisions : List Taken)
+        ensures kept { (model : Problem) (decisions : List Taken)
             → KeepsList model decisions self.old → number < length decisions
             → (self.new.footing ≡ Rest) × KeepsList model (take number decisions) self.new }
+        ensures stamps { FollowStamps self.old.stored self.new.stored }
     {
         return_to(&mut self.store, &mut self.marks, number);
         self.footing = Footing::Rest;
@@ -113,11 +117,14 @@ fn push(
     requires stands { StandsForList model.now (but_last decisions.now) store.old marks.old.items }
     ensures ok { IfOk result (λ fit. GoesOnTo model.now decisions.now fit store.new marks.new.items) }
     ensures err { OnErr result (StandsForList model.now (but_last decisions.now) store.new marks.new.items) }
+    ensures stamps { IfOk result (λ fit. fit ≡ true → FollowStamps store.old store.new) }
 {
+    stamps_follow();
     marks.reserve(1)?;
     let mark = store.mark();
     match take(alloc, store, model, decisions) {
         Ok(true) => {
+            store.is_sound();
             marks.push_reserved(mark);
             Ok(true)
         }
@@ -135,10 +142,13 @@ fn push(
 // Goes back to the state of the first so many decisions.
 fn return_to(store: &mut Store, marks: &mut Vec<Mark>, number: usize)
     requires { (model : Problem) × ((decisions : List Taken) × StandsForList model decisions store.old marks.old.items) }
-    ensures { (model : Problem) (decisions : List Taken)
+    ensures stands { (model : Problem) (decisions : List Taken)
         → StandsForList model decisions store.old marks.old.items → number ≤ length decisions
         → StandsForList model (take number decisions) store.new marks.new.items }
+    ensures stamps { FollowStamps store.old store.new }
 {
+    stamps_follow();
+    store.is_sound();
     if number < marks.len() {
         let mark = marks[number];
         store.back_to(mark);

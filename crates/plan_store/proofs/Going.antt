@@ -1,9 +1,10 @@
 -- Marks stay while a store goes on, and going back to one.
 use Rattle.std.proofs.Common.{◌≡◌, ℕ, ◌+◌, ◌≤◌, List, [], ◌∷◌, ◌++◌, length, take, drop, refl, sym, ap, ◌∙◌, subst, arith, length-append, append_assoc}
-use Rattle.std.proofs.lemmas.List.{append-nil, take-append-le, take-take, take_all, take_at, length-take-le}
+use Rattle.std.proofs.lemmas.List.{append-nil, take-append-drop, take-append-le, take-take, take_all, take_at, length-take-le}
 use Rattle.domain_core.specs.Domain.{Domain}
 use Rattle.cell_store.specs.Cells.{newest_of}
-use Rattle.token_store.specs.Tokens.{TokenList, TokenPast, tokens_now, LeavesPast}
+use Rattle.eu_name.specs.declared.name.TokenName.{TokenName}
+use Rattle.token_store.specs.Tokens.{TokenList, TokenPast, tokens_now, token_names, LeavesPast, NamesStay}
 use Rattle.constraint_net.specs.Marks.{IsMark, IsLatest, KeepMarks, Returns}
 use Rattle.constraint_net.specs.Networks.{Network, cells_of}
 use Rattle.constraint_net.specs.declared.constraint.Constraint.{Constraint}
@@ -12,18 +13,22 @@ use Rattle.plan_store.specs.declared.key.OpenBlock.{OpenBlock}
 use Rattle.plan_store.specs.declared.key.VarKey.{VarKey}
 use Rattle.plan_store.specs.declared.store.Mark.{Mark}
 use Rattle.plan_store.specs.declared.watchers.Watch.{Watch}
+use Rattle.plan_store.specs.Stamps.{FollowStamps, StampsGoOn}
 use Rattle.plan_store.specs.Stores.{Stored, Snapshot, snapshot_of, IsSnapshot}
 use Rattle.plan_store.specs.StoreMarks.{AreFirst, IsStoreMark, IsMarkBefore, CanGoBack, KeepStoreMarks, GoesBackTo}
+use Rattle.plan_store.proofs.Following.{NetGoesOn, net_same, goes_on_both, stamps_return, names_back}
 
 -- ---- going on
 
--- what was there is there in front, and marks of the network stay
+-- what was there is there in front, marks of the network stay, and its stamps follow the domains
 pub record GoesOn (old new : Stored) : Type 0 where
   pub past : (more : TokenPast) × (new.past ≡ more ++ old.past)
+  pub names : (more : List TokenName) × (token_names (tokens_now new.past) ≡ token_names (tokens_now old.past) ++ more)
   pub keys : (more : List VarKey) × (new.keys ≡ old.keys ++ more)
   pub blocks : (more : List OpenBlock) × (new.blocks ≡ old.blocks ++ more)
   pub watches : (more : List Watch) × (new.watches ≡ old.watches ++ more)
   pub net : KeepMarks old.net new.net
+  pub follow : NetGoesOn old.net new.net
   pub tables : new.net.tables ≡ old.net.tables
 
 first_on : {X : Type 0} (count : ℕ) (old new first : List X) → (more : List X) × (new ≡ old ++ more) → AreFirst count old first → AreFirst count new first
@@ -31,91 +36,111 @@ first_on count old new first on is =
     (omega (arith, is.0, ap length on.1, length-append old on.0), is.1 ∙ sym (ap (take count) on.1 ∙ take-append-le count old on.0 is.0))
 
 pub keeps_marks : (old new : Stored) → GoesOn old new → KeepStoreMarks old new
-keeps_marks old new on mark there is = record {
-  is = is.is;
-  tokens = (
-    on.past.0 ++ is.tokens.0,
-    is.tokens.1,
-    (
-      on.past.1 ∙ ap (λ list. on.past.0 ++ list) is.tokens.2.0 ∙ sym (append_assoc on.past.0 is.tokens.0 (there.tokens ∷ is.tokens.1)),
-      is.tokens.2.1,
-    ),
-  );
-  keys = first_on mark.variables old.keys new.keys there.keys on.keys is.keys;
-  blocks = first_on mark.blocks old.blocks new.blocks there.blocks on.blocks is.blocks;
-  watches = first_on mark.watches old.watches new.watches there.watches on.watches is.watches;
-  net = on.net mark.net there.domains there.posted is.net;
-  tables = is.tables ∙ sym on.tables;
+keeps_marks old new on = record {
+  marks = λ mark there is. record {
+    is = is.is;
+    tokens = (
+      on.past.0 ++ is.tokens.0,
+      is.tokens.1,
+      (
+        on.past.1 ∙ ap (λ list. on.past.0 ++ list) is.tokens.2.0 ∙ sym (append_assoc on.past.0 is.tokens.0 (there.tokens ∷ is.tokens.1)),
+        is.tokens.2.1,
+      ),
+    );
+    keys = first_on mark.variables old.keys new.keys there.keys on.keys is.keys;
+    blocks = first_on mark.blocks old.blocks new.blocks there.blocks on.blocks is.blocks;
+    watches = first_on mark.watches old.watches new.watches there.watches on.watches is.watches;
+    net = on.net mark.net there.domains there.posted is.net;
+    tables = is.tables ∙ sym on.tables;
+  };
+  stamps = λ former was. goes_on_both former old new was (record { names = on.names; keys = on.keys; count = on.follow.count; each = on.follow.each });
 }
 
 nothing_more : {X : Type 0} (list : List X) → (more : List X) × (list ≡ list ++ more)
 nothing_more list = ([], sym (append-nil list))
 
 pub keeps_same : (old new : Stored) → new ≡ old → KeepStoreMarks old new
-keeps_same old new same mark there is = subst (λ (stored : Stored). IsStoreMark stored mark there) (sym same) is
+keeps_same old new same = record {
+  marks = λ mark there is. subst (λ (stored : Stored). IsStoreMark stored mark there) (sym same) is;
+  stamps = λ former was. subst (StampsGoOn former) (sym same) was;
+}
 
-pub keeps_tokens : (old new : Stored) (tokens : TokenList) → new ≡ record old { past = tokens ∷ old.past } → KeepStoreMarks old new
-keeps_tokens old new tokens is = subst (KeepStoreMarks old) (sym is) (keeps_marks old (record old { past = tokens ∷ old.past }) (record {
+-- the tokens have the names that they had, and perhaps others behind them
+abbrev AreMore : TokenList → TokenList → Type 0
+AreMore tokens more = (names : List TokenName) × (token_names more ≡ token_names tokens ++ names)
+
+pub keeps_tokens : (old new : Stored) (tokens : TokenList) → AreMore (tokens_now old.past) tokens → new ≡ record old { past = tokens ∷ old.past } → KeepStoreMarks old new
+keeps_tokens old new tokens more is = subst (KeepStoreMarks old) (sym is) (keeps_marks old (record old { past = tokens ∷ old.past }) (record {
   past = (tokens ∷ [], refl);
+  names = more;
   keys = nothing_more old.keys;
   blocks = nothing_more old.blocks;
   watches = nothing_more old.watches;
   net = λ mark domains constraints m. m;
+  follow = net_same old.net;
   tables = refl;
 }))
 
-pub keeps_key : (old new : Stored) (key : VarKey) (net : Network) → KeepMarks old.net net → net.tables ≡ old.net.tables → new ≡ record old { keys = old.keys ++ key ∷ []; net = net } → KeepStoreMarks old new
-keeps_key old new key net keep tables is = subst (KeepStoreMarks old) (sym is) (keeps_marks old (record old { keys = old.keys ++ key ∷ []; net = net }) (record {
+pub keeps_key : (old new : Stored) (key : VarKey) (net : Network) → KeepMarks old.net net → NetGoesOn old.net net → net.tables ≡ old.net.tables → new ≡ record old { keys = old.keys ++ key ∷ []; net = net } → KeepStoreMarks old new
+keeps_key old new key net keep follow tables is = subst (KeepStoreMarks old) (sym is) (keeps_marks old (record old { keys = old.keys ++ key ∷ []; net = net }) (record {
   past = ([], refl);
+  names = nothing_more (token_names (tokens_now old.past));
   keys = (key ∷ [], refl);
   blocks = nothing_more old.blocks;
   watches = nothing_more old.watches;
   net = keep;
+  follow = follow;
   tables = tables;
 }))
 
 pub keeps_block : (old new : Stored) (block : OpenBlock) → new ≡ record old { blocks = old.blocks ++ block ∷ [] } → KeepStoreMarks old new
 keeps_block old new block is = subst (KeepStoreMarks old) (sym is) (keeps_marks old (record old { blocks = old.blocks ++ block ∷ [] }) (record {
   past = ([], refl);
+  names = nothing_more (token_names (tokens_now old.past));
   keys = nothing_more old.keys;
   blocks = (block ∷ [], refl);
   watches = nothing_more old.watches;
   net = λ mark domains constraints m. m;
+  follow = net_same old.net;
   tables = refl;
 }))
 
 pub keeps_watch : (old new : Stored) (watch : Watch) → new ≡ record old { watches = old.watches ++ watch ∷ [] } → KeepStoreMarks old new
 keeps_watch old new watch is = subst (KeepStoreMarks old) (sym is) (keeps_marks old (record old { watches = old.watches ++ watch ∷ [] }) (record {
   past = ([], refl);
+  names = nothing_more (token_names (tokens_now old.past));
   keys = nothing_more old.keys;
   blocks = nothing_more old.blocks;
   watches = (watch ∷ [], refl);
   net = λ mark domains constraints m. m;
+  follow = net_same old.net;
   tables = refl;
 }))
 
-pub keeps_net : (old new : Stored) → KeepMarks old.net new.net → new.net.tables ≡ old.net.tables → new ≡ record old { net = new.net } → KeepStoreMarks old new
-keeps_net old new keep tables is = subst (KeepStoreMarks old) (sym is) (keeps_marks old (record old { net = new.net }) (record {
+pub keeps_net : (old new : Stored) → KeepMarks old.net new.net → NetGoesOn old.net new.net → new.net.tables ≡ old.net.tables → new ≡ record old { net = new.net } → KeepStoreMarks old new
+keeps_net old new keep follow tables is = subst (KeepStoreMarks old) (sym is) (keeps_marks old (record old { net = new.net }) (record {
   past = ([], refl);
+  names = nothing_more (token_names (tokens_now old.past));
   keys = nothing_more old.keys;
   blocks = nothing_more old.blocks;
   watches = nothing_more old.watches;
   net = keep;
+  follow = follow;
   tables = tables;
 }))
 
 -- so it is with the store that is seen
 
-pub tokens_marks : (view old : Stored) (past : TokenPast) (tokens : TokenList) → view ≡ old → past ≡ tokens ∷ view.past → KeepStoreMarks old (record view { past = past })
-tokens_marks view old past tokens is more = subst (λ stored. KeepStoreMarks stored (record view { past = past })) is
-    (keeps_tokens view (record view { past = past }) tokens (ap (λ (p : TokenPast). record view { past = p }) more))
+pub tokens_marks : (view old : Stored) (past : TokenPast) (tokens : TokenList) → AreMore (tokens_now view.past) tokens → view ≡ old → past ≡ tokens ∷ view.past → KeepStoreMarks old (record view { past = past })
+tokens_marks view old past tokens names is more = subst (λ stored. KeepStoreMarks stored (record view { past = past })) is
+    (keeps_tokens view (record view { past = past }) tokens names (ap (λ (p : TokenPast). record view { past = p }) more))
 
 pub same_marks : (view old new : Stored) → view ≡ old → new ≡ view → KeepStoreMarks old new
 same_marks view old new is same = keeps_same old new (same ∙ is)
 
-pub key_marks : (view old : Stored) (key : VarKey) (keys : List VarKey) (net : Network) → view ≡ old → KeepMarks view.net net → net.tables ≡ view.net.tables → keys ≡ view.keys ++ key ∷ [] → KeepStoreMarks old (record view { keys = keys; net = net })
-key_marks view old key keys net is keep tables more = subst (λ stored. KeepStoreMarks stored (record view { keys = keys; net = net })) is
-    (keeps_key view (record view { keys = keys; net = net }) key net keep tables (ap (λ (k : List VarKey). record view { keys = k; net = net }) more))
+pub key_marks : (view old : Stored) (key : VarKey) (keys : List VarKey) (net : Network) → view ≡ old → KeepMarks view.net net → NetGoesOn view.net net → net.tables ≡ view.net.tables → keys ≡ view.keys ++ key ∷ [] → KeepStoreMarks old (record view { keys = keys; net = net })
+key_marks view old key keys net is keep follow tables more = subst (λ stored. KeepStoreMarks stored (record view { keys = keys; net = net })) is
+    (keeps_key view (record view { keys = keys; net = net }) key net keep follow tables (ap (λ (k : List VarKey). record view { keys = k; net = net }) more))
 
 pub block_marks : (view old : Stored) (block : OpenBlock) (blocks : List OpenBlock) → view ≡ old → blocks ≡ view.blocks ++ block ∷ [] → KeepStoreMarks old (record view { blocks = blocks })
 block_marks view old block blocks is more = subst (λ stored. KeepStoreMarks stored (record view { blocks = blocks })) is
@@ -125,8 +150,8 @@ pub watch_marks : (view old : Stored) (watch : Watch) (watches : List Watch) →
 watch_marks view old watch watches is more = subst (λ stored. KeepStoreMarks stored (record view { watches = watches })) is
     (keeps_watch view (record view { watches = watches }) watch (ap (λ (w : List Watch). record view { watches = w }) more))
 
-pub net_marks : (view old : Stored) (net : Network) → view ≡ old → KeepMarks view.net net → net.tables ≡ view.net.tables → KeepStoreMarks old (record view { net = net })
-net_marks view old net is keep tables = subst (λ stored. KeepStoreMarks stored (record view { net = net })) is (keeps_net view (record view { net = net }) keep tables refl)
+pub net_marks : (view old : Stored) (net : Network) → view ≡ old → KeepMarks view.net net → NetGoesOn view.net net → net.tables ≡ view.net.tables → KeepStoreMarks old (record view { net = net })
+net_marks view old net is keep follow tables = subst (λ stored. KeepStoreMarks stored (record view { net = net })) is (keeps_net view (record view { net = net }) keep follow tables refl)
 
 -- ---- marks
 
@@ -251,12 +276,25 @@ marks_left mark old new back can stay earlier there order is =
       tables = is.tables ∙ sym back.net.tables;
     }
 
-pub goes_back : (view seen new : Stored) (mark : Mark) → view ≡ seen → HasGoneBack mark view new → CanGoBack seen mark → NetMarksStay view.net new.net → GoesBackTo mark seen new
-goes_back view seen new mark same back can stay = subst (λ s. GoesBackTo mark s new) same (record {
-  again = again mark view new back;
-  marks = marks_left mark view new back (subst (λ s. CanGoBack s mark) (sym same) can) stay;
-  net = back.net;
-})
+-- so much was there in front
+left_front : {X : Type 0} (count : ℕ) (old new : List X) → new ≡ take count old → (more : List X) × (old ≡ new ++ more)
+left_front count old new is = (drop count old, sym (take-append-drop count old) ∙ ap (λ list. list ++ drop count old) (sym is))
+
+stamps_back : (mark : Mark) (old new : Stored) → HasGoneBack mark old new → CanGoBack old mark → NamesStay old.past → IsSnapshot (snapshot_of old) → FollowStamps old new
+stamps_back mark old new back can stay is =
+    stamps_return old new is (is_again mark old new back can.0 can.1) mark.net
+    (names_back mark.tokens old.past new.past back.past stay) (left_front mark.variables old.keys new.keys back.keys) back.net
+
+pub goes_back : (view seen new : Stored) (mark : Mark) → view ≡ seen → IsSnapshot (snapshot_of view) → NamesStay view.past → HasGoneBack mark view new → CanGoBack seen mark → NetMarksStay view.net new.net
+    → GoesBackTo mark seen new
+goes_back view seen new mark same is names back can_go stay =
+    let can = subst (λ s. CanGoBack s mark) (sym same) can_go in
+    subst (λ s. GoesBackTo mark s new) same (record {
+      again = again mark view new back;
+      marks = marks_left mark view new back can stay;
+      stamps = stamps_back mark view new back can names is;
+      net = back.net;
+    })
 
 pub sound_again : (view seen new : Stored) (mark : Mark) → view ≡ seen → HasGoneBack mark view new → CanGoBack seen mark → IsSnapshot (snapshot_of new)
 sound_again view seen new mark same back can_go =

@@ -1,7 +1,8 @@
 pub mod Equal
 pub mod Lists
 pub mod Snapshots
-pub mod Going
 pub mod Naming
+pub mod Following
+pub mod Going
 pub mod Steps
 pub mod Watched

@@ -142,13 +142,13 @@ map_same : {X Y : Type 0} (f g : X → Y) (xs : List X) → All (λ x. f x ≡ g
 map_same f g [] all = refl
 map_same f g (x ∷ xs) all = λ i. All-head (λ x. f x ≡ g x) x xs all i ∷ map_same f g xs (All-tail (λ x. f x ≡ g x) x xs all) i
 
-name_on : (names : List TokenName) (one : TokenName) (place : ℕ) → place < length names → name_at (names ++ one ∷ []) place ≡ name_at names place
-name_on names one place below = get_or_append_left names (one ∷ []) nameless place below
+name_on : (names more : List TokenName) (place : ℕ) → place < length names → name_at (names ++ more) place ≡ name_at names place
+name_on names more place below = get_or_append_left names more nameless place below
 
-variable_on : (names : List TokenName) (one : TokenName) (key : VarKey) → IsKeyBelow (length names) key → named_variable (names ++ one ∷ []) key ≡ named_variable names key
-variable_on names one (Global number) below = refl
-variable_on names one (Part place part) below = ap (λ token. name.Token token part) (name_on names one place below)
-variable_on names one (Local place rule number) below = ap (λ token. name.Local token rule number) (name_on names one place below)
+pub variable_on : (names more : List TokenName) (key : VarKey) → IsKeyBelow (length names) key → named_variable (names ++ more) key ≡ named_variable names key
+variable_on names more (Global number) below = refl
+variable_on names more (Part place part) below = ap (λ token. name.Token token part) (name_on names more place below)
+variable_on names more (Local place rule number) below = ap (λ token. name.Local token rule number) (name_on names more place below)
 
 pub token_is_added : TokenIsAdded
 token_is_added snapshot one pred is =
@@ -158,11 +158,11 @@ token_is_added snapshot one pred is =
     let blocks : map (named_block (names ++ one ∷ [])) snapshot.blocks ≡ map (named_block names) snapshot.blocks =
     map_same (named_block (names ++ one ∷ [])) (named_block names) snapshot.blocks
     (All-weaker (λ (block : OpenBlock). block.token < length snapshot.tokens) (λ (block : OpenBlock). named_block (names ++ one ∷ []) block ≡ named_block names block)
-    (λ block below. λ i. record { token = name_on names one block.token (omega (arith, below, long)) i; rule = block.rule; path = block.path }) snapshot.blocks is.of_tokens) in
+    (λ block below. λ i. record { token = name_on names (one ∷ []) block.token (omega (arith, below, long)) i; rule = block.rule; path = block.path }) snapshot.blocks is.of_tokens) in
     let keys : map (named_variable (names ++ one ∷ [])) snapshot.keys ≡ map (named_variable names) snapshot.keys =
     map_same (named_variable (names ++ one ∷ [])) (named_variable names) snapshot.keys
     (All-weaker (IsKeyBelow (length snapshot.tokens)) (λ (key : VarKey). named_variable (names ++ one ∷ []) key ≡ named_variable names key)
-    (λ key below. variable_on names one key (subst (λ n. IsKeyBelow n key) (sym long) below)) snapshot.keys is.placed) in
+    (λ key below. variable_on names (one ∷ []) key (subst (λ n. IsKeyBelow n key) (sym long) below)) snapshot.keys is.placed) in
     λ i. record {
       tokens = more i;
       blocks = let e : map (named_block (token_names (with_token snapshot.tokens one pred))) snapshot.blocks ≡ map (named_block names) snapshot.blocks =

@@ -1,23 +1,28 @@
 -- What the calls leave is a snapshot, and marks stay.
-use Rattle.std.proofs.Common.{◌≡◌, ℕ, List, [], ◌∷◌, ◌++◌, length, set, sym, ap, subst}
+use Rattle.std.proofs.Common.{◌≡◌, ℕ, List, [], ◌∷◌, ◌++◌, length, set, sym, ap, ◌∙◌, subst}
 use Rattle.std.specs.Prelude.{Contains, Result, Ok, Err, OnOk, OnErr}
 use Rattle.std.specs.declared.alloc.AllocError.{AllocError}
-use Rattle.std.proofs.lemmas.List.{length-set}
+use Rattle.std.proofs.lemmas.List.{append-nil, length-set}
 use Rattle.std.proofs.lemmas.List.Elements.{All-set}
 use Rattle.domain_core.specs.Domain.{Domain, IsDomain}
 use Rattle.domain_core.specs.declared.Change.{Change}
 use Rattle.eu_name.specs.declared.name.TokenName.{TokenName}
 use Rattle.model_core.specs.declared.view.TokenState.{TokenState}
-use Rattle.token_store.specs.Tokens.{TokenPast, tokens_now, with_token, with_state, AddsToken}
+use Rattle.narrow_core.specs.Laws.{LieWithin}
+use Rattle.token_store.specs.Tokens.{TokenPast, tokens_now, token_names, with_token, with_state, AddsToken}
 use Rattle.token_store.specs.declared.AddFault.{AddFault}
 use Rattle.token_store.specs.declared.AddFault.TheVariants.{Twice, Memory}
 use Rattle.constraint_net.specs.Calls.{AddsVar, Limits}
 use Rattle.constraint_net.specs.Networks.{Network}
+use Rattle.constraint_net.specs.Steps.{SettlesTo}
+use Rattle.constraint_net.specs.declared.NetFault.{NetFault}
+use Rattle.constraint_net.specs.declared.NetFault.TheVariants.{Collapsed}
+use Rattle.constraint_net.specs.declared.NetFault.TheVariants as fault
 use Rattle.plan_store.specs.declared.key.VarKey.{VarKey}
 use Rattle.plan_store.specs.Keys.{IsKeyBelow}
 use Rattle.plan_store.specs.Stores.{Stored, snapshot_of, IsSnapshot}
 use Rattle.plan_store.specs.StoreMarks.{KeepStoreMarks}
-use Rattle.plan_store.proofs.Snapshots.{with_a_token, with_a_state, with_a_variable, with_domains_posted}
+use Rattle.plan_store.proofs.Snapshots.{names_push, names_state, with_a_token, with_a_state, with_a_variable, with_domains_posted}
 use Rattle.plan_store.proofs.Going.{tokens_marks, same_marks}
 
 abbrev at_past : Stored → TokenPast → Stored
@@ -35,7 +40,7 @@ module _ (view old : Stored) (name : TokenName) (pred : ℕ) (past : TokenPast) 
   token_kept (Err Memory) adds is = subst (λ p. IsSnapshot (snapshot_of (at_past view p))) (sym adds.0) is
 
   pub token_marks : (result : Result ℕ AddFault) → AddsToken name pred view.past result past → KeepStoreMarks old (at_past view past)
-  token_marks (Ok place) adds = tokens_marks view old past (with_token (tokens_now view.past) name pred) seen adds.1.1
+  token_marks (Ok place) adds = tokens_marks view old past (with_token (tokens_now view.past) name pred) (name ∷ [], names_push (tokens_now view.past) name pred) seen adds.1.1
   token_marks (Err Twice) adds = same_marks view old (at_past view past) seen (ap (at_past view) adds.0)
   token_marks (Err Memory) adds = same_marks view old (at_past view past) seen (ap (at_past view) adds.0)
 
@@ -52,7 +57,9 @@ module _ (view old : Stored) (place : ℕ) (state : TokenState) (past : TokenPas
 
   pub state_marks : (result : Result (Unit {0}) AllocError) → OnOk result (past ≡ written) → OnErr result (past ≡ view.past)
       → KeepStoreMarks old (at_past view past)
-  state_marks (Ok done) ok err = tokens_marks view old past (with_state (tokens_now view.past) place state) seen ok
+  state_marks (Ok done) ok err =
+      tokens_marks view old past (with_state (tokens_now view.past) place state)
+      ([], names_state (tokens_now view.past) place state ∙ sym (append-nil (token_names (tokens_now view.past)))) seen ok
   state_marks (Err none) ok err = same_marks view old (at_past view past) seen (ap (at_past view) err)
 
 -- ---- variables and their domains
@@ -81,3 +88,9 @@ limit_kept view old variable to (Ok change) net seen limits is =
     subst (λ list. IsSnapshot (record (snapshot_of view) { domains = list; posted = net.constraints; tables = net.tables })) (sym at.others)
     (subst (λ list. IsSnapshot (record (snapshot_of view) { domains = domains; posted = list; tables = net.tables })) (sym limits.1.constraints) kept)
 limit_kept view old variable to (Err none) net seen limits is = subst (λ n. IsSnapshot (snapshot_of (at_net view n))) (sym limits) is
+
+-- whatever settling answers, it leaves domains within those that there were
+pub settled_within : (fits : List Domain → Type 0) (result : Result (Unit {0}) NetFault) (old new : List Domain) → SettlesTo fits old result new → LieWithin new old
+settled_within fits (Ok done) old new settles = settles.0.within
+settled_within fits (Err Collapsed) old new settles = settles.0.within
+settled_within fits (Err fault.Memory) old new settles = settles.within

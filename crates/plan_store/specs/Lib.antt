@@ -1,6 +1,7 @@
 pub mod Keys
 pub mod Stores
 pub mod Puts
+pub mod Stamps
 pub mod StoreMarks
 pub mod StoreLaws
 pub mod Watching

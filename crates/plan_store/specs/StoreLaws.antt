@@ -12,8 +12,9 @@ use Rattle.plan_store.specs.declared.key.VarKey.{VarKey}
 use Rattle.plan_store.specs.Keys.{named_variable, named_block}
 use Rattle.plan_store.specs.declared.store.Mark.{Mark}
 use Rattle.plan_store.specs.declared.watchers.Watch.{Watch}
-use Rattle.plan_store.specs.Stores.{Snapshot, IsSnapshot, named_content, blocks_watching}
-use Rattle.plan_store.specs.StoreMarks.{IsMarkBefore}
+use Rattle.plan_store.specs.Stores.{Stored, Snapshot, snapshot_of, IsSnapshot, named_content, blocks_watching}
+use Rattle.plan_store.specs.Stamps.{FollowStamps}
+use Rattle.plan_store.specs.StoreMarks.{IsMarkBefore, KeepStoreMarks}
 
 -- no token, no block and no variable is in the content twice, and each variable has a domain
 pub record HasEachOnce (content : Content) : Type 0 where
@@ -88,3 +89,9 @@ WatchersAreListed =
 pub record MarksAreInOrder : Type 0 where
   pub same : (mark : Mark) → IsMarkBefore mark mark
   pub through : (one other later : Mark) → IsMarkBefore one other → IsMarkBefore other later → IsMarkBefore one later
+
+-- where a store has gone on, stamps follow the domains
+abbrev pub StampsFollow : Type 0
+StampsFollow =
+    (old new : Stored) → IsSnapshot (snapshot_of old) → IsSnapshot (snapshot_of new)
+    → KeepStoreMarks old new → FollowStamps old new

@@ -3,6 +3,7 @@ use Rattle.std.specs.Prelude.{◌≡◌, ℕ, ◌≤◌, List, ◌∷◌, ◌++�
 use Rattle.token_store.specs.Tokens.{TokenPast}
 use Rattle.constraint_net.specs.Marks.{IsMark, Returns}
 use Rattle.plan_store.specs.declared.store.Mark.{Mark}
+use Rattle.plan_store.specs.Stamps.{FollowStamps, StampsGoOn}
 use Rattle.plan_store.specs.Stores.{Stored, Snapshot, snapshot_of, IsSnapshot}
 
 -- these are the first so many items of the list
@@ -23,9 +24,10 @@ pub record IsStoreMark (stored : Stored) (mark : Mark) (snapshot : Snapshot) : T
 abbrev pub CanGoBack : Stored → Mark → Type 0
 CanGoBack stored mark = (snapshot : Snapshot) × IsStoreMark stored mark snapshot
 
--- each mark stays one of the same
-abbrev pub KeepStoreMarks : Stored → Stored → Type 0
-KeepStoreMarks old new = (mark : Mark) (snapshot : Snapshot) → IsStoreMark old mark snapshot → IsStoreMark new mark snapshot
+-- each mark stays one of the same, and whatever store the stamps go on from, they still do
+pub record KeepStoreMarks (old new : Stored) : Type 0 where
+  pub marks : (mark : Mark) (snapshot : Snapshot) → IsStoreMark old mark snapshot → IsStoreMark new mark snapshot
+  pub stamps : (former : Stored) → StampsGoOn former old → StampsGoOn former new
 
 -- at the one mark there was no more than at the other
 pub record IsMarkBefore (earlier later : Mark) : Type 0 where
@@ -36,9 +38,11 @@ pub record IsMarkBefore (earlier later : Mark) : Type 0 where
   pub cells : earlier.net.cells ≤ later.net.cells
   pub constraints : earlier.net.constraints ≤ later.net.constraints
 
--- what there was at the mark is there again, earlier marks and this one stay, and of the network it is told how it went back
+-- what there was at the mark is there again, earlier marks and this one stay, stamps follow the domains, and of the network it
+-- is told how it went back
 pub record GoesBackTo (mark : Mark) (old new : Stored) : Type 0 where
   pub again : (there : Snapshot) → IsStoreMark old mark there → snapshot_of new ≡ there
   pub marks : (earlier : Mark) (there : Snapshot)
       → IsMarkBefore earlier mark → IsStoreMark old earlier there → IsStoreMark new earlier there
+  pub stamps : FollowStamps old new
   pub net : Returns mark.net old.net new.net

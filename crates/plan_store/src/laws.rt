@@ -3,7 +3,7 @@
 ghost use Rattle.eu_name.specs.Laws.{DecidesEquality};
 ghost use Rattle.plan_store.specs.StoreLaws.{NamesAreOnce, NamesHaveOneNumber, GivesByNumber};
 ghost use Rattle.plan_store.specs.StoreLaws.{TokenIsAdded, StatesAreLeftOut, BlockIsAdded, VariableIsAdded};
-ghost use Rattle.plan_store.specs.StoreLaws.{DomainsAreReplaced, WatchersAreListed, MarksAreInOrder};
+ghost use Rattle.plan_store.specs.StoreLaws.{DomainsAreReplaced, WatchersAreListed, MarksAreInOrder, StampsFollow};
 
 use super::key::{OpenBlock, VarKey};
 use eu_name::laws::{names_are_told_apart, sequences_are_told_apart};
@@ -42,4 +42,9 @@ pub fn watchers_are_listed()
 /// A law: a mark that comes before one comes before each later one.
 pub fn marks_are_in_order()
     ensures { MarksAreInOrder }
+{}
+
+/// A law: stamps follow the domains for as long as a store goes on.
+pub fn stamps_follow()
+    ensures { StampsFollow }
 {}

@@ -1,8 +1,8 @@
 //! The store.
 
 ghost use Rattle.std.specs.Prelude.{◌≡◌, ◌^◌, ◌<◌, ◌≤◌, [], ◌∷◌, ◌++◌, length, option_copied, slice_get};
-ghost use Rattle.std.specs.Prelude.{IfOk, OnOk, OnErr};
-ghost use Rattle.domain_core.specs.Domain.{IsDomain};
+ghost use Rattle.std.specs.Prelude.{Contains, IfOk, OnOk, OnErr, MatchOption};
+ghost use Rattle.domain_core.specs.Domain.{Domain, IsDomain};
 ghost use Rattle.eu_name.specs.Laws.{DecidesEquality};
 ghost use Rattle.token_store.specs.Tokens.{tokens_now, with_state};
 ghost use Rattle.constraint_net.specs.Calls.{IsAscending, table_of, AddsVar, Limits, Posts, GoesDown, TakesChanged};
@@ -11,6 +11,7 @@ ghost use Rattle.constraint_net.specs.Steps.{SettlesTo};
 ghost use Rattle.plan_store.specs.Keys.{IsKeyBelow};
 ghost use Rattle.plan_store.specs.Stores.{snapshot_of, IsSnapshot, blocks_watching, variable_names};
 ghost use Rattle.plan_store.specs.Puts.{FindsItem, PutsToken, PutsVariable, PutsBlock, ChangesNet};
+ghost use Rattle.plan_store.specs.Stamps.{HasStamp};
 ghost use Rattle.plan_store.specs.StoreMarks.{IsStoreMark, IsMarkBefore, CanGoBack, KeepStoreMarks, GoesBackTo};
 ghost use Rattle.plan_store.specs.Finding.{FindsKey, AddsKey};
 
@@ -22,6 +23,7 @@ use constraint_net::laws::marks_stay;
 use constraint_net::{Mark as NetMark, Net, NetArg, NetFault};
 use domain_core::Change;
 use domain_core::domain::Dom;
+use domain_core::laws::within_is_an_order;
 use eu_name::name::{TokenName, VarName};
 use indexmap::IndexSet;
 use model_core::item::Kind;
@@ -167,6 +169,17 @@ impl Store {
         self.find_variable(key)
     }
 
+    /// How often the domain of the variable of this name was written; the number stays at the greatest. None where there is no
+    /// such variable.
+    pub fn stamp(&self, name: &VarName) -> Option<u64>
+        ensures { MatchOption result
+            (Contains (variable_names (snapshot_of self.now)) name.now → ⊥)
+            (λ stamp. (domain : Domain) × HasStamp self.now name.now domain stamp) }
+    {
+        let number = self.find_named(name)?;
+        self.net.stamp(number)
+    }
+
     /// The key of the variable of this number. None where there is no such variable.
     pub fn key_at(&self, number: usize) -> Option<VarKey>
         ensures { result ≡ slice_get self.now.keys number }
@@ -272,6 +285,7 @@ impl Store {
         ensures marks { KeepStoreMarks self.old self.new }
     {
         marks_stay();
+        within_is_an_order();
         self.net.settle_all()
     }
 
@@ -305,6 +319,7 @@ impl Store {
         ensures { GoesBackTo mark self.old self.new }
     {
         marks_stay();
+        self.tokens.names_stay();
         self.tokens.back_to(mark.tokens);
         self.variables.truncate(mark.variables);
         self.blocks.truncate(mark.blocks);

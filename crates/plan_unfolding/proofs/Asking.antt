@@ -40,6 +40,7 @@ use Rattle.plan_opening.proofs.Opening.{named_at}
 use Rattle.plan_unfolding.specs.Reading.{block_named, AreOpenEntries}
 use Rattle.plan_unfolding.specs.Unfolding.{slot_tokens, AskForTokens, AreAllKnown}
 use Rattle.plan_unfolding.proofs.Adding.{Adds, adds_nothing, adds_both, content_adds, further_on, goes_there}
+use Rattle.plan_posting.proofs.Storing.{marks_same, marks_both}
 
 -- ---- slots by their numbers
 
@@ -173,7 +174,7 @@ module _ (model : Model) where
     there = All-nil (Contains (token_names (tokens_now stored.past)));
     adds = adds_nothing stored;
     preds = preds;
-    marks = λ mark snapshot is. is;
+    marks = marks_same _;
   }
 
   module _ (names : List TokenName) (count : ℕ) (d : TokenName) (below : count < length names) (old mid new : Stored) (sound : IsSnapshot (snapshot_of old)) (middle : IsSnapshot (snapshot_of mid))
@@ -200,5 +201,5 @@ module _ (model : Model) where
           (λ token was. goes_there (content_now mid).tokens (content_now new).tokens (content_adds mid new middle adds).tokens token was) (take count names) so_far.there) there);
       adds = adds_both old mid new so_far.adds adds;
       preds = preds;
-      marks = λ mark snapshot was. marks mark snapshot (so_far.marks mark snapshot was);
+      marks = marks_both _ _ _ so_far.marks marks;
     }

@@ -68,6 +68,7 @@ use Rattle.plan_unfolding.specs.Branches.{StaysOnWay, IsSideOpen, FollowsBranch,
 use Rattle.plan_unfolding.specs.Guards.{OpensOnly}
 use Rattle.plan_unfolding.specs.Reading.{block_named, AreOpenEntries, CanRead, CanReadAt}
 use Rattle.plan_unfolding.proofs.Adding.{Adds, adds_nothing, adds_both, content_adds, block_stays, further_on, term_on, goes_there, opens_back}
+use Rattle.plan_posting.proofs.Storing.{marks_same, marks_both}
 
 -- ---- on the way
 
@@ -302,7 +303,7 @@ looked_none model block entries stored = record {
   followed = first_none model (block_named stored block) entries stored;
   tokens = refl;
   adds = adds_nothing stored;
-  marks = λ mark snapshot is. is;
+  marks = marks_same _;
 }
 
 entry_branch : (entries : List Entry) (k : ℕ) (guard : Guard) (then otherwise : Entries) → slice_get entries k ≡ Some (entry.Branch guard then otherwise)
@@ -359,7 +360,7 @@ module _ (model : Model) (block : OpenBlock) (entries : List Entry) (old mid new
         subst (λ (g : Guard). FollowsBranch model (block_named mid block) place g mid new) same follows);
     tokens = past ∙ so_far.tokens;
     adds = adds_both old mid new so_far.adds adds;
-    marks = λ mark snapshot was. marks mark snapshot (so_far.marks mark snapshot was);
+    marks = marks_both _ _ _ so_far.marks marks;
   }
 
 -- what was there can be read further on

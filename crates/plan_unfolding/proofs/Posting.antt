@@ -49,7 +49,7 @@ use Rattle.plan_posting.proofs.Allowing.{lawful_items_can_be_posted}
 use Rattle.plan_posting.proofs.Meaning.{meant}
 use Rattle.plan_posting.proofs.Present.{what_is_there_is_named}
 use Rattle.plan_posting.proofs.Said.{posts_nothing, posts_same, posts_both}
-use Rattle.plan_posting.proofs.Storing.{only_both}
+use Rattle.plan_posting.proofs.Storing.{only_both, marks_same, marks_both}
 use Rattle.plan_opening.specs.Underway.{IsWatched}
 use Rattle.plan_opening.proofs.Opening.{name_there}
 use Rattle.plan_unfolding.specs.Reading.{block_named, CanRead, IsGuardNamed, AreGuardsNamed}
@@ -133,7 +133,7 @@ posted_none model block entries stored = record {
   posted = λ decisions states. posts_nothing (content_now stored).names (FirstSay model decisions (block_named stored block) entries 0) stored.net.constraints
       (λ claim says. absurd (let below = says.1 in omega (arith, below)));
   only = refl;
-  marks = λ mark snapshot is. is;
+  marks = marks_same _;
 }
 
 pub content_same : (old new : Stored) → OnlyPosts old new → content_now new ≡ content_now old
@@ -202,7 +202,7 @@ module _ (model : Model) (block : OpenBlock) (entries : List Entry) (place : ℕ
             ])
             (posts_both (content_now old).names First This old.net.constraints mid.net.constraints new.net.constraints (so_far.posted decisions states) (moved decisions states));
         only = only_both old mid new so_far.only only;
-        marks = λ mark snapshot was. marks mark snapshot (so_far.marks mark snapshot was);
+        marks = marks_both _ _ _ so_far.marks marks;
       }
 
 -- all entries have been gone through
@@ -338,7 +338,7 @@ pub watched_none : (number : ℕ) (block : TokenBlock) (entries : Entries) (stor
 watched_none number block entries stored = record {
   watched = λ place guard then otherwise below stands. absurd (omega (arith, below));
   only = watches_nothing stored;
-  marks = λ mark snapshot is. is;
+  marks = marks_same _;
 }
 
 module _ (number : ℕ) (block : TokenBlock) (entries : List Entry) (place : ℕ) (read : Entry) (below : place < length entries) (is : read ≡ get_or entries place read)
@@ -371,7 +371,7 @@ module _ (number : ℕ) (block : TokenBlock) (entries : List Entry) (place : ℕ
           subst (IsGuardWatched new number (InRule block.token block.rule)) alike watched)
     ];
     only = watches_both old mid new so_far.only only;
-    marks = λ mark snapshot was. marks mark snapshot (so_far.marks mark snapshot was);
+    marks = marks_both _ _ _ so_far.marks marks;
   }
 
 pub watched_all : (number : ℕ) (block : TokenBlock) (entries : List Entry) (count : ℕ) (old new : Stored) → length entries ≤ count → WatchedTo number block (plain_entries entries) count old new

@@ -1,6 +1,6 @@
 -- The tokens along the trail.
-use Rattle.std.proofs.Common.{◌≡◌, ℕ, zero, suc, ◌+◌, ◌-◌, List, [], ◌∷◌, ◌++◌, length, map, take, slice_get, Option, Some, refl, sym, ap, ◌∙◌, subst, reverse, arith, length-append, append_assoc}
-use Rattle.std.proofs.lemmas.List.{reverse-append, length-reverse, length-map}
+use Rattle.std.proofs.Common.{◌≡◌, ℕ, zero, suc, ◌+◌, ◌-◌, List, [], ◌∷◌, ◌++◌, length, map, take, drop, slice_get, Option, Some, refl, sym, ap, ◌∙◌, subst, reverse, arith, length-append, append_assoc}
+use Rattle.std.proofs.lemmas.List.{reverse-append, length-reverse, length-map, map-append, append-nil, take-append-drop}
 use Rattle.std.proofs.Math.Seq.{take-append_seam}
 use Rattle.std.proofs.lemmas.Option.{slice_get-map}
 use Rattle.std.specs.Option.{option_map}
@@ -10,8 +10,8 @@ use Rattle.eu_name.specs.declared.name.TokenName.{TokenName}
 use Rattle.model_core.specs.declared.view.TokenState.{TokenState}
 use Rattle.token_store.specs.declared.trail.Token.{Token}
 use Rattle.token_store.specs.declared.trail.Edit.{Edit}
-use Rattle.token_store.specs.declared.trail.Edit.TheVariants.{Added}
-use Rattle.token_store.specs.Tokens.{TokenList, TokenPast, tokens_now, token_names, with_state, LeavesPast}
+use Rattle.token_store.specs.declared.trail.Edit.TheVariants.{Added, Was}
+use Rattle.token_store.specs.Tokens.{TokenList, TokenPast, tokens_now, token_names, with_state, LeavesPast, NamesStay}
 use Rattle.token_store.specs.Kept.{before, token_past, CanLead, IsTokenTrail}
 
 pub now-past : (tokens : TokenList) (trail : List Edit) → tokens_now (token_past tokens trail) ≡ tokens
@@ -44,6 +44,33 @@ pub names-with_state : (tokens : TokenList) (place : ℕ) (state : TokenState) �
 names-with_state [] place state = refl
 names-with_state (token ∷ tokens) zero state = refl
 names-with_state (token ∷ tokens) (suc place) state = ap (λ names. token.0 ∷ names) (names-with_state tokens place state)
+
+-- ---- names
+
+named_before : (edit : Edit) (tokens : TokenList) → (more : List TokenName) × (token_names tokens ≡ token_names (before edit tokens) ++ more)
+named_before Added tokens =
+    let front = take (length tokens - 1) tokens in
+    let behind = drop (length tokens - 1) tokens in
+    (token_names behind, ap token_names (sym (take-append-drop (length tokens - 1) tokens)) ∙ map-append (λ (token : TokenName × Token). token.0) front behind)
+named_before (Was place state) tokens = ([], sym (names-with_state tokens place state) ∙ sym (append-nil (token_names (with_state tokens place state))))
+
+-- whatever is further back has names that stand in front
+named_past : (tokens : TokenList) (trail : List Edit) (newer older : TokenPast) (there : TokenList) → token_past tokens trail ≡ newer ++ there ∷ older
+    → (more : List TokenName) × (token_names tokens ≡ token_names there ++ more)
+named_past tokens trail [] older there is =
+    ([], ap token_names (sym (now-past tokens trail) ∙ ap tokens_now is) ∙ sym (append-nil (token_names there)))
+named_past tokens [] (list ∷ newer) older there is = absurd (omega (arith, ap length is, length-append newer (there ∷ older)))
+named_past tokens (edit ∷ trail) (list ∷ newer) older there is =
+    let rest = named_past (before edit tokens) trail newer older there (ap (drop 1) is) in
+    let last = named_before edit tokens in
+    (rest.0 ++ last.0, last.1 ∙ ap (λ names. names ++ last.0) rest.1 ∙ append_assoc (token_names there) rest.0 last.0)
+
+pub names_stay : (tokens : TokenList) (trail : List Edit) (view : TokenPast) → token_past tokens trail ≡ view → NamesStay view
+names_stay tokens trail view is = subst NamesStay is (λ newer older there at.
+    let named = named_past tokens trail newer older there at in
+    (named.0, ap token_names (now-past tokens trail) ∙ named.1))
+
+-- ---- states
 
 value_of : (one other : Token) → Some one ≡ Some other → one ≡ other
 value_of one other same = cc

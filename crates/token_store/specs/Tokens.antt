@@ -68,3 +68,9 @@ pub record LeavesPast (place : ℕ) (old new : TokenPast) : Type 0 where
   pub newer : TokenPast
   pub past : old ≡ newer ++ new
   pub count : length new ≡ place + 1
+
+-- the names of a list that can be gone back to stand in front of those of the present one
+abbrev pub NamesStay : TokenPast → Type 0
+NamesStay past =
+    (newer older : TokenPast) (tokens : TokenList) → past ≡ newer ++ tokens ∷ older
+    → (more : List TokenName) × (token_names (tokens_now past) ≡ token_names tokens ++ more)

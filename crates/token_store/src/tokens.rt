@@ -2,7 +2,7 @@
 
 ghost use Rattle.std.specs.Prelude.{◌≡◌, ◌+◌, ◌^◌, ◌<◌, ◌≤◌, [], ◌∷◌, length, option_copied, slice_get, MatchOption, IfOk, IfSome, OnOk, OnErr, vec_len, vec_capacity};
 ghost use Rattle.indexmap.specs.IndexMap.{spare};
-ghost use Rattle.token_store.specs.Tokens.{tokens_now, token_names, token_preds, token_states, IsNewName, FindsToken, AddsToken, LeavesPast, with_state, with_token};
+ghost use Rattle.token_store.specs.Tokens.{tokens_now, token_names, token_preds, token_states, IsNewName, FindsToken, AddsToken, LeavesPast, NamesStay, with_state, with_token};
 ghost use Rattle.token_store.specs.Orders.{HasRank, AreChildren};
 ghost use Rattle.token_store.specs.Kept.{numbers_of};
 ghost use Rattle.token_store.specs.Pieces.{with_child};
@@ -108,6 +108,13 @@ impl Tokens {
         };
         put_token(&mut self.tokens, name, token);
         Ok(place)
+    }
+
+    /// A law of all tokens: a token keeps its place for as long as it is there.
+    pub fn names_stay(&self)
+        ensures { NamesStay self.now }
+    {
+        let _ = &self.trail;
     }
 
     /// How many tokens there are.

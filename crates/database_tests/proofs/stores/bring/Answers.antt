@@ -1,5 +1,9 @@
 use Rattle.database_tests.proofs.stores.bring.Goals as goal
 
 pub returns : goal.returns
-returns c = λ mark there is.
-    c.add_block-block.ensures mark there (c.add_start-start.ensures mark there (c.add_token-token.ensures mark there is))
+returns c = record {
+  marks = λ mark there is.
+      c.add_block-block.ensures.marks mark there (c.add_start-start.ensures.marks mark there (c.add_token-token.ensures.marks mark there is));
+  stamps = λ former on.
+      c.add_block-block.ensures.stamps former (c.add_start-start.ensures.stamps former (c.add_token-token.ensures.stamps former on));
+}

@@ -5,4 +5,4 @@ pub back_to-requires : goal.back_to-requires
 back_to-requires c =
     let mark = c.mark-mark.result in
     let there = snapshot_of c.args.store.now in
-    (there, c.act-done.ensures mark there (c.bring-come.ensures mark there (c.ask_again-again.ensures mark there c.mark-mark.ensures.is)))
+    (there, c.act-done.ensures.marks mark there (c.bring-come.ensures.marks mark there (c.ask_again-again.ensures.marks mark there c.mark-mark.ensures.is)))

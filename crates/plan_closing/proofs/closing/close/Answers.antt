@@ -2,6 +2,7 @@ use Rattle.std.proofs.Common.{sym, subst}
 use Rattle.std.proofs.lemmas.Result.{err_from_is_err_and}
 use Rattle.plan_posting.specs.Tables.{HaveTables}
 use Rattle.plan_closing.proofs.Resting.{close_fails, close_way, closes_on}
+use Rattle.plan_posting.proofs.Storing.{marks_both}
 use Rattle.plan_closing.proofs.closing.close.Goals as goal
 
 pub look_at_all-requires-clause-way : goal.look_at_all-requires-clause-way
@@ -27,3 +28,7 @@ pub returns-clause-closes : goal.returns-clause-closes
 returns-clause-closes c =
     closes_on c.args.model.now c.args.unfolded c.args.due.now c.args.store.now c.look_at_all.new.store c.in_ok-look_at_all.ensures.looks c.in_ok-look_at_all.ensures.changed
     c.run.new.store c.run.result c.run.ensures.runs
+
+pub returns-clause-marks : goal.returns-clause-marks
+returns-clause-marks c =
+    marks_both c.args.store.now c.look_at_all.new.store c.run.new.store c.in_ok-look_at_all.ensures.marks c.run.ensures.marks

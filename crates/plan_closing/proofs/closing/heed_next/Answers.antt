@@ -1,6 +1,7 @@
 use Rattle.std.proofs.Common.{◌∙◌}
 use Rattle.std.proofs.lemmas.Result.{err_from_is_err_and}
 use Rattle.plan_closing.proofs.Resting.{taken_way, taken_tables, heeds_some, heeds_fails, heeds_none}
+use Rattle.plan_posting.proofs.Storing.{marks_both}
 use Rattle.plan_closing.proofs.closing.heed_next.Goals as goal
 
 pub look_at-requires-clause-way : goal.look_at-requires-clause-way
@@ -32,3 +33,11 @@ returns-clause-tables c =
 pub returns-in_default-clause-heeds : goal.returns-in_default-clause-heeds
 returns-in_default-clause-heeds c =
     heeds_none c.args.model.now c.args.unfolded c.args.store.now c.next_changed.new.self c.next_changed.ensures.others c.in_default.ensures.taken
+
+pub returns-in_err-look_at-clause-marks : goal.returns-in_err-look_at-clause-marks
+returns-in_err-look_at-clause-marks c =
+    marks_both c.args.store.now c.next_changed.new.self c.look_at.new.store c.next_changed.ensures.marks c.in_err-look_at.ensures.marks
+
+pub returns-clause-marks : goal.returns-clause-marks
+returns-clause-marks c =
+    marks_both c.args.store.now c.next_changed.new.self c.look_at.new.store c.next_changed.ensures.marks c.in_ok-look_at.ensures.marks

@@ -2,10 +2,11 @@ use Rattle.std.proofs.Common.{refl, slice_index_or, ◌∙◌}
 use Rattle.std.proofs.lemmas.List.{drop_all}
 use Rattle.std.proofs.lemmas.Result.{err_from_is_err_and}
 use Rattle.plan_closing.proofs.Resting.{looked_way, looked_more, looked_fails, looked_all}
+use Rattle.plan_posting.proofs.Storing.{marks_same, marks_both}
 use Rattle.plan_closing.proofs.closing.look_at_all.Goals as goal
 
 pub loop-variable-init : goal.loop-variable-init
-loop-variable-init c = record { looked = λ decisions waiting way. way; tables = refl; changed = refl; marks = λ mark snapshot is. is }
+loop-variable-init c = record { looked = λ decisions waiting way. way; tables = refl; changed = refl; marks = marks_same _ }
 
 pub look_at-requires-clause-way : goal.look_at-requires-clause-way
 look_at-requires-clause-way c =
@@ -27,10 +28,14 @@ loop-variable-preserved c =
           (slice_index_or c.args.due.now c.loop-variable.variable-index 0) c.loop-variable-test.true refl c.look_at.new.store step.looks;
       tables = step.tables ∙ before.tables;
       changed = step.changed ∙ before.changed;
-      marks = λ mark snapshot is. step.marks mark snapshot (before.marks mark snapshot is);
+      marks = marks_both _ _ _ before.marks step.marks;
     }
 
 pub returns-clause-looks : goal.returns-clause-looks
 returns-clause-looks c =
     looked_all c.args.model.now c.args.unfolded c.args.due.now c.loop-variable.variable-index c.args.store.now c.loop-variable.store c.loop-variable.invariant.looked
     (drop_all c.loop-variable.variable-index c.args.due.now c.loop-variable-test.false)
+
+pub returns-in_err-look_at-clause-marks : goal.returns-in_err-look_at-clause-marks
+returns-in_err-look_at-clause-marks c =
+    marks_both c.args.store.now c.loop-variable.store c.look_at.new.store c.loop-variable.invariant.marks c.in_err-look_at.ensures.marks

@@ -3,10 +3,11 @@ use Rattle.std.proofs.lemmas.Result.{err_from_is_err_and}
 use Rattle.plan_posting.specs.Tables.{HaveTables}
 use Rattle.plan_closing.specs.Closing.{StepLeaves}
 use Rattle.plan_closing.proofs.Resting.{run_fails, run_ends}
+use Rattle.plan_posting.proofs.Storing.{marks_same, marks_both}
 use Rattle.plan_closing.proofs.closing.run.Goals as goal
 
 pub loop-round-init : goal.loop-round-init
-loop-round-init c = record { on = λ decisions way. way; tables = refl; marks = λ mark snapshot is. is }
+loop-round-init c = record { on = λ decisions way. way; tables = refl; marks = marks_same _ }
 
 pub take_step-requires-clause-tables : goal.take_step-requires-clause-tables
 take_step-requires-clause-tables c = subst (HaveTables c.args.model.now) (sym c.loop-round.invariant.tables) c.requires.tables
@@ -31,5 +32,13 @@ loop-round-preserved c =
     record {
       on = λ decisions way. subst (λ next. StepLeaves c.args.model.now decisions next c.take_step.new.store) c.in-On.is (taken.steps decisions (c.loop-round.invariant.on decisions way));
       tables = taken.tables ∙ c.loop-round.invariant.tables;
-      marks = λ mark snapshot is. taken.marks mark snapshot (c.loop-round.invariant.marks mark snapshot is);
+      marks = marks_both _ _ _ c.loop-round.invariant.marks taken.marks;
     }
+
+pub returns-in_err-next-clause-marks : goal.returns-in_err-next-clause-marks
+returns-in_err-next-clause-marks c =
+    marks_both c.args.store.now c.loop-round.store c.take_step.new.store c.loop-round.invariant.marks c.in_err-next.ensures.marks
+
+pub returns-in_default-clause-marks : goal.returns-in_default-clause-marks
+returns-in_default-clause-marks c =
+    marks_both c.args.store.now c.loop-round.store c.take_step.new.store c.loop-round.invariant.marks c.in_ok-next.ensures.marks

@@ -1,5 +1,6 @@
 use Rattle.std.proofs.lemmas.Result.{err_from_is_err_and}
 use Rattle.plan_closing.proofs.Resting.{settle_fails, settled_way, behind_fails, behind_on, behind_rest}
+use Rattle.plan_posting.proofs.Storing.{marks_both}
 use Rattle.plan_closing.proofs.closing.settle.Goals as goal
 
 pub returns-in_err-settle-clause-steps : goal.returns-in_err-settle-clause-steps
@@ -31,3 +32,11 @@ pub returns-clause-steps : goal.returns-clause-steps
 returns-clause-steps c =
     behind_rest c.args.model.now c.args.unfolded c.args.store.now c.settle.new.self c.settle.ensures.others c.settle.ensures.down c.in_ok-settle.ensures.settled
     c.requires.all c.heed_next.new.store c.in_ok-heeded.heeded c.if-heeded.false c.in_ok-heeded.ensures.heeds
+
+pub returns-in_err-heeded-clause-marks : goal.returns-in_err-heeded-clause-marks
+returns-in_err-heeded-clause-marks c =
+    marks_both c.args.store.now c.settle.new.self c.heed_next.new.store c.settle.ensures.marks c.in_err-heeded.ensures.marks
+
+pub returns-then-heeded-clause-marks : goal.returns-then-heeded-clause-marks
+returns-then-heeded-clause-marks c =
+    marks_both c.args.store.now c.settle.new.self c.heed_next.new.store c.settle.ensures.marks c.in_ok-heeded.ensures.marks

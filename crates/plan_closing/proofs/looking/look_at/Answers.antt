@@ -2,6 +2,7 @@ use Rattle.std.proofs.Common.{ap, ◌∙◌}
 use Rattle.std.proofs.lemmas.Result.{err_from_is_err_and}
 use Rattle.plan_store.specs.Stores.{Stored}
 use Rattle.plan_closing.proofs.Heeding.{keep_way, look_fails, looked}
+use Rattle.plan_posting.proofs.Storing.{marks_both}
 use Rattle.plan_closing.proofs.looking.look_at.Goals as goal
 
 pub returns-in_err-look_at_watchers-clause-looks : goal.returns-in_err-look_at_watchers-clause-looks
@@ -28,3 +29,11 @@ returns-clause-tables c = ap (λ (stored : Stored). stored.net.tables) c.in_ok-l
 
 pub returns-clause-changed : goal.returns-clause-changed
 returns-clause-changed c = ap (λ (stored : Stored). stored.net.changed) c.in_ok-look_at_owner.ensures.only ∙ c.in_ok-look_at_watchers.ensures.adds.changed
+
+pub returns-in_err-look_at_owner-clause-marks : goal.returns-in_err-look_at_owner-clause-marks
+returns-in_err-look_at_owner-clause-marks c =
+    marks_both c.args.store.now c.look_at_watchers.new.store c.look_at_owner.new.store c.in_ok-look_at_watchers.ensures.marks c.in_err-look_at_owner.ensures.marks
+
+pub returns-clause-marks : goal.returns-clause-marks
+returns-clause-marks c =
+    marks_both c.args.store.now c.look_at_watchers.new.store c.look_at_owner.new.store c.in_ok-look_at_watchers.ensures.marks c.in_ok-look_at_owner.ensures.marks

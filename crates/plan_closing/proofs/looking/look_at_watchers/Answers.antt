@@ -1,6 +1,7 @@
 use Rattle.std.proofs.Common.{length, Err, ap, arith}
 use Rattle.std.proofs.lemmas.Result.{err_from_is_err_and}
 use Rattle.plan_closing.proofs.Heeding.{keep_way, watcher_at, heeded_none, heeded_more, heeded_fails}
+use Rattle.plan_posting.proofs.Storing.{marks_both}
 use Rattle.plan_closing.proofs.looking.look_at_watchers.Goals as goal
 
 pub loop-place-init : goal.loop-place-init
@@ -42,3 +43,7 @@ pub returns-clause-followed : goal.returns-clause-followed
 returns-clause-followed c = λ decisions due heeded place number under below at within.
     c.loop-place.invariant.heeded.followed decisions due heeded place number under
     (omega (arith, below, c.loop-place-test.false, ap length c.watchers_of-count.ensures)) at within
+
+pub returns-in_err-look_at_block-clause-marks : goal.returns-in_err-look_at_block-clause-marks
+returns-in_err-look_at_block-clause-marks c =
+    marks_both c.args.store.now c.loop-place.store c.look_at_block.new.store c.loop-place.invariant.heeded.marks c.in_err-look_at_block.ensures.marks

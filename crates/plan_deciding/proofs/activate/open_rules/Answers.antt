@@ -10,7 +10,7 @@ use Rattle.plan_growth.specs.Growth.{block_at}
 use Rattle.plan_opening.specs.Opened.{AskForBlock}
 use Rattle.plan_opening.specs.Wanted.{ArePreds}
 use Rattle.plan_posting.specs.Origins.{content_now}
-use Rattle.plan_posting.proofs.Storing.{marks_both}
+use Rattle.plan_posting.proofs.Storing.{marks_both, marks_same}
 use Rattle.plan_store.specs.Keys.{named_block}
 use Rattle.plan_deciding.proofs.Opened.{adds_same, adds_through, stays_on, next_asked, opened_block, block_stays, opened_there, rule_more}
 use Rattle.plan_deciding.proofs.activate.open_rules.Goals as goal
@@ -21,7 +21,7 @@ loop-rule-init c = record {
   opens = λ rule below. absurd (omega (arith, below));
   past = refl;
   adds = adds_same c.args.store.now;
-  marks = λ mark snapshot is. is;
+  marks = marks_same _;
 }
 
 pub open-requires-clause-preds : goal.open-requires-clause-preds

@@ -1,7 +1,7 @@
 use Rattle.std.proofs.Common.{◌≡◌, ℕ, ◌+◌, length, refl, ap, subst, arith}
 use Rattle.plan_store.specs.Stores.{Stored}
 use Rattle.plan_posting.specs.Origins.{content_now}
-use Rattle.plan_posting.proofs.Storing.{only_both, marks_both}
+use Rattle.plan_posting.proofs.Storing.{only_both, marks_both, marks_same}
 use Rattle.plan_deciding.specs.RootItems.{SaysInBlocks, PostsSaid}
 use Rattle.plan_deciding.proofs.Saying.{said_in_none, said_in_more, can_kept, can_fewer}
 use Rattle.plan_deciding.proofs.begun.post_in_blocks.Goals as goal
@@ -10,7 +10,7 @@ pub loop-number-init : goal.loop-number-init
 loop-number-init c = record {
   posted = said_in_none c.args.model.now c.args.root (content_now c.args.store.now) c.args.store.now;
   only = refl;
-  marks = λ mark snapshot is. is;
+  marks = marks_same _;
 }
 
 pub post_in_block-requires-clause-number : goal.post_in_block-requires-clause-number

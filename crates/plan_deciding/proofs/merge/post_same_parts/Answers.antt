@@ -5,7 +5,7 @@ use Rattle.plan_defs.specs.Claims.{equal}
 use Rattle.plan_store.specs.Stores.{Stored}
 use Rattle.plan_posting.specs.Origins.{content_now, argument_named}
 use Rattle.plan_posting.specs.Posted.{PostsClaims}
-use Rattle.plan_posting.proofs.Storing.{only_both, marks_both}
+use Rattle.plan_posting.proofs.Storing.{only_both, marks_both, marks_same}
 use Rattle.plan_deciding.proofs.Sharing.{part_kept, no_part, part_more}
 use Rattle.plan_deciding.proofs.merge.post_same_parts.Goals as goal
 
@@ -13,7 +13,7 @@ pub loop-part-init : goal.loop-part-init
 loop-part-init c = record {
   posted = (let content = content_now c.args.store.now in no_part content.names content.tokens c.args.one c.args.other c.args.store.now.net.constraints);
   only = refl;
-  marks = λ mark snapshot is. is;
+  marks = marks_same _;
 }
 
 pub post_equal-requires-clause-one : goal.post_equal-requires-clause-one

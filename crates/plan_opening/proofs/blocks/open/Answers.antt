@@ -1,5 +1,5 @@
 use Rattle.plan_store.proofs.Lists.{found_there}
-use Rattle.plan_opening.proofs.Opening.{opened_stays, opened_there}
+use Rattle.plan_opening.proofs.Opening.{opened_stays, opened_there, opened_adds}
 use Rattle.plan_opening.proofs.blocks.open.Goals as goal
 
 pub returns-then-is_some-clause-open : goal.returns-then-is_some-clause-open
@@ -13,3 +13,7 @@ returns-clause-underway c =
 pub returns-clause-open : goal.returns-clause-open
 returns-clause-open c =
     opened_there c.args.model.now c.requires.lawful c.args.block c.args.store.now c.open_new-opened.new.store c.is_sound-2.ensures c.open_new-opened.result c.open_new-opened.ensures.opens
+
+pub returns-clause-adds : goal.returns-clause-adds
+returns-clause-adds c =
+    opened_adds c.args.model.now c.requires.lawful c.args.block c.args.store.now c.open_new-opened.new.store c.is_sound-2.ensures c.open_new-opened.result c.open_new-opened.ensures.opens

@@ -8,12 +8,13 @@ use Rattle.token_store.specs.Tokens.{TokenPast, tokens_now}
 use Rattle.plan_opening.specs.Bringing.{BringsKeys}
 use Rattle.plan_opening.specs.Parts.{slot_asked, WantsParts}
 use Rattle.plan_opening.proofs.Parting.{no_parts, parts_more, part_fails}
+use Rattle.plan_posting.proofs.Storing.{marks_same, marks_both}
 use Rattle.plan_opening.proofs.parts.bring_parts.Goals as goal
 
 pub loop-part-init : goal.loop-part-init
 loop-part-init c = record {
   brings = no_parts c.args.model.now (slot_asked c.args.asked.now) c.args.place c.args.store.now;
-  marks = λ mark snapshot is. is;
+  marks = marks_same _;
 }
 
 pub bring_part-requires-clause-token : goal.bring_part-requires-clause-token
@@ -33,7 +34,7 @@ loop-part-preserved c =
           (sym (take_more parts index Start c.loop-part-test.true))
           (parts_more c.args.model.now slot c.args.place (take index parts) (get_or parts index Start)
           c.args.store.now c.loop-part.store c.bring_part.new.store c.loop-part.invariant.brings c.in_ok-bring_part.ensures.brings);
-      marks = λ mark snapshot is. c.in_ok-bring_part.ensures.marks mark snapshot (c.loop-part.invariant.marks mark snapshot is);
+      marks = marks_both _ _ _ c.loop-part.invariant.marks c.in_ok-bring_part.ensures.marks;
     }
 
 pub returns-clause-brings : goal.returns-clause-brings
@@ -54,4 +55,4 @@ returns-in_err-bring_part-clause-brings c =
 
 pub returns-in_err-bring_part-clause-marks : goal.returns-in_err-bring_part-clause-marks
 returns-in_err-bring_part-clause-marks c =
-    λ mark snapshot is. c.in_err-bring_part.ensures.marks mark snapshot (c.loop-part.invariant.marks mark snapshot is)
+    marks_both _ _ _ c.loop-part.invariant.marks c.in_err-bring_part.ensures.marks

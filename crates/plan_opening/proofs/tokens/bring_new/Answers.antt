@@ -1,5 +1,6 @@
 use Rattle.plan_opening.specs.Parts.{slot_asked}
 use Rattle.plan_opening.proofs.Parting.{times_there, duration_there, token_brought}
+use Rattle.plan_posting.proofs.Storing.{marks_both}
 use Rattle.plan_opening.proofs.tokens.bring_new.Goals as goal
 
 pub post_lasts-requires-clause-times : goal.post_lasts-requires-clause-times
@@ -13,8 +14,8 @@ post_lasts-requires-clause-duration c =
     c.bring_all_parts.new.store c.in_ok-place.ensures.begins c.in_ok-bring_all_parts.ensures.brings
 
 pub returns-in_err-post_lasts-clause-marks : goal.returns-in_err-post_lasts-clause-marks
-returns-in_err-post_lasts-clause-marks c = λ mark snapshot is.
-    c.in_err-post_lasts.ensures.marks mark snapshot (c.in_ok-bring_all_parts.ensures.marks mark snapshot (c.in_ok-place.ensures.marks mark snapshot is))
+returns-in_err-post_lasts-clause-marks c =
+    marks_both _ _ _ (marks_both _ _ _ c.in_ok-place.ensures.marks c.in_ok-bring_all_parts.ensures.marks) c.in_err-post_lasts.ensures.marks
 
 pub returns-clause-brings : goal.returns-clause-brings
 returns-clause-brings c =
@@ -23,5 +24,5 @@ returns-clause-brings c =
     c.in_ok-post_lasts.ensures.only
 
 pub returns-clause-marks : goal.returns-clause-marks
-returns-clause-marks c = λ mark snapshot is.
-    c.in_ok-post_lasts.ensures.marks mark snapshot (c.in_ok-bring_all_parts.ensures.marks mark snapshot (c.in_ok-place.ensures.marks mark snapshot is))
+returns-clause-marks c =
+    marks_both _ _ _ (marks_both _ _ _ c.in_ok-place.ensures.marks c.in_ok-bring_all_parts.ensures.marks) c.in_ok-post_lasts.ensures.marks

@@ -7,12 +7,13 @@ use Rattle.token_store.specs.Tokens.{TokenPast, tokens_now}
 use Rattle.plan_opening.specs.Bringing.{BringsKeys}
 use Rattle.plan_opening.specs.Wanted.{WantsLocals}
 use Rattle.plan_opening.proofs.Locals.{no_locals, locals_more, local_fails, local_at}
+use Rattle.plan_posting.proofs.Storing.{marks_same, marks_both}
 use Rattle.plan_opening.proofs.variables.bring_locals.Goals as goal
 
 pub loop-local-init : goal.loop-local-init
 loop-local-init g c = record {
   brings = no_locals c.args.model.now c.args.pred c.args.at.token c.args.at.rule g.owner c.args.store.now;
-  marks = λ mark snapshot is. is;
+  marks = marks_same _;
 }
 
 pub number_of-requires : goal.number_of-requires
@@ -40,7 +41,7 @@ loop-local-preserved g c =
           (sym (take_more locals index c.local-item.result c.loop-local-test.true))
           (locals_more c.args.model.now c.args.pred c.args.at.token c.args.at.rule g.owner (take index locals) locals (get_or locals index c.local-item.result) c.number_of.result at.0
           c.args.store.now c.loop-local.store c.bring_local.new.store c.loop-local.invariant.brings c.in_ok-bring_local.ensures.brings);
-      marks = λ mark snapshot is. c.in_ok-bring_local.ensures.marks mark snapshot (c.loop-local.invariant.marks mark snapshot is);
+      marks = marks_both _ _ _ c.loop-local.invariant.marks c.in_ok-bring_local.ensures.marks;
     }
 
 pub returns-clause-brings : goal.returns-clause-brings
@@ -63,4 +64,4 @@ returns-in_err-bring_local-clause-brings g c =
 
 pub returns-in_err-bring_local-clause-marks : goal.returns-in_err-bring_local-clause-marks
 returns-in_err-bring_local-clause-marks g c =
-    λ mark snapshot is. c.in_err-bring_local.ensures.marks mark snapshot (c.loop-local.invariant.marks mark snapshot is)
+    marks_both _ _ _ c.loop-local.invariant.marks c.in_err-bring_local.ensures.marks

@@ -7,10 +7,10 @@ use Rattle.plan_state.proofs.Returning.{pushed, kept_back}
 use Rattle.plan_state.proofs.standing.push.Goals as goal
 
 pub back_to-requires : goal.back_to-requires
-back_to-requires c = (snapshot_of c.args.store.now, c.take.ensures.marks c.mark-mark.result (snapshot_of c.args.store.now) c.mark-mark.ensures.is)
+back_to-requires c = (snapshot_of c.args.store.now, c.take.ensures.marks.marks c.mark-mark.result (snapshot_of c.args.store.now) c.mark-mark.ensures.is)
 
 pub back_to-requires-in-Err : goal.back_to-requires-in-Err
-back_to-requires-in-Err c = (snapshot_of c.args.store.now, c.take.ensures.marks c.mark-mark.result (snapshot_of c.args.store.now) c.mark-mark.ensures.is)
+back_to-requires-in-Err c = (snapshot_of c.args.store.now, c.take.ensures.marks.marks c.mark-mark.result (snapshot_of c.args.store.now) c.mark-mark.ensures.is)
 
 pub returns-in-Ok-true-clause-ok : goal.returns-in-Ok-true-clause-ok
 returns-in-Ok-true-clause-ok c =
@@ -38,3 +38,7 @@ returns-in-Err-clause-err c =
     subst (StandsForList model (but_last decisions) c.back_to-in-Err.new.self) (sym c.reserve.ensures.items)
     (kept_back model (but_last decisions) c.args.marks.now.items c.args.store.now c.take.new.store c.mark-mark.result c.requires.stands c.take.ensures.marks c.mark-mark.ensures.is c.mark-mark.ensures.latest
     c.back_to-in-Err.new.self c.back_to-in-Err.ensures)
+
+pub returns-in-Ok-true-clause-stamps : goal.returns-in-Ok-true-clause-stamps
+returns-in-Ok-true-clause-stamps c = λ fit.
+    c.stamps_follow.ensures c.args.store.now c.take.new.store (c.mark-mark.ensures.is).is c.is_sound.ensures c.take.ensures.marks

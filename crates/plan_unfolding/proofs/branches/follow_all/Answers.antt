@@ -3,6 +3,7 @@ use Rattle.std.proofs.Common.{◌+◌, Err, sym, subst, arith}
 use Rattle.std.proofs.lemmas.Result.{err_from_is_err_and}
 use Rattle.model_core.specs.Block.{plain_entries}
 use Rattle.plan_store.specs.Stores.{Stored}
+use Rattle.plan_posting.proofs.Storing.{marks_both}
 use Rattle.plan_unfolding.proofs.Looking.{LookedAt, looked_other, looked_branch, reads_later, branch_read, stays_through}
 use Rattle.plan_unfolding.proofs.branches.follow_all.Goals as goal
 use Rattle.plan_unfolding.proofs.branches.follow_all.Goals.{in-Branch+in_ok-follow, in_default}
@@ -50,3 +51,7 @@ returns-clause-underway c = λ followed decisions unfolded due under none. c.loo
 
 pub returns-clause-followed : goal.returns-clause-followed
 returns-clause-followed c = λ place guard then otherwise below stands. c.loop-place.invariant.followed place guard then otherwise (omega (arith, below)) stands
+
+pub returns-in_err-follow-clause-marks : goal.returns-in_err-follow-clause-marks
+returns-in_err-follow-clause-marks c =
+    marks_both c.args.store.now c.loop-place.store c.follow.new.store c.loop-place.invariant.marks c.in_err-follow.ensures.marks

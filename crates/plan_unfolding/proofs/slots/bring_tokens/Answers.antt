@@ -8,6 +8,7 @@ use Rattle.model_core.specs.declared.rule.Slot.{Slot}
 use Rattle.model_core.specs.Tokens.{HasToken}
 use Rattle.token_store.specs.Tokens.{tokens_now, token_names}
 use Rattle.plan_posting.specs.Origins.{content_now}
+use Rattle.plan_posting.proofs.Storing.{marks_both}
 use Rattle.plan_opening.specs.Arriving.{AskForToken}
 use Rattle.plan_opening.specs.Underway.{StaysUnderway}
 use Rattle.plan_unfolding.proofs.Asking.{brought_none, brought_more, bring_through}
@@ -44,3 +45,7 @@ loop-name-preserved c =
 pub returns-clause-there : goal.returns-clause-there
 returns-clause-there c =
     subst (All (Contains (token_names (tokens_now c.loop-name.store.past)))) (take_all c.loop-name.name-index c.args.names.now c.loop-name-test.false) c.loop-name.invariant.there
+
+pub returns-in_err-bring_token-clause-marks : goal.returns-in_err-bring_token-clause-marks
+returns-in_err-bring_token-clause-marks c =
+    marks_both c.args.store.now c.loop-name.store c.bring_token.new.store c.loop-name.invariant.marks c.in_err-bring_token.ensures.marks

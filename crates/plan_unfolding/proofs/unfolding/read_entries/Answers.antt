@@ -6,6 +6,7 @@ use Rattle.token_store.specs.Tokens.{tokens_now}
 use Rattle.plan_store.specs.Stores.{Stored}
 use Rattle.plan_unfolding.proofs.Looking.{token_below}
 use Rattle.plan_unfolding.proofs.Whole.{guards_named_on, watching_reads, entries_unfold, all_adds, all_past}
+use Rattle.plan_posting.proofs.Storing.{marks_both}
 use Rattle.plan_unfolding.proofs.unfolding.read_entries.Goals as goal
 
 pub watch_guards-requires-clause-number : goal.watch_guards-requires-clause-number
@@ -51,5 +52,5 @@ returns-clause-adds c =
     c.follow_all-followed.result c.follow_all-followed.ensures.adds
 
 pub returns-clause-marks : goal.returns-clause-marks
-returns-clause-marks c = λ mark snapshot is.
-    c.follow_all-followed.ensures.marks mark snapshot (c.in_ok-watch_guards.ensures.marks mark snapshot (c.in_ok-post_items.ensures.marks mark snapshot is))
+returns-clause-marks c =
+    marks_both _ _ _ (marks_both _ _ _ c.in_ok-post_items.ensures.marks c.in_ok-watch_guards.ensures.marks) c.follow_all-followed.ensures.marks

@@ -7,6 +7,7 @@ use Rattle.plan_posting.specs.Tables.{HaveTables}
 use Rattle.plan_unfolding.specs.Reading.{AreOpenEntries}
 use Rattle.plan_unfolding.proofs.Naming.{has_entries, open_entries}
 use Rattle.plan_unfolding.proofs.Whole.{reads_behind, stands_behind, unfolds_through, slots_fail, adds_behind, preds_behind}
+use Rattle.plan_posting.proofs.Storing.{marks_both}
 use Rattle.plan_unfolding.proofs.unfolding.unfold_block.Goals as goal
 
 pub entries_of-entries-requires-clause-there : goal.entries_of-entries-requires-clause-there
@@ -74,4 +75,4 @@ returns-in_err-bring_slots-clause-unfolds c =
     rw (p.1, p.2) (slots_fail c.args.model.now c.args.number c.args.store.now c.bring_slots.new.store c.in_err-bring_slots.field-0.0 c.in_err-bring_slots.ensures.underway)
 
 pub returns-clause-marks : goal.returns-clause-marks
-returns-clause-marks c = λ mark snapshot is. c.read_entries.ensures.marks mark snapshot (c.in_ok-bring_slots.ensures.marks mark snapshot is)
+returns-clause-marks c = marks_both _ _ _ c.in_ok-bring_slots.ensures.marks c.read_entries.ensures.marks

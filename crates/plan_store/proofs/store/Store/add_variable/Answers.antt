@@ -2,6 +2,7 @@ use Rattle.std.proofs.Common.{Ok, refl, ap, subst}
 use Rattle.std.specs.Prelude.{Contains}
 use Rattle.constraint_net.specs.Networks.{Network}
 use Rattle.plan_store.specs.Stores.{Stored}
+use Rattle.plan_store.proofs.Following.{net_added}
 use Rattle.plan_store.proofs.Going.{key_marks}
 use Rattle.plan_store.proofs.Lists.{found_there, found_nowhere}
 use Rattle.plan_store.proofs.Steps.{variable_kept}
@@ -25,4 +26,5 @@ pub returns-clause-marks : goal.returns-clause-marks
 returns-clause-marks c =
     let added = c.in_ok-number in
     key_marks _ c.args.self.now c.args.key c.add_key.new.variables.keys c.add_key.new.net c.self.view_is
-    (c.marks_stay.ensures.added _ _ c.args.domain (Ok added.number) added.ensures.net) (ap (λ (net : Network). net.tables) added.ensures.net.1) added.ensures.added
+    (c.marks_stay.ensures.added _ _ c.args.domain (Ok added.number) added.ensures.net)
+    (net_added c.args.domain added.number _ c.add_key.new.net added.ensures.net) (ap (λ (net : Network). net.tables) added.ensures.net.1) added.ensures.added

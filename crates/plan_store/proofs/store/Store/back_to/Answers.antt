@@ -9,6 +9,6 @@ invariant_of-self c =
 
 pub returns : goal.returns
 returns c =
-    goes_back _ c.args.self.now (stored_of c.back_to.new.self c.truncate.new.self.keys c.truncate-2.new.self.keys c.truncate-3.new.self c.back_to-2.new.self) c.args.mark c.self.view_is
+    goes_back _ c.args.self.now (stored_of c.back_to.new.self c.truncate.new.self.keys c.truncate-2.new.self.keys c.truncate-3.new.self c.back_to-2.new.self) c.args.mark c.self.view_is c.self.invariant c.names_stay.ensures
     (record { past = c.back_to.ensures; keys = c.truncate.ensures.keys; blocks = c.truncate-2.ensures.keys; watches = c.truncate-3.ensures; net = c.back_to-2.ensures }) c.requires
     (c.marks_stay.ensures.returned _ _)

@@ -1,3 +1,4 @@
+use Rattle.plan_store.proofs.Following.{net_limited}
 use Rattle.plan_store.proofs.Going.{net_marks}
 use Rattle.plan_store.proofs.Steps.{limit_kept, limit_tables}
 use Rattle.plan_store.proofs.store.Store.limit.Goals as goal
@@ -8,4 +9,4 @@ invariant_of-self c = limit_kept _ c.args.self.now c.args.variable c.args.to.now
 pub returns-clause-marks : goal.returns-clause-marks
 returns-clause-marks c =
     net_marks _ c.args.self.now c.limit.new.self c.self.view_is (c.marks_stay.ensures.limited _ _ c.args.variable c.args.to.now c.limit.result c.limit.ensures)
-    (limit_tables c.args.variable c.args.to.now c.limit.result _ c.limit.new.self c.limit.ensures)
+    (net_limited c.args.variable c.args.to.now c.limit.result _ c.limit.new.self c.limit.ensures) (limit_tables c.args.variable c.args.to.now c.limit.result _ c.limit.new.self c.limit.ensures)
