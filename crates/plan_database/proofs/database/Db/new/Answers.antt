@@ -1,0 +1,15 @@
+use Rattle.std.proofs.Common.{[], List, refl, sym, ap, ◌∙◌, subst}
+use Rattle.model_core.specs.declared.decision.Decision.{Decision}
+use Rattle.model_core.specs.History.{History, standing}
+use Rattle.plan_defs.specs.History.{IsHistory}
+use Rattle.plan_state.specs.Standing.{KeepsList}
+use Rattle.plan_database.proofs.database.Db.new.Goals as goal
+
+pub invariant_of-result : goal.invariant_of-result
+invariant_of-result c = record {
+  lawful = c.requires;
+  kept = record {
+    is_history = subst (IsHistory c.args.model) (sym c.new-2.ensures) refl;
+    list = λ ready. subst (λ (h : History). KeepsList c.args.model (standing h) c.in_ok-kept.kept) (sym c.new-2.ensures) c.in_ok-kept.ensures;
+  };
+}

@@ -1,0 +1,3 @@
+pub mod Faults
+pub mod Database
+pub mod Answers

@@ -1,0 +1,5 @@
+pub mod Judging
+pub mod Keeping
+pub mod Fronts
+pub mod Overs
+pub mod Outs
