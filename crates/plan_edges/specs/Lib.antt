@@ -1,0 +1,4 @@
+pub mod Adding
+pub mod Edges
+pub mod Points
+pub mod Sites
