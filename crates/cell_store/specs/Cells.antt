@@ -1,5 +1,6 @@
 -- Cells with their domains, and what can be gone back to.
-use Rattle.std.specs.Prelude.{◌≡◌, ◌≢◌, ℕ, ◌+◌, ◌-◌, ◌^◌, ◌<◌, min, List, [], ◌∷◌, ◌++◌, ◌⊎◌, length, slice_index_or, slice_set, Result, Ok, Err, Option, Some, None, IfSome, pos}
+use Rattle.std.specs.Prelude.{◌≡◌, ◌≢◌, ℕ, ◌+◌, ◌-◌, ◌^◌, ◌<◌, min, List, [], ◌∷◌, ◌++◌}
+use Rattle.std.specs.Prelude.{◌⊎◌, length, slice_index_or, slice_set, Result, Ok, Err, Option, Some, None, IfSome, pos}
 use Rattle.std.specs.declared.alloc.AllocError.{AllocError}
 use Rattle.domain_core.specs.Domain.{Domain, Range, Has}
 use Rattle.domain_core.specs.Narrowing.{Keeps}
@@ -37,7 +38,8 @@ StepsFrom before None after = (added : Domain) × (after ≡ before ++ added ∷
 -- the step from this place to the next one wrote this cell alone, which is there still, or added one
 pub record IsStep (step : ℕ) (celled : Celled) (written : Option ℕ) : Type 0 where
   pub there : IfSome written (λ cell. cell < length (present celled))
-  pub led : (before after : List Domain) → IsPlace celled step before → IsPlace celled (step + 1) after → StepsFrom before written after
+  pub led : (before after : List Domain)
+      → IsPlace celled step before → IsPlace celled (step + 1) after → StepsFrom before written after
 
 -- one more write, where a counter stays at its type's end
 abbrev pub stamped : ℕ → ℕ
@@ -46,7 +48,8 @@ stamped stamp = min (stamp + 1) (2 ^ 64 - 1)
 -- a cell of this domain stands behind the others, and was never written; without memory nothing changes
 abbrev pub AddsCell : Domain → Celled → Result ℕ AllocError → Celled → Type 0
 AddsCell domain old (Ok number) new =
-    (number ≡ length (present old)) × ((new.past ≡ (present old ++ domain ∷ []) ∷ old.past) × (new.stamps ≡ old.stamps ++ 0 ∷ []))
+    (number ≡ length (present old))
+    × ((new.past ≡ (present old ++ domain ∷ []) ∷ old.past) × (new.stamps ≡ old.stamps ++ 0 ∷ []))
 AddsCell domain old (Err none) new = new ≡ old
 
 -- up to this place what can be gone back to is the same

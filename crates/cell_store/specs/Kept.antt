@@ -1,5 +1,6 @@
 -- How the cells and their trail are kept.
-use Rattle.std.specs.Prelude.{◌≡◌, ℕ, ◌+◌, ◌-◌, ◌<◌, ◌==◌, Bool, if◌then◌else◌, List, [], ◌∷◌, length, map, take, slice_set, slice_get, Some}
+use Rattle.std.specs.Prelude.{◌≡◌, ℕ, ◌+◌, ◌-◌, ◌<◌, ◌==◌, Bool, if◌then◌else◌, List, [], ◌∷◌, length}
+use Rattle.std.specs.Prelude.{map, take, slice_set, slice_get, Some}
 use Rattle.domain_core.specs.Domain.{Domain, slack}
 use Rattle.cell_store.specs.Cells.{Celled, domain_at}
 use Rattle.cell_store.specs.declared.trail.Cell.{Cell}
@@ -29,7 +30,8 @@ is_about count (Narrowed other former saved) cell = cell == other
 -- how long the trail is behind the last entry about the cell
 abbrev pub saved_at : ℕ → List Entry → ℕ → ℕ
 saved_at count [] cell = 0
-saved_at count (entry ∷ older) cell = if is_about count entry cell then length older + 1 else saved_at (count_before entry count) older cell
+saved_at count (entry ∷ older) cell =
+    if is_about count entry cell then length older + 1 else saved_at (count_before entry count) older cell
 
 -- the entry can have led to these domains: it added the last cell, or took something from a cell
 abbrev pub CanBeEntry : Entry → List Domain → List Entry → Type 0

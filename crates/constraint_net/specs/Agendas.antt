@@ -1,5 +1,6 @@
 -- Which constraints wait to be narrowed, which watch a variable, and which variables have changed.
-use Rattle.std.specs.Prelude.{◌≡◌, ℕ, ◌<◌, ◌≤◌, List, [], ◌⊎◌, length, Contains, sum_by, slice_index_or, Result, Ok, Err, OnOk}
+use Rattle.std.specs.Prelude.{◌≡◌, ℕ, ◌<◌, ◌≤◌, List, [], ◌⊎◌, length, Contains, sum_by, slice_index_or, Result}
+use Rattle.std.specs.Prelude.{Ok, Err, OnOk}
 use Rattle.std.specs.declared.alloc.AllocError.{AllocError}
 use Rattle.domain_core.specs.Domain.{Domain, slack}
 use Rattle.domain_core.specs.declared.Change.{Change}

@@ -1,5 +1,6 @@
 -- How the variables' cells move while domains get smaller.
-use Rattle.std.specs.Prelude.{◌≡◌, ℕ, ◌+◌, ◌-◌, ◌^◌, ◌<◌, min, List, Contains, All, ◌⊎◌, length, slice_index_or}
+use Rattle.std.specs.Prelude.{◌≡◌, ℕ, ◌+◌, ◌-◌, ◌^◌, ◌<◌, min, List, Contains, All, ◌⊎◌, length}
+use Rattle.std.specs.Prelude.{slice_index_or}
 use Rattle.domain_core.specs.Domain.{Domain, IsDomain, slack}
 use Rattle.cell_store.specs.Cells.{Celled, present, domain_at, KeepsPast}
 use Rattle.constraint_net.specs.declared.constraint.NetArg.{NetArg}
@@ -14,7 +15,8 @@ pub record IsSound (since : ℕ) (cells : Celled) : Type 0 where
 -- the domain and the stamp stay, or the domain has less and the stamp has risen, unless it is at its end
 abbrev pub FollowsDown : Domain → ℕ → Domain → ℕ → Type 0
 FollowsDown old stamp new next =
-    ((new ≡ old) × (next ≡ stamp)) ⊎ ((slack new < slack old) × ((writes : ℕ) × (next ≡ min (stamp + 1 + writes) (2 ^ 64 - 1))))
+    ((new ≡ old) × (next ≡ stamp))
+    ⊎ ((slack new < slack old) × ((writes : ℕ) × (next ≡ min (stamp + 1 + writes) (2 ^ 64 - 1))))
 
 -- each stamp follows its domain, and up to the place what can be gone back to is the same
 pub record Sinks (since : ℕ) (old new : Celled) : Type 0 where

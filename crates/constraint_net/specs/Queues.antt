@@ -1,5 +1,6 @@
 -- Queues of numbers.
-use Rattle.std.specs.Prelude.{◌≡◌, ◌≢◌, ℕ, ◌<◌, ◌≤◌, Bool, true, false, List, ◌∷◌, ◌++◌, length, count_by, AllPairs, Contains, slice_index_or}
+use Rattle.std.specs.Prelude.{◌≡◌, ◌≢◌, ℕ, ◌<◌, ◌≤◌, Bool, true, false, List, ◌∷◌, ◌++◌, length}
+use Rattle.std.specs.Prelude.{count_by, AllPairs, Contains, slice_index_or}
 
 -- numbers in the order in which they came, and the bound of those that may come
 pub record Queued : Type 0 where

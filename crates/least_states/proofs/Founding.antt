@@ -22,6 +22,7 @@ use Rattle.plan_defs.specs.Situations.{situation_of}
 use Rattle.plan_defs.specs.Support.{IsSupportedToken, IsSupportedBlock}
 use Rattle.plan_defs.specs.Valid.{IsValid}
 use Rattle.plan_defs.proofs.Lower.{Further, supported_further, front_consistent}
+use Rattle.plan_defs.proofs.Knowing.{known_or_not}
 use Rattle.plan_defs.proofs.Ordered.{contains_none}
 use Rattle.plan_defs.proofs.Settling.{IsSettled-push}
 use Rattle.plan_defs.proofs.States.{IsBelow-trans}
@@ -33,27 +34,10 @@ use Rattle.plan_states.proofs.Deciding.{decides_once}
 use Rattle.plan_soundness.specs.Soundness.{IsWellFounded, IsFlawlessPlan}
 use Rattle.plan_soundness.proofs.Agreeing.{agrees}
 use Rattle.plan_soundness.proofs.Clauses.{is_valid}
-use Rattle.own_states.proofs.Listing.{IsOrNot, there_or_not}
 use Rattle.least_states.proofs.Joining.{upper}
 use Rattle.least_states.proofs.Pruning.{AreNamed, root_supported, founded}
-use Rattle.least_states.proofs.Telling.{given_or_not}
 
 -- ---- what a decision names
-
-token_or_not : (state : State) (token : TokenName) → IsOrNot (Contains state.tokens token)
-token_or_not state token = there_or_not IsTokenBefore token_order state.tokens token
-
-both_or_not : (P Q : Type 0) → IsOrNot P → IsOrNot Q → IsOrNot (P × Q)
-both_or_not P Q (inl p) (inl q) = inl (p, q)
-both_or_not P Q (inl p) (inr none) = inr (λ both. none both.1)
-both_or_not P Q (inr none) q = inr (λ both. none both.0)
-
-known_or_not : (state : State) (decision : Decision) → IsOrNot (IsKnown state decision)
-known_or_not state (Specify name value) = given_or_not state name
-known_or_not state (Activate token) = token_or_not state token
-known_or_not state (Merge token target) = both_or_not _ _ (token_or_not state token) (token_or_not state target)
-known_or_not state (Reject token) = token_or_not state token
-known_or_not state (Order one other) = both_or_not _ _ (token_or_not state one) (token_or_not state other)
 
 known_below : (high low : State) → IsBelow high low → (decision : Decision) → IsKnown high decision → IsKnown low decision
 known_below high low below (Specify name value) known = let found = below.variables name known.0 known.1 in (found.0, found.1)

@@ -31,30 +31,13 @@ use Rattle.plan_defs.specs.Terms.{Argument, Value, Variable, HasDomain}
 use Rattle.plan_defs.proofs.Lower.{asks_as_much, turn_below}
 use Rattle.plan_defs.proofs.States.{gives_same, gives_domain}
 use Rattle.plan_growth.proofs.Bases.{base_once}
-use Rattle.plan_progress.proofs.Blocks.{rule_once}
+use Rattle.plan_progress.proofs.Coming.{local_once}
 use Rattle.plan_progress.proofs.Lawful.{base_lawful, rule_lawful}
-use Rattle.own_states.proofs.Listing.{Chosen, chosen, there_or_not}
+use Rattle.own_states.proofs.Listing.{Chosen, chosen}
 use Rattle.own_states.proofs.Making.{Made, MayBeState, made, about_more}
 use Rattle.own_states.proofs.Paths.{block_order}
 use Rattle.least_states.specs.LeastStates.{HasUpper}
 use Rattle.least_states.proofs.Hulls.{IsHull, Covers, AllCover, hull_of, single_hull, hull_covers, same_covers, covered_consistent}
-
--- ---- a local stands in one block
-
-local_once : (model : Model) → IsLawful model → (block other : TokenBlock) (entries stood : Entries) (local : ℕ) → block.token ≡ other.token → block.rule ≡ other.rule
-    → IsBlock model block entries → IsBlock model other stood → Contains (direct entries) (OfLocal local) → Contains (direct stood) (OfLocal local) → block ≡ other
-local_once model lawful block other entries stood local tokens rules is is_other stands stands_other =
-    let of_rule = rule_lawful model lawful is.slot.pred block.rule is.rule is.has_rule in
-    let here = get_from_contains (direct entries) (OfLocal local) stands in
-    let there = get_from_contains (direct stood) (OfLocal local) stands_other in
-    let one : StandsAt is.rule.top block.path here.0 (OfLocal local) = record { block = entries; way = is.way; stands = here.1 } in
-    let same_rule = rule_once model _ _ block other entries stood tokens rules is is_other in
-    let two : StandsAt is.rule.top other.path there.0 (OfLocal local) =
-    subst (λ (r : Rule). StandsAt r.top other.path there.0 (OfLocal local)) (sym same_rule) (record { block = stood; way = is_other.way; stands = there.1 }) in
-    let declared = (of_rule.entries block.path here.0 (OfLocal local) one).1 in
-    let once = of_rule.locals_stand local (get_below is.rule.locals local declared.0 declared.1) in
-    let paths : block.path ≡ other.path = (once.only block.path here.0 one).0 ∙ sym (once.only other.path there.0 two).0 in
-    (λ i. record { token = tokens i; rule = rules i; path = paths i })
 
 -- ---- the domains
 

@@ -18,12 +18,12 @@ use Rattle.model_core.specs.State.{State, VarDomain, Gives}
 use Rattle.plan_defs.specs.Closure.{IsConsistentState}
 use Rattle.plan_defs.specs.Situations.{situation_of}
 use Rattle.plan_defs.specs.Support.{IsOpen, AsksFor, IsSupportedToken, IsSupportedBlock, front_token}
+use Rattle.plan_defs.proofs.Knowing.{IsOrNot, given_or_not, same_token}
 use Rattle.plan_defs.proofs.States.{gives_same}
 use Rattle.plan_progress.proofs.Blocks.{block_once}
 use Rattle.plan_soundness.proofs.Seeing.{supported_slot}
 use Rattle.own_states.proofs.Guards.{CanTell, open_or_not}
-use Rattle.own_states.proofs.Listing.{IsOrNot, any_or_not}
-use Rattle.own_states.proofs.Telling.{same_token, same_name}
+use Rattle.own_states.proofs.Listing.{any_or_not}
 
 -- ---- decisions
 
@@ -85,14 +85,6 @@ module _ (decisions : List Decision) where
     ]
   ]
 
--- ---- what a state gives
-
-pub given_or_not : (state : State) (name : VarName) → IsOrNot ((domain : Domain) × Gives state name domain)
-given_or_not state name = elim (any_or_not (λ (entry : VarDomain). entry.name ≡ name) (λ entry. same_name entry.name name) state.entries) [
-  | inl found ↦ inl (found.0.domain, subst (λ (n : VarName). Gives state n found.0.domain) found.1.1 found.1.0)
-  | inr none ↦ inr (λ given. none (record { name = name; domain = given.0 }, (given.1, refl)))
-]
-
 -- ---- slots
 
 is_slot : (slot : ℕ) (what : Direct) → IsOrNot (OfSlot slot ≡ what)
@@ -118,7 +110,7 @@ module _ (model : Model) (decisions : List Decision) (state : State) (fit : IsCo
   tell = record {
     taken = taken_or_not decisions;
     activated = activated_or_not decisions;
-    gives = given_or_not state;
+    gives = given_or_not state.entries;
     once = gives_same state fit.is_state.order;
   }
 

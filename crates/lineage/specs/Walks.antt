@@ -1,5 +1,6 @@
 -- What the walks do. The public calls promise none of it.
-use Rattle.std.specs.Prelude.{◌≡◌, ◌↔◌, ℕ, ◌<◌, ◌≤◌, List, [], ◌∷◌, ◌++◌, drop, reverse, take, Option, Some, None, length, slice_get}
+use Rattle.std.specs.Prelude.{◌≡◌, ◌↔◌, ℕ, ◌<◌, ◌≤◌, List, [], ◌∷◌, ◌++◌, drop, reverse, take, Option}
+use Rattle.std.specs.Prelude.{Some, None, length, slice_get}
 use Rattle.lineage.specs.declared.lineage.Standing.{Standing}
 use Rattle.lineage.specs.declared.lineage.Standing.TheVariants.{Rooted, OnCircle, Leading}
 use Rattle.lineage.specs.declared.walk.Mark.{Mark}

@@ -1,5 +1,6 @@
 -- What the typedefs of a program mean, and all that is wrong with a type.
-use Rattle.std.specs.Prelude.{◌≡◌, ℕ, ◌<◌, List, ◌++◌, Option, Some, None, slice_get, slice_set, length, if◌then◌else◌}
+use Rattle.std.specs.Prelude.{◌≡◌, ℕ, ◌<◌, List, ◌++◌, Option, Some, None, slice_get, slice_set, length}
+use Rattle.std.specs.Prelude.{if◌then◌else◌}
 use Rattle.std.specs.Option.{option_and_then}
 use Rattle.lineage.specs.Lines.{IsLineageOf, standing_in}
 use Rattle.nddl_ast.specs.declared.declaration.Decl.{Decl}

@@ -1,5 +1,6 @@
 -- What classes lead up to.
-use Rattle.std.specs.Prelude.{ℕ, zero, suc, ◌==◌, Bool, false, ◌||◌, ◌&&◌, not, List, [], ◌∷◌, Option, Some, None, slice_get, length}
+use Rattle.std.specs.Prelude.{ℕ, zero, suc, ◌==◌, Bool, false, ◌||◌, ◌&&◌, not, List, [], ◌∷◌, Option, Some, None}
+use Rattle.std.specs.Prelude.{slice_get, length}
 use Rattle.std.specs.List.{list_any, flat_map}
 use Rattle.std.specs.Option.{option_map_or, option_and_then}
 use Rattle.lineage.specs.declared.walk.Mark.{Mark}
@@ -122,7 +123,8 @@ is_foreign names program parents marked class value =
     (object_of names value) false
 
 -- what is wrong with the objects in a set of this class
-abbrev pub foreign_faults : List Declared → List Decl → List (Option ℕ) → List Mark → ℕ → Meaning → List Value → List Fault
+abbrev pub foreign_faults :
+    List Declared → List Decl → List (Option ℕ) → List Mark → ℕ → Meaning → List Value → List Fault
 foreign_faults names program parents marked decl class values =
     flat_map
     (λ value. faults_here decl (value_place value)
@@ -130,7 +132,8 @@ foreign_faults names program parents marked decl class values =
     values
 
 -- what is wrong with the objects in the bounds of a type of this kind
-abbrev pub objects_faults : List Declared → List Decl → List (Option ℕ) → List Mark → ℕ → Option TypeKind → Bounds → List Fault
+abbrev pub objects_faults :
+    List Declared → List Decl → List (Option ℕ) → List Mark → ℕ → Option TypeKind → Bounds → List Fault
 objects_faults names program parents marked decl (Some (kinds.Object class)) (bounds.Set at values) =
     foreign_faults names program parents marked decl class values
 objects_faults names program parents marked decl kind bound = []

@@ -1,5 +1,6 @@
 -- What the names of a program stand under: a class under the one that it extends, a typedef under the one that it restricts.
-use Rattle.std.specs.Prelude.{ℕ, ◌+◌, Bool, true, false, List, [], ◌∷◌, ◌++◌, Option, Some, None, slice_get, length, map, if◌then◌else◌}
+use Rattle.std.specs.Prelude.{ℕ, ◌+◌, Bool, true, false, List, [], ◌∷◌, ◌++◌, Option, Some, None, slice_get, length, map}
+use Rattle.std.specs.Prelude.{if◌then◌else◌}
 use Rattle.std.specs.Option.{option_map, option_and_then}
 use Rattle.lineage.specs.declared.lineage.Standing.{Standing}
 use Rattle.lineage.specs.declared.lineage.Standing.TheVariants as standings

@@ -1,5 +1,6 @@
 -- Faults of a program, and which of them comes first.
-use Rattle.std.specs.Prelude.{◌≡◌, ℕ, ◌<◌, ◌⊎◌, ◌||◌, ◌&&◌, ◌==◌, nat_lt, Bool, List, [], ◌∷◌, Option, Some, None, Contains, if◌then◌else◌}
+use Rattle.std.specs.Prelude.{◌≡◌, ℕ, ◌<◌, ◌⊎◌, ◌||◌, ◌&&◌, ◌==◌, nat_lt, Bool, List, [], ◌∷◌, Option}
+use Rattle.std.specs.Prelude.{Some, None, Contains, if◌then◌else◌}
 use Rattle.eu_name.specs.NameOrder.{ByNumber}
 use Rattle.nddl_ast.specs.Kinds.{kind_rank}
 use Rattle.nddl_ast.specs.declared.kind.TextKind.{TextKind}

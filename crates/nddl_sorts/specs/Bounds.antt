@@ -1,5 +1,6 @@
 -- What ranges and sets of types mean, and what is wrong with them.
-use Rattle.std.specs.Prelude.{ℕ, Bool, false, ◌&&◌, not, nat_lt, ℤ, int_le, List, [], ◌++◌, length, Option, Some, if◌then◌else◌}
+use Rattle.std.specs.Prelude.{ℕ, Bool, false, ◌&&◌, not, nat_lt, ℤ, int_le, List, [], ◌++◌, length, Option, Some}
+use Rattle.std.specs.Prelude.{if◌then◌else◌}
 use Rattle.std.specs.List.{flat_map, filter_map}
 use Rattle.nddl_ast.specs.declared.kind.TextKind.TheVariants as faults
 use Rattle.nddl_ast.specs.declared.expression.Bounds.{Bounds}

@@ -34,8 +34,8 @@ use Rattle.plan_defs.specs.Situations.{Situation}
 use Rattle.plan_defs.specs.Support.{MayBe, Opens, IsOpen, Selects, one_side, other_side}
 use Rattle.plan_defs.specs.Terms.{InRule, Argument, Value, Variable, Means, HasDomain, BelongsTo, Counts, ArgumentCounts}
 use Rattle.plan_defs.proofs.Ordered.{contains_head, contains_later, contains_cases, contains_none}
-use Rattle.plan_growth.proofs.Bases.{means_once}
-use Rattle.own_states.proofs.Listing.{IsOrNot}
+use Rattle.plan_defs.proofs.Meanings.{means_once}
+use Rattle.plan_defs.proofs.Knowing.{IsOrNot}
 use Rattle.own_states.proofs.Lists.{Lists, one_list, each_list, same_list, below_list}
 
 -- ---- guards

@@ -4,11 +4,8 @@ use Rattle.std.specs.Prelude.{AllPairs, Contains, ◌↔◌}
 use Rattle.std.proofs.lemmas.Bool.{cases_lt}
 use Rattle.std.proofs.lemmas.List.Elements.{Contains-append_left, Contains-append_right, Contains-push}
 use Rattle.eu_name.specs.NameOrder.{IsStrictTotalOrder}
+use Rattle.plan_defs.proofs.Knowing.{IsOrNot}
 use Rattle.plan_defs.proofs.Ordered.{contains_head, contains_later, contains_cases, contains_none, ordered_none, ordered_cons, ordered_head, ordered_tail}
-
--- it is so, or it isn't
-abbrev pub IsOrNot : Type 0 → Type 0
-IsOrNot P = P ⊎ (P → ⊥)
 
 -- ---- members
 
@@ -165,24 +162,6 @@ module _ {X : Type 0} (before : X → X → Type 0) (is : IsStrictTotalOrder bef
               λ there. ⊎_elim (λ same. (more.are y).1 (inl same)) (λ later. (more.are y).1 (inr ((rest.are y).1 later))) (contains_cases first y xs there),
             );
           }
-
-  -- whether it is in a list
-  pub same_or_not : (x y : X) → IsOrNot (x ≡ y)
-  same_or_not x y = elim (is.total x y) [
-    | inl less ↦ inr (λ same. is.irreflexive y (subst (λ (z : X). before z y) same less))
-    | inr (inl same) ↦ inl same
-    | inr (inr more) ↦ inr (λ same. is.irreflexive y (subst (λ (z : X). before y z) same more))
-  ]
-
-  pub there_or_not : (xs : List X) (x : X) → IsOrNot (Contains xs x)
-  there_or_not [] x = inr (contains_none x)
-  there_or_not (first ∷ xs) x = elim (same_or_not first x) [
-    | inl same ↦ inl (subst (Contains (first ∷ xs)) same (contains_head first xs))
-    | inr other ↦ elim (there_or_not xs x) [
-      | inl later ↦ inl (contains_later first x xs later)
-      | inr none ↦ inr (λ there. ⊎_elim other none (contains_cases first x xs there))
-    ]
-  ]
 
   pub chosen : (P : X → Type 0) (xs : List X) → ((x : X) → Contains xs x → IsOrNot (P x)) → Chosen before P xs
   chosen P xs decide =

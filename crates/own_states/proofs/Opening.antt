@@ -16,7 +16,8 @@ use Rattle.plan_defs.specs.Plans.{IsPlanOf, IsLineOf, IsActivatedIn, plan_situat
 use Rattle.plan_defs.specs.PlanStates.{IsOpenBlock}
 use Rattle.plan_defs.proofs.Ordered.{contains_head, contains_later, contains_cases, contains_none}
 use Rattle.eu_name.proofs.Members.{contains_from_get, get_below}
-use Rattle.own_states.proofs.Listing.{IsOrNot, gather, gathered, numbers_below, number_below, sift}
+use Rattle.plan_defs.proofs.Knowing.{IsOrNot}
+use Rattle.own_states.proofs.Listing.{gather, gathered, numbers_below, number_below, sift}
 use Rattle.own_states.proofs.Paths.{all_ways, way_there}
 use Rattle.own_states.proofs.Guards.{CanTell, open_or_not}
 use Rattle.own_states.proofs.Telling.{activated_or_not, taken_or_not, value_or_not, value_once}

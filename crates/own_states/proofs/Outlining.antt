@@ -11,7 +11,8 @@ use Rattle.plan_defs.specs.declared.plan.Plan.{Plan}
 use Rattle.plan_defs.specs.PlanStates.{HasLine}
 use Rattle.plan_defs.proofs.Ordered.{contains_head}
 use Rattle.own_states.specs.OwnStates.{Outline, PlansHaveOutlines}
-use Rattle.own_states.proofs.Listing.{IsOrNot, gather, gathered, Sifted, sift, in_order}
+use Rattle.plan_defs.proofs.Knowing.{IsOrNot}
+use Rattle.own_states.proofs.Listing.{gather, gathered, Sifted, sift, in_order}
 use Rattle.own_states.proofs.Opening.{OpenBlocks, open_blocks}
 use Rattle.own_states.proofs.Paths.{block_order}
 use Rattle.own_states.proofs.Telling.{own_or_not, merged_or_not, rejected_or_not}

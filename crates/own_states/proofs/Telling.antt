@@ -12,15 +12,8 @@ use Rattle.plan_defs.specs.declared.plan.Line.TheVariants as lines
 use Rattle.plan_defs.specs.declared.plan.Plan.{Plan}
 use Rattle.plan_defs.specs.Plans.{IsLineBefore, TakesPlaceWith, IsActivatedIn, IsMergedIn, IsTakenIn, HasPartValue, GivesValue, place_in_values}
 use Rattle.plan_defs.proofs.Saying.{one_line, own_or_merged, one_target, one_own}
-use Rattle.own_states.proofs.Listing.{IsOrNot, any_or_not, same_or_not}
-
--- ---- equality
-
-pub same_token : (a b : TokenName) → IsOrNot (a ≡ b)
-same_token = same_or_not IsTokenBefore token_order
-
-pub same_name : (a b : VarName) → IsOrNot (a ≡ b)
-same_name = same_or_not IsVarBefore var_order
+use Rattle.plan_defs.proofs.Knowing.{IsOrNot, same_token, same_name}
+use Rattle.own_states.proofs.Listing.{any_or_not}
 
 -- ---- tokens
 

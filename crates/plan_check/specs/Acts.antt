@@ -1,5 +1,6 @@
 -- What tokens do to resources, by their values.
-use Rattle.std.specs.Prelude.{◌≡◌, ◌⊎◌, ℤ, pos, ◌+ℤ◌, ◌<ℤ◌, ⊤, List, [], ◌∷◌, Option, Some, None, MatchOption}
+use Rattle.std.specs.Prelude.{◌≡◌, ◌⊎◌, ℤ, pos, ◌+ℤ◌, ◌<ℤ◌, ⊤, List, [], ◌∷◌, Option, Some, None}
+use Rattle.std.specs.Prelude.{MatchOption}
 use Rattle.std.specs.List.{AllZip}
 use Rattle.eu_name.specs.declared.name.Part.TheVariants.{Start, End, Object, Param}
 use Rattle.eu_name.specs.declared.name.TokenName.{TokenName}

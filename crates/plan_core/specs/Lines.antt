@@ -1,5 +1,6 @@
 -- The lines of a plan text, word by word.
-use Rattle.std.specs.Prelude.{◌≡◌, ℕ, ◌⊎◌, ℤ, true, false, Option, Some, None, List, [], ◌∷◌, ◌++◌, slice_get, Contains, codes}
+use Rattle.std.specs.Prelude.{◌≡◌, ℕ, ◌⊎◌, ℤ, true, false, Option, Some, None, List, [], ◌∷◌, ◌++◌, slice_get}
+use Rattle.std.specs.Prelude.{Contains, codes}
 use Rattle.eu_name.specs.declared.name.VarName.{VarName}
 use Rattle.eu_name.specs.declared.name.VarName.TheVariants as variables
 use Rattle.eu_name.specs.Word.{IsName}

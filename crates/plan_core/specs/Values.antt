@@ -1,5 +1,6 @@
 -- How values are written, by kind.
-use Rattle.std.specs.Prelude.{◌≡◌, ℕ, ◌<◌, ◌==◌, ◌⊎◌, ℤ, pos, Bool, List, ◌++◌, length, slice_get, slice_index, Some, All, IsTrue, codes}
+use Rattle.std.specs.Prelude.{◌≡◌, ℕ, ◌<◌, ◌==◌, ◌⊎◌, ℤ, pos, Bool, List, ◌++◌, length, slice_get}
+use Rattle.std.specs.Prelude.{slice_index, Some, All, IsTrue, codes}
 use Rattle.std.specs.Char.{is_ascii_digit}
 use Rattle.std.specs.Fmt.{signed_decimal}
 use Rattle.std.specs.List.{slice_split}

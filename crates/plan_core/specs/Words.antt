@@ -1,5 +1,6 @@
 -- The words of a plan text, and what stands before each.
-use Rattle.std.specs.Prelude.{◌≡◌, ℕ, ◌<◌, ◌-◌, Bool, false, true, ◌||◌, ◌==◌, List, [], ◌∷◌, ◌++◌, length, drop, All, ⊤}
+use Rattle.std.specs.Prelude.{◌≡◌, ℕ, ◌<◌, ◌-◌, Bool, false, true, ◌||◌, ◌==◌, List, [], ◌∷◌, ◌++◌}
+use Rattle.std.specs.Prelude.{length, drop, All, ⊤}
 use Rattle.std.specs.List.{prefix_len}
 
 -- a space or a line feed, which stand between words; all other bytes are of words

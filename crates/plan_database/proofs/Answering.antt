@@ -22,7 +22,7 @@ use Rattle.plan_steps.specs.declared.objection.Objection.{Objection}
 use Rattle.plan_steps.specs.declared.objection.Objection.TheVariants.{Collapsed, Refused}
 use Rattle.plan_steps.specs.declared.subject.Subject.{Subject}
 use Rattle.plan_steps.specs.Kept.{KeepsHistory, KeepsUnless, LeaveState, IsJudged, WithdrawsLast}
-use Rattle.plan_steps.specs.Subjects.{IsOn, TakesOutAt}
+use Rattle.plan_steps.specs.Subjects.{IsOfSubject, TakesOutAt}
 use Rattle.plan_database.specs.declared.fault.DbFault.{DbFault}
 use Rattle.plan_database.specs.declared.fault.DbFault.TheVariants as fault
 use Rattle.plan_database.specs.declared.fault.Outcome.{Outcome}
@@ -104,7 +104,7 @@ at_middle (y ∷ front) back x zero same = absurd (omega (arith, same))
 at_middle (y ∷ front) back x (suc n) same = at_middle front back x n (omega (arith, same))
 
 module _ (model : Model) (old new : History) (subject : Subject) (decisions : List Decision) (place : ℕ) (decision : Decision)
-    (are : decisions ≡ standing old) (at : slice_get decisions place ≡ Some decision) (on : IsOn subject decision) where
+    (are : decisions ≡ standing old) (at : slice_get decisions place ≡ Some decision) (on : IsOfSubject subject decision) where
   at_old : slice_get (standing old) place ≡ Some decision
   at_old = subst (λ (list : List Decision). slice_get list place ≡ Some decision) are at
 
@@ -123,7 +123,7 @@ module _ (model : Model) (old new : History) (subject : Subject) (decisions : Li
         decision = out.decision;
         back = out.back;
         parts = out.parts;
-        on = subst (IsOn subject) (get_same (standing old) place decision out.decision at_old there) on;
+        on = subst (IsOfSubject subject) (get_same (standing old) place decision out.decision at_old there) on;
         settles = out.settles;
       }
 
@@ -135,7 +135,7 @@ module _ (model : Model) (old new : History) (subject : Subject) (decisions : Li
   not_reset same = (ap (taken_in model) same, has_on)
 
 pub none_on : (model : Model) (old : History) (subject : Subject) (decisions : List Decision) → decisions ≡ standing old
-    → ((decision : Decision) → Contains decisions decision → IsOn subject decision → ⊥) → HasDecisionOn (taken_in model old) subject → ⊥
+    → ((decision : Decision) → Contains decisions decision → IsOfSubject subject decision → ⊥) → HasDecisionOn (taken_in model old) subject → ⊥
 none_on model old subject decisions are none has = none has.0 (subst (λ (list : List Decision). Contains list has.0) (sym are) has.1) has.2
 
 -- ---- what a database keeps

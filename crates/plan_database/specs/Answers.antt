@@ -15,7 +15,8 @@ use Rattle.plan_database.specs.declared.fault.DbFault.{DbFault}
 use Rattle.plan_database.specs.declared.fault.DbFault.TheVariants as fault
 use Rattle.plan_database.specs.declared.fault.QueryFault.{QueryFault}
 use Rattle.plan_database.specs.declared.fault.QueryFault.TheVariants as query
-use Rattle.plan_database.specs.Database.{Database, taken_in, HasLeast, HasCollapsed, Applies, TakesBack, Backtracks, Resets, IsTold, IsUntold}
+use Rattle.plan_database.specs.Database.{Database, taken_in, HasLeast, HasCollapsed, Applies, TakesBack, Backtracks, Resets, IsTold}
+use Rattle.plan_database.specs.Database.{IsUntold}
 
 -- what is decided in which model, and whether the state that is kept is behind that
 pub record Held : Type 0 where

@@ -14,7 +14,7 @@ use Rattle.plan_defs.specs.Settling.{Settles}
 use Rattle.plan_defs.specs.History.{IsHistory}
 use Rattle.decision_log.specs.Undoing.{IsFormer}
 use Rattle.plan_steps.specs.declared.subject.Subject.{Subject}
-use Rattle.plan_steps.specs.Subjects.{IsOn}
+use Rattle.plan_steps.specs.Subjects.{IsOfSubject}
 use Rattle.plan_database.specs.declared.fault.Outcome.{Outcome}
 use Rattle.plan_database.specs.declared.fault.Outcome.TheVariants.{Consistent, Inconsistent}
 use Rattle.plan_database.specs.declared.fault.DbFault.{DbFault}
@@ -106,13 +106,13 @@ pub record TakesOutOn (model : Model) (subject : Subject) (below list : List Dec
   pub decision : Decision
   pub back : List Decision
   pub parts : below ≡ front ++ decision ∷ back
-  pub on : IsOn subject decision
+  pub on : IsOfSubject subject decision
   pub settles : Settles model (front ++ back) list
 
 -- a decision on the subject stands
 abbrev pub HasDecisionOn : Database → Subject → Type 0
 HasDecisionOn database subject =
-    (decision : Decision) × Contains (standing database.history) decision × IsOn subject decision
+    (decision : Decision) × Contains (standing database.history) decision × IsOfSubject subject decision
 
 -- what taking out the decision on a subject answers and leaves; memory can be wanting only where there is one
 abbrev pub Resets : Database → Subject → Result Outcome DbFault → Database → Type 0

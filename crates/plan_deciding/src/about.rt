@@ -1,28 +1,9 @@
-//! Rejectable roots, and whether items are about them.
+//! Whether items are about roots.
 
 ghost use Rattle.std.specs.Prelude.{◌↔◌, IsTrue};
-ghost use Rattle.model_core.specs.Tokens.{IsRejectable};
 ghost use Rattle.plan_deciding.specs.RootItems.{IsPartOfRoot, NamePartOfRoot, IsAboutRoot};
 
-use eu_name::name::TokenName;
 use model_core::item::{Item, Term};
-use model_core::model::{Model, RootKind};
-
-/// Whether the token may be rejected.
-pub fn is_rejectable(model: &Model, token: &TokenName) -> bool
-    ensures { IsTrue result ↔ IsRejectable model.now token.now }
-{
-    if !token.steps.is_empty() {
-        return false;
-    }
-    match model.problem.roots.as_slice().get(token.root as usize) {
-        Some(found) => match found.kind {
-            RootKind::Rejectable => true,
-            RootKind::Goal | RootKind::Fact => false,
-        },
-        None => false,
-    }
-}
 
 // Whether the term is a part of the root of this number.
 fn is_part_of_root(term: Term, root: u32) -> bool

@@ -21,13 +21,13 @@ ghost use Rattle.plan_opening.specs.Wanted.{ArePreds};
 ghost use Rattle.plan_deciding.specs.TakingUp.{MayFollow, TakesUp};
 
 use super::begun::post_begun;
-use super::place::place_of;
 use constraint_net::NetFault;
 use eu_name::name::TokenName;
 use eu_name::sequence::Sequence;
 use model_core::model::Model;
 use model_core::view::TokenState;
 use plan_opening::open;
+use plan_posting::place_of;
 use plan_store::{OpenBlock, Store};
 use std::alloc::Global;
 

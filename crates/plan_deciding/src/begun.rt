@@ -17,13 +17,13 @@ ghost use Rattle.plan_posting.specs.Tables.{HaveTables};
 ghost use Rattle.plan_deciding.specs.RootItems.{SaysOfRoot, SaysAmong, EntrySays, EntriesSay, SaysInBlockAt, SaysInBlocks, SaysAnywhere, SaysOfRejectable};
 ghost use Rattle.plan_deciding.specs.RootItems.{PostsSaid, CanPostEntry, CanPostItems};
 
-use super::about::{is_about_root, is_rejectable};
+use super::about::is_about_root;
 use eu_name::name::TokenName;
 use model_core::item::Item;
 use model_core::model::Model;
 use model_core::rule::{Block, Entry};
 use plan_opening::post_what_counts;
-use plan_posting::Origin;
+use plan_posting::{Origin, is_rejectable};
 use plan_store::{OpenBlock, Store};
 use rule_engine::block_of;
 use std::alloc::{AllocError, Global};

@@ -13,7 +13,6 @@ mod activate;
 mod begun;
 mod merge;
 mod order;
-mod place;
 mod reject;
 mod specify;
 mod taking;

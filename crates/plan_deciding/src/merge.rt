@@ -17,13 +17,12 @@ ghost use Rattle.plan_deciding.specs.Merging.{HasPartsAt, ClaimsSamePart, Claims
 ghost use Rattle.plan_deciding.specs.TakingUp.{MayFollow, TakesUp};
 
 use super::begun::post_begun;
-use super::place::place_of;
 use constraint_net::NetFault;
 use eu_name::name::{Part, TokenName};
 use model_core::model::Model;
 use model_core::view::TokenState;
 use plan_opening::parts_of;
-use plan_posting::{PartAt, post_equal};
+use plan_posting::{PartAt, place_of, post_equal};
 use plan_store::Store;
 use std::alloc::{AllocError, Global};
 

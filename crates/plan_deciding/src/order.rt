@@ -7,10 +7,9 @@ ghost use Rattle.plan_posting.specs.Origins.{content_now};
 ghost use Rattle.plan_posting.specs.Terms.{HasTimes};
 ghost use Rattle.plan_deciding.specs.TakingUp.{TakesUp};
 
-use super::place::place_of;
 use constraint_net::NetFault;
 use eu_name::name::{Part, TokenName};
-use plan_posting::{PartAt, post_at_most};
+use plan_posting::{PartAt, place_of, post_at_most};
 use plan_store::Store;
 
 /// Takes up that the first token ends before the second starts.

@@ -7,10 +7,10 @@ ghost use Rattle.plan_store.specs.StoreMarks.{KeepStoreMarks};
 ghost use Rattle.plan_posting.specs.Origins.{content_now};
 ghost use Rattle.plan_deciding.specs.TakingUp.{TakesUp};
 
-use super::place::place_of;
 use constraint_net::NetFault;
 use eu_name::name::TokenName;
 use model_core::view::TokenState;
+use plan_posting::place_of;
 use plan_store::Store;
 
 /// Takes up that the token doesn't take place.

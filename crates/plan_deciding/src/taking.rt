@@ -22,7 +22,6 @@ ghost use Rattle.plan_deciding.specs.TakingUp.{MayFollow, TakesUp};
 use super::activate::activate;
 use super::merge::merge;
 use super::order::order;
-use super::place::place_of;
 use super::reject::reject;
 use super::specify::specify;
 use constraint_net::NetFault;
@@ -30,6 +29,7 @@ use eu_name::name::{Part, TokenName};
 use model_core::decision::Decision;
 use model_core::model::Model;
 use plan_opening::parts_of;
+use plan_posting::place_of;
 use plan_store::{Store, VarKey};
 use std::alloc::{AllocError, Global};
 

@@ -1,5 +1,7 @@
 pub mod Members
 pub mod Ordered
+pub mod Meanings
+pub mod Knowing
 pub mod BlockOrder
 pub mod States
 pub mod Approaching

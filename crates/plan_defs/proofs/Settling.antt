@@ -52,7 +52,7 @@ Settles-idempotent model decisions settled p =
     subst (λ list. SettlesAfter model [] list settled) (sym again.1.0) again.1.1
 
 -- no more is left than there was
-settled_few : (model : Model) (kept decisions settled : List Decision) → SettlesAfter model kept decisions settled → length settled ≤ length kept + length decisions
+pub settled_few : (model : Model) (kept decisions settled : List Decision) → SettlesAfter model kept decisions settled → length settled ≤ length kept + length decisions
 settled_few model kept [] settled same = omega (arith, ap length same)
 settled_few model kept (decision ∷ decisions) settled (inl stays) = omega (arith, settled_few model (kept ++ decision ∷ []) decisions settled stays.1, length-append kept (decision ∷ []))
 settled_few model kept (decision ∷ decisions) settled (inr goes) = omega (arith, settled_few model kept decisions settled goes.1)

@@ -1,5 +1,6 @@
 -- Which plans are valid, clause by clause, read from their values alone.
-use Rattle.std.specs.Prelude.{◌≡◌, ◌≢◌, ℕ, ◌<◌, ◌⊎◌, ℤ, pos, ◌+ℤ◌, ◌≤ℤ◌, ◌<ℤ◌, Bool, true, false, ⊤, List, [], ◌∷◌, ◌++◌}
+use Rattle.std.specs.Prelude.{◌≡◌, ◌≢◌, ℕ, ◌<◌, ◌⊎◌, ℤ, pos, ◌+ℤ◌, ◌≤ℤ◌, ◌<ℤ◌, Bool, true}
+use Rattle.std.specs.Prelude.{false, ⊤, List, [], ◌∷◌, ◌++◌}
 use Rattle.std.specs.Prelude.{Some, length, slice_get, Contains}
 use Rattle.std.specs.List.{AllZip}
 use Rattle.eu_name.specs.declared.name.Part.{Part}

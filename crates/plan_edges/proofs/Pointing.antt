@@ -21,7 +21,7 @@ use Rattle.model_core.specs.declared.item.Kind.{Kind}
 use Rattle.model_core.specs.declared.item.Term.{Term}
 use Rattle.plan_defs.specs.Claims.{Claim}
 use Rattle.plan_defs.specs.Terms.{Context, Argument, Variable, Value, ArgumentCounts, Counts, Means}
-use Rattle.plan_posting.proofs.Meaning.{means_one}
+use Rattle.plan_defs.proofs.Meanings.{means_once}
 use Rattle.plan_edges.specs.declared.edge.NamedEdge.{NamedEdge}
 use Rattle.plan_edges.specs.declared.edge.Point.{Point}
 use Rattle.plan_edges.specs.Adding.{AddsEdges}
@@ -122,7 +122,7 @@ pub term_point : (model : Model) (decisions : List Decision) (context : Context)
     → MatchOption found ((point : Point) → IsTermPoint model decisions context term point → ⊥) (IsTermPoint model decisions context term)
 term_point model decisions context term token which (Some point) means is = (Variable (Token token which), means, is)
 term_point model decisions context term token which None means none = λ point meant.
-    let same = means_one context term meant.0 (Variable (Token token which)) meant.1 means in
+    let same = means_once context term meant.0 (Variable (Token token which)) meant.1 means in
     none point (subst (λ a. IsArgumentPoint model decisions a point) same meant.2)
 
 -- what is said of an argument that is a point counts

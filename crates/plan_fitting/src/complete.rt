@@ -18,7 +18,8 @@ use model_core::item::Term;
 use model_core::model::Model;
 use model_core::rule::{Entry, Guard, Side, Turn};
 use model_core::view::TokenState;
-use plan_refusals::{is_rejectable, state_of};
+use plan_posting::is_rejectable;
+use plan_refusals::state_of;
 use plan_store::{OpenBlock, Store};
 use rule_engine::block_of;
 use std::alloc::{AllocError, Global};
@@ -103,26 +104,13 @@ fn names_one_out(alloc: Global, model: &Model, store: &Store, guard: Guard) -> b
     is_out(alloc, model, store, one) || is_out(alloc, model, store, other)
 }
 
-// The block to which the turn leads from this one.
-fn behind(alloc: Global, block: &OpenBlock, turn: Turn) -> Result<OpenBlock, AllocError>
-    ensures { IfOk result (λ found. found ≡ block_behind block.now turn.entry turn.side) }
-{
-    let mut path = Vec::from_slice(alloc, block.path.as_slice())?;
-    path.push(turn)?;
-    Ok(OpenBlock {
-        token: block.token,
-        rule: block.rule,
-        path: Sequence::from_vec(path),
-    })
-}
-
 // Whether the block to which the turn leads is open.
 fn is_open(alloc: Global, store: &Store, block: &OpenBlock, turn: Turn) -> Result<bool, AllocError>
     ensures { IfOk result (λ found. MatchBool found
         (Contains store.now.blocks (block_behind block.now turn.entry turn.side))
         (Contains store.now.blocks (block_behind block.now turn.entry turn.side) → ⊥)) }
 {
-    let found = behind(alloc, block, turn)?;
+    let found = block.behind(alloc, turn)?;
     Ok(store.find_block(&found).is_some())
 }
 

@@ -1,4 +1,4 @@
--- A variable has one base, and a term one meaning.
+-- A variable has one base.
 use Rattle.std.proofs.Common.{◌≡◌, ℕ, Some, sym, ap, ◌∙◌, subst}
 use Rattle.std.specs.Prelude.{slice_get}
 use Rattle.eu_name.specs.declared.name.Part.{Part}
@@ -6,8 +6,6 @@ use Rattle.eu_name.specs.declared.name.Part.TheVariants.{Start, End, Duration, O
 use Rattle.eu_name.specs.declared.name.VarName.{VarName}
 use Rattle.eu_name.specs.declared.name.VarName.TheVariants as variables
 use Rattle.model_core.specs.declared.class.Pred.{Pred}
-use Rattle.model_core.specs.declared.item.Term.{Term}
-use Rattle.model_core.specs.declared.item.Term.TheVariants.{Lit, Here, Slot, Local, Global, Root}
 use Rattle.model_core.specs.declared.model.Model.{Model}
 use Rattle.model_core.specs.declared.rule.Rule.{Rule}
 use Rattle.model_core.specs.declared.rule.Slot as slots
@@ -17,7 +15,6 @@ use Rattle.model_core.specs.Variables.{HasBase, HasPartBase, HasParameter, HasLo
 use Rattle.model_core.proofs.Leading.{token_once}
 use Rattle.model_core.proofs.Rules.{has_rule_once}
 use Rattle.plan_defs.proofs.Members.{get_same}
-use Rattle.plan_defs.specs.Terms.{Context, InProblem, InRule, Argument, Means}
 
 abbrev base_of : VarDecl → Base
 base_of variable = variable.base
@@ -53,13 +50,3 @@ base_once model (variables.Local token rule number) one other p q =
     let same = token_once model token p.slot q.slot p.has_token q.has_token in
     p.is_base ∙ ap base_of (local_same model p.slot rule number p.variable q.variable p.has_local
     (subst (λ (s : slots.Slot). HasLocal model s rule number q.variable) (sym same) q.has_local)) ∙ sym q.is_base
-
--- a term means one thing where it stands
-pub means_once : (context : Context) (term : Term) (one other : Argument) → Means context term one → Means context term other → one ≡ other
-means_once context (Lit value) one other p q = p ∙ sym q
-means_once context (Global number) one other p q = p ∙ sym q
-means_once context (Root number part) one other p q = p ∙ sym q
-means_once (InRule token rule) (Here part) one other p q = p ∙ sym q
-means_once (InRule token rule) (Slot number part) one other p q = p ∙ sym q
-means_once (InRule token rule) (Local number) one other p q = p ∙ sym q
-means_once InProblem term one other p q = absurd p

@@ -31,7 +31,7 @@ use Rattle.plan_defs.proofs.Members.{contains_from_get}
 use Rattle.plan_defs.proofs.States.{gives_domain, gives_same}
 use Rattle.plan_growth.specs.Growth.{block_at}
 use Rattle.plan_growth.specs.Laws.{AreInPlace}
-use Rattle.plan_growth.proofs.Bases.{means_once}
+use Rattle.plan_defs.proofs.Meanings.{means_once}
 use Rattle.plan_growth.proofs.Supporting.{Follows-push}
 
 -- ---- the last of a list

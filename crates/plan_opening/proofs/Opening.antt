@@ -41,6 +41,7 @@ use Rattle.plan_growth.proofs.Owing.{no_void, asked_is_owed}
 use Rattle.plan_progress.specs.Coming.{BlockComes}
 use Rattle.plan_progress.specs.Progress.{IsJustified, MissesNothing}
 use Rattle.plan_progress.proofs.Blocks.{block_once, rule_once}
+use Rattle.plan_progress.proofs.Coming.{local_once}
 use Rattle.plan_progress.proofs.Growing.{block_justified}
 use Rattle.plan_progress.proofs.Keeping.{block_misses}
 use Rattle.plan_progress.proofs.Lawful.{rule_lawful}
@@ -242,22 +243,6 @@ abbrev name_of : VarDomain → VarName
 name_of each = each.name
 
 module _ (model : Model) (lawful : IsLawful model) where
-  -- a local stands in one block of its rule
-  local_once : (block other : TokenBlock) (entries stood : Entries) (local : ℕ) → block.token ≡ other.token → block.rule ≡ other.rule
-      → IsBlock model block entries → IsBlock model other stood → Contains (direct entries) (OfLocal local) → Contains (direct stood) (OfLocal local) → block ≡ other
-  local_once block other entries stood local tokens rules is is_other stands stands_other =
-      let of_rule = rule_lawful model lawful is.slot.pred block.rule is.rule is.has_rule in
-      let here = get_from_contains (direct entries) (OfLocal local) stands in
-      let there = get_from_contains (direct stood) (OfLocal local) stands_other in
-      let one : StandsAt is.rule.top block.path here.0 (OfLocal local) = record { block = entries; way = is.way; stands = here.1 } in
-      let same_rule = rule_once model _ _ block other entries stood tokens rules is is_other in
-      let two : StandsAt is.rule.top other.path there.0 (OfLocal local) =
-      subst (λ (r : Rule). StandsAt r.top other.path there.0 (OfLocal local)) (sym same_rule) (record { block = stood; way = is_other.way; stands = there.1 }) in
-      let declared = (of_rule.entries block.path here.0 (OfLocal local) one).1 in
-      let once = of_rule.locals_stand local (get_below is.rule.locals local declared.0 declared.1) in
-      let paths : block.path ≡ other.path = (once.only block.path here.0 one).0 ∙ sym (once.only other.path there.0 two).0 in
-      (λ i. record { token = tokens i; rule = rules i; path = paths i })
-
   module _ (block : OpenBlock) (old new : Stored) (sound : IsSnapshot (snapshot_of new)) (opens : OpensBlock model block old new) where
     abbrev had : Content
     had = named_content (snapshot_of old)
@@ -305,7 +290,7 @@ module _ (model : Model) (lawful : IsLawful model) where
       local_fresh : (number : ℕ) → Contains (direct entries) (OfLocal number) → Contains had.names (name.Local named.token named.rule number) → ⊥
       local_fresh number stands there =
           let open_in : StandsOpen model (shown had) named.token named.rule number = (is.variables (name.Local named.token named.rule number)).1 there in
-          let same = local_once open_in.block named open_in.entries entries number open_in.of_token open_in.of_rule open_in.is_block is_block open_in.stands stands in
+          let same = local_once model lawful open_in.block named open_in.entries entries number open_in.of_token open_in.of_rule open_in.is_block is_block open_in.stands stands in
           not_there (subst (Contains had.blocks) same open_in.is_open)
 
       stands_in : (key : VarKey) (base : Base) → (wants : WantsOfBlock model had.tokens block key base) → Contains (direct entries) (OfLocal wants.number)

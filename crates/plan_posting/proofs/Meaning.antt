@@ -44,18 +44,6 @@ meant InProblem (terms.Here part) stands = absurd stands
 meant InProblem (terms.Slot number part) stands = absurd stands
 meant InProblem (terms.Local number) stands = absurd stands
 
--- and one thing
-pub means_one : (context : Context) (term : Term) (one other : Argument) → Means context term one → Means context term other → one ≡ other
-means_one context (terms.Lit value) one other p q = p ∙ sym q
-means_one context (terms.Global number) one other p q = p ∙ sym q
-means_one context (terms.Root number part) one other p q = p ∙ sym q
-means_one (InRule token rule) (terms.Here part) one other p q = p ∙ sym q
-means_one (InRule token rule) (terms.Slot number part) one other p q = p ∙ sym q
-means_one (InRule token rule) (terms.Local number) one other p q = p ∙ sym q
-means_one InProblem (terms.Here part) one other p q = absurd p
-means_one InProblem (terms.Slot number part) one other p q = absurd p
-means_one InProblem (terms.Local number) one other p q = absurd p
-
 -- a variable's number is that of an argument
 pub named_argument : (names : List VarName) (count : ℕ) → length names ≡ count → (one : VarName) (arg : NetArg) → IsNamedArgument names (Variable one) arg → IsArgument count arg
 named_argument names count long one arg named =

@@ -25,7 +25,8 @@ use Rattle.plan_store.proofs.Naming.{length_names}
 use Rattle.plan_posting.specs.Origins.{content_now}
 use Rattle.plan_posting.specs.PostingLaws.{KeysAreNamed, NamedTermsAreThere}
 use Rattle.plan_posting.specs.Terms.{IsPartThere, HasPartAt}
-use Rattle.plan_posting.proofs.Meaning.{means_one, named_argument}
+use Rattle.plan_defs.proofs.Meanings.{means_once}
+use Rattle.plan_posting.proofs.Meaning.{named_argument}
 
 -- the name that a place has
 pub name_is : (stored : Stored) (place : ℕ) (token : TokenName) → IsNamedAt (tokens_now stored.past) place token → name_at (content_now stored).tokens place ≡ token
@@ -94,6 +95,6 @@ keys_are_named stored key there =
 -- and so is a term that means it
 pub named_terms_are_there : NamedTermsAreThere
 named_terms_are_there content context term one means there = λ other also.
-    let argument = means_one context term (Variable one) (Variable other) means also in
+    let argument = means_once context term (Variable one) (Variable other) means also in
     let same : one ≡ other = cc in
     subst (Contains content.names) same there

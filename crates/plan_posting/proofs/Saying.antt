@@ -11,7 +11,7 @@ use Rattle.model_core.specs.Decided.{IsTaken}
 use Rattle.plan_defs.specs.Terms.{Context, InProblem, InRule, Argument, Means, ArgumentCounts}
 use Rattle.plan_posting.specs.Counting.{TermCounts}
 use Rattle.plan_posting.specs.PostingLaws.{WhatCountsIsSaid}
-use Rattle.plan_posting.proofs.Meaning.{means_one}
+use Rattle.plan_defs.proofs.Meanings.{means_once}
 
 module _ (model : Model) (Taken : TokenName → Type 0) (context : Context) where
   terms_count : (terms : List Term) (arguments : List Argument) → AllZip (Means context) terms arguments → All (ArgumentCounts model Taken) arguments → All (TermCounts model Taken context) terms
@@ -20,7 +20,7 @@ module _ (model : Model) (Taken : TokenName → Type 0) (context : Context) wher
   terms_count (term ∷ terms) [] zip all = absurd zip
   terms_count (term ∷ terms) (argument ∷ arguments) zip all =
       All-cons (TermCounts model Taken context) term terms
-      (λ other means. subst (ArgumentCounts model Taken) (means_one context term argument other zip.0 means) (All-head (ArgumentCounts model Taken) argument arguments all))
+      (λ other means. subst (ArgumentCounts model Taken) (means_once context term argument other zip.0 means) (All-head (ArgumentCounts model Taken) argument arguments all))
       (terms_count terms arguments zip.1 (All-tail (ArgumentCounts model Taken) argument arguments all))
 
   arguments_count : (terms : List Term) (arguments : List Argument) → AllZip (Means context) terms arguments → All (TermCounts model Taken context) terms → All (ArgumentCounts model Taken) arguments

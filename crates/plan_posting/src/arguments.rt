@@ -23,8 +23,8 @@ use rule_engine::slot_name;
 use std::alloc::{AllocError, Global};
 use token_store::Tokens;
 
-// The place of the token of this name.
-fn place_of(tokens: &Tokens, name: &TokenName) -> u32
+/// The place of the token of this name.
+pub fn place_of(tokens: &Tokens, name: &TokenName) -> u32
     requires { Contains (token_names (tokens_now tokens.now)) name.now }
     ensures { IsNamedAt (tokens_now tokens.now) result name.now }
 {

@@ -14,6 +14,7 @@ ghost use Rattle.plan_posting.specs.Counting.{IsTakenState, AreTokenStates, AreR
 
 use super::arguments::root_place;
 use super::origin::Origin;
+use eu_name::name::TokenName;
 use model_core::item::{Item, Term};
 use model_core::model::{Model, RootKind};
 use model_core::view::TokenState;
@@ -22,7 +23,7 @@ use std::alloc::Global;
 use token_store::Tokens;
 
 // Whether the root of this number may be rejected.
-fn is_rejectable(model: &Model, root: u32) -> bool
+fn is_rejectable_root(model: &Model, root: u32) -> bool
     ensures { IsTrue result ↔ IsRejectable model.now (root_token root) }
 {
     match model.problem.roots.as_slice().get(root as usize) {
@@ -32,6 +33,13 @@ fn is_rejectable(model: &Model, root: u32) -> bool
         },
         None => false,
     }
+}
+
+/// Whether the token is a root that may be rejected.
+pub fn is_rejectable(model: &Model, token: &TokenName) -> bool
+    ensures { IsTrue result ↔ IsRejectable model.now token.now }
+{
+    token.steps.is_empty() && is_rejectable_root(model, token.root)
 }
 
 // Whether a token in this state takes place, by itself or as another one.
@@ -70,7 +78,7 @@ fn token_counts(model: &Model, store: &Store, place: u32) -> bool
             if !name.steps.is_empty() {
                 return true;
             }
-            !is_rejectable(model, name.root) || is_taken(store.tokens(), place)
+            !is_rejectable_root(model, name.root) || is_taken(store.tokens(), place)
         }
         None => unreachable!(),
     }
@@ -82,7 +90,7 @@ fn root_counts(alloc: Global, model: &Model, store: &Store, number: u32) -> bool
     ensures { (decisions : List Decision) → AreTokenStates model.now decisions (snapshot_of store.now)
         → (IsTrue result ↔ OwnerCounts model.now (IsTaken decisions) (root_token number)) }
 {
-    if !is_rejectable(model, number) {
+    if !is_rejectable_root(model, number) {
         return true;
     }
     let place = root_place(alloc, store.tokens(), number);

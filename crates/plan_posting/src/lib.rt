@@ -19,8 +19,8 @@ mod posting;
 pub mod relations;
 mod tables;
 
-pub use arguments::argument_of;
-pub use counting::{counts, term_counts};
+pub use arguments::{argument_of, place_of};
+pub use counting::{counts, is_rejectable, term_counts};
 pub use origin::{Origin, PartAt};
 pub use posting::{
     post_at_most, post_constraint, post_equal, post_item, post_lasts, post_relation,

@@ -145,7 +145,7 @@ token_fresh model token old new is none comes name came named =
 
 module _ (model : Model) (lawful : IsLawful model) where
   -- a local stands in one block of its rule
-  local_once : (block other : TokenBlock) (entries stood : Entries) (local : ℕ) → block.token ≡ other.token → block.rule ≡ other.rule
+  pub local_once : (block other : TokenBlock) (entries stood : Entries) (local : ℕ) → block.token ≡ other.token → block.rule ≡ other.rule
       → IsBlock model block entries → IsBlock model other stood → Contains (direct entries) (OfLocal local) → Contains (direct stood) (OfLocal local) → block ≡ other
   local_once block other entries stood local tokens rules is is_other stands stands_other =
       let of_rule = rule_lawful model lawful is.slot.pred block.rule is.rule is.has_rule in

@@ -15,11 +15,12 @@ ghost use Rattle.plan_refusals.specs.Reasons.{IsFirstReason};
 
 use super::checks::{is_same, is_specified};
 use super::reason::Reason;
-use super::tokens::{is_full, is_rejectable, state_of, undecided, variable_counts};
+use super::tokens::{is_full, state_of, undecided, variable_counts};
 use eu_name::name::{TokenName, VarName};
 use model_core::decision::Decision;
 use model_core::model::Model;
 use plan_bases::{have_same_predicate, is_declared};
+use plan_posting::is_rejectable;
 use plan_store::Store;
 use plan_view::are_ordered;
 use timeline_core::takes_place;

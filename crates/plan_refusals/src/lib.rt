@@ -11,4 +11,4 @@ mod tokens;
 
 pub use judge::first_reason;
 pub use reason::Reason;
-pub use tokens::{is_rejectable, state_of};
+pub use tokens::state_of;

@@ -4,7 +4,6 @@ ghost use Rattle.std.specs.Prelude.{◌≡◌, ◌≢◌, ◌↔◌, ◌≤◌, 
 ghost use Rattle.model_core.specs.declared.decision.Decision.{Decision};
 ghost use Rattle.model_core.specs.declared.model.Model.{Model as Problem};
 ghost use Rattle.model_core.specs.declared.view.TokenState.{TokenState as Kept};
-ghost use Rattle.model_core.specs.declared.model.RootKind.TheVariants.{Rejectable};
 ghost use Rattle.model_core.specs.Decided.{IsTaken};
 ghost use Rattle.model_core.specs.Tokens.{IsRejectable};
 ghost use Rattle.plan_defs.specs.Refusals.{AreActive};
@@ -16,9 +15,9 @@ ghost use Rattle.plan_refusals.specs.Judging.{FindsState, AreTold, FindsUndecide
 
 use super::reason::Reason;
 use eu_name::name::{TokenName, VarName};
-use model_core::model::{Model, RootKind};
+use model_core::model::Model;
 use model_core::view::TokenState;
-use plan_values::tokens::root_at;
+use plan_posting::is_rejectable;
 use token_store::Tokens;
 
 // How many tokens may be active.
@@ -91,29 +90,6 @@ pub fn is_full(tokens: &Tokens) -> bool
         → (IsTrue result ↔ AreActive model decisions 512) }
 {
     count_active(tokens) >= MOST_ACTIVE
-}
-
-/// Whether the token is a root that may be rejected.
-pub fn is_rejectable(model: &Model, token: &TokenName) -> bool
-    ensures { IsTrue result ↔ IsRejectable model.now token.now }
-{
-    if !token.steps.is_empty() {
-        return false;
-    }
-    match root_at(model, token.root) {
-        Some(root) => is_rejectable_kind(root.kind),
-        None => false,
-    }
-}
-
-// Whether roots of this kind may be rejected.
-fn is_rejectable_kind(kind: RootKind) -> bool
-    ensures { IsTrue result ↔ (kind ≡ Rejectable) }
-{
-    match kind {
-        RootKind::Rejectable => true,
-        RootKind::Goal | RootKind::Fact => false,
-    }
 }
 
 // Whether what is said of the token counts: if it may be rejected, it is taken.

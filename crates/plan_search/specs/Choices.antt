@@ -1,5 +1,6 @@
 -- Which flaw of a state comes first, and what can be decided of it.
-use Rattle.std.specs.Prelude.{◌≡◌, ◌↔◌, ℕ, ◌<◌, ◌⊎◌, ℤ, ◌<ℤ◌, List, [], ◌∷◌, ◌++◌, map, AllPairs, Contains}
+use Rattle.std.specs.Prelude.{◌≡◌, ◌↔◌, ℕ, ◌<◌, ◌⊎◌, ℤ, ◌<ℤ◌, List, [], ◌∷◌, ◌++◌, map}
+use Rattle.std.specs.Prelude.{AllPairs, Contains}
 use Rattle.domain_core.specs.Domain.{Domain, Has}
 use Rattle.eu_name.specs.declared.name.TokenName.{TokenName}
 use Rattle.eu_name.specs.declared.name.VarName.{VarName}

@@ -39,7 +39,8 @@ TellsLeftOut model decisions bound flaw true = (state : State) → IsLeftOut mod
 TellsLeftOut model decisions bound flaw false = (state : State) → IsLeftOut model decisions state bound flaw → ⊥
 
 -- the first flaw is looked at, and its choices are visited
-pub record LooksAtFlaw (model : Model) (bound : ℕ) (Visit : ℕ → List Decision → SearchOutcome → Type 0) (decisions : List Decision)
+pub record LooksAtFlaw (model : Model) (bound : ℕ)
+    (Visit : ℕ → List Decision → SearchOutcome → Type 0) (decisions : List Decision)
     (state : State) (units : ℕ) (outcome : SearchOutcome) : Type 0 where
   pub flaw : Flaw
   pub is_first : IsFirstFlaw model decisions state flaw
@@ -50,7 +51,8 @@ pub record LooksAtFlaw (model : Model) (bound : ℕ) (Visit : ℕ → List Decis
   pub visits : VisitsEach Visit decisions choices units out outcome
 
 -- the least state of the list has no flaw, or its first flaw is looked at
-pub record LooksAtState (model : Model) (bound : ℕ) (Visit : ℕ → List Decision → SearchOutcome → Type 0) (decisions : List Decision)
+pub record LooksAtState (model : Model) (bound : ℕ)
+    (Visit : ℕ → List Decision → SearchOutcome → Type 0) (decisions : List Decision)
     (units : ℕ) (outcome : SearchOutcome) : Type 0 where
   pub state : State
   pub least : IsLeast model decisions state

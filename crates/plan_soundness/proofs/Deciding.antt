@@ -14,7 +14,7 @@ use Rattle.model_core.specs.declared.rule.Slot.{Slot}
 use Rattle.model_core.specs.Decided.{IsActivated, IsRejected, IsDecided}
 use Rattle.model_core.specs.Tokens.{HasToken, IsFact, IsRootOfKind}
 use Rattle.plan_defs.proofs.Ordered.{contains_head, contains_later, contains_cases, contains_none}
-use Rattle.plan_states.proofs.Admitting.{same_token}
+use Rattle.plan_defs.proofs.Knowing.{same_token}
 use Rattle.plan_states.proofs.Deciding.{Decides}
 
 decides_or_not : (decision : Decision) (token : TokenName) → Decides decision token ⊎ (Decides decision token → ⊥)

@@ -53,7 +53,8 @@ use Rattle.plan_defs.proofs.Lower.{says_further}
 use Rattle.plan_defs.proofs.Ordered.{contains_head, contains_later, contains_cases, contains_none}
 use Rattle.plan_states.specs.Flaws.{Unordered}
 use Rattle.plan_states.specs.StatePlans.{GivesOnly, TakesPlaceAs, IsTokenLine, IsLineIn}
-use Rattle.plan_states.proofs.Admitting.{admitted, same_token}
+use Rattle.plan_defs.proofs.Knowing.{same_token}
+use Rattle.plan_states.proofs.Admitting.{admitted}
 use Rattle.plan_states.proofs.Stating.{takes_not_rejected, merged_not_rejected}
 use Rattle.plan_soundness.specs.Soundness.{IsFlawlessPlan}
 use Rattle.plan_soundness.proofs.Agreeing.{agrees, surely_rejectable, taken_not_rejected}

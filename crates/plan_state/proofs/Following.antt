@@ -16,7 +16,7 @@ use Rattle.model_core.specs.State.{State, VarDomain}
 use Rattle.model_core.specs.Tokens.{HasToken}
 use Rattle.model_core.proofs.Leading.{token_once}
 use Rattle.plan_defs.specs.Refusals.{Refusal, Unknown, Decided, NotSamePredicate, Hinders, IsKnown, HaveSamePredicate, IsAdmissible}
-use Rattle.plan_defs.proofs.Ordered.{contains_head, contains_later, contains_cases, contains_none}
+use Rattle.plan_defs.proofs.Knowing.{known_or_not}
 use Rattle.plan_defs.proofs.Settling.{least_same}
 use Rattle.plan_growth.specs.Content.{shown, AreAlike}
 use Rattle.plan_store.specs.Stores.{Stored, snapshot_of, IsSnapshot, named_content}
@@ -26,14 +26,7 @@ use Rattle.plan_view.proofs.Seen.{put_in_order}
 use Rattle.timeline_core.specs.Unordered.{AreDecidedOnce}
 use Rattle.plan_state.specs.Advancing.{IsLeastOf, CanFollow}
 
--- ---- what is there or isn't
-
-same_or_not : {X : Type 0} (before : X → X → Type 0) → IsStrictTotalOrder before → (one other : X) → (one ≡ other) ⊎ (one ≡ other → ⊥)
-same_or_not {X} before order one other = elim (order.total one other) [
-  | inl less ↦ inr (λ same. order.irreflexive other (subst (λ x. before x other) same less))
-  | inr (inl same) ↦ inl same
-  | inr (inr more) ↦ inr (λ same. order.irreflexive other (subst (λ x. before other x) same more))
-]
+-- ---- numbers
 
 number_same_or_not : (one other : ℕ) → (one ≡ other) ⊎ (one ≡ other → ⊥)
 number_same_or_not one other = elim (cases_lt one other) [
@@ -43,44 +36,6 @@ number_same_or_not one other = elim (cases_lt one other) [
     | inr not_more ↦ inl (omega (arith, not_less, not_more))
   ]
 ]
-
-there_or_not : {X : Type 0} → ((one other : X) → (one ≡ other) ⊎ (one ≡ other → ⊥)) → (xs : List X) (x : X) → Contains xs x ⊎ (Contains xs x → ⊥)
-there_or_not decide [] x = inr (contains_none x)
-there_or_not decide (y ∷ xs) x = elim (decide y x) [
-  | inl same ↦ inl (subst (Contains (y ∷ xs)) same (contains_head y xs))
-  | inr apart ↦ elim (there_or_not decide xs x) [
-    | inl there ↦ inl (contains_later y x xs there)
-    | inr none ↦ inr (λ there. ⊎_elim apart none (contains_cases y x xs there))
-  ]
-]
-
-token_or_not : (tokens : List TokenName) (token : TokenName) → Contains tokens token ⊎ (Contains tokens token → ⊥)
-token_or_not = there_or_not (same_or_not _ token_order)
-
-abbrev IsGivenIn : List VarDomain → VarName → Type 0
-IsGivenIn entries name = (domain : Domain) × Contains entries (record { name = name; domain = domain })
-
-given_or_not : (entries : List VarDomain) (name : VarName) → IsGivenIn entries name ⊎ (IsGivenIn entries name → ⊥)
-given_or_not [] name = inr (λ given. contains_none _ given.1)
-given_or_not (entry ∷ entries) name = elim (same_or_not _ var_order entry.name name) [
-  | inl same ↦ inl (entry.domain, subst (λ n. Contains (entry ∷ entries) (record { name = n; domain = entry.domain })) same (contains_head entry entries))
-  | inr apart ↦ elim (given_or_not entries name) [
-    | inl given ↦ inl (given.0, contains_later entry _ entries given.1)
-    | inr none ↦ inr (λ given. ⊎_elim (λ same. apart (ap (λ (e : VarDomain). e.name) same)) (λ later. none (given.0, later)) (contains_cases entry _ entries given.1))
-  ]
-]
-
-both_or_not : (P Q : Type 0) → P ⊎ (P → ⊥) → Q ⊎ (Q → ⊥) → (P × Q) ⊎ (P × Q → ⊥)
-both_or_not P Q (inl p) (inl q) = inl (p, q)
-both_or_not P Q (inl p) (inr none) = inr (λ both. none both.1)
-both_or_not P Q (inr none) q = inr (λ both. none both.0)
-
-known_or_not : (state : State) (decision : Decision) → IsKnown state decision ⊎ (IsKnown state decision → ⊥)
-known_or_not state (Specify name value) = given_or_not state.entries name
-known_or_not state (Activate token) = token_or_not state.tokens token
-known_or_not state (Merge token target) = both_or_not _ _ (token_or_not state.tokens token) (token_or_not state.tokens target)
-known_or_not state (Reject token) = token_or_not state.tokens token
-known_or_not state (Order one other) = both_or_not _ _ (token_or_not state.tokens one) (token_or_not state.tokens other)
 
 -- ---- alike states
 

@@ -3,9 +3,7 @@ use Rattle.std.proofs.Common.{◌≡◌, List, [], ◌∷◌, ◌++◌, ◌⊎�
 use Rattle.std.specs.Prelude.{Contains}
 use Rattle.std.proofs.lemmas.List.Elements.{Contains-push_cases, Contains-append_left}
 use Rattle.eu_name.specs.declared.name.TokenName.{TokenName}
-use Rattle.eu_name.specs.NameOrder.{IsTokenBefore}
 use Rattle.eu_name.proofs.Members.{get_all, get_from_contains}
-use Rattle.eu_name.proofs.Orders.{token_order}
 use Rattle.model_core.specs.declared.decision.Decision.{Decision}
 use Rattle.model_core.specs.declared.decision.Decision.TheVariants.{Merge}
 use Rattle.model_core.specs.declared.model.Model.{Model}
@@ -15,7 +13,8 @@ use Rattle.model_core.specs.State.{State, IsState}
 use Rattle.model_core.specs.Tokens.{HasToken}
 use Rattle.plan_defs.specs.Refusals.{IsAdmissible, Unknown}
 use Rattle.plan_defs.specs.Settling.{SettlesAfter, IsSettled}
-use Rattle.plan_defs.proofs.Ordered.{contains_head, contains_later, contains_cases, contains_none}
+use Rattle.plan_defs.proofs.Knowing.{token_or_not}
+use Rattle.plan_defs.proofs.Ordered.{contains_none}
 
 -- the decision was admissible after others of the list
 pub record IsAdmitted (model : Model) (decisions : List Decision) (decision : Decision) : Type 0 where
@@ -46,27 +45,6 @@ pub admitted : (model : Model) (decisions : List Decision) (decision : Decision)
 admitted model decisions decision settled there =
     admitted_from model [] decisions decisions (λ d none. absurd (contains_none d none)) settled decision there
 
--- ---- what is on a list of tokens can be found out
-
-pub same_token : (a b : TokenName) → (a ≡ b) ⊎ (a ≡ b → ⊥)
-same_token a b = elim (token_order.total a b) [
-  | inl before ↦ inr (λ same. token_order.irreflexive b (subst (λ t. IsTokenBefore t b) same before))
-  | inr rest ↦ elim rest [
-    | inl same ↦ inl same
-    | inr after ↦ inr (λ same. token_order.irreflexive b (subst (λ t. IsTokenBefore b t) same after))
-  ]
-]
-
-pub there_or_not : (tokens : List TokenName) (token : TokenName) → Contains tokens token ⊎ (Contains tokens token → ⊥)
-there_or_not [] token = inr (λ none. contains_none token none)
-there_or_not (first ∷ tokens) token = elim (same_token first token) [
-  | inl same ↦ inl (subst (λ t. Contains (first ∷ tokens) t) same (contains_head first tokens))
-  | inr other ↦ elim (there_or_not tokens token) [
-    | inl later ↦ inl (contains_later first token tokens later)
-    | inr none ↦ inr (λ there. elim (contains_cases first token tokens there) [ inl same ↦ other same | inr later ↦ none later ])
-  ]
-]
-
 pub token_of_state : (model : Model) (state : State) (token : TokenName) → IsState model state → Contains state.tokens token → IsToken model token
 token_of_state model state token is there =
     let at = get_from_contains state.tokens token there in
@@ -76,7 +54,7 @@ token_of_state model state token is there =
 pub target_of_model : (model : Model) (decisions : List Decision) (token target : TokenName) → IsSettled model decisions → Contains decisions (Merge token target) → IsToken model target
 target_of_model model decisions token target settled there =
     let is = (admitted model decisions (Merge token target) settled there).admissible in
-    elim (there_or_not is.state.tokens target) [
+    elim (token_or_not is.state.tokens target) [
       | inl known ↦ token_of_state model is.state target is.least.closed.consistent.is_state known
       | inr not ↦ absurd (is.free Unknown (λ known. not known.1))
     ]

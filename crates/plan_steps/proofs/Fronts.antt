@@ -8,6 +8,7 @@ use Rattle.model_core.specs.declared.decision.Decision.{Decision}
 use Rattle.model_core.specs.declared.model.Model.{Model}
 use Rattle.plan_defs.specs.Refusals.{IsAdmissible}
 use Rattle.plan_defs.specs.Settling.{SettlesAfter, IsSettled}
+use Rattle.plan_defs.proofs.Settling.{settled_few}
 use Rattle.plan_state.specs.Advancing.{but_last, EndsAdmissibly}
 
 -- decisions that settle by themselves one after another settle together
@@ -18,13 +19,6 @@ settles_both model kept (decision ∷ front) back middle settled (inl stays) beh
     inl (stays.0, settles_both model (kept ++ decision ∷ []) front back middle settled stays.1 behind)
 settles_both model kept (decision ∷ front) back middle settled (inr goes) behind =
     inr (goes.0, settles_both model kept front back middle settled goes.1 behind)
-
--- no more stays than what was kept and what is gone over
-stays_within : (model : Model) (kept decisions settled : List Decision) → SettlesAfter model kept decisions settled → length settled ≤ length kept + length decisions
-stays_within model kept [] settled same = omega (arith, ap length same)
-stays_within model kept (decision ∷ decisions) settled (inl stays) =
-    omega (arith, stays_within model (kept ++ decision ∷ []) decisions settled stays.1, length-append kept (decision ∷ []))
-stays_within model kept (decision ∷ decisions) settled (inr goes) = omega (arith, stays_within model kept decisions settled goes.1)
 
 -- where as much stays as there was, the front stays, and the rest is settled after it
 pub front_stays : (model : Model) (kept front back settled : List Decision) → SettlesAfter model kept (front ++ back) settled
@@ -37,7 +31,7 @@ front_stays model kept (decision ∷ front) back settled (inl stays) long =
     let same = append_assoc kept (decision ∷ []) front in
     (inl (stays.0, subst (SettlesAfter model (kept ++ decision ∷ []) front) same rest.0), subst (λ list. SettlesAfter model list back settled) same rest.1)
 front_stays model kept (decision ∷ front) back settled (inr goes) long =
-    absurd (omega (arith, long, stays_within model kept (front ++ back) settled goes.1))
+    absurd (omega (arith, long, settled_few model kept (front ++ back) settled goes.1))
 
 module _ (model : Model) (decisions : List Decision) (settled : IsSettled model decisions) where
   -- a front of a settled list is settled
@@ -52,7 +46,7 @@ module _ (model : Model) (decisions : List Decision) (settled : IsSettled model 
     where
       admits : SettlesAfter model front (decision ∷ back) decisions → IsAdmissible model front decision
       admits (inl stays) = stays.0
-      admits (inr goes) = absurd (omega (arith, stays_within model front back decisions goes.1, ap length parts, length-append front (decision ∷ back)))
+      admits (inr goes) = absurd (omega (arith, settled_few model front back decisions goes.1, ap length parts, length-append front (decision ∷ back)))
 
   module _ (number : ℕ) (within : number < length decisions) where
     next_is : take (number + 1) decisions ≡ take number decisions ++ (cut_at decisions number within).here ∷ []

@@ -10,13 +10,13 @@ use Rattle.plan_steps.specs.declared.subject.Subject.TheVariants.{Variable, Toke
 
 -- the decision is on the subject: it gives the variable its value, says what becomes of the token, or puts the one token
 -- before the other
-abbrev pub IsOn : Subject → Decision → Type 0
-IsOn (Variable name) (Specify other value) = other ≡ name
-IsOn (Token token) (Activate other) = other ≡ token
-IsOn (Token token) (Merge other target) = other ≡ token
-IsOn (Token token) (Reject other) = other ≡ token
-IsOn (Order one other) (decisions.Order first second) = (first ≡ one) × (second ≡ other)
-IsOn subject decision = ⊥
+abbrev pub IsOfSubject : Subject → Decision → Type 0
+IsOfSubject (Variable name) (Specify other value) = other ≡ name
+IsOfSubject (Token token) (Activate other) = other ≡ token
+IsOfSubject (Token token) (Merge other target) = other ≡ token
+IsOfSubject (Token token) (Reject other) = other ≡ token
+IsOfSubject (Order one other) (decisions.Order first second) = (first ≡ one) × (second ≡ other)
+IsOfSubject subject decision = ⊥
 
 -- the decision at the place was taken out, and the rest settled
 pub record TakesOutAt (model : Model) (place : ℕ) (below list : List Decision) : Type 0 where

@@ -2,7 +2,7 @@
 
 ghost use Rattle.std.specs.Prelude.{◌≡◌, ◌↔◌, ◌<◌, IsTrue, Contains, MatchOption, length, slice_get, Some};
 ghost use Rattle.model_core.specs.declared.decision.Decision.{Decision as Taken};
-ghost use Rattle.plan_steps.specs.Subjects.{IsOn};
+ghost use Rattle.plan_steps.specs.Subjects.{IsOfSubject};
 
 use eu_name::laws::names_are_told_apart;
 use eu_name::name::{TokenName, VarName};
@@ -22,8 +22,8 @@ pub enum Subject {
 /// The place of the first decision on the subject, if there is one.
 pub fn place_of(decisions: &[Decision], subject: &Subject) -> Option<usize>
     ensures { MatchOption result
-        ((decision : Taken) → Contains decisions.now decision → IsOn subject.now decision → ⊥)
-        (λ place. (decision : Taken) × (slice_get decisions.now place ≡ Some decision) × IsOn subject.now decision) }
+        ((decision : Taken) → Contains decisions.now decision → IsOfSubject subject.now decision → ⊥)
+        (λ place. (decision : Taken) × (slice_get decisions.now place ≡ Some decision) × IsOfSubject subject.now decision) }
 {
     for (place, decision) in decisions.iter().enumerate() {
         if is_on(subject, decision) {
@@ -35,7 +35,7 @@ pub fn place_of(decisions: &[Decision], subject: &Subject) -> Option<usize>
 
 // Whether the decision is on the subject.
 fn is_on(subject: &Subject, decision: &Decision) -> bool
-    ensures { IsTrue result ↔ IsOn subject.now decision.now }
+    ensures { IsTrue result ↔ IsOfSubject subject.now decision.now }
 {
     match subject {
         Subject::Variable(name) => specifies(decision, name),
@@ -46,7 +46,7 @@ fn is_on(subject: &Subject, decision: &Decision) -> bool
 
 // Whether the decision gives the variable its value.
 fn specifies(decision: &Decision, name: &VarName) -> bool
-    ensures { IsTrue result ↔ IsOn (Subject.Variable name.now) decision.now }
+    ensures { IsTrue result ↔ IsOfSubject (Subject.Variable name.now) decision.now }
 {
     names_are_told_apart();
     match decision {
@@ -57,7 +57,7 @@ fn specifies(decision: &Decision, name: &VarName) -> bool
 
 // Whether the decision says what becomes of the token.
 fn decides(decision: &Decision, token: &TokenName) -> bool
-    ensures { IsTrue result ↔ IsOn (Subject.Token token.now) decision.now }
+    ensures { IsTrue result ↔ IsOfSubject (Subject.Token token.now) decision.now }
 {
     match decision {
         Decision::Activate(other) => is_same(other, token),
@@ -69,7 +69,7 @@ fn decides(decision: &Decision, token: &TokenName) -> bool
 
 // Whether the decision puts the one token before the other.
 fn is_order(decision: &Decision, one: &TokenName, other: &TokenName) -> bool
-    ensures { IsTrue result ↔ IsOn (Subject.Order one.now other.now) decision.now }
+    ensures { IsTrue result ↔ IsOfSubject (Subject.Order one.now other.now) decision.now }
 {
     match decision {
         Decision::Order(first, second) => is_same(first, one) && is_same(second, other),

@@ -1,5 +1,6 @@
 -- How often variables were written, and how that follows what they are.
-use Rattle.std.specs.Prelude.{◌≡◌, ℕ, ◌-◌, ◌^◌, ◌<◌, ◌≤◌, List, ◌++◌, ◌⊎◌, length, slice_get, slice_index_or, Some}
+use Rattle.std.specs.Prelude.{◌≡◌, ℕ, ◌-◌, ◌^◌, ◌<◌, ◌≤◌, List, ◌++◌, ◌⊎◌, length, slice_get}
+use Rattle.std.specs.Prelude.{slice_index_or, Some}
 use Rattle.domain_core.specs.Domain.{Domain, slack}
 use Rattle.eu_name.specs.declared.name.TokenName.{TokenName}
 use Rattle.eu_name.specs.declared.name.VarName.{VarName}

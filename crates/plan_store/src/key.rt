@@ -1,8 +1,12 @@
 //! What variables and open blocks go by in a store: the places of their tokens.
 
+ghost use Rattle.std.specs.Prelude.{◌≡◌, IfOk};
+ghost use Rattle.model_core.specs.Numbers.{turned};
+
 use eu_name::name::Part;
 use eu_name::sequence::Sequence;
 use model_core::rule::Turn;
+use std::alloc::{AllocError, Global};
 
 /// A variable, by the place of the token that it belongs to.
 #[derive(Clone, Copy, PartialEq, Eq, Hash)]
@@ -22,4 +26,20 @@ pub struct OpenBlock {
     pub rule: u16,
     /// The way to it from the rule's top block.
     pub path: Sequence<Turn>,
+}
+
+impl OpenBlock {
+    /// The block to which the turn leads from this one.
+    pub fn behind(&self, alloc: Global, turn: Turn) -> Result<OpenBlock, AllocError>
+        ensures { IfOk result (λ behind.
+            behind ≡ record self.now { path = turned self.now.path turn.entry turn.side }) }
+    {
+        let mut path = Vec::from_slice(alloc, self.path.as_slice())?;
+        path.push(turn)?;
+        Ok(OpenBlock {
+            token: self.token,
+            rule: self.rule,
+            path: Sequence::from_vec(path),
+        })
+    }
 }

@@ -23,7 +23,8 @@ use Rattle.plan_defs.proofs.Ordered.{contains_head, contains_later, contains_cas
 use Rattle.plan_swap.specs.Swapping.{swapped_token}
 use Rattle.plan_swap.proofs.Renaming.{swapped_twice}
 use Rattle.plan_swap.proofs.Having.{HaveSwapped, flipped}
-use Rattle.plan_swap.proofs.Meaning.{TakesOver, part_over, slot_over, moved_context, means_once, terms_moved, values_over}
+use Rattle.plan_defs.proofs.Meanings.{means_once}
+use Rattle.plan_swap.proofs.Meaning.{TakesOver, part_over, slot_over, moved_context, terms_moved, values_over}
 
 all_mean_once : (context : Context) (terms : List Term) (a b : List Argument) → AllZip (Means context) terms a → AllZip (Means context) terms b → a ≡ b
 all_mean_once context [] [] [] p q = refl

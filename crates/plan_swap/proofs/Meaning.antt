@@ -30,18 +30,6 @@ abbrev pub moved_context : TokenName → TokenName → Context → Context
 moved_context one other InProblem = InProblem
 moved_context one other (InRule token rule) = InRule (swapped_token one other token) rule
 
--- a term means one thing
-pub means_once : (context : Context) (term : Term) (a b : Argument) → Means context term a → Means context term b → a ≡ b
-means_once context (Lit value) a b p q = p ∙ sym q
-means_once context (Global number) a b p q = p ∙ sym q
-means_once context (Root number part) a b p q = p ∙ sym q
-means_once InProblem (Here part) a b p q = absurd p
-means_once InProblem (Slot number part) a b p q = absurd p
-means_once InProblem (Local number) a b p q = absurd p
-means_once (InRule token rule) (Here part) a b p q = p ∙ sym q
-means_once (InRule token rule) (Slot number part) a b p q = p ∙ sym q
-means_once (InRule token rule) (Local number) a b p q = p ∙ sym q
-
 module _ (model : Model) (old new : Plan) (one other : TokenName) (has : HaveSwapped model old new one other) where
   -- the argument has in the new plan what the other one had in the old one
   pub record TakesOver (was is : Argument) : Type 0 where

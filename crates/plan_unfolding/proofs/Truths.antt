@@ -33,7 +33,8 @@ use Rattle.plan_store.proofs.Naming.{names_are_once}
 use Rattle.plan_posting.specs.Counting.{TermCounts}
 use Rattle.plan_posting.specs.Origins.{content_now}
 use Rattle.plan_posting.specs.Terms.{CanStand, IsTermArgument}
-use Rattle.plan_posting.proofs.Meaning.{meant, means_one, can_post}
+use Rattle.plan_defs.proofs.Meanings.{means_once}
+use Rattle.plan_posting.proofs.Meaning.{meant, can_post}
 use Rattle.plan_unfolding.specs.Guards.{IsTruth, OpensOnly}
 
 -- ---- truths
@@ -87,7 +88,7 @@ module _ (model : Model) (decisions : List Decision) (content : Content) (contex
 
   has_counted : (term : Term) (domain : Domain) → MayBe model (situation_of decisions (shown content)) context term domain → TermCounts model (IsTaken decisions) context term
   has_counted term domain may = λ argument means.
-      subst (ArgumentCounts model (IsTaken decisions)) (means_one context term may.argument argument may.means means) may.counts
+      subst (ArgumentCounts model (IsTaken decisions)) (means_once context term may.argument argument may.means means) may.counts
 
   module _ (long : length content.names ≡ length content.domains) where
     domain_given : (argument : Argument) (arg : NetArg) → IsNamedArgument content.names argument arg → HasDomain (Gives (shown content)) argument (domain_of content.domains arg)

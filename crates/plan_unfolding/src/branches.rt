@@ -12,27 +12,12 @@ ghost use Rattle.plan_unfolding.specs.Reading.{block_named, CanRead, CanReadAt, 
 use super::guards::open_side;
 use super::reading::{copy_block, entries_of};
 use constraint_net::NetFault;
-use eu_name::sequence::Sequence;
 use model_core::model::Model;
 use model_core::rule::{Entry, Guard, Turn};
 use plan_opening::open;
 use plan_posting::Origin;
 use plan_store::{OpenBlock, Store};
 use std::alloc::{AllocError, Global};
-
-// The block to which the turn leads from this one.
-fn block_behind(alloc: Global, block: &OpenBlock, turn: Turn) -> Result<OpenBlock, AllocError>
-    ensures { IfOk result (λ behind.
-        behind ≡ record block.now { path = turned block.now.path turn.entry turn.side }) }
-{
-    let mut path = Vec::from_slice(alloc, block.path.as_slice())?;
-    path.push(turn)?;
-    Ok(OpenBlock {
-        token: block.token,
-        rule: block.rule,
-        path: Sequence::from_vec(path),
-    })
-}
 
 // Opens the block on the side that the guard at this place of the block opens, where it opens one.
 fn follow(
@@ -60,7 +45,7 @@ fn follow(
     match open_side(alloc, model, store, origin, guard)? {
         Some(side) => {
             let turn = Turn { entry: place, side };
-            let behind = block_behind(alloc, block, turn)?;
+            let behind = block.behind(alloc, turn)?;
             open(alloc, store, model, behind)
         }
         None => Ok(()),

@@ -16,7 +16,8 @@ use Rattle.plan_defs.specs.Terms.{Context, Argument, Value, Variable, HasDomain}
 use Rattle.plan_defs.specs.Valid.{HasArgumentValue}
 use Rattle.plan_values.specs.Keys.{IsOrderly}
 use Rattle.plan_values.specs.Openings.{IsRead, AreRead, side_when}
-use Rattle.plan_values.proofs.Valuing.{means_once, value_once}
+use Rattle.plan_defs.proofs.Meanings.{means_once}
+use Rattle.plan_values.proofs.Valuing.{value_once}
 
 -- with two values a guard opens one side
 selects_once : (guard : Guard) (side found : Side) (v w : ℤ) → Selects guard side v w → Selects guard found v w → side ≡ found

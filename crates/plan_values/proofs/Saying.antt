@@ -19,7 +19,7 @@ use Rattle.plan_values.specs.declared.claims.Statement.{Statement}
 use Rattle.plan_values.specs.Meanings.{CountsAt, HasTermValue}
 use Rattle.plan_values.specs.Truths.{AreTrueOf, IsTrueWhere, IsStatedTrue, statement_claim, edge_argument}
 use Rattle.plan_values.proofs.Matching.{match_bool}
-use Rattle.plan_values.proofs.Valuing.{means_once}
+use Rattle.plan_defs.proofs.Meanings.{means_once}
 
 module _ (model : Model) (plan : Plan) (context : Context) where
   -- ---- what terms mean, and their values

@@ -16,24 +16,13 @@ use Rattle.plan_defs.specs.Consistency.{HasField}
 use Rattle.plan_defs.specs.Plans.{GivesValue}
 use Rattle.plan_defs.specs.Terms.{Context, InProblem, InRule, Argument, Value, Variable, Means}
 use Rattle.plan_defs.specs.Valid.{HasArgumentValue}
+use Rattle.plan_defs.proofs.Meanings.{means_once}
 use Rattle.plan_defs.proofs.Saying.{one_line}
 use Rattle.plan_values.specs.Keys.{IsOrderly}
 use Rattle.plan_values.specs.Meanings.{HasTermValue}
 use Rattle.plan_values.specs.Truths.{AreTrueOf}
 use Rattle.plan_values.proofs.Matching.{match_bool}
 use Rattle.plan_values.proofs.Naming.{gives_into, gives_there}
-
--- a term means one thing
-pub means_once : (context : Context) (term : Term) (a b : Argument) → Means context term a → Means context term b → a ≡ b
-means_once context (terms.Lit value) a b p q = p ∙ sym q
-means_once context (terms.Global number) a b p q = p ∙ sym q
-means_once context (terms.Root number part) a b p q = p ∙ sym q
-means_once (InRule token rule) (terms.Here part) a b p q = p ∙ sym q
-means_once (InRule token rule) (terms.Slot number part) a b p q = p ∙ sym q
-means_once (InRule token rule) (terms.Local number) a b p q = p ∙ sym q
-means_once InProblem (terms.Here part) a b p q = absurd p
-means_once InProblem (terms.Slot number part) a b p q = absurd p
-means_once InProblem (terms.Local number) a b p q = absurd p
 
 -- constraints hold of two values, or of three
 arity_is : (field : ℕ → ℤ → ℤ → Type 0) (kind : Kind) (values : List ℤ) → Holds field kind values → (length values ≡ 2) ⊎ (length values ≡ 3)

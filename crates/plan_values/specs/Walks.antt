@@ -1,5 +1,6 @@
 -- The items of a rule one by one, as they are gone through.
-use Rattle.std.specs.Prelude.{◌≡◌, ℕ, ◌+◌, ◌<◌, Bool, true, List, [], ◌∷◌, ◌++◌, Some, Result, slice_get, All, MatchBool, MatchResult}
+use Rattle.std.specs.Prelude.{◌≡◌, ℕ, ◌+◌, ◌<◌, Bool, true, List, [], ◌∷◌, ◌++◌, Some, Result, slice_get, All}
+use Rattle.std.specs.Prelude.{MatchBool, MatchResult}
 use Rattle.eu_name.specs.declared.name.TokenName.{TokenName}
 use Rattle.model_core.specs.declared.rule.Entry.{Entry}
 use Rattle.model_core.specs.declared.rule.Entry.TheVariants as entry

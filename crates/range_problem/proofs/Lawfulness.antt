@@ -18,10 +18,10 @@ use Rattle.plan_db.specs.Built.{IsRangeVariable, IsPlain, IsOfGlobals}
 use Rattle.model_core.specs.Naming.{names_of, builtin_names, global_names, declared_names}
 use Rattle.model_core.proofs.Distinct.{pairs_front}
 use Rattle.model_core.proofs.Items.{item_within, item_is, item_at}
-use Rattle.range_problem.specs.Lexeme.{Lexeme, Lexes, Leads}
+use Rattle.range_problem.specs.Lexeme.{Lexeme, IsMadeOf, BeginsWith}
 use Rattle.range_problem.specs.Parts.{variable_of, leq_of, IsLeq, IsDeclarable, AreGlobals, IsLeqAmong}
 use Rattle.range_problem.specs.Readers.{DeclaresGlobals, DeclaresTooMuch, IsConstraints}
-use Rattle.range_problem.specs.Spelling.{declaration_of, constraint_of, lexemes_of, model_of, Spells}
+use Rattle.range_problem.specs.Spelling.{declaration_of, constraint_of, lexemes_spelling, model_of, Spells}
 use Rattle.range_problem.proofs.Lists.{variable_is, lead_split, lexes_on, lexes_join, HasNoDeclaration, declarations_on, constraints_no_declaration}
 
 abbrev pub name_of : VarDecl → List ℕ
@@ -184,14 +184,14 @@ spelled_end text model spells =
     (recursion_from_All (IsLeqAmong (length model.problem.globals)) model.problem.items (spelled_items text model spells))
 
 -- the globals that a text begins with are the first of each model that it spells
-spelled_on : (text rest : List ℕ) (globals : List VarDecl) (model : Model) → All IsRangeVariable globals → Leads text (flat_map declaration_of globals) rest → Spells text model
-    → (more : List VarDecl) × (model.problem.globals ≡ globals ++ more) × Lexes rest (flat_map declaration_of more ++ flat_map (constraint_of (global_names model)) model.problem.items)
+spelled_on : (text rest : List ℕ) (globals : List VarDecl) (model : Model) → All IsRangeVariable globals → BeginsWith text (flat_map declaration_of globals) rest → Spells text model
+    → (more : List VarDecl) × (model.problem.globals ≡ globals ++ more) × IsMadeOf rest (flat_map declaration_of more ++ flat_map (constraint_of (global_names model)) model.problem.items)
 spelled_on text rest globals model ranges declared spells =
-    let on = lexes_on text (flat_map declaration_of globals) rest (lexemes_of model) declared spells.lexemes in
+    let on = lexes_on text (flat_map declaration_of globals) rest (lexemes_spelling model) declared spells.lexemes in
     let lists = declarations_on globals model.problem.globals _ on.0
     (recursion_from_All IsRangeVariable globals ranges) (recursion_from_All IsRangeVariable model.problem.globals spells.built.variables)
     (spelled_end text model spells) on.1 in
-    (lists.0, lists.1, subst (Lexes rest) lists.2 on.2)
+    (lists.0, lists.1, subst (IsMadeOf rest) lists.2 on.2)
 
 pub too_much : (text : List ℕ) → DeclaresTooMuch text → (model : Model) → Spells text model → ⊥
 too_much text declares model spells =
@@ -200,16 +200,16 @@ too_much text declares model spells =
 
 -- where no further declaration is, the model has just these globals
 pub spelled_all : (text rest : List ℕ) (globals : List VarDecl) (model : Model) → DeclaresGlobals text globals rest → Spells text model
-    → (model.problem.globals ≡ globals) × Lexes rest (flat_map (constraint_of (global_names model)) model.problem.items)
+    → (model.problem.globals ≡ globals) × IsMadeOf rest (flat_map (constraint_of (global_names model)) model.problem.items)
 spelled_all text rest globals model declares spells =
     let on = spelled_on text rest globals model (globals_ranges globals declares.together) declares.declared spells in
     all_read on.0 on.1 on.2
   where
-    all_read : (more : List VarDecl) → model.problem.globals ≡ globals ++ more → Lexes rest (flat_map declaration_of more ++ flat_map (constraint_of (global_names model)) model.problem.items)
-        → (model.problem.globals ≡ globals) × Lexes rest (flat_map (constraint_of (global_names model)) model.problem.items)
+    all_read : (more : List VarDecl) → model.problem.globals ≡ globals ++ more → IsMadeOf rest (flat_map declaration_of more ++ flat_map (constraint_of (global_names model)) model.problem.items)
+        → (model.problem.globals ≡ globals) × IsMadeOf rest (flat_map (constraint_of (global_names model)) model.problem.items)
     all_read [] same lexes = (same ∙ append-nil globals, lexes)
     all_read (variable ∷ more) same (end, leads, blank) =
-        let regrouped = subst (λ (lexemes : List Lexeme). Leads rest lexemes end) (append_assoc (declaration_of variable) (flat_map declaration_of more) (flat_map (constraint_of (global_names model)) model.problem.items)) leads in
+        let regrouped = subst (λ (lexemes : List Lexeme). BeginsWith rest lexemes end) (append_assoc (declaration_of variable) (flat_map declaration_of more) (flat_map (constraint_of (global_names model)) model.problem.items)) leads in
         let split = lead_split rest (declaration_of variable) _ end regrouped in
         absurd (declares.all variable split.0 (globals_next globals more variable (subst AreGlobals same (spelled_globals text model spells))) split.1)
 
@@ -219,5 +219,5 @@ no_constraints text rest globals declares none model spells =
     let all = spelled_all text rest globals model declares spells in
     none model.problem.items record {
       among = subst (λ (globals : List VarDecl). All (IsLeqAmong (length globals)) model.problem.items) all.0 (spelled_items text model spells);
-      lexemes = subst (λ (globals : List VarDecl). Lexes rest (flat_map (constraint_of (names_of globals)) model.problem.items)) all.0 all.1;
+      lexemes = subst (λ (globals : List VarDecl). IsMadeOf rest (flat_map (constraint_of (names_of globals)) model.problem.items)) all.0 all.1;
     }

@@ -9,7 +9,7 @@ use Rattle.std.proofs.lemmas.Slice.Eq.{bytes_eq-Decides}
 use Rattle.std.proofs.lemmas.List.{append-nil}
 use Rattle.std.proofs.lemmas.List.Elements.{recursion_from_All, All-from_recursion}
 use Rattle.eu_name.specs.Word.{is_word_start, is_word_byte, IsWord}
-use Rattle.range_problem.specs.Lexeme.{is_blank, Lexeme, Word, Number, Mark, IsNumber, IsSpelling, Starts, Begins}
+use Rattle.range_problem.specs.Lexeme.{is_gap, Lexeme, Word, Number, Mark, IsWholeNumber, IsSpelling, Starts, Begins}
 use Rattle.range_problem.proofs.Front.{Passes, Stops, same_fronts, same_rests, prefix_passes, prefix_stops, prefix_whole}
 use Rattle.range_problem.proofs.Shapes.{start_is_word_byte, start_not_blank, start_not_digit, digit_not_blank, signed, plain, shape, IsMarkByte, mark_alone, infinity_start, no_empty_infinity}
 
@@ -109,7 +109,7 @@ mark_like (Number value) byte bytes mark (inr infinity) = elim (infinity_start b
 mark_like (Mark other) byte bytes mark spelled = (mark_spelled other byte bytes spelled).1
 
 -- a spelling isn't empty and begins with no blank
-spelling_first : (lexeme : Lexeme) (byte : ℕ) (bytes : List ℕ) → IsSpelling lexeme (byte ∷ bytes) → is_blank byte ≡ false
+spelling_first : (lexeme : Lexeme) (byte : ℕ) (bytes : List ℕ) → IsSpelling lexeme (byte ∷ bytes) → is_gap byte ≡ false
 spelling_first (Word word) byte bytes spelled =
     let spells : IsWord (byte ∷ bytes) = word_spelled word (byte ∷ bytes) spelled in
     start_not_blank byte spells.0
@@ -132,7 +132,7 @@ no_empty (Mark mark) spelled =
     let whole : [] ≡ alone.0 ∷ [] = spelled.1 ∙ alone.1 in
     cc
 
-pub spelling_stops : (lexeme : Lexeme) (bytes rest : List ℕ) → IsSpelling lexeme bytes → Stops is_blank (bytes ++ rest)
+pub spelling_stops : (lexeme : Lexeme) (bytes rest : List ℕ) → IsSpelling lexeme bytes → Stops is_gap (bytes ++ rest)
 spelling_stops lexeme [] rest spelled = absurd (no_empty lexeme spelled)
 spelling_stops lexeme (byte ∷ bytes) rest spelled = spelling_first lexeme byte bytes spelled
 
@@ -148,7 +148,7 @@ no_numeral_inf bytes numeral same =
     let bad : IsNumeral 10 (codes "inf") = subst (λ xs. IsNumeral 10 xs) infinity numeral in
     omega (arith, bad.1.0)
 
-number_is : (bytes : List ℕ) (value : ℤ) → IsNumber bytes value → value ≡ number_of bytes
+number_is : (bytes : List ℕ) (value : ℤ) → IsWholeNumber bytes value → value ≡ number_of bytes
 number_is bytes value (inl numeral) = elim (cases_Bool (bytes_eq (without_leading_sign bytes) (codes "inf"))) [
   | inl same ↦ absurd (no_numeral_inf _ numeral.0 same)
   | inr other ↦ numeral.1 ∙ sym (cond-false _ _ _ other)
@@ -158,7 +158,7 @@ number_is bytes value (inr (inr (inl plus))) = plus.1 ∙ sym (ap number_of plus
 number_is bytes value (inr (inr (inr minus))) = minus.1 ∙ sym (ap number_of minus.0)
 
 -- words, numbers and marks are spelled apart
-word_no_number : (byte : ℕ) (bytes : List ℕ) (value : ℤ) → IsWord (byte ∷ bytes) → IsNumber (byte ∷ bytes) value → ⊥
+word_no_number : (byte : ℕ) (bytes : List ℕ) (value : ℤ) → IsWord (byte ∷ bytes) → IsWholeNumber (byte ∷ bytes) value → ⊥
 word_no_number byte bytes value word (inl numeral) = elim (shape byte bytes numeral.0) [
   | signed sign some digits ↦ both_ways (is_word_start byte) (sign_no_start byte sign) word.0
   | plain no_plus no_minus digits ↦ start_not_digit byte word.0 digits.0
@@ -173,7 +173,7 @@ word_no_number byte bytes value word (inr (inr (inr minus))) =
     let first : byte ≡ 45 = cc in
     both_ways (is_word_start byte) (sign_no_start byte (inr first)) word.0
 
-mark_no_number : (byte : ℕ) (bytes : List ℕ) (value : ℤ) → IsMarkByte byte → IsNumber (byte ∷ bytes) value → ⊥
+mark_no_number : (byte : ℕ) (bytes : List ℕ) (value : ℤ) → IsMarkByte byte → IsWholeNumber (byte ∷ bytes) value → ⊥
 mark_no_number byte bytes value mark (inl numeral) = elim (shape byte bytes numeral.0) [
   | signed sign some digits ↦ sign_no_mark byte sign mark
   | plain no_plus no_minus digits ↦ both_ways (is_ascii_digit byte) mark.no_digit digits.0
@@ -183,7 +183,7 @@ mark_no_number byte bytes value mark (inr infinity) = elim (infinity_start byte 
   | inr sign ↦ sign_no_mark byte sign mark
 ]
 
-mark_no_other : (byte : ℕ) (bytes : List ℕ) → IsMarkByte byte → (IsWord (byte ∷ bytes) → ⊥) × ((value : ℤ) → IsNumber (byte ∷ bytes) value → ⊥)
+mark_no_other : (byte : ℕ) (bytes : List ℕ) → IsMarkByte byte → (IsWord (byte ∷ bytes) → ⊥) × ((value : ℤ) → IsWholeNumber (byte ∷ bytes) value → ⊥)
 mark_no_other byte bytes mark = (
   λ word. both_ways (is_word_start byte) mark.no_word word.0,
   λ value number. mark_no_number byte bytes value mark number,
@@ -215,26 +215,26 @@ starts_once text one other rest left p q =
 
 -- what is left after the blanks
 abbrev pub after_blanks : List ℕ → List ℕ
-after_blanks text = drop (prefix_len is_blank text) text
+after_blanks text = drop (prefix_len is_gap text) text
 
-starts_stops : (text : List ℕ) (lexeme : Lexeme) (rest : List ℕ) → Starts text lexeme rest → Stops is_blank text
-starts_stops text lexeme rest start = subst (Stops is_blank) (sym start.whole) (spelling_stops lexeme start.spelling rest start.spelled)
+starts_stops : (text : List ℕ) (lexeme : Lexeme) (rest : List ℕ) → Starts text lexeme rest → Stops is_gap text
+starts_stops text lexeme rest start = subst (Stops is_gap) (sym start.whole) (spelling_stops lexeme start.spelling rest start.spelled)
 
 pub begins_from : (text : List ℕ) (lexeme : Lexeme) (rest : List ℕ) → Starts (after_blanks text) lexeme rest → Begins text lexeme rest
 begins_from text lexeme rest start = record {
-  blanks = take (prefix_len is_blank text) text;
+  blanks = take (prefix_len is_gap text) text;
   after = after_blanks text;
-  whole = prefix_whole is_blank text;
-  blank = All-from_recursion (λ byte. IsTrue (is_blank byte)) _ (prefix_passes is_blank text);
+  whole = prefix_whole is_gap text;
+  blank = All-from_recursion (λ byte. IsTrue (is_gap byte)) _ (prefix_passes is_gap text);
   start = start;
 }
 
 pub starts_from : (text : List ℕ) (lexeme : Lexeme) (rest : List ℕ) → Begins text lexeme rest → Starts (after_blanks text) lexeme rest
 starts_from text lexeme rest begins =
     let same : begins.after ≡ after_blanks text =
-    same_rests is_blank begins.blanks (take (prefix_len is_blank text) text) _ _ (sym begins.whole ∙ prefix_whole is_blank text)
-    (recursion_from_All (λ byte. IsTrue (is_blank byte)) begins.blanks begins.blank) (prefix_passes is_blank text)
-    (starts_stops _ _ _ begins.start) (prefix_stops is_blank text) in
+    same_rests is_gap begins.blanks (take (prefix_len is_gap text) text) _ _ (sym begins.whole ∙ prefix_whole is_gap text)
+    (recursion_from_All (λ byte. IsTrue (is_gap byte)) begins.blanks begins.blank) (prefix_passes is_gap text)
+    (starts_stops _ _ _ begins.start) (prefix_stops is_gap text) in
     subst (λ (after : List ℕ). Starts after lexeme rest) same begins.start
 
 pub begins_once : (text : List ℕ) (one other : Lexeme) (rest left : List ℕ) → Begins text one rest → Begins text other left → (one ≡ other) × (rest ≡ left)
@@ -246,12 +246,12 @@ no_start lexeme [] rest whole spelled = no_empty lexeme spelled
 no_start lexeme (byte ∷ bytes) rest whole spelled = cc
 
 -- where only blanks are left, no lexeme is
-pub blanks_no_more : (text : List ℕ) (lexeme : Lexeme) (rest : List ℕ) → All (λ byte. IsTrue (is_blank byte)) text → Begins text lexeme rest → ⊥
+pub blanks_no_more : (text : List ℕ) (lexeme : Lexeme) (rest : List ℕ) → All (λ byte. IsTrue (is_gap byte)) text → Begins text lexeme rest → ⊥
 blanks_no_more text lexeme rest blank begins =
     let start = starts_from text lexeme rest begins in
-    let nothing : text ++ [] ≡ take (prefix_len is_blank text) text ++ after_blanks text = append-nil text ∙ prefix_whole is_blank text in
+    let nothing : text ++ [] ≡ take (prefix_len is_gap text) text ++ after_blanks text = append-nil text ∙ prefix_whole is_gap text in
     let empty : [] ≡ after_blanks text =
-    same_rests is_blank text (take (prefix_len is_blank text) text) [] (after_blanks text) nothing
-    (recursion_from_All (λ byte. IsTrue (is_blank byte)) text blank) (prefix_passes is_blank text) tt (prefix_stops is_blank text) in
+    same_rests is_gap text (take (prefix_len is_gap text) text) [] (after_blanks text) nothing
+    (recursion_from_All (λ byte. IsTrue (is_gap byte)) text blank) (prefix_passes is_gap text) tt (prefix_stops is_gap text) in
     let at_end : Starts [] lexeme rest = subst (λ (after : List ℕ). Starts after lexeme rest) (sym empty) start in
     no_start lexeme at_end.spelling rest at_end.whole at_end.spelled

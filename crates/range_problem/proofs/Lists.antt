@@ -6,7 +6,7 @@ use Rattle.domain_core.specs.Domain.{Range}
 use Rattle.model_core.specs.declared.variable.VarDecl.{VarDecl}
 use Rattle.model_core.specs.declared.item.Item.{Item}
 use Rattle.plan_db.specs.Built.{IsRangeVariable}
-use Rattle.range_problem.specs.Lexeme.{is_blank, Lexeme, Word, Begins, Leads, Lexes}
+use Rattle.range_problem.specs.Lexeme.{is_gap, Lexeme, Word, Begins, BeginsWith, IsMadeOf}
 use Rattle.range_problem.specs.Parts.{variable_of, leq_of, IsLeqAmong}
 use Rattle.range_problem.specs.Spelling.{declaration_of, constraint_of}
 use Rattle.range_problem.proofs.Front.{same_fronts}
@@ -15,26 +15,26 @@ use Rattle.range_problem.proofs.Lexing.{begins_once, blanks_no_more}
 -- ---- lexemes at the front of a text
 
 -- what begins the text is the first of the lexemes that it goes on with
-pub lead_next : (text : List ℕ) (found next : Lexeme) (after : List ℕ) (more : List Lexeme) (rest : List ℕ) → Begins text found after → Leads text (next ∷ more) rest → (next ≡ found) × Leads after more rest
+pub lead_next : (text : List ℕ) (found next : Lexeme) (after : List ℕ) (more : List Lexeme) (rest : List ℕ) → Begins text found after → BeginsWith text (next ∷ more) rest → (next ≡ found) × BeginsWith after more rest
 lead_next text found next after more rest begins (middle, first, tail) =
     let once = begins_once text next found middle after first begins in
-    (once.0, subst (λ (xs : List ℕ). Leads xs more rest) once.1 tail)
+    (once.0, subst (λ (xs : List ℕ). BeginsWith xs more rest) once.1 tail)
 
-pub lead_append : (text : List ℕ) (one other : List Lexeme) (middle rest : List ℕ) → Leads text one middle → Leads middle other rest → Leads text (one ++ other) rest
-lead_append text [] other middle rest first second = subst (λ (xs : List ℕ). Leads xs other rest) (sym first) second
+pub lead_append : (text : List ℕ) (one other : List Lexeme) (middle rest : List ℕ) → BeginsWith text one middle → BeginsWith middle other rest → BeginsWith text (one ++ other) rest
+lead_append text [] other middle rest first second = subst (λ (xs : List ℕ). BeginsWith xs other rest) (sym first) second
 lead_append text (lexeme ∷ more) other middle rest (after, begins, tail) second = (after, begins, lead_append after more other middle rest tail second)
 
-pub lead_split : (text : List ℕ) (one other : List Lexeme) (rest : List ℕ) → Leads text (one ++ other) rest → (middle : List ℕ) × Leads text one middle × Leads middle other rest
+pub lead_split : (text : List ℕ) (one other : List Lexeme) (rest : List ℕ) → BeginsWith text (one ++ other) rest → (middle : List ℕ) × BeginsWith text one middle × BeginsWith middle other rest
 lead_split text [] other rest leads = (text, refl, leads)
 lead_split text (lexeme ∷ more) other rest (after, begins, tail) =
     let inner = lead_split after more other rest tail in
     (inner.0, (after, begins, inner.1), inner.2)
 
 -- a text of lexemes goes on with those that it begins with
-pub lexes_on : (text : List ℕ) (front : List Lexeme) (rest : List ℕ) (lexemes : List Lexeme) → Leads text front rest → Lexes text lexemes → (more : List Lexeme) × (lexemes ≡ front ++ more) × Lexes rest more
-lexes_on text [] rest lexemes leads lexes = (lexemes, refl, subst (λ (xs : List ℕ). Lexes xs lexemes) leads lexes)
+pub lexes_on : (text : List ℕ) (front : List Lexeme) (rest : List ℕ) (lexemes : List Lexeme) → BeginsWith text front rest → IsMadeOf text lexemes → (more : List Lexeme) × (lexemes ≡ front ++ more) × IsMadeOf rest more
+lexes_on text [] rest lexemes leads lexes = (lexemes, refl, subst (λ (xs : List ℕ). IsMadeOf xs lexemes) leads lexes)
 lexes_on text (lexeme ∷ front) rest [] (after, begins, tail) (end, same, blank) =
-    absurd (blanks_no_more text lexeme after (subst (λ (xs : List ℕ). All (λ byte. IsTrue (is_blank byte)) xs) (sym same) blank) begins)
+    absurd (blanks_no_more text lexeme after (subst (λ (xs : List ℕ). All (λ byte. IsTrue (is_gap byte)) xs) (sym same) blank) begins)
 lexes_on text (lexeme ∷ front) rest (next ∷ lexemes) (after, begins, tail) (end, leads, blank) =
     let once = lead_next text lexeme next after lexemes end begins leads in
     let inner = lexes_on after front rest lexemes tail (end, once.1, blank) in
@@ -42,17 +42,17 @@ lexes_on text (lexeme ∷ front) rest (next ∷ lexemes) (after, begins, tail) (
     let others : lexemes ≡ front ++ inner.0 = inner.1 in
     (inner.0, cc, inner.2)
 
-pub lexes_join : (text : List ℕ) (front more : List Lexeme) (rest : List ℕ) → Leads text front rest → Lexes rest more → Lexes text (front ++ more)
+pub lexes_join : (text : List ℕ) (front more : List Lexeme) (rest : List ℕ) → BeginsWith text front rest → IsMadeOf rest more → IsMadeOf text (front ++ more)
 lexes_join text front more rest leads (end, tail, blank) = (end, lead_append text front more rest end leads tail, blank)
 
 -- a text is one list of lexemes
-pub lexes_once : (text : List ℕ) (one other : List Lexeme) → Lexes text one → Lexes text other → one ≡ other
+pub lexes_once : (text : List ℕ) (one other : List Lexeme) → IsMadeOf text one → IsMadeOf text other → one ≡ other
 lexes_once text one other (end, leads, blank) lexes =
     let on = lexes_on text one end other leads lexes in
     let none = nothing_left end on.0 blank on.2 in
     sym (on.1 ∙ (ap (λ (xs : List Lexeme). one ++ xs) none ∙ append-nil one))
   where
-    nothing_left : (text : List ℕ) (lexemes : List Lexeme) → All (λ byte. IsTrue (is_blank byte)) text → Lexes text lexemes → lexemes ≡ []
+    nothing_left : (text : List ℕ) (lexemes : List Lexeme) → All (λ byte. IsTrue (is_gap byte)) text → IsMadeOf text lexemes → lexemes ≡ []
     nothing_left text [] blank lexes = refl
     nothing_left text (lexeme ∷ more) blank (end, (after, begins, tail), more_blank) = absurd (blanks_no_more text lexeme after blank begins)
 

@@ -8,7 +8,7 @@ use Rattle.std.proofs.lemmas.Bool.Decides.{nat_tests}
 use Rattle.std.proofs.lemmas.List.Elements.{All-from_recursion, All-contains}
 use Rattle.std.proofs.lemmas.Str.Parse.{digit_from_value}
 use Rattle.eu_name.specs.Word.{is_word_start, is_word_byte}
-use Rattle.range_problem.specs.Lexeme.{is_blank, marks, IsInfinity}
+use Rattle.range_problem.specs.Lexeme.{is_gap, marks, IsInfinity}
 use Rattle.range_problem.proofs.Front.{Passes}
 
 pub digit_test : (byte : ℕ) → digit_value byte < 10 → is_ascii_digit byte ≡ true
@@ -30,13 +30,13 @@ digits_from_pass (byte ∷ bytes) digits = (digit_from_test byte digits.0, digit
 pub start_is_word_byte : (byte : ℕ) → is_word_start byte ≡ true → is_word_byte byte ≡ true
 start_is_word_byte byte start = or_left (is_word_start byte) (is_ascii_digit byte) start
 
-pub start_not_blank : (byte : ℕ) → is_word_start byte ≡ true → is_blank byte ≡ false
+pub start_not_blank : (byte : ℕ) → is_word_start byte ≡ true → is_gap byte ≡ false
 start_not_blank byte start = grind (arith, nat_tests)
 
 pub start_not_digit : (byte : ℕ) → is_word_start byte ≡ true → is_ascii_digit byte ≡ true → ⊥
 start_not_digit byte start digit = grind (arith, nat_tests)
 
-pub digit_not_blank : (byte : ℕ) → is_ascii_digit byte ≡ true → is_blank byte ≡ false
+pub digit_not_blank : (byte : ℕ) → is_ascii_digit byte ≡ true → is_gap byte ≡ false
 digit_not_blank byte digit = grind (arith, nat_tests)
 
 -- what the bytes after the sign are, by the first byte
@@ -73,7 +73,7 @@ shaped byte bytes (plain no_plus no_minus digits) = rw (after_none byte bytes no
 
 -- a byte that isn't blank and begins no word and no number
 pub record IsMarkByte (byte : ℕ) : Type 0 where
-  pub no_blank : is_blank byte ≡ false
+  pub no_blank : is_gap byte ≡ false
   pub no_word : is_word_start byte ≡ false
   pub no_digit : is_ascii_digit byte ≡ false
   pub no_plus : byte ≡ 43 → ⊥
@@ -83,7 +83,7 @@ pub record IsMarkByte (byte : ℕ) : Type 0 where
 abbrev IsMarkAlone : List ℕ → Type 0
 IsMarkAlone mark = (byte : ℕ) × (mark ≡ byte ∷ []) × IsMarkByte byte
 
-mark_of : (n : ℕ) → is_blank n ≡ false → is_word_start n ≡ false → is_ascii_digit n ≡ false → (n ≡ 43 → ⊥) → (n ≡ 45 → ⊥) → IsMarkAlone (n ∷ [])
+mark_of : (n : ℕ) → is_gap n ≡ false → is_word_start n ≡ false → is_ascii_digit n ≡ false → (n ≡ 43 → ⊥) → (n ≡ 45 → ⊥) → IsMarkAlone (n ∷ [])
 mark_of n a b d e f = (n, refl, record { no_blank = a; no_word = b; no_digit = d; no_plus = e; no_minus = f })
 
 marks_alone : AllByRecursion IsMarkAlone marks

@@ -6,7 +6,7 @@ use Rattle.domain_core.specs.Domain.{Domain, Range, Set, IsDomain, IsRange, IsVa
 use Rattle.domain_core.proofs.Words.{has_least, between_ends, least_is_value, greatest_is_value}
 use Rattle.model_core.specs.declared.variable.VarDecl.{VarDecl}
 use Rattle.model_core.specs.declared.variable.Base.TheVariants.{Given}
-use Rattle.range_problem.specs.Lexeme.{Lexeme, Word, Number, Mark, Begins, Leads}
+use Rattle.range_problem.specs.Lexeme.{Lexeme, Word, Number, Mark, Begins, BeginsWith}
 use Rattle.model_core.specs.Naming.{names_of}
 use Rattle.range_problem.specs.Parts.{leq_of, IsFree, IsDeclarable}
 use Rattle.range_problem.specs.Readers.{DeclaresNone}
@@ -16,7 +16,7 @@ use Rattle.range_problem.proofs.Lists.{lead_next, lead_split}
 use Rattle.range_problem.proofs.Lawfulness.{name_of}
 
 -- a text goes on with as many lexemes in one way
-leads_once : (text : List ℕ) (one other : List Lexeme) (rest left : List ℕ) → length one ≡ length other → Leads text one rest → Leads text other left → (one ≡ other) × (rest ≡ left)
+leads_once : (text : List ℕ) (one other : List Lexeme) (rest left : List ℕ) → length one ≡ length other → BeginsWith text one rest → BeginsWith text other left → (one ≡ other) × (rest ≡ left)
 leads_once text [] [] rest left lengths leads leads' = (refl, sym leads ∙ leads')
 leads_once text [] (y ∷ ys) rest left lengths leads leads' = absurd (omega arith)
 leads_once text (x ∷ xs) [] rest left lengths leads leads' = absurd (omega arith)
@@ -28,12 +28,12 @@ leads_once text (x ∷ xs) (y ∷ ys) rest left lengths (after, begins, tail) le
     (cc, inner.1)
 
 -- after as many lexemes as were read, the text goes on with the others
-lead_on : (text : List ℕ) (front : List Lexeme) (after : List ℕ) (expected more : List Lexeme) (rest : List ℕ) → length expected ≡ length front → Leads text front after → Leads text (expected ++ more) rest
-    → (expected ≡ front) × Leads after more rest
+lead_on : (text : List ℕ) (front : List Lexeme) (after : List ℕ) (expected more : List Lexeme) (rest : List ℕ) → length expected ≡ length front → BeginsWith text front after → BeginsWith text (expected ++ more) rest
+    → (expected ≡ front) × BeginsWith after more rest
 lead_on text front after expected more rest lengths leads leads' =
     let split = lead_split text expected more rest leads' in
     let once = leads_once text expected front split.0 after lengths split.1 leads in
-    (once.0, subst (λ (xs : List ℕ). Leads xs more rest) once.1 split.2)
+    (once.0, subst (λ (xs : List ℕ). BeginsWith xs more rest) once.1 split.2)
 
 -- ---- words
 
@@ -55,7 +55,7 @@ abbrev NoWord : List ℕ → Type 0
 NoWord text = (word rest : List ℕ) → Begins text (Word word) rest → ⊥
 
 abbrev NoRange : List ℕ → Type 0
-NoRange text = (domain : Domain) (rest : List ℕ) → IsDomain domain → Leads text (range_of (Given domain)) rest → ⊥
+NoRange text = (domain : Domain) (rest : List ℕ) → IsDomain domain → BeginsWith text (range_of (Given domain)) rest → ⊥
 
 abbrev from_lo : Domain → List Lexeme
 from_lo domain = Number (least domain) ∷ Number (greatest domain) ∷ Mark (codes "]") ∷ []
@@ -86,10 +86,10 @@ no_close text opened past_lo after lo hi opens low high none domain rest ok lead
     none close.0 close.1
 
 pub range_leads : (text opened past_lo past_hi after : List ℕ) (lo hi : ℤ) (domain : Domain) → Begins text (Mark (codes "[")) opened → Begins opened (Number lo) past_lo → Begins past_lo (Number hi) past_hi → Begins past_hi (Mark (codes "]")) after
-    → domain ≡ Range lo hi → Leads text (range_of (Given domain)) after
+    → domain ≡ Range lo hi → BeginsWith text (range_of (Given domain)) after
 range_leads text opened past_lo past_hi after lo hi domain opens low high close is =
-    let leads : Leads text (range_of (Given (Range lo hi))) after = (opened, opens, (past_lo, low, (past_hi, high, (after, close, refl)))) in
-    subst (λ (domain : Domain). Leads text (range_of (Given domain)) after) (sym is) leads
+    let leads : BeginsWith text (range_of (Given (Range lo hi))) after = (opened, opens, (past_lo, low, (past_hi, high, (after, close, refl)))) in
+    subst (λ (domain : Domain). BeginsWith text (range_of (Given domain)) after) (sym is) leads
 
 pub no_domain : (text opened past_lo past_hi after : List ℕ) (lo hi : ℤ) → Begins text (Mark (codes "[")) opened → Begins opened (Number lo) past_lo → Begins past_lo (Number hi) past_hi → Begins past_hi (Mark (codes "]")) after
     → (IsDomain (Range lo hi) → ⊥) → NoRange text
@@ -127,16 +127,16 @@ record DeclarationParts (text name rest : List ℕ) : Type 0 where
   ranged : List ℕ
   named : List ℕ
   keyword : Begins text (Word (codes "int")) opened
-  range : Leads opened (range_of (Given domain)) ranged
+  range : BeginsWith opened (range_of (Given domain)) ranged
   name_there : Begins ranged (Word name) named
   end : Begins named (Mark (codes ";")) rest
 
-declaration_parts : (text : List ℕ) (variable : VarDecl) (rest : List ℕ) → IsDeclarable variable → Leads text (declaration_of variable) rest → DeclarationParts text variable.name rest
+declaration_parts : (text : List ℕ) (variable : VarDecl) (rest : List ℕ) → IsDeclarable variable → BeginsWith text (declaration_of variable) rest → DeclarationParts text variable.name rest
 declaration_parts text variable rest declarable (opened, keyword, leads) =
     let is = declarable.range.1.2 in
     let lo = declarable.range.1.0 in
     let hi = declarable.range.1.1 in
-    let leads' : Leads opened (range_of (Given (Range lo hi)) ++ from_name variable.name) rest = rw is at leads in
+    let leads' : BeginsWith opened (range_of (Given (Range lo hi)) ++ from_name variable.name) rest = rw is at leads in
     let split = lead_split opened (range_of (Given (Range lo hi))) (from_name variable.name) rest leads' in
     record {
       domain = Range lo hi;
@@ -157,22 +157,22 @@ pub no_range : (text after : List ℕ) → Begins text (Word (codes "int")) afte
 no_range text after keyword none variable rest declarable leads =
     let parts = declaration_parts text variable rest declarable leads in
     let once = begins_once text (Word (codes "int")) (Word (codes "int")) parts.opened after parts.keyword keyword in
-    none parts.domain parts.ranged parts.ok (subst (λ (xs : List ℕ). Leads xs (range_of (Given parts.domain)) parts.ranged) once.1 parts.range)
+    none parts.domain parts.ranged parts.ok (subst (λ (xs : List ℕ). BeginsWith xs (range_of (Given parts.domain)) parts.ranged) once.1 parts.range)
 
 -- what stands after the range
-ranged_once : (text opened ranged : List ℕ) (domain : Domain) (name rest : List ℕ) → Begins text (Word (codes "int")) opened → Leads opened (range_of (Given domain)) ranged → (parts : DeclarationParts text name rest) → parts.ranged ≡ ranged
+ranged_once : (text opened ranged : List ℕ) (domain : Domain) (name rest : List ℕ) → Begins text (Word (codes "int")) opened → BeginsWith opened (range_of (Given domain)) ranged → (parts : DeclarationParts text name rest) → parts.ranged ≡ ranged
 ranged_once text opened ranged domain name rest keyword range parts =
     let once = begins_once text (Word (codes "int")) (Word (codes "int")) parts.opened opened parts.keyword keyword in
     (leads_once opened (range_of (Given parts.domain)) (range_of (Given domain)) parts.ranged ranged refl
-    (subst (λ (xs : List ℕ). Leads xs (range_of (Given parts.domain)) parts.ranged) once.1 parts.range) range).1
+    (subst (λ (xs : List ℕ). BeginsWith xs (range_of (Given parts.domain)) parts.ranged) once.1 parts.range) range).1
 
-pub no_name : (text opened ranged : List ℕ) (domain : Domain) → Begins text (Word (codes "int")) opened → Leads opened (range_of (Given domain)) ranged → NoWord ranged → DeclaresNone text
+pub no_name : (text opened ranged : List ℕ) (domain : Domain) → Begins text (Word (codes "int")) opened → BeginsWith opened (range_of (Given domain)) ranged → NoWord ranged → DeclaresNone text
 no_name text opened ranged domain keyword range none variable rest declarable leads =
     let parts = declaration_parts text variable rest declarable leads in
     let same = ranged_once text opened ranged domain variable.name rest keyword range parts in
     none variable.name parts.named (subst (λ (xs : List ℕ). Begins xs (Word variable.name) parts.named) same parts.name_there)
 
-named_once : (text opened ranged named : List ℕ) (domain : Domain) (word name rest : List ℕ) → Begins text (Word (codes "int")) opened → Leads opened (range_of (Given domain)) ranged → Begins ranged (Word word) named
+named_once : (text opened ranged named : List ℕ) (domain : Domain) (word name rest : List ℕ) → Begins text (Word (codes "int")) opened → BeginsWith opened (range_of (Given domain)) ranged → Begins ranged (Word word) named
     → (parts : DeclarationParts text name rest) → (name ≡ word) × (parts.named ≡ named)
 named_once text opened ranged named domain word name rest keyword range begins parts =
     let same = ranged_once text opened ranged domain name rest keyword range parts in
@@ -180,14 +180,14 @@ named_once text opened ranged named domain word name rest keyword range begins p
     let words : Word name ≡ Word word = once.0 in
     (cc, once.1)
 
-pub no_end : (text opened ranged named : List ℕ) (domain : Domain) (word : List ℕ) → Begins text (Word (codes "int")) opened → Leads opened (range_of (Given domain)) ranged → Begins ranged (Word word) named
+pub no_end : (text opened ranged named : List ℕ) (domain : Domain) (word : List ℕ) → Begins text (Word (codes "int")) opened → BeginsWith opened (range_of (Given domain)) ranged → Begins ranged (Word word) named
     → NoMark (codes ";") named → DeclaresNone text
 no_end text opened ranged named domain word keyword range begins none variable rest declarable leads =
     let parts = declaration_parts text variable rest declarable leads in
     let same = named_once text opened ranged named domain word variable.name rest keyword range begins parts in
     none rest (subst (λ (xs : List ℕ). Begins xs (Mark (codes ";")) rest) same.1 parts.end)
 
-pub not_free : (text opened ranged named : List ℕ) (domain : Domain) (word : List ℕ) → Begins text (Word (codes "int")) opened → Leads opened (range_of (Given domain)) ranged → Begins ranged (Word word) named
+pub not_free : (text opened ranged named : List ℕ) (domain : Domain) (word : List ℕ) → Begins text (Word (codes "int")) opened → BeginsWith opened (range_of (Given domain)) ranged → Begins ranged (Word word) named
     → (IsFree word → ⊥) → DeclaresNone text
 not_free text opened ranged named domain word keyword range begins none variable rest declarable leads =
     let parts = declaration_parts text variable rest declarable leads in
@@ -222,7 +222,7 @@ global_other globals number variable bytes name in_globals is bytes_are other sa
 -- ---- constraints
 
 abbrev NoLeq : List VarDecl → List ℕ → Type 0
-NoLeq globals text = (first second : ℕ) (rest : List ℕ) → first < length globals → second < length globals → Leads text (constraint_of (names_of globals) (leq_of first second)) rest → ⊥
+NoLeq globals text = (first second : ℕ) (rest : List ℕ) → first < length globals → second < length globals → BeginsWith text (constraint_of (names_of globals) (leq_of first second)) rest → ⊥
 
 -- the spelling of a global
 abbrev pub spelled : List VarDecl → ℕ → Lexeme

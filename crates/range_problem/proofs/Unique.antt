@@ -12,7 +12,7 @@ use Rattle.model_core.specs.Naming.{global_names}
 use Rattle.range_problem.specs.Lexeme.{Lexeme}
 use Rattle.model_core.specs.Naming.{names_of}
 use Rattle.range_problem.specs.Parts.{leq_of, IsLeqAmong}
-use Rattle.range_problem.specs.Spelling.{declaration_of, constraint_of, lexemes_of, model_of, Spells}
+use Rattle.range_problem.specs.Spelling.{declaration_of, constraint_of, lexemes_spelling, model_of, Spells}
 use Rattle.range_problem.proofs.Front.{same_fronts}
 use Rattle.range_problem.proofs.Lists.{lexes_once, HasNoDeclaration, declarations_on, constraint_len}
 use Rattle.range_problem.proofs.Lawfulness.{name_of, spelled_distinct, spelled_items, spelled_end}
@@ -69,7 +69,7 @@ items_same one other among among' distinct globals tails =
 
 pub spells_unique : (text : List ℕ) (one other : Model) → Spells text one → Spells text other → one ≡ other
 spells_unique text one other p q =
-    let lexemes = lexes_once text (lexemes_of other) (lexemes_of one) q.lexemes p.lexemes in
+    let lexemes = lexes_once text (lexemes_spelling other) (lexemes_spelling one) q.lexemes p.lexemes in
     let lists = declarations_on one.problem.globals other.problem.globals _ _
     (recursion_from_All IsRangeVariable one.problem.globals p.built.variables) (recursion_from_All IsRangeVariable other.problem.globals q.built.variables) (spelled_end text other q) lexemes in
     let parts = all_declared one.problem.globals other.problem.globals lists.0 _ _ (spelled_end text one p) lists.1 lists.2 in

@@ -5,8 +5,8 @@ use Rattle.std.specs.Str.Parse.{IsNumeral, without_leading_sign, signed_digits_v
 use Rattle.eu_name.specs.Word.{IsWord}
 
 -- a space, a tab, a line feed or a carriage return
-abbrev pub is_blank : ℕ → Bool
-is_blank byte = ((byte == 32) || (byte == 9)) || ((byte == 10) || (byte == 13))
+abbrev pub is_gap : ℕ → Bool
+is_gap byte = ((byte == 32) || (byte == 9)) || ((byte == 10) || (byte == 13))
 
 -- the marks of the language, as far as it goes here
 abbrev pub marks : List (List ℕ)
@@ -26,14 +26,14 @@ IsInfinity bytes value =
     ⊎ ((bytes ≡ codes "-inf") × (value ≡ negsuc 999999)))
 
 -- the bytes spell a number: decimal digits, with a sign directly before them or none, or an infinity
-abbrev pub IsNumber : List ℕ → ℤ → Type 0
-IsNumber bytes value =
+abbrev pub IsWholeNumber : List ℕ → ℤ → Type 0
+IsWholeNumber bytes value =
     (IsNumeral 10 (without_leading_sign bytes) × (value ≡ signed_digits_value 10 bytes)) ⊎ IsInfinity bytes value
 
 -- the bytes spell the lexeme
 abbrev pub IsSpelling : Lexeme → List ℕ → Type 0
 IsSpelling (Word word) bytes = IsWord word × (bytes ≡ word)
-IsSpelling (Number value) bytes = IsNumber bytes value
+IsSpelling (Number value) bytes = IsWholeNumber bytes value
 IsSpelling (Mark mark) bytes = Contains marks mark × (bytes ≡ mark)
 
 -- the text goes on with the lexeme at once, whose spelling is the longest of any lexeme there, and then with the rest
@@ -49,14 +49,14 @@ pub record Begins (text : List ℕ) (lexeme : Lexeme) (rest : List ℕ) : Type 0
   pub blanks : List ℕ
   pub after : List ℕ
   pub whole : text ≡ blanks ++ after
-  pub blank : All (λ byte. IsTrue (is_blank byte)) blanks
+  pub blank : All (λ byte. IsTrue (is_gap byte)) blanks
   pub start : Starts after lexeme rest
 
 -- the text goes on with these lexemes in turn, and then with the rest
-abbrev pub Leads : List ℕ → List Lexeme → List ℕ → Type 0
-Leads text [] rest = text ≡ rest
-Leads text (lexeme ∷ more) rest = (after : List ℕ) × Begins text lexeme after × Leads after more rest
+abbrev pub BeginsWith : List ℕ → List Lexeme → List ℕ → Type 0
+BeginsWith text [] rest = text ≡ rest
+BeginsWith text (lexeme ∷ more) rest = (after : List ℕ) × Begins text lexeme after × BeginsWith after more rest
 
 -- the text is these lexemes in turn, and blanks
-abbrev pub Lexes : List ℕ → List Lexeme → Type 0
-Lexes text lexemes = (rest : List ℕ) × Leads text lexemes rest × All (λ byte. IsTrue (is_blank byte)) rest
+abbrev pub IsMadeOf : List ℕ → List Lexeme → Type 0
+IsMadeOf text lexemes = (rest : List ℕ) × BeginsWith text lexemes rest × All (λ byte. IsTrue (is_gap byte)) rest

@@ -13,7 +13,7 @@ use Rattle.model_core.specs.declared.item.Term.TheVariants.{Global}
 use Rattle.model_core.specs.Lawful.{IsLawful}
 use Rattle.plan_db.specs.Built.{IsBuilt}
 use Rattle.model_core.specs.Naming.{global_names}
-use Rattle.range_problem.specs.Lexeme.{Lexeme, Word, Number, Mark, Lexes}
+use Rattle.range_problem.specs.Lexeme.{Lexeme, Word, Number, Mark, IsMadeOf}
 use Rattle.range_problem.specs.Parts.{IsLeq}
 
 -- `[least greatest]`
@@ -33,8 +33,8 @@ constraint_of names (Constraint kind (Global one ∷ Global other ∷ [])) =
 constraint_of names item = []
 
 -- the lexemes of the model's text: first the declarations, and then the constraints
-abbrev pub lexemes_of : Model → List Lexeme
-lexemes_of model =
+abbrev pub lexemes_spelling : Model → List Lexeme
+lexemes_spelling model =
     flat_map declaration_of model.problem.globals ++ flat_map (constraint_of (global_names model)) model.problem.items
 
 -- the model of these globals and constraints alone, with the horizon and the steps of a problem that doesn't say them
@@ -53,7 +53,7 @@ model_of globals items = record {
 pub record Spells (text : List ℕ) (model : Model) : Type 0 where
   pub whole : model ≡ model_of model.problem.globals model.problem.items
   pub names : All IsName (global_names model)
-  pub lexemes : Lexes text (lexemes_of model)
+  pub lexemes : IsMadeOf text (lexemes_spelling model)
   pub lawful : IsLawful model
   pub built : IsBuilt model
   pub constraints : All IsLeq model.problem.items

@@ -8,7 +8,7 @@ ghost use Rattle.std.specs.List.{prefix_len};
 ghost use Rattle.std.specs.Str.Parse.{IsNumeral, without_leading_sign, signed_digits_value};
 ghost use Rattle.domain_core.specs.Domain.{IsValue};
 ghost use Rattle.eu_name.specs.Word.{is_word_byte, IsWord};
-ghost use Rattle.range_problem.specs.Lexeme.{Word, Number, Mark, is_blank, marks, IsInfinity, Begins, Starts};
+ghost use Rattle.range_problem.specs.Lexeme.{Word, Number, Mark, is_gap, marks, IsInfinity, Begins, Starts};
 
 use domain_core::domain::{GREATEST_VALUE, LEAST_VALUE};
 use domain_core::is_value;
@@ -18,18 +18,18 @@ use std::alloc::{AllocError, Global};
 use std::str;
 
 // Whether the byte only keeps lexemes apart.
-fn is_blank(byte: u8) -> bool
-    ensures { result ≡ is_blank byte }
+fn is_gap(byte: u8) -> bool
+    ensures { result ≡ is_gap byte }
 {
     byte == b' ' || byte == b'\t' || byte == b'\n' || byte == b'\r'
 }
 
 // How many blanks the text begins with.
 fn blanks_len(text: &[u8]) -> usize
-    ensures len { result ≡ prefix_len is_blank text.now }
+    ensures len { result ≡ prefix_len is_gap text.now }
     ensures within { result ≤ length text.now }
 {
-    text.iter().take_while(|byte| is_blank(**byte)).count()
+    text.iter().take_while(|byte| is_gap(**byte)).count()
 }
 
 // How many bytes the text begins with that can go on a word.
@@ -52,16 +52,16 @@ fn digits_len(text: &[u8]) -> usize
 
 // The text from its first lexeme on.
 fn skip_blanks(text: &[u8]) -> &[u8]
-    ensures { result.now ≡ drop (prefix_len is_blank text.now) text.now }
+    ensures { result.now ≡ drop (prefix_len is_gap text.now) text.now }
 {
     &text[blanks_len(text)..]
 }
 
 /// Whether there is no lexeme left.
 pub fn is_at_end(text: &[u8]) -> bool
-    ensures { IsTrue result ↔ All (λ byte. IsTrue (is_blank byte)) text.now }
+    ensures { IsTrue result ↔ All (λ byte. IsTrue (is_gap byte)) text.now }
 {
-    text.iter().all(|byte| is_blank(*byte))
+    text.iter().all(|byte| is_gap(*byte))
 }
 
 // Splits the text after the bytes that can go on a word.

@@ -4,7 +4,7 @@ ghost use Rattle.std.specs.Prelude.{◌≡◌, ◌<◌, ◌≤◌, ◌↔◌, �
 ghost use Rattle.domain_core.specs.Domain.{Domain, IsDomain, IsRange};
 ghost use Rattle.model_core.specs.declared.variable.Base.TheVariants.{Given};
 ghost use Rattle.model_core.specs.declared.variable.VarDecl.{VarDecl};
-ghost use Rattle.range_problem.specs.Lexeme.{Word, Begins, Leads};
+ghost use Rattle.range_problem.specs.Lexeme.{Word, Begins, BeginsWith};
 ghost use Rattle.model_core.specs.Naming.{names_of};
 ghost use Rattle.range_problem.specs.Parts.{variable_of, leq_of, IsFree, IsDeclarable};
 ghost use Rattle.range_problem.specs.Readers.{DeclaresNone};
@@ -60,10 +60,10 @@ fn is_free(name: &[u8]) -> bool
 // The range that the text begins with, and the rest.
 fn range(text: &[u8]) -> Option<(Dom, &[u8])>
     ensures some { IfSome result
-        (λ found. IsDomain found.0 × Leads text.now (range_of (Given found.0)) found.1.now × IsRange found.0) }
+        (λ found. IsDomain found.0 × BeginsWith text.now (range_of (Given found.0)) found.1.now × IsRange found.0) }
     ensures none { IfNone result
         ((domain : Domain) (rest : List ℕ)
-        → IsDomain domain → Leads text.now (range_of (Given domain)) rest → ⊥) }
+        → IsDomain domain → BeginsWith text.now (range_of (Given domain)) rest → ⊥) }
 {
     let rest = lexeme::mark(text, b'[')?;
     let (lo, rest) = lexeme::number(rest)?;
@@ -77,7 +77,7 @@ fn range(text: &[u8]) -> Option<(Dom, &[u8])>
 pub fn read_declaration(text: &[u8]) -> Option<Declaration<'_>>
     ensures some { IfSome result
         (λ found. let variable = variable_of found.name.now found.domain in
-        IsDeclarable variable × Leads text.now (declaration_of variable) found.rest.now) }
+        IsDeclarable variable × BeginsWith text.now (declaration_of variable) found.rest.now) }
     ensures none { IfNone result (DeclaresNone text.now) }
 {
     let rest = keyword(text, b"int")?;
@@ -127,10 +127,10 @@ pub fn read_leq<'a>(globals: &[VarDecl], text: &'a [u8]) -> Option<Leq<'a>>
     requires { length globals.now ≤ 4096 }
     ensures some { IfSome result
         (λ found. (found.first < length globals.now) × (found.second < length globals.now)
-        × Leads text.now (constraint_of (names_of globals.now) (leq_of found.first found.second)) found.rest.now) }
+        × BeginsWith text.now (constraint_of (names_of globals.now) (leq_of found.first found.second)) found.rest.now) }
     ensures none { IfNone result
         ((first second : ℕ) (rest : List ℕ) → first < length globals.now → second < length globals.now
-        → Leads text.now (constraint_of (names_of globals.now) (leq_of first second)) rest → ⊥) }
+        → BeginsWith text.now (constraint_of (names_of globals.now) (leq_of first second)) rest → ⊥) }
 {
     let rest = keyword(text, b"leq")?;
     let rest = lexeme::mark(rest, b'(')?;
