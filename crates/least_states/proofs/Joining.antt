@@ -29,6 +29,7 @@ use Rattle.plan_defs.specs.Closure.{IsConsistentState, IsRespected}
 use Rattle.plan_defs.specs.Consistency.{IsClaimConsistent, HasField}
 use Rattle.plan_defs.specs.Terms.{Argument, Value, Variable, HasDomain}
 use Rattle.plan_defs.proofs.Lower.{asks_as_much, turn_below}
+use Rattle.plan_defs.proofs.Knowing.{there_or_not}
 use Rattle.plan_defs.proofs.States.{gives_same, gives_domain}
 use Rattle.plan_growth.proofs.Bases.{base_once}
 use Rattle.plan_progress.proofs.Coming.{local_once}
