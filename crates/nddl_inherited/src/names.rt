@@ -1,44 +1,36 @@
 //! The names that a class has from those that it extends.
 
 ghost use Rattle.std.specs.Prelude.{◌≡◌, ◌∷◌, [], IfOk, OnOk, Some, codes, map};
-ghost use Rattle.std.specs.Option.{option_copied};
 ghost use Rattle.nddl_scope.specs.declared.scope.Meaning.TheVariants.{Entry};
 ghost use Rattle.nddl_scope.specs.Index.{with_noted};
 ghost use Rattle.nddl_lines.specs.Facts.{facts_of};
-ghost use Rattle.nddl_inherited.specs.Inherited.{builtin_members, class_noted, decl_members, inherited_noted, line_noted, meaning_noted, member_name, member_names, members_of, names_noted, reservoir_members, words_noted};
+ghost use Rattle.nddl_inherited.specs.Inherited.{builtin_members, class_noted, inherited_noted, line_noted, meaning_noted, member_names, names_noted, reservoir_members, words_noted};
 
+use super::members::{member_name, members_of};
+use super::shorter::{Heritage, adding_line};
 use eu_name::text::Text;
 use nddl_ast::declaration::{Decl, Member};
 use nddl_ast::name::Name;
-use nddl_lines::Basis;
 use nddl_lines::circles::is_rooted;
-use nddl_lines::decls::declaration_with_body;
-use nddl_lines::lines::{above, ancestry};
+use nddl_lines::lines::above;
 use nddl_scope::index::NameIndex;
 use nddl_scope::{Meaning, Scope};
 use std::alloc::{AllocError, Global};
 
-/// The name of a field or of a predicate.
-pub fn member_name(member: &Member) -> Option<&Name>
-    ensures { option_copied result ≡ member_name member.now }
-{
-    match member {
-        Member::Field(typed) => Some(&typed.name),
-        Member::Predicate { name, .. } => Some(name),
-        Member::Constructor { .. } => None,
-    }
-}
-
 /// The names that a class has from what it extends by this name.
 pub fn inherited(
     alloc: Global,
-    basis: &Basis<'_>,
+    heritage: &Heritage<'_>,
     parent: &Option<Name>,
 ) -> Result<NameIndex, AllocError>
-    ensures { IfOk result (λ noted. noted ≡ inherited_noted (facts_of basis.now) parent.now) }
+    ensures { IfOk result (λ noted. noted ≡ inherited_noted (facts_of heritage.now.basis) parent.now) }
 {
     match parent {
-        Some(name) => by_meaning(alloc, basis, basis.types.scope.meaning(&name.text)),
+        Some(name) => by_meaning(
+            alloc,
+            heritage,
+            heritage.basis.types.scope.meaning(&name.text),
+        ),
         None => Ok(NameIndex::new(alloc)),
     }
 }
@@ -46,15 +38,15 @@ pub fn inherited(
 // The names that a class has from what it extends that means this.
 fn by_meaning(
     alloc: Global,
-    basis: &Basis<'_>,
+    heritage: &Heritage<'_>,
     meaning: Option<Meaning>,
 ) -> Result<NameIndex, AllocError>
-    ensures { IfOk result (λ noted. noted ≡ meaning_noted (facts_of basis.now) meaning) }
+    ensures { IfOk result (λ noted. noted ≡ meaning_noted (facts_of heritage.now.basis) meaning) }
 {
     match meaning {
         None => Ok(NameIndex::new(alloc)),
         Some(Meaning::BuiltIn(number)) => builtin_index(alloc, number),
-        Some(Meaning::Entry(entry)) => by_entry(alloc, basis, entry),
+        Some(Meaning::Entry(entry)) => by_entry(alloc, heritage, entry),
     }
 }
 
@@ -66,12 +58,13 @@ fn builtin_index(alloc: Global, number: u32) -> Result<NameIndex, AllocError>
     Ok(noted)
 }
 
-fn by_entry(alloc: Global, basis: &Basis<'_>, entry: usize) -> Result<NameIndex, AllocError>
-    ensures { IfOk result (λ noted. noted ≡ meaning_noted (facts_of basis.now) (Some (Entry entry))) }
+fn by_entry(alloc: Global, heritage: &Heritage<'_>, entry: usize) -> Result<NameIndex, AllocError>
+    ensures { IfOk result (λ noted. noted ≡ meaning_noted (facts_of heritage.now.basis) (Some (Entry entry))) }
 {
+    let basis = &heritage.basis;
     let scope = basis.types.scope;
     if scope.is_class(entry) && is_rooted(basis.lineage.standing(entry)) {
-        let line = ancestry(alloc, basis.parents, entry)?;
+        let line = adding_line(alloc, heritage, entry)?;
         line_index(alloc, scope, basis.decls, line.as_slice())
     } else {
         Ok(NameIndex::new(alloc))
@@ -108,28 +101,6 @@ fn note_class_names(
     match above(scope, decls, entry) {
         Some(Meaning::BuiltIn(number)) => note_builtin(alloc, number, noted),
         _ => Ok(()),
-    }
-}
-
-/// The members of the class of this number.
-pub fn members_of<'a>(scope: &Scope, decls: &[&'a Decl], entry: usize) -> &'a [Member]
-    ensures { result.now ≡ members_of scope.now (map (λ decl. decl.now) decls.now) entry }
-{
-    match scope.names().get(entry) {
-        Some(declared) => match declaration_with_body(scope, decls, declared) {
-            Some(decl) => decl_members(decl),
-            None => &[],
-        },
-        None => &[],
-    }
-}
-
-fn decl_members(decl: &Decl) -> &[Member]
-    ensures { result.now ≡ decl_members decl.now }
-{
-    match decl {
-        Decl::Class { members, .. } => members.as_slice(),
-        _ => &[],
     }
 }
 

@@ -1,80 +1,16 @@
 -- The line of a class is that of the class which it extends, and then the class itself.
-use Rattle.std.proofs.Common.{◌≡◌, ℕ, zero, suc, ◌<◌, ◌≤◌, List, [], ◌∷◌, ◌++◌, length, refl, sym, ◌∙◌, ap, subst, arith}
+use Rattle.std.proofs.Common.{◌≡◌, ℕ, List, [], ◌∷◌, ◌++◌, refl, sym, ◌∙◌, ap, subst}
 use Rattle.std.specs.Prelude.{Option, Some, None, slice_get, reverse}
-use Rattle.std.specs.List.{AllByRecursion}
-use Rattle.std.specs.Option.{option_and_then}
 use Rattle.std.proofs.lemmas.List.{reverse-append}
-use Rattle.std.proofs.lemmas.Option.{same_Some, none-some, slice_get_within}
+use Rattle.std.proofs.lemmas.Option.{same_Some, none-some}
 use Rattle.lineage.specs.Lines.{IsRooted, LeadsUp, StandsUnder}
-use Rattle.nddl_lines.specs.Ancestors.{ancestry, line_from, parent_in}
-use Rattle.table_laws.proofs.Fewer.{AreDistinct, few_distinct}
-use Rattle.types_laws.proofs.Standings.{rooted_off}
-
--- a thing of a way up is reached
-reached : (parents : List (Option ℕ)) (number : ℕ) (path : List ℕ) (root : ℕ) → LeadsUp parents number path root → (P : ℕ → Type 0)
-    → ((way : List ℕ) (other : ℕ) → LeadsUp parents number way other → P other) → AllByRecursion P path
-reached parents number [] root leads P each = tt
-reached parents number (parent ∷ path) root leads P each = (
-  each (parent ∷ []) parent (leads.0, refl),
-  reached parents parent path root leads.1 P (λ way other up. each (parent ∷ way) other (leads.0, up)),
-)
+use Rattle.nddl_lines.specs.Ancestors.{ancestry}
+use Rattle.nddl_inherited.proofs.Ways.{ancestry_is}
 
 module _ (parents : List (Option ℕ)) where
-  -- what leads up to one that stands under none goes over distinct things
-  distinct_way : (number : ℕ) (path : List ℕ) (root : ℕ) → LeadsUp parents number path root → slice_get parents root ≡ Some None → AreDistinct (number ∷ path)
-  distinct_way number [] root leads ends = (tt, tt)
-  distinct_way number (parent ∷ path) root leads ends = (
-    (λ same. off [] parent refl same, reached parents parent path root leads.1 (λ other. number ≡ other → ⊥) (λ way other up same. off way other up same)),
-    distinct_way parent path root leads.1 ends,
-  )
-    where
-      off : (way : List ℕ) (other : ℕ) → LeadsUp parents parent way other → number ≡ other → ⊥
-      off way other up same =
-          let P : ℕ → Type 0 = λ n. LeadsUp parents parent way n in
-          rooted_off parents number (parent ∷ path) root leads ends
-          (record { parent = parent; path = way; under = leads.0; back = subst P (sym same) up })
-
-  within_way : (number : ℕ) (path : List ℕ) (root : ℕ) → LeadsUp parents number path root → slice_get parents root ≡ Some None
-      → AllByRecursion (λ y. y < length parents) (number ∷ path)
-  within_way number [] root leads ends = (
-    slice_get_within parents number None (let P : ℕ → Type 0 = λ n. slice_get parents n ≡ Some None in subst P leads ends),
-    tt,
-  )
-  within_way number (parent ∷ path) root leads ends = (slice_get_within parents number (Some parent) leads.0, within_way parent path root leads.1 ends)
-
-  short_way : (number : ℕ) (path : List ℕ) (root : ℕ) → LeadsUp parents number path root → slice_get parents root ≡ Some None → length (number ∷ path) ≤ length parents
-  short_way number path root leads ends =
-      few_distinct (length parents) (number ∷ path) (distinct_way number path root leads ends) (within_way number path root leads ends)
-
-  parent_is : (number parent : ℕ) → StandsUnder parents number parent → parent_in parents number ≡ Some parent
-  parent_is number parent under = ap (option_and_then (λ (p : Option ℕ). p)) under
-
-  no_parent_is : (number : ℕ) → slice_get parents number ≡ Some None → parent_in parents number ≡ None
-  no_parent_is number none = ap (option_and_then (λ (p : Option ℕ). p)) none
-
-  line_of_none : (levels : ℕ) → line_from levels parents None ≡ []
-  line_of_none zero = refl
-  line_of_none (suc levels) = refl
-
-  -- with levels enough the line is the way
-  line_is_way : (levels number : ℕ) (path : List ℕ) (root : ℕ) → LeadsUp parents number path root → slice_get parents root ≡ Some None
-      → length (number ∷ path) ≤ levels → line_from levels parents (Some number) ≡ number ∷ path
-  line_is_way zero number path root leads ends enough = absurd (omega arith)
-  line_is_way (suc levels) number [] root leads ends enough =
-      let none : parent_in parents number ≡ None =
-      no_parent_is number (let P : ℕ → Type 0 = λ n. slice_get parents n ≡ Some None in subst P leads ends) in
-      ap (λ rest. number ∷ rest) (ap (line_from levels parents) none ∙ line_of_none levels)
-  line_is_way (suc levels) number (parent ∷ path) root leads ends enough =
-      ap (λ rest. number ∷ rest)
-      (ap (line_from levels parents) (parent_is number parent leads.0) ∙ line_is_way levels parent path root leads.1 ends (omega arith))
-
-  ancestry_is : (number : ℕ) (path : List ℕ) (root : ℕ) → LeadsUp parents number path root → slice_get parents root ≡ Some None → ancestry parents number ≡ number ∷ path
-  ancestry_is number path root leads ends =
-      line_is_way (length parents) number path root leads ends (short_way number path root leads ends)
-
   -- what stands under none
   pub line_alone : (number : ℕ) → slice_get parents number ≡ Some None → reverse (ancestry parents number) ≡ number ∷ []
-  line_alone number none = ap reverse (ancestry_is number [] number refl none)
+  line_alone number none = ap reverse (ancestry_is parents number [] number refl none)
 
   -- and what stands under another that leads up to such
   pub line_below : (number parent : ℕ) → StandsUnder parents number parent → IsRooted parents number
@@ -90,6 +26,6 @@ module _ (parents : List (Option ℕ)) where
           let same : next ≡ parent = same_Some next parent (same_Some (Some next) (Some parent) (sym leads.0 ∙ under)) in
           let P : ℕ → Type 0 = λ n. LeadsUp parents n path rooted.root in
           let up = subst P same leads.1 in
-          ap reverse (ancestry_is number (next ∷ path) rooted.root leads rooted.ends ∙ ap (λ n. number ∷ n ∷ path) same)
+          ap reverse (ancestry_is parents number (next ∷ path) rooted.root leads rooted.ends ∙ ap (λ n. number ∷ n ∷ path) same)
           ∙ (reverse-append (number ∷ []) (parent ∷ path)
-          ∙ ap (λ rest. reverse rest ++ number ∷ []) (sym (ancestry_is parent path rooted.root up rooted.ends)))
+          ∙ ap (λ rest. reverse rest ++ number ∷ []) (sym (ancestry_is parents parent path rooted.root up rooted.ends)))

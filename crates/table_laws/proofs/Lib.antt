@@ -6,7 +6,6 @@ pub mod Classed
 pub mod Contained
 pub mod Declared
 pub mod Down
-pub mod Fewer
 pub mod First
 pub mod Fitting
 pub mod Items

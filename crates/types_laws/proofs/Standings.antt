@@ -8,7 +8,8 @@ use Rattle.lineage.specs.declared.lineage.Standing.TheVariants.{Rooted, OnCircle
 use Rattle.lineage.specs.declared.walk.Mark.{Mark}
 use Rattle.lineage.specs.declared.walk.Mark.TheVariants as marks
 use Rattle.lineage.specs.Lines.{StandsUnder, LeadsUp, IsOnCircle, StandsSo, IsLineageOf, standing_of_mark}
-use Rattle.lineage.proofs.Chains.{one_parent, circle_returns}
+use Rattle.lineage.proofs.Chains.{one_parent}
+use Rattle.nddl_inherited.proofs.Ways.{rooted_off}
 
 -- lists with the same at each place are the same
 pub same_places : {X : Type 0} (xs ys : List X) → length xs ≡ length ys → ((place : ℕ) → place < length xs → slice_get xs place ≡ slice_get ys place)
@@ -20,19 +21,6 @@ same_places (x ∷ xs) (y ∷ ys) long same =
     let first : x ≡ y = same_Some x y (same 0 (omega arith)) in
     let rest : xs ≡ ys = same_places xs ys (omega arith) (λ place within. same (suc place) (omega arith)) in
     λ i. first i ∷ rest i
-
--- what leads up to a root is on no circle
-pub rooted_off : (parents : List (Option ℕ)) (number : ℕ) (path : List ℕ) (root : ℕ) → LeadsUp parents number path root
-    → slice_get parents root ≡ Some None → IsOnCircle parents number → ⊥
-rooted_off parents number path root leads ends circle =
-    let back = circle_returns parents number path root circle leads in by back.0 back.1
-  where
-    at : (parent : ℕ) → StandsUnder parents root parent → ⊥
-    at parent under = (let e : ◌≡◌ {A = Option ℕ} None (Some parent) = same_Some None (Some parent) (sym ends ∙ under) in cc)
-
-    by : (back : List ℕ) → LeadsUp parents root back number → ⊥
-    by [] same = let P : ℕ → Type 0 = λ n. StandsUnder parents n circle.parent in at circle.parent (subst P same circle.under)
-    by (parent ∷ path) up = at parent up.0
 
 -- and leads to none
 rooted_not_leading : (parents : List (Option ℕ)) (number : ℕ) (path : List ℕ) (root other : ℕ) (more : List ℕ) → LeadsUp parents number path root

@@ -1,0 +1,4 @@
+pub mod Adding
+pub mod Fewer
+pub mod Passing
+pub mod Ways
