@@ -9,6 +9,7 @@ ghost use Rattle.nddl_sorts.specs.declared.kind.Extent.TheVariants.{Whole};
 ghost use Rattle.nddl_lines.specs.Facts.{facts_of};
 ghost use Rattle.nddl_lines.specs.Lines.{parents_of};
 ghost use Rattle.nddl_known.specs.Known.{AreFacts};
+ghost use Rattle.nddl_inherited.specs.Shorter.{AreShorter};
 ghost use Rattle.nddl_types.specs.Faults.{told_fault};
 ghost use Rattle.nddl_table.specs.Table.{TellsTypes};
 
@@ -18,6 +19,7 @@ use super::tabling::table_of;
 use lineage::Lineage;
 use nddl_ast::TextFault;
 use nddl_ast::declaration::{Decl, FileDecls};
+use nddl_inherited::{Heritage, shortened};
 use nddl_joined::joining::decl_at;
 use nddl_joined::place::file_of;
 use nddl_joined::{Site, join};
@@ -137,6 +139,7 @@ fn answer_over(
     requires lineage { IsLineageOf parents.now lineage.now.marks.items lineage.now.order.items }
     ensures { IfOk result (TellsTypes program.now.files.now) }
 {
+    let short = shortened(alloc, scope, program.decls, parents, lineage)?;
     let whole = Extent::Whole;
     let known = known_meanings(alloc, scope, program.decls, parents, lineage, &whole)?;
     answer_by(
@@ -145,22 +148,26 @@ fn answer_over(
         &*scope,
         &*parents,
         &*lineage,
+        short.as_slice(),
         known.as_slice(),
         &whole,
     )
 }
 
-// The same, by what the typedefs mean.
+// The same, by what the typedefs mean, and over shorter lines.
 fn answer_by<'a>(
     alloc: Global,
     program: &'a Program<'a>,
     scope: &'a Scope,
     parents: &'a [Option<usize>],
     lineage: &'a Lineage,
+    short: &'a [Option<usize>],
     known: &'a [Option<TypeMeaning>],
     whole: &'a Extent,
 ) -> Result<Result<TypeTable, TextFault>, AllocError>
     requires whole { whole.now ≡ Whole }
+    requires short { AreShorter scope.now (map (λ decl. decl.now) program.now.decls.now) parents.now
+        lineage.now.marks.items short.now }
     requires facts { AreFacts (scope_names (joined_decls program.now.files.now)) (joined_decls program.now.files.now)
         (record {
           names = scope.now;
@@ -182,22 +189,23 @@ fn answer_by<'a>(
         parents,
         lineage,
     };
-    answer_from(alloc, program, &basis)
+    let heritage = Heritage { basis, short };
+    answer_from(alloc, program, &heritage)
 }
 
 // The same, by what is known of the program.
 fn answer_from(
     alloc: Global,
     program: &Program<'_>,
-    basis: &Basis<'_>,
+    heritage: &Heritage<'_>,
 ) -> Result<Result<TypeTable, TextFault>, AllocError>
     requires { AreFacts (scope_names (joined_decls program.now.files.now)) (joined_decls program.now.files.now)
-        (facts_of basis.now) }
+        (facts_of heritage.now.basis) }
     ensures { IfOk result (TellsTypes program.now.files.now) }
 {
-    match first_wrong(alloc, basis)? {
+    match first_wrong(alloc, heritage)? {
         Some(fault) => Ok(Err(told(program, fault)?)),
-        None => Ok(Ok(table_of(alloc, program, basis)?)),
+        None => Ok(Ok(table_of(alloc, program, heritage)?)),
     }
 }
 
