@@ -7,7 +7,7 @@ use Rattle.lineage.specs.declared.lineage.Standing.{Standing}
 use Rattle.lineage.specs.declared.lineage.Standing.TheVariants.{Rooted, OnCircle, Leading}
 use Rattle.lineage.specs.declared.walk.Mark.{Mark}
 use Rattle.lineage.specs.declared.walk.Mark.TheVariants as marks
-use Rattle.lineage.specs.Lines.{StandsUnder, LeadsUp, IsOnCircle, StandsSo, IsLineageOf, standing_of_mark}
+use Rattle.lineage.specs.Lines.{LeadsUp, IsOnCircle, StandsSo, IsLineageOf, standing_of_mark}
 use Rattle.lineage.proofs.Chains.{one_parent}
 use Rattle.nddl_inherited.proofs.Ways.{rooted_off}
 
