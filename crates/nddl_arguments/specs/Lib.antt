@@ -1,0 +1,5 @@
+pub mod Arguments
+pub mod Calls
+pub mod Constraints
+pub mod Slots
+pub mod Values
