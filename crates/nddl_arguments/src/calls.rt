@@ -1,10 +1,10 @@
 //! Constraints and relations as they are written in rules and in predicates.
 
-ghost use Rattle.std.specs.Prelude.{◌≡◌, ◌++◌, ◌∷◌, [], IfOk, OnOk};
+ghost use Rattle.std.specs.Prelude.{◌≡◌, IfOk, OnOk};
 ghost use Rattle.nddl_scope.specs.Finding.{earliest_fault};
 ghost use Rattle.nddl_lines.specs.Facts.{facts_of};
-ghost use Rattle.nddl_paths.specs.Paths.{around_of};
-ghost use Rattle.nddl_arguments.specs.Calls.{act_rest, body_call_faults, constraint_call_faults, named_call_faults, no_act_faults, rule_call_faults};
+ghost use Rattle.nddl_paths.specs.Paths.{around_of, path_denoted};
+ghost use Rattle.nddl_arguments.specs.Calls.{body_call_faults, constraint_call_faults, named_call_faults, no_act_faults, rule_call_faults};
 
 use super::arguments::note_constraint;
 use super::slots::note_relation;
@@ -14,6 +14,7 @@ use nddl_ast::TextKind;
 use nddl_ast::expression::Expr;
 use nddl_ast::name::{Name, Path};
 use nddl_ast::statement::Call;
+use nddl_copies::{front, last};
 use nddl_lines::Basis;
 use nddl_paths::{Around, Denoted, PathFault, path_denoted};
 use nddl_scope::Fault;
@@ -33,7 +34,17 @@ pub fn note_rule_call(
         (rule_call_faults (facts_of basis.now) (around_of around.now) decl call.now)) }
 {
     let name = &call.path.first;
-    match call.path.rest.as_slice().split_last() {
+    match front(&call.path) {
+        Some(names) => note_act(
+            alloc,
+            basis,
+            around,
+            decl,
+            name,
+            names,
+            last(&call.path),
+            first,
+        ),
         None => note_named(
             alloc,
             basis,
@@ -43,7 +54,6 @@ pub fn note_rule_call(
             call.arguments.as_slice(),
             first,
         ),
-        Some((act, names)) => note_act(alloc, basis, around, decl, name, names, act, first),
     }
 }
 
@@ -60,7 +70,17 @@ pub fn note_body_call(
         (body_call_faults (facts_of basis.now) (around_of around.now) decl call.now)) }
 {
     let name = &call.path.first;
-    match call.path.rest.as_slice().split_last() {
+    match front(&call.path) {
+        Some(names) => note_act(
+            alloc,
+            basis,
+            around,
+            decl,
+            name,
+            names,
+            last(&call.path),
+            first,
+        ),
         None => note_constraint_call(
             alloc,
             basis,
@@ -70,7 +90,6 @@ pub fn note_body_call(
             call.arguments.as_slice(),
             first,
         ),
-        Some((act, names)) => note_act(alloc, basis, around, decl, name, names, act, first),
     }
 }
 
@@ -127,7 +146,8 @@ fn note_act(
     first: &mut Option<Fault>,
 ) -> Result<(), AllocError>
     ensures { OnOk result (first.new ≡ earliest_fault first.old
-        (act_rest (facts_of basis.now) (around_of around.now) decl name.now (names.now ++ act.now ∷ []))) }
+        (no_act_faults decl act.now
+        (path_denoted (facts_of basis.now) (around_of around.now) (record { first = name.now; rest = names.now })))) }
 {
     let front = path_of(alloc, name, names)?;
     let found = path_denoted(alloc, basis, around, &front)?;

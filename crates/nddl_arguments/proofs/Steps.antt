@@ -1,0 +1,44 @@
+-- Faults that are noted one after another.
+use Rattle.std.proofs.Common.{◌≡◌, ℕ, ◌+◌, ◌<◌, List, ◌∷◌, ◌++◌, length, drop, get_or, sym, ◌∙◌, ap}
+use Rattle.std.specs.Prelude.{Option, None, Result}
+use Rattle.std.proofs.lemmas.List.{drop_more}
+use Rattle.model_core.specs.declared.item.Kind.{Kind}
+use Rattle.nddl_ast.specs.declared.expression.Expr.{Expr}
+use Rattle.nddl_scope.specs.declared.fault.Fault.{Fault}
+use Rattle.nddl_scope.specs.Finding.{earliest_fault}
+use Rattle.nddl_scope.proofs.Earliest.{earliest_append}
+use Rattle.nddl_sorts.specs.declared.kind.TypeKind.{TypeKind}
+use Rattle.nddl_lines.specs.Facts.{Facts}
+use Rattle.nddl_paths.specs.declared.denoted.Denoted.{Denoted}
+use Rattle.nddl_paths.specs.Paths.{Surroundings}
+use Rattle.nddl_arguments.specs.declared.asked.Asked.{Asked}
+use Rattle.nddl_arguments.specs.Arguments.{argument_faults, arguments_faults, meant_by}
+use Rattle.nddl_arguments.specs.Constraints.{asked_at}
+use Rattle.nddl_arguments.specs.Values.{compared_with}
+
+-- the item that is read, and those behind it
+dropped : {X : Type 0} (xs : List X) (i : ℕ) (x : X) → i < length xs → x ≡ get_or xs i x → x ∷ drop (i + 1) xs ≡ drop i xs
+dropped xs i x within is = ap (λ y. y ∷ drop (i + 1) xs) is ∙ sym (drop_more xs i x within)
+
+-- some faults and then others have been noted
+pub noted_both : (one other : List Fault) (first second third : Option Fault)
+    → second ≡ earliest_fault first one → third ≡ earliest_fault second other → third ≡ earliest_fault first (one ++ other)
+noted_both one other first second third one_is other_is =
+    other_is ∙ (ap (λ o. earliest_fault o other) one_is ∙ sym (earliest_append first one other))
+
+-- one argument more has been dealt with
+pub arguments_step : (facts : Facts) (around : Surroundings) (decl : ℕ) (kind : Kind) (exprs : List Expr) (i : ℕ) (expr : Expr)
+    (asks : Asked) (meant : Denoted) (compared next : Option TypeKind) (old new whole : Option Fault)
+    → i < length exprs → expr ≡ get_or exprs i expr → asks ≡ asked_at kind i → meant ≡ meant_by facts around expr
+    → next ≡ compared_with asks compared meant → new ≡ earliest_fault old (argument_faults facts around decl asks compared expr)
+    → earliest_fault old (arguments_faults facts around decl kind i compared (drop i exprs)) ≡ whole
+    → earliest_fault new (arguments_faults facts around decl kind (i + 1) next (drop (i + 1) exprs)) ≡ whole
+arguments_step facts around decl kind exprs i expr asks meant compared next old new whole within is asks_is meant_is next_is noted so_far =
+    let behind = λ (more : Option TypeKind). arguments_faults facts around decl kind (i + 1) more (drop (i + 1) exprs) in
+    let further = compared_with (asked_at kind i) compared (meant_by facts around expr) in
+    ap (λ more. earliest_fault new (behind more))
+    (next_is ∙ (ap (λ m. compared_with asks compared m) meant_is ∙ ap (λ a. compared_with a compared (meant_by facts around expr)) asks_is))
+    ∙ (ap (λ o. earliest_fault o (behind further))
+    (noted ∙ ap (λ a. earliest_fault old (argument_faults facts around decl a compared expr)) asks_is)
+    ∙ (sym (earliest_append old (argument_faults facts around decl (asked_at kind i) compared expr) (behind further))
+    ∙ (ap (λ left. earliest_fault old (arguments_faults facts around decl kind i compared left)) (dropped exprs i expr within is) ∙ so_far)))
