@@ -1,6 +1,6 @@
 -- Faults that are noted one after another.
-use Rattle.std.proofs.Common.{◌≡◌, ℕ, ◌+◌, ◌<◌, List, ◌∷◌, ◌++◌, length, drop, get_or, sym, ◌∙◌, ap}
-use Rattle.std.specs.Prelude.{Option, None, Result}
+use Rattle.std.proofs.Common.{◌≡◌, ℕ, ◌+◌, ◌<◌, List, ◌∷◌, length, drop, get_or, sym, ◌∙◌, ap}
+use Rattle.std.specs.Prelude.{Option}
 use Rattle.std.proofs.lemmas.List.{drop_more}
 use Rattle.model_core.specs.declared.item.Kind.{Kind}
 use Rattle.nddl_ast.specs.declared.expression.Expr.{Expr}
@@ -10,7 +10,11 @@ use Rattle.nddl_scope.proofs.Earliest.{earliest_append}
 use Rattle.nddl_sorts.specs.declared.kind.TypeKind.{TypeKind}
 use Rattle.nddl_lines.specs.Facts.{Facts}
 use Rattle.nddl_paths.specs.declared.denoted.Denoted.{Denoted}
-use Rattle.nddl_paths.specs.Paths.{Surroundings}
+use Rattle.nddl_ast.specs.declared.name.Name.{Name}
+use Rattle.nddl_ast.specs.declared.name.Path.{Path}
+use Rattle.nddl_paths.specs.Paths.{Surroundings, path_denoted}
+use Rattle.nddl_paths.specs.Steps.{Understood}
+use Rattle.nddl_arguments.specs.Calls.{no_act_faults}
 use Rattle.nddl_arguments.specs.declared.asked.Asked.{Asked}
 use Rattle.nddl_arguments.specs.Arguments.{argument_faults, arguments_faults, meant_by}
 use Rattle.nddl_arguments.specs.Constraints.{asked_at}
@@ -19,12 +23,6 @@ use Rattle.nddl_arguments.specs.Values.{compared_with}
 -- the item that is read, and those behind it
 dropped : {X : Type 0} (xs : List X) (i : ℕ) (x : X) → i < length xs → x ≡ get_or xs i x → x ∷ drop (i + 1) xs ≡ drop i xs
 dropped xs i x within is = ap (λ y. y ∷ drop (i + 1) xs) is ∙ sym (drop_more xs i x within)
-
--- some faults and then others have been noted
-pub noted_both : (one other : List Fault) (first second third : Option Fault)
-    → second ≡ earliest_fault first one → third ≡ earliest_fault second other → third ≡ earliest_fault first (one ++ other)
-noted_both one other first second third one_is other_is =
-    other_is ∙ (ap (λ o. earliest_fault o other) one_is ∙ sym (earliest_append first one other))
 
 -- one argument more has been dealt with
 pub arguments_step : (facts : Facts) (around : Surroundings) (decl : ℕ) (kind : Kind) (exprs : List Expr) (i : ℕ) (expr : Expr)
@@ -42,3 +40,10 @@ arguments_step facts around decl kind exprs i expr asks meant compared next old 
     (noted ∙ ap (λ a. earliest_fault old (argument_faults facts around decl a compared expr)) asks_is)
     ∙ (sym (earliest_append old (argument_faults facts around decl (asked_at kind i) compared expr) (behind further))
     ∙ (ap (λ left. earliest_fault old (arguments_faults facts around decl kind i compared left)) (dropped exprs i expr within is) ∙ so_far)))
+
+-- an act has been dealt with, behind what stands before it
+pub acted : (facts : Facts) (around : Surroundings) (decl : ℕ) (act : Name) (front path : Path) (found : Understood) (old new : Option Fault)
+    → new ≡ earliest_fault old (no_act_faults decl act found) → found ≡ path_denoted facts around front → front ≡ path
+    → new ≡ earliest_fault old (no_act_faults decl act (path_denoted facts around path))
+acted facts around decl act front path found old new noted found_is front_is =
+    noted ∙ ap (λ f. earliest_fault old (no_act_faults decl act f)) (found_is ∙ ap (path_denoted facts around) front_is)
