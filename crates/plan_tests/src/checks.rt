@@ -2,11 +2,11 @@
 
 ghost use Rattle.model_core.specs.Lawful.{IsLawful};
 
-use super::mission::mission;
 use model_core::model::Model;
 use plan_check::{Verdict, check};
 use plan_defs::plan::{Clause, Place};
 use plan_reader::read_plan;
+use sample_models::mission::mission;
 use std::alloc::Global;
 
 // Texts of plans, and what is said of each plan. Lines are counted in order of names.

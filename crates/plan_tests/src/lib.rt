@@ -5,6 +5,4 @@
 #[cfg(test)]
 mod checks;
 #[cfg(test)]
-mod mission;
-#[cfg(test)]
 mod texts;

@@ -1,9 +1,9 @@
 //! Texts of plans, read and written.
 
-use super::mission::mission;
 use eu_name::bytes::Bytes;
 use plan_core::{PlanTextFault, write_plan};
 use plan_reader::read_plan;
+use sample_models::mission::mission;
 use std::alloc::{AllocError, Global};
 use std::test::Fail;
 
@@ -234,5 +234,40 @@ fn faults_are_told_with_their_places(rt: HostRuntime) -> Result<(), Fail> {
     for row in &FAULTS {
         assert_eq!(rt; fault_of(rt.alloc(), row.0)?, Some(row.1));
     }
+    Ok(())
+}
+
+// What two tokens become that stand so many steps below a rover, which the steps lead to.
+fn put_two(text: &mut String, steps: &str) -> Result<(), AllocError> {
+    text.push_str("rejected here")?;
+    text.push_str(steps)?;
+    text.push_str("\nrejected there")?;
+    text.push_str(steps)?;
+    text.push('\n')
+}
+
+// The text of a plan with twice as many lines as this, each of a token further down, in order of names.
+fn long_text(alloc: Global, count: u32) -> Result<String, AllocError> {
+    let mut text = String::from_str(alloc, "plan\n")?;
+    let mut steps = String::new(alloc);
+    for _ in 0..count {
+        put_two(&mut text, &steps)?;
+        steps.push_str("/0:0")?;
+    }
+    text.push_str("end\n")?;
+    Ok(text)
+}
+
+// Whether such a text is read, and written again as it is.
+fn is_kept(alloc: Global, count: u32) -> Result<bool, AllocError> {
+    let text = long_text(alloc, count)?;
+    let written = written_again(alloc, text.as_bytes())?;
+    Ok(written.as_slice() == text.as_bytes())
+}
+
+// A plan may have more lines than tokens may be active.
+#[test]
+fn plans_of_many_lines_are_read_and_written(rt: HostRuntime) -> Result<(), Fail> {
+    assert!(rt; is_kept(rt.alloc(), 300)?);
     Ok(())
 }

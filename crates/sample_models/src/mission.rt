@@ -1,15 +1,12 @@
-//! A small problem, built by hand: `Mission.antt` has it as text.
+//! A problem with rules, rejectables, a fact and resources, built by hand: `Mission.antt` has it as text.
 
-ghost use Rattle.std.specs.Prelude.{◌≡◌, List, [], ◌∷◌, ◌++◌, Ok, IfOk, pos};
-ghost use Rattle.domain_core.specs.Domain.{Range, Set};
-ghost use Rattle.model_core.specs.declared.item.Item.TheVariants.{Constraint};
-ghost use Rattle.model_core.specs.declared.item.Kind.TheVariants.{Leq};
+ghost use Rattle.std.specs.Prelude.{◌≡◌, [], ◌∷◌, IfOk};
+ghost use Rattle.domain_core.specs.Domain.{Set};
 ghost use Rattle.model_core.specs.declared.variable.Base.TheVariants.{Given};
-ghost use Rattle.model_core.specs.declared.variable.ValueKind.TheVariants.{Int};
 ghost use Rattle.model_core.specs.Lawful.{IsLawful};
-ghost use Rattle.plan_tests.specs.Mission.{listed_variable, mission_mode, mission_globals, mission_class, mission_object, mission_at, mission_act, mission_then, mission_otherwise, mission_rule, mission_root, mission_items, mission};
+ghost use Rattle.sample_models.specs.Mission.{mission_mode, mission_globals, mission_at, mission_act, mission_then, mission_otherwise, mission_rule, mission_items, mission};
 
-use domain_core::domain::Dom;
+use super::pieces::{alone_on, at_most, class, listed, object, one, only_one, ranged, root, with};
 use eu_name::name::Part;
 use eu_name::sequence::Sequence;
 use eu_name::text::Text;
@@ -19,85 +16,6 @@ use model_core::model::{Model, Problem, Root, RootKind};
 use model_core::rule::{Block, Entry, Guard, Rule, Slot};
 use model_core::variable::{Base, ValueKind, VarDecl};
 use std::alloc::{AllocError, Global};
-
-// The object of this number alone.
-fn alone_on(alloc: Global, number: i32) -> Result<Dom, AllocError>
-    ensures { IfOk result (λ domain. domain ≡ Set (number ∷ [])) }
-{
-    match Dom::set_of(alloc, &[number]) {
-        Ok(domain) => Ok(domain),
-        Err(_) => Err(AllocError),
-    }
-}
-
-// A variable with a range from 0.
-fn ranged(alloc: Global, name: &str, greatest: i32) -> Result<VarDecl, AllocError>
-    ensures { IfOk result (λ variable. variable
-        ≡ record { name = name.now; kind = Int; base = Given (Range (pos 0) greatest) }) }
-{
-    let Some(domain) = Dom::range(0, greatest) else {
-        return Err(AllocError);
-    };
-    Ok(VarDecl {
-        name: Text::from_str(alloc, name)?,
-        kind: ValueKind::Int,
-        base: Base::Given(domain),
-    })
-}
-
-// A variable of a kind whose values are listed.
-fn listed(alloc: Global, name: &str, kind: ValueKind) -> Result<VarDecl, AllocError>
-    ensures { IfOk result (λ variable. variable ≡ listed_variable name.now kind) }
-{
-    Ok(VarDecl {
-        name: Text::from_str(alloc, name)?,
-        kind,
-        base: Base::Given(alone_on(alloc, 0)?),
-    })
-}
-
-// The items of a list with one.
-fn one<T: Drop>(alloc: Global, item: T) -> Result<Sequence<T>, AllocError>
-    ensures { IfOk result (λ items. items ≡ item ∷ []) }
-{
-    pushed(Sequence::new(alloc), item)
-}
-
-// The items with one more.
-fn pushed<T: Drop>(items: Sequence<T>, item: T) -> Result<Sequence<T>, AllocError>
-    ensures { IfOk result (λ more. more ≡ items ++ item ∷ []) }
-{
-    let mut items = items;
-    items.push(item)?;
-    Ok(items)
-}
-
-// The items of a list with one, where it is there.
-fn only_one<T: Drop>(alloc: Global, item: Result<T, AllocError>) -> Result<Sequence<T>, AllocError>
-    ensures { IfOk result (λ items. (this : T) × ((item ≡ Ok this) × (items ≡ this ∷ []))) }
-{
-    match item {
-        Ok(item) => one(alloc, item),
-        Err(none) => Err(none),
-    }
-}
-
-// The items with one more, where all are there.
-fn with<T: Drop>(
-    items: Result<Sequence<T>, AllocError>,
-    item: Result<T, AllocError>,
-) -> Result<Sequence<T>, AllocError>
-    ensures { IfOk result (λ more. (those : List T)
-        × ((this : T) × ((items ≡ Ok those) × (item ≡ Ok this) × (more ≡ those ++ this ∷ [])))) }
-{
-    match items {
-        Ok(items) => match item {
-            Ok(item) => pushed(items, item),
-            Err(none) => Err(none),
-        },
-        Err(none) => Err(none),
-    }
-}
 
 fn members(alloc: Global) -> Result<Sequence<Text>, AllocError>
     ensures { IfOk result (λ members. members ≡ mission_mode.members) }
@@ -116,32 +34,11 @@ fn enums(alloc: Global) -> Result<Sequence<Enum>, AllocError>
     one(alloc, mode)
 }
 
-fn class(alloc: Global, name: &str) -> Result<Class, AllocError>
-    ensures { IfOk result (λ class. class ≡ mission_class name.now) }
-{
-    Ok(Class {
-        name: Text::from_str(alloc, name)?,
-        parent: None,
-        fields: Sequence::new(alloc),
-    })
-}
-
 fn classes(alloc: Global) -> Result<Sequence<Class>, AllocError>
     ensures { IfOk result (λ classes. classes ≡ mission.classes) }
 {
     let classes = only_one(alloc, class(alloc, "Rover"));
     with(with(classes, class(alloc, "Arm")), class(alloc, "Cell"))
-}
-
-fn object(alloc: Global, name: &str, class: u32, kind: ObjectKind) -> Result<Object, AllocError>
-    ensures { IfOk result (λ object. object ≡ mission_object name.now class kind) }
-{
-    Ok(Object {
-        name: Text::from_str(alloc, name)?,
-        class,
-        fields: Sequence::new(alloc),
-        kind,
-    })
 }
 
 fn objects(alloc: Global) -> Result<Sequence<Object>, AllocError>
@@ -253,25 +150,6 @@ fn rules(alloc: Global) -> Result<Sequence<Rule>, AllocError>
     one(alloc, rule)
 }
 
-// A root on the object of this number.
-fn root(
-    alloc: Global,
-    label: &str,
-    kind: RootKind,
-    pred: u32,
-    object: i32,
-) -> Result<Root, AllocError>
-    ensures { IfOk result (λ root. root
-        ≡ record { label = label.now; kind = kind; pred = pred; object = Set (object ∷ []) }) }
-{
-    Ok(Root {
-        label: Text::from_str(alloc, label)?,
-        kind,
-        pred,
-        object: alone_on(alloc, object)?,
-    })
-}
-
 fn roots(alloc: Global) -> Result<Sequence<Root>, AllocError>
     ensures { IfOk result (λ roots. roots ≡ mission.problem.roots) }
 {
@@ -290,14 +168,6 @@ fn globals(alloc: Global) -> Result<Sequence<VarDecl>, AllocError>
     let globals = with(globals, ranged(alloc, "!1", 5));
     let globals = with(globals, listed(alloc, "mode", ValueKind::Enum(0)));
     with(globals, listed(alloc, "on", ValueKind::Bool))
-}
-
-// That the one is at most the other.
-fn at_most(alloc: Global, one: Term, other: Term) -> Result<Item, AllocError>
-    ensures { IfOk result (λ item. item ≡ Constraint Leq (one ∷ other ∷ [])) }
-{
-    let terms = vec![in alloc; one, other]?;
-    Ok(Item::Constraint(Kind::Leq, Sequence::from_vec(terms)))
 }
 
 fn items(alloc: Global) -> Result<Sequence<Item>, AllocError>

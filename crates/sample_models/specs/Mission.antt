@@ -8,13 +8,9 @@
 -- rejectable(arm.uses drill); rejectable(cell.produce sun); rejectable(cell.consume work); int [0 10] total; Mode [slow] mode;
 -- bool [false] on; leq(total, 5); leq(drill.start, there.start);`, and one more global as for a field. The slot `from` has the
 -- number 0, and `use` the number 1.
-use Rattle.std.specs.Prelude.{ℕ, pos, List, [], ◌∷◌, None, codes}
-use Rattle.domain_core.specs.Domain.{Domain, Range, Set}
+use Rattle.std.specs.Prelude.{ℕ, pos, List, [], ◌∷◌, codes}
 use Rattle.eu_name.specs.declared.name.Part.TheVariants.{Start, Param}
-use Rattle.model_core.specs.declared.class.Class.{Class}
 use Rattle.model_core.specs.declared.class.Enum.{Enum}
-use Rattle.model_core.specs.declared.class.Object.{Object}
-use Rattle.model_core.specs.declared.class.ObjectKind.{ObjectKind}
 use Rattle.model_core.specs.declared.class.ObjectKind.TheVariants.{Timeline, Reusable, Reservoir}
 use Rattle.model_core.specs.declared.class.Pred.{Pred}
 use Rattle.model_core.specs.declared.class.PredKind.{PredKind}
@@ -26,36 +22,17 @@ use Rattle.model_core.specs.declared.item.Rel.TheVariants.{Equals, After}
 use Rattle.model_core.specs.declared.item.Term.TheVariants as terms
 use Rattle.model_core.specs.declared.model.Model.{Model}
 use Rattle.model_core.specs.declared.model.Root.{Root}
-use Rattle.model_core.specs.declared.model.RootKind.{RootKind}
 use Rattle.model_core.specs.declared.model.RootKind.TheVariants.{Goal, Rejectable, Fact}
 use Rattle.model_core.specs.declared.rule.Guard.TheVariants.{Equal}
 use Rattle.model_core.specs.declared.rule.Rule.{Rule}
 use Rattle.model_core.specs.declared.variable.Base.TheVariants.{Given}
-use Rattle.model_core.specs.declared.variable.ValueKind.{ValueKind}
 use Rattle.model_core.specs.declared.variable.ValueKind.TheVariants as kinds
 use Rattle.model_core.specs.declared.variable.VarDecl.{VarDecl}
 use Rattle.model_core.specs.Entries.{Entries, NoEntry, WithSlot, WithLocal, WithItem, WithBranch}
-
--- the value of this number alone
-abbrev pub alone_on : ℕ → Domain
-alone_on number = Set (pos number ∷ [])
-
--- a variable with a range from 0
-abbrev pub span_variable : List ℕ → ℕ → VarDecl
-span_variable name greatest = record { name = name; kind = kinds.Int; base = Given (Range (pos 0) (pos greatest)) }
-
--- a variable of a kind whose values are listed: it may be the first of them alone
-abbrev pub listed_variable : List ℕ → ValueKind → VarDecl
-listed_variable name kind = record { name = name; kind = kind; base = Given (alone_on 0) }
+use Rattle.sample_models.specs.Pieces.{alone_on, span_variable, listed_variable, bare_class, bare_object, root_on}
 
 abbrev pub mission_mode : Enum
 mission_mode = record { name = codes "Mode"; members = codes "slow" ∷ codes "fast" ∷ [] }
-
-abbrev pub mission_class : List ℕ → Class
-mission_class name = record { name = name; parent = None; fields = [] }
-
-abbrev pub mission_object : List ℕ → ℕ → ObjectKind → Object
-mission_object name class kind = record { name = name; class = class; fields = []; kind = kind }
 
 -- where a rover is
 abbrev pub mission_at : Pred
@@ -83,14 +60,11 @@ mission_rule = record {
   locals = span_variable [] 9 ∷ [];
 }
 
-abbrev pub mission_root : List ℕ → RootKind → ℕ → ℕ → Root
-mission_root label kind pred object = record { label = label; kind = kind; pred = pred; object = alone_on object }
-
 abbrev pub mission_roots : List Root
 mission_roots =
-    mission_root (codes "base") Fact 0 0 ∷ mission_root (codes "here") Goal 0 0
-    ∷ mission_root (codes "there") Rejectable 0 1 ∷ mission_root (codes "drill") Rejectable 1 2
-    ∷ mission_root (codes "sun") Rejectable 2 3 ∷ mission_root (codes "work") Rejectable 3 3 ∷ []
+    root_on (codes "base") Fact 0 0 ∷ root_on (codes "here") Goal 0 0
+    ∷ root_on (codes "there") Rejectable 0 1 ∷ root_on (codes "drill") Rejectable 1 2
+    ∷ root_on (codes "sun") Rejectable 2 3 ∷ root_on (codes "work") Rejectable 3 3 ∷ []
 
 abbrev pub mission_items : List Item
 mission_items =
@@ -105,10 +79,10 @@ mission_globals =
 abbrev pub mission : Model
 mission = record {
   enums = mission_mode ∷ [];
-  classes = mission_class (codes "Rover") ∷ mission_class (codes "Arm") ∷ mission_class (codes "Cell") ∷ [];
+  classes = bare_class (codes "Rover") ∷ bare_class (codes "Arm") ∷ bare_class (codes "Cell") ∷ [];
   objects =
-      mission_object (codes "spirit") 0 Timeline ∷ mission_object (codes "twin") 0 Timeline
-      ∷ mission_object (codes "arm") 1 (Reusable (pos 2)) ∷ mission_object (codes "cell") 2 (Reservoir (pos 5) (pos 0) (pos 10)) ∷ [];
+      bare_object (codes "spirit") 0 Timeline ∷ bare_object (codes "twin") 0 Timeline
+      ∷ bare_object (codes "arm") 1 (Reusable (pos 2)) ∷ bare_object (codes "cell") 2 (Reservoir (pos 5) (pos 0) (pos 10)) ∷ [];
   preds =
       mission_at ∷ mission_act 1 (codes "uses") Uses ∷ mission_act 2 (codes "produce") Produce
       ∷ mission_act 2 (codes "consume") Consume ∷ [];

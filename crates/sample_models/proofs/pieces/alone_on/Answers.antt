@@ -1,8 +1,8 @@
 use Rattle.std.proofs.Common.{◌≡◌, ◌∷◌, [], w32, to_z, of_z, arith, subst, ℤ}
 use Rattle.std.proofs.lemmas.Int.{ints}
-use Rattle.domain_core.specs.Domain.{Domain, Set}
-use Rattle.plan_tests.proofs.Lawfulness.{alone_is}
-use Rattle.plan_tests.proofs.mission.alone_on.Goals as goal
+use Rattle.domain_core.specs.Domain.{Set}
+use Rattle.sample_models.proofs.PieceLaws.{alone_is}
+use Rattle.sample_models.proofs.pieces.alone_on.Goals as goal
 
 pub returns-in-Ok : goal.returns-in-Ok
 returns-in-Ok c =

@@ -1,24 +1,19 @@
--- The small model is lawful.
-use Rattle.std.proofs.Common.{◌≡◌, ℕ, ℤ, pos, ◌<◌, ◌≤◌, ◌^◌, List, [], ◌∷◌, ◌++◌, length, Some, Result, Ok, Err, slice_get, zero, suc, inl, inr, refl, sym, ◌∙◌, ap, subst, arith, ◌⊎◌}
-use Rattle.std.specs.Prelude.{IfOk, Contains, All, AllPairs, ◌≢◌, codes, Bool, true}
+-- The mission is lawful.
+use Rattle.std.proofs.Common.{◌≡◌, ℕ, pos, ◌<◌, ◌≤◌, ◌^◌, List, [], ◌∷◌, ◌++◌, length, Some, Result, Ok, Err, slice_get, zero, suc, inl, inr, refl, sym, ap, subst, arith, ◌⊎◌}
+use Rattle.std.specs.Prelude.{IfOk, Contains, All, AllPairs, ◌≢◌, codes, true}
 use Rattle.std.proofs.lemmas.Fmt.{decimal_digit}
 use Rattle.std.proofs.lemmas.Int.{ints}
 use Rattle.std.proofs.lemmas.List.Elements.{All-from_recursion}
-use Rattle.domain_core.specs.Domain.{Domain, Range, Set, IsDomain, IsValue, Has, AreAscending}
-use Rattle.domain_core.specs.Lists.{MakesSet}
 use Rattle.eu_name.specs.declared.name.Part.TheVariants.{Start, Param}
 use Rattle.eu_name.specs.Word.{IsName}
 use Rattle.model_core.specs.declared.class.Class.{Class}
-use Rattle.model_core.specs.declared.class.Object.{Object}
-use Rattle.model_core.specs.declared.class.ObjectKind.{ObjectKind}
 use Rattle.model_core.specs.declared.class.ObjectKind.TheVariants.{Timeline, Reusable, Reservoir}
 use Rattle.model_core.specs.declared.class.Pred.{Pred}
 use Rattle.model_core.specs.declared.class.PredKind.{PredKind}
-use Rattle.model_core.specs.declared.class.PredKind.TheVariants.{Plain, Uses, Produce, Consume}
+use Rattle.model_core.specs.declared.class.PredKind.TheVariants.{Uses, Produce, Consume}
 use Rattle.model_core.specs.declared.item.Item.TheVariants.{Constraint, Relation}
 use Rattle.model_core.specs.declared.item.Kind.TheVariants.{Leq}
 use Rattle.model_core.specs.declared.item.Rel.TheVariants.{Equals, After}
-use Rattle.model_core.specs.declared.item.Term.{Term}
 use Rattle.model_core.specs.declared.item.Term.TheVariants as terms
 use Rattle.model_core.specs.declared.model.Model.{Model}
 use Rattle.model_core.specs.declared.model.RootKind.{RootKind}
@@ -33,82 +28,23 @@ use Rattle.model_core.specs.declared.variable.ValueKind.TheVariants as kinds
 use Rattle.model_core.specs.declared.variable.VarDecl.{VarDecl}
 use Rattle.model_core.specs.Blocks.{Direct, OfSlot, OfLocal, OfItem, OfBranch, direct, chosen}
 use Rattle.model_core.specs.Entries.{Entries}
-use Rattle.model_core.specs.Kinds.{IsObjectOf, OfProblem, OfRule, IsOfKind, AreObjectsOf}
-use Rattle.model_core.specs.Lawful.{IsLawfulVariable, IsLawfulEnum, IsLawfulClass, IsLawfulKind, IsLawfulObject, IsLawfulSlot, IsLawfulItem, IsLawfulEntry, IsLawfulRule, AreFew, HasQuantity, IsLawfulPred, IsLawfulRoot, IsLawfulDecision, IsLawful}
+use Rattle.model_core.specs.Kinds.{OfProblem, OfRule, IsOfKind}
+use Rattle.model_core.specs.Lawful.{IsLawfulVariable, IsLawfulEnum, IsLawfulClass, IsLawfulObject, IsLawfulSlot, IsLawfulItem, IsLawfulEntry, IsLawfulRule, HasQuantity, IsLawfulPred, IsLawfulRoot, IsLawful}
 use Rattle.model_core.specs.Naming.{builtin_names, file_names, declared_names, token_part_words, IsGlobalName, IsParameterName}
 use Rattle.model_core.specs.Standing.{StandsAt, StandsOnce, IsSeen, IsTermSeen, LeadsToBlock}
-use Rattle.model_core.specs.Variables.{IsGiven}
 use Rattle.model_core.proofs.Words.{not_contained, plain_name, is_plain, differing}
-use Rattle.plan_tests.specs.Mission.{span_variable, listed_variable, mission_mode, mission_globals, alone_on, mission_class, mission_object, mission_at, mission_act, mission_then, mission_otherwise, mission_rule, mission_root, mission_roots, mission_items, mission}
-
--- ---- domains of one value
-
-contains_one : (x y : ℤ) → Contains (x ∷ []) y → y ≡ x
-contains_one x y (zero, within, is) = sym is
-contains_one x y (suc k, within, is) = absurd (omega (arith, within))
-
--- a list with no number but the one has that alone, once
-only_member : (x : ℤ) (members : List ℤ) → AreAscending members → 0 < length members → ((value : ℤ) → Contains members value → value ≡ x) → members ≡ x ∷ []
-only_member x [] ascending some among = absurd (omega (arith, some))
-only_member x (y ∷ []) ascending some among = let first : y ≡ x = among y (0, omega arith, refl) in λ i. first i ∷ []
-only_member x (y ∷ (z ∷ more)) ascending some among =
-    let first : y ≡ x = among y (0, omega arith, refl) in
-    let second : z ≡ x = among z (1, omega arith, refl) in
-    absurd (omega (arith, ints, ascending 0 1 y (omega arith) (omega arith), first, second))
-
--- a domain made of the one number is the set of it
-pub alone_is : (number : ℤ) (domain : Domain) → MakesSet (number ∷ []) (Ok domain) → domain ≡ Set (number ∷ [])
-alone_is number domain (members, is, are) =
-    is ∙ ap Set (only_member number members are.are.ascending are.are.some (λ value has. contains_one number value ((are.same value).0 has)))
-
-alone_domain : (number : ℕ) → number ≤ 1000000 → IsDomain (alone_on number)
-alone_domain number small = record {
-  ascending = λ i j d below within. absurd (omega (arith, below, within));
-  values = All-from_recursion IsValue (pos number ∷ []) ((omega (arith, ints), omega (arith, ints, small)), tt);
-  some = omega arith;
-  few = omega arith;
-}
-
-on_object : (number : ℕ) (object : Object) → slice_get mission.objects number ≡ Some object → AreObjectsOf mission object.class (Given (alone_on number))
-on_object number object is value has = (object, (number, contains_one (pos number) value has, is), ([], refl))
-
--- ---- variables, classes and objects
-
-lawful_span : (name : List ℕ) (greatest : ℕ) → greatest ≤ 1000000 → IsLawfulVariable mission (span_variable name greatest)
-lawful_span name greatest small = record {
-  kind = tt;
-  base = ((omega (arith, ints), omega (arith, ints)), (omega (arith, ints), omega (arith, ints, small)), omega (arith, ints));
-  inside = record { values = λ value has. (omega (arith, ints, has), omega (arith, ints, small, has)); range = λ is_range. refl };
-}
-
-class_is : (number : ℕ) (name : List ℕ) → is_plain name ≡ true → IsLawfulClass mission number (mission_class name)
-class_is number name plain = record {
-  name = plain_name name plain;
-  extends = λ parent is. cc;
-  no_circle = λ parent is under. absurd (cc);
-  fields = All-from_recursion (IsLawfulVariable mission) [] tt;
-  names = All-from_recursion IsName [] tt;
-  distinct = differing [] refl;
-}
+use Rattle.sample_models.specs.Mission.{mission_mode, mission_globals, mission_at, mission_act, mission_then, mission_otherwise, mission_rule, mission_roots, mission_items, mission}
+use Rattle.sample_models.specs.Pieces.{alone_on, span_variable, listed_variable, bare_class, bare_object, root_on}
+use Rattle.sample_models.proofs.PieceLaws.{contains_one, alone_domain, lawful_span, class_is, lawful_object, lawful_slot, lawful_root, one_given}
 
 lawful_class : (number : ℕ) (class : Class) → slice_get mission.classes number ≡ Some class → IsLawfulClass mission number class
 lawful_class zero class stands =
-    let same : mission_class (codes "Rover") ≡ class = cc in subst (IsLawfulClass mission 0) same (class_is 0 (codes "Rover") refl)
+    let same : bare_class (codes "Rover") ≡ class = cc in subst (IsLawfulClass mission 0) same (class_is mission 0 (codes "Rover") refl)
 lawful_class (suc zero) class stands =
-    let same : mission_class (codes "Arm") ≡ class = cc in subst (IsLawfulClass mission 1) same (class_is 1 (codes "Arm") refl)
+    let same : bare_class (codes "Arm") ≡ class = cc in subst (IsLawfulClass mission 1) same (class_is mission 1 (codes "Arm") refl)
 lawful_class (suc (suc zero)) class stands =
-    let same : mission_class (codes "Cell") ≡ class = cc in subst (IsLawfulClass mission 2) same (class_is 2 (codes "Cell") refl)
+    let same : bare_class (codes "Cell") ≡ class = cc in subst (IsLawfulClass mission 2) same (class_is mission 2 (codes "Cell") refl)
 lawful_class (suc (suc (suc number))) class stands = cc
-
-lawful_object : (name class_name : List ℕ) (class : ℕ) (kind : ObjectKind) → is_plain name ≡ true
-    → slice_get mission.classes class ≡ Some (mission_class class_name) → IsLawfulKind kind → IsLawfulObject mission (mission_object name class kind)
-lawful_object name class_name class kind plain is lawful = record {
-  name = (name ∷ [], omega arith, All-from_recursion IsName (name ∷ []) (plain_name name plain, tt), refl);
-  class = mission_class class_name;
-  is_class = is;
-  fields = tt;
-  kind = lawful;
-}
 
 -- ---- the rule
 
@@ -340,26 +276,16 @@ local_stands zero within = record {
 }
 local_stands (suc number) within = absurd (omega (arith, within))
 
-lawful_slot : (pred number : ℕ) (found : Pred) (object : Object) → number ≤ 1000000 → slice_get mission.preds pred ≡ Some found
-    → slice_get mission.objects number ≡ Some object → object.class ≡ found.class → IsLawfulSlot mission (record { pred = pred; object = Given (alone_on number) })
-lawful_slot pred number found object small is_pred is same = record {
-  pred = found;
-  is_pred = is_pred;
-  base = alone_domain number small;
-  inside = record { values = λ value has. (object, (number, contains_one (pos number) value has, is)); range = λ is_range. absurd is_range };
-  objects = subst (λ (class : ℕ). AreObjectsOf mission class (Given (alone_on number))) same (on_object number object is);
-}
-
 lawful_rule : IsLawfulRule mission 0 mission_rule
 lawful_rule = record {
   entries = lawful_entry;
   nested = few_turns;
   slots = All-from_recursion (IsLawfulSlot mission) mission_rule.slots (
-    lawful_slot 0 0 mission_at (mission_object (codes "spirit") 0 Timeline) (omega arith) refl refl refl,
-    (lawful_slot 1 2 (mission_act 1 (codes "uses") Uses) (mission_object (codes "arm") 1 (Reusable (pos 2))) (omega arith) refl refl refl, tt),
+    lawful_slot mission 0 0 mission_at (bare_object (codes "spirit") 0 Timeline) (omega arith) refl refl refl,
+    (lawful_slot mission 1 2 (mission_act 1 (codes "uses") Uses) (bare_object (codes "arm") 1 (Reusable (pos 2))) (omega arith) refl refl refl, tt),
   );
   slots_stand = slot_stands;
-  locals = All-from_recursion (IsLawfulVariable mission) mission_rule.locals (lawful_span [] 9 (omega arith), tt);
+  locals = All-from_recursion (IsLawfulVariable mission) mission_rule.locals (lawful_span mission [] 9 (omega arith), tt);
   unnamed = All-from_recursion (λ variable. variable.name ≡ []) mission_rule.locals (refl, tt);
   locals_stand = local_stands;
 }
@@ -369,10 +295,10 @@ lawful_rule = record {
 lawful_at : IsLawfulPred mission 0 mission_at
 lawful_at = record {
   name = plain_name (codes "At") refl;
-  class = mission_class (codes "Rover");
+  class = bare_class (codes "Rover");
   is_class = refl;
   no_field = not_contained [] (codes "At") refl;
-  params = All-from_recursion (IsLawfulVariable mission) mission_at.params (lawful_span (codes "place") 3 (omega arith), tt);
+  params = All-from_recursion (IsLawfulVariable mission) mission_at.params (lawful_span mission (codes "place") 3 (omega arith), tt);
   few_params = omega arith;
   names = All-from_recursion IsParameterName (codes "place" ∷ []) ((plain_name (codes "place") refl, not_contained token_part_words (codes "place") refl), tt);
   distinct = differing (codes "place" ∷ []) refl;
@@ -383,14 +309,14 @@ lawful_at = record {
   lawful = All-from_recursion (IsLawfulRule mission 0) (mission_rule ∷ []) (lawful_rule, tt);
 }
 
-lawful_act : (number class : ℕ) (class_name name : List ℕ) (kind : PredKind) → is_plain name ≡ true → slice_get mission.classes class ≡ Some (mission_class class_name)
+lawful_act : (number class : ℕ) (class_name name : List ℕ) (kind : PredKind) → is_plain name ≡ true → slice_get mission.classes class ≡ Some (bare_class class_name)
     → HasQuantity kind (span_variable (codes "quantity") 1000000 ∷ []) → IsLawfulPred mission number (mission_act class name kind)
 lawful_act number class class_name name kind plain is quantity = record {
   name = plain_name name plain;
-  class = mission_class class_name;
+  class = bare_class class_name;
   is_class = is;
   no_field = not_contained [] name refl;
-  params = All-from_recursion (IsLawfulVariable mission) (span_variable (codes "quantity") 1000000 ∷ []) (lawful_span (codes "quantity") 1000000 (omega arith), tt);
+  params = All-from_recursion (IsLawfulVariable mission) (span_variable (codes "quantity") 1000000 ∷ []) (lawful_span mission (codes "quantity") 1000000 (omega arith), tt);
   few_params = omega arith;
   names = All-from_recursion IsParameterName (codes "quantity" ∷ []) ((plain_name (codes "quantity") refl, not_contained token_part_words (codes "quantity") refl), tt);
   distinct = differing (codes "quantity" ∷ []) refl;
@@ -411,23 +337,9 @@ lawful_pred (suc (suc (suc zero))) pred stands =
     let same : mission_act 2 (codes "consume") Consume ≡ pred = cc in subst (IsLawfulPred mission 3) same (lawful_act 3 2 (codes "Cell") (codes "consume") Consume refl refl refl)
 lawful_pred (suc (suc (suc (suc number)))) pred stands = cc
 
-lawful_root : (label : List ℕ) (kind : RootKind) (pred number : ℕ) (found : Pred) (object : Object) (name : List ℕ) (greatest : ℕ) → is_plain label ≡ true → number ≤ 1000000
-    → slice_get mission.preds pred ≡ Some found → slice_get mission.objects number ≡ Some object → object.class ≡ found.class
-    → found.params ≡ span_variable name greatest ∷ [] → IsLawfulRoot mission (mission_root label kind pred number)
-lawful_root label kind pred number found object name greatest plain small is_pred is same params = record {
-  label = plain_name label plain;
-  pred = found;
-  is_pred = is_pred;
-  given = subst (λ (listed : List VarDecl). All (λ variable. IsGiven variable.base) listed) (sym params)
-      (All-from_recursion (λ (variable : VarDecl). IsGiven variable.base) (span_variable name greatest ∷ []) ((Range (pos 0) (pos greatest), refl), tt));
-  object = alone_domain number small;
-  inside = record { values = λ value has. (object, (number, contains_one (pos number) value has, is)); range = λ is_range. absurd is_range };
-  objects = subst (λ (class : ℕ). AreObjectsOf mission class (Given (alone_on number))) same (on_object number object is);
-}
-
 root_at : (label : List ℕ) (kind : RootKind) (number : ℕ) (name : List ℕ) → is_plain label ≡ true → number ≤ 1000000
-    → slice_get mission.objects number ≡ Some (mission_object name 0 Timeline) → IsLawfulRoot mission (mission_root label kind 0 number)
-root_at label kind number name plain small is = lawful_root label kind 0 number mission_at (mission_object name 0 Timeline) (codes "place") 3 plain small refl is refl refl
+    → slice_get mission.objects number ≡ Some (bare_object name 0 Timeline) → IsLawfulRoot mission (root_on label kind 0 number)
+root_at label kind number name plain small is = lawful_root mission label kind 0 number mission_at (bare_object name 0 Timeline) plain small refl is refl (one_given (codes "place") 3)
 
 lawful_roots : All (IsLawfulRoot mission) mission_roots
 lawful_roots = All-from_recursion (IsLawfulRoot mission) mission_roots (
@@ -437,10 +349,10 @@ lawful_roots = All-from_recursion (IsLawfulRoot mission) mission_roots (
     (
       root_at (codes "there") Rejectable 1 (codes "twin") refl (omega arith) refl,
       (
-        lawful_root (codes "drill") Rejectable 1 2 (mission_act 1 (codes "uses") Uses) (mission_object (codes "arm") 1 (Reusable (pos 2))) (codes "quantity") 1000000 refl (omega arith) refl refl refl refl,
+        lawful_root mission (codes "drill") Rejectable 1 2 (mission_act 1 (codes "uses") Uses) (bare_object (codes "arm") 1 (Reusable (pos 2))) refl (omega arith) refl refl refl (one_given (codes "quantity") 1000000),
         (
-          lawful_root (codes "sun") Rejectable 2 3 (mission_act 2 (codes "produce") Produce) (mission_object (codes "cell") 2 (Reservoir (pos 5) (pos 0) (pos 10))) (codes "quantity") 1000000 refl (omega arith) refl refl refl refl,
-          (lawful_root (codes "work") Rejectable 3 3 (mission_act 2 (codes "consume") Consume) (mission_object (codes "cell") 2 (Reservoir (pos 5) (pos 0) (pos 10))) (codes "quantity") 1000000 refl (omega arith) refl refl refl refl, tt),
+          lawful_root mission (codes "sun") Rejectable 2 3 (mission_act 2 (codes "produce") Produce) (bare_object (codes "cell") 2 (Reservoir (pos 5) (pos 0) (pos 10))) refl (omega arith) refl refl refl (one_given (codes "quantity") 1000000),
+          (lawful_root mission (codes "work") Rejectable 3 3 (mission_act 2 (codes "consume") Consume) (bare_object (codes "cell") 2 (Reservoir (pos 5) (pos 0) (pos 10))) refl (omega arith) refl refl refl (one_given (codes "quantity") 1000000), tt),
         ),
       ),
     ),
@@ -460,8 +372,8 @@ lawful_items = All-from_recursion (IsLawfulItem mission OfProblem) mission_items
     (
       refl,
       All-from_recursion (IsOfKind mission OfProblem kinds.Int) (terms.Root 3 Start ∷ terms.Root 2 Start ∷ []) (
-        (mission_root (codes "drill") Rejectable 1 2, refl, refl),
-        ((mission_root (codes "there") Rejectable 0 1, refl, refl), tt),
+        (root_on (codes "drill") Rejectable 1 2, refl, refl),
+        ((root_on (codes "there") Rejectable 0 1, refl, refl), tt),
       ),
     ),
     tt,
@@ -541,13 +453,13 @@ mission_is_lawful = record {
   enums = All-from_recursion IsLawfulEnum (mission_mode ∷ []) (lawful_enum, tt);
   classes = lawful_class;
   objects = All-from_recursion (IsLawfulObject mission) mission.objects (
-    lawful_object (codes "spirit") (codes "Rover") 0 Timeline refl refl tt,
+    lawful_object mission (codes "spirit") (codes "Rover") 0 Timeline refl refl tt,
     (
-      lawful_object (codes "twin") (codes "Rover") 0 Timeline refl refl tt,
+      lawful_object mission (codes "twin") (codes "Rover") 0 Timeline refl refl tt,
       (
-        lawful_object (codes "arm") (codes "Arm") 1 (Reusable (pos 2)) refl refl ((omega (arith, ints), omega (arith, ints)), omega (arith, ints)),
+        lawful_object mission (codes "arm") (codes "Arm") 1 (Reusable (pos 2)) refl refl ((omega (arith, ints), omega (arith, ints)), omega (arith, ints)),
         (
-          lawful_object (codes "cell") (codes "Cell") 2 (Reservoir (pos 5) (pos 0) (pos 10)) refl refl
+          lawful_object mission (codes "cell") (codes "Cell") 2 (Reservoir (pos 5) (pos 0) (pos 10)) refl refl
               ((omega (arith, ints), omega (arith, ints)), (omega (arith, ints), omega (arith, ints)), omega (arith, ints), omega (arith, ints)),
           tt,
         ),
@@ -557,7 +469,7 @@ mission_is_lawful = record {
   preds = lawful_pred;
   pred_names = preds_differ;
   roots = lawful_roots;
-  globals = All-from_recursion (IsLawfulVariable mission) mission_globals (lawful_span (codes "total") 10 (omega arith), (lawful_span (codes "!1") 5 (omega arith), (lawful_mode, (lawful_on, tt))));
+  globals = All-from_recursion (IsLawfulVariable mission) mission_globals (lawful_span mission (codes "total") 10 (omega arith), (lawful_span mission (codes "!1") 5 (omega arith), (lawful_mode, (lawful_on, tt))));
   items = lawful_items;
   decisions = All-from_recursion _ [] tt;
   names = global_name;

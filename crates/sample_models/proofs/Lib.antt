@@ -1,0 +1,3 @@
+mod PieceLaws
+mod MissionLaws
+mod RoundsLaws
