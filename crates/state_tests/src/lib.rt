@@ -1,0 +1,17 @@
+//! Tests of the plan database, and of the plan of a state: what no clause says of them, as that a call succeeds where memory
+//! suffices, and what the answers are for cases worked out by hand. There is nothing to call here: `rt test` proves and runs
+//! the tests.
+#![tactic(auto)]
+
+#[cfg(test)]
+mod asking;
+#[cfg(test)]
+mod deciding;
+#[cfg(test)]
+mod names;
+#[cfg(test)]
+mod rows;
+#[cfg(test)]
+mod steps;
+#[cfg(test)]
+mod work;

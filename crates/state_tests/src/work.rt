@@ -1,0 +1,81 @@
+//! How much is done for a decision, and for building anew.
+
+ghost use Rattle.model_core.specs.Lawful.{IsLawful};
+
+use super::asking::model_of;
+use super::names::decision;
+use super::steps::Choice;
+use model_core::model::Model;
+use plan_database::Db;
+use sample_models::rounds::rounds;
+use std::alloc::{AllocError, Global};
+use std::test::Fail;
+
+// The narrowings for taking the decision, which fits.
+fn work_of(alloc: Global, db: &mut Db, choice: &Choice) -> Option<u64> {
+    let before = db.work();
+    match decision(alloc, model_of(db), choice) {
+        Some(decision) => match db.apply(&decision) {
+            Ok(_outcome) => Some(db.work().saturating_sub(before)),
+            Err(_fault) => None,
+        },
+        None => None,
+    }
+}
+
+// The narrowings for taking the last decision back.
+fn work_back(db: &mut Db) -> Option<u64> {
+    let before = db.work();
+    match db.backtrack() {
+        Ok(()) => Some(db.work().saturating_sub(before)),
+        Err(_fault) => None,
+    }
+}
+
+// The narrowings for building anew.
+fn work_anew(db: &mut Db) -> Option<u64> {
+    let before = db.work();
+    match db.rebuild() {
+        Ok(()) => Some(db.work().saturating_sub(before)),
+        Err(_none) => None,
+    }
+}
+
+// The narrowings for a decision on a variable of no constraint, for one on a variable of one, for taking that back, and for
+// building anew.
+fn works_in(alloc: Global, db: &mut Db) -> [Option<u64>; 4] {
+    let free = work_of(alloc, db, &Choice::Specify("z", 1));
+    let bound = work_of(alloc, db, &Choice::Specify("x", 4));
+    let back = work_back(db);
+    [free, bound, back, work_anew(db)]
+}
+
+// The same on a new database of the model.
+fn works_of(alloc: Global, model: Model) -> Result<[Option<u64>; 4], AllocError>
+    requires { IsLawful model }
+{
+    match Db::new(alloc, model) {
+        Ok(db) => {
+            let mut db = db;
+            Ok(works_in(alloc, &mut db))
+        }
+        Err(none) => Err(none),
+    }
+}
+
+fn works(alloc: Global) -> Result<[Option<u64>; 4], AllocError> {
+    match rounds(alloc) {
+        Ok(model) => works_of(alloc, model),
+        Err(none) => Err(none),
+    }
+}
+
+// Building anew narrows each item once at least: one constraint, and of each of six tokens that it lasts as it says.
+#[test]
+fn a_decision_costs_what_it_touches(rt: HostRuntime) -> Result<(), Fail> {
+    let [free, bound, back, anew] = works(rt.alloc())?;
+    assert_eq!(rt; (free, back), (Some(0), Some(0)));
+    assert!(rt; bound.is_some_and(|count| count >= 1 && count < 7));
+    assert!(rt; anew.is_some_and(|count| count >= 7));
+    Ok(())
+}
