@@ -1,11 +1,1 @@
-pub mod Tokenless
-pub mod Positions
-pub mod Zipped
-pub mod Granting
-pub mod Settling
-pub mod Posting
-pub mod Claiming
-pub mod ClosedStates
-pub mod LeastStates
-pub mod Checking
-pub mod Keeping
+pub mod Answering

@@ -1,4 +1,3 @@
-pub mod Built
-pub mod Kept
-pub mod Nets
+pub mod Faults
 pub mod Database
+pub mod Answers

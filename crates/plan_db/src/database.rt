@@ -1,22 +1,23 @@
 //! The database.
 
-ghost use Rattle.std.specs.Prelude.{◌≡◌, ◌+◌, ◌<◌, [], ◌∷◌, length, IfOk, OnOk, OnErr, MatchBool, MatchResult};
-ghost use Rattle.model_core.specs.History.{standing, accepted};
+ghost use Rattle.std.specs.Prelude.{◌≡◌, ◌+◌, ◌↔◌, [], ◌∷◌, true, false, IsTrue, length, IfOk, OnOk, OnErr, MatchBool, MatchResult};
+ghost use Rattle.model_core.specs.History.{standing};
 ghost use Rattle.model_core.specs.Lawful.{IsLawful};
-ghost use Rattle.plan_db.specs.Built.{IsBuilt};
 ghost use Rattle.model_core.specs.State.{State};
-ghost use Rattle.plan_db.specs.Kept.{IsLeastNet, HasLeastOfFormer, outcome_where};
-ghost use Rattle.plan_db.specs.Database.{IsSound, HasLeast, HasCollapsed, Applies, TakesBack, IsTold, IsUntold};
+ghost use Rattle.plan_db.specs.Database.{IsSound, HasLeast, HasCollapsed};
+ghost use Rattle.plan_db.specs.Answers.{AnswersApply, AnswersReset, AnswersUndo, AnswersBacktrack};
+ghost use Rattle.plan_db.specs.Answers.{AnswersDomain, AnswersNothing, IsSeen, IsUnseen};
 
-use super::checks::check;
 use super::fault::{DbFault, Outcome, QueryFault};
-use super::least::least_net;
-use constraint_net::Net;
-use decision_log::log::Log;
+use super::{changing, telling};
+use decision_log::Log;
 use domain_core::domain::Dom;
 use eu_name::name::VarName;
 use model_core::decision::Decision;
 use model_core::model::Model;
+use plan_state::Standing;
+use plan_steps::{Subject, fits, rebuild};
+use plan_view::StoreView;
 use std::alloc::{AllocError, Global};
 use std::marker;
 
@@ -25,197 +26,172 @@ use std::marker;
 pub struct Db {
     model: Model,
     log: Log,
-    // The least state of the standing decisions; None where they collapse.
-    net: Option<Net>,
+    // The state of the list that stands, unless it is behind.
+    kept: Standing,
+    behind: bool,
+    // The narrowings of the networks before the one that is kept.
+    past_work: u64,
 }
 
 impl marker::Model for Db {
-    ghost use Rattle.plan_db.specs.Database.{Database};
-    ghost use Rattle.plan_db.specs.Kept.{KeepsLeast};
+    ghost use Rattle.plan_db.specs.Answers.{Held, KeepsDatabase};
 
-    ghost Value = { Database };
+    ghost Value = { Held };
 
     ghost use Rattle.std.specs.Coded.{codes};
     ghost use Rattle.model_core.specs.contracts.model.Model as a_model;
 
     ghost coded = { Prim.hlevel (codes, a_model.the_row.coded) };
 
-    ghost view = { λ db. record { model = db.model; history = db.log } };
+    ghost view = { λ db. record { database = record { model = db.model; history = db.log }; behind = db.behind } };
 
-    ghost invariant = { λ db. KeepsLeast db.model db.log db.net };
+    ghost invariant = { λ db. KeepsDatabase db.model db.log db.behind db.kept };
 }
 
 impl Db {
     /// A database in which nothing is decided.
     pub fn new(alloc: Global, model: Model) -> Result<Db, AllocError>
-        requires lawful { IsLawful model }
-        requires built { IsBuilt model }
-        ensures { IfOk result (λ db. (db ≡ record { model = model; history = [] ∷ [] }) × IsSound db) }
+        requires { IsLawful model }
+        ensures made { IfOk result (λ db. (db.database ≡ record { model = model; history = [] ∷ [] }) × (db.behind ≡ false)) }
+        ensures sound { IfOk result (λ db. IsSound db.database) }
     {
-        let log = Log::new(alloc);
-        let net = least_net(alloc, &model, log.standing())?;
-        Ok(Db { model, log, net })
+        let kept = Standing::new(alloc, &model)?;
+        Ok(Db {
+            model,
+            log: Log::new(alloc),
+            kept,
+            behind: false,
+            past_work: 0,
+        })
     }
 
     /// Takes a decision, and answers whether the decisions then leave something possible.
     pub fn apply(&mut self, decision: &Decision) -> Result<Outcome, DbFault>
-        ensures applied { Applies self.old decision.now result self.new }
-        ensures sound { IsSound self.new }
+        ensures applied { AnswersApply self.old decision.now result self.new }
+        ensures sound { IsSound self.new.database }
     {
-        if self.net.is_none() {
-            return Err(DbFault::InInconsistent);
+        if self.behind {
+            return Err(DbFault::Behind);
         }
-        check(&self.model, self.log.standing(), decision)?;
-        let outcome = accept(&mut self.log, &mut self.net, &self.model, decision)?;
-        Ok(outcome)
+        changing::apply(&self.model, &mut self.log, &mut self.kept, decision)
+    }
+
+    /// Takes the decision on the subject out, with those behind it that may then not stand, and answers whether those that are
+    /// left leave something possible.
+    pub fn reset(&mut self, subject: &Subject) -> Result<Outcome, DbFault>
+        ensures reset { AnswersReset self.old subject.now result self.new }
+        ensures sound { IsSound self.new.database }
+    {
+        if self.behind {
+            return Err(DbFault::Behind);
+        }
+        changing::reset(
+            &self.model,
+            &mut self.log,
+            &mut self.kept,
+            &mut self.behind,
+            subject,
+        )
     }
 
     /// Takes the last step back, and answers whether the decisions then leave something possible.
     pub fn undo(&mut self) -> Result<Outcome, DbFault>
-        ensures undone { TakesBack self.old result self.new }
-        ensures sound { IsSound self.new }
+        ensures undone { AnswersUndo self.old result self.new }
+        ensures sound { IsSound self.new.database }
     {
-        if self.log.len() == 0 {
-            return Err(DbFault::Nothing);
+        if self.behind {
+            return Err(DbFault::Behind);
         }
-        let outcome = restore(&mut self.net, &self.model, &self.log)?;
-        take_off(&mut self.log);
-        Ok(outcome)
+        changing::undo(&self.model, &mut self.log, &mut self.kept, &mut self.behind)
     }
 
-    /// What the variable may still be.
-    pub fn domain(&self, variable: &VarName) -> Result<&Dom, QueryFault>
-        ensures { MatchResult result (λ domain. IsTold self.now variable.now domain.now) (λ fault. IsUntold self.now variable.now fault) }
+    /// Takes the last decision back, if the last step took it. It takes no memory.
+    pub fn backtrack(&mut self) -> Result<(), DbFault>
+        ensures undone { AnswersBacktrack self.old result self.new }
+        ensures sound { IsSound self.new.database }
     {
-        let Some(net) = &self.net else {
-            return Err(QueryFault::Inconsistent);
-        };
-        let VarName::Global(number) = variable else {
-            return Err(QueryFault::Unknown);
-        };
-        match net.get(*number as usize) {
-            Some(domain) => Ok(domain),
-            None => Err(QueryFault::Unknown),
+        if self.behind {
+            return Err(DbFault::Behind);
         }
+        changing::backtrack(&mut self.log, &mut self.kept)
     }
 
-    /// The decisions that stand.
-    pub fn decisions(&self) -> &[Decision]
-        ensures { result.now ≡ standing self.now.history }
+    /// Finds what the decisions that stand leave possible anew, from nothing. A database that was behind then isn't.
+    pub fn rebuild(&mut self) -> Result<(), AllocError>
+        ensures ok { OnOk result ((self.new.database ≡ self.old.database) × (self.new.behind ≡ false)) }
+        ensures err { OnErr result (self.new ≡ self.old) }
+        ensures sound { IsSound self.new.database }
     {
-        self.log.standing()
+        let work = self.work();
+        rebuild(&self.model, &self.log, &mut self.kept, &mut self.behind)?;
+        self.past_work = work;
+        Ok(())
     }
 
-    /// Whether the decisions that stand leave something possible.
-    pub fn is_consistent(&self) -> bool
-        ensures state { MatchBool result ((state : State) × HasLeast self.now state) (HasCollapsed self.now) }
-        ensures sound { IsSound self.now }
+    /// Whether memory was wanting in a `reset` or an `undo`, and the state that is kept is another one than that of the
+    /// decisions that stand.
+    pub fn is_behind(&self) -> bool
+        ensures { result ≡ self.now.behind }
     {
-        self.net.is_some()
-    }
-
-    /// How many steps `undo` can take back.
-    pub fn history(&self) -> u64
-        ensures { result + 1 ≡ length self.now.history }
-    {
-        self.log.len()
+        self.behind
     }
 
     /// The model in which the decisions are taken.
     pub fn model(&self) -> &Model
-        ensures model { result.now ≡ self.now.model }
-        ensures sound { IsSound self.now }
+        ensures model { result.now ≡ self.now.database.model }
+        ensures sound { IsSound self.now.database }
     {
         &self.model
     }
-}
 
-// Whether there is a least state.
-fn outcome_of(net: &Option<Net>) -> Outcome
-    ensures { result ≡ outcome_where net.now }
-{
-    match net {
-        Some(_) => Outcome::Consistent,
-        None => Outcome::Inconsistent,
+    /// Whether the decisions that stand leave something possible, where the database isn't behind.
+    pub fn is_consistent(&self) -> bool
+        ensures state { self.now.behind ≡ false
+            → MatchBool result ((state : State) × HasLeast self.now.database state) (HasCollapsed self.now.database) }
+        ensures sound { IsSound self.now.database }
+    {
+        fits(&self.kept)
     }
-}
 
-// Puts a copy of the decision at the end of the standing list.
-fn push_copy(log: &mut Log, decision: &Decision) -> Result<(), AllocError>
-    ensures ok { OnOk result (log.new ≡ accepted log.old decision.now) }
-    ensures err { OnErr result (log.new ≡ log.old) }
-{
-    let copy = decision.copy()?;
-    log.push(copy)
-}
+    /// The decisions that stand.
+    pub fn decisions(&self) -> &[Decision]
+        ensures { result.now ≡ standing self.now.database.history }
+    {
+        self.log.standing()
+    }
 
-// Puts the decision at the end of the standing list and keeps the least state that is left; nothing changes where there is no
-// memory for it.
-fn accept(
-    log: &mut Log,
-    net: &mut Option<Net>,
-    model: &Model,
-    decision: &Decision,
-) -> Result<Outcome, AllocError>
-    requires lawful { IsLawful model.now }
-    requires built { IsBuilt model.now }
-    ensures list { OnOk result (log.new ≡ accepted log.old decision.now) }
-    ensures state { IfOk result (λ outcome. (outcome ≡ outcome_where net.new)
-        × IsLeastNet model.now (standing log.new) net.new) }
-    ensures err { OnErr result ((log.new ≡ log.old) × (net.new ≡ net.old)) }
-{
-    push_copy(log, decision)?;
-    match renew(net, model, log) {
-        Ok(outcome) => Ok(outcome),
-        Err(none) => {
-            let _ = log.pop();
-            Err(none)
+    /// How many steps `undo` can take back.
+    pub fn history(&self) -> u64
+        ensures { result + 1 ≡ length self.now.database.history }
+    {
+        self.log.len()
+    }
+
+    /// How many narrowings were made for this database so far, in all networks that it kept. It stays at the greatest number.
+    pub fn work(&self) -> u64 {
+        self.past_work
+            .saturating_add(self.kept.store().net().work())
+    }
+
+    /// What the variable may still be.
+    pub fn domain(&self, variable: &VarName) -> Result<&Dom, QueryFault>
+        ensures { MatchResult result
+            (λ domain. AnswersDomain self.now variable.now domain.now)
+            (λ fault. AnswersNothing self.now variable.now fault) }
+    {
+        if self.behind {
+            return Err(QueryFault::Behind);
         }
+        telling::domain(&self.kept, variable)
     }
-}
 
-// Keeps the least state of the standing list in place of the former one.
-fn renew(net: &mut Option<Net>, model: &Model, log: &Log) -> Result<Outcome, AllocError>
-    requires lawful { IsLawful model.now }
-    requires built { IsBuilt model.now }
-    ensures ok { IfOk result (λ outcome. (outcome ≡ outcome_where net.new) × IsLeastNet model.now (standing log.now) net.new) }
-    ensures err { OnErr result (net.new ≡ net.old) }
-{
-    *net = least_net(log.allocator(), model, log.standing())?;
-    Ok(outcome_of(net))
-}
-
-// Keeps the least state of the list before the standing one.
-fn restore(net: &mut Option<Net>, model: &Model, log: &Log) -> Result<Outcome, AllocError>
-    requires lawful { IsLawful model.now }
-    requires built { IsBuilt model.now }
-    requires some { 1 < length log.now }
-    ensures ok { IfOk result (λ outcome. (outcome ≡ outcome_where net.new) × HasLeastOfFormer model.now log.now net.new) }
-    ensures err { OnErr result (net.new ≡ net.old) }
-{
-    *net = former_net(model, log)?;
-    Ok(outcome_of(net))
-}
-
-// The network whose domains are the least state of the list before the standing one.
-fn former_net(model: &Model, log: &Log) -> Result<Option<Net>, AllocError>
-    requires lawful { IsLawful model.now }
-    requires built { IsBuilt model.now }
-    ensures { IfOk result (λ net. HasLeastOfFormer model.now log.now net) }
-{
-    match log.former() {
-        Ok(decisions) => least_net(log.allocator(), model, decisions.as_slice()),
-        Err(_none) => Err(AllocError),
-    }
-}
-
-// Brings back the list before the standing one.
-fn take_off(log: &mut Log)
-    requires { 1 < length log.old }
-    ensures { log.old ≡ standing log.old ∷ log.new }
-{
-    match log.undo() {
-        Ok(()) => {}
-        Err(_nothing) => unreachable!(),
+    /// All that the decisions leave possible, with tokens in the order of names. It takes no memory.
+    pub fn view(&self) -> Result<StoreView<'_>, QueryFault>
+        ensures { MatchResult result (IsSeen self.now) (IsUnseen self.now) }
+    {
+        if self.behind {
+            return Err(QueryFault::Behind);
+        }
+        telling::view(&self.model, &self.log, &self.kept)
     }
 }

@@ -1,5 +1,10 @@
 //! What the calls of the database answer.
 
+ghost use Rattle.std.specs.Prelude.{◌≡◌};
+ghost use Rattle.plan_db.specs.Faults.{fault_for};
+
+use plan_refusals::Reason;
+use plan_steps::Objection;
 use std::alloc::AllocError;
 use thiserror::Error;
 
@@ -11,9 +16,11 @@ pub enum Outcome {
     Inconsistent,
 }
 
-/// Why a call changed nothing.
+/// Why a call changed no decision, in the order in which the reasons are looked for.
 #[derive(Clone, Copy, Debug, PartialEq, Eq, Error)]
 pub enum DbFault {
+    #[error("memory was wanting before, and the database has to be rebuilt")]
+    Behind,
     #[error("the decisions leave nothing possible, so none can be added")]
     InInconsistent,
     #[error("there is no such variable or token")]
@@ -22,15 +29,29 @@ pub enum DbFault {
     Decided,
     #[error("the variable was never allowed to have this value")]
     NotInDomain,
+    #[error("a token isn't active")]
+    NotActive,
+    #[error("the tokens are of different predicates")]
+    NotSamePredicate,
+    #[error("the token isn't one that may be rejected")]
+    NotRejectable,
+    #[error("the two tokens are one")]
+    Same,
+    #[error("as many tokens are active as may be")]
+    ActiveFull,
+    #[error("no such decision stands")]
+    NoSuchDecision,
     #[error("there is nothing to take back")]
     Nothing,
     #[error("out of memory")]
     Memory,
 }
 
-/// Why a question has no answer.
+/// Why a question has no answer, in the order in which the reasons are looked for.
 #[derive(Clone, Copy, Debug, PartialEq, Eq, Error)]
 pub enum QueryFault {
+    #[error("memory was wanting before, and the database has to be rebuilt")]
+    Behind,
     #[error("the decisions leave nothing possible")]
     Inconsistent,
     #[error("there is no such variable")]
@@ -45,5 +66,35 @@ impl From<AllocError> for DbFault {
 
     fn from(_none: AllocError) -> DbFault {
         DbFault::Memory
+    }
+}
+
+impl From<Objection> for DbFault {
+    ghost use Rattle.std.specs.Prelude.{◌≡◌};
+    ghost use Rattle.plan_db.specs.Faults.{fault_of};
+
+    ghost from_gives = { λ objection fault. fault ≡ fault_of objection };
+
+    fn from(objection: Objection) -> DbFault {
+        match objection {
+            Objection::Collapsed => DbFault::InInconsistent,
+            Objection::Refused(reason) => fault_for(reason),
+        }
+    }
+}
+
+// The fault of a decision that is refused for this reason.
+fn fault_for(reason: Reason) -> DbFault
+    ensures { result ≡ fault_for reason }
+{
+    match reason {
+        Reason::Unknown => DbFault::Unknown,
+        Reason::Decided => DbFault::Decided,
+        Reason::NotInDomain => DbFault::NotInDomain,
+        Reason::NotActive => DbFault::NotActive,
+        Reason::NotSamePredicate => DbFault::NotSamePredicate,
+        Reason::NotRejectable => DbFault::NotRejectable,
+        Reason::SameToken => DbFault::Same,
+        Reason::ActiveFull => DbFault::ActiveFull,
     }
 }

@@ -1,15 +1,20 @@
 //! The plan database: after every call, what the decisions still standing leave possible.
 //!
 //! `let mut db = Db::new(alloc, model)?;` begins with nothing decided. `db.apply(&decision)?` takes a decision and answers
-//! whether the decisions then leave something possible, `db.domain(&variable)?` is what a variable may still be, and
-//! `db.undo()?` takes the last step back.
+//! whether the decisions then leave something possible, `db.domain(&variable)?` is what a variable may still be, `db.view()?`
+//! all of it, and `db.undo()?` takes the last step back. `db.reset(&subject)?` takes one decision out, with those that only it
+//! allowed, and `db.backtrack()?` takes the last one back without memory.
+//!
+//! Where memory is wanting in a `reset` or an `undo`, the decisions stay, and the database may be behind: then every call but
+//! `rebuild` answers so.
 #![tactic(auto)]
 
-mod checks;
+mod changing;
 pub mod database;
 pub mod fault;
-mod least;
-mod problem_net;
+mod telling;
 
 pub use database::Db;
 pub use fault::{DbFault, Outcome, QueryFault};
+pub use plan_steps::Subject;
+pub use plan_view::StoreView;

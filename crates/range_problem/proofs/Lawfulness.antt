@@ -14,7 +14,7 @@ use Rattle.model_core.specs.declared.item.Term.TheVariants.{Global}
 use Rattle.model_core.specs.declared.variable.ValueKind.TheVariants.{Int}
 use Rattle.model_core.specs.Kinds.{OfProblem, IsOfKind}
 use Rattle.model_core.specs.Lawful.{IsLawfulBase, IsLawfulItem, IsLawfulVariable, IsLawful}
-use Rattle.plan_db.specs.Built.{IsRangeVariable, IsPlain, IsOfGlobals}
+use Rattle.range_problem.specs.Ranges.{IsRangeVariable, IsPlain, IsOfGlobals}
 use Rattle.model_core.specs.Naming.{names_of, builtin_names, global_names, declared_names}
 use Rattle.model_core.proofs.Distinct.{pairs_front}
 use Rattle.model_core.proofs.Items.{item_within, item_is, item_at}
@@ -81,7 +81,7 @@ spelled_variable text model spells = λ k d in_globals.
         not_builtin = subst (λ (name : List ℕ). Contains builtin_names name → ⊥) at (not_builtin k (name_of d) in_names);
       };
       base = (spells.lawful.globals k d in_globals).base;
-      range = spells.built.variables k d in_globals;
+      range = spells.ranges.variables k d in_globals;
     }
 
 pub spelled_distinct : (text : List ℕ) (model : Model) → Spells text model → AllPairs (λ one other. one ≡ other → ⊥) (global_names model)
@@ -169,7 +169,7 @@ spells_from text rest globals items declares constraints few = record {
   names = All-map IsName name_of globals (All-weaker IsDeclarable (λ variable. IsName variable.name) (λ variable declarable. declarable.free.word) globals declares.together.all);
   lexemes = lexes_join text _ _ rest declares.declared constraints.lexemes;
   lawful = lawful_from globals items declares.together constraints.among few;
-  built = record {
+  ranges = record {
     roots = refl;
     variables = globals_ranges globals declares.together;
     constraints = All-weaker (IsLeqAmong (length globals)) IsOfGlobals (λ item among. leq_plain item among.0 among.1 among.4) items constraints.among;
@@ -189,7 +189,7 @@ spelled_on : (text rest : List ℕ) (globals : List VarDecl) (model : Model) →
 spelled_on text rest globals model ranges declared spells =
     let on = lexes_on text (flat_map declaration_of globals) rest (lexemes_spelling model) declared spells.lexemes in
     let lists = declarations_on globals model.problem.globals _ on.0
-    (recursion_from_All IsRangeVariable globals ranges) (recursion_from_All IsRangeVariable model.problem.globals spells.built.variables)
+    (recursion_from_All IsRangeVariable globals ranges) (recursion_from_All IsRangeVariable model.problem.globals spells.ranges.variables)
     (spelled_end text model spells) on.1 in
     (lists.0, lists.1, subst (IsMadeOf rest) lists.2 on.2)
 

@@ -5,7 +5,7 @@ use Rattle.std.proofs.lemmas.List.{append_assoc, append-nil, length-append}
 use Rattle.domain_core.specs.Domain.{Range}
 use Rattle.model_core.specs.declared.variable.VarDecl.{VarDecl}
 use Rattle.model_core.specs.declared.item.Item.{Item}
-use Rattle.plan_db.specs.Built.{IsRangeVariable}
+use Rattle.range_problem.specs.Ranges.{IsRangeVariable}
 use Rattle.range_problem.specs.Lexeme.{is_gap, Lexeme, Word, Begins, BeginsWith, IsMadeOf}
 use Rattle.range_problem.specs.Parts.{variable_of, leq_of, IsLeqAmong}
 use Rattle.range_problem.specs.Spelling.{declaration_of, constraint_of}

@@ -7,7 +7,7 @@ use Rattle.std.proofs.lemmas.List.{length-append, length-map, get_or_default, fl
 use Rattle.std.proofs.lemmas.List.Elements.{recursion_from_All, All-push}
 use Rattle.model_core.specs.declared.variable.VarDecl.{VarDecl}
 use Rattle.model_core.specs.declared.item.Item.{Item}
-use Rattle.plan_db.specs.Built.{IsRangeVariable}
+use Rattle.range_problem.specs.Ranges.{IsRangeVariable}
 use Rattle.range_problem.specs.Lexeme.{is_gap, Lexeme, BeginsWith, IsMadeOf}
 use Rattle.model_core.specs.Naming.{names_of}
 use Rattle.range_problem.specs.Parts.{leq_of, IsDeclarable, AreGlobals, IsLeqAmong}

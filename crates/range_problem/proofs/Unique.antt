@@ -7,7 +7,7 @@ use Rattle.std.proofs.lemmas.List.Elements.{recursion_from_All}
 use Rattle.model_core.specs.declared.model.Model.{Model}
 use Rattle.model_core.specs.declared.variable.VarDecl.{VarDecl}
 use Rattle.model_core.specs.declared.item.Item.{Item}
-use Rattle.plan_db.specs.Built.{IsRangeVariable}
+use Rattle.range_problem.specs.Ranges.{IsRangeVariable}
 use Rattle.model_core.specs.Naming.{global_names}
 use Rattle.range_problem.specs.Lexeme.{Lexeme}
 use Rattle.model_core.specs.Naming.{names_of}
@@ -71,7 +71,7 @@ pub spells_unique : (text : List ℕ) (one other : Model) → Spells text one �
 spells_unique text one other p q =
     let lexemes = lexes_once text (lexemes_spelling other) (lexemes_spelling one) q.lexemes p.lexemes in
     let lists = declarations_on one.problem.globals other.problem.globals _ _
-    (recursion_from_All IsRangeVariable one.problem.globals p.built.variables) (recursion_from_All IsRangeVariable other.problem.globals q.built.variables) (spelled_end text other q) lexemes in
+    (recursion_from_All IsRangeVariable one.problem.globals p.ranges.variables) (recursion_from_All IsRangeVariable other.problem.globals q.ranges.variables) (spelled_end text other q) lexemes in
     let parts = all_declared one.problem.globals other.problem.globals lists.0 _ _ (spelled_end text one p) lists.1 lists.2 in
     let items = items_same one other (recursion_from_All (IsLeqAmong (length one.problem.globals)) one.problem.items (spelled_items text one p))
     (recursion_from_All (IsLeqAmong (length other.problem.globals)) other.problem.items (spelled_items text other q)) (spelled_distinct text one p) parts.0 parts.1 in

@@ -10,7 +10,7 @@ use Rattle.model_core.specs.declared.item.Item.TheVariants.{Constraint}
 use Rattle.model_core.specs.declared.item.Kind.TheVariants.{Leq}
 use Rattle.model_core.specs.declared.item.Term.TheVariants.{Global}
 use Rattle.model_core.specs.Lawful.{IsLawfulBase}
-use Rattle.plan_db.specs.Built.{IsRangeVariable}
+use Rattle.range_problem.specs.Ranges.{IsRangeVariable}
 use Rattle.model_core.specs.Naming.{builtin_names, names_of}
 
 -- a variable with a range

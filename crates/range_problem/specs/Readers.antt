@@ -3,7 +3,7 @@ use Rattle.std.specs.Prelude.{ℕ, List, length, All}
 use Rattle.std.specs.List.{flat_map}
 use Rattle.model_core.specs.declared.variable.VarDecl.{VarDecl}
 use Rattle.model_core.specs.declared.item.Item.{Item}
-use Rattle.plan_db.specs.Built.{IsRangeVariable}
+use Rattle.range_problem.specs.Ranges.{IsRangeVariable}
 use Rattle.range_problem.specs.Lexeme.{BeginsWith, IsMadeOf}
 use Rattle.model_core.specs.Naming.{names_of}
 use Rattle.range_problem.specs.Parts.{IsDeclarable, AreGlobals, IsLeqAmong}

@@ -11,7 +11,7 @@ use Rattle.model_core.specs.declared.item.Item.{Item}
 use Rattle.model_core.specs.declared.item.Item.TheVariants.{Constraint}
 use Rattle.model_core.specs.declared.item.Term.TheVariants.{Global}
 use Rattle.model_core.specs.Lawful.{IsLawful}
-use Rattle.plan_db.specs.Built.{IsBuilt}
+use Rattle.range_problem.specs.Ranges.{IsOfRanges}
 use Rattle.model_core.specs.Naming.{global_names}
 use Rattle.range_problem.specs.Lexeme.{Lexeme, Word, Number, Mark, IsMadeOf}
 use Rattle.range_problem.specs.Parts.{IsLeq}
@@ -48,14 +48,14 @@ model_of globals items = record {
   problem = record { start = pos 0; end = pos 1000; steps = 1000; roots = []; globals = globals; items = items; decisions = [] };
 }
 
--- the text spells the model, which is lawful and built from ranges and `leq` alone, and whose globals have names of
+-- the text spells the model, which is lawful and of ranges and `leq` alone, and whose globals have names of
 -- their own
 pub record Spells (text : List ℕ) (model : Model) : Type 0 where
   pub whole : model ≡ model_of model.problem.globals model.problem.items
   pub names : All IsName (global_names model)
   pub lexemes : IsMadeOf text (lexemes_spelling model)
   pub lawful : IsLawful model
-  pub built : IsBuilt model
+  pub ranges : IsOfRanges model
   pub constraints : All IsLeq model.problem.items
 
 -- a text spells at most one model

@@ -2,7 +2,7 @@
 
 ghost use Rattle.std.specs.Prelude.{◌≡◌, IfOk};
 ghost use Rattle.model_core.specs.Lawful.{IsLawful};
-ghost use Rattle.plan_database.specs.Database.{IsSound};
+ghost use Rattle.plan_db.specs.Database.{IsSound};
 ghost use Rattle.plan_defs.specs.Plans.{IsPlanOf};
 ghost use Rattle.state_tests.specs.Seen.{IsSeenOf};
 
@@ -14,7 +14,7 @@ use model_core::decision::Decision;
 use model_core::model::Model;
 use model_core::view::{TokenState, View};
 use plan_core::write_plan;
-use plan_database::{Db, QueryFault, StoreView};
+use plan_db::{Db, QueryFault, StoreView};
 use plan_defs::plan::Plan;
 use plan_states::{PlanOfFault, plan_of};
 use std::alloc::Global;

@@ -9,7 +9,7 @@ use super::asking::{
 use super::names::{decision, subject};
 use super::steps::{Choice, On, Said, Step};
 use model_core::model::Model;
-use plan_database::{Db, DbFault, Outcome, QueryFault};
+use plan_db::{Db, DbFault, Outcome, QueryFault};
 use sample_models::mission::mission;
 use sample_models::rounds::rounds;
 use std::alloc::{AllocError, Global};

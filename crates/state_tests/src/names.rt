@@ -8,7 +8,7 @@ use eu_name::name_text::NameText;
 use eu_name::reading::read_name;
 use model_core::decision::Decision;
 use model_core::model::Model;
-use plan_database::Subject;
+use plan_db::Subject;
 use std::alloc::Global;
 
 // The token of this name.

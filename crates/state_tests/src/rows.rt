@@ -2,7 +2,7 @@
 
 use super::deciding::{wrong_on_mission, wrong_on_rounds};
 use super::steps::{Choice, Fate, On, Said, Step};
-use plan_database::DbFault;
+use plan_db::DbFault;
 use std::test::Fail;
 
 // On the mission the horizon is from 0 to 10.

@@ -1,6 +1,6 @@
 //! Steps on a database and what they answer, in plain values: tokens and variables are named as in a script.
 
-use plan_database::DbFault;
+use plan_db::DbFault;
 
 /// A decision.
 #[derive(Clone, Copy)]

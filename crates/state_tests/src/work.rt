@@ -6,7 +6,7 @@ use super::asking::model_of;
 use super::names::decision;
 use super::steps::Choice;
 use model_core::model::Model;
-use plan_database::Db;
+use plan_db::Db;
 use sample_models::rounds::rounds;
 use std::alloc::{AllocError, Global};
 use std::test::Fail;

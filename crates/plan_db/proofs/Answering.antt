@@ -1,0 +1,252 @@
+-- What the calls answer, by what is kept.
+use Rattle.std.proofs.Common.{◌≡◌, ℕ, ◌+◌, ◌<◌, zero, suc, Bool, true, false, List, [], ◌∷◌, ◌++◌, length, ◌⊎◌, inl, inr, Result, Some, Ok, Err, refl, sym, ap, ◌∙◌, subst, arith}
+use Rattle.std.specs.Prelude.{slice_get, Contains, MatchBool, MatchResult}
+use Rattle.eu_name.specs.declared.name.VarName.{VarName}
+use Rattle.domain_core.specs.Domain.{Domain}
+use Rattle.model_core.specs.declared.decision.Decision.{Decision}
+use Rattle.model_core.specs.declared.model.Model.{Model}
+use Rattle.model_core.specs.History.{History, standing, accepted}
+use Rattle.model_core.specs.State.{State, Gives}
+use Rattle.plan_defs.specs.Closure.{IsLeast, IsCollapsed}
+use Rattle.plan_defs.specs.History.{IsHistory}
+use Rattle.plan_defs.proofs.Members.{contains_from_get, get_below, get_same}
+use Rattle.plan_refusals.specs.declared.reason.Reason.{Reason}
+use Rattle.plan_refusals.specs.declared.reason.Reason.TheVariants as reasons
+use Rattle.plan_posting.specs.Counting.{AreTokenStates}
+use Rattle.plan_store.specs.Stores.{Stored, snapshot_of}
+use Rattle.plan_view.specs.Seeing.{Seen, seen_state}
+use Rattle.plan_state.specs.declared.footing.Footing.TheVariants.{Rest}
+use Rattle.plan_state.specs.Standing.{Stood, KeepsList}
+use Rattle.plan_steps.proofs.Keeping.{least_kept}
+use Rattle.plan_steps.specs.declared.objection.Objection.{Objection}
+use Rattle.plan_steps.specs.declared.objection.Objection.TheVariants.{Collapsed, Refused}
+use Rattle.plan_steps.specs.declared.subject.Subject.{Subject}
+use Rattle.plan_steps.specs.Kept.{KeepsHistory, KeepsUnless, LeaveState, IsJudged, WithdrawsLast}
+use Rattle.plan_steps.specs.Subjects.{IsOfSubject, TakesOutAt}
+use Rattle.plan_db.specs.declared.fault.DbFault.{DbFault}
+use Rattle.plan_db.specs.declared.fault.DbFault.TheVariants as fault
+use Rattle.plan_db.specs.declared.fault.Outcome.{Outcome}
+use Rattle.plan_db.specs.declared.fault.Outcome.TheVariants.{Consistent}
+use Rattle.plan_db.specs.declared.fault.QueryFault.{QueryFault}
+use Rattle.plan_db.specs.declared.fault.QueryFault.TheVariants as query
+use Rattle.plan_db.specs.Faults.{fault_of}
+use Rattle.plan_db.specs.Database.{Database, taken_in, OutcomeIs, outcome_for, Applies, TakesBack, Backtracks, Resets, HasFormer, HasDecisionOn, TakesOutOn, IsTold, IsUntold}
+use Rattle.plan_db.specs.Answers.{Held, KeepsDatabase, ready_with, StaysReady, StaysSame, AnswersApply, AnswersReset, AnswersUndo, AnswersBacktrack}
+use Rattle.plan_db.specs.Answers.{AnswersDomain, AnswersNothing, IsSeen, IsUnseen}
+
+-- an objection is why the decision is refused
+pub refused_as : (model : Model) (history : History) (decision : Decision) (objection : Objection) → IsJudged model (standing history) decision (Err objection)
+    → Applies (taken_in model history) decision (Err (fault_of objection)) (taken_in model history)
+refused_as model history decision Collapsed collapsed = (refl, collapsed)
+refused_as model history decision (Refused reasons.Unknown) refused = (refl, refused)
+refused_as model history decision (Refused reasons.Decided) refused = (refl, refused)
+refused_as model history decision (Refused reasons.NotInDomain) refused = (refl, refused)
+refused_as model history decision (Refused reasons.NotActive) refused = (refl, refused)
+refused_as model history decision (Refused reasons.NotSamePredicate) refused = (refl, refused)
+refused_as model history decision (Refused reasons.NotRejectable) refused = (refl, refused)
+refused_as model history decision (Refused reasons.SameToken) refused = (refl, refused)
+refused_as model history decision (Refused reasons.ActiveFull) refused = (refl, refused)
+
+-- the outcome that is answered is that of the decisions
+pub outcome_fits : (database : Database) (fits : Bool) → LeaveState database.model (standing database.history) fits → OutcomeIs database (outcome_for fits)
+outcome_fits database true least = least
+outcome_fits database false collapsed = collapsed
+
+-- ---- the last step
+
+pub first_history : (model : Model) (history : History) → IsHistory model history → length history ≡ 1 → history ≡ [] ∷ []
+first_history model [] is one = absurd is
+first_history model (decisions ∷ []) is one = ap (λ list. list ∷ []) is
+first_history model (decisions ∷ below ∷ former) is one = absurd (omega arith)
+
+pub has_former : (history : History) → 1 < length history → HasFormer history
+has_former [] long = absurd (omega (arith, long))
+has_former (decisions ∷ []) long = absurd (omega (arith, long))
+has_former (decisions ∷ below ∷ former) long = (below, (former, refl))
+
+taken_off : (old new : History) (decision : Decision) → old ≡ accepted new decision → old ≡ standing old ∷ new
+taken_off old new decision is = is ∙ ap (λ (list : List Decision). list ∷ new) (sym (ap (λ (h : History). standing h) is))
+
+module _ (model : Model) (old new : History) (stood back : Stood) where
+  pub withdrawn : WithdrawsLast model old stood true new back → TakesBack (taken_in model old) (Ok Consistent) (taken_in model new)
+  withdrawn last = (refl, taken_off old new last.0 last.1, last.3)
+
+  pub withdrawn_keeps : WithdrawsLast model old stood true new back → KeepsHistory model new back
+  withdrawn_keeps last = last.2
+
+  pub backtracked : WithdrawsLast model old stood true new back → Backtracks (taken_in model old) (Ok tt) (taken_in model new)
+  backtracked last = (refl, (last.0, last.1), last.3)
+
+  -- where the last step put no decision at the end all is as it was
+  pub none_withdrawn : WithdrawsLast model old stood false new back → Backtracks (taken_in model old) (Err fault.Nothing) (taken_in model new)
+  none_withdrawn none = (ap (taken_in model) none.0, λ ends. none.2 ends.0 ends.1.0 ends.1.1)
+
+  pub still_keeps : WithdrawsLast model old stood false new back → KeepsHistory model old stood → KeepsHistory model new back
+  still_keeps none keeps =
+      subst (λ (h : History). KeepsHistory model h back) (sym none.0) (subst (KeepsHistory model old) (sym none.1) keeps)
+
+  -- and then the list before the standing one is brought back
+  pub brought_back : (last : History) (fits : Bool) → WithdrawsLast model old stood false new back → new ≡ standing new ∷ last → LeaveState model (standing last) fits
+      → TakesBack (taken_in model old) (Ok (outcome_for fits)) (taken_in model last)
+  brought_back last fits none off leaves =
+      (refl, subst (λ (h : History). h ≡ standing h ∷ last) none.0 off, outcome_fits (taken_in model last) fits leaves)
+
+  pub not_brought : (last : History) → WithdrawsLast model old stood false new back → last ≡ new → 1 < length old
+      → TakesBack (taken_in model old) (Err fault.Memory) (taken_in model last)
+  not_brought last none same long = (ap (taken_in model) (same ∙ none.0), has_former old long, λ ends. none.2 ends.0 ends.1.0 ends.1.1)
+
+-- ---- taking a decision out
+
+at_middle : {X : Type 0} (front back : List X) (x : X) (n : ℕ) → length front ≡ n → slice_get (front ++ x ∷ back) n ≡ Some x
+at_middle [] back x zero same = refl
+at_middle [] back x (suc n) same = absurd (omega (arith, same))
+at_middle (y ∷ front) back x zero same = absurd (omega (arith, same))
+at_middle (y ∷ front) back x (suc n) same = at_middle front back x n (omega (arith, same))
+
+module _ (model : Model) (old new : History) (subject : Subject) (decisions : List Decision) (place : ℕ) (decision : Decision)
+    (are : decisions ≡ standing old) (at : slice_get decisions place ≡ Some decision) (on : IsOfSubject subject decision) where
+  at_old : slice_get (standing old) place ≡ Some decision
+  at_old = subst (λ (list : List Decision). slice_get list place ≡ Some decision) are at
+
+  pub place_within : place < length (standing old)
+  place_within = get_below (standing old) place decision at_old
+
+  pub has_on : HasDecisionOn (taken_in model old) subject
+  has_on = (decision, contains_from_get (standing old) place decision at_old, on)
+
+  takes_on : TakesOutAt model place (standing old) (standing new) → TakesOutOn model subject (standing old) (standing new)
+  takes_on out =
+      let there : slice_get (standing old) place ≡ Some out.decision =
+      subst (λ (list : List Decision). slice_get list place ≡ Some out.decision) (sym out.parts) (at_middle out.front out.back out.decision place out.place_is) in
+      record {
+        front = out.front;
+        decision = out.decision;
+        back = out.back;
+        parts = out.parts;
+        on = subst (IsOfSubject subject) (get_same (standing old) place decision out.decision at_old there) on;
+        settles = out.settles;
+      }
+
+  pub was_reset : (fits : Bool) → (new ≡ standing new ∷ old) × TakesOutAt model place (standing old) (standing new) → LeaveState model (standing new) fits
+      → Resets (taken_in model old) subject (Ok (outcome_for fits)) (taken_in model new)
+  was_reset fits told leaves = (refl, told.0, takes_on told.1, outcome_fits (taken_in model new) fits leaves)
+
+  pub not_reset : new ≡ old → Resets (taken_in model old) subject (Err fault.Memory) (taken_in model new)
+  not_reset same = (ap (taken_in model) same, has_on)
+
+pub none_on : (model : Model) (old : History) (subject : Subject) (decisions : List Decision) → decisions ≡ standing old
+    → ((decision : Decision) → Contains decisions decision → IsOfSubject subject decision → ⊥) → HasDecisionOn (taken_in model old) subject → ⊥
+none_on model old subject decisions are none has = none has.0 (subst (λ (list : List Decision). Contains list has.0) (sym are) has.1) has.2
+
+-- ---- what a database keeps
+
+module _ (model : Model) (history : History) (behind : Bool) (stood : Stood) (keeps : KeepsDatabase model history behind stood) where
+  pub ready_keeps : behind ≡ false → KeepsHistory model history stood
+  ready_keeps ready = record { is_history = keeps.kept.is_history; list = keeps.kept.list ready }
+
+pub keeps_ready : (model : Model) (history : History) (behind : Bool) (stood : Stood) → KeepsHistory model history stood → KeepsUnless behind model history stood
+keeps_ready model history behind stood keeps = record { is_history = keeps.is_history; list = λ ready. keeps.list }
+
+-- ---- what is told
+
+module _ (model : Model) (history : History) (stood : Stood) (keeps : KeepsHistory model history stood) (rest : stood.footing ≡ Rest)
+    (stored : Stored) (same : stored ≡ stood.stored) where
+  least : IsLeast model (standing history) (seen_state stored)
+  least = subst (λ (s : Stored). IsLeast model (standing history) (seen_state s)) (sym same) (least_kept model (standing history) stood keeps.list rest).least
+
+  pub told_by_store : {D : Type 0} (name : VarName) (now : D → Domain) (result : Result D QueryFault)
+      → MatchResult result (λ domain. Gives (seen_state stored) name (now domain))
+      (λ f. (f ≡ query.Unknown) × ((domain : Domain) → Gives (seen_state stored) name domain → ⊥))
+      → MatchResult result (λ domain. IsTold (taken_in model history) name (now domain)) (λ f. IsUntold (taken_in model history) name f)
+  told_by_store name now (Ok domain) gives = (seen_state stored, least, gives)
+  told_by_store name now (Err f) none = subst (IsUntold (taken_in model history) name) (sym none.0) (seen_state stored, least, none.1)
+
+  pub can_be_seen : (decisions : List Decision) → decisions ≡ standing history → AreTokenStates model decisions (snapshot_of stored)
+  can_be_seen decisions are =
+      subst (λ (list : List Decision). AreTokenStates model list (snapshot_of stored)) (sym are)
+      (subst (λ (s : Stored). AreTokenStates model (standing history) (snapshot_of s)) (sym same)
+      (least_kept model (standing history) stood keeps.list rest).rest.underway.states)
+
+  pub seen_by_store : (decisions : List Decision) → decisions ≡ standing history → (view : Seen)
+      → view ≡ record { model = model; stored = stored; decisions = decisions } → IsSeen (ready_with model history) view
+  seen_by_store decisions are view is = subst (IsSeen (ready_with model history)) (sym is) (record { ready = refl; model = refl; decisions = are; least = least })
+
+-- ---- the answers of a database, by whether it is behind
+
+module _ (model : Model) (old new : History) (before after : Bool) (ready : before ≡ false) where
+  abbrev held_before : Held
+  held_before = record { database = taken_in model old; behind = before }
+
+  abbrev held_after : Held
+  held_after = record { database = taken_in model new; behind = after }
+
+  stays_same : taken_in model new ≡ taken_in model old → after ≡ false → StaysSame held_before held_after
+  stays_same same kept = record { before = ready; same = λ i. record { database = same i; behind = (kept ∙ sym ready) i } }
+
+  stays_ready : after ≡ false → StaysReady held_before held_after
+  stays_ready kept = record { before = ready; after = kept }
+
+  pub answers_apply : (decision : Decision) (result : Result Outcome DbFault) → after ≡ false
+      → Applies (taken_in model old) decision result (taken_in model new) → AnswersApply held_before decision result held_after
+  answers_apply decision (Ok outcome) kept applies = (stays_ready kept, applies)
+  answers_apply decision (Err fault.Behind) kept applies = absurd applies
+  answers_apply decision (Err fault.Memory) kept applies = (stays_ready kept, applies)
+  answers_apply decision (Err fault.NoSuchDecision) kept applies = absurd applies
+  answers_apply decision (Err fault.Nothing) kept applies = absurd applies
+  answers_apply decision (Err fault.InInconsistent) kept applies = (stays_same applies.0 kept, applies)
+  answers_apply decision (Err fault.Unknown) kept applies = (stays_same applies.0 kept, applies)
+  answers_apply decision (Err fault.Decided) kept applies = (stays_same applies.0 kept, applies)
+  answers_apply decision (Err fault.NotInDomain) kept applies = (stays_same applies.0 kept, applies)
+  answers_apply decision (Err fault.NotActive) kept applies = (stays_same applies.0 kept, applies)
+  answers_apply decision (Err fault.NotSamePredicate) kept applies = (stays_same applies.0 kept, applies)
+  answers_apply decision (Err fault.NotRejectable) kept applies = (stays_same applies.0 kept, applies)
+  answers_apply decision (Err fault.Same) kept applies = (stays_same applies.0 kept, applies)
+  answers_apply decision (Err fault.ActiveFull) kept applies = (stays_same applies.0 kept, applies)
+
+  after_by : (result : Result Outcome DbFault) → (result ≡ Err fault.Memory → ⊥) → (result ≡ Err fault.Memory) ⊎ (after ≡ false) → after ≡ false
+  after_by result other (inl same) = absurd (other same)
+  after_by result other (inr kept) = kept
+
+  pub answers_undo : (result : Result Outcome DbFault) → (result ≡ Err fault.Memory) ⊎ (after ≡ false)
+      → TakesBack (taken_in model old) result (taken_in model new) → AnswersUndo held_before result held_after
+  answers_undo (Ok outcome) kept takes = (stays_ready (after_by (Ok outcome) (λ same. cc) kept), takes)
+  answers_undo (Err fault.Nothing) kept takes = (stays_same takes.0 (after_by (Err fault.Nothing) (λ same. cc) kept), takes)
+  answers_undo (Err fault.Memory) kept takes = (ready, takes)
+  answers_undo (Err other) kept takes = absurd takes
+
+  pub answers_reset : (subject : Subject) (result : Result Outcome DbFault) → (result ≡ Err fault.Memory) ⊎ (after ≡ false)
+      → Resets (taken_in model old) subject result (taken_in model new) → AnswersReset held_before subject result held_after
+  answers_reset subject (Ok outcome) kept resets = (stays_ready (after_by (Ok outcome) (λ same. cc) kept), resets)
+  answers_reset subject (Err fault.NoSuchDecision) kept resets = (stays_same resets.0 (after_by (Err fault.NoSuchDecision) (λ same. cc) kept), resets)
+  answers_reset subject (Err fault.Memory) kept resets = (ready, resets)
+  answers_reset subject (Err other) kept resets = absurd resets
+
+  pub answers_backtrack : (result : Result (Unit {0}) DbFault) → after ≡ false
+      → Backtracks (taken_in model old) result (taken_in model new) → AnswersBacktrack held_before result held_after
+  answers_backtrack (Ok done) kept takes = (stays_ready kept, takes)
+  answers_backtrack (Err fault.Nothing) kept takes = (stays_same takes.0 kept, takes)
+  answers_backtrack (Err other) kept takes = absurd takes
+
+module _ (model : Model) (history : History) (behind : Bool) (ready : behind ≡ false) where
+  pub answers_domain : {D : Type 0} (name : VarName) (now : D → Domain) (result : Result D QueryFault)
+      → MatchResult result (λ domain. IsTold (taken_in model history) name (now domain)) (λ f. IsUntold (taken_in model history) name f)
+      → MatchResult result (λ domain. AnswersDomain (record { database = taken_in model history; behind = behind }) name (now domain))
+      (λ f. AnswersNothing (record { database = taken_in model history; behind = behind }) name f)
+  answers_domain name now (Ok domain) told = (ready, told)
+  answers_domain name now (Err query.Behind) untold = absurd untold
+  answers_domain name now (Err query.Inconsistent) untold = (ready, untold)
+  answers_domain name now (Err query.Unknown) untold = (ready, untold)
+
+  pub answers_view : {V : Type 0} (value : V → Seen) (result : Result V QueryFault)
+      → MatchResult result (λ view. IsSeen (ready_with model history) (value view)) (λ f. IsUnseen (ready_with model history) f)
+      → MatchResult result (λ view. IsSeen (record { database = taken_in model history; behind = behind }) (value view))
+      (λ f. IsUnseen (record { database = taken_in model history; behind = behind }) f)
+  answers_view value result seen =
+      subst (λ (b : Bool). MatchResult result (λ view. IsSeen (record { database = taken_in model history; behind = b }) (value view))
+      (λ f. IsUnseen (record { database = taken_in model history; behind = b }) f)) (sym ready) seen
+
+-- whether the decisions leave something
+pub leaves_or : (model : Model) (decisions : List Decision) (fits : Bool) → LeaveState model decisions fits
+    → MatchBool fits ((state : State) × IsLeast model decisions state) (IsCollapsed model decisions)
+leaves_or model decisions true least = least
+leaves_or model decisions false collapsed = collapsed

@@ -1,0 +1,18 @@
+use Rattle.std.proofs.Common.{sym, ap, refl}
+use Rattle.std.proofs.lemmas.Result.{err_from_is_err_and}
+use Rattle.plan_db.specs.Database.{taken_in}
+use Rattle.plan_db.proofs.Answering.{refused_as, outcome_fits}
+use Rattle.plan_db.proofs.changing.apply.Goals as goal
+
+pub returns-in_err-judge-clause-applied : goal.returns-in_err-judge-clause-applied
+returns-in_err-judge-clause-applied c =
+    let p = err_from_is_err_and c.from_residual.result c.from_residual.ensures.1 in
+    rw (p.1, p.2) (refused_as c.args.model.now c.args.log.now c.args.decision.now c.in_err-judge.field-0.0 c.in_err-judge.ensures)
+
+pub returns-clause-applied : goal.returns-clause-applied
+returns-clause-applied c =
+    rw c.outcome_of.ensures (
+      c.in_ok-judge.ensures,
+      ap (taken_in c.args.model.now) c.in_ok-fits.ensures.list,
+      outcome_fits (taken_in c.args.model.now c.accept.new.log) c.in_ok-fits.fits c.in_ok-fits.ensures.fits,
+    )

@@ -1,0 +1,7 @@
+use Rattle.plan_db.proofs.Answering.{answers_view}
+use Rattle.plan_db.proofs.database.Db.view.Goals as goal
+
+pub returns : goal.returns
+returns c =
+    rw (← c.self.view_is)
+    (answers_view c.self.inside.model c.self.inside.log c.self.inside.behind c.if-self.false (λ view. view) c.view.result c.view.ensures)

@@ -1,0 +1,101 @@
+//! The calls that change decisions, over what a database keeps where it isn't behind.
+
+ghost use Rattle.std.specs.Prelude.{◌≡◌, ◌⊎◌, false, Err};
+ghost use Rattle.model_core.specs.declared.model.Model.{Model as Problem};
+ghost use Rattle.model_core.specs.Lawful.{IsLawful};
+ghost use Rattle.plan_db.specs.declared.fault.DbFault.TheVariants.{Memory};
+ghost use Rattle.plan_steps.specs.Kept.{KeepsHistory, KeepsUnless};
+ghost use Rattle.plan_db.specs.Database.{taken_in, outcome_for, Applies, TakesBack, Backtracks, Resets};
+
+use super::fault::{DbFault, Outcome};
+use decision_log::Log;
+use model_core::decision::Decision;
+use model_core::model::Model;
+use plan_state::Standing;
+use plan_steps::{Subject, accept, bring_back, judge, place_of, take_out, withdraw};
+
+/// Whether something is possible, by whether there is a least state.
+pub fn outcome_of(fits: bool) -> Outcome
+    ensures { result ≡ outcome_for fits }
+{
+    if fits {
+        Outcome::Consistent
+    } else {
+        Outcome::Inconsistent
+    }
+}
+
+/// Takes a decision.
+pub fn apply(
+    model: &Model,
+    log: &mut Log,
+    kept: &mut Standing,
+    decision: &Decision,
+) -> Result<Outcome, DbFault>
+    requires lawful { IsLawful model.now }
+    requires kept { KeepsHistory model.now log.old kept.old }
+    ensures applied { Applies (taken_in model.now log.old) decision.now result (taken_in model.now log.new) }
+    ensures kept { KeepsHistory model.now log.new kept.new }
+{
+    judge(model, log, kept, decision)?;
+    let fits = accept(model, log, kept, decision)?;
+    Ok(outcome_of(fits))
+}
+
+/// Takes the last step back.
+pub fn undo(
+    model: &Model,
+    log: &mut Log,
+    kept: &mut Standing,
+    behind: &mut bool,
+) -> Result<Outcome, DbFault>
+    requires lawful { IsLawful model.now }
+    requires kept { KeepsHistory model.now log.old kept.old }
+    requires ready { behind.old ≡ false }
+    ensures undone { TakesBack (taken_in model.now log.old) result (taken_in model.now log.new) }
+    ensures ready { result ≡ Err Memory ⊎ (behind.new ≡ false) }
+    ensures kept { KeepsUnless behind.new model.now log.new kept.new }
+{
+    if log.len() == 0 {
+        return Err(DbFault::Nothing);
+    }
+    if withdraw(log, kept) {
+        return Ok(Outcome::Consistent);
+    }
+    let fits = bring_back(model, log, kept, behind)?;
+    Ok(outcome_of(fits))
+}
+
+/// Takes the last decision back.
+pub fn backtrack(log: &mut Log, kept: &mut Standing) -> Result<(), DbFault>
+    requires { (model : Problem) × KeepsHistory model log.old kept.old }
+    ensures { (model : Problem) → KeepsHistory model log.old kept.old
+        → Backtracks (taken_in model log.old) result (taken_in model log.new) × KeepsHistory model log.new kept.new }
+{
+    if withdraw(log, kept) {
+        return Ok(());
+    }
+    Err(DbFault::Nothing)
+}
+
+/// Takes the decision on the subject out.
+pub fn reset(
+    model: &Model,
+    log: &mut Log,
+    kept: &mut Standing,
+    behind: &mut bool,
+    subject: &Subject,
+) -> Result<Outcome, DbFault>
+    requires lawful { IsLawful model.now }
+    requires kept { KeepsHistory model.now log.old kept.old }
+    requires ready { behind.old ≡ false }
+    ensures reset { Resets (taken_in model.now log.old) subject.now result (taken_in model.now log.new) }
+    ensures ready { result ≡ Err Memory ⊎ (behind.new ≡ false) }
+    ensures kept { KeepsUnless behind.new model.now log.new kept.new }
+{
+    let Some(place) = place_of(log.standing(), subject) else {
+        return Err(DbFault::NoSuchDecision);
+    };
+    let fits = take_out(model, log, kept, behind, place)?;
+    Ok(outcome_of(fits))
+}

@@ -1,0 +1,13 @@
+pub mod Nets
+pub mod Tokenless
+pub mod Positions
+pub mod Zipped
+pub mod Granting
+pub mod Settling
+pub mod Posting
+pub mod Claiming
+pub mod ClosedStates
+pub mod LeastStates
+pub mod Deciding
+pub mod Stepping
+pub mod Existing
