@@ -1,5 +1,5 @@
 -- When a reason stops a command, in the words of the database, and which reason is the first.
-use Rattle.std.proofs.Common.{◌≡◌, ℕ, ◌+◌, ◌<◌, ℤ, List, [], ◌∷◌, length, Option, Some, None, Result, Ok, Err, inl, inr, refl, sym, subst, arith}
+use Rattle.std.proofs.Common.{◌≡◌, ℕ, ◌+◌, ◌<◌, ℤ, List, [], ◌∷◌, length, Option, Some, None, Result, Ok, Err, inl, inr, refl, sym, ap, ◌∙◌, subst, arith}
 use Rattle.std.specs.Prelude.{Bool, true, false, bytes_eq, cond, OnErr}
 use Rattle.domain_core.specs.Domain.{Domain, IsValue}
 use Rattle.domain_core.proofs.Words.{has_value}
@@ -15,18 +15,21 @@ use Rattle.plan_defs.specs.Refusals.{Refusal, IsDeclared, Hinders}
 use Rattle.plan_defs.specs.Refusals as refusals
 use Rattle.plan_defs.proofs.Members.{get_all}
 use Rattle.plan_defs.proofs.Settling.{least_same, least_not_collapsed}
-use Rattle.plan_db.specs.Database.{Database, HasLeast, HasCollapsed, Applies, IsTold, IsUntold, RefusesFor}
+use Rattle.plan_db.specs.Database.{Database, IsSound, HasLeast, HasCollapsed, Applies, IsTold, IsUntold, RefusesFor}
+use Rattle.plan_db.specs.Answers.{Held, AnswersApply, AnswersUndo, AnswersNothing}
 use Rattle.plan_db.specs.declared.fault.DbFault.{DbFault}
 use Rattle.plan_db.specs.declared.fault.DbFault.TheVariants as fault
 use Rattle.plan_db.specs.declared.fault.Outcome.{Outcome}
 use Rattle.plan_db.specs.declared.fault.Outcome.TheVariants as outcome
+use Rattle.plan_db.specs.declared.fault.QueryFault.{QueryFault}
 use Rattle.plan_db.specs.declared.fault.QueryFault.TheVariants as query
+use Rattle.plan_defs.specs.History.{IsHistory}
 use Rattle.session_core.specs.declared.reason.RefusalReason.{RefusalReason}
 use Rattle.session_core.specs.declared.reason.RefusalReason.TheVariants.{Long, Syntax, Inconsistent, Unknown, Decided, NotInDomain, Nothing}
 use Rattle.session_core.specs.declared.reason.StepStop.{StepStop}
 use Rattle.session_core.specs.declared.reason.StepStop.TheVariants as stop
-use Rattle.session_core.specs.Reasons.{reason_rank, stop_of, refusal, IsFirstReason, NothingStops, RefusedOr, StepsOr}
-use Rattle.session_core.specs.Replies.{IsGlobalNamed, HindersValue, StopsSpecify, Specifies, StopsDomain, TellsDomain, outcome_line, domain_line, StandsFor, IsLost}
+use Rattle.session_core.specs.Reasons.{reason_rank, MayStop, stop_of, refusal, IsFirstReason, NothingStops, RefusedOr, StepsOr}
+use Rattle.session_core.specs.Replies.{IsGlobalNamed, HindersValue, StopsSpecify, Specifies, StopsUndo, UndoesLast, StopsDomain, TellsDomain, outcome_line, domain_line, StandsFor, IsLost}
 
 -- the number that a name means is that of a global
 named_at : (number : ℕ) (name : List ℕ) (variable : VarDecl) (variables : List VarDecl) (found : ℕ)
@@ -53,6 +56,13 @@ never_untold database number within untold =
     let given = (untold.1.closed.consistent.is_state.variables (Global number)).0 within in
     untold.2 given.0 given.1
 
+-- so something is told of it, where the database isn't behind and something is left
+pub never_silent : (held : Held) (number : ℕ) (state : State) → held.behind ≡ false → HasLeast held.database state → number < length held.database.model.problem.globals
+    → (reason : QueryFault) → AnswersNothing held (Global number) reason → ⊥
+never_silent held number state ready least within query.Behind behind = let same = sym ready ∙ behind in cc
+never_silent held number state ready least within query.Inconsistent silent = least_not_collapsed held.database.model (standing held.database.history) state least silent.1
+never_silent held number state ready least within query.Unknown silent = never_untold held.database number within silent.1
+
 -- a name is that of one global at most
 pub one_named : (o : Option ℕ) (one other : ℕ) → o ≡ Some one → o ≡ Some other → other ≡ one
 one_named o one other p q = cc
@@ -73,6 +83,18 @@ module _ (old : Database) (name : List ℕ) (value : ℤ) where
   hinders_at refusal number state named least h =
       subst (λ (n : ℕ). Hinders old.model (standing old.history) state refusal (Specify (Global n) value)) (one_named (global_named old.model name) number h.0 named h.2)
       (subst (λ (s : State). Hinders old.model (standing old.history) s refusal (Specify (Global h.0) value)) (least_same old.model (standing old.history) h.1 state h.3 least) h.4)
+
+  pub collapsed_first : HasCollapsed old → IsFirstReason (StopsSpecify old name value) Inconsistent
+  collapsed_first collapsed = record { stops = collapsed; first = first }
+    where
+      first : (earlier : RefusalReason) → reason_rank earlier < 2 → StopsSpecify old name value earlier → ⊥
+      first Inconsistent before stops = omega arith
+      first Unknown before stops = omega arith
+      first Decided before stops = omega arith
+      first NotInDomain before stops = omega arith
+      first Nothing before stops = stops
+      first Long before stops = stops
+      first Syntax before stops = stops
 
   pub unknown_first : (state : State) → HasLeast old state → global_named old.model name ≡ None → IsFirstReason (StopsSpecify old name value) Unknown
   unknown_first state least named = record { stops = named; first = first }
@@ -135,8 +157,78 @@ module _ (old : Database) (name : List ℕ) (value : ℤ) where
     not_applied state least new fault.Unknown applies = absurd (never_unknown old number value (named_within old.model name number named) applies.1)
     not_applied state least new fault.Decided applies = (decided_first applies.1, applies.0)
     not_applied state least new fault.NotInDomain applies = (outside_first applies.1, applies.0)
-    not_applied state least new fault.Nothing applies = absurd applies
     not_applied state least new fault.Memory applies = applies.0
+    not_applied state least new fault.NotActive applies = applies.0
+    not_applied state least new fault.NotSamePredicate applies = applies.0
+    not_applied state least new fault.NotRejectable applies = applies.0
+    not_applied state least new fault.Same applies = applies.0
+    not_applied state least new fault.ActiveFull applies = applies.0
+    not_applied state least new reason applies = absurd applies
+
+-- what speaks against the decision is no reason that is about tokens
+pub specify_may_stop : (old new : Held) (number : ℕ) (value : ℤ) (reason : DbFault) → AnswersApply old (Specify (Global number) value) (Err reason) new → MayStop reason
+specify_may_stop old new number value fault.NotActive answers = answers.1.1.refusal.hinders (λ token belongs rejectable. absurd belongs)
+specify_may_stop old new number value fault.NotSamePredicate answers = answers.1.1.refusal.hinders
+specify_may_stop old new number value fault.NotRejectable answers = answers.1.1.refusal.hinders
+specify_may_stop old new number value fault.Same answers = answers.1.1.refusal.hinders
+specify_may_stop old new number value fault.ActiveFull answers = answers.1.1.refusal.hinders
+specify_may_stop old new number value fault.NoSuchDecision answers = answers.1
+specify_may_stop old new number value reason answers = tt
+
+module _ (old : Held) (name : List ℕ) (value : ℤ) (number : ℕ) (named : IsGlobalNamed old.database name number) where
+  pub taken : (new : Held) (outcome : Outcome) → AnswersApply old (Specify (Global number) value) (Ok outcome) new
+      → StepsOr (StopsSpecify old.database name value) (Specifies old.database name value) old.database (Ok outcome) new.database
+  taken new outcome answers = applied old.database name value number named new.database outcome answers.1
+
+  pub not_taken : (state : State) → HasLeast old.database state → (new : Held) (reason : DbFault) → AnswersApply old (Specify (Global number) value) (Err reason) new
+      → StepsOr (StopsSpecify old.database name value) (Specifies old.database name value) old.database (Err (stop_of reason)) new.database
+  not_taken state least new fault.Behind answers = ap (λ (held : Held). held.database) answers.same
+  not_taken state least new fault.Memory answers = not_applied old.database name value number named state least new.database fault.Memory answers.1
+  not_taken state least new reason answers = not_applied old.database name value number named state least new.database reason answers.1
+
+-- ---- undo
+
+module _ (old new : Held) where
+  pub undone : (outcome : Outcome) → IsSound new.database → AnswersUndo old (Ok outcome) new
+      → StepsOr (StopsUndo old.database) (UndoesLast old.database) old.database (Ok outcome) new.database
+  undone outcome sound answers = (free, answers.1)
+    where
+      free : NothingStops (StopsUndo old.database)
+      free Nothing stops =
+          let parts = sym answers.1.1 ∙ stops in
+          let none : new.database.history ≡ [] = cc in
+          subst (IsHistory new.database.model) none sound.history
+      free Long stops = stops
+      free Syntax stops = stops
+      free Inconsistent stops = stops
+      free Unknown stops = stops
+      free Decided stops = stops
+      free NotInDomain stops = stops
+
+  nothing_first : (earlier : RefusalReason) → reason_rank earlier < 6 → StopsUndo old.database earlier → ⊥
+  nothing_first Nothing before stops = omega arith
+  nothing_first Long before stops = stops
+  nothing_first Syntax before stops = stops
+  nothing_first Inconsistent before stops = stops
+  nothing_first Unknown before stops = stops
+  nothing_first Decided before stops = stops
+  nothing_first NotInDomain before stops = stops
+
+  pub undo_may_stop : (reason : DbFault) → AnswersUndo old (Err reason) new → MayStop reason
+  undo_may_stop fault.NotActive answers = answers.1
+  undo_may_stop fault.NotSamePredicate answers = answers.1
+  undo_may_stop fault.NotRejectable answers = answers.1
+  undo_may_stop fault.Same answers = answers.1
+  undo_may_stop fault.ActiveFull answers = answers.1
+  undo_may_stop fault.NoSuchDecision answers = answers.1
+  undo_may_stop reason answers = tt
+
+  pub not_undone : (reason : DbFault) → AnswersUndo old (Err reason) new
+      → StepsOr (StopsUndo old.database) (UndoesLast old.database) old.database (Err (stop_of reason)) new.database
+  not_undone fault.Behind answers = ap (λ (held : Held). held.database) answers.same
+  not_undone fault.Nothing answers = (record { stops = answers.1.1; first = nothing_first }, answers.1.0)
+  not_undone fault.Memory answers = answers.1.0
+  not_undone reason answers = absurd answers.1
 
 -- ---- all numbers outside the range of values are answered alike
 

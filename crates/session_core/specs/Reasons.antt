@@ -1,5 +1,5 @@
 -- The reasons for which a line is refused, and which of them is the first.
-use Rattle.std.specs.Prelude.{◌≡◌, ℕ, ◌<◌, List, ◌∷◌, ◌++◌, ◌⊎◌, [], codes, Result, Ok, Err}
+use Rattle.std.specs.Prelude.{◌≡◌, ℕ, ◌<◌, List, ◌∷◌, ◌++◌, ◌⊎◌, [], codes, Result, Ok, Err, ⊤}
 use Rattle.plan_db.specs.Database.{Database}
 use Rattle.plan_db.specs.declared.fault.DbFault.{DbFault}
 use Rattle.plan_db.specs.declared.fault.DbFault.TheVariants as fault
@@ -29,14 +29,24 @@ reason_word Decided = codes "decided"
 reason_word NotInDomain = codes "not-in-domain"
 reason_word Nothing = codes "nothing"
 
--- what the database's fault means for a step
+-- the database may answer so where a variable of the problem gets a value, or the last step is taken back
+abbrev pub MayStop : DbFault → Type 0
+MayStop fault.NotActive = ⊥
+MayStop fault.NotSamePredicate = ⊥
+MayStop fault.NotRejectable = ⊥
+MayStop fault.Same = ⊥
+MayStop fault.ActiveFull = ⊥
+MayStop fault.NoSuchDecision = ⊥
+MayStop fault = ⊤
+
+-- what the database's fault means for a step: one that is behind says no more than one that lacks memory
 abbrev pub stop_of : DbFault → StepStop
 stop_of fault.InInconsistent = Refused Inconsistent
 stop_of fault.Unknown = Refused Unknown
 stop_of fault.Decided = Refused Decided
 stop_of fault.NotInDomain = Refused NotInDomain
 stop_of fault.Nothing = Refused Nothing
-stop_of fault.Memory = Memory
+stop_of fault = Memory
 
 -- a line as it is printed, with its line feed
 abbrev pub with_line_feed : List ℕ → List ℕ

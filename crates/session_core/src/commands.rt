@@ -1,8 +1,8 @@
 //! What the commands do.
 
-ghost use Rattle.std.specs.Prelude.{◌≡◌, IfOk};
+ghost use Rattle.std.specs.Prelude.{◌≡◌, false, IfOk};
 ghost use Rattle.model_core.specs.Lawful.{IsLawful};
-ghost use Rattle.plan_db.specs.Database.{Applies};
+ghost use Rattle.plan_db.specs.Answers.{AnswersApply};
 ghost use Rattle.script_lang.specs.Number.{IsSignedNumber, signed_value};
 ghost use Rattle.session_core.specs.Reasons.{RefusedOr, StepsOr};
 ghost use Rattle.session_core.specs.Replies.{StopsSpecify, Specifies, StopsUndo, UndoesLast, StopsDomain, TellsDomain, StandsFor};
@@ -25,9 +25,12 @@ const BEYOND_VALUES: i32 = GREATEST_VALUE + 1;
 /// Specifies the variable to the value that the number names.
 pub fn specify_number(db: &mut Db, variable: &Text, number: &Text) -> Result<Outcome, StepStop>
     requires { IsSignedNumber number.now }
-    ensures { StepsOr (StopsSpecify db.old variable.now (signed_value number.now))
-        (Specifies db.old variable.now (signed_value number.now)) db.old result db.new }
+    ensures { StepsOr (StopsSpecify db.old.database variable.now (signed_value number.now))
+        (Specifies db.old.database variable.now (signed_value number.now)) db.old.database result db.new.database }
 {
+    if db.is_behind() {
+        return Err(StepStop::Memory);
+    }
     let value = value_or_beyond(number.as_bytes());
     specify(db, variable, value)
 }
@@ -45,8 +48,10 @@ fn value_or_beyond(number: &[u8]) -> i32
 
 /// Specifies the variable.
 fn specify(db: &mut Db, variable: &Text, value: i32) -> Result<Outcome, StepStop>
-    ensures lawful { IsLawful db.old.model }
-    ensures steps { StepsOr (StopsSpecify db.old variable.now value) (Specifies db.old variable.now value) db.old result db.new }
+    requires { db.old.behind ≡ false }
+    ensures lawful { IsLawful db.old.database.model }
+    ensures steps { StepsOr (StopsSpecify db.old.database variable.now value) (Specifies db.old.database variable.now value)
+        db.old.database result db.new.database }
 {
     if !db.is_consistent() {
         return Err(StepStop::Refused(RefusalReason::Inconsistent));
@@ -62,7 +67,7 @@ fn specify(db: &mut Db, variable: &Text, value: i32) -> Result<Outcome, StepStop
 
 /// Takes the decision that gives the global the value.
 fn apply_value(db: &mut Db, number: u32, value: i32) -> Result<Outcome, DbFault>
-    ensures { Applies db.old (Decision.Specify (VarName.Global number) value) result db.new }
+    ensures { AnswersApply db.old (Decision.Specify (VarName.Global number) value) result db.new }
 {
     let decision = Decision::Specify(VarName::Global(number), value);
     db.apply(&decision)
@@ -70,15 +75,32 @@ fn apply_value(db: &mut Db, number: u32, value: i32) -> Result<Outcome, DbFault>
 
 /// Takes the last decision back.
 pub fn undo(db: &mut Db) -> Result<Outcome, StepStop>
-    ensures { StepsOr (StopsUndo db.old) (UndoesLast db.old) db.old result db.new }
+    ensures { StepsOr (StopsUndo db.old.database) (UndoesLast db.old.database) db.old.database result db.new.database }
 {
-    db.undo().map_err(stop_of)
+    match db.undo() {
+        Ok(outcome) => Ok(outcome),
+        Err(fault) => Err(stop_of(fault)),
+    }
 }
 
 /// Tells what the variable may still be.
 pub fn domain(alloc: Global, db: &Db, variable: &Text) -> Result<Bytes, AllocError>
-    ensures { IfOk result (λ reply. RefusedOr (StopsDomain db.now variable.now)
-        (λ text new. TellsDomain db.now variable.now text × (new ≡ db.now)) db.now reply db.now) }
+    ensures { IfOk result (λ reply. RefusedOr (StopsDomain db.now.database variable.now)
+        (λ text new. TellsDomain db.now.database variable.now text × (new ≡ db.now.database))
+        db.now.database reply db.now.database) }
+{
+    if db.is_behind() {
+        return Err(AllocError);
+    }
+    tell_domain(alloc, db, variable)
+}
+
+/// Tells it of a database that isn't behind.
+fn tell_domain(alloc: Global, db: &Db, variable: &Text) -> Result<Bytes, AllocError>
+    requires { db.now.behind ≡ false }
+    ensures { IfOk result (λ reply. RefusedOr (StopsDomain db.now.database variable.now)
+        (λ text new. TellsDomain db.now.database variable.now text × (new ≡ db.now.database))
+        db.now.database reply db.now.database) }
 {
     if !db.is_consistent() {
         return outcome_reply(alloc, Outcome::Inconsistent);
@@ -88,7 +110,6 @@ pub fn domain(alloc: Global, db: &Db, variable: &Text) -> Result<Bytes, AllocErr
     };
     match db.domain(&VarName::Global(number)) {
         Ok(domain) => domain_reply(alloc, variable, domain),
-        Err(QueryFault::Inconsistent) => unreachable!(),
-        Err(QueryFault::Unknown) => unreachable!(),
+        Err(_fault) => unreachable!(),
     }
 }

@@ -13,7 +13,7 @@ use script_lang::line::{Command, LineFault, read_line};
 use std::alloc::{AllocError, Global};
 use std::marker::Model;
 
-/// A plan database that answers the lines of a script.
+/// A plan database that answers the lines of a script. One that is behind answers each as it does where memory is wanting.
 #[derive(Drop)]
 pub struct Editor {
     alloc: Global,
@@ -25,24 +25,25 @@ impl Model for Editor {
 
     ghost Value = { Database };
 
-    ghost use Rattle.plan_db.specs.contracts.database.Db as a_database;
+    ghost use Rattle.std.specs.Coded.{codes};
+    ghost use Rattle.model_core.specs.contracts.model.Model as a_model;
 
-    ghost coded = { a_database.the_row.coded };
+    ghost coded = { Prim.hlevel (codes, a_model.the_row.coded) };
 
-    ghost view = { λ editor. editor.db };
+    ghost view = { λ editor. editor.db.database };
 }
 
 impl Editor {
     /// An editor of what the database holds.
     pub fn new(alloc: Global, db: Db) -> Editor
-        ensures { result ≡ db }
+        ensures { result ≡ db.database }
     {
         Editor { alloc, db }
     }
 
     /// Gives the database back as it is now.
     pub fn into_db(self) -> Db
-        ensures { result ≡ self }
+        ensures { result.database ≡ self }
     {
         let Editor { db, .. } = self;
         db
@@ -72,8 +73,8 @@ impl Responder for Editor {
 
 // Does what a line asks for, and gives the reply.
 fn reply_to(alloc: Global, db: &mut Db, line: &[u8]) -> Result<Bytes, AllocError>
-    ensures reply { IfOk result (λ reply. Replies db.old line.now reply db.new) }
-    ensures memory { OnErr result (IsLost (Replies db.old line.now) db.old db.new) }
+    ensures reply { IfOk result (λ reply. Replies db.old.database line.now reply db.new.database) }
+    ensures memory { OnErr result (IsLost (Replies db.old.database line.now) db.old.database db.new.database) }
 {
     match read_line(alloc, line) {
         Ok(command) => carry_out(alloc, db, &command),
@@ -86,8 +87,8 @@ fn reply_to(alloc: Global, db: &mut Db, line: &[u8]) -> Result<Bytes, AllocError
 // Does what a command says, and gives the reply.
 fn carry_out(alloc: Global, db: &mut Db, command: &Command) -> Result<Bytes, AllocError>
     requires { HasNumbers command.now }
-    ensures reply { IfOk result (λ reply. RepliesTo db.old command.now reply db.new) }
-    ensures memory { OnErr result (IsLost (RepliesTo db.old command.now) db.old db.new) }
+    ensures reply { IfOk result (λ reply. RepliesTo db.old.database command.now reply db.new.database) }
+    ensures memory { OnErr result (IsLost (RepliesTo db.old.database command.now) db.old.database db.new.database) }
 {
     match command {
         Command::Empty => Ok(Bytes::from_vec(Vec::new(alloc))),

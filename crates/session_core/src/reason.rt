@@ -1,7 +1,7 @@
 //! Why a line is refused.
 
 ghost use Rattle.std.specs.Prelude.{◌≡◌};
-ghost use Rattle.session_core.specs.Reasons.{reason_word, stop_of};
+ghost use Rattle.session_core.specs.Reasons.{reason_word, MayStop, stop_of};
 
 use plan_db::fault::DbFault;
 
@@ -46,8 +46,9 @@ pub fn word_of(reason: RefusalReason) -> &'static str
     }
 }
 
-/// What the database's fault means for a step.
+/// What the database's fault means for a step that is about a variable of the problem.
 pub fn stop_of(fault: DbFault) -> StepStop
+    requires { MayStop fault }
     ensures { result ≡ stop_of fault }
 {
     match fault {
@@ -57,5 +58,7 @@ pub fn stop_of(fault: DbFault) -> StepStop
         DbFault::NotInDomain => StepStop::Refused(RefusalReason::NotInDomain),
         DbFault::Nothing => StepStop::Refused(RefusalReason::Nothing),
         DbFault::Memory => StepStop::Memory,
+        DbFault::Behind => StepStop::Memory,
+        _ => unreachable!(),
     }
 }

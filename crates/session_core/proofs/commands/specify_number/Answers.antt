@@ -9,5 +9,5 @@ returns c =
     let value = c.value_or_beyond-value.result in
     let cast : to_z w32 (of_z w32 value) ≡ value = omega (arith, ints) in
     let stands = rw c.as_bytes.ensures at c.value_or_beyond-value.ensures in
-    steps_standing c.args.db.now c.specify.new.db c.args.variable.now value (signed_value c.args.number.now) c.specify.result c.specify.ensures.lawful stands
+    steps_standing c.args.db.now.database c.specify.new.db.database c.args.variable.now value (signed_value c.args.number.now) c.specify.result c.specify.ensures.lawful stands
     (rw cast at c.specify.ensures.steps)

@@ -8,8 +8,8 @@ use Rattle.session_core.proofs.editor.carry_out.Goals as goal
 
 pub returns-in-Specify-clause-memory : goal.returns-in-Specify-clause-memory
 returns-in-Specify-clause-memory c =
-    let old = c.args.db.now in
-    let new = c.specify_number-step.new.db in
+    let old = c.args.db.now.database in
+    let new = c.specify_number-step.new.db.database in
     let value = signed_value c.in-Specify.value in
     let command = Specify c.in-Specify.variable c.in-Specify.value in
     on_err c.step_reply.result (IsLost (RepliesTo old c.args.command.now) old new)
@@ -19,8 +19,8 @@ returns-in-Specify-clause-memory c =
 
 pub returns-in-Undo-clause-memory : goal.returns-in-Undo-clause-memory
 returns-in-Undo-clause-memory c =
-    let old = c.args.db.now in
-    let new = c.undo-step.new.db in
+    let old = c.args.db.now.database in
+    let new = c.undo-step.new.db.database in
     on_err c.step_reply-in-Undo.result (IsLost (RepliesTo old c.args.command.now) old new)
     (subst (λ (asked : Command). IsLost (RepliesTo old asked) old new) (sym c.in-Undo.is)
     (step_lost (StopsUndo old) (UndoesLast old) (CarriesOut old Undo) old new c.undo-step.result

@@ -3,4 +3,4 @@ use Rattle.session_core.proofs.editor.EditorResponder.answer.Goals as goal
 
 pub returns-in-Err-clause-memory : goal.returns-in-Err-clause-memory
 returns-in-Err-clause-memory c =
-    rw (← c.self.view_is) (answer_lost c.self.inside.db c.args.line.now c.reply_to.new.db c.in-Err.ensures.memory)
+    rw (← c.self.view_is) (answer_lost c.self.inside.db.database c.args.line.now c.reply_to.new.db.database c.in-Err.ensures.memory)
