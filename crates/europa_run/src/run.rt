@@ -3,7 +3,6 @@
 ghost use Rattle.std.specs.Prelude.{◌≡◌, false};
 ghost use Rattle.eu_io.specs.Faults.{counted};
 ghost use Rattle.model_core.specs.Lawful.{IsLawful};
-ghost use Rattle.plan_db.specs.Built.{IsBuilt};
 ghost use Rattle.europa_run.specs.CommandLine.{AreNoScript, AreNoCommand};
 ghost use Rattle.europa_run.specs.Pieces.{EditTells, ScriptTells, RunsScript, ended_by};
 ghost use Rattle.europa_run.specs.Runs.{Runs, RunsTo, RaisesReads};
@@ -109,8 +108,7 @@ fn run_script<S: Source, O: Sink>(
     input: &mut S,
     out: &mut O,
 ) -> Result<RunEnd, RunFault>
-    requires lawful { IsLawful model }
-    requires built { IsBuilt model }
+    requires { IsLawful model }
     ensures told { ScriptTells model (record { left = S.left input.old; written = O.written out.old })
         (record { left = S.left input.new; written = O.written out.new }) result }
     ensures reads { S.faults input.new ≡ counted (is_read result) (S.faults input.old) }
@@ -129,7 +127,7 @@ fn edit_new<S: Source, O: Sink>(
     input: &mut S,
     out: &mut O,
 ) -> Result<RunEnd, RunFault>
-    ensures told { EditTells db (record { left = S.left input.old; written = O.written out.old })
+    ensures told { EditTells db.database (record { left = S.left input.old; written = O.written out.old })
         (record { left = S.left input.new; written = O.written out.new }) result }
     ensures reads { S.faults input.new ≡ counted (is_read result) (S.faults input.old) }
     ensures writes { O.faults out.new ≡ counted (is_write result) (O.faults out.old) }

@@ -7,7 +7,7 @@ use Rattle.europa_run.proofs.run.run_script.Goals as goal
 pub returns-in-Ok-clause-told : goal.returns-in-Ok-clause-told
 returns-in-Ok-clause-told g c =
     subst (λ (start : Database). EditTells start (record { left = g.S.Source.left c.args.input.now; written = g.O.Sink.written c.args.out.now })
-    (record { left = g.S.Source.left c.edit_new.new.input; written = g.O.Sink.written c.edit_new.new.out }) c.edit_new.result) c.in-Ok.ensures.0 c.edit_new.ensures.told
+    (record { left = g.S.Source.left c.edit_new.new.input; written = g.O.Sink.written c.edit_new.new.out }) c.edit_new.result) c.in-Ok.ensures.made.0 c.edit_new.ensures.told
 
 pub returns-in-Err-clause-told : goal.returns-in-Err-clause-told
 returns-in-Err-clause-told g c =
