@@ -19,6 +19,7 @@ use Rattle.plan_defs.proofs.Settling.{least_not_collapsed, history_settled, IsSe
 use Rattle.plan_state.specs.declared.footing.Footing.{Footing}
 use Rattle.plan_state.specs.declared.footing.Footing.TheVariants.{Rest, Fallen, Void}
 use Rattle.plan_state.specs.Advancing.{IsLeastOf, but_last, EndsAdmissibly}
+use Rattle.plan_store.specs.Stamps.{FollowStamps}
 use Rattle.plan_state.specs.Standing.{Stood, KeepsList, KeepsListOn}
 use Rattle.plan_state.proofs.Returning.{take_whole}
 use Rattle.plan_store.specs.Stores.{snapshot_of, named_content}
@@ -103,8 +104,8 @@ module _ (model : Model) (old new : History) (decision : Decision) (pops : old �
     -- and what is kept then is that of the list without it
     pub withdraws : (back : Stood)
         → ((problem : Model) (decisions : List Decision) → KeepsList problem decisions stood → number < length decisions → (back.footing ≡ Rest) × KeepsList problem (take number decisions) back)
-        → WithdrawsLast model old stood true new back
-    withdraws back goes =
+        → FollowStamps stood.stored back.stored → WithdrawsLast model old stood true new back
+    withdraws back goes stamps =
         let gone = goes model (standing new ++ decision ∷ []) list_with (omega (arith, fewer, is)) in
         let front : take number (standing new ++ decision ∷ []) ≡ standing new =
         ap (λ (k : ℕ). take k (standing new ++ decision ∷ [])) is ∙ take-append_seam (standing new) (decision ∷ []) in
@@ -113,6 +114,7 @@ module _ (model : Model) (old new : History) (decision : Decision) (pops : old �
           pops,
           record { is_history = withdrawn_is model new decision (subst (IsHistory model) pops keeps.is_history); list = here },
           leaves_rest model (standing new) back here gone.0,
+          stamps,
         )
 
 -- ---- going back and bringing back

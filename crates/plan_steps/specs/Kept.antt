@@ -9,6 +9,7 @@ use Rattle.plan_defs.specs.History.{IsHistory}
 use Rattle.plan_defs.specs.Refusals.{IsRefused, IsAdmissible}
 use Rattle.plan_refusals.specs.Reasons.{refusal_of}
 use Rattle.plan_state.specs.Standing.{Stood, KeepsList}
+use Rattle.plan_store.specs.Stamps.{FollowStamps}
 use Rattle.plan_steps.specs.declared.objection.Objection.{Objection}
 use Rattle.plan_steps.specs.declared.objection.Objection.TheVariants.{Collapsed, Refused}
 
@@ -33,10 +34,11 @@ IsJudged model decisions decision (Ok done) = IsAdmissible model decisions decis
 IsJudged model decisions decision (Err Collapsed) = IsCollapsed model decisions
 IsJudged model decisions decision (Err (Refused reason)) = IsRefused model decisions decision (refusal_of reason)
 
--- the last decision was taken back, and the state of the list before it is kept; or the last step was none that put a decision
--- at the end, and all stays
+-- the last decision was taken back, the state of the list before it is kept, and stamps follow the domains; or the last step
+-- was none that put a decision at the end, and all stays
 abbrev pub WithdrawsLast : Model → History → Stood → Bool → History → Stood → Type 0
 WithdrawsLast model old old_stood true new stood =
     (decision : Decision) × (old ≡ accepted new decision) × KeepsHistory model new stood × LeaveState model (standing new) true
+    × FollowStamps old_stood.stored stood.stored
 WithdrawsLast model old old_stood false new stood =
     (new ≡ old) × (stood ≡ old_stood) × ((before : History) (decision : Decision) → old ≡ accepted before decision → ⊥)

@@ -8,6 +8,8 @@ ghost use Rattle.model_core.specs.Lawful.{IsLawful};
 ghost use Rattle.plan_defs.specs.History.{IsHistory};
 ghost use Rattle.plan_defs.specs.Refusals.{IsAdmissible};
 ghost use Rattle.plan_defs.specs.Settling.{IsSettled};
+ghost use Rattle.plan_store.specs.Stamps.{FollowStamps};
+ghost use Rattle.plan_state.specs.declared.footing.Footing.TheVariants.{Rest};
 ghost use Rattle.plan_state.specs.Advancing.{but_last, EndsAdmissibly};
 ghost use Rattle.plan_state.specs.Standing.{KeepsList};
 ghost use Rattle.plan_steps.specs.Kept.{KeepsHistory, KeepsUnless, LeaveState, WithdrawsLast};
@@ -45,6 +47,7 @@ pub fn accept(
     ensures fits { IfOk result (LeaveState model.now (standing log.new)) }
     ensures err { OnErr result (log.new ≡ log.old) }
     ensures kept { KeepsHistory model.now log.new kept.new }
+    ensures stamps { OnOk result (kept.new.footing ≡ Rest → FollowStamps kept.old.stored kept.new.stored) }
 {
     push_copy(log, decision)?;
     match go_on(log.allocator(), model, kept, log.standing()) {
@@ -78,6 +81,7 @@ pub fn go_on(
     requires kept { KeepsList model.now (but_last decisions.now) kept.old }
     ensures ok { IfOk result (λ fit. KeepsList model.now decisions.now kept.new × LeaveState model.now decisions.now fit) }
     ensures err { OnErr result (KeepsList model.now (but_last decisions.now) kept.new) }
+    ensures stamps { OnOk result (kept.new.footing ≡ Rest → FollowStamps kept.old.stored kept.new.stored) }
 {
     kept.push(alloc, model, decisions)?;
     Ok(fits(kept))

@@ -1,3 +1,4 @@
+use Rattle.std.proofs.Common.{◌∙◌}
 use Rattle.plan_state.specs.Advancing.{but_last}
 use Rattle.plan_steps.proofs.Keeping.{rests}
 use Rattle.plan_steps.proofs.forward.go_on.Goals as goal
@@ -10,3 +11,6 @@ push-requires-clause-rest c =
 pub returns-clause-ok : goal.returns-clause-ok
 returns-clause-ok c =
     (c.in_ok-push.ensures.ok.1, c.fits.ensures c.args.model.now c.args.decisions.now c.in_ok-push.ensures.ok.1)
+
+pub returns-clause-stamps : goal.returns-clause-stamps
+returns-clause-stamps c = λ rest. c.in_ok-push.ensures.stamps (c.in_ok-push.ensures.ok.0 ∙ rest)

@@ -12,4 +12,4 @@ back_to-requires c =
 pub returns-in-Some : goal.returns-in-Some
 returns-in-Some c = λ model keeps.
     withdraws model c.args.log.now c.pop.new.self _ c.in-Some.ensures c.args.kept.now keeps (length c.standing.result.now)
-    (ap (λ (list : List Decision). length list) c.standing.ensures) c.back_to.new.self c.back_to.ensures.kept
+    (ap (λ (list : List Decision). length list) c.standing.ensures) c.back_to.new.self c.back_to.ensures.kept c.back_to.ensures.stamps
