@@ -1,13 +1,31 @@
-//! The database over two ranges, of which the first is at most the second: each call that takes memory is run, and what it
-//! answers and leaves is compared.
+//! The database over two ranges, of which the first is at most the second: each call is run, and what it answers and leaves is
+//! compared.
 
 use eu_name::name::VarName;
 use model_core::decision::Decision;
-use plan_db::{Db, DbFault, Outcome};
+use plan_db::{Db, DbFault, Outcome, QueryFault, Subject};
 use range_problem::problem::read_problem;
 use std::alloc::Global;
 
 const ORDERED: &str = "int [0 10] x; int [0 10] y; leq(x, y);";
+
+const X: u32 = 0;
+const Y: u32 = 1;
+// No variable has this number.
+const NONE: u32 = 2;
+
+// A call that changes what is decided, or finds the state anew.
+#[derive(Clone, Copy)]
+enum Step {
+    Specify(u32, i32),
+    Reset(u32),
+    Undo,
+    Backtrack,
+    Rebuild,
+}
+
+// What a step answered, then the ends of y, and how many steps can be taken back.
+type Left = (Result<Outcome, DbFault>, Result<(i32, i32), QueryFault>, u64);
 
 // The database of the text, in which nothing is decided.
 fn started(alloc: Global, text: &str) -> Option<Db> {
@@ -18,74 +36,170 @@ fn started(alloc: Global, text: &str) -> Option<Db> {
 }
 
 // The ends of what the global may still be.
-fn ends(db: &Db, number: u32) -> Option<(i32, i32)> {
+fn ends(db: &Db, number: u32) -> Result<(i32, i32), QueryFault> {
     match db.domain(&VarName::Global(number)) {
-        Ok(domain) => Some((domain.lo(), domain.hi())),
-        Err(_) => None,
+        Ok(domain) => Ok((domain.lo(), domain.hi())),
+        Err(fault) => Err(fault),
     }
 }
 
-// What specifying the global answers, and then the ends of y and how many steps can be undone.
-fn specified(
-    db: &mut Db,
-    number: u32,
-    value: i32,
-) -> (Result<Outcome, DbFault>, Option<(i32, i32)>, u64) {
-    let answer = db.apply(&Decision::Specify(VarName::Global(number), value));
-    (answer, ends(db, 1), db.history())
+// What the step answers; one that answers nothing else says that something is possible.
+fn answer(db: &mut Db, step: Step) -> Result<Outcome, DbFault> {
+    match step {
+        Step::Specify(number, value) => specified(db, number, value),
+        Step::Reset(number) => db.reset(&Subject::Variable(VarName::Global(number))),
+        Step::Undo => db.undo(),
+        Step::Backtrack => backtracked(db),
+        Step::Rebuild => rebuilt(db),
+    }
 }
 
-// The same of undoing a step.
-fn undone(db: &mut Db) -> (Result<Outcome, DbFault>, Option<(i32, i32)>, u64) {
-    let answer = db.undo();
-    (answer, ends(db, 1), db.history())
+fn specified(db: &mut Db, number: u32, value: i32) -> Result<Outcome, DbFault> {
+    db.apply(&Decision::Specify(VarName::Global(number), value))
 }
 
-// What the steps in turn answer and leave, from a fresh database on.
-fn after(
-    alloc: Global,
-    steps: &[(u32, i32)],
-) -> Option<(Result<Outcome, DbFault>, Option<(i32, i32)>, u64)> {
+fn backtracked(db: &mut Db) -> Result<Outcome, DbFault> {
+    match db.backtrack() {
+        Ok(()) => Ok(Outcome::Consistent),
+        Err(fault) => Err(fault),
+    }
+}
+
+fn rebuilt(db: &mut Db) -> Result<Outcome, DbFault> {
+    match db.rebuild() {
+        Ok(()) => Ok(Outcome::Consistent),
+        Err(_none) => Err(DbFault::Memory),
+    }
+}
+
+// What the last of the steps answers and leaves, from a fresh database on; of none, what undoing answers.
+fn after(alloc: Global, steps: &[Step]) -> Option<Left> {
     let Some(mut db) = started(alloc, ORDERED) else {
         return None;
     };
-    let mut last = undone(&mut db);
-    for (number, value) in steps {
-        last = if *value < 0 {
-            undone(&mut db)
-        } else {
-            specified(&mut db, *number, *value)
-        };
+    let mut last = answer(&mut db, Step::Undo);
+    for step in steps {
+        last = answer(&mut db, *step);
     }
-    Some(last)
+    Some((last, ends(&db, Y), db.history()))
+}
+
+const CONSISTENT: Result<Outcome, DbFault> = Ok(Outcome::Consistent);
+const INCONSISTENT: Result<Outcome, DbFault> = Ok(Outcome::Inconsistent);
+
+// Whether each list of steps answers and leaves this.
+fn leave(alloc: Global, rows: &[(&[Step], Left)]) -> bool {
+    rows.iter()
+        .all(|(steps, left)| after(alloc, steps) == Some(*left))
 }
 
 #[test]
 fn decisions_are_taken_and_undone(rt: HostRuntime) {
-    // Where the value is less than 0 the step undoes.
-    let rows: [(
-        &[(u32, i32)],
-        (Result<Outcome, DbFault>, Option<(i32, i32)>, u64),
-    ); 8] = [
-        (&[], (Err(DbFault::Nothing), Some((0, 10)), 0)),
-        (&[(0, 4)], (Ok(Outcome::Consistent), Some((4, 10)), 1)),
-        (&[(0, 4), (0, 5)], (Err(DbFault::Decided), Some((4, 10)), 1)),
+    let rows: [(&[Step], Left); 8] = [
+        (&[], (Err(DbFault::Nothing), Ok((0, 10)), 0)),
+        (&[Step::Specify(X, 4)], (CONSISTENT, Ok((4, 10)), 1)),
         (
-            &[(0, 4), (1, 11)],
-            (Err(DbFault::NotInDomain), Some((4, 10)), 1),
-        ),
-        (&[(0, 4), (2, 1)], (Err(DbFault::Unknown), Some((4, 10)), 1)),
-        (&[(0, 4), (1, 3)], (Ok(Outcome::Inconsistent), None, 2)),
-        (
-            &[(0, 4), (1, 3), (1, 5)],
-            (Err(DbFault::InInconsistent), None, 2),
+            &[Step::Specify(X, 4), Step::Specify(X, 5)],
+            (Err(DbFault::Decided), Ok((4, 10)), 1),
         ),
         (
-            &[(0, 4), (1, 3), (0, -1)],
-            (Ok(Outcome::Consistent), Some((4, 10)), 1),
+            &[Step::Specify(X, 4), Step::Specify(Y, 11)],
+            (Err(DbFault::NotInDomain), Ok((4, 10)), 1),
+        ),
+        (
+            &[Step::Specify(X, 4), Step::Specify(NONE, 1)],
+            (Err(DbFault::Unknown), Ok((4, 10)), 1),
+        ),
+        (
+            &[Step::Specify(X, 4), Step::Specify(Y, 3)],
+            (INCONSISTENT, Err(QueryFault::Inconsistent), 2),
+        ),
+        (
+            &[
+                Step::Specify(X, 4),
+                Step::Specify(Y, 3),
+                Step::Specify(Y, 5),
+            ],
+            (
+                Err(DbFault::InInconsistent),
+                Err(QueryFault::Inconsistent),
+                2,
+            ),
+        ),
+        (
+            &[Step::Specify(X, 4), Step::Specify(Y, 3), Step::Undo],
+            (CONSISTENT, Ok((4, 10)), 1),
         ),
     ];
-    for (steps, expected) in &rows {
-        assert!(rt; after(rt.alloc(), steps) == Some(*expected));
-    }
+    assert!(rt; leave(rt.alloc(), &rows));
+}
+
+#[test]
+fn decisions_are_taken_out(rt: HostRuntime) {
+    let rows: [(&[Step], Left); 8] = [
+        (
+            &[Step::Specify(X, 4), Step::Reset(X)],
+            (CONSISTENT, Ok((0, 10)), 2),
+        ),
+        (
+            &[Step::Specify(X, 4), Step::Reset(Y)],
+            (Err(DbFault::NoSuchDecision), Ok((4, 10)), 1),
+        ),
+        // What stands behind stays.
+        (
+            &[Step::Specify(X, 4), Step::Specify(Y, 6), Step::Reset(X)],
+            (CONSISTENT, Ok((6, 6)), 3),
+        ),
+        // What left nothing goes.
+        (
+            &[Step::Specify(X, 4), Step::Specify(Y, 3), Step::Reset(Y)],
+            (CONSISTENT, Ok((4, 10)), 3),
+        ),
+        (
+            &[Step::Specify(X, 4), Step::Reset(X), Step::Undo],
+            (CONSISTENT, Ok((4, 10)), 1),
+        ),
+        (
+            &[Step::Specify(X, 4), Step::Backtrack],
+            (CONSISTENT, Ok((0, 10)), 0),
+        ),
+        (
+            &[Step::Specify(X, 4), Step::Reset(X), Step::Backtrack],
+            (Err(DbFault::Nothing), Ok((0, 10)), 2),
+        ),
+        (
+            &[Step::Specify(X, 4), Step::Rebuild],
+            (CONSISTENT, Ok((4, 10)), 1),
+        ),
+    ];
+    assert!(rt; leave(rt.alloc(), &rows));
+}
+
+// What is told of a database: whether it is consistent and whether it is behind, how many decisions stand, how many globals it
+// has, and what is said of one that isn't there.
+fn told(db: &Db) -> (bool, bool, usize, usize, Result<(i32, i32), QueryFault>) {
+    (
+        db.is_consistent(),
+        db.is_behind(),
+        db.decisions().len(),
+        db.model().problem.globals.len(),
+        ends(db, NONE),
+    )
+}
+
+// The same after one decision.
+fn told_after_one(
+    alloc: Global,
+) -> Option<(bool, bool, usize, usize, Result<(i32, i32), QueryFault>)> {
+    let Some(mut db) = started(alloc, ORDERED) else {
+        return None;
+    };
+    let _answer = specified(&mut db, X, 4);
+    Some(told(&db))
+}
+
+#[test]
+fn a_database_tells_of_itself(rt: HostRuntime) {
+    let expected = (true, false, 1, 2, Err(QueryFault::Unknown));
+    assert!(rt; told_after_one(rt.alloc()) == Some(expected));
 }

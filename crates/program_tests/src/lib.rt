@@ -3,8 +3,6 @@
 #![tactic(auto)]
 
 #[cfg(test)]
-mod database_tests;
-#[cfg(test)]
 mod line_tests;
 #[cfg(test)]
 mod problem_tests;
