@@ -1,8 +1,6 @@
-pub mod Deciding
-pub mod Stepping
-pub mod Existing
 pub mod Sessions
 pub mod Reading
 pub mod Values
+pub mod Checking
 pub mod Replying
 pub mod Scripts

@@ -10,7 +10,7 @@ use Rattle.model_core.specs.declared.decision.Decision.TheVariants.{Specify, Act
 use Rattle.model_core.specs.declared.model.Model.{Model}
 use Rattle.model_core.specs.declared.variable.Base.TheVariants.{Given}
 use Rattle.model_core.specs.declared.variable.VarDecl.{VarDecl}
-use Rattle.plan_db.specs.Built.{IsBuilt, IsRangeVariable}
+use Rattle.range_problem.specs.Ranges.{IsOfRanges, IsRangeVariable}
 use Rattle.plan_defs.specs.Refusals.{IsDeclared}
 use Rattle.plan_defs.proofs.Members.{get_all, get_same, get_within}
 
@@ -64,11 +64,11 @@ between_or_not lo hi value =
     by_lt_z value lo (λ low. inr (λ has. omega (arith, ints, low, has.0)))
     (λ above. by_lt_z hi value (λ high. inr (λ has. omega (arith, ints, high, has.1))) (λ below. inl (above, below)))
 
-pub declared_or_not : (model : Model) (number : ℕ) (value : ℤ) → IsBuilt model → number < length model.problem.globals
+pub declared_or_not : (model : Model) (number : ℕ) (value : ℤ) → IsOfRanges model → number < length model.problem.globals
     → OrNot (IsDeclared model (Global number) value)
-declared_or_not model number value built within =
+declared_or_not model number value ranged within =
     let at = get_within model.problem.globals number within in
-    let range = (get_all IsRangeVariable model.problem.globals number at.0 built.variables at.1).1 in
+    let range = (get_all IsRangeVariable model.problem.globals number at.0 ranged.variables at.1).1 in
     by_value at.0 at.1 range.0 range.1 range.2 (between_or_not range.0 range.1 value)
   where
     by_value : (variable : VarDecl) → slice_get model.problem.globals number ≡ Some variable → (lo hi : ℤ) → variable.base ≡ Given (domains.Range lo hi)

@@ -3,15 +3,21 @@ use Rattle.std.specs.Prelude.{ℕ, List}
 use Rattle.line_session.specs.declared.reply.Answer.{Answer}
 use Rattle.model_core.specs.declared.model.Model.{Model}
 use Rattle.plan_db.specs.Database.{Database, IsSound}
+use Rattle.range_problem.specs.Ranges.{IsOfRanges}
 use Rattle.range_problem.specs.Spelling.{Spells}
 use Rattle.session_core.specs.Replies.{AnswersLine}
 use Rattle.europa_run.specs.declared.status.RunEnd.{RunEnd}
 use Rattle.europa_run.specs.Output.{ScriptOutput}
 
--- in a sound database each line has some answer, behind which the database is sound
+-- the database is sound, and its model one of ranges
+pub record IsSoundOfRanges (database : Database) : Type 0 where
+  pub sound : IsSound database
+  pub ranges : IsOfRanges database.model
+
+-- in such a database each line has some answer, behind which it is such a one
 abbrev pub EachLineIsAnswered : Type 0
-EachLineIsAnswered = (database : Database) (text : List ℕ) → IsSound database
-    → (answer : Answer) × (new : Database) × AnswersLine database text answer new × IsSound new
+EachLineIsAnswered = (database : Database) (text : List ℕ) → IsSoundOfRanges database
+    → (answer : Answer) × (new : Database) × AnswersLine database text answer new × IsSoundOfRanges new
 
 -- over each input the script of a problem that its text spells has an output, and an end
 abbrev pub HasSomeScriptOutput : Type 0

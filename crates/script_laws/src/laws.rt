@@ -2,7 +2,7 @@
 
 ghost use Rattle.script_laws.specs.Laws.{EachLineIsAnswered, HasSomeScriptOutput};
 
-/// A law: in a sound database each line has some answer, behind which the database is sound.
+/// A law: in a sound database of a model of ranges each line has some answer, behind which the database is such a one.
 pub fn each_line_has_some_reply()
     ensures { EachLineIsAnswered }
 {}

@@ -1,6 +1,5 @@
-use Rattle.script_laws.proofs.Existing.{least_or_collapsed}
 use Rattle.script_laws.proofs.Scripts.{has_some_script_output}
 use Rattle.script_laws.proofs.laws.a_script_has_an_output.Goals as goal
 
 pub returns : goal.returns
-returns c = has_some_script_output least_or_collapsed
+returns c = has_some_script_output
