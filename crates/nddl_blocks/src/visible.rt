@@ -1,0 +1,122 @@
+//! What names mean in a block of a rule.
+
+ghost use Rattle.std.specs.Prelude.{◌≡◌, ◌++◌, ◌∷◌, [], OnOk};
+ghost use Rattle.nddl_paths.specs.Paths.{around_of};
+ghost use Rattle.nddl_blocks.specs.Seeing.{seen_as, seen_until, token_alone, until_of, with_label, with_local, with_turn};
+
+use nddl_ast::name::Name;
+use nddl_paths::{Around, Denoted, Seen, TokenSort};
+use std::alloc::{AllocError, Global};
+use std::marker::Model;
+
+/// The variables of `foreach`, the locals and the labels that are seen, of each the innermost last, and the token whose
+/// rule it is.
+#[derive(Drop)]
+pub struct Visible {
+    turns: Vec<Seen>,
+    locals: Vec<Seen>,
+    labels: Vec<Seen>,
+    token: Option<TokenSort>,
+}
+
+/// How many of each sort are seen.
+#[derive(Clone, Copy)]
+pub struct SeenUntil {
+    turns: usize,
+    locals: usize,
+    labels: usize,
+}
+
+impl Model for Visible {
+    ghost use Rattle.std.specs.Prelude.{[]};
+    ghost use Rattle.nddl_paths.specs.Paths.{Surroundings};
+
+    ghost Value = { Surroundings };
+
+    ghost view = { λ inside. record {
+      formals = [];
+      turns = inside.turns.items;
+      locals = inside.locals.items;
+      labels = inside.labels.items;
+      token = inside.token;
+    } };
+}
+
+impl Visible {
+    /// The token alone.
+    pub fn new(alloc: Global, token: TokenSort) -> Visible
+        ensures { result ≡ token_alone token }
+    {
+        Visible {
+            turns: Vec::new(alloc),
+            locals: Vec::new(alloc),
+            labels: Vec::new(alloc),
+            token: Some(token),
+        }
+    }
+
+    pub fn around(&self) -> Around<'_>
+        ensures { around_of result ≡ self.now }
+    {
+        Around {
+            formals: &[],
+            turns: self.turns.as_slice(),
+            locals: self.locals.as_slice(),
+            labels: self.labels.as_slice(),
+            token: self.token,
+        }
+    }
+
+    /// A variable of `foreach` more.
+    pub fn see_turn(&mut self, name: &Name, meant: Denoted) -> Result<(), AllocError>
+        ensures { OnOk result (self.new ≡ with_turn self.old name.now meant) }
+    {
+        see(&mut self.turns, name, meant)
+    }
+
+    /// A local more.
+    pub fn see_local(&mut self, name: &Name, meant: Denoted) -> Result<(), AllocError>
+        ensures { OnOk result (self.new ≡ with_local self.old name.now meant) }
+    {
+        see(&mut self.locals, name, meant)
+    }
+
+    /// A label more.
+    pub fn see_label(&mut self, name: &Name, meant: Denoted) -> Result<(), AllocError>
+        ensures { OnOk result (self.new ≡ with_label self.old name.now meant) }
+    {
+        see(&mut self.labels, name, meant)
+    }
+
+    /// How many of each sort are seen.
+    pub fn until(&self) -> SeenUntil
+        ensures { result ≡ until_of self.now }
+    {
+        SeenUntil {
+            turns: self.turns.len(),
+            locals: self.locals.len(),
+            labels: self.labels.len(),
+        }
+    }
+
+    /// Without those that came since then.
+    pub fn forget(&mut self, until: SeenUntil)
+        ensures { self.new ≡ seen_until self.old until }
+    {
+        self.turns.truncate(until.turns);
+        self.locals.truncate(until.locals);
+        self.labels.truncate(until.labels);
+    }
+}
+
+// The name with what it means behind the others.
+fn see(seen: &mut Vec<Seen>, name: &Name, meant: Denoted) -> Result<(), AllocError>
+    ensures { OnOk result (seen.new.items ≡ seen.old.items ++ seen_as name.now meant ∷ []) }
+{
+    let text = name.text.copy()?;
+    seen.push(Seen {
+        name: text,
+        denoted: meant,
+    })?;
+    Ok(())
+}
