@@ -5,7 +5,7 @@ use Rattle.nddl_ast.specs.declared.name.Name.{Name}
 use Rattle.nddl_paths.specs.declared.denoted.Denoted.{Denoted}
 use Rattle.nddl_paths.specs.Paths.{Surroundings}
 use Rattle.nddl_blocks.specs.declared.visible.SeenUntil.{SeenUntil}
-use Rattle.nddl_blocks.specs.Seeing.{SeesMore, seen_as, seen_until, until_of, with_label, with_local, with_turn}
+use Rattle.nddl_blocks.specs.Seeing.{SeesMore, seen_as, seen_until, until_of, seeing_label, seeing_local, seeing_turn}
 
 -- nothing came
 pub sees_same : (around : Surroundings) → SeesMore around around
@@ -23,7 +23,7 @@ sees_same around = record {
 }
 
 -- a variable of `foreach` came
-pub sees_turn : (around : Surroundings) (name : Name) (meant : Denoted) → SeesMore around (with_turn around name meant)
+pub sees_turn : (around : Surroundings) (name : Name) (meant : Denoted) → SeesMore around (seeing_turn around name meant)
 sees_turn around name meant = record {
   turns = seen_as name meant ∷ [];
   locals = [];
@@ -38,7 +38,7 @@ sees_turn around name meant = record {
 }
 
 -- a local came
-pub sees_local : (around : Surroundings) (name : Name) (meant : Denoted) → SeesMore around (with_local around name meant)
+pub sees_local : (around : Surroundings) (name : Name) (meant : Denoted) → SeesMore around (seeing_local around name meant)
 sees_local around name meant = record {
   turns = [];
   locals = seen_as name meant ∷ [];
@@ -53,7 +53,7 @@ sees_local around name meant = record {
 }
 
 -- a label came
-pub sees_label : (around : Surroundings) (name : Name) (meant : Denoted) → SeesMore around (with_label around name meant)
+pub sees_label : (around : Surroundings) (name : Name) (meant : Denoted) → SeesMore around (seeing_label around name meant)
 sees_label around name meant = record {
   turns = [];
   locals = [];

@@ -30,7 +30,7 @@ use Rattle.nddl_scope.specs.Repeats.{repeated_fault}
 use Rattle.nddl_blocks.specs.declared.visible.SeenUntil.{SeenUntil}
 use Rattle.nddl_blocks.specs.Blocks.{block_faults, local_faults, local_value, slot_faults, slot_value, turn_faults, turn_value}
 use Rattle.nddl_blocks.specs.Rules.{all_rule_faults, decl_rule_faults, member_rule_faults, members_rule_faults}
-use Rattle.nddl_blocks.specs.Seeing.{SeesMore, seen_until, until_of, with_label, with_local, with_turn}
+use Rattle.nddl_blocks.specs.Seeing.{SeesMore, seen_until, until_of, seeing_label, seeing_local, seeing_turn}
 use Rattle.nddl_blocks.proofs.Seeing.{forgotten, sees_label, sees_local, sees_same, sees_turn}
 
 -- the item that is read, and those behind it
@@ -63,33 +63,33 @@ three_on one two three rest old new noted =
 pub declared_on : {X E : Type 0} (facts : Facts) (decl : ℕ) (around next : Surroundings) (own further : Noted) (variable : Variable)
     (old new : Option Fault) (result : Result X E)
     → OnOk result (new ≡ earliest_fault old (local_faults facts around decl own variable))
-    → OnOk result (next ≡ with_local around variable.name (local_value facts variable))
+    → OnOk result (next ≡ seeing_local around variable.name (local_value facts variable))
     → OnOk result (further ≡ with_noted own variable.name.text 0)
     → OnOk result ((more : Statements) → earliest_fault new (block_faults facts decl next further more)
     ≡ earliest_fault old (block_faults facts decl around own (Declares variable more)))
 declared_on facts decl around next own further variable old new (Err e) noted seen named = tt
 declared_on facts decl around next own further variable old new (Ok done) noted seen named = λ more.
     noted_on (local_faults facts around decl own variable)
-    (block_faults facts decl (with_local around variable.name (local_value facts variable)) (with_noted own variable.name.text 0) more)
+    (block_faults facts decl (seeing_local around variable.name (local_value facts variable)) (with_noted own variable.name.text 0) more)
     (block_faults facts decl next further more) old new noted
     (ap (λ a. block_faults facts decl a further more) seen
-    ∙ ap (λ o. block_faults facts decl (with_local around variable.name (local_value facts variable)) o more) named)
+    ∙ ap (λ o. block_faults facts decl (seeing_local around variable.name (local_value facts variable)) o more) named)
 
 -- a slot with a label
 pub asked_on : {X E : Type 0} (facts : Facts) (decl : ℕ) (around next : Surroundings) (own further : Noted) (ask : Ask)
     (old new : Option Fault) (result : Result X E)
     → OnOk result (new ≡ earliest_fault old (slot_faults facts around decl own ask))
-    → OnOk result (next ≡ with_label around ask.label (slot_value facts around ask))
+    → OnOk result (next ≡ seeing_label around ask.label (slot_value facts around ask))
     → OnOk result (further ≡ with_noted own ask.label.text 0)
     → OnOk result ((more : Statements) → earliest_fault new (block_faults facts decl next further more)
     ≡ earliest_fault old (block_faults facts decl around own (Asks ask more)))
 asked_on facts decl around next own further ask old new (Err e) noted seen named = tt
 asked_on facts decl around next own further ask old new (Ok done) noted seen named = λ more.
     noted_on (slot_faults facts around decl own ask)
-    (block_faults facts decl (with_label around ask.label (slot_value facts around ask)) (with_noted own ask.label.text 0) more)
+    (block_faults facts decl (seeing_label around ask.label (slot_value facts around ask)) (with_noted own ask.label.text 0) more)
     (block_faults facts decl next further more) old new noted
     (ap (λ a. block_faults facts decl a further more) seen
-    ∙ ap (λ o. block_faults facts decl (with_label around ask.label (slot_value facts around ask)) o more) named)
+    ∙ ap (λ o. block_faults facts decl (seeing_label around ask.label (slot_value facts around ask)) o more) named)
 
 -- a call
 pub called_on : {X E : Type 0} (facts : Facts) (decl : ℕ) (around lent : Surroundings) (own : Noted) (call : Call)
@@ -130,13 +130,13 @@ chosen_on facts decl around next own at condition then otherwise old new (Ok don
 pub turned_on : {X E : Type 0} (facts : Facts) (decl : ℕ) (around next : Surroundings) (own : Noted) (at : ℕ) (variable class : Name)
     (body : Braces) (old new : Option Fault) (result : Result X E)
     → OnOk result (new ≡ earliest_fault old (turn_faults facts decl class
-    ++ block_faults facts decl (with_turn around variable (turn_value facts class)) [] body.statements))
+    ++ block_faults facts decl (seeing_turn around variable (turn_value facts class)) [] body.statements))
     → OnOk result (next ≡ around)
     → OnOk result ((more : Statements) → earliest_fault new (block_faults facts decl next own more)
     ≡ earliest_fault old (block_faults facts decl around own (Repeats at variable class body.at body.statements more)))
 turned_on facts decl around next own at variable class body old new (Err e) noted seen = tt
 turned_on facts decl around next own at variable class body old new (Ok done) noted seen = λ more.
-    let inside = block_faults facts decl (with_turn around variable (turn_value facts class)) [] body.statements in
+    let inside = block_faults facts decl (seeing_turn around variable (turn_value facts class)) [] body.statements in
     let behind = block_faults facts decl around own more in
     ap (λ a. earliest_fault new (block_faults facts decl a own more)) seen
     ∙ (ap (λ o. earliest_fault o behind) noted
@@ -162,13 +162,13 @@ sees_if_same around next (Err e) seen = tt
 sees_if_same around next (Ok done) seen = subst (SeesMore around) (sym seen) (sees_same around)
 
 pub sees_declared : {X E : Type 0} (facts : Facts) (around next : Surroundings) (variable : Variable) (result : Result X E)
-    → OnOk result (next ≡ with_local around variable.name (local_value facts variable)) → OnOk result (SeesMore around next)
+    → OnOk result (next ≡ seeing_local around variable.name (local_value facts variable)) → OnOk result (SeesMore around next)
 sees_declared facts around next variable (Err e) seen = tt
 sees_declared facts around next variable (Ok done) seen =
     subst (SeesMore around) (sym seen) (sees_local around variable.name (local_value facts variable))
 
 pub sees_asked : {X E : Type 0} (facts : Facts) (around next : Surroundings) (ask : Ask) (result : Result X E)
-    → OnOk result (next ≡ with_label around ask.label (slot_value facts around ask)) → OnOk result (SeesMore around next)
+    → OnOk result (next ≡ seeing_label around ask.label (slot_value facts around ask)) → OnOk result (SeesMore around next)
 sees_asked facts around next ask (Err e) seen = tt
 sees_asked facts around next ask (Ok done) seen =
     subst (SeesMore around) (sym seen) (sees_label around ask.label (slot_value facts around ask))
@@ -242,17 +242,17 @@ seen_still around next last (Ok done) next_is last_is = last_is ∙ next_is
 pub turned_step : (facts : Facts) (decl : ℕ) (around inner : Surroundings) (variable class : Name) (meant : Denoted) (body : Braces)
     (one two three : Option Fault)
     → two ≡ earliest_fault one (turn_faults facts decl class) → meant ≡ turn_value facts class
-    → inner ≡ with_turn around variable meant → three ≡ earliest_fault two (block_faults facts decl inner [] body.statements)
+    → inner ≡ seeing_turn around variable meant → three ≡ earliest_fault two (block_faults facts decl inner [] body.statements)
     → three ≡ earliest_fault one (turn_faults facts decl class
-    ++ block_faults facts decl (with_turn around variable (turn_value facts class)) [] body.statements)
+    ++ block_faults facts decl (seeing_turn around variable (turn_value facts class)) [] body.statements)
 turned_step facts decl around inner variable class meant body one two three class_is meant_is inner_is body_is =
-    noted_both (turn_faults facts decl class) (block_faults facts decl (with_turn around variable (turn_value facts class)) [] body.statements)
+    noted_both (turn_faults facts decl class) (block_faults facts decl (seeing_turn around variable (turn_value facts class)) [] body.statements)
     one two three class_is
-    (body_is ∙ ap (λ a. earliest_fault two (block_faults facts decl a [] body.statements)) (inner_is ∙ ap (with_turn around variable) meant_is))
+    (body_is ∙ ap (λ a. earliest_fault two (block_faults facts decl a [] body.statements)) (inner_is ∙ ap (seeing_turn around variable) meant_is))
 
 -- the turn is forgotten
 pub turn_forgotten : (around inner after new : Surroundings) (until : SeenUntil) (variable : Name) (meant : Denoted)
-    → until ≡ until_of around → inner ≡ with_turn around variable meant → after ≡ inner → new ≡ seen_until after until → new ≡ around
+    → until ≡ until_of around → inner ≡ seeing_turn around variable meant → after ≡ inner → new ≡ seen_until after until → new ≡ around
 turn_forgotten around inner after new until variable meant until_is inner_is after_is new_is =
     forgotten around after new until until_is (subst (SeesMore around) (sym (after_is ∙ inner_is)) (sees_turn around variable meant)) new_is
 
@@ -284,10 +284,10 @@ slot_step facts decl around lent own ask one two three (Ok done) lent_is ask_is 
 -- the label is seen
 pub slot_seen : {X E : Type 0} (facts : Facts) (around lent next : Surroundings) (ask : Ask) (found : Understood) (meant : Denoted) (result : Result X E)
     → lent ≡ around → found ≡ labelled_slot facts lent ask.path → meant ≡ settled found
-    → OnOk result (next ≡ with_label around ask.label meant) → OnOk result (next ≡ with_label around ask.label (slot_value facts around ask))
+    → OnOk result (next ≡ seeing_label around ask.label meant) → OnOk result (next ≡ seeing_label around ask.label (slot_value facts around ask))
 slot_seen facts around lent next ask found meant (Err e) lent_is found_is meant_is next_is = tt
 slot_seen facts around lent next ask found meant (Ok done) lent_is found_is meant_is next_is =
-    next_is ∙ ap (with_label around ask.label)
+    next_is ∙ ap (seeing_label around ask.label)
     (meant_is ∙ ap settled (found_is ∙ ap (λ a. labelled_slot facts a ask.path) lent_is))
 
 -- an `if` before other statements

@@ -22,7 +22,7 @@ use Rattle.nddl_paths.specs.Steps.{settled}
 use Rattle.nddl_arguments.specs.Arguments.{condition_faults, init_faults}
 use Rattle.nddl_arguments.specs.Calls.{rule_call_faults}
 use Rattle.nddl_arguments.specs.Slots.{ask_faults, labelled_slot}
-use Rattle.nddl_blocks.specs.Seeing.{with_label, with_local, with_turn}
+use Rattle.nddl_blocks.specs.Seeing.{seeing_label, seeing_local, seeing_turn}
 
 -- ---- single statements
 
@@ -68,13 +68,13 @@ abbrev pub block_faults : Facts → ℕ → Surroundings → Noted → Statement
 block_faults facts decl around own Nothing = []
 block_faults facts decl around own (Declares variable more) =
     local_faults facts around decl own variable
-    ++ block_faults facts decl (with_local around variable.name (local_value facts variable))
+    ++ block_faults facts decl (seeing_local around variable.name (local_value facts variable))
     (with_noted own variable.name.text 0) more
 block_faults facts decl around own (Calls call more) =
     rule_call_faults facts around decl call ++ block_faults facts decl around own more
 block_faults facts decl around own (Asks ask more) =
     slot_faults facts around decl own ask
-    ++ block_faults facts decl (with_label around ask.label (slot_value facts around ask)) (with_noted own ask.label.text 0) more
+    ++ block_faults facts decl (seeing_label around ask.label (slot_value facts around ask)) (with_noted own ask.label.text 0) more
 block_faults facts decl around own (Tests at condition then_at then more) =
     condition_faults facts around decl condition
     ++ (block_faults facts decl around [] then ++ block_faults facts decl around own more)
@@ -84,5 +84,5 @@ block_faults facts decl around own (Chooses at condition then_at then else_at el
     ++ (block_faults facts decl around [] else ++ block_faults facts decl around own more))
 block_faults facts decl around own (Repeats at name class body_at body more) =
     turn_faults facts decl class
-    ++ (block_faults facts decl (with_turn around name (turn_value facts class)) [] body
+    ++ (block_faults facts decl (seeing_turn around name (turn_value facts class)) [] body
     ++ block_faults facts decl around own more)

@@ -16,8 +16,8 @@ abbrev pub seen_as : Name → Denoted → Seen
 seen_as name meant = record { name = name.text; denoted = meant }
 
 -- a variable of `foreach` more
-abbrev pub with_turn : Surroundings → Name → Denoted → Surroundings
-with_turn around name meant = record {
+abbrev pub seeing_turn : Surroundings → Name → Denoted → Surroundings
+seeing_turn around name meant = record {
   formals = around.formals;
   turns = around.turns ++ seen_as name meant ∷ [];
   locals = around.locals;
@@ -26,8 +26,8 @@ with_turn around name meant = record {
 }
 
 -- a local more
-abbrev pub with_local : Surroundings → Name → Denoted → Surroundings
-with_local around name meant = record {
+abbrev pub seeing_local : Surroundings → Name → Denoted → Surroundings
+seeing_local around name meant = record {
   formals = around.formals;
   turns = around.turns;
   locals = around.locals ++ seen_as name meant ∷ [];
@@ -36,8 +36,8 @@ with_local around name meant = record {
 }
 
 -- a label more
-abbrev pub with_label : Surroundings → Name → Denoted → Surroundings
-with_label around name meant = record {
+abbrev pub seeing_label : Surroundings → Name → Denoted → Surroundings
+seeing_label around name meant = record {
   formals = around.formals;
   turns = around.turns;
   locals = around.locals;

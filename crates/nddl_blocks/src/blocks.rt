@@ -9,7 +9,7 @@ ghost use Rattle.nddl_scope.specs.Index.{with_noted};
 ghost use Rattle.nddl_lines.specs.Facts.{facts_of};
 ghost use Rattle.nddl_classes.specs.Classes.{class_meaning_fault};
 ghost use Rattle.nddl_blocks.specs.Blocks.{block_faults, local_faults, local_value, object_unless, slot_faults, slot_value, turn_faults, turn_value};
-ghost use Rattle.nddl_blocks.specs.Seeing.{SeesMore, with_label, with_local, with_turn};
+ghost use Rattle.nddl_blocks.specs.Seeing.{SeesMore, seeing_label, seeing_local, seeing_turn};
 
 use super::visible::Visible;
 use nddl_arguments::{labelled_slot, note_ask, note_condition, note_init, note_rule_call};
@@ -154,7 +154,7 @@ fn note_turns(
     ensures faults { OnOk result (first.new ≡ earliest_fault first.old
         (turn_faults (facts_of basis.now) decl class.now
         ++ block_faults (facts_of basis.now) decl
-        (with_turn visible.old variable.now (turn_value (facts_of basis.now) class.now)) [] body.now.statements)) }
+        (seeing_turn visible.old variable.now (turn_value (facts_of basis.now) class.now)) [] body.now.statements)) }
     ensures seen { OnOk result (visible.new ≡ visible.old) }
 {
     let until = visible.until();
@@ -220,7 +220,7 @@ fn note_local(
     ensures faults { OnOk result (first.new ≡ earliest_fault first.old
         (local_faults (facts_of basis.now) visible.old decl own.old variable.now)) }
     ensures seen { OnOk result (visible.new
-        ≡ with_local visible.old variable.now.name (local_value (facts_of basis.now) variable.now)) }
+        ≡ seeing_local visible.old variable.now.name (local_value (facts_of basis.now) variable.now)) }
     ensures noted { OnOk result (own.new ≡ with_noted own.old variable.now.name.text 0) }
 {
     note_all_type_faults(alloc, basis, decl, &variable.declared, first)?;
@@ -252,7 +252,7 @@ fn note_slot(
     ensures faults { OnOk result (first.new ≡ earliest_fault first.old
         (slot_faults (facts_of basis.now) visible.old decl own.old ask.now)) }
     ensures seen { OnOk result (visible.new
-        ≡ with_label visible.old ask.now.label (slot_value (facts_of basis.now) visible.old ask.now)) }
+        ≡ seeing_label visible.old ask.now.label (slot_value (facts_of basis.now) visible.old ask.now)) }
     ensures noted { OnOk result (own.new ≡ with_noted own.old ask.now.label.text 0) }
 {
     note_ask(alloc, basis, &visible.around(), decl, ask, first)?;

@@ -2,7 +2,7 @@
 
 ghost use Rattle.std.specs.Prelude.{◌≡◌, ◌++◌, ◌∷◌, [], OnOk};
 ghost use Rattle.nddl_paths.specs.Paths.{around_of};
-ghost use Rattle.nddl_blocks.specs.Seeing.{seen_as, seen_until, token_alone, until_of, with_label, with_local, with_turn};
+ghost use Rattle.nddl_blocks.specs.Seeing.{seen_as, seen_until, token_alone, until_of, seeing_label, seeing_local, seeing_turn};
 
 use nddl_ast::name::Name;
 use nddl_paths::{Around, Denoted, Seen, TokenSort};
@@ -69,21 +69,21 @@ impl Visible {
 
     /// A variable of `foreach` more.
     pub fn see_turn(&mut self, name: &Name, meant: Denoted) -> Result<(), AllocError>
-        ensures { OnOk result (self.new ≡ with_turn self.old name.now meant) }
+        ensures { OnOk result (self.new ≡ seeing_turn self.old name.now meant) }
     {
         see(&mut self.turns, name, meant)
     }
 
     /// A local more.
     pub fn see_local(&mut self, name: &Name, meant: Denoted) -> Result<(), AllocError>
-        ensures { OnOk result (self.new ≡ with_local self.old name.now meant) }
+        ensures { OnOk result (self.new ≡ seeing_local self.old name.now meant) }
     {
         see(&mut self.locals, name, meant)
     }
 
     /// A label more.
     pub fn see_label(&mut self, name: &Name, meant: Denoted) -> Result<(), AllocError>
-        ensures { OnOk result (self.new ≡ with_label self.old name.now meant) }
+        ensures { OnOk result (self.new ≡ seeing_label self.old name.now meant) }
     {
         see(&mut self.labels, name, meant)
     }
