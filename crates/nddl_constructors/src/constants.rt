@@ -1,0 +1,128 @@
+//! What is wrong with values that have to be constants of some kind.
+
+ghost use Rattle.std.specs.Prelude.{◌≡◌, IfOk, OnOk};
+ghost use Rattle.nddl_scope.specs.Finding.{earliest_fault};
+ghost use Rattle.nddl_lines.specs.Facts.{facts_of};
+ghost use Rattle.nddl_paths.specs.Paths.{around_of};
+ghost use Rattle.nddl_constructors.specs.Constants.{are_one_kind, constant_fault, constant_faults, constants_faults, is_understood, is_unwanted, value_faults, wanted_at};
+
+use nddl_ast::TextKind;
+use nddl_ast::expression::Expr;
+use nddl_lines::Basis;
+use nddl_paths::{Around, Denoted, PathFault, expr_denoted};
+use nddl_scope::Fault;
+use nddl_scope::fault::note_at;
+use nddl_scope::twice::kind_if;
+use nddl_sorts::TypeKind;
+use std::alloc::{AllocError, Global};
+
+/// Whether two kinds are the same. All objects are of one.
+pub fn are_one_kind(one: TypeKind, other: TypeKind) -> bool
+    ensures { result ≡ are_one_kind one other }
+{
+    match (one, other) {
+        (TypeKind::Int, TypeKind::Int) => true,
+        (TypeKind::Bool, TypeKind::Bool) => true,
+        (TypeKind::Enum(one), TypeKind::Enum(other)) => one == other,
+        (TypeKind::Object(_), TypeKind::Object(_)) => true,
+        _ => false,
+    }
+}
+
+// Whether another kind is wanted.
+fn is_unwanted(wanted: Option<TypeKind>, kind: TypeKind) -> bool
+    ensures { result ≡ is_unwanted wanted kind }
+{
+    match wanted {
+        Some(wanted) => !are_one_kind(wanted, kind),
+        None => false,
+    }
+}
+
+// What is wrong with what a value means, where a constant of this kind is wanted.
+fn constant_fault(wanted: Option<TypeKind>, denoted: Denoted) -> Option<TextKind>
+    ensures { result ≡ constant_fault wanted denoted }
+{
+    match denoted {
+        Denoted::Value { kind, constant } => kind_if(
+            !constant || is_unwanted(wanted, kind),
+            TextKind::WrongType,
+        ),
+        Denoted::Token(_) => Some(TextKind::WrongType),
+        Denoted::Class(_) => Some(TextKind::WrongType),
+        Denoted::Unsettled => None,
+    }
+}
+
+/// Whether it means something, and nothing is wrong with that, where a constant of this kind is wanted.
+pub fn is_understood(wanted: Option<TypeKind>, found: Result<Denoted, PathFault>) -> bool
+    ensures { result ≡ is_understood wanted found }
+{
+    match found {
+        Ok(denoted) => constant_fault(wanted, denoted).is_none(),
+        Err(_) => false,
+    }
+}
+
+// Notes what is wrong with what a value means, or with it by itself.
+fn note_understood(
+    decl: usize,
+    wanted: Option<TypeKind>,
+    at: u32,
+    found: Result<Denoted, PathFault>,
+    first: &mut Option<Fault>,
+)
+    ensures { first.new ≡ earliest_fault first.old (constant_faults decl wanted at found) }
+{
+    match found {
+        Ok(denoted) => note_at(first, decl, at, constant_fault(wanted, denoted)),
+        Err(fault) => note_at(first, decl, fault.at, Some(fault.kind)),
+    }
+}
+
+/// Notes all that is wrong with an argument, or with what a field is set to.
+#[tactic(auto, unfolding(crate::specs::Constants::value_faults))]
+pub fn note_value(
+    alloc: Global,
+    basis: &Basis<'_>,
+    around: &Around<'_>,
+    decl: usize,
+    wanted: Option<TypeKind>,
+    expr: &Expr,
+    first: &mut Option<Fault>,
+) -> Result<(), AllocError>
+    ensures { OnOk result (first.new ≡ earliest_fault first.old
+        (value_faults (facts_of basis.now) (around_of around.now) decl wanted expr.now)) }
+{
+    let found = expr_denoted(alloc, basis, around, expr)?;
+    note_understood(decl, wanted, expr.place(), found, first);
+    Ok(())
+}
+
+/// Notes all that is wrong with arguments by themselves, where these kinds are wanted.
+#[tactic(auto, using(nddl_scope::proofs::Earliest::earliest_append))]
+pub fn note_arguments(
+    alloc: Global,
+    basis: &Basis<'_>,
+    around: &Around<'_>,
+    decl: usize,
+    wants: &[Option<TypeKind>],
+    arguments: &[Expr],
+    first: &mut Option<Fault>,
+) -> Result<(), AllocError>
+    ensures { OnOk result (first.new ≡ earliest_fault first.old
+        (constants_faults (facts_of basis.now) (around_of around.now) decl wants.now 0 arguments.now)) }
+{
+    for (number, argument) in arguments.iter().enumerate() {
+        let wanted = wanted_at(wants, number);
+        note_value(alloc, basis, around, decl, wanted, argument, first)?;
+    }
+    Ok(())
+}
+
+/// The kind that is wanted at this place.
+pub fn wanted_at(wants: &[Option<TypeKind>], number: usize) -> Option<TypeKind>
+    ensures { result ≡ wanted_at wants.now number }
+{
+    *wants.get(number)?
+}

@@ -1,0 +1,207 @@
+//! What is wrong with `new` and what stands behind it.
+
+ghost use Rattle.std.specs.Prelude.{◌≡◌, IfOk, OnOk};
+ghost use Rattle.nddl_ast.specs.declared.expression.Init.TheVariants.{New};
+ghost use Rattle.nddl_classes.specs.Classes.{class_meaning_fault};
+ghost use Rattle.nddl_scope.specs.Finding.{earliest_fault};
+ghost use Rattle.nddl_lines.specs.Facts.{facts_of};
+ghost use Rattle.nddl_paths.specs.Paths.{around_of};
+ghost use Rattle.nddl_constructors.specs.Creations.{class_alone, creation_faults, creation_faults_by, set_to_faults, is_no_object, is_of_class, is_wrong_count, made_fault, meaning_wants};
+
+use super::constants::{note_arguments, note_value};
+use super::wants::class_wants;
+use nddl_ast::TextKind;
+use nddl_ast::expression::{Creation, Init};
+use nddl_lines::Basis;
+use nddl_lines::lines::{is_same_meaning, is_under};
+use nddl_paths::Around;
+use nddl_scope::fault::note_at;
+use nddl_scope::twice::kind_if;
+use nddl_scope::{Fault, Meaning, Scope};
+use nddl_sorts::TypeKind;
+use std::alloc::{AllocError, Global};
+
+// What is wrong with what means this as a class.
+fn class_fault(scope: &Scope, meaning: Option<Meaning>) -> Option<TextKind>
+    ensures { result ≡ class_meaning_fault scope.now meaning }
+{
+    match meaning {
+        None => Some(TextKind::Unknown),
+        Some(Meaning::BuiltIn(_)) => None,
+        Some(Meaning::Entry(entry)) => {
+            if scope.is_class(entry) {
+                None
+            } else {
+                Some(TextKind::WrongType)
+            }
+        }
+    }
+}
+
+/// What means this, if it is a class.
+pub fn class_alone(scope: &Scope, meaning: Option<Meaning>) -> Option<Meaning>
+    ensures { result ≡ class_alone scope.now meaning }
+{
+    if class_fault(scope, meaning).is_none() {
+        meaning
+    } else {
+        None
+    }
+}
+
+/// The kinds of the arguments that are wanted of what means this.
+pub fn meaning_wants(
+    alloc: Global,
+    basis: &Basis<'_>,
+    meaning: Option<Meaning>,
+) -> Result<Vec<Option<TypeKind>>, AllocError>
+    ensures { IfOk result (λ wants. wants.items ≡ meaning_wants (facts_of basis.now) meaning) }
+{
+    match meaning {
+        Some(class) => class_wants(alloc, basis, class),
+        None => Ok(Vec::new(alloc)),
+    }
+}
+
+/// Whether what is of the second class is of the first one, too.
+pub fn is_of_class(
+    alloc: Global,
+    basis: &Basis<'_>,
+    class: Meaning,
+    made: Meaning,
+) -> Result<bool, AllocError>
+    ensures { IfOk result (λ so. so ≡ is_of_class (facts_of basis.now) class made) }
+{
+    match made {
+        Meaning::BuiltIn(number) => Ok(
+            is_same_meaning(class, Meaning::BuiltIn(0))
+                || is_same_meaning(class, Meaning::BuiltIn(number)),
+        ),
+        Meaning::Entry(entry) => is_under(
+            alloc,
+            basis.types.scope,
+            basis.decls,
+            basis.parents,
+            class,
+            entry,
+        ),
+    }
+}
+
+/// What is wrong with what stands behind `new`, where it means this.
+pub fn made_fault(
+    scope: &Scope,
+    meaning: Option<Meaning>,
+    wants: &[Option<TypeKind>],
+    count: usize,
+) -> Option<TextKind>
+    ensures { result ≡ made_fault scope.now meaning wants.now count }
+{
+    match class_fault(scope, meaning) {
+        Some(fault) => Some(fault),
+        None => kind_if(wants.len() != count, TextKind::WrongCount),
+    }
+}
+
+/// Notes all that is wrong with the `new`.
+#[tactic(auto, unfolding(crate::specs::Creations::creation_faults))]
+pub fn note_creation(
+    alloc: Global,
+    basis: &Basis<'_>,
+    around: &Around<'_>,
+    decl: usize,
+    creation: &Creation,
+    first: &mut Option<Fault>,
+) -> Result<(), AllocError>
+    ensures { OnOk result (first.new ≡ earliest_fault first.old
+        (creation_faults (facts_of basis.now) (around_of around.now) decl creation.now)) }
+{
+    let scope = basis.types.scope;
+    let meaning = scope.meaning(&creation.class.text);
+    let wants = meaning_wants(alloc, basis, class_alone(scope, meaning))?;
+    note_creation_by(
+        alloc,
+        basis,
+        around,
+        decl,
+        creation,
+        meaning,
+        wants.as_slice(),
+        first,
+    )
+}
+
+// Notes the same, where its class means this, and wants these arguments.
+#[tactic(auto, using(nddl_scope::proofs::Earliest::earliest_append))]
+fn note_creation_by(
+    alloc: Global,
+    basis: &Basis<'_>,
+    around: &Around<'_>,
+    decl: usize,
+    creation: &Creation,
+    meaning: Option<Meaning>,
+    wants: &[Option<TypeKind>],
+    first: &mut Option<Fault>,
+) -> Result<(), AllocError>
+    ensures { OnOk result (first.new ≡ earliest_fault first.old
+        (creation_faults_by (facts_of basis.now) (around_of around.now) decl creation.now meaning wants.now)) }
+{
+    let arguments = creation.arguments.as_slice();
+    let fault = made_fault(basis.types.scope, meaning, wants, arguments.len());
+    note_at(first, decl, creation.class.at, fault);
+    note_arguments(alloc, basis, around, decl, wants, arguments, first)
+}
+
+/// Whether something else than an object is wanted.
+pub fn is_no_object(wanted: Option<TypeKind>) -> bool
+    ensures { result ≡ is_no_object wanted }
+{
+    match wanted {
+        None => false,
+        Some(TypeKind::Object(_)) => false,
+        Some(_) => true,
+    }
+}
+
+/// Notes all that is wrong with what stands behind `=`, where this is wanted.
+#[tactic(auto, using(nddl_scope::proofs::Earliest::earliest_append))]
+pub fn note_init(
+    alloc: Global,
+    basis: &Basis<'_>,
+    around: &Around<'_>,
+    decl: usize,
+    wanted: Option<TypeKind>,
+    init: &Init,
+    first: &mut Option<Fault>,
+) -> Result<(), AllocError>
+    ensures { OnOk result (first.new ≡ earliest_fault first.old
+        (set_to_faults (facts_of basis.now) (around_of around.now) decl wanted init.now)) }
+{
+    match init {
+        Init::Expr(expr) => note_value(alloc, basis, around, decl, wanted, expr, first),
+        Init::New(creation) => note_made(alloc, basis, around, decl, wanted, creation, first),
+    }
+}
+
+/// Notes all that is wrong with a `new` behind `=`, where this is wanted.
+#[tactic(auto, using(nddl_scope::proofs::Earliest::earliest_append))]
+pub fn note_made(
+    alloc: Global,
+    basis: &Basis<'_>,
+    around: &Around<'_>,
+    decl: usize,
+    wanted: Option<TypeKind>,
+    creation: &Creation,
+    first: &mut Option<Fault>,
+) -> Result<(), AllocError>
+    ensures { OnOk result (first.new ≡ earliest_fault first.old
+        (set_to_faults (facts_of basis.now) (around_of around.now) decl wanted (New creation.now))) }
+{
+    note_at(
+        first,
+        decl,
+        creation.at,
+        kind_if(is_no_object(wanted), TextKind::WrongType),
+    );
+    note_creation(alloc, basis, around, decl, creation, first)
+}

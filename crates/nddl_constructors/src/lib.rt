@@ -1,0 +1,13 @@
+//! What is wrong with the text of what makes the objects of a program: `note_written(alloc, basis, &mut first)?` notes it
+//! of the bodies of constructors, whether they are ever run or not, and of each `new` outside of them. Which arguments a
+//! class wants is `class_wants(alloc, basis, class)?`. No object is made here.
+#![tactic(auto)]
+
+pub mod bodies;
+pub mod constants;
+pub mod creations;
+pub mod objects;
+pub mod wants;
+
+pub use objects::note_written;
+pub use wants::class_wants;

@@ -1,0 +1,137 @@
+//! Which arguments a class wants where an object of it is made.
+
+ghost use Rattle.std.specs.Prelude.{◌≡◌, ◌++◌, ◌∷◌, [], Some, IfOk, OnOk, map};
+ghost use Rattle.nddl_sorts.specs.declared.kind.TypeKind.TheVariants.{Int};
+ghost use Rattle.std.specs.Option.{option_copied};
+ghost use Rattle.nddl_lines.specs.Facts.{facts_of};
+ghost use Rattle.nddl_constructors.specs.Wants.{builtin_along, builtin_wants, class_wants, formal_kind, line_formals, line_wants, member_formals, own_formals};
+
+use eu_name::sequence::Sequence;
+use nddl_ast::declaration::{Decl, Member, Typed};
+use nddl_inherited::members_of;
+use nddl_lines::Basis;
+use nddl_lines::lines::{above, ancestry};
+use nddl_scope::{Meaning, Scope};
+use nddl_sorts::TypeKind;
+use nddl_sorts::base::base_kind;
+use std::alloc::{AllocError, Global};
+
+/// The kinds of the arguments that the class wants, each if it is known.
+#[tactic(auto, unfolding(crate::specs::Wants::class_wants))]
+pub fn class_wants(
+    alloc: Global,
+    basis: &Basis<'_>,
+    class: Meaning,
+) -> Result<Vec<Option<TypeKind>>, AllocError>
+    ensures { IfOk result (λ wants. wants.items ≡ class_wants (facts_of basis.now) class) }
+{
+    match class {
+        Meaning::BuiltIn(number) => builtin_wants(alloc, number),
+        Meaning::Entry(entry) => {
+            let line = ancestry(alloc, basis.parents, entry)?;
+            line_wants(alloc, basis, line.as_slice())
+        }
+    }
+}
+
+// Those that a class with this line wants.
+fn line_wants(
+    alloc: Global,
+    basis: &Basis<'_>,
+    line: &[usize],
+) -> Result<Vec<Option<TypeKind>>, AllocError>
+    ensures { IfOk result (λ wants. wants.items ≡ line_wants (facts_of basis.now) line.now) }
+{
+    let scope = basis.types.scope;
+    match line_formals(scope, basis.decls, line) {
+        Some(formals) => formal_kinds(alloc, basis, formals.as_slice()),
+        None => builtin_wants(alloc, builtin_along(scope, basis.decls, line)),
+    }
+}
+
+// The kinds of these formals.
+fn formal_kinds(
+    alloc: Global,
+    basis: &Basis<'_>,
+    formals: &[Typed],
+) -> Result<Vec<Option<TypeKind>>, AllocError>
+    ensures { IfOk result (λ wants. wants.items ≡ map (formal_kind (facts_of basis.now)) formals.now) }
+{
+    let mut wants = Vec::new(alloc);
+    for typed in formals {
+        wants.push(base_kind(&basis.types, &typed.declared.base))?;
+    }
+    Ok(wants)
+}
+
+// Those that the built-in class of this number wants.
+fn builtin_wants(alloc: Global, number: u32) -> Result<Vec<Option<TypeKind>>, AllocError>
+    ensures { IfOk result (λ wants. wants.items ≡ builtin_wants number) }
+{
+    let mut wants = Vec::new(alloc);
+    if number == 2 {
+        wants.push(Some(TypeKind::Int))?;
+    } else if number == 3 {
+        push_levels(&mut wants)?;
+    }
+    Ok(wants)
+}
+
+// The three numbers of a reservoir.
+fn push_levels(wants: &mut Vec<Option<TypeKind>>) -> Result<(), AllocError>
+    ensures { OnOk result (wants.new.items ≡ wants.old.items ++ Some Int ∷ Some Int ∷ Some Int ∷ []) }
+{
+    wants.push(Some(TypeKind::Int))?;
+    wants.push(Some(TypeKind::Int))?;
+    wants.push(Some(TypeKind::Int))?;
+    Ok(())
+}
+
+// The formals of the first class of the line that has a constructor.
+fn line_formals<'a>(
+    scope: &Scope,
+    decls: &[&'a Decl],
+    line: &[usize],
+) -> Option<&'a Sequence<Typed>>
+    ensures { option_copied result ≡ line_formals scope.now (map (λ decl. decl.now) decls.now) line.now }
+{
+    for entry in line {
+        if let Some(formals) = own_formals(members_of(scope, decls, *entry)) {
+            return Some(formals);
+        }
+    }
+    None
+}
+
+// The formals of the first constructor among the members.
+fn own_formals(members: &[Member]) -> Option<&Sequence<Typed>>
+    ensures { option_copied result ≡ own_formals members.now }
+{
+    for member in members {
+        if let Some(formals) = member_formals(member) {
+            return Some(formals);
+        }
+    }
+    None
+}
+
+fn member_formals(member: &Member) -> Option<&Sequence<Typed>>
+    ensures { option_copied result ≡ member_formals member.now }
+{
+    match member {
+        Member::Constructor { formals, .. } => Some(formals),
+        _ => None,
+    }
+}
+
+/// The built-in class that a class of the line extends.
+pub fn builtin_along(scope: &Scope, decls: &[&Decl], line: &[usize]) -> u32
+    ensures { result ≡ builtin_along scope.now (map (λ decl. decl.now) decls.now) line.now }
+{
+    for entry in line {
+        if let Some(Meaning::BuiltIn(number)) = above(scope, decls, *entry) {
+            return number;
+        }
+    }
+    0
+}
