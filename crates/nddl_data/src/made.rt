@@ -1,0 +1,59 @@
+//! Values of fields, and the objects that are made so far.
+
+use eu_name::sequence::Sequence;
+use eu_name::text::Text;
+use nddl_lines::Basis;
+use nddl_paths::Seen;
+use nddl_scope::Meaning;
+
+/// A value that is settled.
+#[derive(Clone, Copy, Debug, PartialEq, Eq)]
+pub enum Datum {
+    Number(i32),
+    Truth(bool),
+    /// The member of an enum whose name in the scope has this number.
+    Member(usize),
+    /// The object of this number.
+    Object(usize),
+}
+
+/// A field with the value to which it is set; where something is wrong with that, there is none.
+#[derive(Drop)]
+pub struct FieldValue {
+    pub name: Text,
+    pub value: Option<Datum>,
+}
+
+/// An object that is made, with its fields in the order in which they were set.
+#[derive(Drop)]
+pub struct MadeObject {
+    pub name: Text,
+    /// The number of its name in the scope, if it is declared there.
+    pub entry: Option<usize>,
+    pub class: Meaning,
+    pub fields: Sequence<FieldValue>,
+}
+
+/// What a name of the files stands for where objects are made one after another.
+#[derive(Clone, Copy, Debug, PartialEq, Eq)]
+pub enum Standing {
+    /// It isn't the name of an object that is made by now.
+    Unmade,
+    /// The object that it names; none, where something is wrong with that.
+    Made(Option<Datum>),
+}
+
+/// What is known of a program, and what its names stand for by now, by their numbers in the scope.
+#[derive(Clone, Copy)]
+pub struct Ground<'a> {
+    pub basis: Basis<'a>,
+    pub standing: &'a [Standing],
+}
+
+/// Where a value is written: the number of the declaration, the formals of the constructor, and their values.
+#[derive(Clone, Copy)]
+pub struct Scene<'a> {
+    pub decl: usize,
+    pub formals: &'a [Seen],
+    pub values: &'a [Option<Datum>],
+}
