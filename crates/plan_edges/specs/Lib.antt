@@ -2,3 +2,5 @@ pub mod Adding
 pub mod Edges
 pub mod Points
 pub mod Sites
+pub mod Walking
+pub mod Whole

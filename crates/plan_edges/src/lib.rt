@@ -2,7 +2,8 @@
 //! place: within the horizon and for its duration by each token, at the times that are given, and as relations, constraints
 //! and orders have it. Where the edges of a list have no schedule, that is why it collapses.
 //!
-//! Each call puts edges behind those that are there: `tokens_last(model, &view, decisions, &mut edges)?`.
+//! `time_edges(alloc, model, &store, decisions)?` is all of them, in order. Each of the other calls puts edges behind those that
+//! are there: `tokens_last(model, &view, decisions, &mut edges)?`.
 #![tactic(auto)]
 
 mod comparing;
@@ -10,7 +11,10 @@ pub mod edge;
 mod gathering;
 mod lasting;
 mod points;
+mod walking;
+mod whole;
 
 pub use comparing::{Listed, Site, constrained, related};
 pub use edge::{NamedEdge, Point};
 pub use gathering::{orders_hold, problem_constrains, times_are_given, tokens_last};
+pub use whole::time_edges;
