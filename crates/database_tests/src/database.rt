@@ -10,6 +10,7 @@ use std::alloc::Global;
 const ORDERED: &str = "int [0 10] x; int [0 10] y; leq(x, y);";
 
 const X: u32 = 0;
+
 const Y: u32 = 1;
 // No variable has this number.
 const NONE: u32 = 2;
@@ -25,7 +26,11 @@ enum Step {
 }
 
 // What a step answered, then the ends of y, and how many steps can be taken back.
-type Left = (Result<Outcome, DbFault>, Result<(i32, i32), QueryFault>, u64);
+type Left = (
+    Result<Outcome, DbFault>,
+    Result<(i32, i32), QueryFault>,
+    u64,
+);
 
 // The database of the text, in which nothing is decided.
 fn started(alloc: Global, text: &str) -> Option<Db> {
@@ -85,6 +90,7 @@ fn after(alloc: Global, steps: &[Step]) -> Option<Left> {
 }
 
 const CONSISTENT: Result<Outcome, DbFault> = Ok(Outcome::Consistent);
+
 const INCONSISTENT: Result<Outcome, DbFault> = Ok(Outcome::Inconsistent);
 
 // Whether each list of steps answers and leaves this.

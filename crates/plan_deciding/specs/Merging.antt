@@ -17,7 +17,7 @@ abbrev pub ClaimsSamePart : List TokenName → ℕ → ℕ → List Part → Cla
 ClaimsSamePart names one other parts claim =
     (part : Part) × Contains parts part
     × (claim ≡ equal (argument_named names (record { token = one; part = part }))
-        (argument_named names (record { token = other; part = part })))
+    (argument_named names (record { token = other; part = part })))
 
 -- a part of the token, which may be any that it has, is claimed to be the same of the target
 abbrev pub ClaimsToBeSame : Model → TokenName → TokenName → Claim → Type 0
