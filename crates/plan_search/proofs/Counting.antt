@@ -11,12 +11,12 @@ use Rattle.plan_defs.proofs.Ordered.{contains_head, contains_later, contains_cas
 use Rattle.plan_swap.specs.SwapLaws.{tokens_of_line}
 
 -- the list is cut where the item stands
-record Cut {X : Type 0} (xs : List X) (x : X) : Type 0 where
-  before : List X
-  after : List X
-  are : xs ≡ before ++ x ∷ after
+pub record Cut {X : Type 0} (xs : List X) (x : X) : Type 0 where
+  pub before : List X
+  pub after : List X
+  pub are : xs ≡ before ++ x ∷ after
 
-cut_at : {X : Type 0} (xs : List X) (x : X) → Contains xs x → Cut xs x
+pub cut_at : {X : Type 0} (xs : List X) (x : X) → Contains xs x → Cut xs x
 cut_at [] x there = absurd (contains_none x there)
 cut_at (y ∷ xs) x there = elim (contains_cases y x xs there) [
   | inl same ↦ record { before = []; after = xs; are = ap (λ z. z ∷ xs) same }

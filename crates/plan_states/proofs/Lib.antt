@@ -8,5 +8,5 @@ pub mod Telling
 pub mod Kinding
 pub mod Stating
 mod Completing
-mod Counting
-mod Placing
+pub mod Counting
+pub mod Placing

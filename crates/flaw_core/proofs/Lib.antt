@@ -1,0 +1,8 @@
+mod Ordering
+mod Finding
+mod Sorting
+mod Telling
+mod Gathering
+mod Numbering
+mod Valuing
+mod Existing

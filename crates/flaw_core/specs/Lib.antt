@@ -1,0 +1,6 @@
+pub mod Places
+pub mod Rules
+pub mod Gathering
+pub mod Seeking
+pub mod Picking
+pub mod PlainLaws
