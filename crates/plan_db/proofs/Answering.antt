@@ -1,6 +1,6 @@
 -- What the calls answer, by what is kept.
-use Rattle.std.proofs.Common.{◌≡◌, ℕ, ◌+◌, ◌<◌, zero, suc, Bool, true, false, List, [], ◌∷◌, ◌++◌, length, ◌⊎◌, inl, inr, Result, Some, Ok, Err, refl, sym, ap, ◌∙◌, subst, arith}
-use Rattle.std.specs.Prelude.{slice_get, Contains, MatchBool, MatchResult}
+use Rattle.std.proofs.Common.{◌≡◌, ℕ, ◌<◌, zero, suc, Bool, true, false, List, [], ◌∷◌, ◌++◌, length, ◌⊎◌, inl, inr, Result, Some, None, Ok, Err, refl, sym, ap, ◌∙◌, subst, arith}
+use Rattle.std.specs.Prelude.{slice_get, Contains, Option, MatchBool, MatchOption, MatchResult}
 use Rattle.eu_name.specs.declared.name.VarName.{VarName}
 use Rattle.domain_core.specs.Domain.{Domain}
 use Rattle.model_core.specs.declared.decision.Decision.{Decision}
@@ -10,13 +10,12 @@ use Rattle.model_core.specs.State.{State, Gives}
 use Rattle.plan_defs.specs.Closure.{IsLeast, IsCollapsed}
 use Rattle.plan_defs.specs.History.{IsHistory}
 use Rattle.plan_defs.proofs.Members.{contains_from_get, get_below, get_same}
-use Rattle.plan_refusals.specs.declared.reason.Reason.{Reason}
 use Rattle.plan_refusals.specs.declared.reason.Reason.TheVariants as reasons
 use Rattle.plan_posting.specs.Counting.{AreTokenStates}
 use Rattle.plan_store.specs.Stores.{Stored, snapshot_of}
 use Rattle.plan_view.specs.Seeing.{Seen, seen_state}
 use Rattle.plan_state.specs.declared.footing.Footing.TheVariants.{Rest}
-use Rattle.plan_state.specs.Standing.{Stood, KeepsList}
+use Rattle.plan_state.specs.Standing.{Stood}
 use Rattle.plan_steps.proofs.Keeping.{least_kept}
 use Rattle.plan_steps.specs.declared.objection.Objection.{Objection}
 use Rattle.plan_steps.specs.declared.objection.Objection.TheVariants.{Collapsed, Refused}
@@ -32,7 +31,12 @@ use Rattle.plan_db.specs.declared.fault.QueryFault.TheVariants as query
 use Rattle.plan_db.specs.Faults.{fault_of}
 use Rattle.plan_db.specs.Database.{Database, taken_in, OutcomeIs, outcome_for, Applies, TakesBack, Backtracks, Resets, HasFormer, HasDecisionOn, TakesOutOn, IsTold, IsUntold}
 use Rattle.plan_db.specs.Answers.{Held, KeepsDatabase, ready_with, StaysReady, StaysSame, AnswersApply, AnswersReset, AnswersUndo, AnswersBacktrack}
-use Rattle.plan_db.specs.Answers.{AnswersDomain, AnswersNothing, IsSeen, IsUnseen}
+use Rattle.plan_db.specs.Answers.{AnswersDomain, AnswersNothing, AnswersStamp, AnswersNoStamp, IsSeen, IsUnseen}
+use Rattle.plan_db.specs.Stamps.{Stamped, stamps_of, IsStampedAs, KeepsIfRefused}
+use Rattle.plan_db.specs.declared.edges.EdgeFault.{EdgeFault}
+use Rattle.plan_db.specs.declared.edges.EdgeFault.TheVariants as edge
+use Rattle.plan_db.specs.Edges.{HasEdges, HasNoEdges, AnswersEdges, AnswersNoEdges}
+use Rattle.plan_edges.specs.declared.edge.NamedEdge.{NamedEdge}
 
 -- an objection is why the decision is refused
 pub refused_as : (model : Model) (history : History) (decision : Decision) (objection : Objection) → IsJudged model (standing history) decision (Err objection)
@@ -167,83 +171,123 @@ module _ (model : Model) (history : History) (stood : Stood) (keeps : KeepsHisto
       (subst (λ (s : Stored). AreTokenStates model (standing history) (snapshot_of s)) (sym same)
       (least_kept model (standing history) stood keeps.list rest).rest.underway.states)
 
-  pub seen_by_store : (decisions : List Decision) → decisions ≡ standing history → (view : Seen)
-      → view ≡ record { model = model; stored = stored; decisions = decisions } → IsSeen (ready_with model history) view
-  seen_by_store decisions are view is = subst (IsSeen (ready_with model history)) (sym is) (record { ready = refl; model = refl; decisions = are; least = least })
+  pub seen_by_store : (stamps : List Stamped) (decisions : List Decision) → decisions ≡ standing history → (view : Seen)
+      → view ≡ record { model = model; stored = stored; decisions = decisions } → IsSeen (ready_with model history stamps) view
+  seen_by_store stamps decisions are view is =
+      subst (IsSeen (ready_with model history stamps)) (sym is) (record { ready = refl; model = refl; decisions = are; least = least })
+
+-- where nothing of what is kept has changed, that is so of each answer
+pub all_kept : {X : Type 0} (result : Result X DbFault) (stood : Stood) → KeepsIfRefused result stood stood
+all_kept (Ok answer) stood = tt
+all_kept (Err fault.Memory) stood = tt
+all_kept (Err fault.Behind) stood = refl
+all_kept (Err fault.NoSuchDecision) stood = refl
+all_kept (Err fault.Nothing) stood = refl
+all_kept (Err fault.InInconsistent) stood = refl
+all_kept (Err fault.Unknown) stood = refl
+all_kept (Err fault.Decided) stood = refl
+all_kept (Err fault.NotInDomain) stood = refl
+all_kept (Err fault.NotActive) stood = refl
+all_kept (Err fault.NotSamePredicate) stood = refl
+all_kept (Err fault.NotRejectable) stood = refl
+all_kept (Err fault.Same) stood = refl
+all_kept (Err fault.ActiveFull) stood = refl
 
 -- ---- the answers of a database, by whether it is behind
 
-module _ (model : Model) (old new : History) (before after : Bool) (ready : before ≡ false) where
+module _ (model : Model) (old new : History) (before after : Bool) (ready : before ≡ false) (stood back : Stood) where
   abbrev held_before : Held
-  held_before = record { database = taken_in model old; behind = before }
+  held_before = record { database = taken_in model old; behind = before; stamps = stamps_of stood }
 
   abbrev held_after : Held
-  held_after = record { database = taken_in model new; behind = after }
+  held_after = record { database = taken_in model new; behind = after; stamps = stamps_of back }
 
-  stays_same : taken_in model new ≡ taken_in model old → after ≡ false → StaysSame held_before held_after
-  stays_same same kept = record { before = ready; same = λ i. record { database = same i; behind = (kept ∙ sym ready) i } }
+  stays_same : taken_in model new ≡ taken_in model old → after ≡ false → back ≡ stood → StaysSame held_before held_after
+  stays_same same kept stays = record {
+    before = ready;
+    same = λ i. record { database = same i; behind = (kept ∙ sym ready) i; stamps = stamps_of (stays i) };
+  }
 
   stays_ready : after ≡ false → StaysReady held_before held_after
   stays_ready kept = record { before = ready; after = kept }
 
-  pub answers_apply : (decision : Decision) (result : Result Outcome DbFault) → after ≡ false
+  pub answers_apply : (decision : Decision) (result : Result Outcome DbFault) → after ≡ false → KeepsIfRefused result stood back
       → Applies (taken_in model old) decision result (taken_in model new) → AnswersApply held_before decision result held_after
-  answers_apply decision (Ok outcome) kept applies = (stays_ready kept, applies)
-  answers_apply decision (Err fault.Behind) kept applies = absurd applies
-  answers_apply decision (Err fault.Memory) kept applies = (stays_ready kept, applies)
-  answers_apply decision (Err fault.NoSuchDecision) kept applies = absurd applies
-  answers_apply decision (Err fault.Nothing) kept applies = absurd applies
-  answers_apply decision (Err fault.InInconsistent) kept applies = (stays_same applies.0 kept, applies)
-  answers_apply decision (Err fault.Unknown) kept applies = (stays_same applies.0 kept, applies)
-  answers_apply decision (Err fault.Decided) kept applies = (stays_same applies.0 kept, applies)
-  answers_apply decision (Err fault.NotInDomain) kept applies = (stays_same applies.0 kept, applies)
-  answers_apply decision (Err fault.NotActive) kept applies = (stays_same applies.0 kept, applies)
-  answers_apply decision (Err fault.NotSamePredicate) kept applies = (stays_same applies.0 kept, applies)
-  answers_apply decision (Err fault.NotRejectable) kept applies = (stays_same applies.0 kept, applies)
-  answers_apply decision (Err fault.Same) kept applies = (stays_same applies.0 kept, applies)
-  answers_apply decision (Err fault.ActiveFull) kept applies = (stays_same applies.0 kept, applies)
+  answers_apply decision (Ok outcome) kept same applies = (stays_ready kept, applies)
+  answers_apply decision (Err fault.Behind) kept same applies = absurd applies
+  answers_apply decision (Err fault.Memory) kept same applies = (stays_ready kept, applies)
+  answers_apply decision (Err fault.NoSuchDecision) kept same applies = absurd applies
+  answers_apply decision (Err fault.Nothing) kept same applies = absurd applies
+  answers_apply decision (Err fault.InInconsistent) kept same applies = (stays_same applies.0 kept same, applies)
+  answers_apply decision (Err fault.Unknown) kept same applies = (stays_same applies.0 kept same, applies)
+  answers_apply decision (Err fault.Decided) kept same applies = (stays_same applies.0 kept same, applies)
+  answers_apply decision (Err fault.NotInDomain) kept same applies = (stays_same applies.0 kept same, applies)
+  answers_apply decision (Err fault.NotActive) kept same applies = (stays_same applies.0 kept same, applies)
+  answers_apply decision (Err fault.NotSamePredicate) kept same applies = (stays_same applies.0 kept same, applies)
+  answers_apply decision (Err fault.NotRejectable) kept same applies = (stays_same applies.0 kept same, applies)
+  answers_apply decision (Err fault.Same) kept same applies = (stays_same applies.0 kept same, applies)
+  answers_apply decision (Err fault.ActiveFull) kept same applies = (stays_same applies.0 kept same, applies)
 
   after_by : (result : Result Outcome DbFault) → (result ≡ Err fault.Memory → ⊥) → (result ≡ Err fault.Memory) ⊎ (after ≡ false) → after ≡ false
   after_by result other (inl same) = absurd (other same)
   after_by result other (inr kept) = kept
 
-  pub answers_undo : (result : Result Outcome DbFault) → (result ≡ Err fault.Memory) ⊎ (after ≡ false)
+  pub answers_undo : (result : Result Outcome DbFault) → (result ≡ Err fault.Memory) ⊎ (after ≡ false) → KeepsIfRefused result stood back
       → TakesBack (taken_in model old) result (taken_in model new) → AnswersUndo held_before result held_after
-  answers_undo (Ok outcome) kept takes = (stays_ready (after_by (Ok outcome) (λ same. cc) kept), takes)
-  answers_undo (Err fault.Nothing) kept takes = (stays_same takes.0 (after_by (Err fault.Nothing) (λ same. cc) kept), takes)
-  answers_undo (Err fault.Memory) kept takes = (ready, takes)
-  answers_undo (Err other) kept takes = absurd takes
+  answers_undo (Ok outcome) kept stays takes = (stays_ready (after_by (Ok outcome) (λ same. cc) kept), takes)
+  answers_undo (Err fault.Nothing) kept stays takes = (stays_same takes.0 (after_by (Err fault.Nothing) (λ same. cc) kept) stays, takes)
+  answers_undo (Err fault.Memory) kept stays takes = (ready, takes)
+  answers_undo (Err other) kept stays takes = absurd takes
 
-  pub answers_reset : (subject : Subject) (result : Result Outcome DbFault) → (result ≡ Err fault.Memory) ⊎ (after ≡ false)
+  pub answers_reset : (subject : Subject) (result : Result Outcome DbFault) → (result ≡ Err fault.Memory) ⊎ (after ≡ false) → KeepsIfRefused result stood back
       → Resets (taken_in model old) subject result (taken_in model new) → AnswersReset held_before subject result held_after
-  answers_reset subject (Ok outcome) kept resets = (stays_ready (after_by (Ok outcome) (λ same. cc) kept), resets)
-  answers_reset subject (Err fault.NoSuchDecision) kept resets = (stays_same resets.0 (after_by (Err fault.NoSuchDecision) (λ same. cc) kept), resets)
-  answers_reset subject (Err fault.Memory) kept resets = (ready, resets)
-  answers_reset subject (Err other) kept resets = absurd resets
+  answers_reset subject (Ok outcome) kept stays resets = (stays_ready (after_by (Ok outcome) (λ same. cc) kept), resets)
+  answers_reset subject (Err fault.NoSuchDecision) kept stays resets = (stays_same resets.0 (after_by (Err fault.NoSuchDecision) (λ same. cc) kept) stays, resets)
+  answers_reset subject (Err fault.Memory) kept stays resets = (ready, resets)
+  answers_reset subject (Err other) kept stays resets = absurd resets
 
-  pub answers_backtrack : (result : Result (Unit {0}) DbFault) → after ≡ false
+  pub answers_backtrack : (result : Result (Unit {0}) DbFault) → after ≡ false → KeepsIfRefused result stood back
       → Backtracks (taken_in model old) result (taken_in model new) → AnswersBacktrack held_before result held_after
-  answers_backtrack (Ok done) kept takes = (stays_ready kept, takes)
-  answers_backtrack (Err fault.Nothing) kept takes = (stays_same takes.0 kept, takes)
-  answers_backtrack (Err other) kept takes = absurd takes
+  answers_backtrack (Ok done) kept stays takes = (stays_ready kept, takes)
+  answers_backtrack (Err fault.Nothing) kept stays takes = (stays_same takes.0 kept stays, takes)
+  answers_backtrack (Err other) kept stays takes = absurd takes
 
-module _ (model : Model) (history : History) (behind : Bool) (ready : behind ≡ false) where
+module _ (model : Model) (history : History) (behind : Bool) (ready : behind ≡ false) (stamps : List Stamped) where
   pub answers_domain : {D : Type 0} (name : VarName) (now : D → Domain) (result : Result D QueryFault)
       → MatchResult result (λ domain. IsTold (taken_in model history) name (now domain)) (λ f. IsUntold (taken_in model history) name f)
-      → MatchResult result (λ domain. AnswersDomain (record { database = taken_in model history; behind = behind }) name (now domain))
-      (λ f. AnswersNothing (record { database = taken_in model history; behind = behind }) name f)
+      → MatchResult result (λ domain. AnswersDomain (record { database = taken_in model history; behind = behind; stamps = stamps }) name (now domain))
+      (λ f. AnswersNothing (record { database = taken_in model history; behind = behind; stamps = stamps }) name f)
   answers_domain name now (Ok domain) told = (ready, told)
   answers_domain name now (Err query.Behind) untold = absurd untold
   answers_domain name now (Err query.Inconsistent) untold = (ready, untold)
   answers_domain name now (Err query.Unknown) untold = (ready, untold)
 
   pub answers_view : {V : Type 0} (value : V → Seen) (result : Result V QueryFault)
-      → MatchResult result (λ view. IsSeen (ready_with model history) (value view)) (λ f. IsUnseen (ready_with model history) f)
-      → MatchResult result (λ view. IsSeen (record { database = taken_in model history; behind = behind }) (value view))
-      (λ f. IsUnseen (record { database = taken_in model history; behind = behind }) f)
+      → MatchResult result (λ view. IsSeen (ready_with model history stamps) (value view)) (λ f. IsUnseen (ready_with model history stamps) f)
+      → MatchResult result (λ view. IsSeen (record { database = taken_in model history; behind = behind; stamps = stamps }) (value view))
+      (λ f. IsUnseen (record { database = taken_in model history; behind = behind; stamps = stamps }) f)
   answers_view value result seen =
-      subst (λ (b : Bool). MatchResult result (λ view. IsSeen (record { database = taken_in model history; behind = b }) (value view))
-      (λ f. IsUnseen (record { database = taken_in model history; behind = b }) f)) (sym ready) seen
+      subst (λ (b : Bool). MatchResult result (λ view. IsSeen (record { database = taken_in model history; behind = b; stamps = stamps }) (value view))
+      (λ f. IsUnseen (record { database = taken_in model history; behind = b; stamps = stamps }) f)) (sym ready) seen
+
+  pub answers_stamp : (name : VarName) (found : Option ℕ)
+      → MatchOption found ((fault : QueryFault) × IsUntold (taken_in model history) name fault)
+      (λ stamp. (domain : Domain) × IsTold (taken_in model history) name domain × IsStampedAs stamps name domain stamp)
+      → MatchOption found (AnswersNoStamp (record { database = taken_in model history; behind = behind; stamps = stamps }) name)
+      (AnswersStamp (record { database = taken_in model history; behind = behind; stamps = stamps }) name)
+  answers_stamp name (Some stamp) (domain, told, is) = (domain, (ready, told), is)
+  answers_stamp name None (query.Behind, untold) = absurd untold
+  answers_stamp name None (query.Inconsistent, untold) = (query.Inconsistent, (ready, untold))
+  answers_stamp name None (query.Unknown, untold) = (query.Unknown, (ready, untold))
+
+  pub answers_edges : {V : Type 0} (value : V → List NamedEdge) (result : Result V EdgeFault)
+      → MatchResult result (λ edges. HasEdges (taken_in model history) (value edges)) (HasNoEdges (taken_in model history))
+      → MatchResult result (λ edges. AnswersEdges (record { database = taken_in model history; behind = behind; stamps = stamps }) (value edges))
+      (AnswersNoEdges (record { database = taken_in model history; behind = behind; stamps = stamps }))
+  answers_edges value (Ok edges) has = (ready, has)
+  answers_edges value (Err edge.Behind) none = absurd none
+  answers_edges value (Err edge.Consistent) none = (ready, none)
+  answers_edges value (Err edge.Memory) none = (ready, none)
 
 -- whether the decisions leave something
 pub leaves_or : (model : Model) (decisions : List Decision) (fits : Bool) → LeaveState model decisions fits

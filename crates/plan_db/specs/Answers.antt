@@ -1,5 +1,5 @@
 -- What a database holds, and what each call answers and leaves. While it is behind, nothing but rebuilding is done.
-use Rattle.std.specs.Prelude.{◌≡◌, Bool, true, false, Result, Ok, Err}
+use Rattle.std.specs.Prelude.{◌≡◌, ℕ, Bool, true, false, List, Result, Ok, Err}
 use Rattle.domain_core.specs.Domain.{Domain}
 use Rattle.eu_name.specs.declared.name.VarName.{VarName}
 use Rattle.model_core.specs.declared.decision.Decision.{Decision}
@@ -17,15 +17,17 @@ use Rattle.plan_db.specs.declared.fault.QueryFault.{QueryFault}
 use Rattle.plan_db.specs.declared.fault.QueryFault.TheVariants as query
 use Rattle.plan_db.specs.Database.{Database, taken_in, HasLeast, HasCollapsed, Applies, TakesBack, Backtracks, Resets, IsTold}
 use Rattle.plan_db.specs.Database.{IsUntold}
+use Rattle.plan_db.specs.Stamps.{Stamped, IsStampedAs}
 
--- what is decided in which model, and whether the state that is kept is behind that
+-- what is decided in which model, whether the state that is kept is behind that, and how often its variables were written
 pub record Held : Type 0 where
   pub database : Database
   pub behind : Bool
+  pub stamps : List Stamped
 
--- a database of that model with that history, which isn't behind
-abbrev pub ready_with : Model → History → Held
-ready_with model history = record { database = taken_in model history; behind = false }
+-- a database of that model with that history and these stamps, which isn't behind
+abbrev pub ready_with : Model → History → List Stamped → Held
+ready_with model history stamps = record { database = taken_in model history; behind = false; stamps = stamps }
 
 -- what a database keeps: the state of the list that stands, unless it is behind
 pub record KeepsDatabase (model : Model) (history : History) (behind : Bool) (stood : Stood) : Type 0 where
@@ -97,3 +99,11 @@ abbrev pub IsUnseen : Held → QueryFault → Type 0
 IsUnseen held query.Behind = held.behind ≡ true
 IsUnseen held query.Inconsistent = (held.behind ≡ false) × HasCollapsed held.database
 IsUnseen held query.Unknown = ⊥
+
+-- the variable has a stamp: that of the domain that is told of it
+abbrev pub AnswersStamp : Held → VarName → ℕ → Type 0
+AnswersStamp held name stamp = (domain : Domain) × AnswersDomain held name domain × IsStampedAs held.stamps name domain stamp
+
+-- it has none where nothing is told of it
+abbrev pub AnswersNoStamp : Held → VarName → Type 0
+AnswersNoStamp held name = (fault : QueryFault) × AnswersNothing held name fault

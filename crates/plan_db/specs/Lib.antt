@@ -1,3 +1,5 @@
 pub mod Faults
 pub mod Database
 pub mod Answers
+pub mod Stamps
+pub mod Edges

@@ -1,11 +1,14 @@
 //! The calls that change decisions, over what a database keeps where it isn't behind.
 
-ghost use Rattle.std.specs.Prelude.{◌≡◌, ◌⊎◌, false, Err};
+ghost use Rattle.std.specs.Prelude.{◌≡◌, ◌⊎◌, false, Err, OnOk};
 ghost use Rattle.model_core.specs.declared.model.Model.{Model as Problem};
 ghost use Rattle.model_core.specs.Lawful.{IsLawful};
 ghost use Rattle.plan_db.specs.declared.fault.DbFault.TheVariants.{Memory};
 ghost use Rattle.plan_steps.specs.Kept.{KeepsHistory, KeepsUnless};
 ghost use Rattle.plan_db.specs.Database.{taken_in, outcome_for, Applies, TakesBack, Backtracks, Resets};
+ghost use Rattle.plan_db.specs.Stamps.{KeepsIfRefused};
+ghost use Rattle.plan_state.specs.declared.footing.Footing.TheVariants.{Rest};
+ghost use Rattle.plan_store.specs.Stamps.{FollowStamps};
 
 use super::fault::{DbFault, Outcome};
 use decision_log::Log;
@@ -36,6 +39,8 @@ pub fn apply(
     requires kept { KeepsHistory model.now log.old kept.old }
     ensures applied { Applies (taken_in model.now log.old) decision.now result (taken_in model.now log.new) }
     ensures kept { KeepsHistory model.now log.new kept.new }
+    ensures same { KeepsIfRefused result kept.old kept.new }
+    ensures stamps { OnOk result (kept.new.footing ≡ Rest → FollowStamps kept.old.stored kept.new.stored) }
 {
     judge(model, log, kept, decision)?;
     let fits = accept(model, log, kept, decision)?;
@@ -53,6 +58,7 @@ pub fn undo(
     requires kept { KeepsHistory model.now log.old kept.old }
     requires ready { behind.old ≡ false }
     ensures undone { TakesBack (taken_in model.now log.old) result (taken_in model.now log.new) }
+    ensures same { KeepsIfRefused result kept.old kept.new }
     ensures ready { result ≡ Err Memory ⊎ (behind.new ≡ false) }
     ensures kept { KeepsUnless behind.new model.now log.new kept.new }
 {
@@ -70,7 +76,8 @@ pub fn undo(
 pub fn backtrack(log: &mut Log, kept: &mut Standing) -> Result<(), DbFault>
     requires { (model : Problem) × KeepsHistory model log.old kept.old }
     ensures { (model : Problem) → KeepsHistory model log.old kept.old
-        → Backtracks (taken_in model log.old) result (taken_in model log.new) × KeepsHistory model log.new kept.new }
+        → Backtracks (taken_in model log.old) result (taken_in model log.new) × KeepsHistory model log.new kept.new
+        × KeepsIfRefused result kept.old kept.new × OnOk result (FollowStamps kept.old.stored kept.new.stored) }
 {
     if withdraw(log, kept) {
         return Ok(());
@@ -90,6 +97,7 @@ pub fn reset(
     requires kept { KeepsHistory model.now log.old kept.old }
     requires ready { behind.old ≡ false }
     ensures reset { Resets (taken_in model.now log.old) subject.now result (taken_in model.now log.new) }
+    ensures same { KeepsIfRefused result kept.old kept.new }
     ensures ready { result ≡ Err Memory ⊎ (behind.new ≡ false) }
     ensures kept { KeepsUnless behind.new model.now log.new kept.new }
 {

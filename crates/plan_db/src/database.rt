@@ -1,20 +1,24 @@
 //! The database.
 
-ghost use Rattle.std.specs.Prelude.{◌≡◌, ◌+◌, ◌↔◌, [], ◌∷◌, true, false, IsTrue, length, IfOk, OnOk, OnErr, MatchBool, MatchResult};
+ghost use Rattle.std.specs.Prelude.{◌≡◌, ◌+◌, ◌↔◌, [], ◌∷◌, true, false, IsTrue, length, IfOk, OnOk, OnErr, MatchBool, MatchOption, MatchResult};
 ghost use Rattle.model_core.specs.History.{standing};
 ghost use Rattle.model_core.specs.Lawful.{IsLawful};
 ghost use Rattle.model_core.specs.State.{State};
 ghost use Rattle.plan_db.specs.Database.{IsSound, HasLeast, HasCollapsed};
 ghost use Rattle.plan_db.specs.Answers.{AnswersApply, AnswersReset, AnswersUndo, AnswersBacktrack};
-ghost use Rattle.plan_db.specs.Answers.{AnswersDomain, AnswersNothing, IsSeen, IsUnseen};
+ghost use Rattle.plan_db.specs.Answers.{AnswersDomain, AnswersNothing, AnswersStamp, AnswersNoStamp, IsSeen, IsUnseen};
+ghost use Rattle.plan_db.specs.Edges.{AnswersEdges, AnswersNoEdges};
+ghost use Rattle.plan_db.specs.Stamps.{StampsFollowDomains};
 
+use super::edges::EdgeFault;
 use super::fault::{DbFault, Outcome, QueryFault};
-use super::{changing, telling};
+use super::{changing, edges, stamps, telling};
 use decision_log::Log;
 use domain_core::domain::Dom;
 use eu_name::name::VarName;
 use model_core::decision::Decision;
 use model_core::model::Model;
+use plan_edges::NamedEdge;
 use plan_state::Standing;
 use plan_steps::{Subject, fits, rebuild};
 use plan_view::StoreView;
@@ -43,7 +47,9 @@ impl marker::Model for Db {
 
     ghost coded = { Prim.hlevel (codes, a_model.the_row.coded) };
 
-    ghost view = { λ db. record { database = record { model = db.model; history = db.log }; behind = db.behind } };
+    ghost use Rattle.plan_db.specs.Stamps.{stamps_of};
+
+    ghost view = { λ db. record { database = record { model = db.model; history = db.log }; behind = db.behind; stamps = stamps_of db.kept } };
 
     ghost invariant = { λ db. KeepsDatabase db.model db.log db.behind db.kept };
 }
@@ -68,6 +74,7 @@ impl Db {
     /// Takes a decision, and answers whether the decisions then leave something possible.
     pub fn apply(&mut self, decision: &Decision) -> Result<Outcome, DbFault>
         ensures applied { AnswersApply self.old decision.now result self.new }
+        ensures stamps { OnOk result (StampsFollowDomains self.old.stamps self.new.stamps) }
         ensures sound { IsSound self.new.database }
     {
         if self.behind {
@@ -108,6 +115,7 @@ impl Db {
     /// Takes the last decision back, if the last step took it. It takes no memory.
     pub fn backtrack(&mut self) -> Result<(), DbFault>
         ensures undone { AnswersBacktrack self.old result self.new }
+        ensures stamps { OnOk result (StampsFollowDomains self.old.stamps self.new.stamps) }
         ensures sound { IsSound self.new.database }
     {
         if self.behind {
@@ -183,6 +191,28 @@ impl Db {
             return Err(QueryFault::Behind);
         }
         telling::domain(&self.kept, variable)
+    }
+
+    /// How often what the variable may be was changed. Where something is possible before and after an `apply` or a
+    /// `backtrack`, the number stays if that stays, and else gets greater, or is the greatest there is. Other calls may count
+    /// anew. It takes no memory.
+    pub fn stamp(&self, variable: &VarName) -> Option<u64>
+        ensures { MatchOption result (AnswersNoStamp self.now variable.now) (AnswersStamp self.now variable.now) }
+    {
+        if self.behind {
+            return None;
+        }
+        stamps::stamp(&self.kept, variable)
+    }
+
+    /// The time edges of the decisions that stand, where these leave nothing possible.
+    pub fn time_edges(&self) -> Result<Vec<NamedEdge>, EdgeFault>
+        ensures { MatchResult result (λ edges. AnswersEdges self.now edges.items) (AnswersNoEdges self.now) }
+    {
+        if self.behind {
+            return Err(EdgeFault::Behind);
+        }
+        edges::edges(&self.model, &self.log, &self.kept)
     }
 
     /// All that the decisions leave possible, with tokens in the order of names. It takes no memory.

@@ -10,6 +10,7 @@ ghost use Rattle.plan_db.specs.declared.fault.QueryFault.TheVariants.{Unknown};
 ghost use Rattle.plan_steps.specs.Kept.{KeepsHistory};
 ghost use Rattle.plan_db.specs.Database.{taken_in, IsTold, IsUntold};
 ghost use Rattle.plan_db.specs.Answers.{ready_with, IsSeen, IsUnseen};
+ghost use Rattle.plan_db.specs.Stamps.{stamps_of};
 
 use super::fault::QueryFault;
 use decision_log::Log;
@@ -52,7 +53,8 @@ pub fn view<'a>(
     kept: &'a Standing,
 ) -> Result<StoreView<'a>, QueryFault>
     requires { KeepsHistory model.now log.now kept.now }
-    ensures { MatchResult result (IsSeen (ready_with model.now log.now)) (IsUnseen (ready_with model.now log.now)) }
+    ensures { MatchResult result (IsSeen (ready_with model.now log.now (stamps_of kept.now)))
+        (IsUnseen (ready_with model.now log.now (stamps_of kept.now))) }
 {
     match kept.footing() {
         Footing::Rest => Ok(StoreView::new(model, kept.store(), log.standing())),

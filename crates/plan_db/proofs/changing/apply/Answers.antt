@@ -1,13 +1,21 @@
-use Rattle.std.proofs.Common.{sym, ap, refl}
+use Rattle.std.proofs.Common.{ap}
 use Rattle.std.proofs.lemmas.Result.{err_from_is_err_and}
 use Rattle.plan_db.specs.Database.{taken_in}
-use Rattle.plan_db.proofs.Answering.{refused_as, outcome_fits}
+use Rattle.plan_db.proofs.Answering.{refused_as, outcome_fits, all_kept}
 use Rattle.plan_db.proofs.changing.apply.Goals as goal
 
 pub returns-in_err-judge-clause-applied : goal.returns-in_err-judge-clause-applied
 returns-in_err-judge-clause-applied c =
     let p = err_from_is_err_and c.from_residual.result c.from_residual.ensures.1 in
     rw (p.1, p.2) (refused_as c.args.model.now c.args.log.now c.args.decision.now c.in_err-judge.field-0.0 c.in_err-judge.ensures)
+
+pub returns-in_err-judge-clause-same : goal.returns-in_err-judge-clause-same
+returns-in_err-judge-clause-same c = all_kept c.from_residual.result c.args.kept.now
+
+pub returns-in_err-fits-clause-same : goal.returns-in_err-fits-clause-same
+returns-in_err-fits-clause-same c =
+    let p = err_from_is_err_and c.from_residual-in_err-fits.result c.from_residual-in_err-fits.ensures.1 in
+    rw (p.1, p.2) tt
 
 pub returns-clause-applied : goal.returns-clause-applied
 returns-clause-applied c =

@@ -1,4 +1,4 @@
-use Rattle.std.proofs.Common.{refl, sym, subst}
+use Rattle.std.proofs.Common.{refl}
 use Rattle.std.proofs.lemmas.Result.{err_from_is_err_and}
 use Rattle.plan_db.proofs.Answering.{place_within, was_reset, not_reset, none_on, keeps_ready}
 use Rattle.plan_db.proofs.changing.reset.Goals as goal
@@ -22,6 +22,11 @@ returns-in_err-fits-clause-reset c =
     rw (p.1, p.2)
     (not_reset c.args.model.now c.args.log.now c.take_out.new.log c.args.subject.now c.standing.result.now c.in-Some.place found.0 c.standing.ensures found.1 found.2
     c.in_err-fits.ensures.err)
+
+pub returns-in_err-fits-clause-same : goal.returns-in_err-fits-clause-same
+returns-in_err-fits-clause-same c =
+    let p = err_from_is_err_and c.from_residual.result c.from_residual.ensures.1 in
+    rw (p.1, p.2) tt
 
 pub returns-clause-reset : goal.returns-clause-reset
 returns-clause-reset c =

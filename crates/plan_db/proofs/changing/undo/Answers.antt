@@ -1,8 +1,8 @@
-use Rattle.std.proofs.Common.{◌≡◌, ◌<◌, length, true, false, Err, inl, sym, subst, arith}
+use Rattle.std.proofs.Common.{◌<◌, length, sym, subst, arith}
 use Rattle.std.proofs.lemmas.Result.{err_from_is_err_and}
 use Rattle.model_core.specs.History.{History}
 use Rattle.plan_steps.specs.Kept.{WithdrawsLast}
-use Rattle.plan_db.proofs.Answering.{first_history, withdrawn, withdrawn_keeps, still_keeps, brought_back, not_brought, keeps_ready}
+use Rattle.plan_db.proofs.Answering.{withdrawn, withdrawn_keeps, still_keeps, brought_back, not_brought, keeps_ready}
 use Rattle.plan_db.proofs.changing.undo.Goals as goal
 
 pub returns-then-withdraw-clause-undone : goal.returns-then-withdraw-clause-undone
@@ -42,6 +42,11 @@ returns-in_err-fits-clause-undone c =
     let long : 1 < length c.args.log.now = omega arith in
     rw (p.1, p.2)
     (not_brought c.args.model.now c.args.log.now c.withdraw.new.log c.args.kept.now c.withdraw.new.kept c.bring_back.new.log none c.in_err-fits.ensures.err long)
+
+pub returns-in_err-fits-clause-same : goal.returns-in_err-fits-clause-same
+returns-in_err-fits-clause-same c =
+    let p = err_from_is_err_and c.from_residual.result c.from_residual.ensures.1 in
+    rw (p.1, p.2) tt
 
 pub returns-clause-undone : goal.returns-clause-undone
 returns-clause-undone c =

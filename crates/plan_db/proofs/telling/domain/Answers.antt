@@ -1,4 +1,4 @@
-use Rattle.std.proofs.Common.{◌≡◌, Bool, sym, ◌∙◌, subst}
+use Rattle.std.proofs.Common.{sym, ◌∙◌}
 use Rattle.model_core.specs.History.{standing}
 use Rattle.plan_steps.proofs.Keeping.{leaves_fallen, leaves_void}
 use Rattle.plan_db.proofs.Answering.{told_by_store}

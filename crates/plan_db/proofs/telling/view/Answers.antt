@@ -1,7 +1,8 @@
-use Rattle.std.proofs.Common.{refl, sym, ◌∙◌, subst}
+use Rattle.std.proofs.Common.{refl, sym, ◌∙◌}
 use Rattle.model_core.specs.History.{standing}
-use Rattle.plan_steps.proofs.Keeping.{least_kept, leaves_fallen, leaves_void}
+use Rattle.plan_steps.proofs.Keeping.{leaves_fallen, leaves_void}
 use Rattle.plan_db.proofs.Answering.{can_be_seen, seen_by_store}
+use Rattle.plan_db.specs.Stamps.{stamps_of}
 use Rattle.plan_db.proofs.telling.view.Goals as goal
 
 pub new-requires : goal.new-requires
@@ -10,7 +11,7 @@ new-requires c =
 
 pub returns-in-Rest : goal.returns-in-Rest
 returns-in-Rest c =
-    seen_by_store c.args.model.now c.args.log.now c.args.kept.now c.requires (sym c.footing.ensures ∙ c.in-Rest.is) c.store.result.now c.store.ensures c.standing.result.now c.standing.ensures
+    seen_by_store c.args.model.now c.args.log.now c.args.kept.now c.requires (sym c.footing.ensures ∙ c.in-Rest.is) c.store.result.now c.store.ensures (stamps_of c.args.kept.now) c.standing.result.now c.standing.ensures
     c.new.result c.new.ensures
 
 pub returns-in-Fallen : goal.returns-in-Fallen

@@ -1,5 +1,4 @@
-use Rattle.std.proofs.Common.{[], List, refl, sym, ap, ◌∙◌, subst}
-use Rattle.model_core.specs.declared.decision.Decision.{Decision}
+use Rattle.std.proofs.Common.{refl, sym, subst}
 use Rattle.model_core.specs.History.{History, standing}
 use Rattle.plan_defs.specs.History.{IsHistory}
 use Rattle.plan_state.specs.Standing.{KeepsList}
