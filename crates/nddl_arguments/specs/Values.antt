@@ -1,5 +1,5 @@
 -- Which values may stand as arguments.
-use Rattle.std.specs.Prelude.{ℕ, ◌==◌, Bool, true, false, not, ℤ, pos, List, [], ◌∷◌, codes, Option, Some, None}
+use Rattle.std.specs.Prelude.{ℕ, Bool, true, false, not, ℤ, pos, List, [], ◌∷◌, codes, Option, Some, None}
 use Rattle.std.specs.Ordering.{int_eq}
 use Rattle.std.specs.Option.{option_or}
 use Rattle.nddl_ast.specs.declared.expression.Constant.{Constant}
@@ -7,19 +7,11 @@ use Rattle.nddl_ast.specs.declared.expression.Constant.TheVariants as constants
 use Rattle.nddl_ast.specs.declared.expression.Expr.{Expr}
 use Rattle.nddl_ast.specs.declared.expression.Expr.TheVariants as exprs
 use Rattle.nddl_sorts.specs.declared.kind.TypeKind.{TypeKind}
-use Rattle.nddl_sorts.specs.declared.kind.TypeKind.TheVariants as kinds
+use Rattle.nddl_sorts.specs.Kinds.{are_one_kind}
 use Rattle.nddl_paths.specs.declared.denoted.Denoted.{Denoted}
 use Rattle.nddl_paths.specs.declared.denoted.Denoted.TheVariants as denoted
 use Rattle.nddl_arguments.specs.declared.asked.Asked.{Asked}
 use Rattle.nddl_arguments.specs.declared.asked.Asked.TheVariants as asked
-
--- the kinds are one; all objects are of one kind
-abbrev pub is_same_kind : TypeKind → TypeKind → Bool
-is_same_kind kinds.Int kinds.Int = true
-is_same_kind kinds.Bool kinds.Bool = true
-is_same_kind (kinds.Enum one) (kinds.Enum other) = one == other
-is_same_kind (kinds.Object one) (kinds.Object other) = true
-is_same_kind one other = false
 
 -- of which kind the value is, if it is one
 abbrev pub kind_of_value : Denoted → Option TypeKind
@@ -30,7 +22,7 @@ kind_of_value other = None
 -- faulty nothing is said.
 abbrev pub is_unfit_value : Option TypeKind → Denoted → Bool
 is_unfit_value None (denoted.Value kind constant) = false
-is_unfit_value (Some wanted) (denoted.Value kind constant) = not (is_same_kind wanted kind)
+is_unfit_value (Some wanted) (denoted.Value kind constant) = not (are_one_kind wanted kind)
 is_unfit_value wanted denoted.Unsettled = false
 is_unfit_value wanted other = true
 

@@ -1,24 +1,13 @@
 //! Which values may stand as arguments.
 
 ghost use Rattle.std.specs.Prelude.{◌≡◌};
-ghost use Rattle.nddl_arguments.specs.Values.{compared_with, is_factor, is_factor_constant, is_same_kind, is_unfit, is_unfit_value, kind_of_value};
+ghost use Rattle.nddl_arguments.specs.Values.{compared_with, is_factor, is_factor_constant, is_unfit, is_unfit_value, kind_of_value};
 
 use super::asked::Asked;
 use nddl_ast::expression::{Constant, Expr};
 use nddl_paths::Denoted;
 use nddl_sorts::TypeKind;
-
-fn is_same_kind(one: TypeKind, other: TypeKind) -> bool
-    ensures { result ≡ is_same_kind one other }
-{
-    match (one, other) {
-        (TypeKind::Int, TypeKind::Int)
-        | (TypeKind::Bool, TypeKind::Bool)
-        | (TypeKind::Object(_), TypeKind::Object(_)) => true,
-        (TypeKind::Enum(one), TypeKind::Enum(other)) => one == other,
-        _ => false,
-    }
-}
+use nddl_sorts::kind::are_one_kind;
 
 /// Of which kind the value is, if it is one.
 pub fn kind_of_value(meant: Denoted) -> Option<TypeKind>
@@ -36,7 +25,7 @@ fn is_unfit_value(wanted: Option<TypeKind>, meant: Denoted) -> bool
 {
     match (wanted, meant) {
         (None, Denoted::Value { .. }) => false,
-        (Some(wanted), Denoted::Value { kind, .. }) => !is_same_kind(wanted, kind),
+        (Some(wanted), Denoted::Value { kind, .. }) => !are_one_kind(wanted, kind),
         (_, Denoted::Unsettled) => false,
         (_, Denoted::Token(_) | Denoted::Class(_)) => true,
     }

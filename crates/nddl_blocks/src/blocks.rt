@@ -7,7 +7,6 @@ ghost use Rattle.nddl_ast.specs.Tree.{Statements};
 ghost use Rattle.nddl_scope.specs.Finding.{earliest_fault};
 ghost use Rattle.nddl_scope.specs.Index.{with_noted};
 ghost use Rattle.nddl_lines.specs.Facts.{facts_of};
-ghost use Rattle.nddl_classes.specs.Classes.{class_meaning_fault};
 ghost use Rattle.nddl_blocks.specs.Blocks.{block_faults, local_faults, local_value, object_unless, slot_faults, slot_value, turn_faults, turn_value};
 ghost use Rattle.nddl_blocks.specs.Seeing.{SeesMore, seeing_label, seeing_local, seeing_turn};
 
@@ -16,6 +15,7 @@ use nddl_arguments::{labelled_slot, note_ask, note_condition, note_init, note_ru
 use nddl_ast::TextKind;
 use nddl_ast::name::Name;
 use nddl_ast::statement::{Ask, Stmt, StmtBlock, Variable};
+use nddl_classes::class_fault;
 use nddl_known::note_all_type_faults;
 use nddl_lines::Basis;
 use nddl_paths::Denoted;
@@ -186,23 +186,6 @@ fn object_unless(meaning: Option<Meaning>, is_wrong: bool) -> Denoted
             constant: true,
         },
         _ => Denoted::Unsettled,
-    }
-}
-
-/// What is wrong with what means this as a class.
-pub fn class_fault(scope: &Scope, meaning: Option<Meaning>) -> Option<TextKind>
-    ensures { result ≡ class_meaning_fault scope.now meaning }
-{
-    match meaning {
-        None => Some(TextKind::Unknown),
-        Some(Meaning::BuiltIn(_)) => None,
-        Some(Meaning::Entry(entry)) => {
-            if scope.is_class(entry) {
-                None
-            } else {
-                Some(TextKind::WrongType)
-            }
-        }
     }
 }
 

@@ -6,13 +6,14 @@ ghost use Rattle.nddl_scope.specs.Finding.{earliest_fault};
 ghost use Rattle.nddl_lines.specs.Facts.{facts_of};
 ghost use Rattle.nddl_blocks.specs.Rules.{all_rule_faults, class_rule_faults, decl_rule_faults, member_rule_faults, member_token, members_rule_faults, part_rule_faults, rule_faults, rule_token, token_named, token_rule_faults, token_unless};
 
-use super::blocks::{class_fault, note_block};
+use super::blocks::note_block;
 use super::visible::Visible;
 use nddl_arguments::note_body_call;
 use nddl_ast::TextKind;
 use nddl_ast::declaration::{Decl, Member, PredicatePart};
 use nddl_ast::name::Name;
 use nddl_ast::statement::StmtBlock;
+use nddl_classes::class_fault;
 use nddl_lines::Basis;
 use nddl_paths::steps::token_step;
 use nddl_paths::{Denoted, PathFault, Predicate, TokenSort};

@@ -52,8 +52,8 @@ fn note_parent(scope: &Scope, decl: usize, parent: &Option<Name>, first: &mut Op
     }
 }
 
-// What is wrong with what means this as a class.
-fn class_fault(scope: &Scope, meaning: Option<Meaning>) -> Option<TextKind>
+/// What is wrong with what means this as a class.
+pub fn class_fault(scope: &Scope, meaning: Option<Meaning>) -> Option<TextKind>
     ensures { result ≡ class_meaning_fault scope.now meaning }
 {
     match meaning {

@@ -5,4 +5,4 @@ pub mod classes;
 pub mod constructors;
 pub mod members;
 
-pub use classes::note_class;
+pub use classes::{class_fault, note_class};

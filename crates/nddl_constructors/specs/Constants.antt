@@ -1,5 +1,5 @@
 -- What is wrong with values that have to be constants of some kind.
-use Rattle.std.specs.Prelude.{ℕ, ◌+◌, ◌==◌, Bool, true, false, ◌||◌, not, List, [], ◌∷◌, ◌++◌, Option, Some, None}
+use Rattle.std.specs.Prelude.{ℕ, ◌+◌, Bool, true, false, ◌||◌, not, List, [], ◌∷◌, ◌++◌, Option, Some, None}
 use Rattle.std.specs.Prelude.{Ok, Err, is_none, slice_get}
 use Rattle.std.specs.Option.{option_and_then}
 use Rattle.nddl_ast.specs.declared.expression.Expr.{Expr}
@@ -10,20 +10,12 @@ use Rattle.nddl_scope.specs.declared.fault.Fault.{Fault}
 use Rattle.nddl_scope.specs.Finding.{faults_here}
 use Rattle.nddl_scope.specs.Scope.{fault_if}
 use Rattle.nddl_sorts.specs.declared.kind.TypeKind.{TypeKind}
-use Rattle.nddl_sorts.specs.declared.kind.TypeKind.TheVariants as kinds
+use Rattle.nddl_sorts.specs.Kinds.{are_one_kind}
 use Rattle.nddl_lines.specs.Facts.{Facts}
 use Rattle.nddl_paths.specs.declared.denoted.Denoted.{Denoted}
 use Rattle.nddl_paths.specs.declared.denoted.Denoted.TheVariants as denoted
 use Rattle.nddl_paths.specs.Paths.{Surroundings, expr_denoted}
 use Rattle.nddl_paths.specs.Steps.{Understood}
-
--- two kinds are the same; all objects are of one
-abbrev pub are_one_kind : TypeKind → TypeKind → Bool
-are_one_kind kinds.Int kinds.Int = true
-are_one_kind kinds.Bool kinds.Bool = true
-are_one_kind (kinds.Enum one) (kinds.Enum other) = one == other
-are_one_kind (kinds.Object one) (kinds.Object other) = true
-are_one_kind one other = false
 
 -- another kind is wanted; where it isn't known which, nothing is said
 abbrev pub is_unwanted : Option TypeKind → TypeKind → Bool

@@ -1,7 +1,6 @@
 //! What is wrong with the bodies of constructors, whether they are ever run or not.
 
 ghost use Rattle.std.specs.Prelude.{◌≡◌, IfOk, OnOk, map};
-ghost use Rattle.std.specs.List.{flat_map};
 ghost use Rattle.nddl_ast.specs.declared.declaration.Set.TheVariants.{Field};
 ghost use Rattle.nddl_scope.specs.Finding.{earliest_fault};
 ghost use Rattle.nddl_lines.specs.Facts.{facts_of};

@@ -1,10 +1,10 @@
 //! What is wrong with values that have to be constants of some kind.
 
-ghost use Rattle.std.specs.Prelude.{◌≡◌, IfOk, OnOk};
+ghost use Rattle.std.specs.Prelude.{◌≡◌, OnOk};
 ghost use Rattle.nddl_scope.specs.Finding.{earliest_fault};
 ghost use Rattle.nddl_lines.specs.Facts.{facts_of};
 ghost use Rattle.nddl_paths.specs.Paths.{around_of};
-ghost use Rattle.nddl_constructors.specs.Constants.{are_one_kind, constant_fault, constant_faults, constants_faults, is_understood, is_unwanted, value_faults, wanted_at};
+ghost use Rattle.nddl_constructors.specs.Constants.{constant_fault, constant_faults, constants_faults, is_understood, is_unwanted, value_faults, wanted_at};
 
 use nddl_ast::TextKind;
 use nddl_ast::expression::Expr;
@@ -14,20 +14,8 @@ use nddl_scope::Fault;
 use nddl_scope::fault::note_at;
 use nddl_scope::twice::kind_if;
 use nddl_sorts::TypeKind;
+use nddl_sorts::kind::are_one_kind;
 use std::alloc::{AllocError, Global};
-
-/// Whether two kinds are the same. All objects are of one.
-pub fn are_one_kind(one: TypeKind, other: TypeKind) -> bool
-    ensures { result ≡ are_one_kind one other }
-{
-    match (one, other) {
-        (TypeKind::Int, TypeKind::Int) => true,
-        (TypeKind::Bool, TypeKind::Bool) => true,
-        (TypeKind::Enum(one), TypeKind::Enum(other)) => one == other,
-        (TypeKind::Object(_), TypeKind::Object(_)) => true,
-        _ => false,
-    }
-}
 
 // Whether another kind is wanted.
 fn is_unwanted(wanted: Option<TypeKind>, kind: TypeKind) -> bool

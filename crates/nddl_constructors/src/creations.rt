@@ -2,16 +2,16 @@
 
 ghost use Rattle.std.specs.Prelude.{◌≡◌, IfOk, OnOk};
 ghost use Rattle.nddl_ast.specs.declared.expression.Init.TheVariants.{New};
-ghost use Rattle.nddl_classes.specs.Classes.{class_meaning_fault};
 ghost use Rattle.nddl_scope.specs.Finding.{earliest_fault};
 ghost use Rattle.nddl_lines.specs.Facts.{facts_of};
 ghost use Rattle.nddl_paths.specs.Paths.{around_of};
-ghost use Rattle.nddl_constructors.specs.Creations.{class_alone, creation_faults, creation_faults_by, set_to_faults, is_no_object, is_of_class, is_wrong_count, made_fault, meaning_wants};
+ghost use Rattle.nddl_constructors.specs.Creations.{class_alone, creation_faults, creation_faults_by, set_to_faults, is_no_object, is_of_class, made_fault, meaning_wants};
 
 use super::constants::{note_arguments, note_value};
 use super::wants::class_wants;
 use nddl_ast::TextKind;
 use nddl_ast::expression::{Creation, Init};
+use nddl_classes::class_fault;
 use nddl_lines::Basis;
 use nddl_lines::lines::{is_same_meaning, is_under};
 use nddl_paths::Around;
@@ -20,23 +20,6 @@ use nddl_scope::twice::kind_if;
 use nddl_scope::{Fault, Meaning, Scope};
 use nddl_sorts::TypeKind;
 use std::alloc::{AllocError, Global};
-
-// What is wrong with what means this as a class.
-fn class_fault(scope: &Scope, meaning: Option<Meaning>) -> Option<TextKind>
-    ensures { result ≡ class_meaning_fault scope.now meaning }
-{
-    match meaning {
-        None => Some(TextKind::Unknown),
-        Some(Meaning::BuiltIn(_)) => None,
-        Some(Meaning::Entry(entry)) => {
-            if scope.is_class(entry) {
-                None
-            } else {
-                Some(TextKind::WrongType)
-            }
-        }
-    }
-}
 
 /// What means this, if it is a class.
 pub fn class_alone(scope: &Scope, meaning: Option<Meaning>) -> Option<Meaning>

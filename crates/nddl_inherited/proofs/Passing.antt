@@ -12,7 +12,7 @@ use Rattle.lineage.proofs.Lists.{get-set_same, get-set_other}
 use Rattle.lineage.proofs.Marking.{equal_or_not}
 use Rattle.nddl_ast.specs.declared.declaration.Decl.{Decl}
 use Rattle.nddl_scope.specs.declared.declared.Declared.{Declared}
-use Rattle.nddl_lines.specs.Ancestors.{ancestry, line_from, parent_in}
+use Rattle.nddl_lines.specs.Ancestors.{line_from, parent_in}
 use Rattle.nddl_lines.specs.Lines.{is_rooted}
 use Rattle.nddl_inherited.specs.Shorter.{AreShorter, adding_along, adds_members, passed_over}
 use Rattle.nddl_inherited.proofs.Ways.{ancestry_is, line_of_none, no_parent_is, parent_is, short_way}

@@ -1,5 +1,5 @@
 -- What classes add to a line that add no members to it is nothing.
-use Rattle.std.proofs.Common.{◌≡◌, ℕ, ◌++◌, false, List, [], refl, sym, ◌∙◌, ap}
+use Rattle.std.proofs.Common.{◌≡◌, ℕ, ◌++◌, false, List, [], refl, ◌∙◌, ap}
 use Rattle.std.specs.Prelude.{Option, Some, None, Result, Ok, Err, IfOk, OnOk}
 use Rattle.std.specs.List.{filter_map, flat_map}
 use Rattle.model_core.specs.declared.class.Enum.{Enum}

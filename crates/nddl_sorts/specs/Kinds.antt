@@ -1,5 +1,5 @@
 -- Which values a type has.
-use Rattle.std.specs.Prelude.{Bool, true, false, ◌&&◌, ℤ, int_le}
+use Rattle.std.specs.Prelude.{◌==◌, Bool, true, false, ◌&&◌, ℤ, int_le}
 use Rattle.nddl_sorts.specs.declared.kind.Extent.{Extent}
 use Rattle.nddl_sorts.specs.declared.kind.Extent.TheVariants as extents
 use Rattle.nddl_sorts.specs.declared.kind.TypeKind.{TypeKind}
@@ -11,6 +11,14 @@ abbrev pub is_within : Extent → ℤ → Bool
 is_within extents.Whole number = true
 is_within (extents.Range least greatest) number = int_le least number && int_le number greatest
 is_within (extents.Set members) number = has_number members number
+
+-- two kinds are the same; all objects are of one
+abbrev pub are_one_kind : TypeKind → TypeKind → Bool
+are_one_kind kinds.Int kinds.Int = true
+are_one_kind kinds.Bool kinds.Bool = true
+are_one_kind (kinds.Enum one) (kinds.Enum other) = one == other
+are_one_kind (kinds.Object one) (kinds.Object other) = true
+are_one_kind one other = false
 
 -- they are whole numbers and no written set, so a range may stand behind the type
 abbrev pub is_ranged : TypeKind → Extent → Bool

@@ -1,7 +1,7 @@
 //! What types mean.
 
 ghost use Rattle.std.specs.Prelude.{◌≡◌, IfOk};
-ghost use Rattle.nddl_sorts.specs.Kinds.{is_ranged, is_within};
+ghost use Rattle.nddl_sorts.specs.Kinds.{are_one_kind, is_ranged, is_within};
 
 use super::members::Members;
 use nddl_scope::Meaning;
@@ -34,6 +34,19 @@ pub enum Extent {
 pub struct TypeMeaning {
     pub kind: TypeKind,
     pub extent: Extent,
+}
+
+/// Whether two kinds are the same. All objects are of one.
+pub fn are_one_kind(one: TypeKind, other: TypeKind) -> bool
+    ensures { result ≡ are_one_kind one other }
+{
+    match (one, other) {
+        (TypeKind::Int, TypeKind::Int) => true,
+        (TypeKind::Bool, TypeKind::Bool) => true,
+        (TypeKind::Enum(one), TypeKind::Enum(other)) => one == other,
+        (TypeKind::Object(_), TypeKind::Object(_)) => true,
+        _ => false,
+    }
 }
 
 impl Extent {
