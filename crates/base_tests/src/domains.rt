@@ -115,36 +115,6 @@ fn copies_are_equal(rt: HostRuntime) {
     }
 }
 
-/// The value at the place, of the domain that is written so, and its only value.
-fn nth_and_single(
-    alloc: Global,
-    written: Written,
-    place: u32,
-) -> Option<(Option<i32>, Option<i32>)> {
-    match made(alloc, written) {
-        Some(domain) => Some((domain.nth(place), domain.single())),
-        None => None,
-    }
-}
-
-/// Domains and places, with the values there and the only values.
-const PLACES: [(Written, u32, Option<i32>, Option<i32>); 6] = [
-    (Members(&[7, -3, 0]), 0, Some(-3), None),
-    (Members(&[7, -3, 0]), 2, Some(7), None),
-    (Members(&[7, -3, 0]), 3, None, None),
-    (Ends(4, 6), 1, Some(5), None),
-    (Ends(4, 4), 1, None, Some(4)),
-    (Members(&[9]), 0, Some(9), Some(9)),
-];
-
-#[test]
-fn values_have_places(rt: HostRuntime) {
-    for (written, place, value, single) in &PLACES {
-        let found = nth_and_single(rt.alloc(), *written, *place);
-        assert_eq!(rt; found, Some((*value, *single)), "{place}");
-    }
-}
-
 /// What meeting the other domain answers and leaves.
 fn met_with(own: &mut Dom, other: &Dom) -> (Change, Shape) {
     let change = own.meet_set(other);
@@ -226,72 +196,6 @@ fn values_are_taken_out(rt: HostRuntime) {
         assert_eq!(rt;
             dropped(rt.alloc(), *own, *value),
             Some((*change, *left)),
-            "{place}"
-        );
-    }
-}
-
-/// What keeping the members from the least one on that are divisible by 4 answers and leaves.
-fn kept(members: &mut Dom, least: i32) -> Option<(Change, Shape)> {
-    if members.is_range() {
-        return None;
-    }
-    let change = members.keep_members(|member| member >= least && member % 4 == 0);
-    Some((change, shape(members)))
-}
-
-fn kept_of(alloc: Global, members: &[i32], least: i32) -> Option<(Change, Shape)> {
-    match Dom::set_of(alloc, members) {
-        Ok(mut members) => kept(&mut members, least),
-        Err(_) => None,
-    }
-}
-
-#[test]
-fn members_are_kept(rt: HostRuntime) {
-    let evens = [0, 2, 4, 6, 8];
-    let some = kept_of(rt.alloc(), evens.as_slice(), 0);
-    assert_eq!(rt; some, Some((Change::Smaller, (false, 0, 8, 3))));
-    let none = kept_of(rt.alloc(), evens.as_slice(), 9);
-    assert_eq!(rt; none, Some((Change::Empty, (false, 0, 8, 5))));
-    assert_eq!(rt;
-        kept_of(rt.alloc(), &[4, 8], 4),
-        Some((Change::Same, (false, 4, 8, 2)))
-    );
-}
-
-/// Whether the domains share a value.
-fn share(alloc: Global, one: Written, other: Written) -> Option<bool> {
-    match (made(alloc, one), made(alloc, other)) {
-        (Some(one), Some(other)) => Some(one.has_common(&other)),
-        _ => None,
-    }
-}
-
-/// Domains, and with which of them each shares a value.
-const DOMAINS: [(Written, [bool; 5]); 5] = [
-    (Ends(3, 5), [true, true, true, true, true]),
-    (Ends(5, 7), [true, true, false, true, false]),
-    (Members(&[0, 4, 9]), [true, false, true, true, false]),
-    (Members(&[1, 5, 9]), [true, true, true, true, false]),
-    (Members(&[2, 3]), [true, false, false, false, true]),
-];
-
-/// The first of the domains with which this one doesn't share values as the row says.
-fn wrong_in_row(alloc: Global, one: Written, row: &[bool]) -> Option<usize> {
-    for (place, ((other, _), shared)) in DOMAINS.iter().zip(row.iter()).enumerate() {
-        if share(alloc, one, *other) != Some(*shared) {
-            return Some(place);
-        }
-    }
-    None
-}
-
-#[test]
-fn domains_share_values(rt: HostRuntime) {
-    for (place, (one, row)) in DOMAINS.iter().enumerate() {
-        assert!(rt;
-            wrong_in_row(rt.alloc(), *one, row.as_slice()).is_none(),
             "{place}"
         );
     }

@@ -4,11 +4,7 @@
 #![tactic(auto)]
 
 #[cfg(test)]
-mod cells;
-#[cfg(test)]
 mod database;
-#[cfg(test)]
-mod logs;
 #[cfg(test)]
 mod names;
 #[cfg(test)]
@@ -16,14 +12,6 @@ mod narrowing;
 #[cfg(test)]
 mod networks;
 #[cfg(test)]
-mod rules;
-#[cfg(test)]
 mod sample;
 #[cfg(test)]
 mod shapes;
-#[cfg(test)]
-mod stores;
-#[cfg(test)]
-mod timelines;
-#[cfg(test)]
-mod tokens;
