@@ -3,7 +3,7 @@
 use super::answers::comes;
 use std::alloc::{AllocError, Global};
 
-const FIRST: [(&str, &str, &str); 70] = [
+const FIRST: [(&str, &str, &str); 72] = [
     ("eq(1.5, 1); float f;", "", "Float m 12"),
     ("class A { A(float n) { } }", "", "Float m 12"),
     ("int [0.5 3] x;", "", "Float m 5"),
@@ -80,6 +80,12 @@ const FIRST: [(&str, &str, &str); 70] = [
         "Twice m 36",
     ),
     ("class A { predicate P { A object; } }", "", "Twice m 26"),
+    ("class A { predicate P { int start; } }", "", "Twice m 28"),
+    (
+        "class A { predicate P { int duration; } }",
+        "",
+        "Twice m 28",
+    ),
     ("class Timeline;", "", "Twice m 6"),
     ("enum E { a, Object }", "", "Twice m 12"),
     ("int PlannerConfig;", "", "Twice m 4"),
