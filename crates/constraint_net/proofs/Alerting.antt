@@ -210,7 +210,7 @@ notes_of old new before after has alerts = record {
 -- ---- going back
 
 -- the lists that stand at one place are the same
-one_place : (cells : Celled) (place : ℕ) (one other : List Domain) → IsPlace cells place one → IsPlace cells place other → one ≡ other
+pub one_place : (cells : Celled) (place : ℕ) (one other : List Domain) → IsPlace cells place one → IsPlace cells place other → one ≡ other
 one_place cells place one other p q =
     ap newest_of (same_end p.0 q.0 (one ∷ p.1) (other ∷ q.1) (sym p.2.0 ∙ q.2.0) (omega (arith, p.2.1, q.2.1)))
 
@@ -220,7 +220,7 @@ stepped_none place cells agenda = λ there now p q.
     record { fewer = omega (arith, ap length same); each = λ variable below. inl (ap (λ list. domain_at list variable) same) }
 
 -- what stood at the place before
-place_before : (cells : Celled) (step : ℕ) (next : List Domain) → IsPlace cells (step + 1) next → (now : List Domain) × IsPlace cells step now
+pub place_before : (cells : Celled) (step : ℕ) (next : List Domain) → IsPlace cells (step + 1) next → (now : List Domain) × IsPlace cells step now
 place_before cells step next (newer, [], (is, long)) = absurd (omega (arith, long))
 place_before cells step next (newer, now ∷ older, (is, long)) = (now, (newer ++ next ∷ [], older, (is ∙ sym (append_assoc newer (next ∷ []) (now ∷ older)), omega (arith, long))))
 

@@ -346,6 +346,11 @@ mark_latest net domains tables constraints mark view kept newest count =
       omega (arith, count, ap length can.2.first.1, length-append can.1 can.2.first.0, can.2.count),
     ))
 
+pub place_in : (net : Network) (domains : Domains) (tables : Vec Field Global) (constraints : List Constraint) (mark : Mark) → network_of domains tables constraints ≡ net → IsKeptNet domains tables constraints
+    → (there : List Domain) (posted : List Constraint) → IsMark net mark there posted → IsPlace domains.cells mark.cells there
+place_in net domains tables constraints mark view kept there posted is =
+    subst (λ cells. IsPlace cells mark.cells there) (celled_is domains tables constraints kept.sound.place) (subst (λ n. IsMark n mark there posted) (sym view) is).place
+
 module _ (net : Network) (old new : Domains) (tables : Vec Field Global) (constraints left : List Constraint) (mark : Mark) (view : network_of old tables constraints ≡ net) (kept : IsKeptNet old tables constraints) (can : CanReturn net mark) where
   there : IsMark (network_of old tables constraints) mark can.0 can.1
   there = subst (λ n. IsMark n mark can.0 can.1) (sym view) can.2

@@ -14,3 +14,4 @@ pub mod Keepers
 pub mod Outcome
 pub mod Marking
 pub mod Watching
+pub mod Writing

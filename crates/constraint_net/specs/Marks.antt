@@ -1,7 +1,7 @@
 -- Marks of a network, and going back to one.
-use Rattle.std.specs.Prelude.{◌≡◌, ◌≤◌, List, ◌++◌, length, All, take}
+use Rattle.std.specs.Prelude.{◌≡◌, ℕ, ◌<◌, ◌≤◌, ◌⊎◌, List, ◌++◌, length, All, Contains, take}
 use Rattle.domain_core.specs.Domain.{Domain, IsDomain}
-use Rattle.cell_store.specs.Cells.{IsPlace, GoesBack}
+use Rattle.cell_store.specs.Cells.{domain_at, IsPlace, GoesBack}
 use Rattle.constraint_net.specs.Calls.{Notes}
 use Rattle.constraint_net.specs.Networks.{Network, cells_of}
 use Rattle.constraint_net.specs.Waiting.{WerePosted}
@@ -40,3 +40,9 @@ pub record Returns (mark : Mark) (old new : Network) : Type 0 where
   pub tables : new.tables ≡ old.tables
   pub work : new.work ≡ old.work
   pub notes : Notes old.domains new.domains old.changed new.changed
+
+-- each variable that there was, and whose domain is another one now, is among the numbers
+abbrev pub HaveChanged : List ℕ → List Domain → List Domain → Type 0
+HaveChanged numbers there now =
+    (variable : ℕ) → variable < length there
+    → (domain_at now variable ≡ domain_at there variable) ⊎ Contains numbers variable

@@ -18,6 +18,7 @@ mod queue;
 mod reading;
 mod settling;
 mod watchers;
+mod written;
 
 pub use constraint::NetArg;
 pub use network::{Mark, Net};

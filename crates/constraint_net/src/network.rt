@@ -1,16 +1,17 @@
 //! Networks.
 
-ghost use Rattle.std.specs.Prelude.{◌≡◌, ◌^◌, ◌<◌, ◌≤◌, [], ◌∷◌, ◌++◌, All, length, take};
-ghost use Rattle.std.specs.Prelude.{OnErr, IfOk, MatchOption, Some};
+ghost use Rattle.std.specs.Prelude.{◌≡◌, ◌^◌, ◌<◌, ◌≤◌, List, [], ◌∷◌, ◌++◌, All, length, take};
+ghost use Rattle.std.specs.Prelude.{Contains, IsTrue, OnErr, IfOk, MatchOption, Some};
 ghost use Rattle.std.specs.Prelude.{slice_get};
-ghost use Rattle.domain_core.specs.Domain.{IsDomain};
+ghost use Rattle.domain_core.specs.Domain.{Domain, IsDomain};
 ghost use Rattle.constraint_net.specs.Networks.{CanPost, AllConsistent};
 ghost use Rattle.constraint_net.specs.Steps.{SettlesTo};
 ghost use Rattle.constraint_net.specs.Calls.{IsAscending, given_by, table_of, AddsVar, Limits, Posts};
 ghost use Rattle.constraint_net.specs.Calls.{GoesDown, TakesChanged};
 ghost use Rattle.constraint_net.specs.Agendas.{Forgets};
 ghost use Rattle.constraint_net.specs.Waiting.{NameWithin};
-ghost use Rattle.constraint_net.specs.Marks.{IsMark, IsLatest, CanReturn, Returns};
+ghost use Rattle.constraint_net.specs.Marks.{IsMark, IsLatest, CanReturn, Returns, HaveChanged};
+ghost use Rattle.constraint_net.specs.declared.constraint.Constraint.{Constraint};
 
 use super::NetFault;
 use super::agenda::Agenda;
@@ -18,6 +19,7 @@ use super::constraint::NetArg;
 use super::domains::Domains;
 use super::posted::Posted;
 use super::settling::settle;
+use super::written::written_since;
 use cell_store::Mark as CellMark;
 use domain_core::Change;
 use domain_core::domain::Dom;
@@ -104,6 +106,14 @@ impl Net {
         self.constraints.push(kind, args)
     }
 
+    /// Whether the constraint is known to be posted. Only those that one variable is at most another can be known, and even these
+    /// not for sure: the answer spares a second one.
+    pub fn is_known(&self, kind: Kind, args: &[NetArg]) -> bool
+        ensures { IsTrue result → Contains self.now.constraints (record { kind = kind; args = args.now }) }
+    {
+        self.constraints.is_known(kind, args)
+    }
+
     /// Keeps the values of the variable that the other domain has too.
     pub fn limit(&mut self, variable: usize, to: &Dom) -> Result<Change, AllocError>
         requires { variable < length self.old.domains }
@@ -165,6 +175,15 @@ impl Net {
             mark.constraints,
         );
         self.domains.cells.back_to(mark.cells);
+    }
+
+    /// The variables that were written since the mark, by number, some of them perhaps twice.
+    pub fn written_since(&self, mark: Mark) -> Result<Vec<usize>, AllocError>
+        requires { CanReturn self.now mark }
+        ensures { IfOk result (λ numbers. (domains : List Domain) (constraints : List Constraint)
+            → IsMark self.now mark domains constraints → HaveChanged numbers.items domains self.now.domains) }
+    {
+        written_since(*self.tables.allocator(), &self.domains.cells, mark.cells)
     }
 
     /// Takes the next variable off the list of those that have changed. That list has each variable whose domain was

@@ -1,8 +1,11 @@
 //! The constraints that were posted.
 
-ghost use Rattle.std.specs.Prelude.{◌≡◌, [], ◌∷◌, ◌++◌, length, option_copied, slice_get, OnOk, OnErr, MatchOption};
+ghost use Rattle.std.specs.Prelude.{◌≡◌, ℕ, [], ◌∷◌, ◌++◌, length, option_copied, slice_get, Contains, IsTrue, IfSome, OnOk, OnErr, MatchOption};
+ghost use Rattle.model_core.specs.declared.item.Kind.TheVariants.{Leq};
+ghost use Rattle.constraint_net.specs.declared.constraint.NetArg.TheVariants.{Var};
 
 use super::constraint::{Arguments, Constraint, NetArg};
+use indexmap::IndexMap;
 use model_core::item::Kind;
 use slab::Slab;
 use std::alloc::{AllocError, Global};
@@ -14,6 +17,9 @@ pub struct Posted {
     kept: Slab<Constraint>,
     // The key of each constraint, by number.
     keys: Vec<usize>,
+    // The number of a constraint that the one variable is at most the other, under the two. What stands there is looked up
+    // before it is relied on.
+    places: IndexMap<(usize, usize), usize>,
 }
 
 impl Model for Posted {
@@ -36,6 +42,7 @@ impl Posted {
         Posted {
             kept: Slab::new(alloc),
             keys: Vec::new(alloc),
+            places: IndexMap::new(alloc),
         }
     }
 
@@ -50,8 +57,47 @@ impl Posted {
         ensures ok { OnOk result (self.new ≡ self.old ++ record { kind = kind; args = args.now } ∷ []) }
         ensures err { OnErr result (self.new ≡ self.old) }
     {
+        self.note_place(kind, args)?;
         let args = Arguments::copied_from(*self.keys.allocator(), args)?;
         self.store(Constraint { kind, args })
+    }
+
+    // Notes where the constraint is going to stand, if it is of those that can be found, and isn't there already.
+    fn note_place(&mut self, kind: Kind, args: &[NetArg]) -> Result<(), AllocError>
+        ensures { self.new ≡ self.old }
+    {
+        let Some(pair) = at_most_pair(kind, args) else {
+            return Ok(());
+        };
+        if self.stands(pair) {
+            return Ok(());
+        }
+        self.places.insert(pair, self.keys.len())?;
+        Ok(())
+    }
+
+    // Whether at the place that is noted for the two variables there is the constraint that the one is at most the other.
+    fn stands(&self, pair: (usize, usize)) -> bool
+        ensures { IsTrue result → Contains self.now (record { kind = Leq; args = Var pair.0 ∷ Var pair.1 ∷ [] }) }
+    {
+        let Some(number) = self.places.get(&pair) else {
+            return false;
+        };
+        match self.get(*number) {
+            Some(constraint) => is_at_most(constraint, pair),
+            None => false,
+        }
+    }
+
+    /// Whether the constraint is known to be among them. Only those that one variable is at most another can be known, and even
+    /// these not for sure.
+    pub fn is_known(&self, kind: Kind, args: &[NetArg]) -> bool
+        ensures { IsTrue result → Contains self.now (record { kind = kind; args = args.now }) }
+    {
+        match at_most_pair(kind, args) {
+            Some(pair) => self.stands(pair),
+            None => false,
+        }
     }
 
     // The same for a constraint that is at hand.
@@ -81,6 +127,36 @@ impl Posted {
             (λ constraint. self.old ≡ self.new ++ constraint ∷ []) }
     {
         let key = self.keys.pop()?;
+        forget_last(&mut self.places, self.keys.len());
         self.kept.try_remove(key)
+    }
+}
+
+// The two variables, where the constraint is that the one is at most the other.
+fn at_most_pair(kind: Kind, args: &[NetArg]) -> Option<(usize, usize)>
+    ensures { IfSome result (λ pair. (kind ≡ Leq) × (args.now ≡ Var pair.0 ∷ Var pair.1 ∷ [])) }
+{
+    match (kind, args) {
+        (Kind::Leq, [NetArg::Var(one), NetArg::Var(other)]) => Some((*one, *other)),
+        _ => None,
+    }
+}
+
+// Whether the constraint is that the one variable is at most the other.
+fn is_at_most(constraint: &Constraint, pair: (usize, usize)) -> bool
+    ensures { IsTrue result → constraint.now ≡ record { kind = Leq; args = Var pair.0 ∷ Var pair.1 ∷ [] } }
+{
+    match at_most_pair(constraint.kind, constraint.args.as_slice()) {
+        Some(found) => found.0 == pair.0 && found.1 == pair.1,
+        None => false,
+    }
+}
+
+// Takes the last place off, if it isn't below the count. Places are noted as they rise, so none stays behind.
+fn forget_last(places: &mut IndexMap<(usize, usize), usize>, count: usize) {
+    if let Some((_pair, number)) = places.last() {
+        if *number >= count {
+            let _last = places.pop();
+        }
     }
 }
