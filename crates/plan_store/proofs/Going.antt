@@ -1,11 +1,13 @@
 -- Marks stay while a store goes on, and going back to one.
-use Rattle.std.proofs.Common.{◌≡◌, ℕ, ◌+◌, ◌≤◌, List, [], ◌∷◌, ◌++◌, length, take, drop, refl, sym, ap, ◌∙◌, subst, arith, length-append, append_assoc}
+use Rattle.std.proofs.Common.{◌≡◌, ℕ, ◌+◌, ◌<◌, ◌≤◌, inl, inr, ◌⊎◌, List, [], ◌∷◌, ◌++◌, length, take, drop, refl, sym, ap, ◌∙◌, subst, arith, length-append, append_assoc}
+use Rattle.std.specs.Prelude.{Contains}
+use Rattle.std.proofs.lemmas.Bool.{cases_lt}
 use Rattle.std.proofs.lemmas.List.{append-nil, take-append-drop, take-append-le, take-take, take_all, take_at, length-take-le}
 use Rattle.domain_core.specs.Domain.{Domain}
 use Rattle.cell_store.specs.Cells.{newest_of}
 use Rattle.eu_name.specs.declared.name.TokenName.{TokenName}
 use Rattle.token_store.specs.Tokens.{TokenList, TokenPast, tokens_now, token_names, LeavesPast, NamesStay}
-use Rattle.constraint_net.specs.Marks.{IsMark, IsLatest, KeepMarks, Returns}
+use Rattle.constraint_net.specs.Marks.{IsMark, IsLatest, CanReturn, KeepMarks, Returns, HaveChanged}
 use Rattle.constraint_net.specs.Networks.{Network, cells_of}
 use Rattle.constraint_net.specs.declared.constraint.Constraint.{Constraint}
 use Rattle.constraint_net.specs.declared.network.Mark.{Mark as NetMark}
@@ -15,7 +17,7 @@ use Rattle.plan_store.specs.declared.store.Mark.{Mark}
 use Rattle.plan_store.specs.declared.watchers.Watch.{Watch}
 use Rattle.plan_store.specs.Stamps.{FollowStamps, StampsGoOn}
 use Rattle.plan_store.specs.Stores.{Stored, Snapshot, snapshot_of, IsSnapshot}
-use Rattle.plan_store.specs.StoreMarks.{AreFirst, IsStoreMark, IsMarkBefore, CanGoBack, KeepStoreMarks, GoesBackTo}
+use Rattle.plan_store.specs.StoreMarks.{AreFirst, IsStoreMark, IsMarkBefore, CanGoBack, KeepStoreMarks, GoesBackTo, AreTouched}
 use Rattle.plan_store.proofs.Following.{NetGoesOn, net_same, goes_on_both, stamps_return, names_back}
 
 -- ---- going on
@@ -300,3 +302,28 @@ pub sound_again : (view seen new : Stored) (mark : Mark) → view ≡ seen → H
 sound_again view seen new mark same back can_go =
     let can = subst (λ s. CanGoBack s mark) (sym same) can_go in
     is_again mark view new back can.0 can.1
+
+-- ---- what was touched since a mark
+
+pub can_return : (view stored : Stored) (mark : Mark) → view ≡ stored → CanGoBack stored mark → CanReturn view.net mark.net
+can_return view stored mark same can = subst (λ (s : Stored). CanReturn s.net mark.net) (sym same) (can.0.domains, can.0.posted, can.1.net)
+
+pub touched : (view stored : Stored) (mark : Mark) (written numbers : List ℕ) → view ≡ stored
+    → ((domains : List Domain) (posted : List Constraint) → IsMark view.net mark.net domains posted → HaveChanged written domains view.net.domains)
+    → ((number : ℕ) → Contains written number → Contains numbers number)
+    → ((number : ℕ) → mark.variables ≤ number → number < length view.keys → Contains numbers number)
+    → (there : Snapshot) → IsStoreMark stored mark there → AreTouched numbers there stored
+touched view stored mark written numbers same changed kept all there is =
+    subst (AreTouched numbers there) same (λ number below. elim (cases_lt number (length there.keys)) [
+      | inl old ↦ elim (changed there.domains there.posted marked.net number (omega (arith, old, is.is.count))) [
+        | inl still ↦ inl (old, still)
+        | inr among ↦ inr (kept number among)
+      ]
+      | inr new ↦ inr (all number (omega (arith, new, count)) below)
+    ])
+  where
+    marked : IsStoreMark view mark there
+    marked = subst (λ s. IsStoreMark s mark there) (sym same) is
+
+    count : length there.keys ≡ mark.variables
+    count = let fits = marked.keys.0 in ap length marked.keys.1 ∙ length-take-le mark.variables view.keys fits

@@ -1,8 +1,9 @@
 -- Lists whose items are there once, and what is found in them.
-use Rattle.std.proofs.Common.{◌≡◌, ℕ, zero, suc, List, [], ◌∷◌, ◌++◌, length, map, slice_get, Option, Some, None, Bool, true, false, not, if◌then◌else◌, get_or, refl, sym, ap, ◌∙◌, subst, arith}
+use Rattle.std.proofs.Common.{◌≡◌, ℕ, zero, suc, ◌+◌, ◌<◌, ◌≤◌, inl, inr, List, [], ◌∷◌, ◌++◌, length, map, slice_get, Option, Some, None, Bool, true, false, not, if◌then◌else◌, get_or, refl, sym, ap, ◌∙◌, subst, arith}
 use Rattle.std.specs.Prelude.{◌≢◌, AllPairs, Contains, is_some, position, Ok}
 use Rattle.std.specs.List.{list_any, position_or_len}
-use Rattle.std.proofs.lemmas.List.Elements.{Contains-get_or}
+use Rattle.std.proofs.lemmas.Bool.{cases_lt}
+use Rattle.std.proofs.lemmas.List.Elements.{Contains-append_left, Contains-append_right, Contains-get_or}
 use Rattle.std.proofs.lemmas.List.Folds.{list_any_at}
 use Rattle.std.proofs.lemmas.List.Sums.{position_or_len_is}
 use Rattle.std.proofs.lemmas.List.Quantifiers.{all_pairs_push, position-Some}
@@ -92,3 +93,17 @@ pub unmapped : {X Y : Type 0} (f : X → Y) (xs : List X) (k : ℕ) (y : Y) → 
 unmapped f [] k y is = absurd (cc)
 unmapped f (x ∷ xs) zero y is = (x, refl, cc)
 unmapped f (x ∷ xs) (suc k) y is = unmapped f xs k y is
+
+-- ---- numbers that are pushed
+
+pub more_pushed : (numbers : List ℕ) (last number : ℕ) → Contains numbers number → Contains (numbers ++ last ∷ []) number
+more_pushed numbers last number there = Contains-append_left numbers (last ∷ []) number there
+
+-- all numbers from the one up to the last that is pushed
+pub all_pushed : (from : ℕ) (numbers : List ℕ) (last : ℕ) → ((number : ℕ) → from ≤ number → number < last → Contains numbers number)
+    → (number : ℕ) → from ≤ number → number < last + 1 → Contains (numbers ++ last ∷ []) number
+all_pushed from numbers last all number over below = elim (cases_lt number last) [
+  | inl less ↦ more_pushed numbers last number (all number over less)
+  | inr least ↦ subst (Contains (numbers ++ last ∷ [])) (let same : last ≡ number = omega (arith, below, least) in same)
+      (Contains-append_right numbers (last ∷ []) last (0, omega arith, refl))
+]

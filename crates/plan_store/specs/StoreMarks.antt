@@ -1,5 +1,6 @@
 -- Marks of a store, and going back to one.
-use Rattle.std.specs.Prelude.{◌≡◌, ℕ, ◌≤◌, List, ◌∷◌, ◌++◌, length, take}
+use Rattle.std.specs.Prelude.{◌≡◌, ◌⊎◌, ℕ, ◌<◌, ◌≤◌, List, ◌∷◌, ◌++◌, length, take, Contains}
+use Rattle.cell_store.specs.Cells.{domain_at}
 use Rattle.token_store.specs.Tokens.{TokenPast}
 use Rattle.constraint_net.specs.Marks.{IsMark, Returns}
 use Rattle.plan_store.specs.declared.store.Mark.{Mark}
@@ -46,3 +47,10 @@ pub record GoesBackTo (mark : Mark) (old new : Stored) : Type 0 where
       → IsMarkBefore earlier mark → IsStoreMark old earlier there → IsStoreMark new earlier there
   pub stamps : FollowStamps old new
   pub net : Returns mark.net old.net new.net
+
+-- each variable that there is was there at the mark, with the domain that it has, or is among the numbers
+abbrev pub AreTouched : List ℕ → Snapshot → Stored → Type 0
+AreTouched numbers there stored =
+    (number : ℕ) → number < length stored.keys
+    → ((number < length there.keys) × (domain_at stored.net.domains number ≡ domain_at there.domains number))
+    ⊎ Contains numbers number

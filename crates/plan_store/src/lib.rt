@@ -12,6 +12,7 @@
 //! ```
 #![tactic(auto)]
 
+mod expecting;
 mod items;
 pub mod key;
 pub mod laws;

@@ -1,6 +1,6 @@
 //! The store.
 
-ghost use Rattle.std.specs.Prelude.{◌≡◌, ◌^◌, ◌<◌, ◌≤◌, [], ◌∷◌, ◌++◌, length, option_copied, slice_get};
+ghost use Rattle.std.specs.Prelude.{◌≡◌, ℕ, ◌^◌, ◌<◌, ◌≤◌, [], ◌∷◌, ◌++◌, length, option_copied, slice_get};
 ghost use Rattle.std.specs.Prelude.{Contains, IfOk, OnOk, OnErr, MatchOption};
 ghost use Rattle.domain_core.specs.Domain.{Domain, IsDomain};
 ghost use Rattle.eu_name.specs.Laws.{DecidesEquality};
@@ -9,12 +9,13 @@ ghost use Rattle.constraint_net.specs.Calls.{IsAscending, table_of, AddsVar, Lim
 ghost use Rattle.constraint_net.specs.Networks.{CanPost, AllConsistent};
 ghost use Rattle.constraint_net.specs.Steps.{SettlesTo};
 ghost use Rattle.plan_store.specs.Keys.{IsKeyBelow};
-ghost use Rattle.plan_store.specs.Stores.{snapshot_of, IsSnapshot, blocks_watching, variable_names};
+ghost use Rattle.plan_store.specs.Stores.{Snapshot, snapshot_of, IsSnapshot, blocks_watching, variable_names};
 ghost use Rattle.plan_store.specs.Puts.{FindsItem, PutsToken, PutsVariable, PutsBlock, ChangesNet};
 ghost use Rattle.plan_store.specs.Stamps.{HasStamp};
-ghost use Rattle.plan_store.specs.StoreMarks.{IsStoreMark, IsMarkBefore, CanGoBack, KeepStoreMarks, GoesBackTo};
+ghost use Rattle.plan_store.specs.StoreMarks.{IsStoreMark, IsMarkBefore, CanGoBack, KeepStoreMarks, GoesBackTo, AreTouched};
 ghost use Rattle.plan_store.specs.Finding.{FindsKey, AddsKey};
 
+use super::expecting::{expected, note_start};
 use super::items::{find, put, put_in_room};
 use super::key::{OpenBlock, VarKey};
 use super::laws::keys_are_told_apart;
@@ -38,6 +39,9 @@ pub struct Store {
     tokens: Tokens,
     // The number of a key is that of its variable in the network.
     variables: IndexSet<VarKey>,
+    // By place, the number of each token's start, which spares most look-ups of its parts. What stands there is compared before it
+    // is relied on.
+    starts: Vec<usize>,
     blocks: IndexSet<OpenBlock>,
     watchers: Watchers,
     net: Net,
@@ -87,6 +91,7 @@ impl Store {
         Store {
             tokens: Tokens::new(alloc),
             variables: IndexSet::new(alloc),
+            starts: Vec::new(alloc),
             blocks: IndexSet::new(alloc),
             watchers: Watchers::new(alloc),
             net: Net::new(alloc),
@@ -149,6 +154,7 @@ impl Store {
         if find(&self.variables, &key).is_some() {
             return Ok(None);
         }
+        note_start(&mut self.starts, key, self.variables.len())?;
         let number = add_key(&mut self.variables, &mut self.net, key, domain)?;
         Ok(Some(number))
     }
@@ -158,7 +164,10 @@ impl Store {
         ensures { FindsItem self.now.keys key result }
     {
         keys_are_told_apart();
-        find(&self.variables, &key)
+        match expected(&self.variables, self.starts.as_slice(), key) {
+            Some(number) => Some(number),
+            None => find(&self.variables, &key),
+        }
     }
 
     /// The number of the variable of this name.
@@ -313,6 +322,17 @@ impl Store {
         }
     }
 
+    /// The variables that came or were written since the mark, by number, some of them perhaps twice.
+    pub fn touched_since(&self, mark: Mark) -> Result<Vec<usize>, AllocError>
+        requires { CanGoBack self.now mark }
+        ensures { IfOk result (λ numbers. (there : Snapshot)
+            → IsStoreMark self.now mark there → AreTouched numbers.items there self.now) }
+    {
+        let mut numbers = self.net.written_since(mark.net)?;
+        put_numbers(&mut numbers, mark.variables, self.variables.len())?;
+        Ok(numbers)
+    }
+
     /// Brings back what there was at the mark, without memory.
     pub fn back_to(&mut self, mark: Mark)
         requires { CanGoBack self.old mark }
@@ -345,6 +365,17 @@ fn add_key(
     let number = net.add_var(domain)?;
     put_in_room(variables, key);
     Ok(number)
+}
+
+// Puts the numbers from the one on that are below the other behind those that are there.
+fn put_numbers(numbers: &mut Vec<usize>, from: usize, to: usize) -> Result<(), AllocError>
+    ensures kept { OnOk result ((number : ℕ) → Contains numbers.old.items number → Contains numbers.new.items number) }
+    ensures all { OnOk result ((number : ℕ) → from ≤ number → number < to → Contains numbers.new.items number) }
+{
+    for number in from..to {
+        numbers.push(number)?;
+    }
+    Ok(())
 }
 
 // The key of the variable of this name. None where there is no token of the name's token.
