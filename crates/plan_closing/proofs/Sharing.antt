@@ -1,8 +1,10 @@
 -- Tokens that share a timeline.
-use Rattle.std.proofs.Common.{◌≡◌, ◌⊎◌, inl, inr, ℕ, ◌+◌, ◌<◌, List, length, slice_get, Bool, true, false, Option, Some, None, refl, sym, ap, ◌∙◌, subst, arith}
+use Rattle.std.proofs.Common.{◌≡◌, ◌⊎◌, inl, inr, ℕ, ◌+◌, ◌<◌, List, [], length, slice_get, Bool, true, false, Option, Some, None, refl, sym, ap, ◌∙◌, subst, arith}
 use Rattle.std.specs.Prelude.{ℤ, ◌<ℤ◌, ◌↔◌, ◌≢◌, IsTrue, MatchBool, MatchOption, IfSome, IfNone, Result, OnOk}
 use Rattle.std.specs.declared.alloc.AllocError.{AllocError}
 use Rattle.std.proofs.lemmas.Bool.{cases_lt}
+use Rattle.std.proofs.lemmas.List.{append-nil}
+use Rattle.std.proofs.lemmas.List.Elements.{All-nil}
 use Rattle.std.proofs.lemmas.Option.{slice_get-get_or}
 use Rattle.domain_core.specs.Domain.{Domain, IsSingle, least, greatest}
 use Rattle.eu_name.specs.declared.name.Part.TheVariants.{Start, End, Object}
@@ -17,6 +19,7 @@ use Rattle.token_store.specs.Orders.{name_at}
 use Rattle.token_store.specs.Tokens.{tokens_now, token_states}
 use Rattle.plan_defs.specs.Claims.{Claim}
 use Rattle.plan_defs.specs.Timelines.{IsOn, EndsTooLate}
+use Rattle.plan_growth.specs.Claims.{IsPostedIn}
 use Rattle.plan_growth.specs.Content.{Content, shown}
 use Rattle.plan_growth.specs.Growth.{ends_before}
 use Rattle.timeline_core.specs.Unordered.{IsActiveOn, TakesPlace}
@@ -26,7 +29,7 @@ use Rattle.plan_store.proofs.Naming.{same_place, length_names}
 use Rattle.plan_posting.specs.Origins.{content_now}
 use Rattle.plan_posting.specs.Posted.{OnlyPosts, PostsClaims}
 use Rattle.plan_closing.specs.Turns.{HaveDecided, FindsTimeline, SeesToClaims, SaysTurn, IsTurnOf, TakeTheirTurns, TakesTurnsBefore, TakesTurns}
-use Rattle.plan_closing.proofs.Claimed.{sees_none, sees_posted, sees_same, sees_both, ok_then}
+use Rattle.plan_closing.proofs.Claimed.{SaysOne, sees_none, sees_posted, sees_same, sees_both, ok_then}
 use Rattle.plan_closing.proofs.Domains.{gives_same, token_place}
 
 module _ (stored : Stored) (is : IsSnapshot (snapshot_of stored)) where
@@ -111,6 +114,16 @@ finds_on model old new place found only finds = λ decisions decided.
     ((timeline : ℤ) → IsActiveOn model decisions (shown content) (name_at content.tokens place) timeline → ⊥)
     (IsActiveOn model decisions (shown content) (name_at content.tokens place)))
     (sym (same_content old new only)) (finds decisions (decided_back model decisions old new only decided))
+
+-- a turn was posted before
+pub turn_known : (content : Content) (one other : TokenName) (stored : Stored) → IsPostedIn content.names stored.net.constraints (ends_before other one)
+    → SeesToClaims content.names (SaysTurn (shown content) one other) stored.net.constraints stored.net.constraints
+turn_known content one other stored posted = record {
+  later = [];
+  behind = sym (append-nil stored.net.constraints);
+  each = All-nil (SaysOne content.names (SaysTurn (shown content) one other));
+  all = λ claim says. subst (IsPostedIn content.names stored.net.constraints) (sym says.1) posted;
+}
 
 -- a turn was posted
 pub turn_posted : (content : Content) (one other : TokenName) (old new : Stored) (result : Result (Unit {0}) AllocError) → EndsTooLate (shown content) one other

@@ -20,7 +20,7 @@ ghost use Rattle.plan_closing.specs.Turns.{HaveDecided, FindsTimeline, SeesToCla
 use domain_core::domain::Dom;
 use eu_name::name::Part;
 use model_core::model::Model;
-use plan_posting::{PartAt, post_at_most};
+use plan_posting::{PartAt, is_known_at_most, post_at_most};
 use plan_store::{Store, VarKey};
 use std::alloc::AllocError;
 use timeline_core::{is_timeline, takes_place};
@@ -109,7 +109,8 @@ fn ends_too_late(store: &Store, one: u32, other: u32) -> bool
     is_below(start, end)
 }
 
-// Asks from now on that the other token ends before the one starts, where the one can't end before the other starts.
+// Asks from now on that the other token ends before the one starts, where the one can't end before the other starts and this
+// isn't asked already.
 fn post_turn(store: &mut Store, one: u32, other: u32) -> Result<(), AllocError>
     requires one { HasTimesAt store.old one }
     requires other { HasTimesAt store.old other }
@@ -130,6 +131,9 @@ fn post_turn(store: &mut Store, one: u32, other: u32) -> Result<(), AllocError>
         token: one,
         part: Part::Start,
     };
+    if is_known_at_most(store, end, start) {
+        return Ok(());
+    }
     post_at_most(store, end, start)
 }
 

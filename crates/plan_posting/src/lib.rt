@@ -23,6 +23,7 @@ pub use arguments::{argument_of, place_of};
 pub use counting::{counts, is_rejectable, term_counts};
 pub use origin::{Origin, PartAt};
 pub use posting::{
-    post_at_most, post_constraint, post_equal, post_item, post_lasts, post_relation,
+    is_known_at_most, post_at_most, post_constraint, post_equal, post_item, post_lasts,
+    post_relation,
 };
 pub use tables::add_tables;

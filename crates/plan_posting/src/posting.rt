@@ -1,6 +1,6 @@
 //! Items and tokens as constraints.
 
-ghost use Rattle.std.specs.Prelude.{◌≡◌, List, length, All, Contains, OnOk};
+ghost use Rattle.std.specs.Prelude.{◌≡◌, List, length, All, Contains, IsTrue, OnOk};
 ghost use Rattle.eu_name.specs.declared.name.Part.TheVariants as parts;
 ghost use Rattle.eu_name.specs.declared.name.TokenName.{TokenName};
 ghost use Rattle.model_core.specs.declared.item.Item.TheVariants.{Relation};
@@ -8,6 +8,7 @@ ghost use Rattle.model_core.specs.Tokens.{slot_token};
 ghost use Rattle.token_store.specs.Orders.{name_at};
 ghost use Rattle.token_store.specs.Tokens.{tokens_now};
 ghost use Rattle.plan_defs.specs.Claims.{at_most, equal, lasts, relates};
+ghost use Rattle.plan_growth.specs.Claims.{IsPostedIn};
 ghost use Rattle.plan_progress.specs.Coming.{IsTermThere};
 ghost use Rattle.plan_store.specs.StoreMarks.{KeepStoreMarks};
 ghost use Rattle.plan_store.specs.Stores.{Stored};
@@ -62,6 +63,20 @@ pub fn post_at_most(store: &mut Store, one: PartAt, other: PartAt) -> Result<(),
     store.is_sound();
     let args = [part_argument(store, one), part_argument(store, other)];
     store.post(Kind::Leq, &args)
+}
+
+/// Whether it is known that the one part is asked to be at most the other, as `post_at_most` asks it. Where it isn't known, it may
+/// be asked even so.
+pub fn is_known_at_most(store: &Store, one: PartAt, other: PartAt) -> bool
+    requires one { HasPartAt store.now one }
+    requires other { HasPartAt store.now other }
+    ensures { IsTrue result → (let content = content_now store.now in
+        IsPostedIn content.names store.now.net.constraints
+        (at_most (argument_named content.tokens one) (argument_named content.tokens other))) }
+{
+    store.is_sound();
+    let args = [part_argument(store, one), part_argument(store, other)];
+    store.net().is_known(Kind::Leq, &args)
 }
 
 /// Asks from now on that the two parts are equal.
