@@ -3,3 +3,4 @@ pub mod Completing
 pub mod Fitting
 pub mod Looping
 pub mod Opened
+pub mod Remaining

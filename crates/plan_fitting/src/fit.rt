@@ -8,13 +8,15 @@ ghost use Rattle.plan_defs.specs.Settling.{IsSettled};
 ghost use Rattle.plan_opening.specs.Underway.{IsAtRest};
 ghost use Rattle.plan_store.specs.Stores.{snapshot_of};
 ghost use Rattle.plan_view.specs.Seeing.{seen_state};
+ghost use Rattle.plan_fitting.specs.Touching.{FittedAt};
 
 use super::complete::{are_all_decided, are_all_settled};
+use super::touched::are_uses_as_before;
 use model_core::decision::Decision;
 use model_core::model::Model;
 use plan_growth::laws::resources_decide;
 use plan_resources::{reservoirs_fit, reusables_fit};
-use plan_store::Store;
+use plan_store::{Mark, Store};
 use plan_view::StoreView;
 use std::alloc::{AllocError, Global};
 use timeline_core::unordered::settled_lists_decide_once;
@@ -64,6 +66,59 @@ fn uses_fit(
     reusables_fit(alloc, model, &StoreView::new(model, store, decisions))
 }
 
+// Whether the reusables fit, where at the mark they fitted what all decisions but the last left. They are looked at only if
+// something that is used may have become other since.
+fn uses_fit_since(
+    alloc: Global,
+    model: &Model,
+    store: &Store,
+    decisions: &[Decision],
+    last: &Decision,
+    mark: Mark,
+) -> Result<bool, AllocError>
+    requires lawful { IsLawful model.now }
+    requires settled { IsSettled model.now decisions.now }
+    requires rest { IsAtRest model.now decisions.now store.now.net.tables (snapshot_of store.now) }
+    requires fitted { FittedAt model.now decisions.now last.now store.now mark }
+    ensures { IfOk result (λ fit. MatchBool fit
+        (FitReusables model.now decisions.now (seen_state store.now))
+        (FitReusables model.now decisions.now (seen_state store.now) → ⊥)) }
+{
+    settled_lists_decide_once();
+    store.is_sound();
+    if are_uses_as_before(model, store, last, mark)? {
+        return Ok(true);
+    }
+    uses_fit(alloc, model, store, decisions)
+}
+
+// Whether all resources fit, where it is known whether the reusables do.
+fn all_fit(
+    alloc: Global,
+    model: &Model,
+    store: &Store,
+    decisions: &[Decision],
+    used: bool,
+) -> Result<bool, AllocError>
+    requires lawful { IsLawful model.now }
+    requires settled { IsSettled model.now decisions.now }
+    requires rest { IsAtRest model.now decisions.now store.now.net.tables (snapshot_of store.now) }
+    requires used { MatchBool used
+        (FitReusables model.now decisions.now (seen_state store.now))
+        (FitReusables model.now decisions.now (seen_state store.now) → ⊥) }
+    ensures { IfOk result (λ fit. MatchBool fit
+        (IsLeast model.now decisions.now (seen_state store.now))
+        (IsCollapsed model.now decisions.now)) }
+{
+    settled_lists_decide_once();
+    store.is_sound();
+    resources_decide();
+    if !used {
+        return Ok(false);
+    }
+    levels_fit(alloc, model, store, decisions)
+}
+
 /// Whether resources fit what a store at rest for a settled list leaves: then this is the least state of the decisions, and
 /// else they leave none.
 pub fn resources_fit(
@@ -79,11 +134,28 @@ pub fn resources_fit(
         (IsLeast model.now decisions.now (seen_state store.now))
         (IsCollapsed model.now decisions.now)) }
 {
-    settled_lists_decide_once();
-    store.is_sound();
-    resources_decide();
-    if !uses_fit(alloc, model, store, decisions)? {
-        return Ok(false);
-    }
-    levels_fit(alloc, model, store, decisions)
+    let used = uses_fit(alloc, model, store, decisions)?;
+    all_fit(alloc, model, store, decisions, used)
+}
+
+/// The same, where at the mark resources fitted what all decisions but the last left: the reusables are looked at only if something
+/// that is used may have become other since.
+pub fn resources_fit_since(
+    alloc: Global,
+    model: &Model,
+    store: &Store,
+    decisions: &[Decision],
+    last: &Decision,
+    mark: Mark,
+) -> Result<bool, AllocError>
+    requires lawful { IsLawful model.now }
+    requires settled { IsSettled model.now decisions.now }
+    requires rest { IsAtRest model.now decisions.now store.now.net.tables (snapshot_of store.now) }
+    requires fitted { FittedAt model.now decisions.now last.now store.now mark }
+    ensures { IfOk result (λ fit. MatchBool fit
+        (IsLeast model.now decisions.now (seen_state store.now))
+        (IsCollapsed model.now decisions.now)) }
+{
+    let used = uses_fit_since(alloc, model, store, decisions, last, mark)?;
+    all_fit(alloc, model, store, decisions, used)
 }
