@@ -1,6 +1,7 @@
 -- What a store at rest leaves, as resources decide, and the last decision of a list.
 use Rattle.std.proofs.Common.{◌≡◌, ℕ, zero, suc, ◌+◌, ◌<◌, ◌-◌, List, [], ◌∷◌, ◌++◌, Bool, true, false, length, take, Some, Ok, Err, refl, sym, ◌∙◌, ap, subst, arith}
-use Rattle.std.specs.Prelude.{slice_get, MatchBool}
+use Rattle.std.specs.Prelude.{slice_get, MatchBool, MatchResult, IfOk, Result}
+use Rattle.std.specs.declared.alloc.AllocError.{AllocError}
 use Rattle.std.proofs.lemmas.List.{length_push}
 use Rattle.model_core.specs.declared.decision.Decision.{Decision}
 use Rattle.model_core.specs.declared.model.Model.{Model}
@@ -53,7 +54,7 @@ module _ (model : Model) (decisions : List Decision) where
       last_is : decision ≡ ends.0
       last_is = get_same decisions (length decisions - 1) decision ends.0 at last_there
 
-      ends_with : but_last decisions ++ decision ∷ [] ≡ decisions
+      pub ends_with : but_last decisions ++ decision ∷ [] ≡ decisions
       ends_with = ap (λ last. but_last decisions ++ last ∷ []) last_is ∙ sym ends.1
 
       module _ (old : Stored) (is : IsSnapshot (snapshot_of old)) (least : IsLeastOf model (but_last decisions) (snapshot_of old)) (settled : IsSettled model decisions) where
@@ -69,3 +70,14 @@ module _ (model : Model) (decisions : List Decision) where
 
         pub nothing_for_all : (new : Stored) → AdvancesBy model decision old (Err Collapsed) new → IsCollapsed model decisions
         nothing_for_all new advances = nothing_collapsed (subst (LeaveNothing model) ends_with (advances (but_last decisions) follows))
+
+-- what is told of a store at rest before any decision is told with it
+pub begun_told : (model : Model) (stored : Stored) (fit : Result Bool AllocError) (begun : Result (Stored × Bool) AllocError)
+    → IsRestOf model [] (snapshot_of stored) → HaveTables model stored.net.tables
+    → MatchResult fit (λ told. begun ≡ Ok (stored, told)) (λ none. begun ≡ Err none)
+    → IfOk fit (λ told. MatchBool told (IsLeast model [] (seen_state stored)) (IsCollapsed model []))
+    → IfOk begun (λ both. LeavesLeast model [] both.1 both.0)
+begun_told model stored (Ok told) begun rest tables same is =
+    subst (λ (answer : Result (Stored × Bool) AllocError). IfOk answer (λ both. LeavesLeast model [] both.1 both.0)) (sym same) (fit_least model [] stored told rest tables is)
+begun_told model stored (Err none) begun rest tables same is =
+    subst (λ (answer : Result (Stored × Bool) AllocError). IfOk answer (λ both. LeavesLeast model [] both.1 both.0)) (sym same) tt

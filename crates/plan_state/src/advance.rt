@@ -16,7 +16,7 @@ use model_core::decision::Decision;
 use model_core::model::Model;
 use plan_closing::close;
 use plan_deciding::take_up;
-use plan_fitting::resources_fit;
+use plan_fitting::{resources_fit, resources_fit_since};
 use plan_store::Store;
 use std::alloc::{AllocError, Global};
 
@@ -103,8 +103,18 @@ fn begun(alloc: Global, model: &Model, store: Store) -> Result<(Store, bool), Al
     requires tables { HaveTables model.now store.net.tables }
     ensures { IfOk result (λ begun. LeavesLeast model.now [] begun.1 begun.0) }
 {
-    let fit = resources_fit(alloc, model, &store, &[])?;
-    Ok((store, fit))
+    let fit = resources_fit(alloc, model, &store, &[]);
+    beside(store, fit)
+}
+
+// The value with what is told of it.
+fn beside<T: Drop>(value: T, told: Result<bool, AllocError>) -> Result<(T, bool), AllocError>
+    ensures { MatchResult told (λ is. result ≡ Ok (value, is)) (λ none. result ≡ Err none) }
+{
+    match told {
+        Ok(is) => Ok((value, is)),
+        Err(none) => Err(none),
+    }
 }
 
 /// Brings the store, which is at rest for all but the last of the decisions, to rest for all of them, and answers whether they
@@ -123,9 +133,10 @@ pub fn take(
     ensures marks { KeepStoreMarks store.old store.new }
 {
     store.is_sound();
+    let mark = store.mark();
     let decision = &decisions[decisions.len() - 1];
     match advance(alloc, store, model, decision) {
-        Ok(()) => resources_fit(alloc, model, store, decisions),
+        Ok(()) => resources_fit_since(alloc, model, store, decisions, decision, mark),
         Err(NetFault::Collapsed) => Ok(false),
         Err(NetFault::Memory) => Err(AllocError),
     }
