@@ -1,4 +1,5 @@
 pub mod Itemizing
+pub mod Linking
 pub mod Turning
 pub mod Suited
 pub mod Using

@@ -1,5 +1,5 @@
 -- The level of a reservoir at an instant, by changes and by lines.
-use Rattle.std.proofs.Common.{◌≡◌, ℤ, pos, ◌+ℤ◌, ◌≤ℤ◌, ◌<ℤ◌, Bool, List, [], ◌∷◌, Option, Some, None, ◌⊎◌, inl, inr, refl, sym, ap, ◌∙◌, subst, arith}
+use Rattle.std.proofs.Common.{◌≡◌, ℕ, ℤ, pos, ◌+ℤ◌, ◌≤ℤ◌, ◌<ℤ◌, Bool, List, [], ◌∷◌, Option, Some, None, ◌⊎◌, inl, inr, refl, sym, ap, ◌∙◌, subst, arith}
 use Rattle.std.specs.Prelude.{Contains, All, IfSome, IfNone}
 use Rattle.std.specs.List.{AllZip}
 use Rattle.std.proofs.lemmas.Int.{ints, by_lt_z}
@@ -27,6 +27,7 @@ use Rattle.plan_values.specs.Keys.{IsOrderly}
 use Rattle.resource_profile.specs.declared.level.LevelChange.{LevelChange}
 use Rattle.resource_profile.specs.Instant.{IsFirst}
 use Rattle.resource_profile.specs.Level.{added_at, level_at, IsSmall, IsOut, IsOutFrom}
+use Rattle.plan_check.specs.ByObject.{IsOnObject}
 use Rattle.plan_check.specs.Acts.{acts_among, Collects, ValuesAct, TokenChanges, IsChangeOf, FindsInstant}
 use Rattle.plan_check.proofs.Suited.{starts_within, quantity_within}
 use Rattle.plan_check.proofs.Using.{at_most, part_once}
@@ -275,3 +276,10 @@ module _ (model : Model) (plan : Plan) (lawful : IsLawful model) (ok : IsOrderly
       fails = λ so. level_to model object at plan changes collected initial low high (so (first.0.0, not_behind at first)) first.0.1;
       before = λ earlier less. is_so earlier (first.1 earlier less);
     }
+
+-- what isn't on a reservoir leaves its level
+pub changes_none : (model : Model) (object : ℕ) (line : Line) → (IsOnObject line object → ⊥) → IsChangeOf model (pos object) line None
+changes_none model object (lines.Token token fact values) none = λ at quantity acts. absurd (none acts.on)
+changes_none model object (lines.Merged token target) none = tt
+changes_none model object (lines.Rejected token) none = tt
+changes_none model object (lines.Local name value) none = tt

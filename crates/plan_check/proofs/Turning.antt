@@ -1,7 +1,8 @@
 -- Tokens of one timeline take turns by their values where they do by the plan.
-use Rattle.std.proofs.Common.{◌≡◌, ℕ, ◌<◌, ◌≤◌, ℤ, Bool, List, [], ◌∷◌, length, inl, inr, sym, subst, arith}
+use Rattle.std.proofs.Common.{◌≡◌, ℕ, ◌+◌, ◌<◌, ◌≤◌, ℤ, pos, Bool, Option, List, [], ◌∷◌, length, inl, inr, sym, ◌∙◌, subst, arith}
 use Rattle.std.specs.Prelude.{MatchBool}
 use Rattle.std.specs.List.{AllZip}
+use Rattle.std.proofs.lemmas.Bool.{cases_eq, cases_lt}
 use Rattle.eu_name.specs.declared.name.Part.TheVariants.{Start, End, Object}
 use Rattle.eu_name.specs.declared.name.TokenName.{TokenName}
 use Rattle.eu_name.proofs.Members.{get_same, get_below, contains_from_get}
@@ -23,6 +24,8 @@ use Rattle.plan_defs.proofs.Saying.{one_own}
 use Rattle.plan_values.specs.Keys.{IsOrderly}
 use Rattle.plan_values.proofs.Naming.{gives_from, gives_there}
 use Rattle.plan_inventory.specs.Breaks.{IsFirstNumber}
+use Rattle.plan_check.specs.ByObject.{IsOnObject, IsLineOn, FindsOn}
+use Rattle.plan_check.proofs.Linking.{dealt, passed_over}
 use Rattle.plan_check.specs.Turns.{ShareTimelineBy, EndsByValues, TakeTurnsBy, LinesTakeTurns, IsPairKept}
 
 module _ (model : Model) (plan : Plan) (ok : IsOrderly plan) where
@@ -116,6 +119,39 @@ module _ (model : Model) (plan : Plan) (ok : IsOrderly plan) where
   pair_looked first second one other at at' turns below line line' there there' =
       subst (λ (l : Line). LinesTakeTurns model l line') (get_same plan.lines first one line at there)
       (subst (λ (l : Line). LinesTakeTurns model one l) (get_same plan.lines second other line' at' there') turns)
+
+-- ---- what shares no timeline
+
+-- who is on another object takes turns
+other_turns : (model : Model) (object : ℕ) (line line' : Line) → IsOnObject line object → (IsOnObject line' object → ⊥) → LinesTakeTurns model line line'
+other_turns model object (lines.Token one fact values) (lines.Token other fact' values') on none = λ share.
+    let same : share.0 ≡ pos object = let e = sym share.2 ∙ on in cc in
+    absurd (none (subst (IsPartOf values' Object) same share.3))
+other_turns model object line line' on none = tt
+
+-- the pairs with those up to the next one on the object are kept
+module _ (model : Model) (plan : Plan) (object first : ℕ) (on : IsLineOn plan.lines object first) where
+  other_pair : (second : ℕ) → (IsLineOn plan.lines object second → ⊥) → IsPairKept model plan first second
+  other_pair second none below one other at there =
+      other_turns model object one other (subst (λ (l : Line). IsOnObject l object) (get_same plan.lines first on.0 one on.1 at) on.2) (λ on'. none (other, there, on'))
+
+  pub pairs_first : (found : Option ℕ) → FindsOn plan.lines object (first + 1) found → (second : ℕ) → second < dealt (length plan.lines) found → IsPairKept model plan first second
+  pairs_first found finds second less below one other at there =
+      other_pair second (passed_over plan.lines object (first + 1) found finds second (omega arith) less) below one other at there
+
+  pub pairs_next : (here : ℕ) (found : Option ℕ) → ((second : ℕ) → second < here → IsPairKept model plan first second) → IsPairKept model plan first here → FindsOn plan.lines object (here + 1) found
+      → (second : ℕ) → second < dealt (length plan.lines) found → IsPairKept model plan first second
+  pairs_next here found before kept finds second less = elim (cases_lt second here) [
+    | inl earlier ↦ before second earlier
+    | inr past ↦ elim (cases_eq second here) [
+      | inl same ↦ subst (IsPairKept model plan first) (sym same) kept
+      | inr apart ↦ other_pair second (passed_over plan.lines object (here + 1) found finds second (omega arith) less)
+    ]
+  ]
+
+  -- all are kept where no line is left
+  pub pairs_all : ((second : ℕ) → second < length plan.lines → IsPairKept model plan first second) → (second : ℕ) → IsPairKept model plan first second
+  pairs_all before second below one other at there = before second (get_below plan.lines second other there) below one other at there
 
 pub lines_answer : (model : Model) (line line' : Line) (one other : TokenName) (fact fact' : Bool) (values others read read' : List ℤ) (answer : Bool) → line ≡ lines.Token one fact values → line' ≡ lines.Token other fact' others
     → read ≡ values → read' ≡ others → MatchBool answer (TakeTurnsBy model read read') (TakeTurnsBy model read read' → ⊥)

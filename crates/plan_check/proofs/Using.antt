@@ -1,12 +1,13 @@
 -- What is used of a reusable at an instant, by uses and by lines.
-use Rattle.std.proofs.Common.{◌≡◌, ℕ, ◌+◌, ◌<◌, ◌≤◌, ℤ, pos, ◌+ℤ◌, ◌≤ℤ◌, ◌<ℤ◌, Bool, true, false, List, [], ◌∷◌, ◌++◌, length, get_or, take, Option, Some, None, ◌⊎◌, inl, inr, refl, sym, ap, ◌∙◌, subst, arith}
-use Rattle.std.specs.Prelude.{Contains, All, IfSome, IfNone, option_to_list, int_le, int_lt}
+use Rattle.std.proofs.Common.{◌≡◌, ℕ, zero, suc, ◌+◌, ◌-◌, ◌<◌, ◌≤◌, ℤ, pos, ◌+ℤ◌, ◌≤ℤ◌, ◌<ℤ◌, Bool, true, false, List, [], ◌∷◌, ◌++◌, length, get_or, take, Option, Some, None, ◌⊎◌, inl, inr, refl, sym, ap, ◌∙◌, subst, arith}
+use Rattle.std.specs.Prelude.{Contains, All, IfSome, IfNone, option_to_list, int_le, int_lt, slice_get}
 use Rattle.std.specs.List.{AllZip}
 use Rattle.std.proofs.lemmas.Int.{ints, by_lt_z}
-use Rattle.std.proofs.lemmas.List.{take_more, take_all}
+use Rattle.std.proofs.lemmas.List.{take_more, take_all, append-nil}
+use Rattle.std.proofs.lemmas.Option.{get_or_from_slice_get}
 use Rattle.eu_name.specs.declared.name.Part.{Part}
 use Rattle.eu_name.specs.declared.name.Part.TheVariants.{Start, End, Param}
-use Rattle.eu_name.proofs.Members.{contains_from_get}
+use Rattle.eu_name.proofs.Members.{contains_from_get, get_within}
 use Rattle.plan_defs.proofs.Members.{all_from_get}
 use Rattle.eu_name.specs.declared.name.TokenName.{TokenName}
 use Rattle.model_core.specs.declared.class.PredKind.TheVariants.{Plain, Uses}
@@ -26,6 +27,8 @@ use Rattle.plan_values.specs.Keys.{IsOrderly}
 use Rattle.resource_profile.specs.declared.usage.Use.{Use}
 use Rattle.resource_profile.specs.Instant.{IsFirst}
 use Rattle.resource_profile.specs.Usage.{quantity_at, taken_at, IsOverUsed}
+use Rattle.plan_check.specs.ByObject.{IsOnObject, IsLineOn, FindsOn}
+use Rattle.plan_check.proofs.Linking.{dealt, dealt_more, dealt_within, on_the_way, passed_over, way_below}
 use Rattle.plan_check.specs.Acts.{acts_among, Collects, TokenUses, IsUseOf, FindsInstant}
 use Rattle.plan_check.proofs.Suited.{starts_within, ends_within, quantity_within}
 
@@ -59,6 +62,42 @@ module _ {A : Type 0} (IsDone : Line → Option A → Type 0) where
 
   pub all_collected : (listed : List Line) (i : ℕ) (acts : List A) → length listed ≤ i → Collects IsDone (take i listed) acts → Collects IsDone listed acts
   all_collected listed i acts past so_far = subst (λ (xs : List Line). Collects IsDone xs acts) (take_all i listed past) so_far
+
+  -- the lines up to this one, which do nothing, are passed over
+  collected_past : (listed : List Line) (acts : List A) (gap from to : ℕ) → from + gap ≡ to → to ≤ length listed
+      → ((place : ℕ) (line : Line) → from ≤ place → place < to → slice_get listed place ≡ Some line → IsDone line None) → Collects IsDone (take from listed) acts → Collects IsDone (take to listed) acts
+  collected_past listed acts zero from to same within idle so_far = subst (λ (n : ℕ). Collects IsDone (take n listed) acts) (let e : from ≡ to = omega arith in e) so_far
+  collected_past listed acts (suc gap) from to same within idle so_far =
+      let here = get_within listed from (omega arith) in
+      collected_past listed acts gap (from + 1) to (omega arith) within (λ place line past less at. idle place line (omega arith) less at)
+      (one_line_more listed from here.0 None acts acts (omega arith) (sym (get_or_from_slice_get listed from here.0 here.0 here.1)) (idle from here.0 (omega arith) (omega arith) here.1) (sym (append-nil acts)) so_far)
+
+  -- the lines up to the next one on the object, where only what is on the object does anything
+  module _ (listed : List Line) (object : ℕ) (idle : (line : Line) → (IsOnObject line object → ⊥) → IsDone line None) where
+    pub collected_to : (acts : List A) (from : ℕ) (found : Option ℕ) → from ≤ length listed → FindsOn listed object from found → Collects IsDone (take from listed) acts
+        → Collects IsDone (take (dealt (length listed) found) listed) acts
+    collected_to acts from found within finds so_far =
+        let more = dealt_more listed object from found within finds in
+        let most = dealt_within listed object found (on_the_way listed object from found finds) in
+        collected_past listed acts (dealt (length listed) found - from) from (dealt (length listed) found) (omega arith) most
+        (λ place line past less at. idle line (λ on. passed_over listed object from found finds place past less (line, at, on))) so_far
+
+    -- the next one on the object is dealt with as well
+    pub collected_next : (read : List Line) (here : ℕ) (next found : Option ℕ) (line : Line) (done : Option A) (acts more : List A) → next ≡ Some here → IsLineOn listed object here
+        → FindsOn listed object (here + 1) found → read ≡ listed → line ≡ get_or read here line → IsDone line done → more ≡ acts ++ option_to_list done
+        → Collects IsDone (take (dealt (length listed) next) listed) acts → Collects IsDone (take (dealt (length listed) found) listed) more
+    collected_next read here next found line done acts more same on finds read_is line_is is added so_far =
+        let below = way_below listed listed object here refl on in
+        let now : dealt (length listed) next ≡ here = ap (dealt (length listed)) same in
+        collected_to more (here + 1) found (omega arith) finds
+        (one_line_more listed here line done acts more below (subst (λ (xs : List Line). line ≡ get_or xs here line) read_is line_is) is added
+        (subst (λ (n : ℕ). Collects IsDone (take n listed) acts) now so_far))
+
+    -- no line is left
+    pub all_dealt : (next : Option ℕ) (acts : List A) → next ≡ None → Collects IsDone (take (dealt (length listed) next) listed) acts → Collects IsDone listed acts
+    all_dealt next acts none so_far =
+        let now : dealt (length listed) next ≡ length listed = ap (dealt (length listed)) none in
+        all_collected listed (dealt (length listed) next) acts (omega arith) so_far
 
 -- ---- tests of order
 
@@ -264,9 +303,9 @@ module _ (model : Model) (plan : Plan) (lawful : IsLawful model) (ok : IsOrderly
       before = λ earlier less. is_so earlier (first.1 earlier less);
     }
 
--- with one line more, as it was read
-pub one_read_more : {A : Type 0} (IsDone : Line → Option A → Type 0) (listed read : List Line) (i : ℕ) (line : Line) (found : Option A) (acts more : List A) → read ≡ listed → i < length read
-    → line ≡ get_or read i line → IsDone line found → more ≡ acts ++ option_to_list found → Collects IsDone (take i listed) acts → Collects IsDone (take (i + 1) listed) more
-one_read_more IsDone listed read i line found acts more same within is done added so_far =
-    one_line_more IsDone listed i line found acts more (subst (λ (xs : List Line). i < length xs) same within)
-    (subst (λ (xs : List Line). line ≡ get_or xs i line) same is) done added so_far
+-- what isn't on a reusable uses nothing of it
+pub uses_none : (model : Model) (object : ℕ) (line : Line) → (IsOnObject line object → ⊥) → IsUseOf model (pos object) line None
+uses_none model object (lines.Token token fact values) none = λ usage uses. none uses.by_values.on
+uses_none model object (lines.Merged token target) none = tt
+uses_none model object (lines.Rejected token) none = tt
+uses_none model object (lines.Local name value) none = tt

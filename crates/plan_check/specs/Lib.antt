@@ -1,4 +1,5 @@
 pub mod Judged
 pub mod Items
+pub mod ByObject
 pub mod Turns
 pub mod Acts

@@ -8,6 +8,15 @@ use Rattle.plan_defs.specs.declared.plan.Plan.{Plan}
 use Rattle.plan_defs.specs.Timelines.{IsTimeline}
 use Rattle.plan_defs.specs.Valid.{IsLineAt, IsPartOf}
 
+-- a token with these values is on a timeline
+abbrev pub IsOnTimelineBy : Model → List ℤ → Type 0
+IsOnTimelineBy model values = (timeline : ℤ) × IsTimeline model timeline × IsPartOf values Object timeline
+
+-- by the line a token takes place on a timeline
+abbrev pub IsLineOnTimeline : Model → Line → Type 0
+IsLineOnTimeline model (lines.Token token fact values) = IsOnTimelineBy model values
+IsLineOnTimeline model line = ⊥
+
 -- tokens with these values are on one timeline
 abbrev pub ShareTimelineBy : Model → List ℤ → List ℤ → Type 0
 ShareTimelineBy model one other =

@@ -1,6 +1,6 @@
 //! Clause V10: the level of each reservoir stays within its limits.
 
-ghost use Rattle.std.specs.Prelude.{◌≡◌, ℤ, pos, Some, IfOk, MatchOption, slice_get};
+ghost use Rattle.std.specs.Prelude.{◌≡◌, ℤ, pos, Some, IfOk, MatchOption, ◌<◌, length, slice_get};
 ghost use Rattle.model_core.specs.declared.class.PredKind.TheVariants as kinds;
 ghost use Rattle.model_core.specs.Lawful.{IsLawful};
 ghost use Rattle.plan_defs.specs.declared.plan.Clause.TheVariants.{V3, V10};
@@ -9,9 +9,11 @@ ghost use Rattle.plan_defs.specs.declared.plan.Place.TheVariants as places;
 ghost use Rattle.plan_defs.specs.Resources.{IsInstant};
 ghost use Rattle.plan_defs.specs.Valid.{IsOfSort, IsClauseKept, IsLevelWithin, KeepsReservoirs};
 ghost use Rattle.plan_values.specs.Keys.{IsOrderly};
+ghost use Rattle.plan_check.specs.ByObject.{AreLinked};
 ghost use Rattle.plan_check.specs.Acts.{ValuesAct, TokenChanges, IsChangeOf, Collects, FindsInstant};
 ghost use Rattle.plan_inventory.specs.Breaks.{FindsBreak};
 
+use super::by_object::LinesByObject;
 use super::resources::{is_of_kind, is_on, keep};
 use eu_name::name::{Part, TokenName};
 use model_core::class::{Object, ObjectKind, PredKind};
@@ -81,13 +83,22 @@ fn changes_of(
     alloc: Global,
     model: &Model,
     plan: &Plan,
+    by_object: &LinesByObject,
     object: u32,
 ) -> Result<Vec<LevelChange>, AllocError>
+    requires linked { AreLinked plan.now.lines (length model.now.objects) 0 by_object.now }
+    requires there { object < length model.now.objects }
     ensures { IfOk result (λ changes. Collects (IsChangeOf model.now (pos object)) plan.now.lines changes.items) }
 {
     let mut changes = Vec::new(alloc);
-    for line in plan.lines.as_slice() {
-        keep(&mut changes, change_of(model, line, object))?;
+    let lines = plan.lines.as_slice();
+    let mut next = by_object.first_on(object);
+    while let Some(place) = next {
+        keep(
+            &mut changes,
+            change_of(model, &lines[place as usize], object),
+        )?;
+        next = by_object.after(place);
     }
     Ok(changes)
 }
@@ -97,6 +108,7 @@ fn left_limits(
     alloc: Global,
     model: &Model,
     plan: &Plan,
+    by_object: &LinesByObject,
     object: u32,
     initial: i32,
     low: i32,
@@ -105,10 +117,12 @@ fn left_limits(
     requires lawful { IsLawful model.now }
     requires orderly { IsOrderly plan.now }
     requires tokens { (place : Place) → IsClauseKept model.now plan.now V3 place }
+    requires linked { AreLinked plan.now.lines (length model.now.objects) 0 by_object.now }
+    requires there { object < length model.now.objects }
     ensures { IfOk result (FindsInstant (λ instant. IsInstant model.now instant
         → IsLevelWithin model.now (pos object) instant plan.now initial low high)) }
 {
-    let changes = changes_of(alloc, model, plan, object)?;
+    let changes = changes_of(alloc, model, plan, by_object, object)?;
     let changes_by_line = changes.as_slice();
     let start = model.problem.start;
     Ok(level_out(changes_by_line, initial, low, high, start))
@@ -119,18 +133,20 @@ fn left_limits_of(
     alloc: Global,
     model: &Model,
     plan: &Plan,
+    by_object: &LinesByObject,
     number: u32,
     object: &Object,
 ) -> Result<Option<i32>, AllocError>
     requires lawful { IsLawful model.now }
     requires orderly { IsOrderly plan.now }
     requires tokens { (place : Place) → IsClauseKept model.now plan.now V3 place }
+    requires linked { AreLinked plan.now.lines (length model.now.objects) 0 by_object.now }
     requires there { slice_get model.now.objects number ≡ Some object.now }
     ensures { IfOk result (FindsInstant (λ instant. KeepsReservoirs model.now plan.now (places.Instant number instant))) }
 {
     match object.kind {
         ObjectKind::Reservoir { initial, low, high } => {
-            left_limits(alloc, model, plan, number, initial, low, high)
+            left_limits(alloc, model, plan, by_object, number, initial, low, high)
         }
         ObjectKind::Plain | ObjectKind::Timeline | ObjectKind::Reusable { .. } => Ok(None),
     }
@@ -141,14 +157,16 @@ pub fn broken_reservoir(
     alloc: Global,
     model: &Model,
     plan: &Plan,
+    by_object: &LinesByObject,
 ) -> Result<Option<Place>, AllocError>
     requires lawful { IsLawful model.now }
     requires orderly { IsOrderly plan.now }
     requires tokens { (place : Place) → IsClauseKept model.now plan.now V3 place }
+    requires linked { AreLinked plan.now.lines (length model.now.objects) 0 by_object.now }
     ensures { IfOk result (FindsBreak model.now plan.now V10) }
 {
     for (number, object) in model.objects.as_slice().iter().enumerate() {
-        let found = left_limits_of(alloc, model, plan, number as u32, object)?;
+        let found = left_limits_of(alloc, model, plan, by_object, number as u32, object)?;
         if let Some(at) = found {
             return Ok(Some(Place::Instant {
                 object: number as u32,

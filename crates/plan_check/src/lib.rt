@@ -3,6 +3,7 @@
 //! `check(alloc, &model, &plan)?` reads values alone: no decision, no domain and no search enters.
 #![tactic(auto)]
 
+mod by_object;
 mod clauses;
 mod items;
 mod levels;

@@ -1,6 +1,6 @@
 //! Clause V9: no reusable is used beyond its capacity.
 
-ghost use Rattle.std.specs.Prelude.{◌≡◌, ◌++◌, ◌≤ℤ◌, pos, Some, OnOk, IfOk, option_to_list, MatchBool, MatchOption, slice_get};
+ghost use Rattle.std.specs.Prelude.{◌≡◌, ◌++◌, ◌≤ℤ◌, pos, Some, OnOk, IfOk, option_to_list, MatchBool, MatchOption, ◌<◌, length, slice_get};
 ghost use Rattle.eu_name.specs.declared.name.Part.TheVariants as parts;
 ghost use Rattle.model_core.specs.declared.class.PredKind.{PredKind};
 ghost use Rattle.model_core.specs.Lawful.{IsLawful};
@@ -12,8 +12,10 @@ ghost use Rattle.plan_defs.specs.Valid.{IsOfSort, IsPartOf, IsClauseKept, IsWith
 ghost use Rattle.resource_profile.specs.declared.usage.Use.{Use};
 ghost use Rattle.plan_values.specs.Keys.{IsOrderly};
 ghost use Rattle.plan_inventory.specs.Breaks.{FindsBreak};
+ghost use Rattle.plan_check.specs.ByObject.{AreLinked};
 ghost use Rattle.plan_check.specs.Acts.{ValuesUse, TokenUses, IsUseOf, Collects, FindsInstant};
 
+use super::by_object::LinesByObject;
 use eu_name::name::{Part, TokenName};
 use model_core::class::{Object, ObjectKind, PredKind};
 use model_core::model::Model;
@@ -137,12 +139,23 @@ fn use_of(model: &Model, line: &Line, object: u32) -> Option<Use>
 }
 
 // How the tokens that take place use the object.
-fn uses_of(alloc: Global, model: &Model, plan: &Plan, object: u32) -> Result<Vec<Use>, AllocError>
+fn uses_of(
+    alloc: Global,
+    model: &Model,
+    plan: &Plan,
+    by_object: &LinesByObject,
+    object: u32,
+) -> Result<Vec<Use>, AllocError>
+    requires linked { AreLinked plan.now.lines (length model.now.objects) 0 by_object.now }
+    requires there { object < length model.now.objects }
     ensures { IfOk result (λ uses. Collects (IsUseOf model.now (pos object)) plan.now.lines uses.items) }
 {
     let mut uses = Vec::new(alloc);
-    for line in plan.lines.as_slice() {
-        keep(&mut uses, use_of(model, line, object))?;
+    let lines = plan.lines.as_slice();
+    let mut next = by_object.first_on(object);
+    while let Some(place) = next {
+        keep(&mut uses, use_of(model, &lines[place as usize], object))?;
+        next = by_object.after(place);
     }
     Ok(uses)
 }
@@ -152,17 +165,20 @@ fn over_used(
     alloc: Global,
     model: &Model,
     plan: &Plan,
+    by_object: &LinesByObject,
     object: u32,
     capacity: i32,
 ) -> Result<Option<i32>, AllocError>
     requires lawful { IsLawful model.now }
     requires orderly { IsOrderly plan.now }
     requires tokens { (place : Place) → IsClauseKept model.now plan.now V3 place }
+    requires linked { AreLinked plan.now.lines (length model.now.objects) 0 by_object.now }
+    requires there { object < length model.now.objects }
     requires capacity { pos 0 ≤ℤ capacity }
     ensures { IfOk result (FindsInstant (λ instant. IsInstant model.now instant
         → IsWithinCapacity model.now (pos object) instant plan.now capacity)) }
 {
-    let uses = uses_of(alloc, model, plan, object)?;
+    let uses = uses_of(alloc, model, plan, by_object, object)?;
     Ok(over_use(uses.as_slice(), capacity))
 }
 
@@ -171,17 +187,21 @@ fn over_used_object(
     alloc: Global,
     model: &Model,
     plan: &Plan,
+    by_object: &LinesByObject,
     number: u32,
     object: &Object,
 ) -> Result<Option<i32>, AllocError>
     requires lawful { IsLawful model.now }
     requires orderly { IsOrderly plan.now }
     requires tokens { (place : Place) → IsClauseKept model.now plan.now V3 place }
+    requires linked { AreLinked plan.now.lines (length model.now.objects) 0 by_object.now }
     requires there { slice_get model.now.objects number ≡ Some object.now }
     ensures { IfOk result (FindsInstant (λ instant. KeepsReusables model.now plan.now (places.Instant number instant))) }
 {
     match object.kind {
-        ObjectKind::Reusable { capacity } => over_used(alloc, model, plan, number, capacity),
+        ObjectKind::Reusable { capacity } => {
+            over_used(alloc, model, plan, by_object, number, capacity)
+        }
         ObjectKind::Plain | ObjectKind::Timeline | ObjectKind::Reservoir { .. } => Ok(None),
     }
 }
@@ -191,14 +211,16 @@ pub fn broken_reusable(
     alloc: Global,
     model: &Model,
     plan: &Plan,
+    by_object: &LinesByObject,
 ) -> Result<Option<Place>, AllocError>
     requires lawful { IsLawful model.now }
     requires orderly { IsOrderly plan.now }
     requires tokens { (place : Place) → IsClauseKept model.now plan.now V3 place }
+    requires linked { AreLinked plan.now.lines (length model.now.objects) 0 by_object.now }
     ensures { IfOk result (FindsBreak model.now plan.now V9) }
 {
     for (number, object) in model.objects.as_slice().iter().enumerate() {
-        let found = over_used_object(alloc, model, plan, number as u32, object)?;
+        let found = over_used_object(alloc, model, plan, by_object, number as u32, object)?;
         if let Some(at) = found {
             return Ok(Some(Place::Instant {
                 object: number as u32,

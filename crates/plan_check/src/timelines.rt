@@ -1,13 +1,15 @@
 //! Clause V8: no two tokens of one timeline overlap.
 
-ghost use Rattle.std.specs.Prelude.{◌≡◌, ◌<◌, ℤ, MatchBool, length};
+ghost use Rattle.std.specs.Prelude.{◌≡◌, ◌<◌, ℕ, ℤ, MatchBool, length};
 ghost use Rattle.plan_defs.specs.declared.plan.Clause.TheVariants.{V8};
 ghost use Rattle.plan_defs.specs.Plans.{IsPlanOf};
 ghost use Rattle.plan_defs.specs.Timelines.{IsTimeline};
 ghost use Rattle.plan_values.specs.Keys.{IsOrderly};
 ghost use Rattle.plan_inventory.specs.Breaks.{FindsBreak, FindsNumber};
-ghost use Rattle.plan_check.specs.Turns.{ShareTimelineBy, EndsByValues, TakeTurnsBy, LinesTakeTurns, IsPairKept};
+ghost use Rattle.plan_check.specs.ByObject.{IsLineOn, AreLinked};
+ghost use Rattle.plan_check.specs.Turns.{IsOnTimelineBy, IsLineOnTimeline, ShareTimelineBy, EndsByValues, TakeTurnsBy, LinesTakeTurns, IsPairKept};
 
+use super::by_object::LinesByObject;
 use eu_name::name::Part;
 use model_core::class::ObjectKind;
 use model_core::model::Model;
@@ -89,30 +91,71 @@ fn lines_take_turns(model: &Model, one: &Line, other: &Line) -> bool
     }
 }
 
-// The place of the first later line whose token overlaps that of the line at this place.
-fn overlapping(model: &Model, plan: &Plan, first: u32) -> Option<u32>
-    requires is_plan { IsPlanOf model.now plan.now }
+// Whether a token with these values is on a timeline.
+fn has_timeline(model: &Model, values: &[i32]) -> bool
+    ensures { MatchBool result
+        (IsOnTimelineBy model.now values.now)
+        (IsOnTimelineBy model.now values.now → ⊥) }
+{
+    match value_in(values, Part::Object) {
+        Some(object) => is_timeline(model, object),
+        None => false,
+    }
+}
+
+// Whether the token that takes place by the line is on a timeline.
+fn is_on_timeline(model: &Model, line: &Line) -> bool
+    ensures { MatchBool result
+        (IsLineOnTimeline model.now line.now)
+        (IsLineOnTimeline model.now line.now → ⊥) }
+{
+    match line {
+        Line::Token { values, .. } => has_timeline(model, values.as_slice()),
+        Line::Merged { .. } | Line::Rejected { .. } | Line::Local { .. } => false,
+    }
+}
+
+// The place of the first later line whose token overlaps that of the line at this place, which is on an object.
+fn overlapping_on(model: &Model, plan: &Plan, by_object: &LinesByObject, first: u32) -> Option<u32>
     requires orderly { IsOrderly plan.now }
-    requires within { first < length plan.now.lines }
+    requires linked { AreLinked plan.now.lines (length model.now.objects) 0 by_object.now }
+    requires on { (object : ℕ) × (object < length model.now.objects) × IsLineOn plan.now.lines object first }
     ensures { FindsNumber (IsPairKept model.now plan.now first) result }
 {
     let lines = plan.lines.as_slice();
-    for second in first + 1..lines.len() as u32 {
+    let mut next = by_object.after(first);
+    while let Some(second) = next {
         if !lines_take_turns(model, &lines[first as usize], &lines[second as usize]) {
             return Some(second);
         }
+        next = by_object.after(second);
     }
     None
 }
 
+// The place of the first later line whose token overlaps that of the line at this place.
+fn overlapping(model: &Model, plan: &Plan, by_object: &LinesByObject, first: u32) -> Option<u32>
+    requires orderly { IsOrderly plan.now }
+    requires linked { AreLinked plan.now.lines (length model.now.objects) 0 by_object.now }
+    requires within { first < length plan.now.lines }
+    ensures { FindsNumber (IsPairKept model.now plan.now first) result }
+{
+    let lines = plan.lines.as_slice();
+    if !is_on_timeline(model, &lines[first as usize]) {
+        return None;
+    }
+    overlapping_on(model, plan, by_object, first)
+}
+
 /// The first two tokens on one timeline that overlap.
-pub fn broken_pair(model: &Model, plan: &Plan) -> Option<Place>
+pub fn broken_pair(model: &Model, plan: &Plan, by_object: &LinesByObject) -> Option<Place>
     requires is_plan { IsPlanOf model.now plan.now }
     requires orderly { IsOrderly plan.now }
+    requires linked { AreLinked plan.now.lines (length model.now.objects) 0 by_object.now }
     ensures { FindsBreak model.now plan.now V8 result }
 {
     for first in 0..plan.lines.len() as u32 {
-        if let Some(second) = overlapping(model, plan, first) {
+        if let Some(second) = overlapping(model, plan, by_object, first) {
             return Some(Place::Pair(first, second));
         }
     }

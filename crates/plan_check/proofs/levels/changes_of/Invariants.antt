@@ -1,6 +1,14 @@
-use Rattle.std.proofs.Common.{pos, take}
+use Rattle.std.proofs.Common.{◌-◌, pos, length, take}
 use Rattle.plan_check.specs.Acts.{Collects, IsChangeOf}
+use Rattle.plan_check.proofs.Linking.{dealt, IsOnTheWay}
 use Rattle.plan_check.proofs.levels.changes_of.Given as goal
 
-abbrev pub invariant-loop-line : goal.invariant-loop-line
-invariant-loop-line l = Collects (IsChangeOf l.model (pos l.object)) (take l.line-index l.plan.lines) l.changes.items
+abbrev pub invariant-loop-next : goal.invariant-loop-next
+invariant-loop-next l = record {
+  on_the_way : IsOnTheWay l.plan.lines l.object l.next;
+  collected : Collects (IsChangeOf l.model (pos l.object)) (take (dealt (length l.plan.lines) l.next) l.plan.lines) l.changes.items;
+}
+
+-- how many lines are left
+abbrev pub decreases-loop-next : goal.decreases-loop-next
+decreases-loop-next l = length l.plan.lines - dealt (length l.plan.lines) l.next
