@@ -1,0 +1,64 @@
+-- What the names mean that the text of a rule declares, by number.
+use Rattle.std.specs.Prelude.{◌≡◌, ℕ, ◌+◌, List, [], ◌∷◌, ◌++◌, Option, Some, None, length, take, if◌then◌else◌}
+use Rattle.std.specs.Option.{option_or}
+use Rattle.std.specs.Str.{bytes_eq}
+use Rattle.nddl_scope.specs.Index.{Noted}
+use Rattle.nddl_reads.specs.declared.sight.SightUntil.{SightUntil}
+
+-- what is seen in a block: the variables of `foreach`, the locals and the labels, each with its number, and of each sort the
+-- innermost last
+pub record Sight : Type 0 where
+  pub turns : Noted
+  pub locals : Noted
+  pub labels : Noted
+
+-- nothing
+abbrev pub no_sight : Sight
+no_sight = record { turns = []; locals = []; labels = [] }
+
+-- its number, if it has the name
+abbrev pub number_if : List ℕ → List ℕ × ℕ → Option ℕ
+number_if name seen = if bytes_eq name seen.0 then Some seen.1 else None
+
+-- the number of the last of these that have the name
+abbrev pub last_number : List ℕ → Noted → Option ℕ
+last_number name [] = None
+last_number name (seen ∷ more) = option_or (last_number name more) (number_if name seen)
+
+-- a variable of `foreach` more
+abbrev pub with_turn : Sight → List ℕ → ℕ → Sight
+with_turn sight name number =
+    record { turns = sight.turns ++ (name, number) ∷ []; locals = sight.locals; labels = sight.labels }
+
+-- a local more
+abbrev pub with_rule_local : Sight → List ℕ → ℕ → Sight
+with_rule_local sight name number =
+    record { turns = sight.turns; locals = sight.locals ++ (name, number) ∷ []; labels = sight.labels }
+
+-- a label more
+abbrev pub with_label : Sight → List ℕ → ℕ → Sight
+with_label sight name number =
+    record { turns = sight.turns; locals = sight.locals; labels = sight.labels ++ (name, number) ∷ [] }
+
+-- how many of each sort are seen
+abbrev pub sight_until : Sight → SightUntil
+sight_until sight = record { turns = length sight.turns; locals = length sight.locals; labels = length sight.labels }
+
+-- the first so many of each sort
+abbrev pub cut_sight : Sight → SightUntil → Sight
+cut_sight sight until = record {
+  turns = take until.turns sight.turns;
+  locals = take until.locals sight.locals;
+  labels = take until.labels sight.labels;
+}
+
+-- the new one has what the old one has, and perhaps further names behind
+pub record SeesFurther (old new : Sight) : Type 0 where
+  pub turns : Noted
+  pub locals : Noted
+  pub labels : Noted
+  pub is : new ≡ record {
+    turns = old.turns ++ turns;
+    locals = old.locals ++ locals;
+    labels = old.labels ++ labels;
+  }
