@@ -1,0 +1,61 @@
+-- What is known of classes, predicates and types.
+use Rattle.std.specs.Prelude.{ℕ, ◌==◌, ◌&&◌, ℤ, pos, negsuc, List, [], Option, Some, None, slice_get, codes, if◌then◌else◌}
+use Rattle.std.specs.List.{position_from}
+use Rattle.std.specs.Option.{option_map, option_map_or}
+use Rattle.std.specs.Str.{bytes_eq}
+use Rattle.eu_name.specs.declared.name.Part.{Part}
+use Rattle.eu_name.specs.declared.name.Part.TheVariants as parts
+use Rattle.nddl_terms.specs.declared.lexicon.Attribute.{Attribute}
+use Rattle.nddl_terms.specs.declared.lexicon.Lexicon.{Lexicon}
+use Rattle.nddl_terms.specs.declared.lexicon.PredShape.{PredShape}
+
+-- the number of the field or parameter of this name
+abbrev pub attribute_number : List ℕ → List Attribute → Option ℕ
+attribute_number name attributes = position_from (λ attribute. bytes_eq name attribute.name) 0 attributes
+
+-- the declared class of the one of this number
+abbrev pub attribute_class : List Attribute → ℕ → ℕ
+attribute_class attributes number = option_map_or (λ attribute. attribute.shape.class) (slice_get attributes number) 0
+
+-- the fields of a class
+abbrev pub class_fields : Lexicon → ℕ → List Attribute
+class_fields lexicon class = option_map_or (λ shape. shape.fields) (slice_get lexicon.classes class) []
+
+-- the parameters of a predicate
+abbrev pub pred_params : Lexicon → ℕ → List Attribute
+pred_params lexicon pred = option_map_or (λ shape. shape.params) (slice_get lexicon.preds pred) []
+
+-- the class of a predicate
+abbrev pub pred_class : Lexicon → ℕ → ℕ
+pred_class lexicon pred = option_map_or (λ shape. shape.class) (slice_get lexicon.preds pred) 0
+
+-- the predicate of this name of the class among these
+abbrev pub class_named : ℕ → List ℕ → List PredShape → Option ℕ
+class_named class name preds = position_from (λ pred. pred.class == class && bytes_eq name pred.name) 0 preds
+
+abbrev pub pred_named : Lexicon → ℕ → List ℕ → Option ℕ
+pred_named lexicon class name = class_named class name lexicon.preds
+
+-- ---- parts of tokens
+
+-- the part of this name of a token: a time, its object, or a parameter
+abbrev pub part_named : Lexicon → ℕ → List ℕ → Option Part
+part_named lexicon pred name =
+    if bytes_eq name (codes "start") then Some parts.Start
+    else (if bytes_eq name (codes "end") then Some parts.End
+    else (if bytes_eq name (codes "duration") then Some parts.Duration
+    else (if bytes_eq name (codes "object") then Some parts.Object
+    else option_map parts.Param (attribute_number name (pred_params lexicon pred)))))
+
+-- the declared class of a part: the object is of the predicate's class
+abbrev pub part_class : Lexicon → ℕ → Part → ℕ
+part_class lexicon pred parts.Object = pred_class lexicon pred
+part_class lexicon pred (parts.Param number) = attribute_class (pred_params lexicon pred) number
+part_class lexicon pred part = 0
+
+-- ---- values
+
+-- the place that the value is as a number from 0 on
+abbrev pub place_of : ℤ → Option ℕ
+place_of (pos place) = Some place
+place_of (negsuc number) = None

@@ -1,0 +1,6 @@
+pub mod Growth
+pub mod Lexicon
+pub mod Names
+pub mod Paths
+pub mod Readings
+pub mod Stands
