@@ -1,5 +1,5 @@
 -- What a rule has, while its statements are dealt with one after another.
-use Rattle.std.specs.Prelude.{ℕ, List, [], ◌∷◌, ◌++◌, length}
+use Rattle.std.specs.Prelude.{ℕ, [], ◌∷◌, ◌++◌, length}
 use Rattle.model_core.specs.declared.item.Item.{Item}
 use Rattle.model_core.specs.declared.item.Item.TheVariants.{Constraint}
 use Rattle.model_core.specs.declared.item.Kind.TheVariants.{Field}
@@ -14,25 +14,25 @@ use Rattle.nddl_terms.specs.declared.lexicon.Shape.{Shape}
 
 -- a rule that has nothing
 abbrev pub no_growth : Growth
-no_growth = record { made = []; locals = []; slots = []; entries = [] }
+no_growth = record { named = []; asked = []; locals = []; slots = []; entries = [] }
 
 -- an entry more in the block
-abbrev pub with_entry : Entry → Growth → Growth
-with_entry entry growth = record growth { entries = growth.entries ++ entry ∷ [] }
+abbrev pub with_last_entry : Entry → Growth → Growth
+with_last_entry entry growth = record growth { entries = growth.entries ++ entry ∷ [] }
 
 -- a constraint or a relation more
 abbrev pub with_item : Item → Growth → Growth
-with_item item growth = with_entry (entries.Item item) growth
+with_item item growth = with_last_entry (entries.Item item) growth
 
 -- a local more, which stands in the block
-abbrev pub with_local : VarDecl → Growth → Growth
-with_local local growth =
-    with_entry (entries.Local (length growth.locals)) (record growth { locals = growth.locals ++ local ∷ [] })
+abbrev pub with_next_local : VarDecl → Growth → Growth
+with_next_local local growth =
+    with_last_entry (entries.Local (length growth.locals)) (record growth { locals = growth.locals ++ local ∷ [] })
 
 -- a slot more, which stands in the block
 abbrev pub with_slot : Slot → Growth → Growth
 with_slot slot growth =
-    with_entry (entries.Slot (length growth.slots)) (record growth { slots = growth.slots ++ slot ∷ [] })
+    with_last_entry (entries.Slot (length growth.slots)) (record growth { slots = growth.slots ++ slot ∷ [] })
 
 -- a local of this shape: it has no name
 abbrev pub unnamed : Shape → VarDecl
@@ -44,4 +44,4 @@ access object field growth = Constraint (Field field) (object ∷ terms.Local (l
 
 -- A field of the object that a variable is: a local of the field's shape, and the item that ties the two.
 abbrev pub with_access : Term → ℕ → Shape → Growth → Growth
-with_access object field shape growth = with_item (access object field growth) (with_local (unnamed shape) growth)
+with_access object field shape growth = with_item (access object field growth) (with_next_local (unnamed shape) growth)

@@ -1,5 +1,6 @@
 -- What is known of classes, predicates and types.
-use Rattle.std.specs.Prelude.{ℕ, ◌==◌, ◌&&◌, ℤ, pos, negsuc, List, [], Option, Some, None, slice_get, codes, if◌then◌else◌}
+use Rattle.std.specs.Prelude.{ℕ, ◌==◌, ◌&&◌, ℤ, pos, negsuc, List, [], Option, Some, None, slice_get, codes}
+use Rattle.std.specs.Prelude.{if◌then◌else◌}
 use Rattle.std.specs.List.{position_from}
 use Rattle.std.specs.Option.{option_map, option_map_or}
 use Rattle.std.specs.Str.{bytes_eq}
@@ -18,8 +19,8 @@ abbrev pub attribute_class : List Attribute → ℕ → ℕ
 attribute_class attributes number = option_map_or (λ attribute. attribute.shape.class) (slice_get attributes number) 0
 
 -- the fields of a class
-abbrev pub class_fields : Lexicon → ℕ → List Attribute
-class_fields lexicon class = option_map_or (λ shape. shape.fields) (slice_get lexicon.classes class) []
+abbrev pub shape_fields : Lexicon → ℕ → List Attribute
+shape_fields lexicon class = option_map_or (λ shape. shape.fields) (slice_get lexicon.classes class) []
 
 -- the parameters of a predicate
 abbrev pub pred_params : Lexicon → ℕ → List Attribute
@@ -39,8 +40,8 @@ pred_named lexicon class name = class_named class name lexicon.preds
 -- ---- parts of tokens
 
 -- the part of this name of a token: a time, its object, or a parameter
-abbrev pub part_named : Lexicon → ℕ → List ℕ → Option Part
-part_named lexicon pred name =
+abbrev pub part_called : Lexicon → ℕ → List ℕ → Option Part
+part_called lexicon pred name =
     if bytes_eq name (codes "start") then Some parts.Start
     else (if bytes_eq name (codes "end") then Some parts.End
     else (if bytes_eq name (codes "duration") then Some parts.Duration
@@ -56,6 +57,6 @@ part_class lexicon pred part = 0
 -- ---- values
 
 -- the place that the value is as a number from 0 on
-abbrev pub place_of : ℤ → Option ℕ
-place_of (pos place) = Some place
-place_of (negsuc number) = None
+abbrev pub place_of_value : ℤ → Option ℕ
+place_of_value (pos place) = Some place
+place_of_value (negsuc number) = None

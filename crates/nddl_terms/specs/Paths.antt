@@ -1,5 +1,5 @@
 -- What paths stand for in a rule.
-use Rattle.std.specs.Prelude.{ℕ, ℤ, List, [], ◌∷◌, Option, Some, None, length, slice_get}
+use Rattle.std.specs.Prelude.{ℕ, ℤ, List, [], ◌∷◌, Option, length, slice_get}
 use Rattle.std.specs.Option.{option_and_then, option_map_or}
 use Rattle.eu_name.specs.declared.name.Part.{Part}
 use Rattle.model_core.specs.declared.class.Object.{Object}
@@ -13,7 +13,7 @@ use Rattle.nddl_terms.specs.declared.stands.Made.{Made}
 use Rattle.nddl_terms.specs.declared.stands.Stand.{Stand}
 use Rattle.nddl_terms.specs.declared.stands.Stand.TheVariants.{Value, Slot, Root, Class, Nothing}
 use Rattle.nddl_terms.specs.Growth.{with_access}
-use Rattle.nddl_terms.specs.Lexicon.{attribute_class, attribute_number, class_fields, part_class, part_named, place_of}
+use Rattle.nddl_terms.specs.Lexicon.{attribute_class, attribute_number, shape_fields, part_class, part_called, place_of_value}
 use Rattle.nddl_terms.specs.Readings.{Readings}
 use Rattle.nddl_terms.specs.Stands.{first_stand}
 
@@ -30,7 +30,7 @@ reached stand growth = record { stand = stand; growth = growth }
 -- what the object that is this value has in its field of this number
 abbrev pub known_value : List Object → ℤ → ℕ → Option ℤ
 known_value objects value number =
-    option_and_then (λ object. slice_get object.fields number) (option_and_then (slice_get objects) (place_of value))
+    option_and_then (λ object. slice_get object.fields number) (option_and_then (slice_get objects) (place_of_value value))
 
 -- the same, where its declared class has these fields
 abbrev pub known_stand : List Object → ℤ → List Attribute → ℕ → Stand
@@ -52,7 +52,7 @@ object_step objects object fields number growth = read_step object fields number
 
 abbrev pub field_step : Readings → Term → ℕ → List ℕ → Growth → Reached
 field_step reading object class name growth =
-    let fields = class_fields reading.lexicon class in
+    let fields = shape_fields reading.lexicon class in
     option_map_or (λ number. object_step reading.objects object fields number growth) (attribute_number name fields)
     (reached Nothing growth)
 
@@ -67,25 +67,25 @@ part_stand reading here part = Nothing
 -- the part of this name of a token of the predicate
 abbrev pub token_stand : Readings → Stand → ℕ → List ℕ → Stand
 token_stand reading here pred name =
-    option_map_or (part_stand reading here) (part_named reading.lexicon pred name) Nothing
+    option_map_or (part_stand reading here) (part_called reading.lexicon pred name) Nothing
 
 -- ---- paths
 
 -- what the name stands for behind what stands for this: a field of an object, or a part of a token
-abbrev pub path_step : Readings → Stand → Name → Growth → Reached
-path_step reading (Value term class) name growth = field_step reading term class name.text growth
-path_step reading (Slot number pred) name growth = reached (token_stand reading (Slot number pred) pred name.text) growth
-path_step reading (Root number pred) name growth = reached (token_stand reading (Root number pred) pred name.text) growth
-path_step reading (Class class) name growth = reached Nothing growth
-path_step reading Nothing name growth = reached Nothing growth
+abbrev pub stand_step : Readings → Stand → Name → Growth → Reached
+stand_step reading (Value term class) name growth = field_step reading term class name.text growth
+stand_step reading (Slot number pred) name growth = reached (token_stand reading (Slot number pred) pred name.text) growth
+stand_step reading (Root number pred) name growth = reached (token_stand reading (Root number pred) pred name.text) growth
+stand_step reading (Class class) name growth = reached Nothing growth
+stand_step reading Nothing name growth = reached Nothing growth
 
 -- what the last of the names stands for
-abbrev pub path_steps : Readings → Stand → List Name → Growth → Reached
-path_steps reading here [] growth = reached here growth
-path_steps reading here (name ∷ more) growth =
-    let next = path_step reading here name growth in path_steps reading next.stand more next.growth
+abbrev pub stand_steps : Readings → Stand → List Name → Growth → Reached
+stand_steps reading here [] growth = reached here growth
+stand_steps reading here (name ∷ more) growth =
+    let next = stand_step reading here name growth in stand_steps reading next.stand more next.growth
 
 -- what the path stands for, in these turns and with what the rule has so far
 abbrev pub path_stand : Readings → List Made → Path → Growth → Reached
 path_stand reading turns path growth =
-    path_steps reading (first_stand reading turns growth path.first.at) path.rest growth
+    stand_steps reading (first_stand reading turns growth path.first.at) path.rest growth

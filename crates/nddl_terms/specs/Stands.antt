@@ -1,6 +1,6 @@
 -- What names stand for in a rule.
 use Rattle.std.specs.Prelude.{ℕ, ◌==◌, List, [], ◌∷◌, Option, Some, None, slice_get, if◌then◌else◌}
-use Rattle.std.specs.Option.{option_and_then, option_map_or, option_or}
+use Rattle.std.specs.Option.{option_and_then, option_or}
 use Rattle.eu_name.specs.declared.name.Part.{Part}
 use Rattle.model_core.specs.declared.item.Term.TheVariants as terms
 use Rattle.nddl_trees.specs.declared.tree.Meaning.{Meaning}
@@ -11,7 +11,7 @@ use Rattle.nddl_terms.specs.declared.stands.Made.{Made}
 use Rattle.nddl_terms.specs.declared.stands.Stand.{Stand}
 use Rattle.nddl_terms.specs.declared.stands.Stand.TheVariants.{Value, Class, Nothing}
 use Rattle.nddl_terms.specs.Lexicon.{part_class}
-use Rattle.nddl_terms.specs.Names.{named_at}
+use Rattle.nddl_terms.specs.Names.{name_read_at}
 use Rattle.nddl_terms.specs.Readings.{Readings}
 
 -- what was made, if it is of what the text declares there
@@ -39,8 +39,8 @@ own_stand reading part = Value (terms.Here part) (part_class reading.lexicon rea
 -- and for a local or a slot of the text the latest one that was made of it.
 abbrev pub meaning_stand : Readings → List Made → Growth → Meaning → Option Stand
 meaning_stand reading turns growth (meanings.Turn number) = declared_stand reading.places.turns number turns
-meaning_stand reading turns growth (meanings.Local number) = declared_stand reading.places.locals number growth.made
-meaning_stand reading turns growth (meanings.Slot number) = declared_stand reading.places.slots number growth.made
+meaning_stand reading turns growth (meanings.Local number) = declared_stand reading.places.locals number growth.named
+meaning_stand reading turns growth (meanings.Slot number) = declared_stand reading.places.slots number growth.asked
 meaning_stand reading turns growth (meanings.Here part) = Some (own_stand reading part)
 meaning_stand reading turns growth (meanings.Scope place) = file_stand reading.lexicon place
 meaning_stand reading turns growth (meanings.BuiltIn class) = Some (Class class)
@@ -53,4 +53,4 @@ stand_or_nothing None = Nothing
 -- what the name stands for that is read there
 abbrev pub first_stand : Readings → List Made → Growth → ℕ → Stand
 first_stand reading turns growth at =
-    stand_or_nothing (option_and_then (meaning_stand reading turns growth) (named_at at reading.names))
+    stand_or_nothing (option_and_then (meaning_stand reading turns growth) (name_read_at at reading.names))

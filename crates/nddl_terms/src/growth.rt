@@ -1,23 +1,24 @@
 //! What a rule has, while its statements are dealt with one after another.
 
 ghost use Rattle.std.specs.Prelude.{◌≡◌, ◌++◌, ◌∷◌, [], length, IfOk, OnOk};
-ghost use Rattle.nddl_terms.specs.Growth.{access, no_growth, unnamed, with_access, with_entry, with_item, with_local, with_slot};
+ghost use Rattle.nddl_terms.specs.Growth.{no_growth, unnamed, with_access, with_last_entry, with_item, with_next_local, with_slot};
 
 use super::lexicon::{Shape, as_number, copy_base};
-use super::stands::{Made, Stand};
-use eu_name::name::Part;
+use super::stands::Made;
 use eu_name::sequence::Sequence;
 use eu_name::text::Text;
 use model_core::item::{Item, Kind, Term};
 use model_core::rule::{Entry, Slot};
-use model_core::variable::{Base, VarDecl};
+use model_core::variable::VarDecl;
 use std::alloc::{AllocError, Global};
 
 /// What a rule has so far.
 #[derive(Drop)]
 pub struct Growth {
-    /// What was made of the locals and slots of the text, in order: the latest comes last.
-    pub made: Sequence<Made>,
+    /// What was made of the locals of the text, in order: the latest comes last.
+    pub named: Sequence<Made>,
+    /// The same of its slots.
+    pub asked: Sequence<Made>,
     /// The locals, by number.
     pub locals: Sequence<VarDecl>,
     /// The slots, by number.
@@ -54,7 +55,8 @@ impl Growth {
         ensures { result ≡ no_growth }
     {
         Growth {
-            made: Sequence::new(alloc),
+            named: Sequence::new(alloc),
+            asked: Sequence::new(alloc),
             locals: Sequence::new(alloc),
             slots: Sequence::new(alloc),
             entries: Sequence::new(alloc),
@@ -63,7 +65,7 @@ impl Growth {
 
     /// Puts an entry into the block.
     pub fn add_entry(&mut self, entry: Entry) -> Result<(), AllocError>
-        ensures { OnOk result (self.new ≡ with_entry entry self.old) }
+        ensures { OnOk result (self.new ≡ with_last_entry entry self.old) }
     {
         self.entries.push(entry)
     }
@@ -77,7 +79,7 @@ impl Growth {
 
     /// A local more, which stands in the block. Answers its number.
     pub fn add_local(&mut self, local: VarDecl) -> Result<u32, AllocError>
-        ensures grown { OnOk result (self.new ≡ with_local local self.old) }
+        ensures grown { OnOk result (self.new ≡ with_next_local local self.old) }
         ensures number { IfOk result (λ number. number ≡ length self.old.locals) }
     {
         let number = as_number(self.locals.len())?;

@@ -1,7 +1,7 @@
 //! What is known of classes, predicates, types and the names of files once all objects are made.
 
 ghost use Rattle.std.specs.Prelude.{◌≡◌, IfOk, slice_get};
-ghost use Rattle.nddl_terms.specs.Lexicon.{attribute_class, attribute_number, class_fields, class_named, part_class, part_named, place_of, pred_class, pred_named, pred_params};
+ghost use Rattle.nddl_terms.specs.Lexicon.{attribute_class, attribute_number, shape_fields, class_named, part_class, part_called, place_of_value, pred_class, pred_named, pred_params};
 
 use super::stands::Stand;
 use eu_name::name::Part;
@@ -81,7 +81,7 @@ pub fn attribute_class(attributes: &[Attribute], number: usize) -> u32
 impl Lexicon {
     /// The fields of a class.
     pub fn fields(&self, class: u32) -> &[Attribute]
-        ensures { result.now ≡ class_fields self.now class }
+        ensures { result.now ≡ shape_fields self.now class }
     {
         match self.classes.as_slice().get(class as usize) {
             Some(shape) => shape.fields.as_slice(),
@@ -122,7 +122,7 @@ impl Lexicon {
 
     /// The part of this name of a token. There is no memory for 2^16 parameters.
     pub fn part_named(&self, pred: u32, name: &Text) -> Result<Option<Part>, AllocError>
-        ensures { IfOk result (λ part. part ≡ part_named self.now pred name.now) }
+        ensures { IfOk result (λ part. part ≡ part_called self.now pred name.now) }
     {
         let word = name.as_str();
         if word == "start" {
@@ -186,7 +186,7 @@ pub fn as_number(number: usize) -> Result<u32, AllocError>
 
 /// The place that the value is as a number from 0 on.
 pub fn value_place(value: i32) -> Option<usize>
-    ensures { result ≡ place_of value }
+    ensures { result ≡ place_of_value value }
 {
     if value < 0 {
         None

@@ -1,7 +1,7 @@
 //! What the names in a rule mean, by their places.
 
 ghost use Rattle.std.specs.Prelude.{◌≡◌, ◌<◌, length, AllPairs};
-ghost use Rattle.nddl_terms.specs.Names.{AreInOrder, named_at};
+ghost use Rattle.nddl_terms.specs.Names.{AreReadInOrder, name_read_at};
 
 use nddl_trees::{Meaning, ReadName};
 
@@ -9,12 +9,12 @@ use nddl_trees::{Meaning, ReadName};
 #[derive(Clone, Copy)]
 pub struct ReadNames<'a> {
     names: &'a [ReadName],
-    ghost ordered: { AreInOrder names.now },
+    ghost ordered: { AreReadInOrder names.now },
 }
 
 impl<'a> ReadNames<'a> {
     pub fn new(names: &'a [ReadName]) -> ReadNames<'a>
-        requires { AreInOrder names.now }
+        requires { AreReadInOrder names.now }
         ensures { result.names.now ≡ names.now }
     {
         ReadNames { names }
@@ -22,7 +22,7 @@ impl<'a> ReadNames<'a> {
 
     /// What the name means that is read there.
     pub fn meaning(&self, at: u32) -> Option<Meaning>
-        ensures { result ≡ named_at at self.now.names.now }
+        ensures { result ≡ name_read_at at self.now.names.now }
     {
         meaning_among(self.names, at)
     }
@@ -30,8 +30,8 @@ impl<'a> ReadNames<'a> {
 
 // What the name means that is read there, found by halves.
 fn meaning_among(names: &[ReadName], at: u32) -> Option<Meaning>
-    requires { AreInOrder names.now }
-    ensures { result ≡ named_at at names.now }
+    requires { AreReadInOrder names.now }
+    ensures { result ≡ name_read_at at names.now }
 {
     let (front, back) = names.split_at(names.len() / 2);
     match back.first() {

@@ -1,7 +1,7 @@
 //! What paths stand for in a rule.
 
 ghost use Rattle.std.specs.Prelude.{◌≡◌, IfOk, OnOk};
-ghost use Rattle.nddl_terms.specs.Paths.{field_step, known_value, known_stand, part_stand, path_stand, path_step, path_steps, read_step, token_stand};
+ghost use Rattle.nddl_terms.specs.Paths.{field_step, known_value, known_stand, part_stand, path_stand, stand_step, stand_steps, read_step, token_stand};
 ghost use Rattle.nddl_terms.specs.Readings.{readings_of};
 
 use super::growth::Growth;
@@ -125,9 +125,9 @@ fn path_step(
     growth: &mut Growth,
 ) -> Result<Stand, AllocError>
     ensures grown { OnOk result (growth.new
-        ≡ (path_step (readings_of reading.now) here name.now growth.old).growth) }
+        ≡ (stand_step (readings_of reading.now) here name.now growth.old).growth) }
     ensures stand { IfOk result (λ stand. stand
-        ≡ (path_step (readings_of reading.now) here name.now growth.old).stand) }
+        ≡ (stand_step (readings_of reading.now) here name.now growth.old).stand) }
 {
     match here {
         Stand::Value { term, class } => field_step(alloc, reading, term, class, &name.text, growth),
@@ -146,9 +146,9 @@ pub fn path_steps(
     growth: &mut Growth,
 ) -> Result<Stand, AllocError>
     ensures grown { OnOk result (growth.new
-        ≡ (path_steps (readings_of reading.now) begin names.now growth.old).growth) }
+        ≡ (stand_steps (readings_of reading.now) begin names.now growth.old).growth) }
     ensures stand { IfOk result (λ stand. stand
-        ≡ (path_steps (readings_of reading.now) begin names.now growth.old).stand) }
+        ≡ (stand_steps (readings_of reading.now) begin names.now growth.old).stand) }
 {
     let mut here = begin;
     for name in names {

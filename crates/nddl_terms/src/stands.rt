@@ -105,12 +105,12 @@ fn meaning_stand(
         Meaning::Local(number) => declared_stand(
             reading.places.locals.as_slice(),
             number,
-            growth.made.as_slice(),
+            growth.named.as_slice(),
         ),
         Meaning::Slot(number) => declared_stand(
             reading.places.slots.as_slice(),
             number,
-            growth.made.as_slice(),
+            growth.asked.as_slice(),
         ),
         Meaning::Here(part) => Some(own_stand(reading, part)),
         Meaning::Scope(place) => file_stand(reading.lexicon, place),

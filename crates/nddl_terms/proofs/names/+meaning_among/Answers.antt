@@ -1,4 +1,4 @@
-use Rattle.std.proofs.Common.{arith, ◌∙◌, sym}
+use Rattle.std.proofs.Common.{arith, ◌∙◌}
 use Rattle.nddl_terms.proofs.Finding.{found_here, found_in_front, found_behind}
 use Rattle.nddl_terms.proofs.names.+meaning_among.Goals as goal
 

@@ -1,0 +1,4 @@
+pub mod Amounts
+pub mod Counting
+pub mod Limits
+pub mod Reads

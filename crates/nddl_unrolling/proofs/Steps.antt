@@ -1,0 +1,90 @@
+-- Statements that are dealt with one after another.
+use Rattle.std.proofs.Common.{◌≡◌, ℕ, ◌+◌, ◌<◌, List, [], ◌∷◌, ◌++◌, length, drop, get_or, refl, sym, ◌∙◌, ap}
+use Rattle.std.specs.Prelude.{Option, Some, None, Result, Ok, Err, OnOk}
+use Rattle.std.specs.Option.{option_map_or}
+use Rattle.model_core.specs.declared.rule.Entry.TheVariants as entries
+use Rattle.model_core.specs.declared.rule.Guard.{Guard}
+use Rattle.model_core.specs.Block.{plain_entries}
+use Rattle.model_core.specs.Entries.{Entries}
+use Rattle.nddl_ast.specs.declared.statement.Condition.{Condition}
+use Rattle.nddl_ast.specs.declared.statement.Stmt.{Stmt}
+use Rattle.nddl_ast.specs.Block.{statements_of, with_else, with_statement}
+use Rattle.nddl_ast.specs.Tree.{Statements, Braces}
+use Rattle.nddl_terms.specs.declared.growth.Growth.{Growth}
+use Rattle.nddl_terms.specs.declared.stands.Made.{Made}
+use Rattle.nddl_terms.specs.declared.stands.Stand.{Stand}
+use Rattle.nddl_terms.specs.Growth.{with_last_entry}
+use Rattle.nddl_terms.specs.Readings.{Readings}
+use Rattle.nddl_unrolling.specs.Arguments.{condition_guard}
+use Rattle.nddl_unrolling.specs.Blocks.{all_turns, back_in, filled_block, in_block, unrolled}
+use Rattle.nddl_unrolling.proofs.Items.{dropped}
+
+-- what the rule has behind a statement goes on with those behind it
+pub goes_on_at : {X E : Type 0} (reading : Readings) (turns : List Made) (same stmt : Stmt) (old new : Growth) (result : Result X E)
+    → stmt ≡ same
+    → OnOk result ((more : Statements) → unrolled reading turns more new ≡ unrolled reading turns (with_statement same more) old)
+    → OnOk result ((more : Statements) → unrolled reading turns more new ≡ unrolled reading turns (with_statement stmt more) old)
+goes_on_at reading turns same stmt old new (Err e) is said = tt
+goes_on_at reading turns same stmt old new (Ok done) is said = λ more.
+    said more ∙ ap (λ (s : Stmt). unrolled reading turns (with_statement s more) old) (sym is)
+
+-- what it has behind one statement is known
+pub known_behind : {X E : Type 0} (reading : Readings) (turns : List Made) (next new : Growth) (result : Result X E)
+    → OnOk result (new ≡ next)
+    → OnOk result ((more : Statements) → unrolled reading turns more new ≡ unrolled reading turns more next)
+known_behind reading turns next new (Err e) is = tt
+known_behind reading turns next new (Ok done) is = λ more. ap (unrolled reading turns more) is
+
+-- one statement more
+pub block_step : (reading : Readings) (turns : List Made) (stmts : List Stmt) (i : ℕ) (stmt : Stmt) (old new whole : Growth)
+    → i < length stmts → stmt ≡ get_or stmts i stmt
+    → ((more : Statements) → unrolled reading turns more new ≡ unrolled reading turns (with_statement stmt more) old)
+    → unrolled reading turns (statements_of (drop i stmts)) old ≡ whole
+    → unrolled reading turns (statements_of (drop (i + 1) stmts)) new ≡ whole
+block_step reading turns stmts i stmt old new whole within is goes_on so_far =
+    goes_on (statements_of (drop (i + 1) stmts))
+    ∙ (ap (λ left. unrolled reading turns (statements_of left) old) (dropped stmts i stmt within is) ∙ so_far)
+
+-- one turn more
+pub turns_step : (turn : Stand → Growth → Growth) (objects : List Stand) (i : ℕ) (object : Stand) (old new whole : Growth)
+    → i < length objects → object ≡ get_or objects i object → new ≡ turn object old
+    → all_turns turn (drop i objects) old ≡ whole → all_turns turn (drop (i + 1) objects) new ≡ whole
+turns_step turn objects i object old new whole within is turned so_far =
+    ap (all_turns turn (drop (i + 1) objects)) turned
+    ∙ (ap (λ left. all_turns turn left old) (dropped objects i object within is) ∙ so_far)
+
+-- a guard and its blocks
+pub branch_on : {X E : Type 0} (reading : Readings) (turns : List Made) (at : ℕ) (condition : Condition) (then : Braces) (otherwise : Option Braces)
+    (one two three four five : Growth) (guard : Guard) (then_block else_block : Entries) (result : Result X E)
+    → two ≡ (condition_guard reading turns condition one).growth → guard ≡ (condition_guard reading turns condition one).guard
+    → three ≡ back_in two.entries (unrolled reading turns then.statements (in_block two))
+    → then_block ≡ filled_block (unrolled reading turns then.statements (in_block two))
+    → four ≡ option_map_or (λ block. back_in three.entries (unrolled reading turns block.statements (in_block three))) otherwise three
+    → else_block ≡ option_map_or (λ block. filled_block (unrolled reading turns block.statements (in_block three))) otherwise (plain_entries [])
+    → OnOk result (five ≡ with_last_entry (entries.Branch guard then_block else_block) four)
+    → OnOk result ((more : Statements)
+    → unrolled reading turns more five ≡ unrolled reading turns (with_else at condition then otherwise more) one)
+branch_on reading turns at condition then otherwise one two three four five guard then_block else_block (Err e)
+    two_is guard_is three_is then_is four_is else_is five_is = tt
+branch_on reading turns at condition then None one two three four five guard then_block else_block (Ok done)
+    two_is guard_is three_is then_is four_is else_is five_is = λ more.
+    let filled : Growth → Growth = λ growth. unrolled reading turns then.statements (in_block growth) in
+    let branched : Growth → Guard → Growth = λ growth test.
+    with_last_entry (entries.Branch test (filled_block (filled growth)) (plain_entries [])) (back_in growth.entries (filled growth)) in
+    let whole : five ≡ branched two guard =
+    five_is ∙ (λ i. with_last_entry (entries.Branch guard (then_is i) (else_is i)) ((four_is ∙ three_is) i)) in
+    ap (unrolled reading turns more) (whole ∙ (λ i. branched (two_is i) (guard_is i)))
+branch_on reading turns at condition then (Some block) one two three four five guard then_block else_block (Ok done)
+    two_is guard_is three_is then_is four_is else_is five_is = λ more.
+    let filled : Growth → Growth = λ growth. unrolled reading turns then.statements (in_block growth) in
+    let other : Growth → Growth = λ growth. unrolled reading turns block.statements (in_block growth) in
+    let branched : Growth → Guard → Growth = λ growth test.
+    with_last_entry (entries.Branch test (filled_block (filled growth)) (filled_block (other (filled growth))))
+    (back_in growth.entries (other (filled growth))) in
+    let outer : five ≡ with_last_entry (entries.Branch guard (filled_block (filled two)) (filled_block (other three))) (back_in three.entries (other three)) =
+    five_is ∙ (λ i. with_last_entry (entries.Branch guard (then_is i) (else_is i)) (four_is i)) in
+    let inner : with_last_entry (entries.Branch guard (filled_block (filled two)) (filled_block (other three))) (back_in three.entries (other three))
+    ≡ branched two guard =
+    λ i. with_last_entry (entries.Branch guard (filled_block (filled two)) (filled_block (other (three_is i))))
+    (back_in (three_is i).entries (other (three_is i))) in
+    ap (unrolled reading turns more) (outer ∙ (inner ∙ (λ i. branched (two_is i) (guard_is i))))

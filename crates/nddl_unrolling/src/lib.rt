@@ -1,0 +1,15 @@
+//! What the texts of rules stand for: `unroll(alloc, &lexicon, &objects, &trees)?` gives the rules of a model, one for each
+//! text, with each `foreach` unrolled over the objects of its class. What stands in a rule, and under which number, goes in
+//! the order of the text.
+#![tactic(auto)]
+
+pub mod arguments;
+pub mod blocks;
+pub mod calls;
+pub mod locals;
+pub mod places;
+pub mod rules;
+pub mod slots;
+pub mod types;
+
+pub use rules::unroll;

@@ -1,0 +1,225 @@
+//! What variables of a type may be.
+
+ghost use Rattle.std.specs.Prelude.{◌≡◌, IfOk, slice_get};
+ghost use Rattle.std.specs.List.{filter_map};
+ghost use Rattle.domain_core.specs.Domain.{Set};
+ghost use Rattle.nddl_variables.specs.Ascending.{ascending_of};
+ghost use Rattle.nddl_terms.specs.Readings.{readings_of};
+ghost use Rattle.nddl_unrolling.specs.Locals.{base_shape, bounded_base, class_shape, constant_number, range_end, file_shape, known_number, meaning_number, meaning_shape, stand_shape, truth_shape, type_shape, value_number, whole_shape};
+
+use super::arguments::truth_value;
+use super::slots::class_base;
+use domain_core::domain::Dom;
+use model_core::item::Term;
+use model_core::variable::{Base, ValueKind};
+use nddl_ast::expression::{BaseType, Bounds, Constant, Type, Value};
+use nddl_terms::lexicon::copy_base;
+use nddl_terms::stands::file_stand;
+use nddl_terms::{Lexicon, Reading, Shape, Stand};
+use nddl_trees::Meaning;
+use nddl_variables::domains::range;
+use std::alloc::{AllocError, Global};
+
+// The set of the values. Nothing is wrong with the rule, so there is one, and there are few.
+fn value_set(alloc: Global, values: &[i32]) -> Result<Dom, AllocError>
+    ensures { IfOk result (λ domain. domain ≡ Set (ascending_of values.now)) }
+{
+    match Dom::set_of(alloc, values) {
+        Ok(domain) => Ok(domain),
+        Err(_) => Err(AllocError),
+    }
+}
+
+// An object of the class.
+fn class_shape(lexicon: &Lexicon, class: u32) -> Result<Shape, AllocError>
+    ensures { IfOk result (λ shape. shape ≡ class_shape lexicon.now class) }
+{
+    let base = class_base(lexicon, class)?;
+    Ok(Shape {
+        kind: ValueKind::Object,
+        base,
+        class,
+    })
+}
+
+// Any whole number.
+fn whole_shape() -> Result<Shape, AllocError>
+    ensures { IfOk result (λ shape. shape ≡ whole_shape) }
+{
+    let domain = range(-1_000_000, 1_000_000)?;
+    Ok(Shape {
+        kind: ValueKind::Int,
+        base: Base::Given(domain),
+        class: 0,
+    })
+}
+
+fn truth_shape(alloc: Global) -> Result<Shape, AllocError>
+    ensures { IfOk result (λ shape. shape ≡ truth_shape) }
+{
+    let domain = value_set(alloc, &[0, 1])?;
+    Ok(Shape {
+        kind: ValueKind::Bool,
+        base: Base::Given(domain),
+        class: 0,
+    })
+}
+
+// An object of the class that a name stands for.
+fn stand_shape(lexicon: &Lexicon, stand: Option<Stand>) -> Result<Shape, AllocError>
+    ensures { IfOk result (λ shape. shape ≡ stand_shape lexicon.now stand) }
+{
+    match stand {
+        Some(Stand::Class(class)) => class_shape(lexicon, class),
+        _ => whole_shape(),
+    }
+}
+
+// An equal shape in memory of its own.
+fn copy_shape(shape: &Shape) -> Result<Shape, AllocError>
+    ensures { IfOk result (λ copied. copied ≡ shape.now) }
+{
+    let base = copy_base(&shape.base)?;
+    Ok(Shape {
+        kind: shape.kind,
+        base,
+        class: shape.class,
+    })
+}
+
+// What the name of this place in the scope is as a type.
+fn file_shape(lexicon: &Lexicon, place: u32) -> Result<Shape, AllocError>
+    ensures { IfOk result (λ shape. shape ≡ file_shape lexicon.now place) }
+{
+    match lexicon.types.as_slice().get(place as usize) {
+        Some(Some(shape)) => copy_shape(shape),
+        _ => stand_shape(lexicon, file_stand(lexicon, place)),
+    }
+}
+
+fn meaning_shape(lexicon: &Lexicon, meaning: Option<Meaning>) -> Result<Shape, AllocError>
+    ensures { IfOk result (λ shape. shape ≡ meaning_shape lexicon.now meaning) }
+{
+    match meaning {
+        Some(Meaning::Scope(place)) => file_shape(lexicon, place),
+        Some(Meaning::BuiltIn(class)) => class_shape(lexicon, class),
+        _ => whole_shape(),
+    }
+}
+
+// What a variable may be, before the bounds of its type restrict it.
+fn base_shape(alloc: Global, reading: &Reading<'_>, base: &BaseType) -> Result<Shape, AllocError>
+    ensures { IfOk result (λ shape. shape ≡ base_shape (readings_of reading.now) base.now) }
+{
+    match base {
+        BaseType::Bool => truth_shape(alloc),
+        BaseType::Named(name) => meaning_shape(reading.lexicon, reading.names.meaning(name.at)),
+        _ => whole_shape(),
+    }
+}
+
+// A value that is known.
+fn known_number(stand: Option<Stand>) -> Option<i32>
+    ensures { result ≡ known_number stand }
+{
+    match stand {
+        Some(
+            Stand::Value {
+                term: Term::Lit(value),
+                ..
+            },
+        ) => Some(value),
+        _ => None,
+    }
+}
+
+// What a name among the values of a set stands for.
+fn meaning_number(lexicon: &Lexicon, meaning: Option<Meaning>) -> Option<i32>
+    ensures { result ≡ meaning_number lexicon.now meaning }
+{
+    match meaning {
+        Some(Meaning::Scope(place)) => known_number(file_stand(lexicon, place)),
+        _ => None,
+    }
+}
+
+fn constant_number(constant: Constant) -> Option<i32>
+    ensures { result ≡ constant_number constant }
+{
+    match constant {
+        Constant::Number(number) => Some(number),
+        Constant::Truth(truth) => Some(truth_value(truth)),
+        Constant::Decimal(_) => None,
+    }
+}
+
+fn value_number(reading: &Reading<'_>, value: &Value) -> Option<i32>
+    ensures { result ≡ value_number (readings_of reading.now) value.now }
+{
+    match value {
+        Value::Name(name) => meaning_number(reading.lexicon, reading.names.meaning(name.at)),
+        Value::Literal(literal) => constant_number(literal.constant),
+    }
+}
+
+// An end of a range.
+fn end_number(reading: &Reading<'_>, value: &Value) -> i32
+    ensures { result ≡ range_end (readings_of reading.now) value.now }
+{
+    match value_number(reading, value) {
+        Some(number) => number,
+        None => 0,
+    }
+}
+
+// The numbers of these values.
+fn value_numbers(
+    alloc: Global,
+    reading: &Reading<'_>,
+    values: &[Value],
+) -> Result<Vec<i32>, AllocError>
+    ensures { IfOk result (λ numbers. numbers.items ≡ filter_map (value_number (readings_of reading.now)) values.now) }
+{
+    let mut numbers = Vec::new(alloc);
+    for value in values {
+        if let Some(number) = value_number(reading, value) {
+            numbers.push(number)?;
+        }
+    }
+    Ok(numbers)
+}
+
+// The base of a type that has this one before its bounds.
+fn bounded_base(
+    alloc: Global,
+    reading: &Reading<'_>,
+    base: Base,
+    bounds: &Bounds,
+) -> Result<Base, AllocError>
+    ensures { IfOk result (λ bounded. bounded ≡ bounded_base (readings_of reading.now) base bounds.now) }
+{
+    match bounds {
+        Bounds::All => Ok(base),
+        Bounds::Range {
+            least,
+            greatest,
+            ..
+        } => {
+            let domain = range(end_number(reading, least), end_number(reading, greatest))?;
+            Ok(Base::Given(domain))
+        }
+        Bounds::Set { values, .. } => {
+            let numbers = value_numbers(alloc, reading, values.as_slice())?;
+            Ok(Base::Given(value_set(alloc, numbers.as_slice())?))
+        }
+    }
+}
+
+/// What a variable of the type may be.
+pub fn type_shape(alloc: Global, reading: &Reading<'_>, written: &Type) -> Result<Shape, AllocError>
+    ensures { IfOk result (λ shape. shape ≡ type_shape (readings_of reading.now) written.now) }
+{
+    let Shape { kind, base, class } = base_shape(alloc, reading, &written.base)?;
+    let base = bounded_base(alloc, reading, base, &written.bounds)?;
+    Ok(Shape { kind, base, class })
+}
