@@ -1,0 +1,4 @@
+pub mod Splitting
+pub mod Thinning
+pub mod Leaving
+pub mod Reducing

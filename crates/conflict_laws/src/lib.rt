@@ -1,0 +1,4 @@
+//! Laws of conflicts.
+#![tactic(auto)]
+
+pub mod laws;
