@@ -1,6 +1,6 @@
 //! Putting decisions at the end of the standing list, and taking the last one off.
 
-ghost use Rattle.std.specs.Prelude.{◌≡◌, ◌≤◌, false, List, length, take, IfOk, IsErr, OnOk, OnErr, MatchResult};
+ghost use Rattle.std.specs.Prelude.{◌≡◌, ◌≤◌, false, List, length, take, Ok, IfOk, IsErr, OnOk, OnErr, MatchResult};
 ghost use Rattle.model_core.specs.declared.decision.Decision.{Decision as Taken};
 ghost use Rattle.model_core.specs.declared.model.Model.{Model as Problem};
 ghost use Rattle.model_core.specs.History.{standing, accepted};
@@ -156,9 +156,23 @@ pub fn rebuild(
     ensures err { OnErr result ((behind.new ≡ behind.old) × (kept.new ≡ kept.old)) }
     ensures kept { KeepsUnless behind.new model.now log.now kept.new }
 {
-    *kept = build_standing(model, log)?;
+    put(kept, build_standing(model, log))?;
     *behind = false;
     Ok(())
+}
+
+// Puts what was made in the place of what is there, if it was made.
+fn put<T: Drop>(place: &mut T, made: Result<T, AllocError>) -> Result<(), AllocError>
+    ensures ok { OnOk result (made ≡ Ok place.new) }
+    ensures err { OnErr result (place.new ≡ place.old) }
+{
+    match made {
+        Ok(value) => {
+            *place = value;
+            Ok(())
+        }
+        Err(none) => Err(none),
+    }
 }
 
 // What is kept of the standing list, made anew.
