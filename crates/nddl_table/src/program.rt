@@ -63,8 +63,8 @@ fn answer_at(
     answer_of(alloc, &*files, &*sites, decls.as_slice())
 }
 
-// The declarations at these sites.
-fn joined<'a>(
+/// The declarations at these sites.
+pub fn joined<'a>(
     alloc: Global,
     files: &'a [FileDecls],
     sites: &[Site],
@@ -209,8 +209,8 @@ fn answer_from(
     }
 }
 
-// The fault as it is answered. It stands in one of the files.
-fn told(program: &Program<'_>, fault: Fault) -> Result<TextFault, AllocError>
+/// The fault as it is answered. It stands in one of the files.
+pub fn told(program: &Program<'_>, fault: Fault) -> Result<TextFault, AllocError>
     ensures { IfOk result (λ answer. Some answer ≡ told_fault program.now.files.now fault) }
 {
     match file_of(program.files, program.sites, fault.place) {
