@@ -1,0 +1,8 @@
+//! The rule trees of files, or what is wrong first with their rules: `rules(alloc, &table, files)`, where the table is that
+//! of the files.
+#![tactic(auto)]
+
+pub mod answers;
+pub mod scope;
+
+pub use answers::rules;
