@@ -1,0 +1,3 @@
+pub mod TimeCycle
+pub mod Points
+pub mod Walks
