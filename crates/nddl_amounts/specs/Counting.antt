@@ -1,5 +1,5 @@
 -- How much the text of a rule unrolls into.
-use Rattle.std.specs.Prelude.{ℕ, ◌-◌, List, [], ◌∷◌, Option, Some, None, length, slice_get, if◌then◌else◌}
+use Rattle.std.specs.Prelude.{ℕ, ◌-◌, List, [], ◌∷◌, Option, Some, length, slice_get, if◌then◌else◌}
 use Rattle.std.specs.Option.{option_map_or}
 use Rattle.model_core.specs.declared.item.Kind.{Kind}
 use Rattle.model_core.specs.declared.item.Kind.TheVariants.{AllDiff}

@@ -1,5 +1,5 @@
 -- How many fields paths read of what isn't a known object.
-use Rattle.std.specs.Prelude.{ℕ, ◌-◌, Bool, true, false, List, [], ◌∷◌, Option, Some, None, length}
+use Rattle.std.specs.Prelude.{ℕ, ◌-◌, Bool, true, false, List, [], ◌∷◌, Option, Some, length}
 use Rattle.model_core.specs.declared.item.Term.TheVariants as terms
 use Rattle.nddl_ast.specs.declared.expression.Expr.{Expr}
 use Rattle.nddl_ast.specs.declared.expression.Expr.TheVariants as exprs
@@ -9,7 +9,7 @@ use Rattle.nddl_trees.specs.declared.tree.Meaning.TheVariants as meanings
 use Rattle.nddl_trees.specs.declared.tree.ReadName.{ReadName}
 use Rattle.nddl_terms.specs.declared.lexicon.Lexicon.{Lexicon}
 use Rattle.nddl_terms.specs.declared.stands.Stand.{Stand}
-use Rattle.nddl_terms.specs.declared.stands.Stand.TheVariants.{Value, Slot, Root, Class, Nothing}
+use Rattle.nddl_terms.specs.declared.stands.Stand.TheVariants.{Value, Slot, Root, Class}
 use Rattle.nddl_terms.specs.Names.{name_read_at}
 use Rattle.nddl_terms.specs.Stands.{file_stand}
 use Rattle.nddl_amounts.specs.Amounts.{plus}

@@ -18,7 +18,7 @@ use Rattle.nddl_ast.specs.declared.statement.Condition.TheVariants as conditions
 use Rattle.nddl_terms.specs.declared.growth.Growth.{Growth}
 use Rattle.nddl_terms.specs.declared.stands.Made.{Made}
 use Rattle.nddl_terms.specs.declared.stands.Stand.{Stand}
-use Rattle.nddl_terms.specs.declared.stands.Stand.TheVariants.{Value, Slot, Root, Class, Nothing}
+use Rattle.nddl_terms.specs.declared.stands.Stand.TheVariants.{Value}
 use Rattle.nddl_terms.specs.Paths.{path_stand}
 use Rattle.nddl_terms.specs.Readings.{Readings}
 

@@ -3,7 +3,6 @@ use Rattle.std.specs.Prelude.{List, [], ◌∷◌, ◌++◌, slice_get}
 use Rattle.std.specs.Option.{option_map_or}
 use Rattle.model_core.specs.declared.rule.Entry.{Entry}
 use Rattle.model_core.specs.declared.rule.Entry.TheVariants as entries
-use Rattle.model_core.specs.declared.rule.Guard.{Guard}
 use Rattle.model_core.specs.Block.{plain_entries}
 use Rattle.model_core.specs.Entries.{Entries}
 use Rattle.nddl_ast.specs.declared.name.Name.{Name}

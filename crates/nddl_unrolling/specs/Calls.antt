@@ -1,5 +1,5 @@
 -- What calls and labelled relations stand for in a rule.
-use Rattle.std.specs.Prelude.{ℕ, List, [], ◌∷◌, Option, Some, None}
+use Rattle.std.specs.Prelude.{ℕ, List, [], ◌∷◌}
 use Rattle.std.specs.Option.{option_map_or}
 use Rattle.model_core.specs.declared.item.Rel.{Rel}
 use Rattle.nddl_ast.specs.declared.expression.Expr.{Expr}

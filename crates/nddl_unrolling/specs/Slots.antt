@@ -17,7 +17,7 @@ use Rattle.nddl_terms.specs.declared.growth.Growth.{Growth}
 use Rattle.nddl_terms.specs.declared.lexicon.Lexicon.{Lexicon}
 use Rattle.nddl_terms.specs.declared.stands.Made.{Made}
 use Rattle.nddl_terms.specs.declared.stands.Stand.{Stand}
-use Rattle.nddl_terms.specs.declared.stands.Stand.TheVariants.{Value, Slot, Root, Class, Nothing}
+use Rattle.nddl_terms.specs.declared.stands.Stand.TheVariants.{Value, Slot, Class}
 use Rattle.nddl_terms.specs.Growth.{with_item, with_slot}
 use Rattle.nddl_terms.specs.Lexicon.{pred_class, pred_named}
 use Rattle.nddl_terms.specs.Paths.{Reached, stand_steps}
