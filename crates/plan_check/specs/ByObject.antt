@@ -1,5 +1,6 @@
 -- The lines whose tokens are on one object, one after the other.
-use Rattle.std.specs.Prelude.{◌≡◌, ℕ, ◌+◌, ◌<◌, ◌≤◌, pos, List, Option, Some, None, MatchOption, length, get_or, slice_get}
+use Rattle.std.specs.Prelude.{◌≡◌, ℕ, ◌+◌, ◌<◌, ◌≤◌, pos, List}
+use Rattle.std.specs.Prelude.{Option, Some, None, MatchOption, length, get_or, slice_get}
 use Rattle.eu_name.specs.declared.name.Part.TheVariants.{Object}
 use Rattle.plan_defs.specs.declared.plan.Line.{Line}
 use Rattle.plan_defs.specs.declared.plan.Line.TheVariants as lines

@@ -1,5 +1,5 @@
 -- Where what tokens use is as it was, reusables fit as they did.
-use Rattle.std.proofs.Common.{◌≡◌, ℕ, ◌<◌, ℤ, pos, ◌≤ℤ◌, List, [], ◌∷◌, ◌++◌, inl, inr, length, map, Bool, true, false, Some, get_or, slice_get, refl, sym, ap, ◌∙◌, subst, arith}
+use Rattle.std.proofs.Common.{◌≡◌, ℕ, ◌<◌, ℤ, pos, ◌≤ℤ◌, List, [], ◌∷◌, ◌++◌, inl, inr, length, map, Bool, true, false, Some, get_or, slice_get, sym, ap, ◌∙◌, subst, arith}
 use Rattle.std.specs.Prelude.{Contains, AllPairs}
 use Rattle.std.specs.Option.{option_map}
 use Rattle.std.proofs.lemmas.Int.{ints}
@@ -7,7 +7,6 @@ use Rattle.std.proofs.lemmas.List.{length-map, get_or_append_left}
 use Rattle.std.proofs.lemmas.List.Elements.{All-contains, Contains-append_left, Contains-append_right, Contains-push_cases}
 use Rattle.std.proofs.lemmas.Option.{slice_get-map, slice_get-get_or, slice_get_within, get_or_from_slice_get}
 use Rattle.domain_core.specs.Domain.{Domain, Range}
-use Rattle.cell_store.specs.Cells.{domain_at}
 use Rattle.eu_name.specs.declared.name.Part.{Part}
 use Rattle.eu_name.specs.declared.name.Part.TheVariants.{Start, End, Object, Param}
 use Rattle.eu_name.specs.declared.name.TokenName.{TokenName}
@@ -19,7 +18,7 @@ use Rattle.model_core.specs.declared.decision.Decision.{Decision}
 use Rattle.model_core.specs.declared.decision.Decision.TheVariants.{Activate}
 use Rattle.model_core.specs.declared.model.Model.{Model}
 use Rattle.model_core.specs.Decided.{IsActive}
-use Rattle.model_core.specs.State.{State, Gives}
+use Rattle.model_core.specs.State.{Gives}
 use Rattle.token_store.specs.Orders.{name_at}
 use Rattle.token_store.specs.Tokens.{tokens_now, token_names, token_states}
 use Rattle.token_store.specs.declared.trail.Token.{Token as Kept}
@@ -33,16 +32,15 @@ use Rattle.plan_store.specs.declared.key.VarKey.{VarKey}
 use Rattle.plan_store.specs.declared.key.VarKey.TheVariants as key
 use Rattle.plan_store.specs.Keys.{named_variable, IsKeyBelow}
 use Rattle.plan_store.specs.Stamps.{StampsGoOn}
-use Rattle.plan_store.specs.Stores.{Stored, Snapshot, snapshot_of, IsSnapshot, named_content, variable_names}
+use Rattle.plan_store.specs.Stores.{Stored, snapshot_of, IsSnapshot, named_content, variable_names}
 use Rattle.plan_store.proofs.Lists.{contains_at, unmapped}
 use Rattle.plan_store.proofs.Naming.{gives_by_number, names_are_once, length_names}
 use Rattle.plan_refusals.specs.Judging.{AreTold, IsKeptAs}
 use Rattle.plan_refusals.proofs.Resting.{rest_told}
 use Rattle.plan_refusals.proofs.Told.{active_kept}
-use Rattle.plan_view.specs.InOrder.{state_of}
 use Rattle.plan_view.specs.Seeing.{seen_state}
 use Rattle.plan_view.proofs.Seen.{put_in_order, name_stands}
-use Rattle.plan_fitting.specs.Touching.{IsIdleAt, IsOfIdle, BeginsNoUse, AreUsesAsBefore}
+use Rattle.plan_fitting.specs.Touching.{IsIdleAt, AreUsesAsBefore}
 
 -- ---- variables of tokens in one store
 

@@ -23,7 +23,8 @@ use Rattle.plan_view.specs.Seeing.{seen_state}
 abbrev pub IsNoUserAt : Model → TokenList → ℕ → Type 0
 IsNoUserAt model tokens place =
     (pred : ℕ) (predicate : Pred)
-    → slice_get (token_preds tokens) place ≡ Some pred → slice_get model.preds pred ≡ Some predicate → predicate.kind ≡ Uses → ⊥
+    → slice_get (token_preds tokens) place ≡ Some pred → slice_get model.preds pred ≡ Some predicate
+    → predicate.kind ≡ Uses → ⊥
 
 -- if it takes place
 abbrev pub IsIdleAt : Model → TokenList → ℕ → Type 0

@@ -6,7 +6,7 @@ ghost use Rattle.model_core.specs.declared.view.TokenState.TheVariants.{Inactive
 ghost use Rattle.model_core.specs.Block.{plain_entries};
 ghost use Rattle.model_core.specs.Entries.{Entries};
 ghost use Rattle.model_core.specs.Lawful.{IsLawful};
-ghost use Rattle.model_core.specs.Tokens.{IsRejectable, root_token};
+ghost use Rattle.model_core.specs.Tokens.{IsRejectable};
 ghost use Rattle.token_store.specs.Tokens.{tokens_now, token_states};
 ghost use Rattle.plan_refusals.specs.Judging.{IsKeptAs};
 ghost use Rattle.plan_fitting.specs.Completeness.{AreAllDecided, IsRootOut, NamesOneOut, block_behind, IsOneOpen, IsSettledBranch, IsSettledEntry};

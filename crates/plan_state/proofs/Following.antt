@@ -3,16 +3,13 @@ use Rattle.std.proofs.Common.{◌≡◌, ℕ, List, [], ◌∷◌, ◌++◌, ◌
 use Rattle.std.specs.Prelude.{Contains}
 use Rattle.std.proofs.lemmas.Bool.{cases_lt}
 use Rattle.std.proofs.lemmas.List.Elements.{All-contains}
-use Rattle.domain_core.specs.Domain.{Domain}
 use Rattle.eu_name.specs.declared.name.TokenName.{TokenName}
 use Rattle.eu_name.specs.declared.name.VarName.{VarName}
-use Rattle.eu_name.specs.NameOrder.{IsStrictTotalOrder}
-use Rattle.eu_name.proofs.Orders.{token_order, var_order}
 use Rattle.model_core.specs.declared.decision.Decision.{Decision}
 use Rattle.model_core.specs.declared.decision.Decision.TheVariants.{Specify, Activate, Merge, Reject, Order}
 use Rattle.model_core.specs.declared.model.Model.{Model}
 use Rattle.model_core.specs.declared.rule.Slot.{Slot}
-use Rattle.model_core.specs.State.{State, VarDomain}
+use Rattle.model_core.specs.State.{State}
 use Rattle.model_core.specs.Tokens.{HasToken}
 use Rattle.model_core.proofs.Leading.{token_once}
 use Rattle.plan_defs.specs.Refusals.{Refusal, Unknown, Decided, NotSamePredicate, Hinders, IsKnown, HaveSamePredicate, IsAdmissible}

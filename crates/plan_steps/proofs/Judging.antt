@@ -6,7 +6,7 @@ use Rattle.model_core.specs.declared.decision.Decision.TheVariants.{Specify, Act
 use Rattle.model_core.specs.declared.model.Model.{Model}
 use Rattle.model_core.specs.State.{State}
 use Rattle.plan_defs.specs.Refusals.{Refusal, Unknown, Decided, NotInDomain, NotActive, NotSamePredicate, NotRejectable, SameToken, ActiveFull}
-use Rattle.plan_defs.specs.Refusals.{Hinders, IsFirstRefusal, IsRefused, IsAdmissible}
+use Rattle.plan_defs.specs.Refusals.{Hinders, IsRefused, IsAdmissible}
 use Rattle.plan_defs.proofs.Settling.{least_same, least_not_collapsed}
 use Rattle.plan_growth.specs.Content.{shown, AreAlike}
 use Rattle.plan_refusals.specs.declared.reason.Reason.{Reason}

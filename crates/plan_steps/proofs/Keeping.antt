@@ -10,22 +10,21 @@ use Rattle.model_core.specs.declared.decision.Decision.{Decision}
 use Rattle.model_core.specs.declared.model.Model.{Model}
 use Rattle.model_core.specs.History.{History, standing, accepted}
 use Rattle.model_core.specs.State.{State}
-use Rattle.plan_defs.specs.Closure.{IsLeast, IsCollapsed}
+use Rattle.plan_defs.specs.Closure.{IsLeast}
 use Rattle.plan_defs.specs.History.{IsHistory}
 use Rattle.plan_defs.specs.Refusals.{IsAdmissible}
 use Rattle.plan_defs.specs.Settling.{IsSettled}
 use Rattle.plan_defs.proofs.Ordered.{contains_head, contains_later}
-use Rattle.plan_defs.proofs.Settling.{least_not_collapsed, history_settled, IsSettled-push}
+use Rattle.plan_defs.proofs.Settling.{least_not_collapsed, history_settled}
 use Rattle.plan_state.specs.declared.footing.Footing.{Footing}
 use Rattle.plan_state.specs.declared.footing.Footing.TheVariants.{Rest, Fallen, Void}
-use Rattle.plan_state.specs.Advancing.{IsLeastOf, but_last, EndsAdmissibly}
+use Rattle.plan_state.specs.Advancing.{IsLeastOf, but_last}
 use Rattle.plan_store.specs.Stamps.{FollowStamps}
 use Rattle.plan_state.specs.Standing.{Stood, KeepsList, KeepsListOn}
 use Rattle.plan_state.proofs.Returning.{take_whole}
 use Rattle.plan_store.specs.Stores.{snapshot_of, named_content}
 use Rattle.plan_view.specs.InOrder.{state_of}
-use Rattle.plan_steps.specs.Kept.{KeepsHistory, KeepsUnless, LeaveState, WithdrawsLast}
-use Rattle.plan_steps.proofs.Fronts.{pushed_ends}
+use Rattle.plan_steps.specs.Kept.{KeepsHistory, LeaveState, WithdrawsLast}
 
 module _ (model : Model) (decisions : List Decision) (stood : Stood) (keeps : KeepsList model decisions stood) where
   by_footing : (footing : Footing) → stood.footing ≡ footing → KeepsListOn model decisions stood.stored stood.marks footing

@@ -8,9 +8,9 @@ use Rattle.decision_log.proofs.Places.{cut_at}
 use Rattle.model_core.specs.declared.decision.Decision.{Decision}
 use Rattle.model_core.specs.declared.model.Model.{Model}
 use Rattle.model_core.specs.History.{History, standing}
-use Rattle.plan_defs.specs.History.{IsHistory, TakesOut}
+use Rattle.plan_defs.specs.History.{IsHistory}
 use Rattle.plan_defs.specs.Refusals.{IsAdmissible}
-use Rattle.plan_defs.specs.Settling.{SettlesAfter, IsSettled}
+use Rattle.plan_defs.specs.Settling.{IsSettled}
 use Rattle.plan_steps.specs.Settled.{GoesOver, AllStay, SettlesWithout}
 use Rattle.plan_steps.specs.Subjects.{TakesOutAt}
 use Rattle.plan_steps.proofs.Fronts.{settles_both, front_settled, whole}

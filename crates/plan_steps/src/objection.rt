@@ -2,7 +2,6 @@
 
 ghost use Rattle.std.specs.Prelude.{◌≡◌};
 ghost use Rattle.model_core.specs.History.{standing};
-ghost use Rattle.model_core.specs.Lawful.{IsLawful};
 ghost use Rattle.plan_defs.specs.Settling.{IsSettled};
 ghost use Rattle.plan_state.specs.Advancing.{IsLeastOf};
 ghost use Rattle.plan_state.specs.Standing.{KeepsList};

@@ -1,4 +1,3 @@
-use Rattle.std.proofs.Common.{refl}
 use Rattle.plan_store.specs.Stores.{snapshot_of}
 use Rattle.plan_fitting.proofs.Remaining.{fit_still}
 use Rattle.plan_fitting.proofs.fit.uses_fit_since.Goals as goal

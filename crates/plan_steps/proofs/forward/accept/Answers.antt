@@ -1,11 +1,10 @@
 use Rattle.std.proofs.Common.{◌≡◌, ◌++◌, ◌∷◌, [], List, sym, ap, ◌∙◌, subst}
-use Rattle.decision_log.proofs.Lists.{before-push}
 use Rattle.model_core.specs.declared.decision.Decision.{Decision}
 use Rattle.model_core.specs.History.{History, standing}
 use Rattle.plan_defs.specs.History.{IsHistory}
 use Rattle.plan_defs.specs.Settling.{IsSettled}
 use Rattle.plan_defs.proofs.Settling.{IsSettled-push}
-use Rattle.plan_state.specs.Advancing.{but_last, EndsAdmissibly}
+use Rattle.plan_state.specs.Advancing.{EndsAdmissibly}
 use Rattle.plan_state.specs.Standing.{KeepsList}
 use Rattle.plan_steps.specs.Kept.{KeepsHistory, LeaveState}
 use Rattle.plan_steps.proofs.Fronts.{pushed_ends}

@@ -1,4 +1,4 @@
-use Rattle.std.proofs.Common.{Some, None, subst}
+use Rattle.std.proofs.Common.{Some, None}
 use Rattle.plan_steps.proofs.Judging.{none_speaks, one_speaks}
 use Rattle.plan_steps.proofs.objection.object.Goals as goal
 
