@@ -21,19 +21,19 @@ use Rattle.plan_search.specs.SearchLaws.{IsChoiceOf, IsPlanFor, IsFoundList}
 use Rattle.plan_search.proofs.Picking.{choice_admissible}
 use Rattle.plan_search.proofs.Covering.{choices_cover}
 
-fails_not_finds : (found : List Decision) → Fails ≡ Finds found → ⊥
+pub fails_not_finds : (found : List Decision) → Fails ≡ Finds found → ⊥
 fails_not_finds found same = cc
 
-stops_not_finds : (found : List Decision) → Stops ≡ Finds found → ⊥
+pub stops_not_finds : (found : List Decision) → Stops ≡ Finds found → ⊥
 stops_not_finds found same = cc
 
-stops_not_fails : Stops ≡ Fails → ⊥
+pub stops_not_fails : Stops ≡ Fails → ⊥
 stops_not_fails same = cc
 
-finds_not_fails : (found : List Decision) → Finds found ≡ Fails → ⊥
+pub finds_not_fails : (found : List Decision) → Finds found ≡ Fails → ⊥
 finds_not_fails found same = cc
 
-finds_same : (one other : List Decision) → Finds one ≡ Finds other → one ≡ other
+pub finds_same : (one other : List Decision) → Finds one ≡ Finds other → one ≡ other
 finds_same one other same = cc
 
 -- ---- what is found
@@ -54,7 +54,7 @@ module _ (model : Model) (lawful : IsLawful model) (bound : ℕ) (few : bound �
     flawless = is.flawless;
   }
 
-  found_each : (Visit : ℕ → List Decision → SearchOutcome → Type 0) → FindsOnly Visit → (decisions : List Decision) (choices : List Decision) (units : ℕ) (out : Bool) (found : List Decision) (outcome : SearchOutcome)
+  pub found_each : (Visit : ℕ → List Decision → SearchOutcome → Type 0) → FindsOnly Visit → (decisions : List Decision) (choices : List Decision) (units : ℕ) (out : Bool) (found : List Decision) (outcome : SearchOutcome)
       → ((choice : Decision) → Contains choices choice → IsSettled model (decisions ++ choice ∷ [])) → VisitsEach Visit decisions choices units out outcome → outcome.ending ≡ Finds found
       → IsFoundList model decisions found
   found_each Visit only decisions [] units out found outcome settled visits ends =
@@ -121,7 +121,7 @@ module _ (model : Model) (lawful : IsLawful model) (bound : ℕ) (few : bound �
       → outcome.ending ≡ Fails → IsPlanFor model decisions plan → IsCovered plan outcome → ⊥
 
   -- what is left out for none of the choices is left out for none before
-  left_before : (Visit : ℕ → List Decision → SearchOutcome → Type 0) (decisions choices : List Decision) (units : ℕ) (out : Bool) (outcome : SearchOutcome)
+  pub left_before : (Visit : ℕ → List Decision → SearchOutcome → Type 0) (decisions choices : List Decision) (units : ℕ) (out : Bool) (outcome : SearchOutcome)
       → VisitsEach Visit decisions choices units out outcome → outcome.left_out ≡ false → out ≡ false
   left_before Visit decisions [] units out outcome visits none = sym (ap (λ (o : SearchOutcome). o.left_out) visits) ∙ none
   left_before Visit decisions (choice ∷ choices) units out outcome (first, visit, inl (failed, rest)) none =
@@ -129,7 +129,7 @@ module _ (model : Model) (lawful : IsLawful model) (bound : ℕ) (few : bound �
   left_before Visit decisions (choice ∷ choices) units out outcome (first, visit, inr (ended, same)) none =
       or_left out first.left_out (sym (ap (λ (o : SearchOutcome). o.left_out) same) ∙ none)
 
-  none_each : (Visit : ℕ → List Decision → SearchOutcome → Type 0) → ProvesNone Visit → (decisions choices : List Decision) (units : ℕ) (out : Bool) (outcome : SearchOutcome)
+  pub none_each : (Visit : ℕ → List Decision → SearchOutcome → Type 0) → ProvesNone Visit → (decisions choices : List Decision) (units : ℕ) (out : Bool) (outcome : SearchOutcome)
       → ((choice : Decision) → Contains choices choice → IsSettled model (decisions ++ choice ∷ [])) → VisitsEach Visit decisions choices units out outcome → outcome.ending ≡ Fails
       → (choice : Decision) → Contains choices choice → (plan : Plan) → IsPlanFor model (decisions ++ choice ∷ []) plan → IsCovered plan outcome → ⊥
   none_each Visit proves decisions [] units out outcome settled visits ends choice there plan fits covered = contains_none choice there
