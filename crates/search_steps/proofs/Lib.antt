@@ -1,0 +1,3 @@
+mod Stated
+pub mod Resting
+pub mod Proving
