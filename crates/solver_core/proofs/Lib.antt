@@ -1,0 +1,4 @@
+mod Granting
+mod Seeing
+mod Coming
+mod Resulting

@@ -1,0 +1,4 @@
+pub mod Solving
+pub mod Visiting
+pub mod Underway
+pub mod Ending
