@@ -1,0 +1,156 @@
+//! The constructors of classes, and the line of classes to which an object belongs.
+
+ghost use Rattle.std.specs.Prelude.{◌≡◌, ◌∷◌, [], IfOk, map, slice_get};
+ghost use Rattle.std.specs.Option.{option_copied, option_map_or};
+ghost use Rattle.nddl_lines.specs.Facts.{facts_of};
+ghost use Rattle.nddl_passed.specs.Classes.{body_decl, class_taking, constructor_at, constructor_formals, constructor_sets, entries_alone, line_up, made_class, own_constructor, with_builtin};
+
+use nddl_ast::declaration::{Decl, Member, Set, Typed};
+use nddl_ast::expression::Creation;
+use nddl_constructors::class_wants;
+use nddl_constructors::creations::class_alone;
+use nddl_constructors::wants::builtin_along;
+use nddl_inherited::members_of;
+use nddl_lines::Basis;
+use nddl_lines::lines::ancestry;
+use nddl_scope::{Meaning, Scope};
+use std::alloc::{AllocError, Global};
+
+// The first constructor among the members.
+fn own_constructor(members: &[Member]) -> Option<&Member>
+    ensures { option_copied result ≡ own_constructor members.now }
+{
+    for member in members {
+        if let Member::Constructor { .. } = member {
+            return Some(member);
+        }
+    }
+    None
+}
+
+/// The constructor of the class of this number, if it has one.
+pub fn constructor_at<'a>(scope: &Scope, decls: &[&'a Decl], entry: usize) -> Option<&'a Member>
+    ensures { option_copied result ≡ constructor_at scope.now (map (λ decl. decl.now) decls.now) entry }
+{
+    own_constructor(members_of(scope, decls, entry))
+}
+
+/// The formals of the constructor.
+pub fn constructor_formals(constructor: &Member) -> &[Typed]
+    ensures { result.now ≡ constructor_formals constructor.now }
+{
+    match constructor {
+        Member::Constructor { formals, .. } => formals.as_slice(),
+        _ => &[],
+    }
+}
+
+/// The body of the constructor.
+pub fn constructor_sets(constructor: &Member) -> &[Set]
+    ensures { result.now ≡ constructor_sets constructor.now }
+{
+    match constructor {
+        Member::Constructor { sets, .. } => sets.as_slice(),
+        _ => &[],
+    }
+}
+
+/// The number of the declaration in which the members of the class of this number stand.
+pub fn body_decl(scope: &Scope, entry: usize) -> usize
+    ensures { result ≡ body_decl scope.now entry }
+{
+    match scope.names().get(entry) {
+        Some(declared) => match scope.body(&declared.name) {
+            Some(number) => decl_of_name(scope, number),
+            None => 0,
+        },
+        None => 0,
+    }
+}
+
+// The number of the declaration in which the name of this number stands.
+fn decl_of_name(scope: &Scope, number: usize) -> usize
+    ensures { result ≡ option_map_or (λ body. body.place.decl) (slice_get scope.now number) 0 }
+{
+    match scope.names().get(number) {
+        Some(body) => body.place.decl,
+        None => 0,
+    }
+}
+
+/// The class and what it leads up to, a built-in class at the end.
+pub fn line_up(alloc: Global, basis: &Basis<'_>, class: Meaning) -> Result<Vec<Meaning>, AllocError>
+    ensures { IfOk result (λ line. line.items ≡ line_up (facts_of basis.now) class) }
+{
+    match class {
+        Meaning::BuiltIn(_) => alone(alloc, class),
+        Meaning::Entry(entry) => {
+            let line = ancestry(alloc, basis.parents, entry)?;
+            with_builtin(alloc, basis, line.as_slice())
+        }
+    }
+}
+
+fn alone(alloc: Global, class: Meaning) -> Result<Vec<Meaning>, AllocError>
+    ensures { IfOk result (λ line. line.items ≡ class ∷ []) }
+{
+    let mut line = Vec::new(alloc);
+    line.push(class)?;
+    Ok(line)
+}
+
+// These classes, and behind them the built-in one that the topmost of them extends.
+fn with_builtin(
+    alloc: Global,
+    basis: &Basis<'_>,
+    entries: &[usize],
+) -> Result<Vec<Meaning>, AllocError>
+    ensures { IfOk result (λ line. line.items ≡ with_builtin (facts_of basis.now) entries.now) }
+{
+    let mut line = entries_alone(alloc, entries)?;
+    let number = builtin_along(basis.types.scope, basis.decls, entries);
+    line.push(Meaning::BuiltIn(number))?;
+    Ok(line)
+}
+
+fn entries_alone(alloc: Global, entries: &[usize]) -> Result<Vec<Meaning>, AllocError>
+    ensures { IfOk result (λ line. line.items ≡ entries_alone entries.now) }
+{
+    let mut line = Vec::new(alloc);
+    for entry in entries {
+        line.push(Meaning::Entry(*entry))?;
+    }
+    Ok(line)
+}
+
+/// The class of which the `new` makes an object: it is there, and takes as many arguments as there are.
+pub fn made_class(
+    alloc: Global,
+    basis: &Basis<'_>,
+    creation: &Creation,
+) -> Result<Option<Meaning>, AllocError>
+    ensures { IfOk result (λ class. class ≡ made_class (facts_of basis.now) creation.now) }
+{
+    let scope = basis.types.scope;
+    match class_alone(scope, scope.meaning(&creation.class.text)) {
+        Some(class) => class_taking(alloc, basis, creation.arguments.len(), class),
+        None => Ok(None),
+    }
+}
+
+// The class, if it takes so many arguments.
+fn class_taking(
+    alloc: Global,
+    basis: &Basis<'_>,
+    count: usize,
+    class: Meaning,
+) -> Result<Option<Meaning>, AllocError>
+    ensures { IfOk result (λ found. found ≡ class_taking (facts_of basis.now) count class) }
+{
+    let wants = class_wants(alloc, basis, class)?;
+    Ok(if wants.len() == count {
+        Some(class)
+    } else {
+        None
+    })
+}

@@ -1,0 +1,10 @@
+//! Which constructors run where an object is made, and with which values: `passed_down(alloc, footing, objects, class,
+//! values)?` has each class of the object's line with what it is passed, and `note_passing` notes what is wrong with that.
+//! Of which class a `new` makes an object is `made_class(alloc, basis, creation)?`.
+#![tactic(auto)]
+
+pub mod classes;
+pub mod passing;
+
+pub use classes::{constructor_at, line_up, made_class};
+pub use passing::{Passed, note_passing, passed_down};

@@ -1,0 +1,357 @@
+//! Which constructors run where an object is made, and which values each of them is passed.
+
+ghost use Rattle.std.specs.Prelude.{◌≡◌, ◌++◌, IfOk, OnOk, Some};
+ghost use Rattle.std.specs.Option.{option_copied};
+ghost use Rattle.nddl_scope.specs.Finding.{earliest_fault};
+ghost use Rattle.nddl_lines.specs.Facts.{facts_of};
+ghost use Rattle.nddl_data.specs.Scene.{grounds_of, scenery_of};
+ghost use Rattle.nddl_passed.specs.Passing.{constructor_scene, data_above, fitting_arguments, handed_arguments, handed_data, has_foreign_from, has_late_super, has_super, is_foreign_formal, is_super, is_wrong_super, passed_above, passed_down, passed_from, passed_here, passing_faults, read_faults, silent_arguments, super_arguments, super_data, wants_above};
+
+use super::classes::{body_decl, constructor_at, constructor_formals, constructor_sets, line_up};
+use eu_name::sequence::Sequence;
+use nddl_ast::TextKind;
+use nddl_ast::declaration::{Member, Set, Typed};
+use nddl_ast::expression::Expr;
+use nddl_constructors::bodies::formals_seen;
+use nddl_constructors::creations::meaning_wants;
+use nddl_data::reading::{datum_at, note_all_unmade, settled_data};
+use nddl_data::{Datum, Ground, MadeObject, Scene, is_foreign_datum};
+use nddl_joined::Place;
+use nddl_lines::Basis;
+use nddl_lines::lines::above;
+use nddl_scope::fault::note_at;
+use nddl_scope::twice::kind_if;
+use nddl_scope::{Fault, Meaning};
+use nddl_sorts::TypeKind;
+use nddl_sorts::base::base_kind;
+use std::alloc::{AllocError, Global};
+
+/// A class with what it is passed where an object of it, or of one under it, is made.
+#[derive(Drop)]
+pub struct Passed {
+    pub class: Meaning,
+    pub values: Sequence<Option<Datum>>,
+}
+
+fn is_super(set: &Set) -> bool
+    ensures { result ≡ is_super set.now }
+{
+    match set {
+        Set::Super { .. } => true,
+        Set::Field { .. } => false,
+    }
+}
+
+fn has_super(body: &[Set]) -> bool
+    ensures { result ≡ has_super body.now }
+{
+    for set in body {
+        if is_super(set) {
+            return true;
+        }
+    }
+    false
+}
+
+// Whether there is one behind the first part of the body.
+fn has_late_super(body: &[Set]) -> bool
+    ensures { result ≡ has_late_super body.now }
+{
+    match body {
+        [] => false,
+        [_, more @ ..] => has_super(more),
+    }
+}
+
+// Nothing is handed up where there is no `super`.
+fn silent_arguments(body: &[Set]) -> Option<&[Expr]>
+    ensures { option_copied result ≡ silent_arguments body.now }
+{
+    if has_super(body) { None } else { Some(&[]) }
+}
+
+// The arguments that a body hands to what the class extends.
+fn super_arguments(body: &[Set]) -> Option<&[Expr]>
+    ensures { option_copied result ≡ super_arguments body.now }
+{
+    match body {
+        [] => Some(&[]),
+        [Set::Super { arguments, .. }, ..] => Some(arguments.as_slice()),
+        [Set::Field { .. }, more @ ..] => silent_arguments(more),
+    }
+}
+
+// The same, if they are as many as are wanted.
+fn handed_arguments<'a>(wants: &[Option<TypeKind>], body: &'a [Set]) -> Option<&'a [Expr]>
+    ensures { option_copied result ≡ handed_arguments wants.now body.now }
+{
+    let arguments = super_arguments(body)?;
+    if wants.len() == arguments.len() {
+        Some(arguments)
+    } else {
+        None
+    }
+}
+
+// Whether `super` isn't as it should be.
+fn is_wrong_super(wants: &[Option<TypeKind>], body: &[Set]) -> bool
+    ensures { result ≡ is_wrong_super wants.now body.now }
+{
+    handed_arguments(wants, body).is_none() || has_late_super(body)
+}
+
+// The kinds of arguments that what the class of this number extends wants.
+fn wants_above(
+    alloc: Global,
+    basis: &Basis<'_>,
+    entry: usize,
+) -> Result<Vec<Option<TypeKind>>, AllocError>
+    ensures { IfOk result (λ wants. wants.items ≡ wants_above (facts_of basis.now) entry) }
+{
+    let parent = above(basis.types.scope, basis.decls, entry);
+    meaning_wants(alloc, basis, parent)
+}
+
+// What the arguments stand for that a body hands on.
+fn handed_data(
+    alloc: Global,
+    footing: &Ground<'_>,
+    scene: &Scene<'_>,
+    objects: &[MadeObject],
+    wants: &[Option<TypeKind>],
+    body: &[Set],
+) -> Result<Option<Sequence<Option<Datum>>>, AllocError>
+    ensures { IfOk result (λ found.
+        found ≡ handed_data (grounds_of footing.now) (scenery_of scene.now) objects.now wants.now body.now) }
+{
+    match handed_arguments(wants, body) {
+        Some(arguments) => {
+            let found = settled_data(alloc, footing, scene, objects, wants, arguments)?;
+            Ok(Some(Sequence::from_vec(found)))
+        }
+        None => Ok(None),
+    }
+}
+
+// The values that the constructor of the class of this number passes on, where it is passed these.
+fn super_data(
+    alloc: Global,
+    footing: &Ground<'_>,
+    objects: &[MadeObject],
+    entry: usize,
+    values: &[Option<Datum>],
+    constructor: &Member,
+) -> Result<Option<Sequence<Option<Datum>>>, AllocError>
+    ensures { IfOk result (λ found.
+        found ≡ super_data (grounds_of footing.now) objects.now entry values.now constructor.now) }
+{
+    let basis = &footing.basis;
+    let formals = formals_seen(alloc, basis, constructor_formals(constructor))?;
+    let wants = wants_above(alloc, basis, entry)?;
+    let scene = Scene {
+        decl: body_decl(basis.types.scope, entry),
+        formals: formals.as_slice(),
+        values,
+    };
+    let body = constructor_sets(constructor);
+    handed_data(alloc, footing, &scene, objects, wants.as_slice(), body)
+}
+
+fn copied(alloc: Global, values: &[Option<Datum>]) -> Result<Sequence<Option<Datum>>, AllocError>
+    ensures { IfOk result (λ copy. copy ≡ values.now) }
+{
+    let mut copy = Sequence::new(alloc);
+    for value in values {
+        copy.push(*value)?;
+    }
+    Ok(copy)
+}
+
+// What is passed to what the class extends, where it is passed these values.
+fn data_above(
+    alloc: Global,
+    footing: &Ground<'_>,
+    objects: &[MadeObject],
+    values: &[Option<Datum>],
+    class: Meaning,
+) -> Result<Option<Sequence<Option<Datum>>>, AllocError>
+    ensures { IfOk result (λ found. found ≡ data_above (grounds_of footing.now) objects.now values.now class) }
+{
+    match class {
+        Meaning::BuiltIn(_) => Ok(None),
+        Meaning::Entry(entry) => {
+            let basis = &footing.basis;
+            match constructor_at(basis.types.scope, basis.decls, entry) {
+                Some(constructor) => super_data(
+                    alloc,
+                    footing,
+                    objects,
+                    entry,
+                    values,
+                    constructor,
+                ),
+                None => Ok(Some(copied(alloc, values)?)),
+            }
+        }
+    }
+}
+
+// The same, where it may be passed nothing.
+fn passed_above(
+    alloc: Global,
+    footing: &Ground<'_>,
+    objects: &[MadeObject],
+    class: Meaning,
+    values: &Option<Sequence<Option<Datum>>>,
+) -> Result<Option<Sequence<Option<Datum>>>, AllocError>
+    ensures { IfOk result (λ found. found ≡ passed_above (grounds_of footing.now) objects.now class values.now) }
+{
+    match values {
+        Some(values) => data_above(alloc, footing, objects, values.as_slice(), class),
+        None => Ok(None),
+    }
+}
+
+// Puts the class with what it is passed at the end, if it is passed anything.
+fn push_passed(
+    class: Meaning,
+    values: Option<Sequence<Option<Datum>>>,
+    found: &mut Vec<Passed>,
+) -> Result<(), AllocError>
+    ensures { OnOk result (found.new.items ≡ found.old.items ++ passed_here class values) }
+{
+    match values {
+        Some(values) => found.push(Passed { class, values })?,
+        None => (),
+    }
+    Ok(())
+}
+
+// The classes of the line with what each is passed, where the first is passed these values.
+fn passed_from(
+    alloc: Global,
+    footing: &Ground<'_>,
+    objects: &[MadeObject],
+    line: &[Meaning],
+    values: Sequence<Option<Datum>>,
+) -> Result<Vec<Passed>, AllocError>
+    ensures { IfOk result (λ found.
+        found.items ≡ passed_from (grounds_of footing.now) objects.now line.now (Some values)) }
+{
+    let mut found = Vec::new(alloc);
+    let mut here = Some(values);
+    for class in line {
+        let next = passed_above(alloc, footing, objects, *class, &here)?;
+        push_passed(*class, here, &mut found)?;
+        here = next;
+    }
+    Ok(found)
+}
+
+/// The classes of an object of the class with what each is passed, where these are the arguments; the topmost first, as their
+/// constructors run.
+#[tactic(auto, unfolding(crate::specs::Passing::passed_down))]
+pub fn passed_down(
+    alloc: Global,
+    footing: &Ground<'_>,
+    objects: &[MadeObject],
+    class: Meaning,
+    values: &[Option<Datum>],
+) -> Result<Vec<Passed>, AllocError>
+    ensures { IfOk result (λ found.
+        found.items ≡ passed_down (grounds_of footing.now) objects.now class values.now) }
+{
+    let line = line_up(alloc, &footing.basis, class)?;
+    let values = copied(alloc, values)?;
+    let mut found = passed_from(alloc, footing, objects, line.as_slice(), values)?;
+    found.reverse();
+    Ok(found)
+}
+
+// Whether a formal is passed an object of another class than its own.
+fn is_foreign_formal(
+    alloc: Global,
+    footing: &Ground<'_>,
+    objects: &[MadeObject],
+    values: &[Option<Datum>],
+    number: usize,
+    typed: &Typed,
+) -> Result<bool, AllocError>
+    ensures { IfOk result (λ foreign.
+        foreign ≡ is_foreign_formal (grounds_of footing.now) objects.now values.now number typed.now) }
+{
+    let kind = base_kind(&footing.basis.types, &typed.declared.base);
+    is_foreign_datum(alloc, footing, objects, kind, datum_at(values, number))
+}
+
+// Whether one of the formals is.
+fn has_foreign(
+    alloc: Global,
+    footing: &Ground<'_>,
+    objects: &[MadeObject],
+    values: &[Option<Datum>],
+    formals: &[Typed],
+) -> Result<bool, AllocError>
+    ensures { IfOk result (λ foreign.
+        foreign ≡ has_foreign_from (grounds_of footing.now) objects.now values.now 0 formals.now) }
+{
+    for (number, typed) in formals.iter().enumerate() {
+        if is_foreign_formal(alloc, footing, objects, values, number, typed)? {
+            return Ok(true);
+        }
+    }
+    Ok(false)
+}
+
+// Notes what is wrong where the arguments of `super` are read.
+fn note_read(
+    footing: &Ground<'_>,
+    scene: &Scene<'_>,
+    arguments: Option<&[Expr]>,
+    first: &mut Option<Fault>,
+)
+    ensures { first.new ≡ earliest_fault first.old (read_faults (grounds_of footing.now) (scenery_of scene.now)
+        (option_copied arguments.entry)) }
+{
+    if let Some(arguments) = arguments {
+        note_all_unmade(footing, scene, arguments, first);
+    }
+}
+
+/// Notes all that is wrong with what a constructor of the class of this number is passed, and with what it hands on. In its
+/// scene the values are known that it is passed. The object is made by the `new` before the name at the place.
+#[tactic(auto, using(nddl_scope::proofs::Earliest::earliest_append))]
+pub fn note_passing(
+    alloc: Global,
+    footing: &Ground<'_>,
+    scene: &Scene<'_>,
+    objects: &[MadeObject],
+    place: Place,
+    entry: usize,
+    constructor: &Member,
+    first: &mut Option<Fault>,
+) -> Result<(), AllocError>
+    requires { scenery_of scene.now ≡ constructor_scene (facts_of footing.now.basis) entry constructor.now scene.now.values.now }
+    ensures { OnOk result (first.new ≡ earliest_fault first.old
+        (passing_faults (grounds_of footing.now) objects.now place entry scene.now.values.now constructor.now)) }
+{
+    let formals = constructor_formals(constructor);
+    let body = constructor_sets(constructor);
+    let is_foreign = has_foreign(alloc, footing, objects, scene.values, formals)?;
+    note_at(
+        first,
+        place.decl,
+        place.at,
+        kind_if(is_foreign, TextKind::NotInDomain),
+    );
+    let wants = wants_above(alloc, &footing.basis, entry)?;
+    let is_wrong = is_wrong_super(wants.as_slice(), body);
+    note_at(
+        first,
+        place.decl,
+        place.at,
+        kind_if(is_wrong, TextKind::WrongCount),
+    );
+    note_read(footing, scene, super_arguments(body), first);
+    Ok(())
+}
