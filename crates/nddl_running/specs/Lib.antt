@@ -1,0 +1,3 @@
+pub mod Construction
+pub mod Finished
+pub mod Made
