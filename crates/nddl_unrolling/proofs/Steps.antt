@@ -1,9 +1,10 @@
 -- Statements that are dealt with one after another.
-use Rattle.std.proofs.Common.{◌≡◌, ℕ, ◌+◌, ◌<◌, List, [], length, drop, get_or, sym, ◌∙◌, ap}
-use Rattle.std.specs.Prelude.{Option, Some, None, Result, Ok, Err, OnOk}
+use Rattle.std.proofs.Common.{◌≡◌, ℕ, ◌+◌, ◌<◌, List, [], length, drop, get_or, sym, ◌∙◌, ap, subst}
+use Rattle.std.specs.Prelude.{Option, Some, None, Result, Ok, Err, OnOk, IfOk, IsErr, MatchResult}
 use Rattle.std.specs.Option.{option_map_or}
 use Rattle.model_core.specs.declared.rule.Entry.TheVariants as entries
 use Rattle.model_core.specs.declared.rule.Guard.{Guard}
+use Rattle.model_core.specs.declared.rule.Rule.{Rule}
 use Rattle.model_core.specs.Block.{plain_entries}
 use Rattle.model_core.specs.Entries.{Entries}
 use Rattle.nddl_ast.specs.declared.statement.Condition.{Condition}
@@ -17,6 +18,7 @@ use Rattle.nddl_terms.specs.Growth.{with_last_entry}
 use Rattle.nddl_terms.specs.Readings.{Readings}
 use Rattle.nddl_unrolling.specs.Arguments.{condition_guard}
 use Rattle.nddl_unrolling.specs.Blocks.{all_turns, back_in, filled_block, in_block, unrolled}
+use Rattle.nddl_unrolling.specs.Rules.{grown_rule}
 use Rattle.nddl_unrolling.proofs.Items.{dropped}
 
 -- what the rule has behind a statement goes on with those behind it
@@ -88,3 +90,15 @@ branch_on reading turns at condition then (Some block) one two three four five g
     λ i. with_last_entry (entries.Branch guard (filled_block (filled two)) (filled_block (other (three_is i))))
     (back_in (three_is i).entries (other (three_is i))) in
     ap (unrolled reading turns more) (outer ∙ (inner ∙ (λ i. branched (two_is i) (guard_is i))))
+
+-- ---- rules
+
+-- the rule is known where all went well
+pub rule_known : {X E : Type 0} (Fill : Growth → Growth) (start begin growth : Growth) (done : Result X E) (result : Result Rule E)
+    → begin ≡ start → MatchResult done (λ _. result ≡ Ok (grown_rule growth)) (λ _. IsErr result) → OnOk done (growth ≡ Fill begin)
+    → IfOk result (λ rule. rule ≡ grown_rule (Fill start))
+rule_known Fill start begin growth (Ok x) result begin_is is filled =
+    subst (λ (found : Result Rule _). IfOk found (λ rule. rule ≡ grown_rule (Fill start))) (sym is)
+    (ap grown_rule (filled ∙ ap Fill begin_is))
+rule_known Fill start begin growth (Err e) (Ok rule) begin_is is filled = absurd (cc)
+rule_known Fill start begin growth (Err e) (Err none) begin_is is filled = tt

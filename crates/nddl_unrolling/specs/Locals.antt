@@ -97,17 +97,28 @@ value_number reading (values.Literal literal) = constant_number literal.constant
 abbrev pub range_end : Readings → value_of.Value → ℤ
 range_end reading value = option_map_or (λ number. number) (value_number reading value) (pos 0)
 
--- the base of a type that has this one before its bounds
-abbrev pub bounded_base : Readings → Base → Bounds → Base
-bounded_base reading base bounds.All = base
-bounded_base reading base (bounds.Range at least greatest) =
-    bases.Given (Range (range_end reading least) (range_end reading greatest))
-bounded_base reading base (bounds.Set at some) = bases.Given (Set (ascending_of (filter_map (value_number reading) some)))
+-- the numbers between two ends
+abbrev pub range_base : Readings → value_of.Value → value_of.Value → Base
+range_base reading least greatest = bases.Given (Range (range_end reading least) (range_end reading greatest))
+
+-- the values that are written out
+abbrev pub set_base : Readings → List value_of.Value → Base
+set_base reading some = bases.Given (Set (ascending_of (filter_map (value_number reading) some)))
+
+-- what the bounds of a type leave, if there are any
+abbrev pub bounds_base : Readings → Bounds → Option Base
+bounds_base reading bounds.All = None
+bounds_base reading (bounds.Range at least greatest) = Some (range_base reading least greatest)
+bounds_base reading (bounds.Set at some) = Some (set_base reading some)
+
+-- the shape with this base in place of its own, if there is one
+abbrev pub with_base : Shape → Option Base → Shape
+with_base shape None = shape
+with_base shape (Some base) = record { kind = shape.kind; base = base; class = shape.class }
 
 -- what a variable of the type may be
 abbrev pub type_shape : Readings → types.Type → Shape
-type_shape reading type =
-    let shape = base_shape reading type.base in record shape { base = bounded_base reading shape.base type.bounds }
+type_shape reading type = with_base (base_shape reading type.base) (bounds_base reading type.bounds)
 
 -- ---- locals
 

@@ -1,8 +1,9 @@
 //! The rules of a model.
 
-ghost use Rattle.std.specs.Prelude.{◌≡◌, All, IfOk, map};
+ghost use Rattle.std.specs.Prelude.{◌≡◌, [], All, IfOk, IsErr, MatchResult, OnOk};
 ghost use Rattle.nddl_terms.specs.Names.{AreReadInOrder};
-ghost use Rattle.nddl_unrolling.specs.Rules.{grown_rule, tree_rule, tree_rules};
+ghost use Rattle.nddl_unrolling.specs.Blocks.{unrolled};
+ghost use Rattle.nddl_unrolling.specs.Rules.{grown_rule, tree_readings, tree_rule, tree_rules};
 
 use super::blocks::unroll_stmts;
 use super::places::{no_places, note_stmts};
@@ -31,15 +32,27 @@ fn grown_rule(growth: Growth) -> Rule
     }
 }
 
-/// The rule of which this is the text.
-pub fn unroll_tree(
+// The same, if all went well.
+fn rule_behind(done: Result<(), AllocError>, growth: Growth) -> Result<Rule, AllocError>
+    ensures { MatchResult done (λ _. result ≡ Ok (grown_rule growth)) (λ _. IsErr result) }
+{
+    match done {
+        Ok(()) => Ok(grown_rule(growth)),
+        Err(none) => Err(none),
+    }
+}
+
+// What the rule of this text has behind its statements.
+fn fill(
     alloc: Global,
     lexicon: &Lexicon,
     objects: &[Object],
     tree: &RuleTree,
-) -> Result<Rule, AllocError>
+    growth: &mut Growth,
+) -> Result<(), AllocError>
     requires { AreReadInOrder tree.now.names }
-    ensures { IfOk result (λ rule. rule ≡ tree_rule lexicon.now objects.now tree.now) }
+    ensures { OnOk result (growth.new
+        ≡ unrolled (tree_readings lexicon.now objects.now tree.now) [] tree.now.body growth.old) }
 {
     let mut places = no_places(alloc);
     note_stmts(tree.body.as_slice(), &mut places)?;
@@ -50,9 +63,22 @@ pub fn unroll_tree(
         places: &places,
         pred: tree.pred,
     };
+    unroll_stmts(alloc, &reading, &[], tree.body.as_slice(), growth)
+}
+
+/// The rule of which this is the text.
+pub fn unroll_tree(
+    alloc: Global,
+    lexicon: &Lexicon,
+    objects: &[Object],
+    tree: &RuleTree,
+) -> Result<Rule, AllocError>
+    requires { AreReadInOrder tree.now.names }
+    ensures { IfOk result (λ rule. rule ≡ tree_rule lexicon.now objects.now tree.now) }
+{
     let mut growth = Growth::new(alloc);
-    unroll_stmts(alloc, &reading, &[], tree.body.as_slice(), &mut growth)?;
-    Ok(grown_rule(growth))
+    let done = fill(alloc, lexicon, objects, tree, &mut growth);
+    rule_behind(done, growth)
 }
 
 /// The rules of which these are the texts, in their order. The names of each text stand in order of place.

@@ -5,7 +5,7 @@ ghost use Rattle.std.specs.List.{filter_map};
 ghost use Rattle.domain_core.specs.Domain.{Set};
 ghost use Rattle.nddl_variables.specs.Ascending.{ascending_of};
 ghost use Rattle.nddl_terms.specs.Readings.{readings_of};
-ghost use Rattle.nddl_unrolling.specs.Locals.{base_shape, bounded_base, class_shape, constant_number, range_end, file_shape, known_number, meaning_number, meaning_shape, stand_shape, truth_shape, type_shape, value_number, whole_shape};
+ghost use Rattle.nddl_unrolling.specs.Locals.{range_base, set_base, base_shape, bounds_base, class_shape, constant_number, range_end, file_shape, known_number, meaning_number, meaning_shape, stand_shape, truth_shape, type_shape, value_number, whole_shape, with_base};
 
 use super::arguments::truth_value;
 use super::slots::class_base;
@@ -189,29 +189,50 @@ fn value_numbers(
     Ok(numbers)
 }
 
-// The base of a type that has this one before its bounds.
-fn bounded_base(
+fn range_base(reading: &Reading<'_>, least: &Value, greatest: &Value) -> Result<Base, AllocError>
+    ensures { IfOk result (λ base. base ≡ range_base (readings_of reading.now) least.now greatest.now) }
+{
+    let domain = range(end_number(reading, least), end_number(reading, greatest))?;
+    Ok(Base::Given(domain))
+}
+
+fn set_base(alloc: Global, reading: &Reading<'_>, values: &[Value]) -> Result<Base, AllocError>
+    ensures { IfOk result (λ base. base ≡ set_base (readings_of reading.now) values.now) }
+{
+    let numbers = value_numbers(alloc, reading, values)?;
+    Ok(Base::Given(value_set(alloc, numbers.as_slice())?))
+}
+
+// What the bounds of a type leave, if there are any.
+fn bounds_base(
     alloc: Global,
     reading: &Reading<'_>,
-    base: Base,
     bounds: &Bounds,
-) -> Result<Base, AllocError>
-    ensures { IfOk result (λ bounded. bounded ≡ bounded_base (readings_of reading.now) base bounds.now) }
+) -> Result<Option<Base>, AllocError>
+    ensures { IfOk result (λ base. base ≡ bounds_base (readings_of reading.now) bounds.now) }
 {
     match bounds {
-        Bounds::All => Ok(base),
+        Bounds::All => Ok(None),
         Bounds::Range {
             least,
             greatest,
             ..
-        } => {
-            let domain = range(end_number(reading, least), end_number(reading, greatest))?;
-            Ok(Base::Given(domain))
-        }
-        Bounds::Set { values, .. } => {
-            let numbers = value_numbers(alloc, reading, values.as_slice())?;
-            Ok(Base::Given(value_set(alloc, numbers.as_slice())?))
-        }
+        } => Ok(Some(range_base(reading, least, greatest)?)),
+        Bounds::Set { values, .. } => Ok(Some(set_base(alloc, reading, values.as_slice())?)),
+    }
+}
+
+// The shape with this base in place of its own, if there is one.
+fn with_base(shape: Shape, base: Option<Base>) -> Shape
+    ensures { result ≡ with_base shape base }
+{
+    match base {
+        Some(base) => Shape {
+            kind: shape.kind,
+            base,
+            class: shape.class,
+        },
+        None => shape,
     }
 }
 
@@ -219,7 +240,7 @@ fn bounded_base(
 pub fn type_shape(alloc: Global, reading: &Reading<'_>, written: &Type) -> Result<Shape, AllocError>
     ensures { IfOk result (λ shape. shape ≡ type_shape (readings_of reading.now) written.now) }
 {
-    let Shape { kind, base, class } = base_shape(alloc, reading, &written.base)?;
-    let base = bounded_base(alloc, reading, base, &written.bounds)?;
-    Ok(Shape { kind, base, class })
+    let base = bounds_base(alloc, reading, &written.bounds)?;
+    let shape = base_shape(alloc, reading, &written.base)?;
+    Ok(with_base(shape, base))
 }
