@@ -7,7 +7,6 @@ use Rattle.std.proofs.Math.Numerals.{suc-eq-add-one}
 use Rattle.model_core.specs.declared.rule.Entry.TheVariants as entries
 use Rattle.model_core.specs.declared.rule.Guard.{Guard}
 use Rattle.model_core.specs.Block.{plain_entries}
-use Rattle.model_core.specs.Lawful.{guard_count, item_count}
 use Rattle.nddl_ast.specs.declared.name.Name.{Name}
 use Rattle.nddl_ast.specs.declared.statement.Condition.{Condition}
 use Rattle.nddl_ast.specs.Tree.{Statements, Nothing, Declares, Calls, Asks, Tests, Chooses, Repeats}
@@ -24,7 +23,7 @@ use Rattle.nddl_terms.specs.Names.{name_read_at}
 use Rattle.nddl_terms.specs.Readings.{Readings}
 use Rattle.nddl_terms.specs.Stands.{declared_stand, file_stand, first_stand, meaning_stand, stand_or_nothing}
 use Rattle.nddl_amounts.specs.declared.amounts.Amounts.{Amounts}
-use Rattle.nddl_amounts.specs.Amounts.{amounts_and, amounts_times, no_amounts, some_turns}
+use Rattle.nddl_amounts.specs.Amounts.{amounts_and, amounts_times, no_amounts}
 use Rattle.nddl_amounts.specs.Counting.{counted_with, guard_amounts, stand_count, turn_count, turns_amounts}
 use Rattle.nddl_unrolling.specs.Arguments.{condition_guard}
 use Rattle.nddl_unrolling.specs.Blocks.{all_turns, back_in, filled_block, in_block, stand_turns, turn_of, unrolled}
@@ -90,7 +89,7 @@ branch_adds guard inside outer filled adds = record {
   items = omega (arith, adds.items, items_append outer.entries (entries.Branch guard (filled_block filled) (plain_entries []) ∷ []));
   guards = omega (arith, adds.guards, guards_append outer.entries (entries.Branch guard (filled_block filled) (plain_entries []) ∷ []));
   sound = λ is.
-      let inner = adds.sound (record { named = is.named; asked = is.asked }) in record { named = inner.named; asked = inner.asked };
+      let inner = adds.sound (record { named = is.named; asked = is.asked; unnamed = is.unnamed }) in record { named = inner.named; asked = inner.asked; unnamed = inner.unnamed };
 }
 
 branches_add : (guard : Guard) (inside other : Extra) (outer filled second : Growth) → Adds inside (in_block outer) filled
@@ -108,14 +107,14 @@ branches_add guard inside other outer filled second adds more = record {
     guards_append outer.entries (entries.Branch guard (filled_block filled) (filled_block second) ∷ []),
   );
   sound = λ is.
-      let inner = adds.sound (record { named = is.named; asked = is.asked }) in
-      let last = more.sound (record { named = inner.named; asked = inner.asked }) in
-      record { named = last.named; asked = last.asked };
+      let inner = adds.sound (record { named = is.named; asked = is.asked; unnamed = is.unnamed }) in
+      let last = more.sound (record { named = inner.named; asked = inner.asked; unnamed = inner.unnamed }) in
+      record { named = last.named; asked = last.asked; unnamed = last.unnamed };
 }
 
 -- in a block nothing stands at first, and all else is as before
 in_sound : (growth : Growth) → Sound growth → Sound (in_block growth)
-in_sound growth is = record { named = is.named; asked = is.asked }
+in_sound growth is = record { named = is.named; asked = is.asked; unnamed = is.unnamed }
 
 guard_counted : (reading : Readings) (condition : Condition)
     → Counts (extra_and (extra_reads (sum_condition reading.lexicon reading.names condition)) extra_guard)

@@ -1,6 +1,5 @@
 -- What is counted of single statements is enough.
-use Rattle.std.proofs.Common.{◌≡◌, ℕ, ◌+◌, ◌-◌, ◌*◌, ◌^◌, ◌≤◌, min, List, [], ◌∷◌, ◌++◌, length, map, refl, sym, ap, subst, arith}
-use Rattle.std.specs.Prelude.{Option, Some, None, Bool, true, false}
+use Rattle.std.proofs.Common.{◌≡◌, ℕ, ◌+◌, ◌-◌, ◌^◌, ◌≤◌, min, List, [], ◌∷◌, length, map, refl, subst, arith}
 use Rattle.std.proofs.lemmas.List.{length-append, length-map}
 use Rattle.model_core.specs.declared.item.Kind.{Kind}
 use Rattle.model_core.specs.declared.item.Kind.TheVariants as kinds
@@ -15,7 +14,7 @@ use Rattle.nddl_terms.specs.declared.lexicon.Lexicon.{Lexicon}
 use Rattle.nddl_terms.specs.declared.stands.Made.{Made}
 use Rattle.nddl_terms.specs.Readings.{Readings}
 use Rattle.nddl_amounts.specs.declared.amounts.Amounts.{Amounts}
-use Rattle.nddl_amounts.specs.Amounts.{amounts_and, some_items, some_reads}
+use Rattle.nddl_amounts.specs.Amounts.{amounts_and}
 use Rattle.nddl_amounts.specs.Counting.{condition_reads, constraint_amounts, constraint_count, pairs_of}
 use Rattle.nddl_amounts.specs.Reads.{all_reads, expr_reads}
 use Rattle.nddl_unrolling.specs.Arguments.{all_differ, argument, condition_guard, constraint_items, differ, given_arguments, with_constraint}

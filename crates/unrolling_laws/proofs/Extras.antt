@@ -1,5 +1,5 @@
 -- What statements add to a rule, by number.
-use Rattle.std.proofs.Common.{◌≡◌, ℕ, ◌+◌, ◌≤◌, List, [], ◌∷◌, ◌++◌, length, map, refl, sym, ◌∙◌, ap, arith}
+use Rattle.std.proofs.Common.{◌≡◌, ℕ, ◌+◌, ◌≤◌, List, [], ◌∷◌, ◌++◌, length, map, refl, arith}
 use Rattle.std.proofs.lemmas.List.{length-append}
 use Rattle.model_core.specs.declared.item.Item.{Item}
 use Rattle.model_core.specs.declared.item.Term.{Term}
@@ -13,7 +13,7 @@ use Rattle.nddl_terms.specs.declared.growth.Growth.{Growth}
 use Rattle.nddl_terms.specs.declared.lexicon.Shape.{Shape}
 use Rattle.nddl_terms.specs.declared.stands.Made.{Made}
 use Rattle.nddl_terms.specs.declared.stands.Stand.{Stand}
-use Rattle.nddl_terms.specs.declared.stands.Stand.TheVariants.{Value, Slot, Root, Class, Nothing}
+use Rattle.nddl_terms.specs.declared.stands.Stand.TheVariants.{Slot, Class}
 use Rattle.nddl_terms.specs.Growth.{access, unnamed, with_access, with_item, with_next_local, with_slot}
 use Rattle.nddl_unrolling.specs.Arguments.{with_items}
 
@@ -78,10 +78,19 @@ pub each_more : (P : Stand → Type 0) (some : List Made) (made : Made) → Each
 each_more P [] made each is = (is, tt)
 each_more P (first ∷ more) made each is = (each.0, each_more P more made each.1 is)
 
--- locals don't stand for classes, and slots for slots alone
+abbrev pub EachUnnamed : List VarDecl → Type 0
+EachUnnamed [] = Unit {0}
+EachUnnamed (local ∷ more) = (local.name ≡ []) × EachUnnamed more
+
+unnamed_more : (some : List VarDecl) (local : VarDecl) → EachUnnamed some → local.name ≡ [] → EachUnnamed (some ++ local ∷ [])
+unnamed_more [] local each is = (is, tt)
+unnamed_more (first ∷ more) local each is = (each.0, unnamed_more more local each.1 is)
+
+-- locals don't stand for classes, and slots for slots alone; and no local has a name
 pub record Sound (growth : Growth) : Type 0 where
   pub named : EachMade IsNoClass growth.named
   pub asked : EachMade IsSlotStand growth.asked
+  pub unnamed : EachUnnamed growth.locals
 
 -- the new rule has at most so much more than the old one, and stays sound
 pub record Adds (extra : Extra) (old new : Growth) : Type 0 where
@@ -152,7 +161,7 @@ adds_items some growth = record {
   locals = omega arith;
   items = omega (arith, items_append growth.entries (map entries.Item some), item_entries some);
   guards = omega (arith, guards_append growth.entries (map entries.Item some), guard_entries some);
-  sound = λ is. record { named = is.named; asked = is.asked };
+  sound = λ is. record { named = is.named; asked = is.asked; unnamed = is.unnamed };
 }
 
 pub adds_item : (item : Item) (growth : Growth) → Adds (extra_items 1) growth (with_item item growth)
@@ -161,16 +170,20 @@ adds_item item growth = record {
   locals = omega arith;
   items = omega (arith, items_append growth.entries (entries.Item item ∷ []));
   guards = omega (arith, guards_append growth.entries (entries.Item item ∷ []));
-  sound = λ is. record { named = is.named; asked = is.asked };
+  sound = λ is. record { named = is.named; asked = is.asked; unnamed = is.unnamed };
 }
 
-pub adds_local : (local : VarDecl) (growth : Growth) → Adds extra_local growth (with_next_local local growth)
-adds_local local growth = record {
+pub adds_local : (shape : Shape) (growth : Growth) → Adds extra_local growth (with_next_local (unnamed shape) growth)
+adds_local shape growth = record {
   slots = omega arith;
-  locals = omega (arith, length-append growth.locals (local ∷ []));
+  locals = omega (arith, length-append growth.locals (unnamed shape ∷ []));
   items = omega (arith, items_append growth.entries (entries.Local (length growth.locals) ∷ []));
   guards = omega (arith, guards_append growth.entries (entries.Local (length growth.locals) ∷ []));
-  sound = λ is. record { named = is.named; asked = is.asked };
+  sound = λ is. record {
+    named = is.named;
+    asked = is.asked;
+    unnamed = unnamed_more growth.locals (unnamed shape) is.unnamed refl;
+  };
 }
 
 pub adds_slot : (slot : slots.Slot) (growth : Growth) → Adds extra_slot growth (with_slot slot growth)
@@ -179,10 +192,10 @@ adds_slot slot growth = record {
   locals = omega arith;
   items = omega (arith, items_append growth.entries (entries.Slot (length growth.slots) ∷ []));
   guards = omega (arith, guards_append growth.entries (entries.Slot (length growth.slots) ∷ []));
-  sound = λ is. record { named = is.named; asked = is.asked };
+  sound = λ is. record { named = is.named; asked = is.asked; unnamed = is.unnamed };
 }
 
 pub adds_access : (object : Term) (field : ℕ) (shape : Shape) (growth : Growth) → Adds (extra_reads 1) growth (with_access object field shape growth)
 adds_access object field shape growth =
     adds_then extra_local (extra_items 1) growth (with_next_local (unnamed shape) growth) (with_access object field shape growth)
-    (adds_local (unnamed shape) growth) (adds_item (access object field growth) (with_next_local (unnamed shape) growth))
+    (adds_local shape growth) (adds_item (access object field growth) (with_next_local (unnamed shape) growth))

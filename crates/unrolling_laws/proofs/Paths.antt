@@ -5,8 +5,6 @@ use Rattle.std.specs.Option.{option_and_then, option_map_or, option_or}
 use Rattle.eu_name.specs.declared.name.Part.{Part}
 use Rattle.model_core.specs.declared.item.Term.{Term}
 use Rattle.model_core.specs.declared.item.Term.TheVariants as terms
-use Rattle.nddl_ast.specs.declared.expression.Expr.{Expr}
-use Rattle.nddl_ast.specs.declared.expression.Expr.TheVariants as exprs
 use Rattle.nddl_ast.specs.declared.name.Name.{Name}
 use Rattle.nddl_ast.specs.declared.name.Path.{Path}
 use Rattle.nddl_trees.specs.declared.tree.Meaning.{Meaning}
@@ -19,12 +17,12 @@ use Rattle.nddl_terms.specs.declared.stands.Stand.TheVariants.{Value, Slot, Root
 use Rattle.nddl_terms.specs.Growth.{with_access}
 use Rattle.nddl_terms.specs.Lexicon.{attribute_class, attribute_number, part_called, shape_fields}
 use Rattle.nddl_terms.specs.Names.{name_read_at}
-use Rattle.nddl_terms.specs.Paths.{Reached, known_value, object_step, part_stand, path_stand, reached, read_step, stand_step, stand_steps}
+use Rattle.nddl_terms.specs.Paths.{Reached, known_value, object_step, part_stand, reached, read_step, stand_step, stand_steps}
 use Rattle.nddl_terms.specs.Readings.{Readings}
 use Rattle.nddl_terms.specs.Stands.{declared_stand, file_stand, first_stand, latest_stand, meaning_stand, stand_if_at, stand_or_nothing}
 use Rattle.nddl_amounts.specs.Reads.{file_reads, front_reads, meaning_reads}
 use Rattle.unrolling_laws.specs.Enough.{IsKnownStand}
-use Rattle.unrolling_laws.proofs.Extras.{Adds, EachMade, Extra, IsNoClass, IsSlotStand, Sound, Within, adds_access, adds_any, adds_then, adds_within, extra_and, extra_reads}
+use Rattle.unrolling_laws.proofs.Extras.{Adds, EachMade, IsSlotStand, Sound, Within, adds_access, adds_any, adds_then, adds_within, extra_and, extra_reads}
 
 -- of so many names behind what stands for this, how many read a field of a variable at most
 abbrev pub stand_reads : Stand → ℕ → ℕ

@@ -1,5 +1,5 @@
 -- What is counted of calls, relations and locals is enough.
-use Rattle.std.proofs.Common.{◌≡◌, ℕ, ◌+◌, ◌-◌, ◌^◌, ◌≤◌, min, List, [], ◌∷◌, ◌++◌, length, take, refl, sym, ap, subst, arith}
+use Rattle.std.proofs.Common.{◌≡◌, ℕ, ◌+◌, ◌-◌, ◌≤◌, List, [], ◌∷◌, length, take, refl, ap, arith}
 use Rattle.std.specs.Prelude.{Option, Some, None, Bool, true, false, slice_get, if◌then◌else◌}
 use Rattle.std.specs.Option.{option_and_then, option_map_or}
 use Rattle.std.proofs.lemmas.List.{length-take}
@@ -26,14 +26,13 @@ use Rattle.nddl_terms.specs.declared.lexicon.Lexicon.{Lexicon}
 use Rattle.nddl_terms.specs.declared.lexicon.Shape.{Shape}
 use Rattle.nddl_terms.specs.declared.stands.Made.{Made}
 use Rattle.nddl_terms.specs.declared.stands.Stand.{Stand}
-use Rattle.nddl_terms.specs.declared.stands.Stand.TheVariants.{Value, Slot, Root, Class, Nothing}
-use Rattle.nddl_terms.specs.Growth.{unnamed, with_item, with_slot}
+use Rattle.nddl_terms.specs.declared.stands.Stand.TheVariants.{Value, Slot, Class, Nothing}
+use Rattle.nddl_terms.specs.Growth.{with_item, with_slot}
 use Rattle.nddl_terms.specs.Lexicon.{pred_class, pred_named}
 use Rattle.nddl_terms.specs.Paths.{stand_steps}
 use Rattle.nddl_terms.specs.Readings.{Readings}
 use Rattle.nddl_terms.specs.Names.{name_read_at}
 use Rattle.nddl_terms.specs.Stands.{file_stand, first_stand, meaning_stand, stand_or_nothing}
-use Rattle.nddl_amounts.specs.declared.amounts.Amounts.{Amounts}
 use Rattle.nddl_amounts.specs.Amounts.{no_amounts, one_local, some_items}
 use Rattle.nddl_amounts.specs.Counting.{ask_amounts, asked_amounts, call_amounts, constraint_amounts, labelled_amounts, local_amounts, named_amounts, own_amounts, related_amounts, relation_amounts}
 use Rattle.nddl_amounts.specs.Reads.{begins_with_class, expr_reads, front_reads, is_class_meaning, is_class_stand}
@@ -42,8 +41,8 @@ use Rattle.nddl_unrolling.specs.Locals.{type_shape, with_begun, with_declared, w
 use Rattle.nddl_unrolling.specs.Calls.{with_ask, with_call, with_constraint_named, with_related, with_relation_to}
 use Rattle.nddl_unrolling.specs.Slots.{asked_labelled, asked_nothing, asked_of_owner, asked_own, asked_path, object_items, pred_slot, wanted_of, with_asked, with_asked_at, with_relation, with_wanted_token}
 use Rattle.unrolling_laws.specs.Enough.{IsKnownStand}
-use Rattle.unrolling_laws.proofs.Counted.{Counts, Enough, constraint_enough, expr_adds}
-use Rattle.unrolling_laws.proofs.Extras.{Adds, EachMade, Extra, IsNoClass, IsSlotStand, Sound, Within, adds_any, adds_item, adds_items, adds_local, adds_slot, adds_then, adds_within, each_more, extra_and, extra_items, extra_local, extra_reads, extra_slot, no_extra}
+use Rattle.unrolling_laws.proofs.Counted.{Enough, constraint_enough, expr_adds}
+use Rattle.unrolling_laws.proofs.Extras.{Adds, EachMade, Extra, IsNoClass, IsSlotStand, Sound, adds_any, adds_item, adds_items, adds_local, adds_slot, adds_then, adds_within, each_more, extra_and, extra_items, extra_local, extra_reads, extra_slot, no_extra}
 use Rattle.unrolling_laws.proofs.Paths.{path_adds}
 
 -- nothing is added
@@ -61,7 +60,7 @@ adds_asked at number pred growth = record {
   locals = omega arith;
   items = omega arith;
   guards = omega arith;
-  sound = λ is. record { named = is.named; asked = each_more IsSlotStand growth.asked (record { at = at; stand = Slot number pred }) is.asked tt };
+  sound = λ is. record { named = is.named; asked = each_more IsSlotStand growth.asked (record { at = at; stand = Slot number pred }) is.asked tt; unnamed = is.unnamed };
 }
 
 -- how many items say what the object of a slot equals
@@ -264,14 +263,14 @@ named_adds at number class growth = record {
   locals = omega arith;
   items = omega arith;
   guards = omega arith;
-  sound = λ is. record { named = each_more IsNoClass growth.named (record { at = at; stand = Value (terms.Local number) class }) is.named tt; asked = is.asked };
+  sound = λ is. record { named = each_more IsNoClass growth.named (record { at = at; stand = Value (terms.Local number) class }) is.named tt; asked = is.asked; unnamed = is.unnamed };
 }
 
 declared_adds : (at : ℕ) (shape : Shape) (growth : Growth) → Adds extra_local growth (with_declared at shape growth)
 declared_adds at shape growth =
     let noted = with_named_at at (Value (terms.Local (length growth.locals)) shape.class) growth in
     adds_then no_extra extra_local growth noted (with_declared at shape growth)
-    (named_adds at (length growth.locals) shape.class growth) (adds_local (unnamed shape) noted)
+    (named_adds at (length growth.locals) shape.class growth) (adds_local shape noted)
 
 local_alone : (at : ℕ) (shape : Shape) → Enough (λ turns growth. with_declared at shape growth) one_local
 local_alone at shape = record {
