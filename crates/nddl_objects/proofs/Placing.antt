@@ -1,0 +1,48 @@
+-- Objects that are declared.
+use Rattle.std.proofs.Common.{◌≡◌, ℕ, false, List, ◌∙◌, ap}
+use Rattle.std.specs.Prelude.{Option, Result, Ok, Err, OnOk}
+use Rattle.nddl_ast.specs.declared.expression.Creation.{Creation}
+use Rattle.nddl_ast.specs.declared.statement.Variable.{Variable}
+use Rattle.nddl_scope.specs.Scope.{named_number}
+use Rattle.nddl_lines.specs.Facts.{Facts}
+use Rattle.nddl_data.specs.declared.made.Datum.{Datum}
+use Rattle.nddl_data.specs.declared.made.Standing.{Standing}
+use Rattle.nddl_data.specs.Scene.{Grounds, Scenery}
+use Rattle.nddl_running.specs.Construction.{Construction}
+use Rattle.nddl_running.specs.Made.{Makes, made_by, new_datum, new_made}
+use Rattle.nddl_objects.specs.Objects.{Progress, bare_scene, most_levels, object_declared, stood}
+
+-- a `new` in this scene, for the name of this number
+pub placed : {X E : Type 0} (makes : Makes) (grounds : Grounds) (scene one : Scenery) (name : List ℕ) (entry other : Option ℕ)
+    (creation : Creation) (old new : Construction) (result : Result X E)
+    → scene ≡ one → entry ≡ other → OnOk result (new ≡ new_made makes grounds scene name entry creation old)
+    → OnOk result (new ≡ new_made makes grounds one name other creation old)
+placed makes grounds scene one name entry other creation old new (Err e) is_scene is_entry made = tt
+placed makes grounds scene one name entry other creation old new (Ok done) is_scene is_entry made =
+    made
+    ∙ (ap (λ s. new_made makes grounds s name entry creation old) is_scene
+    ∙ ap (λ e. new_made makes grounds one name e creation old) is_entry)
+
+-- the object is made, and then its name stands for it
+pub object_placed : (facts : Facts) (decl : ℕ) (variable : Variable) (creation : Creation) (progress : Progress)
+    (so_far : Construction) (standing slice : List Standing) (entry : Option ℕ) (datum : Option Datum)
+    → slice ≡ progress.standing
+    → so_far ≡ new_made (made_by most_levels (record { facts = facts; standing = slice }))
+    (record { facts = facts; standing = slice }) (bare_scene decl) variable.name.text
+    (named_number false facts.names variable.name.text) creation progress.so_far
+    → entry ≡ named_number false facts.names variable.name.text
+    → datum ≡ new_datum most_levels facts creation progress.so_far
+    → standing ≡ stood progress.standing entry datum
+    → (record { so_far = so_far; standing = standing; settings = progress.settings })
+    ≡ object_declared facts decl variable creation progress
+object_placed facts decl variable creation progress so_far standing slice entry datum is_slice made is_entry is_datum stands =
+    let joined : Construction → List Standing → Progress =
+    λ c s. record { so_far = c; standing = s; settings = progress.settings } in
+    let number = named_number false facts.names variable.name.text in
+    let over : List Standing → Grounds = λ s. record { facts = facts; standing = s } in
+    let made_over : List Standing → Construction =
+    λ s. new_made (made_by most_levels (over s)) (over s) (bare_scene decl) variable.name.text number creation progress.so_far in
+    ap (λ c. joined c standing) (made ∙ ap made_over is_slice)
+    ∙ ap (λ s. joined (made_over progress.standing) s)
+    (stands
+    ∙ (ap (λ e. stood progress.standing e datum) is_entry ∙ ap (λ d. stood progress.standing number d) is_datum))

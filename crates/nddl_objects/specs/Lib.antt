@@ -1,0 +1,3 @@
+pub mod Modelled
+pub mod Objects
+pub mod Settings

@@ -1,0 +1,111 @@
+-- The objects of a program, in the order in which they are declared.
+use Rattle.std.specs.Prelude.{ℕ, ◌+◌, false, List, [], ◌∷◌, Option, Some, None, map, slice_set, if◌then◌else◌}
+use Rattle.nddl_ast.specs.declared.declaration.Decl.{Decl}
+use Rattle.nddl_ast.specs.declared.declaration.Decl.TheVariants as decls
+use Rattle.nddl_ast.specs.declared.expression.Creation.{Creation}
+use Rattle.nddl_ast.specs.declared.expression.Init.{Init}
+use Rattle.nddl_ast.specs.declared.expression.Init.TheVariants as inits
+use Rattle.nddl_ast.specs.declared.statement.Variable.{Variable}
+use Rattle.nddl_scope.specs.Finding.{earliest_fault}
+use Rattle.nddl_scope.specs.Names.{is_config_sort, sort_of_variable}
+use Rattle.nddl_scope.specs.Scope.{named_number}
+use Rattle.nddl_lines.specs.Facts.{Facts}
+use Rattle.nddl_constructors.specs.Objects.{written_faults}
+use Rattle.nddl_data.specs.declared.made.Datum.{Datum}
+use Rattle.nddl_data.specs.declared.made.Standing.{Standing}
+use Rattle.nddl_data.specs.declared.made.Standing.TheVariants as standings
+use Rattle.nddl_data.specs.Scene.{Grounds, Scenery}
+use Rattle.nddl_running.specs.Construction.{Construction, construction_of, noted}
+use Rattle.nddl_running.specs.Made.{made_by, new_datum, new_made}
+use Rattle.nddl_objects.specs.declared.objects.Program as code
+use Rattle.nddl_objects.specs.Settings.{setting_data, setting_faults_of}
+
+-- ---- where the making has got to
+
+-- the objects so far, what each name of the files stands for, and the values of the settings, if there are any
+pub record Progress : Type 0 where
+  pub so_far : Construction
+  pub standing : List Standing
+  pub settings : List (Option Datum)
+
+abbrev pub progress_of : code.Program → Progress
+progress_of program =
+    record { so_far = construction_of program.making; standing = program.standing.items; settings = program.settings }
+
+abbrev pub progress_grounds : Facts → Progress → Grounds
+progress_grounds facts progress = record { facts = facts; standing = progress.standing }
+
+-- outside of constructors nothing stands around
+abbrev pub bare_scene : ℕ → Scenery
+bare_scene decl = record { decl = decl; formals = []; values = [] }
+
+-- how deep constructors may make objects in one another, and the `new` outside of them
+abbrev pub most_levels : ℕ
+most_levels = 17
+
+-- ---- declarations
+
+-- the name of this number stands for this from now on
+abbrev pub stood : List Standing → Option ℕ → Option Datum → List Standing
+stood standing None datum = standing
+stood standing (Some entry) datum = slice_set standing entry (standings.Made datum)
+
+-- the object of the name is made, and can then be named
+abbrev pub object_declared : Facts → ℕ → Variable → Creation → Progress → Progress
+object_declared facts decl variable creation progress =
+    let grounds = progress_grounds facts progress in
+    let entry = named_number false facts.names variable.name.text in
+    record {
+      so_far = new_made (made_by most_levels grounds) grounds (bare_scene decl) variable.name.text entry creation progress.so_far;
+      standing = stood progress.standing entry (new_datum most_levels facts creation progress.so_far);
+      settings = progress.settings;
+    }
+
+-- the settings are read
+abbrev pub settings_declared : Facts → ℕ → Creation → Progress → Progress
+settings_declared facts decl creation progress =
+    let grounds = progress_grounds facts progress in
+    record {
+      so_far = noted progress.so_far (setting_faults_of grounds (bare_scene decl) progress.so_far.objects creation);
+      standing = progress.standing;
+      settings = setting_data grounds (bare_scene decl) progress.so_far.objects creation;
+    }
+
+abbrev pub new_declared : Facts → ℕ → Variable → Creation → Progress → Progress
+new_declared facts decl variable creation progress =
+    if is_config_sort (sort_of_variable variable) then settings_declared facts decl creation progress
+    else object_declared facts decl variable creation progress
+
+abbrev pub init_declared : Facts → ℕ → Variable → Option Init → Progress → Progress
+init_declared facts decl variable (Some (inits.New creation)) progress = new_declared facts decl variable creation progress
+init_declared facts decl variable init progress = progress
+
+-- what comes of the declaration of this number
+abbrev pub one_declared : Facts → ℕ → Decl → Progress → Progress
+one_declared facts decl (decls.Variable variable) progress = init_declared facts decl variable variable.init progress
+one_declared facts decl other progress = progress
+
+-- of declarations one after another, of which the first has this number
+abbrev pub all_declared : Facts → ℕ → List Decl → Progress → Progress
+all_declared facts number [] progress = progress
+all_declared facts number (decl ∷ more) progress = all_declared facts (number + 1) more (one_declared facts number decl progress)
+
+-- ---- the program
+
+-- Nothing is made yet. What is wrong with the text counts, whether it is run or not.
+abbrev pub first_progress : Facts → Progress
+first_progress facts =
+    record {
+      so_far = record {
+        objects = [];
+        first = earliest_fault None (written_faults facts);
+        is_full = false;
+        is_deep = false;
+      };
+      standing = map (λ name. standings.Unmade) facts.names;
+      settings = [];
+    }
+
+-- The objects that a program makes, and the earliest of all that is wrong with them.
+unfoldable pub last_progress : Facts → Progress
+last_progress facts = all_declared facts 0 facts.program (first_progress facts)

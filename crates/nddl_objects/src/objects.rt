@@ -1,0 +1,238 @@
+//! The objects of a program, made in the order in which they are declared.
+
+ghost use Rattle.std.specs.Prelude.{◌≡◌, false, IfOk, OnOk, map};
+ghost use Rattle.nddl_scope.specs.Scope.{named_number};
+ghost use Rattle.nddl_lines.specs.Facts.{facts_of};
+ghost use Rattle.nddl_data.specs.declared.made.Standing.TheVariants.{Unmade};
+ghost use Rattle.nddl_data.specs.Scene.{scenery_of};
+ghost use Rattle.nddl_running.specs.Construction.{construction_of};
+ghost use Rattle.nddl_running.specs.Made.{made_by, new_datum, new_made};
+ghost use Rattle.nddl_objects.specs.Objects.{all_declared, bare_scene, one_declared, last_progress, init_declared, most_levels, new_declared, object_declared, settings_declared, progress_of, stood};
+
+use super::settings::read_settings;
+use eu_name::sequence::Sequence;
+use nddl_ast::declaration::Decl;
+use nddl_ast::expression::{Creation, Init};
+use nddl_ast::statement::Variable;
+use nddl_constructors::note_written;
+use nddl_data::{Datum, Ground, Scene, Standing};
+use nddl_lines::Basis;
+use nddl_running::making::DEEPEST;
+use nddl_running::{Making, make_new};
+use nddl_scope::Declared;
+use nddl_scope::declared::variable_sort;
+use std::alloc::{AllocError, Global};
+
+/// The objects of a program so far, what each of its names stands for, and the values of the settings, none where there are
+/// no settings.
+#[derive(Drop)]
+pub struct Program {
+    pub making: Making,
+    pub standing: Vec<Standing>,
+    pub settings: Sequence<Option<Datum>>,
+}
+
+fn scene_of(decl: usize) -> Scene<'static>
+    ensures { scenery_of result ≡ bare_scene decl }
+{
+    Scene {
+        decl,
+        formals: &[],
+        values: &[],
+    }
+}
+
+// The name of this number stands for this from now on.
+fn stand(standing: &mut Vec<Standing>, entry: Option<usize>, datum: Option<Datum>)
+    ensures { standing.new.items ≡ stood standing.old.items entry datum }
+{
+    if let Some(entry) = entry {
+        if entry < standing.len() {
+            standing[entry] = Standing::Made(datum);
+        }
+    }
+}
+
+// Makes the object of the name.
+fn declare_object(
+    alloc: Global,
+    basis: &Basis<'_>,
+    decl: usize,
+    variable: &Variable,
+    creation: &Creation,
+    program: &mut Program,
+) -> Result<(), AllocError>
+    ensures { OnOk result (progress_of program.new
+        ≡ object_declared (facts_of basis.now) decl variable.now creation.now (progress_of program.old)) }
+{
+    let entry = basis.types.scope.entry(&variable.name.text);
+    let datum = make_declared(
+        alloc,
+        basis,
+        program.standing.as_slice(),
+        decl,
+        variable,
+        creation,
+        &mut program.making,
+    )?;
+    stand(&mut program.standing, entry, datum);
+    Ok(())
+}
+
+// The same, where the names stand for this.
+fn make_declared(
+    alloc: Global,
+    basis: &Basis<'_>,
+    standing: &[Standing],
+    decl: usize,
+    variable: &Variable,
+    creation: &Creation,
+    making: &mut Making,
+) -> Result<Option<Datum>, AllocError>
+    ensures datum { IfOk result (λ datum.
+        datum ≡ new_datum most_levels (facts_of basis.now) creation.now (construction_of making.old)) }
+    ensures made { OnOk result (construction_of making.new
+        ≡ new_made (made_by most_levels (record { facts = facts_of basis.now; standing = standing.now }))
+        (record { facts = facts_of basis.now; standing = standing.now }) (bare_scene decl) variable.now.name.text
+        (named_number false basis.now.types.scope.now variable.now.name.text) creation.now (construction_of making.old)) }
+{
+    let name = &variable.name.text;
+    let entry = basis.types.scope.entry(name);
+    let footing = Ground {
+        basis: *basis,
+        standing,
+    };
+    make_new(
+        alloc,
+        &footing,
+        &scene_of(decl),
+        name,
+        entry,
+        creation,
+        DEEPEST + 1,
+        making,
+    )
+}
+
+// Reads the settings.
+fn declare_settings(
+    alloc: Global,
+    basis: &Basis<'_>,
+    decl: usize,
+    creation: &Creation,
+    program: &mut Program,
+) -> Result<(), AllocError>
+    ensures { OnOk result (progress_of program.new
+        ≡ settings_declared (facts_of basis.now) decl creation.now (progress_of program.old)) }
+{
+    let footing = Ground {
+        basis: *basis,
+        standing: program.standing.as_slice(),
+    };
+    program.settings = read_settings(
+        alloc,
+        &footing,
+        &scene_of(decl),
+        program.making.objects.as_slice(),
+        creation,
+        &mut program.making.first,
+    )?;
+    Ok(())
+}
+
+// Makes what the variable is made by.
+fn declare_new(
+    alloc: Global,
+    basis: &Basis<'_>,
+    decl: usize,
+    variable: &Variable,
+    creation: &Creation,
+    program: &mut Program,
+) -> Result<(), AllocError>
+    ensures { OnOk result (progress_of program.new
+        ≡ new_declared (facts_of basis.now) decl variable.now creation.now (progress_of program.old)) }
+{
+    if variable_sort(variable).is_config() {
+        declare_settings(alloc, basis, decl, creation, program)
+    } else {
+        declare_object(alloc, basis, decl, variable, creation, program)
+    }
+}
+
+// Makes what the variable is made by, if it is made.
+fn declare_variable(
+    alloc: Global,
+    basis: &Basis<'_>,
+    decl: usize,
+    variable: &Variable,
+    program: &mut Program,
+) -> Result<(), AllocError>
+    ensures { OnOk result (progress_of program.new
+        ≡ init_declared (facts_of basis.now) decl variable.now variable.now.init (progress_of program.old)) }
+{
+    match &variable.init {
+        Some(Init::New(creation)) => declare_new(alloc, basis, decl, variable, creation, program),
+        _ => Ok(()),
+    }
+}
+
+// Makes what the declaration of this number asks for.
+fn declare(
+    alloc: Global,
+    basis: &Basis<'_>,
+    number: usize,
+    decl: &Decl,
+    program: &mut Program,
+) -> Result<(), AllocError>
+    ensures { OnOk result (progress_of program.new
+        ≡ one_declared (facts_of basis.now) number decl.now (progress_of program.old)) }
+{
+    match decl {
+        Decl::Variable(variable) => declare_variable(alloc, basis, number, variable, program),
+        _ => Ok(()),
+    }
+}
+
+// Makes what the declarations ask for, one after another.
+fn declare_all(
+    alloc: Global,
+    basis: &Basis<'_>,
+    decls: &[&Decl],
+    program: &mut Program,
+) -> Result<(), AllocError>
+    ensures { OnOk result (progress_of program.new
+        ≡ all_declared (facts_of basis.now) 0 (map (λ decl. decl.now) decls.now) (progress_of program.old)) }
+{
+    for (number, decl) in decls.iter().enumerate() {
+        declare(alloc, basis, number, *decl, program)?;
+    }
+    Ok(())
+}
+
+// None of the names stands for an object yet.
+fn unmade(alloc: Global, names: &[Declared]) -> Result<Vec<Standing>, AllocError>
+    ensures { IfOk result (λ standing. standing.items ≡ map (λ name. Unmade) names.now) }
+{
+    let mut standing = Vec::new(alloc);
+    for name in names {
+        standing.push(Standing::Unmade)?;
+    }
+    Ok(standing)
+}
+
+/// Makes the objects of a program of which this is known, and finds the earliest of all that is wrong with them.
+#[tactic(auto, unfolding(crate::specs::Objects::last_progress))]
+pub fn make_objects(alloc: Global, basis: &Basis<'_>) -> Result<Program, AllocError>
+    ensures { IfOk result (λ program. progress_of program ≡ last_progress (facts_of basis.now)) }
+{
+    let mut first = None;
+    note_written(alloc, basis, &mut first)?;
+    let standing = unmade(alloc, basis.types.scope.names())?;
+    let mut program = Program {
+        making: Making::new(alloc, first),
+        standing,
+        settings: Sequence::new(alloc),
+    };
+    declare_all(alloc, basis, basis.decls, &mut program)?;
+    Ok(program)
+}
