@@ -39,7 +39,7 @@ pub fn push_block_names(
 {
     let until = sight.until();
     push_stmts_names(sources, block.stmts.as_slice(), sight, tally, names)?;
-    sight.forget(until);
+    sight.forget(until)?;
     Ok(())
 }
 
@@ -141,7 +141,7 @@ fn push_turns_names(
     sight.see_turn(&variable.text, tally.turns)?;
     *tally = tally.turn_more()?;
     push_block_names(sources, body, sight, tally, names)?;
-    sight.forget(until);
+    sight.forget(until)?;
     Ok(())
 }
 

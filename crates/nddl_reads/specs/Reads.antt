@@ -29,7 +29,8 @@ use Rattle.nddl_trees.specs.declared.tree.Meaning.{Meaning}
 use Rattle.nddl_trees.specs.declared.tree.Meaning.TheVariants as meanings
 use Rattle.nddl_trees.specs.declared.tree.ReadName.{ReadName}
 use Rattle.nddl_reads.specs.declared.sources.NameSources as code
-use Rattle.nddl_reads.specs.Sight.{Sight, last_number}
+use Rattle.nddl_hiding.specs.Hiding.{last_number}
+use Rattle.nddl_reads.specs.Sight.{Sight}
 
 -- where names come from that the text of a rule doesn't declare: the scope of the files, with the place of each name in it,
 -- and the parameters of the predicate

@@ -1,7 +1,5 @@
 -- What the names mean that the text of a rule declares, by number.
-use Rattle.std.specs.Prelude.{◌≡◌, ℕ, ◌+◌, List, [], ◌∷◌, ◌++◌, Option, Some, None, length, take, if◌then◌else◌}
-use Rattle.std.specs.Option.{option_or}
-use Rattle.std.specs.Str.{bytes_eq}
+use Rattle.std.specs.Prelude.{◌≡◌, ℕ, List, [], ◌∷◌, ◌++◌, length, take}
 use Rattle.nddl_scope.specs.Index.{Noted}
 use Rattle.nddl_reads.specs.declared.sight.SightUntil.{SightUntil}
 
@@ -15,15 +13,6 @@ pub record Sight : Type 0 where
 -- nothing
 abbrev pub no_sight : Sight
 no_sight = record { turns = []; locals = []; labels = [] }
-
--- its number, if it has the name
-abbrev pub number_if : List ℕ → List ℕ × ℕ → Option ℕ
-number_if name seen = if bytes_eq name seen.0 then Some seen.1 else None
-
--- the number of the last of these that have the name
-abbrev pub last_number : List ℕ → Noted → Option ℕ
-last_number name [] = None
-last_number name (seen ∷ more) = option_or (last_number name more) (number_if name seen)
 
 -- a variable of `foreach` more
 abbrev pub with_turn : Sight → List ℕ → ℕ → Sight

@@ -2,11 +2,9 @@
 //! the end of a list, over what the text declares (`Sight`) and where other names come from (`NameSources`).
 #![tactic(auto)]
 
-pub mod innermost;
 pub mod reads;
 pub mod sight;
 pub mod sources;
 
-pub use innermost::Innermost;
 pub use sight::{Sight, SightUntil, Tally};
 pub use sources::NameSources;

@@ -5,8 +5,8 @@ ghost use Rattle.nddl_reads.specs.Tally.{local_more, no_tally, slot_more, turn_m
 ghost use Rattle.nddl_reads.specs.Reads.{sight_meaning};
 ghost use Rattle.nddl_reads.specs.Sight.{cut_sight, no_sight, sight_until, with_label, with_rule_local, with_turn};
 
-use super::innermost::Innermost;
 use eu_name::text::Text;
+use nddl_hiding::Innermost;
 use nddl_trees::Meaning;
 use std::alloc::{AllocError, Global};
 use std::marker::Model;
@@ -156,12 +156,12 @@ impl Sight {
         }
     }
 
-    /// Without those that came since then.
-    pub fn forget(&mut self, until: SightUntil)
-        ensures { self.new ≡ cut_sight self.old until }
+    /// Without those that came since then. Without memory some of them may be left.
+    pub fn forget(&mut self, until: SightUntil) -> Result<(), AllocError>
+        ensures { OnOk result (self.new ≡ cut_sight self.old until) }
     {
-        self.turns.truncate(until.turns);
-        self.locals.truncate(until.locals);
-        self.labels.truncate(until.labels);
+        self.turns.truncate(until.turns)?;
+        self.locals.truncate(until.locals)?;
+        self.labels.truncate(until.labels)
     }
 }
