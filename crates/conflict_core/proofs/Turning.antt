@@ -1,9 +1,9 @@
 -- Decisions that are taken and taken back, and the turns by which a list is reduced to its conflict.
-use Rattle.std.proofs.Common.{◌≡◌, ◌⊎◌, ℕ, zero, suc, ◌+◌, ◌-◌, ◌<◌, Bool, true, false, List, [], ◌∷◌, ◌++◌, length, take, get_or, Vec, Result, Ok, Err, inl, inr, refl, sym, ap, ◌∙◌, subst, arith}
+use Rattle.std.proofs.Common.{◌≡◌, ℕ, zero, suc, ◌+◌, ◌<◌, Bool, true, false, List, [], ◌∷◌, ◌++◌, length, take, get_or, Vec, Result, Ok, Err, inl, inr, refl, sym, ap, ◌∙◌, subst, arith}
 use Rattle.std.specs.Prelude.{OnOk, IfOk, IsErr, MatchResult}
 use Rattle.std.specs.Global.{Global}
 use Rattle.std.specs.declared.alloc.AllocError.{AllocError}
-use Rattle.std.proofs.lemmas.List.{append_assoc, take_more}
+use Rattle.std.proofs.lemmas.List.{take_more}
 use Rattle.std.proofs.lemmas.Result.{IfOk-from_err}
 use Rattle.model_core.specs.declared.decision.Decision.{Decision}
 use Rattle.model_core.specs.declared.model.Model.{Model}
@@ -32,9 +32,6 @@ grown_length (suc number) old new grown =
     omega (arith, ap length grown.2, grown_length number old grown.0 grown.3)
 
 module _ (model : Model) where
-  pub goes_none : (history : History) → GoesOnBy model history [] history
-  goes_none history = record { settles = refl; number = 0; grown = refl }
-
   pub goes_both : (old middle new : History) (one other : List Decision)
       → GoesOnBy model old one middle → GoesOnBy model middle other new → GoesOnBy model old (one ++ other) new
   goes_both old middle new one other first second =
