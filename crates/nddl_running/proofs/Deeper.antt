@@ -1,5 +1,5 @@
 -- Objects that are made, step by step.
-use Rattle.std.proofs.Common.{◌≡◌, ℕ, zero, suc, ◌-◌, ◌<◌, Bool, true, List, length, refl, sym, ap, subst, ◌∙◌, arith}
+use Rattle.std.proofs.Common.{◌≡◌, ℕ, zero, suc, ◌-◌, ◌<◌, true, List, length, refl, sym, ap, ◌∙◌, arith}
 use Rattle.std.specs.Prelude.{Option, Result, Ok, Err, OnOk, if◌then◌else◌}
 use Rattle.nddl_scope.specs.declared.fault.Fault.{Fault}
 use Rattle.nddl_scope.specs.declared.scope.Meaning.{Meaning}

@@ -1,5 +1,5 @@
 -- Objects that are made one after another, and what is found to be wrong on the way.
-use Rattle.std.specs.Prelude.{ℕ, ◌==◌, Bool, true, not, nat_lt, List, [], ◌∷◌, ◌++◌, Option, None, length, slice_get}
+use Rattle.std.specs.Prelude.{ℕ, Bool, true, not, nat_lt, List, [], ◌∷◌, ◌++◌, Option, length, slice_get}
 use Rattle.std.specs.Prelude.{slice_set}
 use Rattle.std.specs.Option.{option_map_or}
 use Rattle.nddl_ast.specs.declared.kind.TextKind.{TextKind}

@@ -2,7 +2,7 @@ use Rattle.std.proofs.Common.{◌∙◌, ap, sym, arith}
 use Rattle.nddl_data.specs.Scene.{grounds_of}
 use Rattle.nddl_passed.specs.Passing.{passed_down}
 use Rattle.nddl_running.specs.Construction.{asked_of, construction_of, subject_of}
-use Rattle.nddl_running.specs.Made.{classes_run, made_by}
+use Rattle.nddl_running.specs.Made.{made_by}
 use Rattle.nddl_running.proofs.Deeper.{made_one, run_one}
 use Rattle.nddl_running.proofs.running.+making.Goals as goal
 
