@@ -1,5 +1,5 @@
--- Statements that are dealt with one after another.
-use Rattle.std.proofs.Common.{◌≡◌, ℕ, ◌+◌, ◌<◌, List, [], length, drop, get_or, sym, ◌∙◌, ap, subst}
+-- Statements with blocks, and whole rules.
+use Rattle.std.proofs.Common.{◌≡◌, ℕ, List, [], sym, ◌∙◌, ap, subst}
 use Rattle.std.specs.Prelude.{Option, Some, None, Result, Ok, Err, OnOk, IfOk, IsErr, MatchResult}
 use Rattle.std.specs.Option.{option_map_or}
 use Rattle.model_core.specs.declared.rule.Entry.TheVariants as entries
@@ -9,17 +9,15 @@ use Rattle.model_core.specs.Block.{plain_entries}
 use Rattle.model_core.specs.Entries.{Entries}
 use Rattle.nddl_ast.specs.declared.statement.Condition.{Condition}
 use Rattle.nddl_ast.specs.declared.statement.Stmt.{Stmt}
-use Rattle.nddl_ast.specs.Block.{statements_of, with_else, with_statement}
+use Rattle.nddl_ast.specs.Block.{with_else, with_statement}
 use Rattle.nddl_ast.specs.Tree.{Statements, Braces}
 use Rattle.nddl_terms.specs.declared.growth.Growth.{Growth}
 use Rattle.nddl_terms.specs.declared.stands.Made.{Made}
-use Rattle.nddl_terms.specs.declared.stands.Stand.{Stand}
 use Rattle.nddl_terms.specs.Growth.{with_last_entry}
 use Rattle.nddl_terms.specs.Readings.{Readings}
 use Rattle.nddl_unrolling.specs.Arguments.{condition_guard}
-use Rattle.nddl_unrolling.specs.Blocks.{all_turns, back_in, filled_block, in_block, unrolled}
+use Rattle.nddl_unrolling.specs.Blocks.{back_in, filled_block, in_block, unrolled}
 use Rattle.nddl_unrolling.specs.Rules.{grown_rule}
-use Rattle.nddl_unrolling.proofs.Items.{dropped}
 
 -- what the rule has behind a statement goes on with those behind it
 pub goes_on_at : {X E : Type 0} (reading : Readings) (turns : List Made) (same stmt : Stmt) (old new : Growth) (result : Result X E)
@@ -29,31 +27,6 @@ pub goes_on_at : {X E : Type 0} (reading : Readings) (turns : List Made) (same s
 goes_on_at reading turns same stmt old new (Err e) is said = tt
 goes_on_at reading turns same stmt old new (Ok done) is said = λ more.
     said more ∙ ap (λ (s : Stmt). unrolled reading turns (with_statement s more) old) (sym is)
-
--- what it has behind one statement is known
-pub known_behind : {X E : Type 0} (reading : Readings) (turns : List Made) (next new : Growth) (result : Result X E)
-    → OnOk result (new ≡ next)
-    → OnOk result ((more : Statements) → unrolled reading turns more new ≡ unrolled reading turns more next)
-known_behind reading turns next new (Err e) is = tt
-known_behind reading turns next new (Ok done) is = λ more. ap (unrolled reading turns more) is
-
--- one statement more
-pub block_step : (reading : Readings) (turns : List Made) (stmts : List Stmt) (i : ℕ) (stmt : Stmt) (old new whole : Growth)
-    → i < length stmts → stmt ≡ get_or stmts i stmt
-    → ((more : Statements) → unrolled reading turns more new ≡ unrolled reading turns (with_statement stmt more) old)
-    → unrolled reading turns (statements_of (drop i stmts)) old ≡ whole
-    → unrolled reading turns (statements_of (drop (i + 1) stmts)) new ≡ whole
-block_step reading turns stmts i stmt old new whole within is goes_on so_far =
-    goes_on (statements_of (drop (i + 1) stmts))
-    ∙ (ap (λ left. unrolled reading turns (statements_of left) old) (dropped stmts i stmt within is) ∙ so_far)
-
--- one turn more
-pub turns_step : (turn : Stand → Growth → Growth) (objects : List Stand) (i : ℕ) (object : Stand) (old new whole : Growth)
-    → i < length objects → object ≡ get_or objects i object → new ≡ turn object old
-    → all_turns turn (drop i objects) old ≡ whole → all_turns turn (drop (i + 1) objects) new ≡ whole
-turns_step turn objects i object old new whole within is turned so_far =
-    ap (all_turns turn (drop (i + 1) objects)) turned
-    ∙ (ap (λ left. all_turns turn left old) (dropped objects i object within is) ∙ so_far)
 
 -- a guard and its blocks
 pub branch_on : {X E : Type 0} (reading : Readings) (turns : List Made) (at : ℕ) (condition : Condition) (then : Braces) (otherwise : Option Braces)
