@@ -1,6 +1,6 @@
 //! What is wrong first with the names and types of texts, by hand from what the language allows.
 
-use super::answers::comes;
+use super::answers::{Asked, comes};
 use std::alloc::{AllocError, Global};
 
 const FIRST: [(&str, &str, &str); 72] = [
@@ -198,7 +198,7 @@ const FIRST: [(&str, &str, &str); 72] = [
 fn texts_have_these_first_faults(rt: HostRuntime) {
     for (text, other, expected) in &FIRST {
         assert_eq!(rt;
-            comes(rt.alloc(), false, text, other, expected),
+            comes(rt.alloc(), Asked::Fault, text, other, expected),
             Ok(true),
             "{text}"
         );
@@ -223,7 +223,7 @@ fn repeated_comes(
     expected: &str,
 ) -> Result<bool, AllocError> {
     let text = repeated(alloc, parts, count)?;
-    comes(alloc, false, text.as_str(), "", expected)
+    comes(alloc, Asked::Fault, text.as_str(), "", expected)
 }
 
 const REPEATED: [([&str; 4], u32, &str); 6] = [

@@ -1,5 +1,5 @@
-//! The tests of the crates that compile texts: of what they rest on (nddl_joined, nddl_copies and nddl_scope), and of the
-//! table of names and types. Nothing here is called by others: `rt test` runs it.
+//! The tests of the crates that compile texts: of what they rest on (nddl_joined, nddl_copies and nddl_scope), of the
+//! table of names and types, and of rules. Nothing here is called by others: `rt test` runs it.
 #![tactic(auto)]
 
 #[cfg(test)]
@@ -16,3 +16,5 @@ mod shelves;
 mod sites;
 #[cfg(test)]
 mod tables;
+#[cfg(test)]
+mod trees;

@@ -1,6 +1,6 @@
 //! The table of a text with all of the language's declarations, by hand.
 
-use super::answers::comes;
+use super::answers::{Asked, comes};
 use domain_core::domain::Dom;
 use model_core::class::{Class, Enum, Pred, PredKind};
 use model_core::variable::{Base, ValueKind, VarDecl};
@@ -197,5 +197,8 @@ root g m 611
 
 #[test]
 fn a_text_has_this_table(rt: HostRuntime) {
-    assert_eq!(rt; comes(rt.alloc(), true, TEXT, OTHER, TABLE), Ok(true));
+    assert_eq!(rt;
+        comes(rt.alloc(), Asked::Table, TEXT, OTHER, TABLE),
+        Ok(true)
+    );
 }
