@@ -7,6 +7,7 @@ use super::asking::{
     token_fate,
 };
 use super::names::{decision, subject};
+use super::reasons::{has_no_reason, is_conflict, is_cycle};
 use super::steps::{Choice, On, Said, Step};
 use model_core::model::Model;
 use plan_db::{Db, DbFault, Outcome, QueryFault};
@@ -54,6 +55,9 @@ fn is_so(alloc: Global, db: &Db, step: &Step) -> bool {
         Step::Ordered(first, second, is) => ordered(alloc, db, first, second) == Some(*is),
         Step::Stand(choices) => stand(alloc, model_of(db), db.decisions(), choices),
         Step::History(count) => db.history() == *count,
+        Step::Why(choices) => is_conflict(alloc, db, choices),
+        Step::NoWhy(fault) => has_no_reason(alloc, db, *fault),
+        Step::Cycle(gaps) => is_cycle(alloc, db, gaps),
         Step::Flawed => is_flawed(alloc, db),
         Step::Plan(text) => has_plan(alloc, db, text),
         _ => false,

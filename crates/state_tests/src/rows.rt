@@ -1,12 +1,13 @@
 //! Steps on the two models, with what each answers as it was worked out by hand from what a state is.
 
 use super::deciding::{wrong_on_mission, wrong_on_rounds};
-use super::steps::{Choice, Fate, On, Said, Step};
+use super::steps::{Choice, Fate, Gap, On, Said, Step};
+use conflict_core::WhyFault;
 use plan_db::DbFault;
 use std::test::Fail;
 
 // On the mission the horizon is from 0 to 10.
-const ON_MISSION: [(&str, &[Step]); 13] = [
+const ON_MISSION: [(&str, &[Step]); 14] = [
     (
         "nothing is decided",
         &[
@@ -325,10 +326,26 @@ const ON_MISSION: [(&str, &[Step]); 13] = [
             ),
         ],
     ),
+    (
+        "tokens that overlap, and no edge of that",
+        &[
+            Step::Take(Choice::Specify("total", 3), Said::Fits),
+            Step::Take(Choice::Specify("base.start", 0), Said::Fits),
+            Step::Take(Choice::Specify("base.end", 5), Said::Fits),
+            Step::Take(Choice::Activate("here"), Said::Fits),
+            Step::Take(Choice::Specify("here.start", 4), Said::Fails),
+            Step::Why(&[
+                Choice::Specify("base.end", 5),
+                Choice::Activate("here"),
+                Choice::Specify("here.start", 4),
+            ]),
+            Step::Cycle(&[]),
+        ],
+    ),
 ];
 
 // On the rounds too the horizon is from 0 to 10.
-const ON_ROUNDS: [(&str, &[Step]); 7] = [
+const ON_ROUNDS: [(&str, &[Step]); 12] = [
     (
         "one variable is at most another",
         &[
@@ -462,6 +479,110 @@ const ON_ROUNDS: [(&str, &[Step]); 7] = [
             Step::Backtrack(Said::Done),
             Step::Take(Choice::Reject("lost"), Said::Fits),
             Step::Is("lost", Fate::Rejected),
+        ],
+    ),
+    (
+        "what has no part in it is left out of a conflict, and asking changes nothing",
+        &[
+            Step::Take(Choice::Specify("z", 1), Said::Fits),
+            Step::NoWhy(WhyFault::Consistent),
+            Step::Take(Choice::Specify("x", 5), Said::Fits),
+            Step::Take(Choice::Specify("y", 3), Said::Fails),
+            Step::Why(&[Choice::Specify("x", 5), Choice::Specify("y", 3)]),
+            Step::Cycle(&[]),
+            Step::Stand(&[
+                Choice::Specify("z", 1),
+                Choice::Specify("x", 5),
+                Choice::Specify("y", 3),
+            ]),
+            Step::History(3),
+            Step::Undo(Said::Fits),
+            Step::Within("y", 5, 10, 6),
+        ],
+    ),
+    (
+        "one decision can be the whole conflict",
+        &[
+            Step::Take(Choice::Specify("x", 5), Said::Fits),
+            Step::Take(Choice::Activate("link"), Said::Fits),
+            Step::Take(Choice::Activate("lost"), Said::Fails),
+            Step::Why(&[Choice::Activate("lost")]),
+            Step::Cycle(&[]),
+            Step::History(3),
+        ],
+    ),
+    (
+        "a decision stays in a conflict for the sake of those that it allows",
+        // the merge needs link active, and other/0:0 is there only while other is active
+        &[
+            Step::Take(Choice::Activate("link"), Said::Fits),
+            Step::Take(Choice::Activate("other"), Said::Fits),
+            Step::Take(Choice::Merge("other/0:0", "link"), Said::Fits),
+            Step::Take(Choice::Specify("link.start", 2), Said::Fits),
+            Step::Take(Choice::Specify("other/0:0.start", 3), Said::Fails),
+            Step::Why(&[
+                Choice::Activate("link"),
+                Choice::Activate("other"),
+                Choice::Merge("other/0:0", "link"),
+                Choice::Specify("link.start", 2),
+                Choice::Specify("other/0:0.start", 3),
+            ]),
+            // the cycle goes through the merged token: its start is its target's
+            Step::Cycle(&[
+                Gap("origin", 3, "link.start"),
+                Gap("link.start", -2, "origin"),
+            ]),
+        ],
+    ),
+    (
+        "three tokens in a circle, and why",
+        &[
+            Step::Take(Choice::Activate("one"), Said::Fits),
+            Step::Take(Choice::Activate("two"), Said::Fits),
+            Step::Take(Choice::Activate("three"), Said::Fits),
+            Step::Take(Choice::Specify("z", 4), Said::Fits),
+            Step::Take(Choice::Order("one", "two"), Said::Fits),
+            Step::Take(Choice::Order("two", "three"), Said::Fits),
+            Step::Take(Choice::Order("three", "one"), Said::Fails),
+            Step::Cycle(&[
+                Gap("one.start", 1, "one.end"),
+                Gap("one.end", 0, "two.start"),
+                Gap("two.start", 1, "two.end"),
+                Gap("two.end", 0, "three.start"),
+                Gap("three.start", 1, "three.end"),
+                Gap("three.end", 0, "one.start"),
+            ]),
+            Step::Why(&[
+                Choice::Activate("one"),
+                Choice::Activate("two"),
+                Choice::Activate("three"),
+                Choice::Order("one", "two"),
+                Choice::Order("two", "three"),
+                Choice::Order("three", "one"),
+            ]),
+            Step::History(7),
+            Step::Undo(Said::Fits),
+            Step::Within("three.start", 2, 9, 8),
+            Step::NoWhy(WhyFault::Consistent),
+        ],
+    ),
+    (
+        "a duration that is decided last is read from the decision",
+        &[
+            Step::Take(Choice::Activate("one"), Said::Fits),
+            Step::Take(Choice::Specify("one.start", 4), Said::Fits),
+            Step::Take(Choice::Specify("one.end", 6), Said::Fits),
+            Step::Take(Choice::Specify("one.duration", 3), Said::Fails),
+            Step::Cycle(&[
+                Gap("origin", 4, "one.start"),
+                Gap("one.start", 3, "one.end"),
+                Gap("one.end", -6, "origin"),
+            ]),
+            Step::Why(&[
+                Choice::Specify("one.start", 4),
+                Choice::Specify("one.end", 6),
+                Choice::Specify("one.duration", 3),
+            ]),
         ],
     ),
 ];

@@ -1,5 +1,6 @@
 //! Steps on a database and what they answer, in plain values: tokens and variables are named as in a script.
 
+use conflict_core::WhyFault;
 use plan_db::DbFault;
 
 /// A decision.
@@ -42,6 +43,10 @@ pub enum Fate {
     Rejected,
 }
 
+/// An edge: the first point comes at least so long before the second. A point is `origin`, or a start or an end by its name.
+#[derive(Clone, Copy)]
+pub struct Gap(pub &'static str, pub i32, pub &'static str);
+
 /// A step, with what it answers.
 #[derive(Clone, Copy)]
 pub enum Step {
@@ -65,6 +70,12 @@ pub enum Step {
     Stand(&'static [Choice]),
     /// So many steps can be undone.
     History(u64),
+    /// The conflict is these decisions.
+    Why(&'static [Choice]),
+    /// Neither a conflict nor a cycle is told, for this reason.
+    NoWhy(WhyFault),
+    /// The cycle of the time edges has these, in this order.
+    Cycle(&'static [Gap]),
     /// The state has a flaw.
     Flawed,
     /// The state has none, and this is the text of its plan.

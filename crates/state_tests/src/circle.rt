@@ -1,0 +1,199 @@
+//! Three tokens of one track in a circle: how often their starts were written, and the time edges of the circle.
+
+ghost use Rattle.model_core.specs.Lawful.{IsLawful};
+
+use super::asking::model_of;
+use super::names::{decision, variable};
+use super::steps::Choice;
+use model_core::model::Model;
+use plan_db::{Db, NamedEdge, Point};
+use sample_models::rounds::rounds;
+use std::alloc::{AllocError, Global};
+use std::test::Fail;
+
+// What was written how often, or nothing of what is asked.
+type Stamps = [Option<u64>; 3];
+
+// Whether a stamp is greater than an earlier one, the same, or neither.
+#[derive(Clone, Copy, Debug, PartialEq, Eq)]
+enum Change {
+    Written,
+    Same,
+    Untold,
+}
+
+fn stamp(alloc: Global, db: &Db, name: &str) -> Option<u64> {
+    match variable(alloc, model_of(db), name) {
+        Some(variable) => db.stamp(&variable),
+        None => None,
+    }
+}
+
+// The stamps of the three starts.
+fn stamps(alloc: Global, db: &Db) -> Stamps {
+    let one = stamp(alloc, db, "one.start");
+    let two = stamp(alloc, db, "two.start");
+    [one, two, stamp(alloc, db, "three.start")]
+}
+
+fn compare(before: Option<u64>, after: Option<u64>) -> Change {
+    match (before, after) {
+        (Some(before), Some(after)) => {
+            if after > before {
+                Change::Written
+            } else if after == before {
+                Change::Same
+            } else {
+                Change::Untold
+            }
+        }
+        _ => Change::Untold,
+    }
+}
+
+fn changes(before: Stamps, after: Stamps) -> [Change; 3] {
+    let [one, two, three] = before;
+    let [first, second, third] = after;
+    [
+        compare(one, first),
+        compare(two, second),
+        compare(three, third),
+    ]
+}
+
+// Takes the decision, and tells which starts were written.
+fn taken(alloc: Global, db: &mut Db, choice: &Choice) -> Option<[Change; 3]> {
+    let before = stamps(alloc, db);
+    match decision(alloc, model_of(db), choice) {
+        Some(decision) => match db.apply(&decision) {
+            Ok(_outcome) => Some(changes(before, stamps(alloc, db))),
+            Err(_fault) => None,
+        },
+        None => None,
+    }
+}
+
+// Takes the last decision back, and tells which starts were written.
+fn taken_back(alloc: Global, db: &mut Db) -> Option<[Change; 3]> {
+    let before = stamps(alloc, db);
+    match db.backtrack() {
+        Ok(()) => Some(changes(before, stamps(alloc, db))),
+        Err(_fault) => None,
+    }
+}
+
+fn activate_all(alloc: Global, db: &mut Db) -> bool {
+    let mut all = true;
+    for name in ["one", "two", "three"] {
+        all = all && taken(alloc, db, &Choice::Activate(name)).is_some();
+    }
+    all
+}
+
+// Puts the first before the second, takes that back, and goes on to the circle, with what is written at each step.
+fn go_round(alloc: Global, db: &mut Db) -> [Option<[Change; 3]>; 5] {
+    let first = taken(alloc, db, &Choice::Order("one", "two"));
+    let back = taken_back(alloc, db);
+    let again = taken(alloc, db, &Choice::Order("one", "two"));
+    let second = taken(alloc, db, &Choice::Order("two", "three"));
+    let third = taken(alloc, db, &Choice::Order("three", "one"));
+    [first, back, again, second, third]
+}
+
+// A point in time, by the number of its root.
+#[derive(Clone, Copy, Debug, PartialEq, Eq)]
+enum At {
+    Origin,
+    Start(u32),
+    End(u32),
+}
+
+fn place_of(point: &Point) -> At {
+    match point {
+        Point::Origin => At::Origin,
+        Point::Start(token) => At::Start(token.root),
+        Point::End(token) => At::End(token.root),
+    }
+}
+
+// The edges that have to be there, in order: those of each token by itself, and those of the orders.
+const EDGES: [(At, i32, At); 15] = [
+    (At::Origin, 0, At::Start(0)),
+    (At::End(0), -10, At::Origin),
+    (At::Start(0), 1, At::End(0)),
+    (At::End(0), -8, At::Start(0)),
+    (At::Origin, 0, At::Start(1)),
+    (At::End(1), -10, At::Origin),
+    (At::Start(1), 1, At::End(1)),
+    (At::End(1), -8, At::Start(1)),
+    (At::Origin, 0, At::Start(2)),
+    (At::End(2), -10, At::Origin),
+    (At::Start(2), 1, At::End(2)),
+    (At::End(2), -8, At::Start(2)),
+    (At::End(0), 0, At::Start(1)),
+    (At::End(1), 0, At::Start(2)),
+    (At::End(2), 0, At::Start(0)),
+];
+
+fn are_edges(edges: &[NamedEdge]) -> bool {
+    let mut all = edges.len() == EDGES.len();
+    for (edge, wanted) in edges.iter().zip(EDGES.iter()) {
+        all = all && (place_of(&edge.from), edge.gap, place_of(&edge.to)) == *wanted;
+    }
+    all
+}
+
+fn has_edges(db: &Db) -> bool {
+    match db.time_edges() {
+        Ok(edges) => are_edges(edges.as_slice()),
+        Err(_fault) => false,
+    }
+}
+
+// Whether there are no edges before the last decision, what each step wrote, and whether the edges are there in the end.
+fn round_told(alloc: Global, db: &mut Db) -> (bool, [Option<[Change; 3]>; 5], bool) {
+    let free = activate_all(alloc, db) && db.time_edges().is_err();
+    let written = go_round(alloc, db);
+    (free, written, has_edges(db))
+}
+
+// The same on a new database of the model.
+fn told_of(
+    alloc: Global,
+    model: Model,
+) -> Result<(bool, [Option<[Change; 3]>; 5], bool), AllocError>
+    requires { IsLawful model }
+{
+    match Db::new(alloc, model) {
+        Ok(db) => {
+            let mut db = db;
+            Ok(round_told(alloc, &mut db))
+        }
+        Err(none) => Err(none),
+    }
+}
+
+fn told(alloc: Global) -> Result<(bool, [Option<[Change; 3]>; 5], bool), AllocError> {
+    match rounds(alloc) {
+        Ok(model) => told_of(alloc, model),
+        Err(none) => Err(none),
+    }
+}
+
+#[test]
+fn a_circle_is_told(rt: HostRuntime) -> Result<(), Fail> {
+    let (free, written, edges) = told(rt.alloc())?;
+    assert!(rt; free && edges);
+    let [first, back, again, second, third] = written;
+    let two = Some([Change::Written, Change::Written, Change::Same]);
+    assert_eq!(rt; (first, back, again), (two, two, two));
+    assert_eq!(rt;
+        second,
+        Some([Change::Written, Change::Written, Change::Written])
+    );
+    assert_eq!(rt;
+        third,
+        Some([Change::Untold, Change::Untold, Change::Untold])
+    );
+    Ok(())
+}
