@@ -99,86 +99,90 @@ fn leave(alloc: Global, rows: &[(&[Step], Left)]) -> bool {
         .all(|(steps, left)| after(alloc, steps) == Some(*left))
 }
 
+// Decisions that are taken and undone, and what is answered and left.
+const TAKEN: [(&[Step], Left); 8] = [
+    (&[], (Err(DbFault::Nothing), Ok((0, 10)), 0)),
+    (&[Step::Specify(X, 4)], (CONSISTENT, Ok((4, 10)), 1)),
+    (
+        &[Step::Specify(X, 4), Step::Specify(X, 5)],
+        (Err(DbFault::Decided), Ok((4, 10)), 1),
+    ),
+    (
+        &[Step::Specify(X, 4), Step::Specify(Y, 11)],
+        (Err(DbFault::NotInDomain), Ok((4, 10)), 1),
+    ),
+    (
+        &[Step::Specify(X, 4), Step::Specify(NONE, 1)],
+        (Err(DbFault::Unknown), Ok((4, 10)), 1),
+    ),
+    (
+        &[Step::Specify(X, 4), Step::Specify(Y, 3)],
+        (INCONSISTENT, Err(QueryFault::Inconsistent), 2),
+    ),
+    (
+        &[
+            Step::Specify(X, 4),
+            Step::Specify(Y, 3),
+            Step::Specify(Y, 5),
+        ],
+        (
+            Err(DbFault::InInconsistent),
+            Err(QueryFault::Inconsistent),
+            2,
+        ),
+    ),
+    (
+        &[Step::Specify(X, 4), Step::Specify(Y, 3), Step::Undo],
+        (CONSISTENT, Ok((4, 10)), 1),
+    ),
+];
+
 #[test]
 fn decisions_are_taken_and_undone(rt: HostRuntime) {
-    let rows: [(&[Step], Left); 8] = [
-        (&[], (Err(DbFault::Nothing), Ok((0, 10)), 0)),
-        (&[Step::Specify(X, 4)], (CONSISTENT, Ok((4, 10)), 1)),
-        (
-            &[Step::Specify(X, 4), Step::Specify(X, 5)],
-            (Err(DbFault::Decided), Ok((4, 10)), 1),
-        ),
-        (
-            &[Step::Specify(X, 4), Step::Specify(Y, 11)],
-            (Err(DbFault::NotInDomain), Ok((4, 10)), 1),
-        ),
-        (
-            &[Step::Specify(X, 4), Step::Specify(NONE, 1)],
-            (Err(DbFault::Unknown), Ok((4, 10)), 1),
-        ),
-        (
-            &[Step::Specify(X, 4), Step::Specify(Y, 3)],
-            (INCONSISTENT, Err(QueryFault::Inconsistent), 2),
-        ),
-        (
-            &[
-                Step::Specify(X, 4),
-                Step::Specify(Y, 3),
-                Step::Specify(Y, 5),
-            ],
-            (
-                Err(DbFault::InInconsistent),
-                Err(QueryFault::Inconsistent),
-                2,
-            ),
-        ),
-        (
-            &[Step::Specify(X, 4), Step::Specify(Y, 3), Step::Undo],
-            (CONSISTENT, Ok((4, 10)), 1),
-        ),
-    ];
-    assert!(rt; leave(rt.alloc(), &rows));
+    assert!(rt; leave(rt.alloc(), &TAKEN));
 }
+
+// Decisions that are taken out or back, and what is answered and left.
+const TAKEN_OUT: [(&[Step], Left); 8] = [
+    (
+        &[Step::Specify(X, 4), Step::Reset(X)],
+        (CONSISTENT, Ok((0, 10)), 2),
+    ),
+    (
+        &[Step::Specify(X, 4), Step::Reset(Y)],
+        (Err(DbFault::NoSuchDecision), Ok((4, 10)), 1),
+    ),
+    // What stands behind stays.
+    (
+        &[Step::Specify(X, 4), Step::Specify(Y, 6), Step::Reset(X)],
+        (CONSISTENT, Ok((6, 6)), 3),
+    ),
+    // What left nothing goes.
+    (
+        &[Step::Specify(X, 4), Step::Specify(Y, 3), Step::Reset(Y)],
+        (CONSISTENT, Ok((4, 10)), 3),
+    ),
+    (
+        &[Step::Specify(X, 4), Step::Reset(X), Step::Undo],
+        (CONSISTENT, Ok((4, 10)), 1),
+    ),
+    (
+        &[Step::Specify(X, 4), Step::Backtrack],
+        (CONSISTENT, Ok((0, 10)), 0),
+    ),
+    (
+        &[Step::Specify(X, 4), Step::Reset(X), Step::Backtrack],
+        (Err(DbFault::Nothing), Ok((0, 10)), 2),
+    ),
+    (
+        &[Step::Specify(X, 4), Step::Rebuild],
+        (CONSISTENT, Ok((4, 10)), 1),
+    ),
+];
 
 #[test]
 fn decisions_are_taken_out(rt: HostRuntime) {
-    let rows: [(&[Step], Left); 8] = [
-        (
-            &[Step::Specify(X, 4), Step::Reset(X)],
-            (CONSISTENT, Ok((0, 10)), 2),
-        ),
-        (
-            &[Step::Specify(X, 4), Step::Reset(Y)],
-            (Err(DbFault::NoSuchDecision), Ok((4, 10)), 1),
-        ),
-        // What stands behind stays.
-        (
-            &[Step::Specify(X, 4), Step::Specify(Y, 6), Step::Reset(X)],
-            (CONSISTENT, Ok((6, 6)), 3),
-        ),
-        // What left nothing goes.
-        (
-            &[Step::Specify(X, 4), Step::Specify(Y, 3), Step::Reset(Y)],
-            (CONSISTENT, Ok((4, 10)), 3),
-        ),
-        (
-            &[Step::Specify(X, 4), Step::Reset(X), Step::Undo],
-            (CONSISTENT, Ok((4, 10)), 1),
-        ),
-        (
-            &[Step::Specify(X, 4), Step::Backtrack],
-            (CONSISTENT, Ok((0, 10)), 0),
-        ),
-        (
-            &[Step::Specify(X, 4), Step::Reset(X), Step::Backtrack],
-            (Err(DbFault::Nothing), Ok((0, 10)), 2),
-        ),
-        (
-            &[Step::Specify(X, 4), Step::Rebuild],
-            (CONSISTENT, Ok((4, 10)), 1),
-        ),
-    ];
-    assert!(rt; leave(rt.alloc(), &rows));
+    assert!(rt; leave(rt.alloc(), &TAKEN_OUT));
 }
 
 // What is told of a database: whether it is consistent and whether it is behind, how many decisions stand, how many globals it
