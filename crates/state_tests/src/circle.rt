@@ -9,7 +9,6 @@ use model_core::model::Model;
 use plan_db::{Db, NamedEdge, Point};
 use sample_models::rounds::rounds;
 use std::alloc::{AllocError, Global};
-use std::test::Fail;
 
 // What was written how often, or nothing of what is asked.
 type Stamps = [Option<u64>; 3];
@@ -90,14 +89,47 @@ fn activate_all(alloc: Global, db: &mut Db) -> bool {
     all
 }
 
-// Puts the first before the second, takes that back, and goes on to the circle, with what is written at each step.
-fn go_round(alloc: Global, db: &mut Db) -> [Option<[Change; 3]>; 5] {
-    let first = taken(alloc, db, &Choice::Order("one", "two"));
-    let back = taken_back(alloc, db);
-    let again = taken(alloc, db, &Choice::Order("one", "two"));
-    let second = taken(alloc, db, &Choice::Order("two", "three"));
-    let third = taken(alloc, db, &Choice::Order("three", "one"));
-    [first, back, again, second, third]
+// A decision, or the last one taken back.
+#[derive(Clone, Copy)]
+enum Turn {
+    Take(Choice),
+    Back,
+}
+
+// The first is put before the second, that is taken back, and then the circle is gone round, with what is written at each step.
+const ROUND: [(Turn, [Change; 3]); 5] = [
+    (
+        Turn::Take(Choice::Order("one", "two")),
+        [Change::Written, Change::Written, Change::Same],
+    ),
+    (Turn::Back, [Change::Written, Change::Written, Change::Same]),
+    (
+        Turn::Take(Choice::Order("one", "two")),
+        [Change::Written, Change::Written, Change::Same],
+    ),
+    (
+        Turn::Take(Choice::Order("two", "three")),
+        [Change::Written, Change::Written, Change::Written],
+    ),
+    (
+        Turn::Take(Choice::Order("three", "one")),
+        [Change::Untold, Change::Untold, Change::Untold],
+    ),
+];
+
+fn written(alloc: Global, db: &mut Db, turn: &Turn) -> Option<[Change; 3]> {
+    match turn {
+        Turn::Take(choice) => taken(alloc, db, choice),
+        Turn::Back => taken_back(alloc, db),
+    }
+}
+
+fn goes_round(alloc: Global, db: &mut Db) -> bool {
+    let mut all = true;
+    for (turn, wanted) in &ROUND {
+        all = all && written(alloc, db, turn) == Some(*wanted);
+    }
+    all
 }
 
 // A point in time, by the number of its root.
@@ -150,30 +182,26 @@ fn has_edges(db: &Db) -> bool {
     }
 }
 
-// Whether there are no edges before the last decision, what each step wrote, and whether the edges are there in the end.
-fn round_told(alloc: Global, db: &mut Db) -> (bool, [Option<[Change; 3]>; 5], bool) {
+// Whether there are no edges before the last decision, each step writes what it should, and the edges are there in the end.
+fn is_told(alloc: Global, db: &mut Db) -> bool {
     let free = activate_all(alloc, db) && db.time_edges().is_err();
-    let written = go_round(alloc, db);
-    (free, written, has_edges(db))
+    free && goes_round(alloc, db) && has_edges(db)
 }
 
 // The same on a new database of the model.
-fn told_of(
-    alloc: Global,
-    model: Model,
-) -> Result<(bool, [Option<[Change; 3]>; 5], bool), AllocError>
+fn told_of(alloc: Global, model: Model) -> Result<bool, AllocError>
     requires { IsLawful model }
 {
     match Db::new(alloc, model) {
         Ok(db) => {
             let mut db = db;
-            Ok(round_told(alloc, &mut db))
+            Ok(is_told(alloc, &mut db))
         }
         Err(none) => Err(none),
     }
 }
 
-fn told(alloc: Global) -> Result<(bool, [Option<[Change; 3]>; 5], bool), AllocError> {
+fn told(alloc: Global) -> Result<bool, AllocError> {
     match rounds(alloc) {
         Ok(model) => told_of(alloc, model),
         Err(none) => Err(none),
@@ -181,19 +209,6 @@ fn told(alloc: Global) -> Result<(bool, [Option<[Change; 3]>; 5], bool), AllocEr
 }
 
 #[test]
-fn a_circle_is_told(rt: HostRuntime) -> Result<(), Fail> {
-    let (free, written, edges) = told(rt.alloc())?;
-    assert!(rt; free && edges);
-    let [first, back, again, second, third] = written;
-    let two = Some([Change::Written, Change::Written, Change::Same]);
-    assert_eq!(rt; (first, back, again), (two, two, two));
-    assert_eq!(rt;
-        second,
-        Some([Change::Written, Change::Written, Change::Written])
-    );
-    assert_eq!(rt;
-        third,
-        Some([Change::Untold, Change::Untold, Change::Untold])
-    );
-    Ok(())
+fn a_circle_is_told(rt: HostRuntime) {
+    assert_eq!(rt; told(rt.alloc()), Ok(true));
 }
