@@ -1,0 +1,10 @@
+use Rattle.std.proofs.Common.{◌≡◌, ◌++◌, drop}
+use Rattle.nddl_lexicon.specs.Lexicons.{scope_types}
+use Rattle.nddl_lexicon.specs.Shapes.{world_of}
+use Rattle.nddl_lexicon.proofs.types.scope_types.Given as goal
+
+-- those so far and those of the names that are left are all
+abbrev pub invariant-loop-entry : goal.invariant-loop-entry
+invariant-loop-entry l =
+    l.types ++ scope_types (world_of l.premises) l.entry (drop l.entry l.names)
+    ≡ scope_types (world_of l.premises) 0 l.premises.sources.heritage.basis.types.scope.now

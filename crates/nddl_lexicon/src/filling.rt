@@ -1,0 +1,56 @@
+//! The lexicon of a program.
+
+ghost use Rattle.std.specs.Prelude.{◌≡◌, [], IfOk, MatchResult, OnOk, Ok, Err};
+ghost use Rattle.nddl_lexicon.specs.Lexicons.{lexicon_of};
+ghost use Rattle.nddl_lexicon.specs.Shapes.{world_of};
+
+use super::classes::class_shapes;
+use super::names::scope_stands;
+use super::predicates::pred_shapes;
+use super::premises::Premises;
+use super::types::scope_types;
+use eu_name::sequence::Sequence;
+use nddl_terms::lexicon::Lexicon;
+use std::alloc::{AllocError, Global};
+
+// A lexicon of nothing.
+fn nothing(alloc: Global) -> Lexicon
+    ensures { result ≡ record { classes = []; preds = []; scope = []; types = [] } }
+{
+    Lexicon {
+        classes: Sequence::new(alloc),
+        preds: Sequence::new(alloc),
+        scope: Sequence::new(alloc),
+        types: Sequence::new(alloc),
+    }
+}
+
+// Fills the lexicon.
+fn fill(alloc: Global, premises: &Premises<'_>, lexicon: &mut Lexicon) -> Result<(), AllocError>
+    ensures { OnOk result (lexicon.new ≡ lexicon_of (world_of premises.now)) }
+{
+    lexicon.preds = pred_shapes(alloc, premises)?;
+    lexicon.scope = scope_stands(alloc, premises, &*lexicon)?;
+    lexicon.classes = class_shapes(alloc, premises)?;
+    lexicon.types = scope_types(alloc, premises)?;
+    Ok(())
+}
+
+// The value, if that is done.
+fn when<T: Drop>(done: Result<(), AllocError>, value: T) -> Result<T, AllocError>
+    ensures { MatchResult done (λ unit. result ≡ Ok value) (λ fault. result ≡ Err fault) }
+{
+    match done {
+        Ok(()) => Ok(value),
+        Err(fault) => Err(fault),
+    }
+}
+
+/// What is known of the program where its rules are unrolled.
+pub fn lexicon(alloc: Global, premises: &Premises<'_>) -> Result<Lexicon, AllocError>
+    ensures { IfOk result (λ lexicon. lexicon ≡ lexicon_of (world_of premises.now)) }
+{
+    let mut lexicon = nothing(alloc);
+    let done = fill(alloc, premises, &mut lexicon);
+    when(done, lexicon)
+}

@@ -1,0 +1,15 @@
+//! What is known of a program where its rules are unrolled: `lexicon(alloc, &premises)?`, once its objects are made.
+#![tactic(auto)]
+
+pub mod attributes;
+pub mod classes;
+pub mod filling;
+pub mod names;
+pub mod objects;
+pub mod predicates;
+pub mod premises;
+pub mod shapes;
+pub mod types;
+
+pub use filling::lexicon;
+pub use premises::Premises;
