@@ -13,7 +13,8 @@ use nddl_ast::TextKind;
 use nddl_ast::expression::{Creation, Init};
 use nddl_classes::class_fault;
 use nddl_lines::Basis;
-use nddl_lines::lines::{is_same_meaning, is_under};
+use nddl_lines::lines::is_same_meaning;
+use nddl_lines::under::is_under;
 use nddl_paths::Around;
 use nddl_scope::fault::note_at;
 use nddl_scope::twice::kind_if;
@@ -60,14 +61,7 @@ pub fn is_of_class(
             is_same_meaning(class, Meaning::BuiltIn(0))
                 || is_same_meaning(class, Meaning::BuiltIn(number)),
         ),
-        Meaning::Entry(entry) => is_under(
-            alloc,
-            basis.types.scope,
-            basis.decls,
-            basis.parents,
-            class,
-            entry,
-        ),
+        Meaning::Entry(entry) => is_under(alloc, basis, class, entry),
     }
 }
 

@@ -29,7 +29,8 @@ fn standing_datum(standing: Option<Standing>) -> Option<Datum>
     }
 }
 
-fn standing_at(standing: &[Standing], entry: usize) -> Option<Standing>
+/// What the name of this number stands for, if it is an object's.
+pub fn standing_at(standing: &[Standing], entry: usize) -> Option<Standing>
     ensures { result ≡ slice_get standing.now entry }
 {
     Some(*standing.get(entry)?)

@@ -1,4 +1,2 @@
 pub mod Adding
-pub mod Fewer
 pub mod Passing
-pub mod Ways

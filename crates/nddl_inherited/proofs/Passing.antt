@@ -15,7 +15,7 @@ use Rattle.nddl_scope.specs.declared.declared.Declared.{Declared}
 use Rattle.nddl_lines.specs.Ancestors.{line_from, parent_in}
 use Rattle.nddl_lines.specs.Lines.{is_rooted}
 use Rattle.nddl_inherited.specs.Shorter.{AreShorter, adding_along, adds_members, passed_over}
-use Rattle.nddl_inherited.proofs.Ways.{ancestry_is, line_of_none, no_parent_is, parent_is, short_way}
+use Rattle.nddl_lines.proofs.Ways.{ancestry_is, line_of_none, no_parent_is, parent_is, short_way}
 
 -- those that come first in the order, so many, have what stands next on their lines
 pub record ArePassed (names : List Declared) (program : List Decl) (parents : List (Option ℕ)) (order : List ℕ) (count : ℕ) (short : List (Option ℕ)) : Type 0 where

@@ -11,7 +11,8 @@ use lineage::Lineage;
 use nddl_ast::declaration::{Decl, Member};
 use nddl_lines::Basis;
 use nddl_lines::circles::is_rooted;
-use nddl_lines::lines::{above, ancestry};
+use nddl_lines::lines::{above, ancestry, line_along};
+use nddl_lines::parents::parent_in;
 use nddl_scope::{Meaning, Scope};
 use std::alloc::{AllocError, Global};
 
@@ -55,13 +56,6 @@ fn copied(alloc: Global, some: &[Option<usize>]) -> Result<Vec<Option<usize>>, A
         copy.push(*one)?;
     }
     Ok(copy)
-}
-
-// What the thing of this number stands under.
-fn parent_in(parents: &[Option<usize>], number: usize) -> Option<usize>
-    ensures { result ≡ parent_in parents.now number }
-{
-    *parents.get(number)?
 }
 
 // What stands next on a line, where those are passed over that add nothing.
@@ -126,7 +120,7 @@ pub fn adding_line(
 {
     let basis = &heritage.basis;
     if is_rooted(basis.lineage.standing(entry)) {
-        ancestry(alloc, heritage.short, entry)
+        line_along(alloc, heritage.short, entry)
     } else {
         ancestry(alloc, basis.parents, entry)
     }

@@ -12,9 +12,9 @@ use super::types::fine_meaning;
 use lineage::Lineage;
 use nddl_ast::declaration::Decl;
 use nddl_ast::expression::Type;
-use nddl_lines::Basis;
 use nddl_lines::circles::is_rooted;
 use nddl_lines::decls::{decl_at, typedef_type};
+use nddl_lines::{Basis, Parents};
 use nddl_scope::{Scope, Sort};
 use nddl_sorts::{Extent, TypeMeaning, Types};
 use std::alloc::{AllocError, Global};
@@ -24,7 +24,7 @@ pub fn known_meanings(
     alloc: Global,
     scope: &Scope,
     decls: &[&Decl],
-    parents: &[Option<usize>],
+    parents: &Parents,
     lineage: &Lineage,
     whole: &Extent,
 ) -> Result<Vec<Option<TypeMeaning>>, AllocError>
@@ -74,13 +74,14 @@ fn meaning_by<'a>(
     alloc: Global,
     scope: &'a Scope,
     decls: &'a [&'a Decl],
-    parents: &'a [Option<usize>],
+    parents: &'a Parents,
     lineage: &'a Lineage,
     whole: &'a Extent,
     known: &'a [Option<TypeMeaning>],
     entry: usize,
 ) -> Result<Option<TypeMeaning>, AllocError>
-    requires { whole.now ≡ Whole }
+    requires parents { parents.now ≡ parents_of scope.now (map (λ decl. decl.now) decls.now) }
+    requires whole { whole.now ≡ Whole }
     ensures { IfOk result (λ meaning. meaning ≡ known_meaning
         (record {
           names = scope.now;

@@ -1,2 +1,6 @@
 pub mod Above
 pub mod Climbing
+pub mod Extending
+pub mod Fewer
+pub mod Jumping
+pub mod Ways

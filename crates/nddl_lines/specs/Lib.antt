@@ -2,3 +2,4 @@ pub mod Ancestors
 pub mod Decls
 pub mod Facts
 pub mod Lines
+pub mod Shortcuts

@@ -1,5 +1,9 @@
 //! What is known of a program where its types are read.
 
+ghost use Rattle.std.specs.Prelude.{◌≡◌, map};
+ghost use Rattle.nddl_lines.specs.Lines.{parents_of};
+
+use super::shortcuts::Parents;
 use lineage::Lineage;
 use nddl_ast::declaration::Decl;
 use nddl_sorts::Types;
@@ -9,6 +13,7 @@ use nddl_sorts::Types;
 pub struct Basis<'a> {
     pub types: Types<'a>,
     pub decls: &'a [&'a Decl],
-    pub parents: &'a [Option<usize>],
+    pub parents: &'a Parents,
     pub lineage: &'a Lineage,
+    ghost are_parents: { parents.now ≡ parents_of types.scope.now (map (λ decl. decl.now) decls.now) },
 }

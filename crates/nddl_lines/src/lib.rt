@@ -1,6 +1,7 @@
 //! What the classes and the typedefs of a program stand under: `parents_of(alloc, &scope, decls)?` has it by the numbers
-//! of their names in the scope. Over their lineage `note_circles` tells which of them are their own ancestors, `ancestry`
-//! and `is_under` what classes lead up to, and `note_objects` which objects in the set of a type aren't of its class.
+//! of their names in the scope, and `Parents::of(alloc, parents, order)?` keeps it with shortcuts along their lines. Over
+//! their lineage `note_circles` tells which of them are their own ancestors, `ancestry` what classes lead up to, `is_under`
+//! whether one class stands under another, and `note_objects` which objects in the set of a type aren't of its class.
 #![tactic(auto)]
 
 pub mod basis;
@@ -9,5 +10,8 @@ pub mod decls;
 pub mod lines;
 pub mod objects;
 pub mod parents;
+pub mod shortcuts;
+pub mod under;
 
 pub use basis::Basis;
+pub use shortcuts::Parents;

@@ -1,15 +1,24 @@
 //! What classes lead up to.
 
 ghost use Rattle.std.specs.Prelude.{◌≡◌, IfOk, Some, length, map};
-ghost use Rattle.nddl_lines.specs.Ancestors.{above, is_extended, is_same_meaning, is_under, line_from, ancestry, means, parent_in};
+ghost use Rattle.nddl_lines.specs.Ancestors.{above, ancestry, is_extended, is_same_meaning, line_from, means};
 
 use super::decls::{class_parent, declaration_with_body};
+use super::parents::parent_in;
+use super::shortcuts::Parents;
 use nddl_ast::declaration::Decl;
 use nddl_scope::{Meaning, Scope};
 use std::alloc::{AllocError, Global};
 
-/// The thing of this number and what it leads up to, in order. The things stand under these.
-pub fn ancestry(
+/// The thing of this number and what it leads up to, in order.
+pub fn ancestry(alloc: Global, parents: &Parents, number: usize) -> Result<Vec<usize>, AllocError>
+    ensures { IfOk result (λ line. line.items ≡ ancestry parents.now number) }
+{
+    line_along(alloc, parents.as_slice(), number)
+}
+
+/// The same, where the things stand under these.
+pub fn line_along(
     alloc: Global,
     parents: &[Option<usize>],
     number: usize,
@@ -28,13 +37,6 @@ pub fn ancestry(
         }
     }
     Ok(line)
-}
-
-// What the thing of this number stands under.
-fn parent_in(parents: &[Option<usize>], number: usize) -> Option<usize>
-    ensures { result ≡ parent_in parents.now number }
-{
-    *parents.get(number)?
 }
 
 /// What the class of this number extends.
@@ -58,7 +60,8 @@ pub fn is_same_meaning(one: Meaning, other: Meaning) -> bool
     }
 }
 
-fn means(one: Meaning, other: Option<Meaning>) -> bool
+/// Whether the other one, if there is one, is the same as this.
+pub fn means(one: Meaning, other: Option<Meaning>) -> bool
     ensures { result ≡ means one other }
 {
     match other {
@@ -67,8 +70,8 @@ fn means(one: Meaning, other: Option<Meaning>) -> bool
     }
 }
 
-// Whether a class of the line extends this one.
-fn is_extended(scope: &Scope, decls: &[&Decl], class: Meaning, line: &[usize]) -> bool
+/// Whether a class of the line extends this one.
+pub fn is_extended(scope: &Scope, decls: &[&Decl], class: Meaning, line: &[usize]) -> bool
     ensures { result ≡ is_extended scope.now (map (λ decl. decl.now) decls.now) class line.now }
 {
     for entry in line {
@@ -77,25 +80,4 @@ fn is_extended(scope: &Scope, decls: &[&Decl], class: Meaning, line: &[usize]) -
         }
     }
     false
-}
-
-/// Whether the class of this number is the other one, or under it.
-pub fn is_under(
-    alloc: Global,
-    scope: &Scope,
-    decls: &[&Decl],
-    parents: &[Option<usize>],
-    class: Meaning,
-    entry: usize,
-) -> Result<bool, AllocError>
-    ensures { IfOk result (λ under.
-        under ≡ is_under scope.now (map (λ decl. decl.now) decls.now) parents.now class entry) }
-{
-    if is_same_meaning(class, Meaning::BuiltIn(0))
-        || is_same_meaning(class, Meaning::Entry(entry))
-    {
-        return Ok(true);
-    }
-    let line = ancestry(alloc, parents, entry)?;
-    Ok(is_extended(scope, decls, class, line.as_slice()))
 }

@@ -10,7 +10,8 @@ ghost use Rattle.nddl_lines.specs.Facts.{faults_of_foreign, faults_of_objects, i
 use super::basis::Basis;
 use super::circles::is_rooted;
 use super::decls::decl_at;
-use super::lines::{is_same_meaning, is_under};
+use super::lines::is_same_meaning;
+use super::under::is_under;
 use nddl_ast::TextKind;
 use nddl_ast::declaration::Decl;
 use nddl_ast::expression::{Bounds, Init, Value};
@@ -158,7 +159,7 @@ fn is_outside_entry(
 {
     let scope = basis.types.scope;
     if scope.is_class(entry) && is_rooted(basis.lineage.standing(entry)) {
-        let under = is_under(alloc, scope, basis.decls, basis.parents, class, entry)?;
+        let under = is_under(alloc, basis, class, entry)?;
         Ok(!under)
     } else {
         Ok(false)

@@ -1,6 +1,6 @@
 //! Objects as a model has them.
 
-ghost use Rattle.std.specs.Prelude.{◌≡◌, ◌++◌, ◌∷◌, [], IfOk, OnOk, codes, pos};
+ghost use Rattle.std.specs.Prelude.{◌≡◌, ◌++◌, ◌∷◌, [], IfOk, OnOk};
 ghost use Rattle.nddl_lines.specs.Facts.{facts_of};
 ghost use Rattle.nddl_schema.specs.Classes.{class_numbers};
 ghost use Rattle.nddl_objects.specs.Modelled.{builtin_of, datum_value, field_value, field_values, fields_of_class, member_value, modelled_object, modelled_objects, object_kind};
@@ -18,24 +18,15 @@ use nddl_lines::Basis;
 use nddl_lines::lines::ancestry;
 use nddl_schema::numbers::class_number;
 use nddl_scope::{Meaning, Scope, Sort};
+use nddl_variables::values::value_at;
 use std::alloc::{AllocError, Global};
-
-// The number as a value; there is no memory for 2^31 of a kind.
-fn as_value(number: usize) -> Result<i32, AllocError>
-    ensures { IfOk result (λ value. value ≡ pos number) }
-{
-    if number > 2_147_483_647 {
-        return Err(AllocError);
-    }
-    Ok(number as i32)
-}
 
 // A member is its place in its enum.
 fn member_value(sort: Sort) -> Result<i32, AllocError>
     ensures { IfOk result (λ value. value ≡ member_value sort) }
 {
     match sort {
-        Sort::Member { place, .. } => as_value(place as usize),
+        Sort::Member { place, .. } => value_at(place as usize),
         _ => Ok(0),
     }
 }
@@ -59,7 +50,7 @@ pub fn datum_value(scope: &Scope, datum: Option<Datum>) -> Result<i32, AllocErro
         Some(Datum::Number(number)) => Ok(number),
         Some(Datum::Truth(truth)) => Ok(if truth { 1 } else { 0 }),
         Some(Datum::Member(entry)) => entry_value(scope, entry),
-        Some(Datum::Object(number)) => as_value(number),
+        Some(Datum::Object(number)) => value_at(number),
     }
 }
 

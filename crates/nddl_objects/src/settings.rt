@@ -3,7 +3,7 @@
 ghost use Rattle.std.specs.Prelude.{◌≡◌, IfOk, OnOk};
 ghost use Rattle.nddl_scope.specs.Finding.{earliest_fault};
 ghost use Rattle.nddl_data.specs.Scene.{grounds_of, scenery_of};
-ghost use Rattle.nddl_objects.specs.Settings.{are_crossed, are_wrong_settings, is_below, is_over, setting_data, setting_faults_of, setting_wants};
+ghost use Rattle.nddl_objects.specs.Settings.{are_crossed, are_wrong_settings, is_below, is_over, setting_data, setting_faults_of};
 
 use eu_name::sequence::Sequence;
 use nddl_ast::TextKind;

@@ -5,7 +5,7 @@ ghost use Rattle.std.specs.Option.{option_copied};
 ghost use Rattle.nddl_scope.specs.Finding.{earliest_fault};
 ghost use Rattle.nddl_lines.specs.Facts.{facts_of};
 ghost use Rattle.nddl_data.specs.Scene.{grounds_of, scenery_of};
-ghost use Rattle.nddl_passed.specs.Passing.{constructor_scene, data_above, fitting_arguments, handed_arguments, handed_data, has_foreign_from, has_late_super, has_super, is_foreign_formal, is_super, is_wrong_super, passed_above, passed_down, passed_from, passed_here, passing_faults, read_faults, silent_arguments, super_arguments, super_data, wants_above};
+ghost use Rattle.nddl_passed.specs.Passing.{constructor_scene, data_above, handed_arguments, handed_data, has_foreign_from, has_late_super, has_super, is_foreign_formal, is_super, is_wrong_super, passed_above, passed_down, passed_from, passed_here, passing_faults, read_faults, silent_arguments, super_arguments, super_data, wants_above};
 
 use super::classes::{body_decl, constructor_at, constructor_formals, constructor_sets, line_up};
 use eu_name::sequence::Sequence;

@@ -73,8 +73,8 @@ fn line_field(basis: &Basis<'_>, constant: bool, name: &Text, line: &[usize]) ->
     }
 }
 
-// The field of this name that one of the classes declares.
-fn field_along<'a>(
+/// The field of this name that one of the classes declares.
+pub fn field_along<'a>(
     scope: &Scope,
     decls: &[&'a Decl],
     name: &Text,

@@ -1,21 +1,18 @@
 //! What a `new` makes: the object, and those that its constructors make in turn.
 
-ghost use Rattle.std.specs.Prelude.{◌≡◌, None, IfOk, OnOk, map, if◌then◌else◌};
-ghost use Rattle.std.specs.List.{filter_map};
-ghost use Rattle.std.specs.Option.{option_copied, option_map_or};
+ghost use Rattle.std.specs.Prelude.{◌≡◌, None, IfOk, OnOk};
+ghost use Rattle.std.specs.Option.{option_map_or};
 ghost use Rattle.nddl_lines.specs.Facts.{facts_of};
-ghost use Rattle.nddl_schema.specs.Classes.{member_field};
-ghost use Rattle.nddl_paths.specs.Fields.{field_along, named_typed};
 ghost use Rattle.nddl_data.specs.Scene.{grounds_of, scenery_of};
 ghost use Rattle.nddl_passed.specs.Passing.{constructor_scene, passing_faults};
 ghost use Rattle.nddl_running.specs.Construction.{asked_of, construction_of, noted, subject_of};
-ghost use Rattle.nddl_running.specs.Made.{arguments_read, asked_object, body_run, builtin_run, class_run, classes_run, field_given, fields_of, finished, init_set, is_made, is_outside_field, made_by, nested_name, nested_set, new_datum, new_made, next_datum, number_set, object_made, object_run, outside_faults, part_run, parts_run, value_set};
+ghost use Rattle.nddl_running.specs.Made.{asked_object, body_run, builtin_run, class_run, classes_run, field_given, fields_of, finished, init_set, is_outside_field, made_by, nested_name, nested_set, new_datum, new_made, next_datum, number_set, object_run, part_run, parts_run, value_set};
 
 use super::finished::note_finished;
 use super::making::{Making, Request, Subject};
 use eu_name::text::Text;
 use nddl_ast::TextKind;
-use nddl_ast::declaration::{Decl, Member, Set, Typed};
+use nddl_ast::declaration::{Member, Set};
 use nddl_ast::expression::{Creation, Expr, Init};
 use nddl_ast::name::Name;
 use nddl_constructors::bodies::{field_in_line, field_kind, formals_seen};
@@ -25,47 +22,15 @@ use nddl_data::{
     Datum, FieldValue, Ground, MadeObject, Scene, is_outside_type, note_unmade, settled_data,
     settled_datum,
 };
-use nddl_inherited::members_of;
 use nddl_joined::Place;
 use nddl_lines::lines::ancestry;
 use nddl_passed::classes::{body_decl, constructor_formals, constructor_sets};
 use nddl_passed::{Passed, constructor_at, line_up, made_class, note_passing, passed_down};
-use nddl_paths::fields::has_name;
+use nddl_paths::fields::field_along;
+use nddl_scope::Meaning;
 use nddl_scope::fault::note_at;
 use nddl_scope::twice::kind_if;
-use nddl_scope::{Meaning, Scope};
 use std::alloc::{AllocError, Global};
-
-// The field of this name that one of the classes declares.
-fn field_along<'a>(
-    scope: &Scope,
-    decls: &[&'a Decl],
-    name: &Text,
-    line: &[usize],
-) -> Option<&'a Typed>
-    ensures { option_copied result ≡ field_along scope.now (map (λ decl. decl.now) decls.now) name.now line.now }
-{
-    for entry in line {
-        if let Some(typed) = field_named(members_of(scope, decls, *entry), name) {
-            return Some(typed);
-        }
-    }
-    None
-}
-
-// The field of this name among the members.
-fn field_named<'a>(members: &'a [Member], name: &Text) -> Option<&'a Typed>
-    ensures { option_copied result ≡ named_typed name.now (filter_map member_field members.now) }
-{
-    for member in members {
-        if let Member::Field(typed) = member {
-            if has_name(typed, name) {
-                return Some(typed);
-            }
-        }
-    }
-    None
-}
 
 // Whether the value of the field, which a constructor of the class of this number sets, lies outside of its type.
 fn is_outside_field(

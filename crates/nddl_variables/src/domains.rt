@@ -55,7 +55,7 @@ fn type_domain(
         (TypeKind::Int, Extent::Range { least, greatest }) => range(*least, *greatest),
         _ => {
             let values = listed_values(alloc, scope, enums, kind, extent)?;
-            set(alloc, values.as_slice())
+            set_of_values(alloc, values.as_slice())
         }
     }
 }
@@ -67,8 +67,8 @@ pub fn range(least: i32, greatest: i32) -> Result<Dom, AllocError>
     Dom::range(least, greatest).ok_or(AllocError)
 }
 
-// The set of the values. Nothing is wrong with the type, so there is one, and there are few.
-fn set(alloc: Global, values: &[i32]) -> Result<Dom, AllocError>
+/// The set of the values. Where nothing is wrong with what they are read from there is one, and there are few.
+pub fn set_of_values(alloc: Global, values: &[i32]) -> Result<Dom, AllocError>
     ensures { IfOk result (λ domain. domain ≡ Set (ascending_of values.now)) }
 {
     match Dom::set_of(alloc, values) {

@@ -62,8 +62,8 @@ fn places_below(alloc: Global, count: usize) -> Result<Vec<i32>, AllocError>
     Ok(places)
 }
 
-// The place as a value.
-fn value_at(place: usize) -> Result<i32, AllocError>
+/// The number as a value.
+pub fn value_at(place: usize) -> Result<i32, AllocError>
     ensures { IfOk result (λ value. value ≡ pos place) }
 {
     if place > 2_147_483_647 {

@@ -4,7 +4,7 @@ use Rattle.std.proofs.lemmas.Option.{slice_get-get_or}
 use Rattle.lineage.specs.Lines.{IsLineageOf}
 use Rattle.nddl_inherited.specs.Shorter.{passed_over}
 use Rattle.nddl_inherited.proofs.Passing.{ArePassed, all_shorter, none_passed, passes_on}
-use Rattle.nddl_inherited.proofs.Ways.{within_way}
+use Rattle.nddl_lines.proofs.Ways.{within_way}
 use Rattle.nddl_inherited.proofs.shorter.shortened.Goals as goal
 
 pub loop-entry-init : goal.loop-entry-init

@@ -7,7 +7,7 @@ use Rattle.std.proofs.lemmas.Option.{same_Some, slice_get_within}
 use Rattle.lineage.specs.Lines.{IsOnCircle, LeadsUp, StandsUnder}
 use Rattle.lineage.proofs.Chains.{circle_returns}
 use Rattle.nddl_lines.specs.Ancestors.{ancestry, line_from, parent_in}
-use Rattle.nddl_inherited.proofs.Fewer.{AreDistinct, few_distinct}
+use Rattle.nddl_lines.proofs.Fewer.{AreDistinct, few_distinct}
 
 -- what leads up to a root is on no circle
 pub rooted_off : (parents : List (Option ℕ)) (number : ℕ) (path : List ℕ) (root : ℕ) → LeadsUp parents number path root

@@ -1,8 +1,8 @@
 use Rattle.std.proofs.Common.{◌++◌, ◌-◌, ◌+◌, length, ap, ◌∙◌}
 use Rattle.nddl_lines.specs.Ancestors.{line_from, ancestry}
 use Rattle.nddl_lines.proofs.Climbing.{line_step, line_end, line_none}
-use Rattle.nddl_lines.proofs.lines.ancestry.Goals as goal
-use Rattle.nddl_lines.proofs.lines.ancestry.Goals.{else-loop-test, then-loop-test+in-None}
+use Rattle.nddl_lines.proofs.lines.line_along.Goals as goal
+use Rattle.nddl_lines.proofs.lines.line_along.Goals.{else-loop-test, then-loop-test+in-None}
 
 pub loop-preserved : goal.loop-preserved
 loop-preserved c =

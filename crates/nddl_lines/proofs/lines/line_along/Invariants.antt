@@ -1,6 +1,6 @@
 use Rattle.std.proofs.Common.{◌≡◌, ◌++◌, ◌-◌, length}
 use Rattle.nddl_lines.specs.Ancestors.{line_from, ancestry}
-use Rattle.nddl_lines.proofs.lines.ancestry.Given as goal
+use Rattle.nddl_lines.proofs.lines.line_along.Given as goal
 
 -- the line so far and what it goes on with are all
 abbrev pub invariant-loop : goal.invariant-loop
