@@ -6,7 +6,9 @@ pub mod amounts;
 pub mod counting;
 pub mod limits;
 pub mod reads;
+pub mod weighing;
 
 pub use amounts::Amounts;
 pub use counting::tree_amounts;
 pub use limits::{Weighed, note_limits};
+pub use weighing::{note_tree_limits, weigh};

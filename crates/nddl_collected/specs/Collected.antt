@@ -15,6 +15,7 @@ use Rattle.nddl_ast.specs.declared.statement.Stmt.{Stmt}
 use Rattle.nddl_ast.specs.declared.statement.Stmt.TheVariants as stmts
 use Rattle.nddl_ast.specs.Block.{statements_of}
 use Rattle.nddl_ast.specs.Tree.{Statements, Nothing}
+use Rattle.nddl_joined.specs.declared.place.Place.{Place}
 use Rattle.nddl_joined.specs.declared.site.Site.{Site}
 use Rattle.nddl_joined.specs.Place.{file_of_place}
 use Rattle.nddl_scope.specs.Index.{Noted}
@@ -75,13 +76,40 @@ decl_statements (Some place) decl = class_statements place decl
 abbrev pub text_statements : List Decl → TextPlace → Statements
 text_statements program place = option_map_or (decl_statements place.member) (slice_get program place.decl) Nothing
 
+-- ---- where a rule is
+
+-- the byte of a predicate's name
+abbrev pub member_head : Member → ℕ
+member_head (members.Predicate at name some) = name.at
+member_head member = 0
+
+-- the byte of the name of the predicate that is the member of this place
+abbrev pub class_head : ℕ → Decl → ℕ
+class_head place (decls.Class at name parent some) = option_map_or member_head (slice_get some place) 0
+class_head place decl = 0
+
+-- the byte of the first name of a rule that is a declaration of its own
+abbrev pub rule_head : Decl → ℕ
+rule_head (decls.Rule class predicate body) = class.at
+rule_head decl = 0
+
+abbrev pub decl_head : Option ℕ → Decl → ℕ
+decl_head None decl = rule_head decl
+decl_head (Some place) decl = class_head place decl
+
+-- where the rule at this place is: at its first name, or at that of the predicate in whose body it stands
+abbrev pub text_head : List Decl → TextPlace → Place
+text_head program place =
+    record { decl = place.decl; at = option_map_or (decl_head place.member) (slice_get program place.decl) 0 }
+
 -- ---- trees
 
--- the tree of these statements of a file, for the predicate of this number
-abbrev pub tree_with : Noted → ℕ → Pred → List ℕ → Statements → PlainTree
-tree_with scope number pred file statements = record {
+-- the tree of these statements of a file, with the rule at this place, for the predicate of this number
+abbrev pub tree_with : Noted → ℕ → Pred → List ℕ → Place → Statements → PlainTree
+tree_with scope number pred file place statements = record {
   pred = number;
   file = file;
+  place = place;
   body = statements;
   names = block_names (record { scope = scope; params = pred.params }) no_sight no_tally statements;
 }
@@ -89,8 +117,9 @@ tree_with scope number pred file statements = record {
 -- the tree of the rule at this place, for the predicate of this number, where its file is there
 abbrev pub tree_at : RuleTexts → ℕ → Pred → TextPlace → List PlainTree
 tree_at texts number pred place =
-    option_map_or (λ file. tree_with texts.scope number pred file.name (text_statements texts.program place) ∷ [])
-    (file_of_place texts.files texts.sites (record { decl = place.decl; at = 0 })) []
+    let head = text_head texts.program place in
+    option_map_or (λ file. tree_with texts.scope number pred file.name head (text_statements texts.program place) ∷ [])
+    (file_of_place texts.files texts.sites head) []
 
 -- the trees of these predicates, of which the first has this number, one predicate after another: a predicate has those of
 -- its ancestors' rules first

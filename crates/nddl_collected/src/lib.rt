@@ -2,6 +2,7 @@
 //! classes and predicates of a table.
 #![tactic(auto)]
 
+pub mod heads;
 pub mod stmts;
 pub mod texts;
 pub mod trees;

@@ -8,8 +8,9 @@ ghost use Rattle.nddl_reads.specs.Sight.{no_sight};
 ghost use Rattle.nddl_reads.specs.Tally.{no_tally};
 ghost use Rattle.nddl_names.specs.Blocks.{block_names};
 ghost use Rattle.nddl_written.specs.Written.{noted_preds, preds_above, texts_written};
-ghost use Rattle.nddl_collected.specs.Collected.{all_trees, text_statements, texts_of, tree_at, tree_with, trees_from};
+ghost use Rattle.nddl_collected.specs.Collected.{all_trees, text_head, text_statements, texts_of, tree_at, tree_with, trees_from};
 
+use super::heads::text_head;
 use super::stmts::text_stmts;
 use super::texts::RuleTexts;
 use eu_name::sequence::Sequence;
@@ -131,11 +132,8 @@ fn push_tree(
 ) -> Result<(), AllocError>
     ensures { OnOk result (trees.new ≡ trees.old ++ tree_at (texts_of texts.now) number pred.now place) }
 {
-    let from = Place {
-        decl: place.decl,
-        at: 0,
-    };
-    match file_of(texts.files, texts.sites, from) {
+    let head = text_head(texts.decls, place);
+    match file_of(texts.files, texts.sites, head) {
         Some(file) => {
             let tree = tree_of(alloc, texts, number, pred, &file.name, place)?;
             trees.push(tree)
@@ -154,10 +152,11 @@ fn tree_of(
     place: TextPlace,
 ) -> Result<RuleTree, AllocError>
     ensures { IfOk result (λ tree. tree ≡ tree_with (texts_of texts.now).scope number pred.now file.now
-        (text_statements (texts_of texts.now).program place)) }
+        (text_head (texts_of texts.now).program place) (text_statements (texts_of texts.now).program place)) }
 {
+    let head = text_head(texts.decls, place);
     let body = text_stmts(alloc, texts.decls, place)?;
-    tree_with(alloc, texts.scope, number, pred, file, body)
+    tree_with(alloc, texts.scope, number, pred, file, head, body)
 }
 
 // The tree of these statements.
@@ -167,9 +166,10 @@ fn tree_with(
     number: usize,
     pred: &Pred,
     file: &Text,
+    place: Place,
     body: Vec<Stmt>,
 ) -> Result<RuleTree, AllocError>
-    ensures { IfOk result (λ tree. tree ≡ tree_with scope.now number pred.now file.now (statements_of body.items)) }
+    ensures { IfOk result (λ tree. tree ≡ tree_with scope.now number pred.now file.now place (statements_of body.items)) }
 {
     let sources = NameSources {
         scope,
@@ -177,11 +177,12 @@ fn tree_with(
     };
     let names = names_in(alloc, &sources, body.as_slice());
     let from = both(pred_number(number), file.copy());
-    made(body, both(from, names))
+    made(place, body, both(from, names))
 }
 
 // The tree of these statements and the other parts.
 fn made(
+    place: Place,
     body: Vec<Stmt>,
     parts: Result<((u32, Text), Sequence<ReadName>), AllocError>,
 ) -> Result<RuleTree, AllocError>
@@ -189,6 +190,7 @@ fn made(
         (λ found. result ≡ Ok (record {
           pred = found.0.0;
           file = found.0.1;
+          place = place;
           body = statements_of body.items;
           names = found.1;
         }))
@@ -198,6 +200,7 @@ fn made(
         Ok(((pred, file), names)) => Ok(RuleTree {
             pred,
             file,
+            place,
             body,
             names: names.into_vec(),
         }),

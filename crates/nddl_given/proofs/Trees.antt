@@ -45,7 +45,7 @@ use Rattle.nddl_lexer.specs.Spelling.{IsNumberInRange}
 use Rattle.nddl_statements.specs.Grammar.{IsWrittenName, IsPath, Writes, IsLiteral, IsExpr, IsWrittenValue, AreExpressions, IsCreation, IsInit, IsBase, IsBounds, IsType, IsTyped, IsStart, IsVariable, IsCall, IsAsk, IsCondition, Encloses, IsLoneIf, AreStatements, IsBraced}
 use Rattle.nddl_parser.specs.Grammar.{IsPredicatePart, IsSet, IsMember, IsFile, IsParent, IsDecl, IsText}
 use Rattle.nddl_given.specs.Fine.{IsFineName, IsFinePath, IsFineConstant, IsFineExpr, IsFineValue, IsFineCreation, IsFineInit, IsFineBase, IsFineBounds, IsFineType, IsFineTyped, IsFineStart, IsFineVariable, IsFineCall, IsFineAsk, IsFineCondition, AreFineStatements, IsFinePart, IsFineSet, IsFineMember, IsFineParent, IsFineDecl}
-use Rattle.nddl_given.specs.Nodes.{names_nodes, path_nodes, expr_nodes, creation_nodes, init_nodes, bounds_nodes, type_nodes, typed_nodes, start_nodes, variable_nodes, call_nodes, ask_nodes, condition_nodes, statements_nodes, block_nodes, part_nodes, set_nodes, member_nodes, parent_nodes, decl_nodes}
+use Rattle.nddl_given.specs.Nodes.{names_nodes, path_nodes, expr_nodes, creation_nodes, init_nodes, base_node, bounds_nodes, type_nodes, typed_nodes, start_nodes, variable_nodes, call_nodes, ask_nodes, condition_nodes, statements_nodes, block_nodes, part_nodes, set_nodes, member_nodes, parent_nodes, decl_nodes}
 use Rattle.nddl_given.proofs.Symbols.{IsFineSymbol, AreFineSymbols, places_of}
 use Rattle.nddl_given.proofs.Shows.{Picks, Words, Shows, both, behind, first_of, second_of, placed, nothing, many, following, listed, separated, each_place, same_nodes}
 
@@ -118,17 +118,12 @@ init_shows (inits.New creation) = creation_shows creation
 
 -- ---- types
 
-base_shows : (at : ℕ) (base : BaseType) → Shows (IsBase at base) (IsFineBase base) (at ∷ [])
+base_shows : (at : ℕ) (base : BaseType) → Shows (IsBase at base) (IsFineBase base) (base_node at base ∷ [])
 base_shows at bases.Int = placed (sorts.Word keywords.Int) at
 base_shows at bases.Float = placed (sorts.Word keywords.Float) at
 base_shows at bases.Bool = placed (sorts.Word keywords.Bool) at
 base_shows at bases.Str = placed (sorts.Word keywords.Str) at
-base_shows at (bases.Named name) = record {
-  shown = λ symbols is.
-      let shown = (name_shows name).shown symbols is.0 in
-      let P : ℕ → Type 0 = λ place. Picks (place ∷ []) (places_of symbols) in
-      (shown.0, subst P (sym is.1) shown.1);
-}
+base_shows at (bases.Named name) = record { shown = λ symbols is. (name_shows name).shown symbols is.0 }
 
 values_show : (values : List Value) → Shows (AreSeparated sorts.Comma IsWrittenValue values) ((0 < length values) × All IsFineValue values) (map value_place values)
 values_show values = same_nodes (AreSeparated sorts.Comma IsWrittenValue values) ((0 < length values) × All IsFineValue values)

@@ -6,6 +6,8 @@ use Rattle.nddl_ast.specs.declared.name.Name.{Name}
 use Rattle.nddl_ast.specs.declared.name.Path.{Path}
 use Rattle.nddl_ast.specs.declared.expression.Expr.{Expr}
 use Rattle.nddl_ast.specs.declared.expression.Expr.TheVariants as exprs
+use Rattle.nddl_ast.specs.declared.expression.BaseType.{BaseType}
+use Rattle.nddl_ast.specs.declared.expression.BaseType.TheVariants as bases
 use Rattle.nddl_ast.specs.declared.expression.Bounds.{Bounds}
 use Rattle.nddl_ast.specs.declared.expression.Bounds.TheVariants as bounds
 use Rattle.nddl_ast.specs.declared.expression.Type as types
@@ -55,8 +57,13 @@ bounds_nodes bounds.All = []
 bounds_nodes (bounds.Range at least greatest) = at ∷ value_place least ∷ value_place greatest ∷ []
 bounds_nodes (bounds.Set at values) = at ∷ map value_place values
 
+-- where a type begins: at its name, if it has one
+abbrev pub base_node : ℕ → BaseType → ℕ
+base_node at (bases.Named name) = name.at
+base_node at base = at
+
 abbrev pub type_nodes : types.Type → List ℕ
-type_nodes of = of.at ∷ bounds_nodes of.bounds
+type_nodes of = base_node of.at of.base ∷ bounds_nodes of.bounds
 
 abbrev pub typed_nodes : Typed → List ℕ
 typed_nodes typed = type_nodes typed.declared ++ typed.name.at ∷ []

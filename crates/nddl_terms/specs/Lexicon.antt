@@ -1,5 +1,5 @@
 -- What is known of classes, predicates and types.
-use Rattle.std.specs.Prelude.{ℕ, ◌==◌, ◌&&◌, ℤ, pos, negsuc, List, [], Option, Some, None, slice_get, codes}
+use Rattle.std.specs.Prelude.{ℕ, ℤ, pos, negsuc, List, [], Option, Some, None, slice_get, codes}
 use Rattle.std.specs.Prelude.{if◌then◌else◌}
 use Rattle.std.specs.List.{position_from}
 use Rattle.std.specs.Option.{option_map, option_map_or}
@@ -8,7 +8,7 @@ use Rattle.eu_name.specs.declared.name.Part.{Part}
 use Rattle.eu_name.specs.declared.name.Part.TheVariants as parts
 use Rattle.nddl_terms.specs.declared.lexicon.Attribute.{Attribute}
 use Rattle.nddl_terms.specs.declared.lexicon.Lexicon.{Lexicon}
-use Rattle.nddl_terms.specs.declared.lexicon.PredShape.{PredShape}
+use Rattle.nddl_terms.specs.Preds.{class_named}
 
 -- the number of the field or parameter of this name
 abbrev pub attribute_number : List ℕ → List Attribute → Option ℕ
@@ -30,10 +30,7 @@ pred_params lexicon pred = option_map_or (λ shape. shape.params) (slice_get lex
 abbrev pub pred_class : Lexicon → ℕ → ℕ
 pred_class lexicon pred = option_map_or (λ shape. shape.class) (slice_get lexicon.preds pred) 0
 
--- the predicate of this name of the class among these
-abbrev pub class_named : ℕ → List ℕ → List PredShape → Option ℕ
-class_named class name preds = position_from (λ pred. pred.class == class && bytes_eq name pred.name) 0 preds
-
+-- the predicate of this name of the class
 abbrev pub pred_named : Lexicon → ℕ → List ℕ → Option ℕ
 pred_named lexicon class name = class_named class name lexicon.preds
 

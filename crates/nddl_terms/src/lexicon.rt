@@ -1,8 +1,9 @@
 //! What is known of classes, predicates, types and the names of files once all objects are made.
 
 ghost use Rattle.std.specs.Prelude.{◌≡◌, IfOk, slice_get};
-ghost use Rattle.nddl_terms.specs.Lexicon.{attribute_class, attribute_number, shape_fields, class_named, part_class, part_called, place_of_value, pred_class, pred_named, pred_params};
+ghost use Rattle.nddl_terms.specs.Lexicon.{attribute_class, attribute_number, shape_fields, part_class, part_called, place_of_value, pred_class, pred_named, pred_params};
 
+use super::preds::PredShapes;
 use super::stands::Stand;
 use eu_name::name::Part;
 use eu_name::sequence::Sequence;
@@ -50,7 +51,7 @@ pub struct PredShape {
 #[derive(Drop)]
 pub struct Lexicon {
     pub classes: Sequence<ClassShape>,
-    pub preds: Sequence<PredShape>,
+    pub preds: PredShapes,
     pub scope: Sequence<Stand>,
     /// What a variable may be whose type is the name; no name but those of enums and typedefs is one here.
     pub types: Sequence<Option<Shape>>,
@@ -145,23 +146,11 @@ impl Lexicon {
     pub fn pred_named(&self, class: u32, name: &Text) -> Result<Option<u32>, AllocError>
         ensures { IfOk result (λ pred. pred ≡ pred_named self.now class name.now) }
     {
-        match pred_place(self.preds.as_slice(), class, name) {
+        match self.preds.named(class, name) {
             Some(place) => Ok(Some(as_number(place)?)),
             None => Ok(None),
         }
     }
-}
-
-// Where the predicate of this name of the class stands.
-fn pred_place(preds: &[PredShape], class: u32, name: &Text) -> Option<usize>
-    ensures { result ≡ class_named class name.now preds.now }
-{
-    for (number, pred) in preds.iter().enumerate() {
-        if pred.class == class && name.as_str() == pred.name.as_str() {
-            return Some(number);
-        }
-    }
-    None
 }
 
 // The parameter of this number.

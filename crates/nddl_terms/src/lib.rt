@@ -7,10 +7,12 @@ pub mod growth;
 pub mod lexicon;
 pub mod names;
 pub mod paths;
+pub mod preds;
 pub mod stands;
 
 pub use growth::Growth;
 pub use lexicon::{Attribute, ClassShape, Lexicon, PredShape, Shape};
 pub use names::ReadNames;
 pub use paths::path_stand;
+pub use preds::PredShapes;
 pub use stands::{Made, Reading, Stand, TextPlaces};

@@ -3,6 +3,7 @@
 use eu_name::name::Part;
 use eu_name::text::Text;
 use nddl_ast::statement::Stmt;
+use nddl_joined::Place;
 use std::marker::Model;
 
 /// What a name in a rule means.
@@ -38,6 +39,8 @@ pub struct RuleTree {
     pub pred: u32,
     /// The file in which the text stands.
     pub file: Text,
+    /// Where the rule is: at its first name, or at that of the predicate in whose body it stands.
+    pub place: Place,
     /// The statements as they were parsed.
     pub body: Vec<Stmt>,
     /// The names that are read in them, in order.
@@ -59,6 +62,7 @@ impl Model for RuleTree {
     ghost view = { λ inside. record {
       pred = inside.pred;
       file = inside.file;
+      place = inside.place;
       body = statements_of inside.body.items;
       names = inside.names.items;
     } };

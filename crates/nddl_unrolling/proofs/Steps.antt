@@ -15,7 +15,7 @@ use Rattle.nddl_terms.specs.declared.growth.Growth.{Growth}
 use Rattle.nddl_terms.specs.declared.stands.Made.{Made}
 use Rattle.nddl_terms.specs.Growth.{with_last_entry}
 use Rattle.nddl_terms.specs.Readings.{Readings}
-use Rattle.nddl_unrolling.specs.Arguments.{condition_guard}
+use Rattle.nddl_additions.specs.Arguments.{condition_guard}
 use Rattle.nddl_unrolling.specs.Blocks.{back_in, filled_block, in_block, unrolled}
 use Rattle.nddl_unrolling.specs.Rules.{grown_rule}
 

@@ -15,9 +15,9 @@ use Rattle.nddl_terms.specs.declared.stands.Stand.TheVariants.{Class}
 use Rattle.nddl_terms.specs.Growth.{with_last_entry}
 use Rattle.nddl_terms.specs.Readings.{Readings}
 use Rattle.nddl_terms.specs.Stands.{first_stand}
-use Rattle.nddl_unrolling.specs.Arguments.{condition_guard}
-use Rattle.nddl_unrolling.specs.Calls.{with_ask, with_call}
-use Rattle.nddl_unrolling.specs.Locals.{with_text_local}
+use Rattle.nddl_additions.specs.Arguments.{condition_guard}
+use Rattle.nddl_additions.specs.Calls.{with_ask, with_call}
+use Rattle.nddl_additions.specs.Locals.{with_text_local}
 
 -- ---- blocks in blocks
 

@@ -11,11 +11,11 @@ ghost use Rattle.nddl_terms.specs.Readings.{readings_of};
 ghost use Rattle.nddl_terms.specs.Stands.{first_stand};
 ghost use Rattle.nddl_unrolling.specs.Blocks.{all_turns, back_in, filled_block, in_block, stand_turns, turn_of, unrolled};
 
-use super::arguments::guard_of;
-use super::calls::{add_ask, add_call};
-use super::locals::add_variable;
 use eu_name::sequence::Sequence;
 use model_core::rule::{Block, Entry, Guard};
+use nddl_additions::arguments::guard_of;
+use nddl_additions::calls::{add_ask, add_call};
+use nddl_additions::locals::add_variable;
 use nddl_ast::name::Name;
 use nddl_ast::statement::{Stmt, StmtBlock};
 use nddl_terms::stands::first_stand;

@@ -3,13 +3,8 @@
 //! the order of the text.
 #![tactic(auto)]
 
-pub mod arguments;
 pub mod blocks;
-pub mod calls;
-pub mod locals;
 pub mod places;
 pub mod rules;
-pub mod slots;
-pub mod types;
 
 pub use rules::unroll;

@@ -1,7 +1,6 @@
 -- Which rules are written for which predicates, and which each predicate has.
-use Rattle.std.specs.Prelude.{ℕ, ◌+◌, Bool, true, false, List, [], ◌∷◌}
-use Rattle.std.specs.Prelude.{◌++◌, Option, Some, None, codes, map, reverse, slice_get, slice_set}
-use Rattle.std.specs.Prelude.{if◌then◌else◌}
+use Rattle.std.specs.Prelude.{ℕ, ◌+◌, Bool, true, false, List, [], ◌∷◌, ◌++◌, Option, Some, None}
+use Rattle.std.specs.Prelude.{codes, map, reverse, slice_get, if◌then◌else◌}
 use Rattle.std.specs.List.{flat_map, list_any}
 use Rattle.std.specs.Option.{option_and_then, option_map_or}
 use Rattle.model_core.specs.declared.class.Class.{Class}
@@ -15,6 +14,7 @@ use Rattle.nddl_ast.specs.declared.declaration.PredicatePart.TheVariants as part
 use Rattle.nddl_scope.specs.Index.{Noted, noted_number, with_noted}
 use Rattle.nddl_lines.specs.Ancestors.{ancestry}
 use Rattle.nddl_written.specs.declared.places.TextPlace.{TextPlace}
+use Rattle.nddl_written.specs.Lists.{list_at, with_item_at}
 
 -- ---- predicates by name
 
@@ -47,14 +47,10 @@ preds_above classes noted preds = map (pred_above classes noted) preds
 
 -- ---- rules by predicate
 
--- the rules that are written for the predicate of this number
-abbrev pub places_at : List (List TextPlace) → ℕ → List TextPlace
-places_at written number = option_map_or (λ some. some) (slice_get written number) []
-
 -- one more of the predicate of this full name
 abbrev pub with_text : Noted → List (List TextPlace) → List ℕ → TextPlace → List (List TextPlace)
 with_text noted written name place =
-    option_map_or (λ number. slice_set written number (places_at written number ++ place ∷ [])) (noted_number noted name) written
+    option_map_or (λ number. with_item_at written number place) (noted_number noted name) written
 
 abbrev pub is_constraint : PredicatePart → Bool
 is_constraint (parts.Parameter typed) = false
@@ -101,4 +97,4 @@ texts_written noted preds program = with_texts noted 0 (none_written preds) prog
 -- the rules that the predicate of this number has, where predicates are inherited from these: those of the topmost ancestor
 -- first, and then downwards
 abbrev pub places_of : List (Option ℕ) → List (List TextPlace) → ℕ → List TextPlace
-places_of above written number = flat_map (places_at written) (reverse (ancestry above number))
+places_of above written number = flat_map (list_at written) (reverse (ancestry above number))

@@ -2,6 +2,7 @@
 //! and `texts_written`.
 #![tactic(auto)]
 
+pub mod lists;
 pub mod places;
 pub mod preds;
 pub mod written;

@@ -1,9 +1,11 @@
 //! Rules by predicate.
 
-ghost use Rattle.std.specs.Prelude.{◌≡◌, ◌++◌, ◌∷◌, [], IfOk, OnOk, map, slice_set, if◌then◌else◌};
+ghost use Rattle.std.specs.Prelude.{◌≡◌, IfOk, OnOk, map, if◌then◌else◌};
 ghost use Rattle.std.specs.List.{flat_map};
-ghost use Rattle.nddl_written.specs.Written.{has_constraint, is_constraint, none_written, places_at, places_of, texts_written, with_decl_texts, with_member_text, with_member_texts, with_text, with_texts, full_name};
+ghost use Rattle.nddl_written.specs.Lists.{list_at};
+ghost use Rattle.nddl_written.specs.Written.{has_constraint, is_constraint, none_written, places_of, texts_written, with_decl_texts, with_member_text, with_member_texts, with_text, with_texts, full_name};
 
+use super::lists::{list_at, put_at};
 use super::places::TextPlace;
 use super::preds::full_name;
 use eu_name::sequence::Sequence;
@@ -11,7 +13,7 @@ use eu_name::text::Text;
 use model_core::class::Pred;
 use nddl_ast::declaration::{Decl, Member, PredicatePart};
 use nddl_ast::name::Name;
-use nddl_lines::lines::ancestry;
+use nddl_lines::lines::line_along;
 use nddl_scope::index::NameIndex;
 use std::alloc::{AllocError, Global};
 
@@ -194,25 +196,9 @@ fn note_text(
 {
     let name = full_name(alloc, class.as_str(), predicate)?;
     match noted.find(&name) {
-        Some(number) => put(number, place, written),
+        Some(number) => put_at(number, place, written),
         None => Ok(()),
     }
-}
-
-// Puts a rule behind the others of the predicate of this number, if there is one.
-#[tactic(auto, using(crate::proofs::Putting::put_here, crate::proofs::Putting::put_past))]
-fn put(
-    number: usize,
-    place: TextPlace,
-    written: &mut Vec<Sequence<TextPlace>>,
-) -> Result<(), AllocError>
-    ensures { OnOk result (written.new.items
-        ≡ slice_set written.old.items number (places_at written.old.items number ++ place ∷ [])) }
-{
-    if number < written.len() {
-        written[number].push(place)?;
-    }
-    Ok(())
 }
 
 /// The rules that the predicate of this number has, where predicates are inherited from these.
@@ -224,7 +210,7 @@ pub fn places_of(
 ) -> Result<Vec<TextPlace>, AllocError>
     ensures { IfOk result (λ places. places.items ≡ places_of above.now written.now number) }
 {
-    let mut line = ancestry(alloc, above, number)?;
+    let mut line = line_along(alloc, above, number)?;
     line.reverse();
     places_along(alloc, written, line.as_slice())
 }
@@ -235,21 +221,11 @@ fn places_along(
     written: &[Sequence<TextPlace>],
     line: &[usize],
 ) -> Result<Vec<TextPlace>, AllocError>
-    ensures { IfOk result (λ places. places.items ≡ flat_map (places_at written.now) line.now) }
+    ensures { IfOk result (λ places. places.items ≡ flat_map (list_at written.now) line.now) }
 {
     let mut places = Vec::new(alloc);
     for number in line {
-        places.extend_from_slice(places_at(written, *number))?;
+        places.extend_from_slice(list_at(written, *number))?;
     }
     Ok(places)
-}
-
-// Those that are written for the predicate of this number.
-fn places_at(written: &[Sequence<TextPlace>], number: usize) -> &[TextPlace]
-    ensures { result.now ≡ places_at written.now number }
-{
-    match written.get(number) {
-        Some(places) => places.as_slice(),
-        None => &[],
-    }
 }

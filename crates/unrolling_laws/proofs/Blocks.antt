@@ -25,7 +25,7 @@ use Rattle.nddl_terms.specs.Stands.{declared_stand, file_stand, first_stand, mea
 use Rattle.nddl_amounts.specs.declared.amounts.Amounts.{Amounts}
 use Rattle.nddl_amounts.specs.Amounts.{amounts_and, amounts_times, no_amounts}
 use Rattle.nddl_amounts.specs.Counting.{counted_with, guard_amounts, stand_count, turn_count, turns_amounts}
-use Rattle.nddl_unrolling.specs.Arguments.{condition_guard}
+use Rattle.nddl_additions.specs.Arguments.{condition_guard}
 use Rattle.nddl_unrolling.specs.Blocks.{all_turns, back_in, filled_block, in_block, stand_turns, turn_of, unrolled}
 use Rattle.unrolling_laws.specs.Enough.{AreKnownStands, HasKnownObjects, IsKnownStand}
 use Rattle.unrolling_laws.proofs.Counted.{Counts, Enough, condition_adds, condition_counted, counts_and, sum_condition}

@@ -15,7 +15,7 @@ use Rattle.nddl_terms.specs.declared.stands.Made.{Made}
 use Rattle.nddl_terms.specs.declared.stands.Stand.{Stand}
 use Rattle.nddl_terms.specs.declared.stands.Stand.TheVariants.{Slot, Class}
 use Rattle.nddl_terms.specs.Growth.{access, unnamed, with_access, with_item, with_next_local, with_slot}
-use Rattle.nddl_unrolling.specs.Arguments.{with_items}
+use Rattle.nddl_additions.specs.Arguments.{with_items}
 
 -- so many slots, locals, items and guards
 pub record Extra : Type 0 where

@@ -13,8 +13,8 @@ use Rattle.nddl_terms.specs.declared.growth.Growth.{Growth}
 use Rattle.nddl_terms.specs.declared.stands.Made.{Made}
 use Rattle.nddl_terms.specs.Readings.{Readings}
 use Rattle.nddl_terms.specs.Stands.{first_stand}
-use Rattle.nddl_unrolling.specs.Arguments.{with_constraint}
-use Rattle.nddl_unrolling.specs.Slots.{asked_labelled, asked_path, with_asked, with_relation}
+use Rattle.nddl_additions.specs.Arguments.{with_constraint}
+use Rattle.nddl_additions.specs.Slots.{asked_labelled, asked_path, with_asked, with_relation}
 
 -- a relation that is written there, to what these names lead to: one name is a label, and more ask for a token
 abbrev pub with_related : Readings → List Made → ℕ → Rel → Path → List Name → Growth → Growth

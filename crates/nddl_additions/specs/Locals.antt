@@ -34,8 +34,8 @@ use Rattle.nddl_terms.specs.Growth.{unnamed, with_item, with_next_local}
 use Rattle.nddl_terms.specs.Names.{name_read_at}
 use Rattle.nddl_terms.specs.Readings.{Readings}
 use Rattle.nddl_terms.specs.Stands.{file_stand}
-use Rattle.nddl_unrolling.specs.Arguments.{argument, truth_value}
-use Rattle.nddl_unrolling.specs.Slots.{class_base}
+use Rattle.nddl_additions.specs.Arguments.{argument, truth_value}
+use Rattle.nddl_additions.specs.Slots.{class_base}
 
 -- ---- types that are names
 

@@ -1,8 +1,8 @@
 use Rattle.std.proofs.Common.{◌≡◌, ◌++◌, drop}
 use Rattle.std.specs.List.{filter_map}
 use Rattle.nddl_terms.specs.Readings.{readings_of}
-use Rattle.nddl_unrolling.specs.Locals.{value_number}
-use Rattle.nddl_unrolling.proofs.types.value_numbers.Given as goal
+use Rattle.nddl_additions.specs.Locals.{value_number}
+use Rattle.nddl_additions.proofs.types.value_numbers.Given as goal
 
 -- the numbers so far and those of the values that are left are all
 abbrev pub invariant-loop-value : goal.invariant-loop-value

@@ -2,7 +2,7 @@
 
 ghost use Rattle.std.specs.Prelude.{◌≡◌, IfOk, OnOk, map};
 ghost use Rattle.nddl_terms.specs.Readings.{readings_of};
-ghost use Rattle.nddl_unrolling.specs.Arguments.{all_differ, argument, given_arguments, condition_guard, constant_term, constraint_items, differ, no_term, stand_term, truth_value, with_constraint, with_items};
+ghost use Rattle.nddl_additions.specs.Arguments.{all_differ, argument, given_arguments, condition_guard, constant_term, constraint_items, differ, no_term, stand_term, truth_value, with_constraint, with_items};
 
 use eu_name::sequence::Sequence;
 use model_core::item::{Item, Kind, Term};
@@ -30,7 +30,8 @@ pub fn truth_value(truth: bool) -> i32
     if truth { 1 } else { 0 }
 }
 
-fn constant_term(constant: Constant) -> Term
+/// The term of a value that is written out.
+pub fn constant_term(constant: Constant) -> Term
     ensures { result ≡ constant_term constant }
 {
     match constant {
@@ -109,7 +110,8 @@ fn add_differing(alloc: Global, terms: &[Term], growth: &mut Growth) -> Result<(
     Ok(())
 }
 
-fn add_constraint_of(
+/// A constraint with these terms.
+pub fn add_constraint_of(
     alloc: Global,
     kind: Kind,
     terms: Sequence<Term>,

@@ -2,7 +2,7 @@
 
 ghost use Rattle.std.specs.Prelude.{◌≡◌, OnOk};
 ghost use Rattle.nddl_terms.specs.Readings.{readings_of};
-ghost use Rattle.nddl_unrolling.specs.Calls.{with_ask, with_call, with_constraint_named, with_related, with_relation_to};
+ghost use Rattle.nddl_additions.specs.Calls.{with_ask, with_call, with_constraint_named, with_related, with_relation_to};
 
 use super::arguments::add_constraint;
 use super::slots::{add_relation, add_wanted, asked_labelled, asked_path};

@@ -1,15 +1,12 @@
 //! What variables of a type may be.
 
-ghost use Rattle.std.specs.Prelude.{◌≡◌, IfOk, slice_get};
+ghost use Rattle.std.specs.Prelude.{◌≡◌, IfOk};
 ghost use Rattle.std.specs.List.{filter_map};
-ghost use Rattle.domain_core.specs.Domain.{Set};
-ghost use Rattle.nddl_variables.specs.Ascending.{ascending_of};
 ghost use Rattle.nddl_terms.specs.Readings.{readings_of};
-ghost use Rattle.nddl_unrolling.specs.Locals.{range_base, set_base, base_shape, bounds_base, class_shape, constant_number, range_end, file_shape, known_number, meaning_number, meaning_shape, stand_shape, truth_shape, type_shape, value_number, whole_shape, with_base};
+ghost use Rattle.nddl_additions.specs.Locals.{range_base, set_base, base_shape, bounds_base, class_shape, constant_number, range_end, file_shape, known_number, meaning_number, meaning_shape, stand_shape, truth_shape, type_shape, value_number, whole_shape, with_base};
 
 use super::arguments::truth_value;
 use super::slots::class_base;
-use domain_core::domain::Dom;
 use model_core::item::Term;
 use model_core::variable::{Base, ValueKind};
 use nddl_ast::expression::{BaseType, Bounds, Constant, Type, Value};
@@ -17,18 +14,8 @@ use nddl_terms::lexicon::copy_base;
 use nddl_terms::stands::file_stand;
 use nddl_terms::{Lexicon, Reading, Shape, Stand};
 use nddl_trees::Meaning;
-use nddl_variables::domains::range;
+use nddl_variables::domains::{range, set_of_values};
 use std::alloc::{AllocError, Global};
-
-// The set of the values. Nothing is wrong with the rule, so there is one, and there are few.
-fn value_set(alloc: Global, values: &[i32]) -> Result<Dom, AllocError>
-    ensures { IfOk result (λ domain. domain ≡ Set (ascending_of values.now)) }
-{
-    match Dom::set_of(alloc, values) {
-        Ok(domain) => Ok(domain),
-        Err(_) => Err(AllocError),
-    }
-}
 
 // An object of the class.
 fn class_shape(lexicon: &Lexicon, class: u32) -> Result<Shape, AllocError>
@@ -57,7 +44,7 @@ fn whole_shape() -> Result<Shape, AllocError>
 fn truth_shape(alloc: Global) -> Result<Shape, AllocError>
     ensures { IfOk result (λ shape. shape ≡ truth_shape) }
 {
-    let domain = value_set(alloc, &[0, 1])?;
+    let domain = set_of_values(alloc, &[0, 1])?;
     Ok(Shape {
         kind: ValueKind::Bool,
         base: Base::Given(domain),
@@ -200,7 +187,7 @@ fn set_base(alloc: Global, reading: &Reading<'_>, values: &[Value]) -> Result<Ba
     ensures { IfOk result (λ base. base ≡ set_base (readings_of reading.now) values.now) }
 {
     let numbers = value_numbers(alloc, reading, values)?;
-    Ok(Base::Given(value_set(alloc, numbers.as_slice())?))
+    Ok(Base::Given(set_of_values(alloc, numbers.as_slice())?))
 }
 
 // What the bounds of a type leave, if there are any.

@@ -1,6 +1,6 @@
 use Rattle.std.proofs.Common.{◌≡◌, drop, map}
-use Rattle.nddl_unrolling.specs.Arguments.{differ, with_items}
-use Rattle.nddl_unrolling.proofs.arguments.add_differing_from.Given as goal
+use Rattle.nddl_additions.specs.Arguments.{differ, with_items}
+use Rattle.nddl_additions.proofs.arguments.add_differing_from.Given as goal
 
 -- with the items that are left the rule has what it has with all
 abbrev pub invariant-loop-other : goal.invariant-loop-other

@@ -1,6 +1,6 @@
 use Rattle.std.proofs.Common.{◌≡◌, drop}
-use Rattle.nddl_unrolling.specs.Arguments.{all_differ, with_items}
-use Rattle.nddl_unrolling.proofs.arguments.add_differing.Given as goal
+use Rattle.nddl_additions.specs.Arguments.{all_differ, with_items}
+use Rattle.nddl_additions.proofs.arguments.add_differing.Given as goal
 
 -- with the items of the terms that are left the rule has what it has with all
 abbrev pub invariant-loop-place : goal.invariant-loop-place

@@ -2,7 +2,7 @@
 
 ghost use Rattle.std.specs.Prelude.{◌≡◌, IfOk, OnOk, length};
 ghost use Rattle.nddl_terms.specs.Readings.{readings_of};
-ghost use Rattle.nddl_unrolling.specs.Locals.{with_begun, with_declared, with_text_local};
+ghost use Rattle.nddl_additions.specs.Locals.{with_begun, with_declared, with_text_local};
 
 use super::arguments::argument;
 use super::types::type_shape;

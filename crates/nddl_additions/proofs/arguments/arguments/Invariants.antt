@@ -1,7 +1,7 @@
 use Rattle.std.proofs.Common.{◌≡◌, ◌++◌, drop}
 use Rattle.nddl_terms.specs.Readings.{readings_of}
-use Rattle.nddl_unrolling.specs.Arguments.{given_arguments}
-use Rattle.nddl_unrolling.proofs.arguments.arguments.Given as goal
+use Rattle.nddl_additions.specs.Arguments.{given_arguments}
+use Rattle.nddl_additions.proofs.arguments.arguments.Given as goal
 
 -- the terms so far and those of the arguments that are left are all, and what the rule has behind these it has behind all
 abbrev pub invariant-loop-expr : goal.invariant-loop-expr

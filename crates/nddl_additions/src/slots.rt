@@ -2,8 +2,8 @@
 
 ghost use Rattle.std.specs.Prelude.{◌≡◌, IfOk, OnOk};
 ghost use Rattle.nddl_terms.specs.Readings.{readings_of};
-ghost use Rattle.nddl_unrolling.specs.Arguments.{with_items};
-ghost use Rattle.nddl_unrolling.specs.Slots.{AskedSlot, asked_labelled, asked_behind, asked_own, asked_path, class_base, object_items, pred_slot, wanted_of, with_asked, with_asked_at, with_relation, with_wanted_token};
+ghost use Rattle.nddl_additions.specs.Arguments.{with_items};
+ghost use Rattle.nddl_additions.specs.Slots.{AskedSlot, asked_labelled, asked_behind, asked_own, asked_path, class_base, object_items, pred_slot, wanted_of, with_asked, with_asked_at, with_relation, with_wanted_token};
 
 use eu_name::name::Part;
 use eu_name::text::Text;
@@ -50,8 +50,8 @@ fn wanted_of(lexicon: &Lexicon, owner: Stand, name: &Text) -> Result<Wanted, All
     }
 }
 
-// The token for which names ask behind what stands for this.
-fn asked_names(
+/// The token for which names ask behind what stands for this.
+pub fn asked_names(
     alloc: Global,
     reading: &Reading<'_>,
     begin: Stand,

@@ -23,8 +23,8 @@ use Rattle.nddl_terms.specs.Lexicon.{pred_class, pred_named}
 use Rattle.nddl_terms.specs.Paths.{Reached, stand_steps}
 use Rattle.nddl_terms.specs.Readings.{Readings}
 use Rattle.nddl_terms.specs.Stands.{first_stand}
-use Rattle.nddl_unrolling.specs.declared.slots.Wanted.{Wanted}
-use Rattle.nddl_unrolling.specs.Arguments.{with_items}
+use Rattle.nddl_additions.specs.declared.slots.Wanted.{Wanted}
+use Rattle.nddl_additions.specs.Arguments.{with_items}
 
 -- ---- what is asked for
 
