@@ -34,7 +34,7 @@ use Rattle.nddl_terms.specs.declared.lexicon.PredShape.{PredShape}
 use Rattle.nddl_terms.specs.declared.lexicon.Shape.{Shape}
 use Rattle.nddl_terms.specs.declared.stands.Stand.{Stand}
 use Rattle.nddl_terms.specs.declared.stands.Stand.TheVariants as stands
-use Rattle.nddl_terms.specs.Lexicon.{class_named}
+use Rattle.nddl_terms.specs.Preds.{class_named}
 use Rattle.nddl_lexicon.specs.Objects.{numbers_base, objects_of, standing_object, turn_stands}
 use Rattle.nddl_lexicon.specs.Shapes.{World, entry_attributes, kind_class, number_attribute, part_attribute, shape_with}
 

@@ -1,3 +1,4 @@
+pub mod Listing
 pub mod Objects
 pub mod Shapes
 pub mod Lexicons

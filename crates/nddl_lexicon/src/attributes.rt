@@ -1,6 +1,6 @@
 //! Fields of classes and parameters of predicates.
 
-ghost use Rattle.std.specs.Prelude.{◌≡◌, ◌++◌, ◌∷◌, [], IfOk, OnOk, map};
+ghost use Rattle.std.specs.Prelude.{◌≡◌, ◌++◌, IfOk, OnOk, map};
 ghost use Rattle.std.specs.List.{filter_map, flat_map};
 ghost use Rattle.nddl_schema.specs.Classes.{given_fields};
 ghost use Rattle.nddl_lexicon.specs.Shapes.{attribute_with, attributes_at, entry_attributes, member_attribute, number_attribute, part_attribute, typed_attribute, world_of};

@@ -6,7 +6,7 @@ ghost use Rattle.nddl_lexicon.specs.Lexicons.{builtin_shapes, class_attributes, 
 ghost use Rattle.nddl_lexicon.specs.Shapes.{number_attribute, world_of};
 
 use super::attributes::{entry_attributes, push_given_attributes};
-use super::objects::{numbers_base, objects_of, turns_of};
+use super::objects::{class_objects, numbers_base, turns_of};
 use super::premises::Premises;
 use eu_name::sequence::Sequence;
 use nddl_schema::numbers::class_number;
@@ -65,7 +65,7 @@ fn class_shape(
 {
     let basis = &premises.sources.heritage.basis;
     let number = class_number(basis.types.scope, premises.sources.numbers, class);
-    let objects = objects_of(alloc, basis, class, premises.objects)?;
+    let objects = class_objects(alloc, premises, class)?;
     let fields = fields_of(alloc, premises, class)?;
     shape_of(alloc, fields, number, objects.as_slice())
 }

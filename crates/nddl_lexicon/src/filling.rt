@@ -1,7 +1,7 @@
 //! The lexicon of a program.
 
 ghost use Rattle.std.specs.Prelude.{◌≡◌, [], IfOk, MatchResult, OnOk, Ok, Err};
-ghost use Rattle.nddl_lexicon.specs.Lexicons.{lexicon_of};
+ghost use Rattle.nddl_lexicon.specs.Lexicons.{lexicon_of, pred_shapes};
 ghost use Rattle.nddl_lexicon.specs.Shapes.{world_of};
 
 use super::classes::class_shapes;
@@ -10,6 +10,7 @@ use super::predicates::pred_shapes;
 use super::premises::Premises;
 use super::types::scope_types;
 use eu_name::sequence::Sequence;
+use nddl_terms::PredShapes;
 use nddl_terms::lexicon::Lexicon;
 use std::alloc::{AllocError, Global};
 
@@ -19,17 +20,25 @@ fn nothing(alloc: Global) -> Lexicon
 {
     Lexicon {
         classes: Sequence::new(alloc),
-        preds: Sequence::new(alloc),
+        preds: PredShapes::new(alloc),
         scope: Sequence::new(alloc),
         types: Sequence::new(alloc),
     }
+}
+
+// All predicates, with an index of those of each class.
+fn indexed_preds(alloc: Global, premises: &Premises<'_>) -> Result<PredShapes, AllocError>
+    ensures { IfOk result (λ preds. preds ≡ pred_shapes (world_of premises.now)) }
+{
+    let classes = premises.sources.entries.len().saturating_add(4);
+    PredShapes::of(alloc, classes, pred_shapes(alloc, premises)?)
 }
 
 // Fills the lexicon.
 fn fill(alloc: Global, premises: &Premises<'_>, lexicon: &mut Lexicon) -> Result<(), AllocError>
     ensures { OnOk result (lexicon.new ≡ lexicon_of (world_of premises.now)) }
 {
-    lexicon.preds = pred_shapes(alloc, premises)?;
+    lexicon.preds = indexed_preds(alloc, premises)?;
     lexicon.scope = scope_stands(alloc, premises, &*lexicon)?;
     lexicon.classes = class_shapes(alloc, premises)?;
     lexicon.types = scope_types(alloc, premises)?;

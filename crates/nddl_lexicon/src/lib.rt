@@ -4,6 +4,7 @@
 pub mod attributes;
 pub mod classes;
 pub mod filling;
+pub mod listing;
 pub mod names;
 pub mod objects;
 pub mod predicates;
@@ -12,4 +13,5 @@ pub mod shapes;
 pub mod types;
 
 pub use filling::lexicon;
+pub use listing::objects_by_class;
 pub use premises::Premises;

@@ -1,6 +1,6 @@
 //! What the names of the files stand for.
 
-ghost use Rattle.std.specs.Prelude.{◌≡◌, ◌+◌, ◌++◌, ◌∷◌, [], IfOk, OnOk, if◌then◌else◌, pos};
+ghost use Rattle.std.specs.Prelude.{◌≡◌, ◌+◌, ◌++◌, IfOk, OnOk, if◌then◌else◌, pos};
 ghost use Rattle.std.specs.Option.{option_copied};
 ghost use Rattle.model_core.specs.declared.item.Term.TheVariants as terms;
 ghost use Rattle.nddl_scope.specs.declared.scope.Meaning.TheVariants as meanings;
@@ -9,7 +9,7 @@ ghost use Rattle.nddl_terms.specs.declared.stands.Stand.TheVariants as stands;
 ghost use Rattle.nddl_lexicon.specs.Lexicons.{asked_name, denoted_class, is_global_sort, is_root_sort, name_stand, object_stand, pred_shapes, root_of_class, root_stand, scope_stands, sort_stand, stand_if_first, token_class};
 ghost use Rattle.nddl_lexicon.specs.Shapes.{world_of};
 
-use super::objects::{standing_at, standing_object};
+use super::objects::standing_object;
 use super::premises::Premises;
 use super::shapes::kind_class;
 use eu_name::sequence::Sequence;
@@ -17,6 +17,7 @@ use model_core::item::Term;
 use nddl_ast::declaration::Decl;
 use nddl_ast::name::Name;
 use nddl_copies::path::last;
+use nddl_data::reading::standing_at;
 use nddl_lines::decls::decl_at;
 use nddl_paths::Denoted;
 use nddl_paths::files::file_denoted;
@@ -24,6 +25,7 @@ use nddl_schema::numbers::{class_number, is_first};
 use nddl_scope::{Declared, Meaning, Sort};
 use nddl_terms::lexicon::{Lexicon, as_number};
 use nddl_terms::stands::Stand;
+use nddl_variables::values::value_at;
 use std::alloc::{AllocError, Global};
 
 // The declared class of what a name means, if that is an object.
@@ -111,22 +113,12 @@ fn object_stand(premises: &Premises<'_>, entry: usize, class: u32) -> Result<Sta
     }
 }
 
-// The place of a member as a value.
-fn place_value(place: u32) -> Result<i32, AllocError>
-    ensures { IfOk result (λ value. value ≡ pos place) }
-{
-    if place > 2_147_483_647 {
-        return Err(AllocError);
-    }
-    Ok(place as i32)
-}
-
 // What a member stands for.
 fn member_stand(place: u32) -> Result<Stand, AllocError>
     ensures { IfOk result (λ stand. stand ≡ stands.Value (terms.Lit (pos place)) 0) }
 {
     Ok(Stand::Value {
-        term: Term::Lit(place_value(place)?),
+        term: Term::Lit(value_at(place as usize)?),
         class: 0,
     })
 }

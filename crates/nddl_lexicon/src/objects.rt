@@ -1,29 +1,30 @@
 //! The objects of classes and of written sets, as what variables may be.
 
-ghost use Rattle.std.specs.Prelude.{◌≡◌, ◌++◌, ◌∷◌, [], IfOk, OnOk, map, pos, slice_get};
+ghost use Rattle.std.specs.Prelude.{◌≡◌, ◌++◌, ◌∷◌, [], IfOk, OnOk, map, pos};
 ghost use Rattle.std.specs.List.{filter_map};
-ghost use Rattle.domain_core.specs.Domain.{Set};
 ghost use Rattle.model_core.specs.declared.item.Term.TheVariants as terms;
 ghost use Rattle.nddl_lines.specs.Facts.{facts_of};
 ghost use Rattle.nddl_terms.specs.declared.stands.Stand.TheVariants as stands;
-ghost use Rattle.nddl_variables.specs.Ascending.{ascending_of};
 ghost use Rattle.nddl_lexicon.specs.Objects.{entry_object, numbers_base, objects_base, objects_of, standing_object, turn_stands};
 
+use super::listing::listed_objects;
 use super::premises::Premises;
-use domain_core::domain::Dom;
 use eu_name::sequence::Sequence;
 use model_core::item::Term;
 use model_core::variable::Base;
 use nddl_constructors::creations::is_of_class;
+use nddl_data::reading::standing_at;
 use nddl_data::{Datum, MadeObject, Standing};
 use nddl_lines::Basis;
 use nddl_scope::Meaning;
 use nddl_sorts::Extent;
 use nddl_terms::stands::Stand;
+use nddl_variables::domains::set_of_values;
+use nddl_variables::values::value_at;
 use std::alloc::{AllocError, Global};
 
-/// The numbers of those objects that are of the class or of one under it.
-pub fn objects_of(
+// The numbers of those objects that are of the class or of one under it, one after another.
+fn objects_of(
     alloc: Global,
     basis: &Basis<'_>,
     class: Meaning,
@@ -40,35 +41,15 @@ pub fn objects_of(
     Ok(numbers)
 }
 
-// The object as a value; there is no memory for 2^31 of them.
-fn object_value(number: usize) -> Result<i32, AllocError>
-    ensures { IfOk result (λ value. value ≡ pos number) }
-{
-    if number > 2_147_483_647 {
-        return Err(AllocError);
-    }
-    Ok(number as i32)
-}
-
 // The objects as values.
 fn object_values(alloc: Global, numbers: &[usize]) -> Result<Vec<i32>, AllocError>
     ensures { IfOk result (λ values. values.items ≡ map pos numbers.now) }
 {
     let mut values = Vec::new(alloc);
     for number in numbers {
-        values.push(object_value(*number)?)?;
+        values.push(value_at(*number)?)?;
     }
     Ok(values)
-}
-
-// The set of the values. There are few objects, and each is a value.
-fn set(alloc: Global, values: &[i32]) -> Result<Dom, AllocError>
-    ensures { IfOk result (λ domain. domain ≡ Set (ascending_of values.now)) }
-{
-    match Dom::set_of(alloc, values) {
-        Ok(domain) => Ok(domain),
-        Err(_) => Err(AllocError),
-    }
 }
 
 // A variable may be these, or nothing where there are none.
@@ -77,7 +58,7 @@ fn values_base(alloc: Global, values: &[i32]) -> Result<Base, AllocError>
 {
     match values {
         [] => Ok(Base::Void),
-        _ => Ok(Base::Given(set(alloc, values)?)),
+        _ => Ok(Base::Given(set_of_values(alloc, values)?)),
     }
 }
 
@@ -94,16 +75,9 @@ pub fn standing_object(standing: Option<Standing>) -> Result<Option<i32>, AllocE
     ensures { IfOk result (λ object. object ≡ standing_object standing) }
 {
     match standing {
-        Some(Standing::Made(Some(Datum::Object(number)))) => Ok(Some(object_value(number)?)),
+        Some(Standing::Made(Some(Datum::Object(number)))) => Ok(Some(value_at(number)?)),
         _ => Ok(None),
     }
-}
-
-/// What the name of this number stands for, if there is one.
-pub fn standing_at(standing: &[Standing], entry: usize) -> Option<Standing>
-    ensures { result ≡ slice_get standing.now entry }
-{
-    Some(*standing.get(entry)?)
 }
 
 // The object whose name has this number in the scope.
@@ -141,17 +115,32 @@ fn written_base(alloc: Global, standing: &[Standing], entries: &[i32]) -> Result
     values_base(alloc, objects.as_slice())
 }
 
+/// The numbers of the objects of the class and of those under it.
+pub fn class_objects(
+    alloc: Global,
+    premises: &Premises<'_>,
+    class: Meaning,
+) -> Result<Vec<usize>, AllocError>
+    ensures { IfOk result (λ numbers. numbers.items
+        ≡ objects_of (facts_of premises.now.sources.heritage.basis) class 0 premises.now.objects.now) }
+{
+    match listed_objects(premises.by_class, class) {
+        Some(list) => list.as_slice().to_vec(alloc),
+        None => objects_of(
+            alloc,
+            &premises.sources.heritage.basis,
+            class,
+            premises.objects,
+        ),
+    }
+}
+
 // What a variable of the class may be: all of its objects.
 fn class_base(alloc: Global, premises: &Premises<'_>, class: Meaning) -> Result<Base, AllocError>
     ensures { IfOk result (λ base. base ≡ numbers_base (map pos
         (objects_of (facts_of premises.now.sources.heritage.basis) class 0 premises.now.objects.now))) }
 {
-    let numbers = objects_of(
-        alloc,
-        &premises.sources.heritage.basis,
-        class,
-        premises.objects,
-    )?;
+    let numbers = class_objects(alloc, premises, class)?;
     numbers_base(alloc, numbers.as_slice())
 }
 
@@ -176,7 +165,7 @@ fn push_turn(number: usize, class: u32, turns: &mut Sequence<Stand>) -> Result<(
     ensures { OnOk result (turns.new ≡ turns.old ++ stands.Value (terms.Lit (pos number)) class ∷ []) }
 {
     turns.push(Stand::Value {
-        term: Term::Lit(object_value(number)?),
+        term: Term::Lit(value_at(number)?),
         class,
     })
 }

@@ -1,8 +1,8 @@
 //! What is known of predicates.
 
-ghost use Rattle.std.specs.Prelude.{◌≡◌, ◌++◌, ◌∷◌, [], IfOk, OnOk, map};
+ghost use Rattle.std.specs.Prelude.{◌≡◌, ◌++◌, IfOk, OnOk, map};
 ghost use Rattle.std.specs.List.{filter_map, flat_map};
-ghost use Rattle.nddl_schema.specs.Predicates.{builtin_preds, given_preds};
+ghost use Rattle.nddl_schema.specs.Predicates.{given_preds};
 ghost use Rattle.nddl_lexicon.specs.Lexicons.{builtin_pred_shapes, entry_pred_shapes, given_shape, member_shape, pred_shapes, pred_shapes_at};
 ghost use Rattle.nddl_lexicon.specs.Shapes.{part_attribute, world_of};
 

@@ -1,6 +1,6 @@
 //! What variables may be whose types are names.
 
-ghost use Rattle.std.specs.Prelude.{◌≡◌, ◌++◌, ◌∷◌, [], IfOk, OnOk};
+ghost use Rattle.std.specs.Prelude.{◌≡◌, ◌++◌, IfOk, OnOk};
 ghost use Rattle.nddl_scope.specs.declared.declared.Sort.TheVariants as sorts;
 ghost use Rattle.nddl_lexicon.specs.Lexicons.{scope_types, sort_shape, type_if_first};
 ghost use Rattle.nddl_lexicon.specs.Shapes.{world_of};

@@ -1,0 +1,3 @@
+pub mod Modelled
+pub mod Numbers
+pub mod Putting
