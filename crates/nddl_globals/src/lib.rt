@@ -1,0 +1,6 @@
+//! The global variables that a program declares: `declared_globals(alloc, &premises)?`, once its objects are made.
+#![tactic(auto)]
+
+pub mod globals;
+
+pub use globals::declared_globals;

@@ -1,0 +1,4 @@
+pub mod Fitness
+pub mod Limits
+pub mod Made
+pub mod Posts
