@@ -1,0 +1,46 @@
+-- What is so of each value of a domain.
+use Rattle.std.proofs.Common.{◌≡◌, ℕ, ℤ, ◌+◌, ◌<◌, ◌≤◌, length, get_or, sym, ◌∙◌, subst, inl, inr, arith}
+use Rattle.std.proofs.lemmas.Bool.{cases_lt}
+use Rattle.std.proofs.lemmas.List.{get_or_default}
+use Rattle.domain_core.specs.Domain.{Domain, Range, Set, IsDomain, Has, IsNth, count_of}
+use Rattle.domain_core.proofs.Words.{has_value, place_of, at_place}
+use Rattle.model_core.specs.declared.model.Model.{Model}
+use Rattle.model_core.specs.declared.variable.ValueKind.{ValueKind}
+use Rattle.model_core.specs.declared.variable.ValueKind.TheVariants.{Int}
+use Rattle.model_core.specs.Kinds.{IsInKind, IsValueOf}
+
+-- one value stands at a place
+nth_once : (domain : Domain) (place : ℕ) (one other : ℤ) → IsNth domain place one → IsNth domain place other → one ≡ other
+nth_once (Range lo hi) place one other is are = is.0 ∙ sym are.0
+nth_once (Set members) place one other is are = sym is.1 ∙ (get_or_default members place one other is.0 ∙ are.1)
+
+-- it is so of the values at the first places
+abbrev pub AreSoUpTo : Domain → (ℤ → Type 0) → ℕ → Type 0
+AreSoUpTo domain P count = (place : ℕ) (value : ℤ) → place < count → IsNth domain place value → P value
+
+module _ (domain : Domain) (P : ℤ → Type 0) where
+  pub none_yet : AreSoUpTo domain P 0
+  none_yet place value below is = absurd (omega arith)
+
+  pub one_more : (count : ℕ) (here : ℤ) → IsNth domain count here → P here → AreSoUpTo domain P count → AreSoUpTo domain P (count + 1)
+  one_more count here at so before place value below is = elim (cases_lt place count) [
+    | inl less ↦ before place value less is
+    | inr past ↦ (
+        let same : place ≡ count = omega arith in
+        subst P (nth_once domain count here value at (subst (λ (n : ℕ). IsNth domain n value) same is)) so)
+  ]
+
+  pub all_so : (count : ℕ) → IsDomain domain → count_of domain ≤ count → AreSoUpTo domain P count → (value : ℤ) → Has domain value → P value
+  all_so count lawful past before value has =
+      let at = place_of domain value lawful has in
+      before at.0 value (omega (arith, at.1, past)) at.2
+
+  pub not_all : (place : ℕ) (value : ℤ) → IsDomain domain → IsNth domain place value → (P value → ⊥) → ((other : ℤ) → Has domain other → P other) → ⊥
+  not_all place value lawful at not all = not (all value (at_place domain place value lawful at).0)
+
+-- whole numbers are what every domain has
+pub in_int : (model : Model) (kind : ValueKind) (domain : Domain) → IsDomain domain → kind ≡ Int → IsInKind model kind domain
+in_int model kind domain lawful same = record {
+  values = λ value has. subst (λ (k : ValueKind). IsValueOf model k value) (sym same) (has_value domain value lawful has);
+  range = λ range. same;
+}

@@ -1,0 +1,5 @@
+pub mod Accessing
+pub mod Comparing
+pub mod Each
+pub mod Telling
+pub mod Under

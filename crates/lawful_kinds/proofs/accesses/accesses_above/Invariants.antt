@@ -1,0 +1,12 @@
+use Rattle.std.specs.Prelude.{◌↔◌, slice_index}
+use Rattle.lawful_kinds.specs.Terms.{AccessesAbove, scope_of}
+use Rattle.lawful_kinds.proofs.accesses.accesses_above.Given as goal
+
+-- it is so above the class that the walk has come to if it is above the first
+abbrev pub invariant-loop-access : goal.invariant-loop-access
+invariant-loop-access l =
+    AccessesAbove l.model (scope_of l.place) l.class l.access.field l.access.object l.access.value
+    ↔ AccessesAbove l.model (scope_of l.place) l.first l.access.field l.access.object l.access.value
+
+abbrev pub decreases-loop-access : goal.decreases-loop-access
+decreases-loop-access l = slice_index l.ranks l.class

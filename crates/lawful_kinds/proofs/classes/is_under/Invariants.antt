@@ -1,0 +1,10 @@
+use Rattle.std.specs.Prelude.{◌↔◌, slice_index}
+use Rattle.model_core.specs.Kinds.{IsUnder}
+use Rattle.lawful_kinds.proofs.classes.is_under.Given as goal
+
+-- what the walk has come to is under the other class if the first is
+abbrev pub invariant-loop-next : goal.invariant-loop-next
+invariant-loop-next l = IsUnder l.model l.next l.ancestor ↔ IsUnder l.model l.class l.ancestor
+
+abbrev pub decreases-loop-next : goal.decreases-loop-next
+decreases-loop-next l = slice_index l.ranks l.next

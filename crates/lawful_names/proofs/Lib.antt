@@ -1,0 +1,4 @@
+pub mod Adding
+pub mod Pathing
+pub mod Taking
+pub mod Fielding

@@ -1,0 +1,4 @@
+pub mod Amounts
+pub mod Nested
+pub mod Numbered
+pub mod Rules
