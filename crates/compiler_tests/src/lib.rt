@@ -1,11 +1,14 @@
 //! The tests of the crates that compile texts: of what they rest on (nddl_joined, nddl_copies and nddl_scope), of the
-//! table of names and types, and of rules. Nothing here is called by others: `rt test` runs it.
+//! table of names and types, of rules, and of what is wrong first with whole programs. Nothing here is called by others:
+//! `rt test` runs it.
 #![tactic(auto)]
 
 #[cfg(test)]
 mod answers;
 #[cfg(test)]
 mod faults;
+#[cfg(test)]
+mod programs;
 #[cfg(test)]
 mod rules;
 #[cfg(test)]

@@ -23,13 +23,16 @@ fn meaning_words(alloc: Global, meaning: Meaning) -> Result<String, AllocError> 
     }
 }
 
-/// The predicate, the file and how many statements, and each name that is read, with its place and what it means.
+/// The predicate, the file, the place of the rule (its declaration and the byte of its name) and how many statements, and each
+/// name that is read, with its place and what it means.
 fn push_tree(alloc: Global, tree: &RuleTree, words: &mut String) -> Result<(), AllocError> {
     write!(
         words,
-        "{} {} {}:",
+        "{} {} {} {} {}:",
         tree.pred,
         tree.file.as_str(),
+        tree.place.decl,
+        tree.place.at,
         tree.body.len()
     )?;
     for name in tree.names.as_slice() {
@@ -120,37 +123,37 @@ const TREES: [(&str, &str, &str); 7] = [
     (
         "class T { predicate P { bool b; } predicate Q { } predicate R { } } T::P { if (b) { any(object.Q q); } else { any(object.R r); } }",
         "",
-        "3 m 1: 79 p0 88 object 114 object; ",
+        "3 m 1 68 1: 79 p0 88 object 114 object; ",
     ),
     (
         "class A { predicate P { int v; leq(v, 3); } } A::P { eq(v, start); } class B extends A { } B::P { }",
         "",
-        "3 m 1: 35 p0; 3 m 1: 56 p0 59 start; 4 m 1: 35 p0; 4 m 1: 56 p0 59 start; 4 m 0:; ",
+        "3 m 0 20 1: 35 p0; 3 m 1 46 1: 56 p0 59 start; 4 m 0 20 1: 35 p0; 4 m 1 46 1: 56 p0 59 start; 4 m 3 91 0:; ",
     ),
     (
         "N::P { any(object.P s); } class N { predicate P { int v; leq(v, 3); } }",
         "",
-        "3 m 1: 11 object; 3 m 1: 61 p0; ",
+        "3 m 0 0 1: 11 object; 3 m 1 46 1: 61 p0; ",
     ),
     (
         "#include \"q\" N::P { before(N.P s); int x = s.start; if (x == 3) { int s; eq(s, x); } before(s); meets(P t); eq(t.end, end); }",
         "class N { predicate P { } }",
-        "3 m 6: 27 f0 43 s0 56 l0 76 l1 79 l0 92 s0 111 s1 118 end; ",
+        "3 m 1 13 6: 27 f0 43 s0 56 l0 76 l1 79 l0 92 s0 111 s1 118 end; ",
     ),
     (
         "class A { int k; A() { k = 1; } predicate P { } } enum E { a, b } A o = new A(); A::P { foreach (o in A) { int [0 3] o; eq(o.k, duration); E {a} e = b; any(object.P); any(A.P z); } A {o} w; eq(w, o); }",
         "",
-        "3 m 3: 102 f0 123 t0 128 duration 139 f1 142 f2 149 f3 156 object 171 f0 181 f0 184 f4 193 l2 196 f4; ",
+        "3 m 3 81 3: 102 f0 123 t0 128 duration 139 f1 142 f2 149 f3 156 object 171 f0 181 f0 184 f4 193 l2 196 f4; ",
     ),
     (
         "class R extends Reusable { R() { super(3); } } Reusable::uses { eq(quantity, 1); } R::uses { foreach (r in Reusable) { } }",
         "",
-        "0 m 1: 67 p0; 3 m 1: 67 p0; 3 m 1: 107 b2; ",
+        "0 m 1 47 1: 67 p0; 3 m 1 47 1: 67 p0; 3 m 2 83 1: 107 b2; ",
     ),
     (
         "class N; class N { predicate P { } } int z; N::P { eq(z, 1); Timeline t; N n; }",
         "",
-        "3 m 3: 54 f1 61 b1 73 f0; ",
+        "3 m 3 44 3: 54 f1 61 b1 73 f0; ",
     ),
 ];
 

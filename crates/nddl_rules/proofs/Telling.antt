@@ -1,5 +1,5 @@
 -- What is answered, from what is known.
-use Rattle.std.proofs.Common.{◌≡◌, List, [], ◌∙◌, ap}
+use Rattle.std.proofs.Common.{◌≡◌, List, ◌∙◌, ap}
 use Rattle.std.specs.Prelude.{Some, None}
 use Rattle.std.specs.Option.{option_and_then}
 use Rattle.nddl_ast.specs.declared.declaration.FileDecls.{FileDecls}

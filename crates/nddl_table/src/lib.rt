@@ -1,7 +1,6 @@
 //! The table of the names and types of files, or what is wrong first: `types(alloc, files)?`.
 #![tactic(auto)]
 
-pub mod files;
 pub mod program;
 pub mod scoped;
 pub mod table;

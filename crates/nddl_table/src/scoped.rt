@@ -3,11 +3,11 @@
 ghost use Rattle.std.specs.Prelude.{◌≡◌, ◌++◌, IfOk, OnOk};
 ghost use Rattle.nddl_table.specs.Scoped.{named_at, named_from, named_in, named_kind};
 
-use super::files::Program;
 use super::table::{Named, NamedKind};
 use eu_name::sequence::Sequence;
 use nddl_ast::declaration::FileDecls;
 use nddl_joined::place::file_of;
+use nddl_program::Program;
 use nddl_schema::numbers::is_first;
 use nddl_scope::{Declared, Scope, Sort};
 use std::alloc::{AllocError, Global};

@@ -5,12 +5,12 @@ ghost use Rattle.nddl_lines.specs.Facts.{facts_of};
 ghost use Rattle.nddl_schema.specs.Classes.{class_entries, class_numbers};
 ghost use Rattle.nddl_table.specs.Table.{AreEntries, HasEntries};
 
-use super::files::Program;
 use super::scoped::named_of;
 use super::table::{Named, TypeTable};
 use eu_name::sequence::Sequence;
 use model_core::class::{Class, Enum, Pred};
 use nddl_inherited::Heritage;
+use nddl_program::Program;
 use nddl_schema::{Sources, class_entries, class_numbers, classes_of, enums_of, preds_of};
 use std::alloc::{AllocError, Global};
 

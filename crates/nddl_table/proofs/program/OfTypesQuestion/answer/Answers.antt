@@ -1,7 +1,7 @@
 use Rattle.std.proofs.Common.{◌∙◌, sym}
 use Rattle.nddl_lines.specs.Facts.{facts_of}
 use Rattle.nddl_table.proofs.Answering.{tells_table}
-use Rattle.nddl_table.proofs.program.answer_from.Goals as goal
+use Rattle.nddl_table.proofs.program.OfTypesQuestion.answer.Goals as goal
 
 pub returns-in_ok-table_of-in-None : goal.returns-in_ok-table_of-in-None
 returns-in_ok-table_of-in-None c =

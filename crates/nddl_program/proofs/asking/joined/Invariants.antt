@@ -1,7 +1,7 @@
 use Rattle.std.proofs.Common.{◌≡◌, ◌++◌, drop, map}
 use Rattle.std.specs.List.{filter_map}
 use Rattle.nddl_joined.specs.Joined.{decl_in}
-use Rattle.nddl_table.proofs.program.joined.Given as goal
+use Rattle.nddl_program.proofs.asking.joined.Given as goal
 
 -- those so far and those of the sites that are left are all
 abbrev pub invariant-loop-site : goal.invariant-loop-site

@@ -1,0 +1,5 @@
+pub mod Compiled
+pub mod Known
+pub mod Outcomes
+pub mod Outlined
+pub mod Told
