@@ -7,6 +7,7 @@ use Rattle.std.proofs.lemmas.Option.{slice_get-map, slice_get_within}
 use denote.Bor.{Bor}
 use Rattle.domain_core.specs.Domain.{Domain}
 use Rattle.eu_name.specs.declared.name.Part.{Part}
+use Rattle.eu_name.specs.declared.name.Part.TheVariants.{Object}
 use Rattle.eu_name.specs.declared.name.TokenName.{TokenName}
 use Rattle.eu_name.specs.declared.name.VarName.{VarName}
 use Rattle.eu_name.specs.declared.name.VarName.TheVariants as name
@@ -67,15 +68,21 @@ module _ (stored : Stored) (is : IsSnapshot (snapshot_of stored)) where
       let number : at.0 ≡ at'.0 = names_have_one_number (content_now stored) one at.0 at'.0 (names_are_once (snapshot_of stored) is) at.1 at'.1 in
       some_of domain other (sym at.2 ∙ ap (slice_get stored.net.domains) number ∙ at'.2)
 
-  -- the place of the token of a part that is given a domain
+  -- the place of the token of a part
   part_place : (found : VarKey) (token : TokenName) (part : Part) → IsKeyBelow (length (tokens_now stored.past)) found → named_variable names found ≡ name.Token token part
-      → (place : ℕ) × (place < length (tokens_now stored.past)) × (name_at names place ≡ token)
+      → (place : ℕ) × (found ≡ key.Part place part) × (place < length (tokens_now stored.past)) × (name_at names place ≡ token)
   part_place (key.Global number) token part below same = absurd (cc)
   part_place (key.Local place rule number) token part below same = absurd (cc)
-  part_place (key.Part place other) token part below same = (place, below, cc)
+  part_place (key.Part place other) token part below same = (place, ap (key.Part place) (let p : other ≡ part = cc in p), below, cc)
 
-  pub token_place : (token : TokenName) (part : Part) (domain : Domain) → Gives (shown (content_now stored)) (name.Token token part) domain
-      → (place : ℕ) × (place < length (tokens_now stored.past)) × (name_at names place ≡ token)
-  token_place token part domain gives =
-      let found = given_key (name.Token token part) domain gives in
-      part_place found.0 token part found.2 found.3
+  -- the place of a token whose object is given a domain, and the number of the variable
+  pub object_place : (token : TokenName) (domain : Domain) → Gives (shown (content_now stored)) (name.Token token Object) domain
+      → (place : ℕ) × (number : ℕ) × (slice_get stored.keys number ≡ Some (key.Part place Object)) × (slice_get stored.net.domains number ≡ Some domain)
+      × (place < length (tokens_now stored.past)) × (name_at names place ≡ token)
+  object_place token domain gives =
+      let at = (gives_by_number (content_now stored) (name.Token token Object) domain).0 gives in
+      let from = unmapped (named_variable names) stored.keys at.0 (name.Token token Object) at.1 in
+      let there = contains_at stored.keys at.0 from.0 from.1 in
+      let below = All-contains (IsKeyBelow (length (tokens_now stored.past))) stored.keys from.0 is.placed there in
+      let place = part_place from.0 token Object below from.2 in
+      (place.0, at.0, from.1 ∙ ap Some place.1, at.2, place.2, place.3)

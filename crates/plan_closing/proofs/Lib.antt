@@ -1,3 +1,4 @@
+pub mod Seated
 pub mod Domains
 pub mod Claimed
 pub mod Sharing

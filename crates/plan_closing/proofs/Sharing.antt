@@ -1,10 +1,9 @@
 -- Tokens that share a timeline.
-use Rattle.std.proofs.Common.{◌≡◌, ◌⊎◌, inl, inr, ℕ, ◌+◌, ◌<◌, List, [], length, slice_get, Bool, true, false, Option, Some, None, refl, sym, ap, ◌∙◌, subst, arith}
-use Rattle.std.specs.Prelude.{ℤ, ◌<ℤ◌, ◌↔◌, ◌≢◌, IsTrue, MatchBool, MatchOption, IfSome, IfNone, Result, OnOk}
+use Rattle.std.proofs.Common.{◌≡◌, ◌⊎◌, inl, inr, ℕ, zero, suc, ◌+◌, ◌<◌, ◌≤◌, List, [], ◌∷◌, ◌++◌, length, pos, take, slice_get, slice_index_or, Bool, true, false, Option, Some, None, refl, sym, ap, ◌∙◌, subst, arith}
+use Rattle.std.specs.Prelude.{Contains, ℤ, ◌<ℤ◌, ◌↔◌, ◌≢◌, IsTrue, MatchBool, MatchOption, IfSome, IfNone, Result, OnOk}
 use Rattle.std.specs.declared.alloc.AllocError.{AllocError}
-use Rattle.std.proofs.lemmas.Bool.{cases_lt}
-use Rattle.std.proofs.lemmas.List.{append-nil}
-use Rattle.std.proofs.lemmas.List.Elements.{All-nil}
+use Rattle.std.proofs.lemmas.List.{append-nil, take_all}
+use Rattle.std.proofs.lemmas.List.Elements.{All-nil, Contains-append_left, Contains-append_right, Contains-append_cases}
 use Rattle.std.proofs.lemmas.Option.{slice_get-get_or}
 use Rattle.domain_core.specs.Domain.{Domain, IsSingle, least, greatest}
 use Rattle.eu_name.specs.declared.name.Part.TheVariants.{Start, End, Object}
@@ -17,6 +16,7 @@ use Rattle.model_core.specs.Decided.{IsActive}
 use Rattle.model_core.specs.State.{State, Gives}
 use Rattle.token_store.specs.Orders.{name_at}
 use Rattle.token_store.specs.Tokens.{tokens_now, token_states}
+use Rattle.plan_defs.proofs.Ordered.{contains_head, contains_cases}
 use Rattle.plan_defs.specs.Claims.{Claim}
 use Rattle.plan_defs.specs.Timelines.{IsOn, EndsTooLate}
 use Rattle.plan_growth.specs.Claims.{IsPostedIn}
@@ -24,13 +24,17 @@ use Rattle.plan_growth.specs.Content.{Content, shown}
 use Rattle.plan_growth.specs.Growth.{ends_before}
 use Rattle.timeline_core.specs.Unordered.{IsActiveOn, TakesPlace}
 use Rattle.timeline_core.proofs.Telling.{is_active, not_active}
-use Rattle.plan_store.specs.Stores.{Stored, snapshot_of, IsSnapshot}
+use Rattle.plan_store.specs.Stores.{Stored, snapshot_of, IsSnapshot, blocks_watching}
+use Rattle.plan_store.specs.declared.watchers.Watch.{Watch}
+use Rattle.plan_store.proofs.Watched.{watchers_are_listed}
 use Rattle.plan_store.proofs.Naming.{same_place, length_names}
 use Rattle.plan_posting.specs.Origins.{content_now}
 use Rattle.plan_posting.specs.Posted.{OnlyPosts, PostsClaims}
-use Rattle.plan_closing.specs.Turns.{HaveDecided, FindsTimeline, SeesToClaims, SaysTurn, IsTurnOf, TakeTheirTurns, TakesTurnsBefore, TakesTurns}
+use Rattle.plan_posting.specs.Terms.{HasTimesAt}
+use Rattle.plan_closing.specs.Seating.{SeatsAll}
+use Rattle.plan_closing.specs.Turns.{HaveDecided, FindsTimeline, SeesToClaims, SaysTurn, IsTurnOf, TakeTheirTurns, TakesTurnsAmong, TakesTurns}
 use Rattle.plan_closing.proofs.Claimed.{SaysOne, sees_none, sees_posted, sees_same, sees_both, ok_then}
-use Rattle.plan_closing.proofs.Domains.{gives_same, token_place}
+use Rattle.plan_closing.proofs.Domains.{gives_same, object_place}
 
 module _ (stored : Stored) (is : IsSnapshot (snapshot_of stored)) where
   pub object_told : (token : TokenName) (domain : Domain) (found : Option ℤ) → Gives (shown (content_now stored)) (Token token Object) domain
@@ -228,36 +232,85 @@ module _ (model : Model) (old : Stored) (is : IsSnapshot (snapshot_of old)) (one
         (turns_said there apart decisions decided) (said_turns there apart decisions decided)
         (sees_both content.names (SaysTurn (shown content) first second) (SaysTurn (shown content) second first) old.net.constraints middle.net.constraints new.net.constraints posted second_posted)) back
 
+pub times_on : (old new : Stored) → OnlyPosts old new → ((place : ℕ) → place < length (tokens_now old.past) → HasTimesAt old place)
+    → (place : ℕ) → place < length (tokens_now new.past) → HasTimesAt new place
+times_on old new only times = subst (λ (stored : Stored). (place : ℕ) → place < length (tokens_now stored.past) → HasTimesAt stored place) (sym only) times
+
+pub place_on : (old new : Stored) → OnlyPosts old new → (place : ℕ) → place < length (tokens_now old.past) → place < length (tokens_now new.past)
+place_on old new only place below = subst (λ (stored : Stored). place < length (tokens_now stored.past)) (sym only) below
+
 -- ---- with one token after another
+
+take_none : (xs : List ℕ) → take 0 xs ≡ []
+take_none [] = refl
+take_none (x ∷ xs) = refl
+
+take_next : (xs : List ℕ) (k : ℕ) → k < length xs → take (suc k) xs ≡ take k xs ++ slice_index_or xs k 0 ∷ []
+take_next [] k below = absurd (omega (arith, below))
+take_next (x ∷ xs) zero below = ap (λ list. x ∷ list) (take_none xs)
+take_next (x ∷ xs) (suc k) below = ap (λ list. x ∷ list) (take_next xs k (omega (arith, below)))
 
 module _ (model : Model) (old : Stored) (one : ℕ) where
   abbrev with_place : List Decision → ℕ → Claim → Type 0
   with_place decisions other claim = IsTurnOf model decisions (shown (content_now old)) (name_at (content_now old).tokens one) (name_at (content_now old).tokens other) claim
 
-  pub turns_first : TakesTurnsBefore model one 0 old old
-  turns_first decisions decided =
-      sees_none (content_now old).names (λ claim. (other : ℕ) × (other < 0) × with_place decisions other claim) old.net.constraints (λ claim turn. absurd (omega (arith, turn.1)))
+  abbrev pub WithOneOf : List Decision → List ℕ → Claim → Type 0
+  WithOneOf decisions others claim = (other : ℕ) × Contains others other × (other < length (tokens_now old.past)) × with_place decisions other claim
 
-  pub turns_more : (count : ℕ) (middle new : Stored) → OnlyPosts old middle → TakesTurnsBefore model one count old middle → TakeTheirTurns model one count middle new
-      → TakesTurnsBefore model one (count + 1) old new
-  turns_more count middle new only before next decisions decided =
+  pub turns_first : TakesTurnsAmong model one [] old old
+  turns_first decisions decided =
+      sees_none (content_now old).names (WithOneOf decisions []) old.net.constraints (λ claim turn. absurd (omega (arith, turn.1.1)))
+
+  only_one : (one other : ℕ) → Contains (one ∷ []) other → one ≡ other
+  only_one one other there = elim (contains_cases one other [] there) [ inl same ↦ same | inr later ↦ absurd (omega (arith, later.1)) ]
+
+  -- no token stands past the last
+  pub turns_past : (other : ℕ) → length (tokens_now old.past) ≤ other → TakesTurnsAmong model one (other ∷ []) old old
+  turns_past other past decisions decided =
+      sees_none (content_now old).names (WithOneOf decisions (other ∷ [])) old.net.constraints
+      (λ claim turn. let same = only_one other turn.0 turn.1 in absurd (omega (arith, past, same, turn.2)))
+
+  pub turns_one : (other : ℕ) (new : Stored) → other < length (tokens_now old.past) → TakeTheirTurns model one other old new → TakesTurnsAmong model one (other ∷ []) old new
+  turns_one other new below takes decisions decided =
+      sees_same (content_now old).names (with_place decisions other) (WithOneOf decisions (other ∷ [])) old.net.constraints new.net.constraints
+      (λ claim turn. (other, contains_head other [], below, turn))
+      (λ claim turn. subst (λ place. with_place decisions place claim) (sym (only_one other turn.0 turn.1)) turn.3)
+      (takes decisions decided)
+
+  pub turns_more : (seen : List ℕ) (other : ℕ) (middle new : Stored) → OnlyPosts old middle → TakesTurnsAmong model one seen old middle
+      → TakesTurnsAmong model one (other ∷ []) middle new → TakesTurnsAmong model one (seen ++ other ∷ []) old new
+  turns_more seen other middle new only before next decisions decided =
       let content = content_now old in
-      let step = subst (λ (c : Content). SeesToClaims c.names (IsTurnOf model decisions (shown c) (name_at c.tokens one) (name_at c.tokens count)) middle.net.constraints new.net.constraints)
-      (same_content old middle only) (next decisions (decided_on model decisions old middle only decided)) in
-      sees_same content.names (λ claim. ((other : ℕ) × (other < count) × with_place decisions other claim) ⊎ with_place decisions count claim)
-      (λ claim. (other : ℕ) × (other < count + 1) × with_place decisions other claim) old.net.constraints new.net.constraints
+      let step = subst (λ (stored : Stored). SeesToClaims (content_now stored).names (λ claim. (place : ℕ) × Contains (other ∷ []) place × (place < length (tokens_now stored.past))
+      × IsTurnOf model decisions (shown (content_now stored)) (name_at (content_now stored).tokens one) (name_at (content_now stored).tokens place) claim) stored.net.constraints new.net.constraints)
+      only (next decisions (decided_on model decisions old middle only decided)) in
+      sees_same content.names (λ claim. WithOneOf decisions seen claim ⊎ WithOneOf decisions (other ∷ []) claim)
+      (WithOneOf decisions (seen ++ other ∷ [])) old.net.constraints new.net.constraints
       (λ claim either. elim either [
-        | inl turn ↦ (turn.0, omega (arith, turn.1), turn.2)
-        | inr turn ↦ (count, omega arith, turn)
+        | inl turn ↦ (turn.0, Contains-append_left seen (other ∷ []) turn.0 turn.1, turn.2, turn.3)
+        | inr turn ↦ (turn.0, Contains-append_right seen (other ∷ []) turn.0 turn.1, turn.2, turn.3)
       ])
-      (λ claim turn. elim (cases_lt turn.0 count) [
-        | inl less ↦ inl (turn.0, less, turn.2)
-        | inr over ↦
-            let same : turn.0 ≡ count = omega (arith, over, turn.1) in
-            inr (subst (λ other. with_place decisions other claim) same turn.2)
+      (λ claim turn. elim (Contains-append_cases seen (other ∷ []) turn.0 turn.1) [
+        | inl there ↦ inl (turn.0, there, turn.2, turn.3)
+        | inr there ↦ inr (turn.0, there, turn.2, turn.3)
       ])
-      (sees_both content.names (λ claim. (other : ℕ) × (other < count) × with_place decisions other claim) (with_place decisions count)
+      (sees_both content.names (WithOneOf decisions seen) (WithOneOf decisions (other ∷ []))
       old.net.constraints middle.net.constraints new.net.constraints (before decisions decided) step)
+
+  pub turns_begin : (others : List ℕ) → TakesTurnsAmong model one (take 0 others) old old
+  turns_begin others = subst (λ list. TakesTurnsAmong model one list old old) (sym (take_none others)) turns_first
+
+  pub turns_next : (others : List ℕ) (count : ℕ) → count < length others → (middle new : Stored) → OnlyPosts old middle → TakesTurnsAmong model one (take count others) old middle
+      → TakesTurnsAmong model one (slice_index_or others count 0 ∷ []) middle new → TakesTurnsAmong model one (take (count + 1) others) old new
+  turns_next others count below middle new only before next =
+      let longer : take (count + 1) others ≡ take count others ++ slice_index_or others count 0 ∷ [] =
+      ap (λ n. take n others) (let p : count + 1 ≡ suc count = omega arith in p) ∙ take_next others count below in
+      subst (λ list. TakesTurnsAmong model one list old new) (sym longer)
+      (turns_more (take count others) (slice_index_or others count 0) middle new only before next)
+
+  pub turns_end : (others : List ℕ) (count : ℕ) → length others ≤ count → (new : Stored) → TakesTurnsAmong model one (take count others) old new
+      → TakesTurnsAmong model one others old new
+  turns_end others count all new among = subst (λ list. TakesTurnsAmong model one list old new) (take_all count others all) among
 
   -- a token on no timeline takes no turns
   pub no_turns : FindsTimeline model old one None → TakesTurns model one old old
@@ -266,19 +319,27 @@ module _ (model : Model) (old : Stored) (one : ℕ) where
       sees_none content.names (λ claim. (other : TokenName) × IsTurnOf model decisions (shown content) (name_at content.tokens one) other claim) old.net.constraints
       (λ claim turn. let on = turn_on model decisions (shown content) (name_at content.tokens one) turn.0 claim turn.1 in finds decisions decided on.0 on.1)
 
-  -- whoever takes a turn is at a place
-  pub turns_all : IsSnapshot (snapshot_of old) → (new : Stored) (result : Result (Unit {0}) AllocError)
-      → OnOk result (TakesTurnsBefore model one (length (tokens_now old.past)) old new) → OnOk result (TakesTurns model one old new)
-  turns_all is new result before = ok_then result (λ turns decisions decided.
+  -- whoever takes a turn is noted on the timeline
+  pub turns_all : IsSnapshot (snapshot_of old) → (timeline : ℤ) → FindsTimeline model old one (Some timeline) → (seats : List Watch) → SeatsAll old.keys old.net.domains seats
+      → (others : List ℕ) → ((object : ℕ) → timeline ≡ pos object → others ≡ blocks_watching seats object)
+      → (new : Stored) (result : Result (Unit {0}) AllocError) → OnOk result (TakesTurnsAmong model one others old new) → OnOk result (TakesTurns model one old new)
+  turns_all is timeline finds seats seated others listed new result among = ok_then result (λ turns decisions decided.
       let content = content_now old in
-      sees_same content.names (λ claim. (other : ℕ) × (other < length (tokens_now old.past)) × with_place decisions other claim)
-      (λ claim. (other : TokenName) × IsTurnOf model decisions (shown content) (name_at content.tokens one) other claim) old.net.constraints new.net.constraints
-      (λ claim turn. (name_at content.tokens turn.0, turn.2))
+      let token = name_at content.tokens one in
+      sees_same content.names (WithOneOf decisions others)
+      (λ claim. (other : TokenName) × IsTurnOf model decisions (shown content) token other claim) old.net.constraints new.net.constraints
+      (λ claim turn. (name_at content.tokens turn.0, turn.3))
       (λ claim turn.
-      let on = (turn_on model decisions (shown content) (name_at content.tokens one) turn.0 claim turn.1).2.on in
-      let place = token_place old is turn.0 Object on.0 on.1 in (
+      let on = turn_on model decisions (shown content) token turn.0 claim turn.1 in
+      let here = finds decisions decided in
+      let same : on.0 ≡ timeline = one_object old is token timeline on.0 here.on on.1.on in
+      let object = here.is_timeline.1 in
+      let over = subst (IsOn (shown content) turn.0) same on.2.on in
+      let place = object_place old is turn.0 over.0 over.1 in
+      let seat = seated place.1 place.0 object.0 over.0 place.2 place.3 (subst (IsSingle over.0) object.1 over.2) in (
         place.0,
-        place.1,
-        subst (λ token. IsTurnOf model decisions (shown content) (name_at content.tokens one) token claim) (sym place.2) turn.1,
+        subst (λ list. Contains list place.0) (sym (listed object.0 object.1)) ((watchers_are_listed seats object.0 place.0).1 seat),
+        place.4,
+        subst (λ other. IsTurnOf model decisions (shown content) token other claim) (sym place.5) turn.1,
       ))
-      (turns decisions decided)) before
+      (turns decisions decided)) among

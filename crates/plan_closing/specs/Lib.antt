@@ -1,3 +1,4 @@
+pub mod Seating
 pub mod Turns
 pub mod Looking
 pub mod Closing

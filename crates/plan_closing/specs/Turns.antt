@@ -1,11 +1,12 @@
 -- Tokens that take turns on a timeline.
-use Rattle.std.specs.Prelude.{◌≡◌, ◌⊎◌, ℕ, ◌<◌, ℤ, List, ◌++◌, Option, MatchOption, All}
+use Rattle.std.specs.Prelude.{◌≡◌, ◌⊎◌, ℕ, ◌<◌, ℤ, List, ◌++◌, Option, MatchOption, All, Contains, length}
 use Rattle.eu_name.specs.declared.name.TokenName.{TokenName}
 use Rattle.eu_name.specs.declared.name.VarName.{VarName}
 use Rattle.model_core.specs.declared.decision.Decision.{Decision}
 use Rattle.model_core.specs.declared.model.Model.{Model}
 use Rattle.model_core.specs.State.{State}
 use Rattle.token_store.specs.Orders.{name_at}
+use Rattle.token_store.specs.Tokens.{tokens_now}
 use Rattle.constraint_net.specs.declared.constraint.Constraint as posts
 use Rattle.plan_defs.specs.Claims.{Claim}
 use Rattle.plan_defs.specs.Laws.{HaveToTurn}
@@ -57,12 +58,12 @@ TakeTheirTurns model one other old new =
     (IsTurnOf model decisions (shown content) (name_at content.tokens one) (name_at content.tokens other))
     old.net.constraints new.net.constraints
 
--- the token at the one place takes turns with each of the first so many tokens
-abbrev pub TakesTurnsBefore : Model → ℕ → ℕ → Stored → Stored → Type 0
-TakesTurnsBefore model one count old new =
+-- the token at the one place takes turns with each token at one of the others
+abbrev pub TakesTurnsAmong : Model → ℕ → List ℕ → Stored → Stored → Type 0
+TakesTurnsAmong model one others old new =
     (decisions : List Decision) → HaveDecided model decisions old
     → let content = content_now old in
-    SeesToClaims content.names (λ claim. (other : ℕ) × (other < count)
+    SeesToClaims content.names (λ claim. (other : ℕ) × Contains others other × (other < length (tokens_now old.past))
     × IsTurnOf model decisions (shown content) (name_at content.tokens one) (name_at content.tokens other) claim)
     old.net.constraints new.net.constraints
 

@@ -5,9 +5,11 @@ ghost use Rattle.model_core.specs.Lawful.{IsLawful};
 ghost use Rattle.plan_store.specs.StoreMarks.{KeepStoreMarks};
 ghost use Rattle.plan_posting.specs.Tables.{HaveTables};
 ghost use Rattle.plan_closing.specs.Looking.{HasWay};
+ghost use Rattle.plan_closing.specs.Seating.{IsSeatingOf, KeepsSeating};
 ghost use Rattle.plan_closing.specs.Closing.{CanGoOn, CanClose, Heeds, Steps, TakesSteps, LooksAtAll, BringsToRest};
 
 use super::looking::look_at;
+use super::seating::Seating;
 use constraint_net::NetFault;
 use model_core::model::Model;
 use plan_store::Store;
@@ -27,19 +29,22 @@ pub enum Step {
 fn heed_next(
     alloc: Global,
     store: &mut Store,
+    seating: &mut Seating,
     model: &Model,
     unfolded: usize,
 ) -> Result<bool, NetFault>
     requires lawful { IsLawful model.now }
     requires way { CanGoOn model.now store.old unfolded }
+    requires seated { IsSeatingOf store.old seating.old }
     ensures heeds { Heeds model.now unfolded store.old result store.new }
     ensures tables { OnOk result (store.new.net.tables ≡ store.old.net.tables) }
     ensures marks { KeepStoreMarks store.old store.new }
+    ensures seated { KeepsSeating seating.old store.new seating.new }
 {
     let Some(variable) = store.next_changed() else {
         return Ok(false);
     };
-    look_at(alloc, store, model, unfolded, variable)?;
+    look_at(alloc, store, seating, model, unfolded, variable)?;
     Ok(true)
 }
 
@@ -47,18 +52,21 @@ fn heed_next(
 fn settle(
     alloc: Global,
     store: &mut Store,
+    seating: &mut Seating,
     model: &Model,
     unfolded: usize,
 ) -> Result<Step, NetFault>
     requires lawful { IsLawful model.now }
     requires way { CanGoOn model.now store.old unfolded }
+    requires seated { IsSeatingOf store.old seating.old }
     requires all { length store.old.blocks ≤ unfolded }
     ensures steps { Steps model.now unfolded store.old result store.new }
     ensures tables { OnOk result (store.new.net.tables ≡ store.old.net.tables) }
     ensures marks { KeepStoreMarks store.old store.new }
+    ensures seated { KeepsSeating seating.old store.new seating.new }
 {
     store.settle()?;
-    let heeded = heed_next(alloc, store, model, unfolded)?;
+    let heeded = heed_next(alloc, store, seating, model, unfolded)?;
     if heeded {
         return Ok(Step::On(unfolded));
     }
@@ -69,40 +77,51 @@ fn settle(
 fn take_step(
     alloc: Global,
     store: &mut Store,
+    seating: &mut Seating,
     model: &Model,
     unfolded: usize,
 ) -> Result<Step, NetFault>
     requires lawful { IsLawful model.now }
     requires tables { HaveTables model.now store.old.net.tables }
     requires way { CanGoOn model.now store.old unfolded }
+    requires seated { IsSeatingOf store.old seating.old }
     ensures steps { Steps model.now unfolded store.old result store.new }
     ensures tables { OnOk result (store.new.net.tables ≡ store.old.net.tables) }
     ensures marks { KeepStoreMarks store.old store.new }
+    ensures seated { KeepsSeating seating.old store.new seating.new }
 {
     let blocks = store.block_count();
     if unfolded < blocks {
         unfold(alloc, store, model, unfolded)?;
         return Ok(Step::On(unfolded + 1));
     }
-    let heeded = heed_next(alloc, store, model, unfolded)?;
+    let heeded = heed_next(alloc, store, seating, model, unfolded)?;
     if heeded {
         return Ok(Step::On(unfolded));
     }
-    settle(alloc, store, model, unfolded)
+    settle(alloc, store, seating, model, unfolded)
 }
 
 // Takes step after step until nothing more comes. Memory stands for more steps than can be counted.
-fn run(alloc: Global, store: &mut Store, model: &Model, unfolded: usize) -> Result<(), NetFault>
+fn run(
+    alloc: Global,
+    store: &mut Store,
+    seating: &mut Seating,
+    model: &Model,
+    unfolded: usize,
+) -> Result<(), NetFault>
     requires lawful { IsLawful model.now }
     requires tables { HaveTables model.now store.old.net.tables }
     requires way { CanGoOn model.now store.old unfolded }
+    requires seated { IsSeatingOf store.old seating.old }
     ensures runs { TakesSteps model.now unfolded store.old result store.new }
     ensures tables { OnOk result (store.new.net.tables ≡ store.old.net.tables) }
     ensures marks { KeepStoreMarks store.old store.new }
+    ensures seated { KeepsSeating seating.old store.new seating.new }
 {
     let mut count = unfolded;
     for _round in 0..u32::MAX {
-        let Step::On(next) = take_step(alloc, store, model, count)? else {
+        let Step::On(next) = take_step(alloc, store, seating, model, count)? else {
             return Ok(());
         };
         count = next;
@@ -114,19 +133,22 @@ fn run(alloc: Global, store: &mut Store, model: &Model, unfolded: usize) -> Resu
 fn look_at_all(
     alloc: Global,
     store: &mut Store,
+    seating: &mut Seating,
     model: &Model,
     unfolded: usize,
     due: &[usize],
 ) -> Result<(), NetFault>
     requires lawful { IsLawful model.now }
     requires way { HasWay model.now store.old unfolded }
+    requires seated { IsSeatingOf store.old seating.old }
     ensures looks { LooksAtAll model.now unfolded due.now store.old result store.new }
     ensures tables { OnOk result (store.new.net.tables ≡ store.old.net.tables) }
     ensures changed { OnOk result (store.new.net.changed ≡ store.old.net.changed) }
     ensures marks { KeepStoreMarks store.old store.new }
+    ensures seated { KeepsSeating seating.old store.new seating.new }
 {
     for variable in due {
-        look_at(alloc, store, model, unfolded, *variable)?;
+        look_at(alloc, store, seating, model, unfolded, *variable)?;
     }
     Ok(())
 }
@@ -136,6 +158,7 @@ fn look_at_all(
 pub fn close(
     alloc: Global,
     store: &mut Store,
+    seating: &mut Seating,
     model: &Model,
     unfolded: usize,
     due: &[usize],
@@ -143,10 +166,12 @@ pub fn close(
     requires lawful { IsLawful model.now }
     requires tables { HaveTables model.now store.old.net.tables }
     requires way { CanClose model.now store.old unfolded due.now }
+    requires seated { IsSeatingOf store.old seating.old }
     ensures closes { BringsToRest model.now unfolded due.now store.old result store.new }
     ensures tables { OnOk result (store.new.net.tables ≡ store.old.net.tables) }
     ensures marks { KeepStoreMarks store.old store.new }
+    ensures seated { KeepsSeating seating.old store.new seating.new }
 {
-    look_at_all(alloc, store, model, unfolded, due)?;
-    run(alloc, store, model, unfolded)
+    look_at_all(alloc, store, seating, model, unfolded, due)?;
+    run(alloc, store, seating, model, unfolded)
 }

@@ -3,6 +3,8 @@
 
 mod closing;
 mod looking;
+pub mod seating;
 mod turns;
 
 pub use closing::close;
+pub use seating::Seating;

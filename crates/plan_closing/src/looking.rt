@@ -7,8 +7,10 @@ ghost use Rattle.plan_store.specs.StoreMarks.{KeepStoreMarks};
 ghost use Rattle.plan_posting.specs.Posted.{OnlyPosts};
 ghost use Rattle.plan_opening.specs.Underway.{OnlyAdds};
 ghost use Rattle.plan_unfolding.specs.Branches.{StaysOnWay, FollowsBranches};
+ghost use Rattle.plan_closing.specs.Seating.{IsSeatingOf, KeepsSeating};
 ghost use Rattle.plan_closing.specs.Looking.{HasWay, FollowsWatchers, TellsTurns, OwnerTakesTurns, KeepsWay, LooksAt};
 
+use super::seating::Seating;
 use super::turns::look_at_turns;
 use constraint_net::NetFault;
 use eu_name::name::Part;
@@ -87,23 +89,27 @@ fn tells_turns(part: Part) -> bool
 }
 
 // Lets the token take its turns whose object, start or end the variable is.
+#[tactic(auto, using(crate::proofs::Seated::kept_same))]
 fn look_at_owner(
     store: &mut Store,
+    seating: &mut Seating,
     model: &Model,
     unfolded: usize,
     variable: usize,
 ) -> Result<(), AllocError>
     requires way { HasWay model.now store.old unfolded }
+    requires seated { IsSeatingOf store.old seating.old }
     ensures way { OnOk result (KeepsWay model.now store.old store.new) }
     ensures turns { OnOk result (OwnerTakesTurns model.now variable store.old store.new) }
     ensures only { OnlyPosts store.old store.new }
     ensures marks { KeepStoreMarks store.old store.new }
+    ensures seated { KeepsSeating seating.old store.new seating.new }
 {
     store.is_sound();
     match store.key_at(variable) {
         Some(VarKey::Part(place, part)) => {
             if tells_turns(part) {
-                look_at_turns(store, model, place)
+                look_at_turns(store, seating, model, place)
             } else {
                 Ok(())
             }
@@ -116,20 +122,23 @@ fn look_at_owner(
 pub fn look_at(
     alloc: Global,
     store: &mut Store,
+    seating: &mut Seating,
     model: &Model,
     unfolded: usize,
     variable: usize,
 ) -> Result<(), NetFault>
     requires lawful { IsLawful model.now }
     requires way { HasWay model.now store.old unfolded }
+    requires seated { IsSeatingOf store.old seating.old }
     ensures looks { LooksAt model.now unfolded variable store.old result store.new }
     ensures tables { OnOk result (store.new.net.tables ≡ store.old.net.tables) }
     ensures changed { OnOk result (store.new.net.changed ≡ store.old.net.changed) }
     ensures marks { KeepStoreMarks store.old store.new }
+    ensures seated { KeepsSeating seating.old store.new seating.new }
 {
     store.is_sound();
     look_at_watchers(alloc, store, model, unfolded, variable)?;
     store.is_sound();
-    look_at_owner(store, model, unfolded, variable)?;
+    look_at_owner(store, seating, model, unfolded, variable)?;
     Ok(())
 }

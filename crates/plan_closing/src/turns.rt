@@ -1,6 +1,6 @@
 //! Tokens that take turns on a timeline.
 
-ghost use Rattle.std.specs.Prelude.{◌≡◌, ◌↔◌, ◌<◌, ◌<ℤ◌, ℕ, ℤ, List, Some, length, IsTrue, MatchBool, MatchOption, OnOk};
+ghost use Rattle.std.specs.Prelude.{◌↔◌, ◌<◌, ◌<ℤ◌, ℕ, ℤ, List, [], ◌∷◌, Some, length, IsTrue, MatchBool, MatchOption, OnOk};
 ghost use Rattle.domain_core.specs.Domain.{Domain, least, greatest};
 ghost use Rattle.model_core.specs.declared.decision.Decision.{Decision};
 ghost use Rattle.model_core.specs.declared.model.Model.{Model as Problem};
@@ -15,8 +15,10 @@ ghost use Rattle.plan_store.specs.StoreMarks.{KeepStoreMarks};
 ghost use Rattle.plan_posting.specs.Origins.{content_now};
 ghost use Rattle.plan_posting.specs.Posted.{OnlyPosts};
 ghost use Rattle.plan_posting.specs.Terms.{HasTimesAt};
-ghost use Rattle.plan_closing.specs.Turns.{HaveDecided, FindsTimeline, SeesToClaims, SaysTurn, TakeTheirTurns, TakesTurnsBefore, TakesTurns};
+ghost use Rattle.plan_closing.specs.Seating.{IsSeatingOf, KeepsSeating};
+ghost use Rattle.plan_closing.specs.Turns.{HaveDecided, FindsTimeline, SeesToClaims, SaysTurn, TakeTheirTurns, TakesTurnsAmong, TakesTurns};
 
+use super::seating::Seating;
 use domain_core::domain::Dom;
 use eu_name::name::Part;
 use model_core::model::Model;
@@ -166,39 +168,70 @@ fn take_turns(
     post_turn(store, other, one)
 }
 
-// Lets the token at the place take turns with all others, where it is active on this timeline.
-fn take_turns_on(
+// The same with the token at a place that some token of the store may have.
+fn take_turns_at(
+    store: &mut Store,
+    model: &Model,
+    one: u32,
+    other: usize,
+    timeline: i32,
+) -> Result<(), AllocError>
+    requires times { (place : ℕ) → place < length (tokens_now store.old.past) → HasTimesAt store.old place }
+    requires one { one < length (tokens_now store.old.past) }
+    requires on { FindsTimeline model.now store.old one (Some timeline) }
+    ensures turns { OnOk result (TakesTurnsAmong model.now one (other ∷ []) store.old store.new) }
+    ensures only { OnlyPosts store.old store.new }
+    ensures marks { KeepStoreMarks store.old store.new }
+{
+    let count = store.tokens().count();
+    if other >= count as usize {
+        return Ok(());
+    }
+    let place = other as u32;
+    take_turns(store, model, one, place, timeline)
+}
+
+// Lets the token at the place take turns with those at the others, where it is active on this timeline.
+fn take_turns_among(
     store: &mut Store,
     model: &Model,
     place: u32,
+    others: &[usize],
     timeline: i32,
 ) -> Result<(), AllocError>
     requires times { (other : ℕ) → other < length (tokens_now store.old.past) → HasTimesAt store.old other }
     requires place { place < length (tokens_now store.old.past) }
     requires on { FindsTimeline model.now store.old place (Some timeline) }
-    ensures turns { OnOk result (TakesTurnsBefore model.now place (length (tokens_now store.old.past)) store.old store.new) }
+    ensures turns { OnOk result (TakesTurnsAmong model.now place others.now store.old store.new) }
     ensures only { OnlyPosts store.old store.new }
     ensures marks { KeepStoreMarks store.old store.new }
 {
-    let count = store.tokens().count();
-    for other in 0..count {
-        take_turns(store, model, place, other, timeline)?;
+    for other in others {
+        take_turns_at(store, model, place, *other, timeline)?;
     }
     Ok(())
 }
 
 /// Asks from now on for the order of the token at the place and of each other on its timeline, where the two have to be in
-/// order.
-pub fn look_at_turns(store: &mut Store, model: &Model, place: u32) -> Result<(), AllocError>
+/// order. It goes over the tokens that are noted on that timeline.
+pub fn look_at_turns(
+    store: &mut Store,
+    seating: &mut Seating,
+    model: &Model,
+    place: u32,
+) -> Result<(), AllocError>
     requires times { (other : ℕ) → other < length (tokens_now store.old.past) → HasTimesAt store.old other }
     requires place { place < length (tokens_now store.old.past) }
+    requires seated { IsSeatingOf store.old seating.old }
     ensures turns { OnOk result (TakesTurns model.now place store.old store.new) }
     ensures only { OnlyPosts store.old store.new }
     ensures marks { KeepStoreMarks store.old store.new }
+    ensures seated { KeepsSeating seating.old store.new seating.new }
 {
     store.is_sound();
-    match timeline_of(model, store, place) {
-        Some(timeline) => take_turns_on(store, model, place, timeline),
-        None => Ok(()),
-    }
+    let Some(timeline) = timeline_of(model, store, place) else {
+        return Ok(());
+    };
+    seating.catch_up(store)?;
+    take_turns_among(store, model, place, seating.on(timeline), timeline)
 }

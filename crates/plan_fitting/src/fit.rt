@@ -15,7 +15,7 @@ use super::touched::are_uses_as_before;
 use model_core::decision::Decision;
 use model_core::model::Model;
 use plan_growth::laws::resources_decide;
-use plan_resources::{reservoirs_fit, reusables_fit};
+use plan_resources::{has_reservoir, reservoirs_fit, reusables_fit};
 use plan_store::{Mark, Store};
 use plan_view::StoreView;
 use std::alloc::{AllocError, Global};
@@ -37,6 +37,9 @@ fn levels_fit(
 {
     settled_lists_decide_once();
     store.is_sound();
+    if !has_reservoir(model) {
+        return Ok(true);
+    }
     if !are_all_decided(store.tokens()) {
         return Ok(true);
     }

@@ -1,5 +1,5 @@
 -- How many tokens are active.
-use Rattle.std.proofs.Common.{◌≡◌, ℕ, zero, suc, ◌+◌, ◌≤◌, List, [], ◌∷◌, ◌⊎◌, inl, inr, length, take, get_or, Some, refl, sym, ◌∙◌, ap, subst, arith}
+use Rattle.std.proofs.Common.{◌≡◌, ℕ, zero, suc, ◌+◌, ◌<◌, ◌≤◌, true, false, List, [], ◌∷◌, ◌⊎◌, inl, inr, length, take, get_or, Some, refl, sym, ◌∙◌, ap, subst, arith}
 use Rattle.std.specs.Prelude.{AllPairs, Contains, slice_get, sum_by, ◌≢◌, ◌↔◌, IsTrue}
 use Rattle.std.proofs.Math.Dec.{leb}
 use Rattle.std.proofs.lemmas.Bool.{leb-true, le-leb}
@@ -46,6 +46,22 @@ count_all tokens place active before past = before ∙ ap (sum_by one_if_active)
     take_all [] (suc n) long = refl
     take_all (x ∷ xs) zero long = absurd (omega arith)
     take_all (x ∷ xs) (suc n) long = let rest = take_all xs n (omega arith) in ap (λ list. x ∷ list) rest
+
+-- no more are active than there are
+pub active_most : (tokens : TokenList) → active_count tokens ≤ length tokens
+active_most [] = omega arith
+active_most (token ∷ tokens) =
+    let rest = active_most tokens in
+    let sum = sum_by-cons one_if_active token.1.state (token_states tokens) in
+    let one = at_most_one token.1.state in
+    omega (arith, rest, sum, one)
+  where
+    at_most_one : (state : TokenState) → one_if_active state ≤ 1
+    at_most_one Active = omega arith
+    at_most_one Fact = omega arith
+    at_most_one Inactive = omega arith
+    at_most_one (Merged place) = omega arith
+    at_most_one Rejected = omega arith
 
 -- ---- one list has no more than another
 
@@ -221,3 +237,10 @@ module _ (model : Model) (decisions : List Decision) (snapshot : Snapshot) (told
         λ enough. when.0 (omega (arith, leb-true 512 count enough, counted)),
         λ are. le-leb 512 count (omega (arith, when.1 are, counted)),
       )
+
+  -- where there are fewer tokens, so many aren't active
+  pub few_told : (tokens : TokenList) → snapshot.tokens ≡ tokens → length tokens < 512 → IsTrue false ↔ AreActive model decisions 512
+  few_told tokens same few = (
+    λ yes. let p : false ≡ true = yes in cc,
+    λ are. let enough = active_full 512 are in let most = active_most snapshot.tokens in absurd (omega (arith, enough, most, few, ap length same)),
+  )

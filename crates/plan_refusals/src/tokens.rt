@@ -82,13 +82,16 @@ fn count_active(tokens: &Tokens) -> u32
     active
 }
 
-/// Whether as many tokens are active as there may be. It goes over all tokens.
+/// Whether as many tokens are active as there may be. It goes over all tokens where there are so many.
 pub fn is_full(tokens: &Tokens) -> bool
     requires { AllPairs ◌≢◌ (token_names (tokens_now tokens.now)) }
     ensures { (model : Problem) (decisions : List Decision) (snapshot : Snapshot)
         → snapshot.tokens ≡ tokens_now tokens.now → AreTold model decisions snapshot
         → (IsTrue result ↔ AreActive model decisions 512) }
 {
+    if tokens.count() < MOST_ACTIVE {
+        return false;
+    }
     count_active(tokens) >= MOST_ACTIVE
 }
 

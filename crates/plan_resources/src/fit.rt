@@ -53,7 +53,8 @@ fn is_reservoir(object: &Object) -> bool
     matches!(object.kind, ObjectKind::Reservoir { .. })
 }
 
-fn has_reservoir(model: &Model) -> bool
+/// Whether an object is a reservoir.
+pub fn has_reservoir(model: &Model) -> bool
     ensures { MatchBool result (Any IsReservoir model.now.objects) (All (λ object. IsReservoir object → ⊥) model.now.objects) }
 {
     model

@@ -13,7 +13,9 @@ mod fit;
 mod usage;
 
 pub use actor::{Actor, actors};
-pub use fit::{levels_decide, reservoir_fits, reservoirs_fit, reusable_fits, reusables_fit};
+pub use fit::{
+    has_reservoir, levels_decide, reservoir_fits, reservoirs_fit, reusable_fits, reusables_fit,
+};
 use std::alloc::AllocError;
 
 // Puts the item at the end of the list, where there is one.

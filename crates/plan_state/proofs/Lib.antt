@@ -1,4 +1,5 @@
 pub mod Returning
+pub mod Stepping
 pub mod Following
 pub mod Resting
 pub mod Going

@@ -1,5 +1,5 @@
 -- A store that stands for a list, as marks are set and gone back to.
-use Rattle.std.proofs.Common.{◌≡◌, ℕ, zero, suc, ◌+◌, ◌<◌, ◌≤◌, List, [], ◌∷◌, ◌++◌, ◌⊎◌, inl, inr, length, take, Some, refl, sym, ◌∙◌, ap, subst, arith}
+use Rattle.std.proofs.Common.{◌≡◌, ℕ, zero, suc, ◌+◌, ◌-◌, ◌<◌, ◌≤◌, List, [], ◌∷◌, ◌++◌, ◌⊎◌, inl, inr, length, take, Some, refl, sym, ◌∙◌, ap, subst, arith}
 use Rattle.std.specs.Prelude.{slice_get}
 use Rattle.std.proofs.lemmas.List.{length-take-le, length_push}
 use Rattle.model_core.specs.declared.decision.Decision.{Decision}
@@ -9,12 +9,14 @@ use Rattle.plan_progress.proofs.Places.{get_cases}
 use Rattle.plan_store.specs.declared.store.Mark.{Mark}
 use Rattle.plan_store.specs.Stores.{Stored, snapshot_of}
 use Rattle.plan_store.specs.StoreMarks.{IsStoreMark, IsMarkBefore, CanGoBack, KeepStoreMarks, GoesBackTo}
-use Rattle.plan_state.specs.Advancing.{IsLeastOf}
-use Rattle.plan_state.specs.Standing.{IsMarkOf, StandsForList}
+use Rattle.plan_state.specs.declared.footing.Footing.{Footing}
+use Rattle.plan_state.specs.declared.footing.Footing.TheVariants.{Rest, Fallen, Void}
+use Rattle.plan_state.specs.Advancing.{IsLeastOf, but_last}
+use Rattle.plan_state.specs.Standing.{IsMarkOf, StandsForList, KeepsListOn}
 
 -- ---- fronts of lists
 
-get_front : {X : Type 0} (xs : List X) (n k : ℕ) (x : X) → slice_get (take n xs) k ≡ Some x → (k < n) × (slice_get xs k ≡ Some x)
+pub get_front : {X : Type 0} (xs : List X) (n k : ℕ) (x : X) → slice_get (take n xs) k ≡ Some x → (k < n) × (slice_get xs k ≡ Some x)
 get_front [] zero k x at = absurd (cc)
 get_front [] (suc n) k x at = absurd (cc)
 get_front (y ∷ xs) zero k x at = absurd (cc)
@@ -116,3 +118,14 @@ module _ (model : Model) (decisions : List Decision) (marks : List Mark) where
           (was.0, back.marks earlier was.0 (latest earlier (was.0, was.1)) (keep.marks earlier was.0 was.1), was.2);
       order = stands.order;
     }
+
+-- whatever a list stands for, a shorter front of it is gone back to
+pub front_kept : (model : Model) (decisions : List Decision) (stored : Stored) (marks : List Mark) (footing : Footing) (number : ℕ) (new : Stored) (left : List Mark)
+    → ((longer : List Decision) → StandsForList model longer stored marks → number ≤ length longer → StandsForList model (take number longer) new left)
+    → KeepsListOn model decisions stored marks footing → number < length decisions → StandsForList model (take number decisions) new left
+front_kept model decisions stored marks Rest number new left back kept less = back decisions kept (omega (arith, less))
+front_kept model decisions stored marks Fallen number new left back kept less =
+    let front = length-take-le (length decisions - 1) decisions (omega arith) in
+    subst (λ list. StandsForList model list new left) (take_front decisions (length decisions - 1) number (omega (arith, less)))
+    (back (but_last decisions) kept.0 (omega (arith, less, front)))
+front_kept model decisions stored marks Void number new left back kept less = absurd (omega (arith, less, ap length kept.0))

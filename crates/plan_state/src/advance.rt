@@ -7,6 +7,7 @@ ghost use Rattle.plan_defs.specs.Settling.{IsSettled};
 ghost use Rattle.plan_posting.specs.Tables.{HaveTables};
 ghost use Rattle.plan_store.specs.Stores.{snapshot_of};
 ghost use Rattle.plan_store.specs.StoreMarks.{KeepStoreMarks};
+ghost use Rattle.plan_closing.specs.Seating.{IsSeatingOf, KeepsSeating};
 ghost use Rattle.plan_beginning.specs.Beginning.{IsBeginning};
 ghost use Rattle.plan_state.specs.Advancing.{but_last, EndsAdmissibly};
 ghost use Rattle.plan_state.specs.Advancing.{IsRestOf, IsLeastOf, CanFollow, AdvancesBy, StartsFrom, SettlesDown, LeavesLeast};
@@ -14,7 +15,7 @@ ghost use Rattle.plan_state.specs.Advancing.{IsRestOf, IsLeastOf, CanFollow, Adv
 use constraint_net::NetFault;
 use model_core::decision::Decision;
 use model_core::model::Model;
-use plan_closing::close;
+use plan_closing::{Seating, close};
 use plan_deciding::take_up;
 use plan_fitting::{resources_fit, resources_fit_since};
 use plan_store::Store;
@@ -41,7 +42,8 @@ fn settle_down(alloc: Global, store: &mut Store, model: &Model) -> Result<(), Ne
     ensures { SettlesDown model.now result store.new }
 {
     let due = all_numbers(alloc, store)?;
-    close(alloc, store, model, 0, due.as_slice())
+    let mut seating = Seating::new(alloc);
+    close(alloc, store, &mut seating, model, 0, due.as_slice())
 }
 
 // The value, behind what filling it answered.
@@ -68,20 +70,23 @@ fn start(alloc: Global, model: &Model) -> Result<Store, NetFault>
 fn advance(
     alloc: Global,
     store: &mut Store,
+    seating: &mut Seating,
     model: &Model,
     decision: &Decision,
 ) -> Result<(), NetFault>
     requires lawful { IsLawful model.now }
     requires follows { (decisions : List Taken) × CanFollow model.now decisions store.old decision.now }
     requires tables { HaveTables model.now store.old.net.tables }
+    requires seated { IsSeatingOf store.old seating.old }
     ensures advances { AdvancesBy model.now decision.now store.old result store.new }
     ensures marks { KeepStoreMarks store.old store.new }
+    ensures seated { KeepsSeating seating.old store.new seating.new }
 {
     // The mark tells that the tables stay.
     let _mark = store.mark();
     let unfolded = store.block_count();
     let due = take_up(alloc, store, model, decision)?;
-    close(alloc, store, model, unfolded, due.as_slice())
+    close(alloc, store, seating, model, unfolded, due.as_slice())
 }
 
 /// A store for no decision, and whether anything is left in it.
@@ -122,6 +127,7 @@ fn beside<T: Drop>(value: T, told: Result<bool, AllocError>) -> Result<(T, bool)
 pub fn take(
     alloc: Global,
     store: &mut Store,
+    seating: &mut Seating,
     model: &Model,
     decisions: &[Decision],
 ) -> Result<bool, AllocError>
@@ -129,13 +135,15 @@ pub fn take(
     requires settled { IsSettled model.now decisions.now }
     requires admissible { EndsAdmissibly model.now decisions.now }
     requires least { IsLeastOf model.now (but_last decisions.now) (snapshot_of store.old) }
+    requires seated { IsSeatingOf store.old seating.old }
     ensures taken { IfOk result (λ fit. LeavesLeast model.now decisions.now fit store.new) }
     ensures marks { KeepStoreMarks store.old store.new }
+    ensures seated { KeepsSeating seating.old store.new seating.new }
 {
     store.is_sound();
     let mark = store.mark();
     let decision = &decisions[decisions.len() - 1];
-    match advance(alloc, store, model, decision) {
+    match advance(alloc, store, seating, model, decision) {
         Ok(()) => resources_fit_since(alloc, model, store, decisions, decision, mark),
         Err(NetFault::Collapsed) => Ok(false),
         Err(NetFault::Memory) => Err(AllocError),

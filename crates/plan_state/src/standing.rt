@@ -1,19 +1,24 @@
 //! The store, with the marks to which it can go back.
 
-ghost use Rattle.std.specs.Prelude.{◌≡◌, [], ◌≤◌, ◌<◌, List, length, take, true, IfOk, OnErr};
+ghost use Rattle.std.specs.Prelude.{◌≡◌, [], ◌≤◌, ◌<◌, List, length, take, slice_index_or, Some, true, IfOk, OnErr};
 ghost use Rattle.model_core.specs.declared.decision.Decision.{Decision as Taken};
 ghost use Rattle.model_core.specs.declared.model.Model.{Model as Problem};
 ghost use Rattle.model_core.specs.Lawful.{IsLawful};
 ghost use Rattle.plan_defs.specs.Settling.{IsSettled};
+ghost use Rattle.plan_store.specs.declared.store.Mark.{Mark as Marked};
+ghost use Rattle.plan_store.specs.Stores.{snapshot_of};
+ghost use Rattle.plan_store.specs.StoreMarks.{IsStoreMark, CanGoBack, GoesBackTo};
 ghost use Rattle.plan_store.specs.Stamps.{FollowStamps};
 ghost use Rattle.plan_state.specs.declared.footing.Footing.TheVariants.{Rest, Fallen, Void};
 ghost use Rattle.plan_state.specs.Advancing.{but_last, EndsAdmissibly};
 ghost use Rattle.plan_state.specs.Standing.{KeepsList, StandsForList, GoesOnTo};
+ghost use Rattle.plan_state.specs.Seated.{AreSeatedAt};
 
 use super::advance::{begin, take};
 use super::footing::Footing;
 use model_core::decision::Decision;
 use model_core::model::Model;
+use plan_closing::Seating;
 use plan_store::laws::stamps_follow;
 use plan_store::{Mark, Store};
 use std::alloc::{AllocError, Global};
@@ -25,19 +30,25 @@ pub struct Standing {
     store: Store,
     // The store before each decision for which it stands.
     marks: Vec<Mark>,
+    // Its tokens by their objects, with a step for each mark.
+    seating: Seating,
     footing: Footing,
 }
 
 impl marker::Model for Standing {
     ghost use Rattle.plan_state.specs.Standing.{Stood};
+    ghost use Rattle.plan_state.specs.Seated.{AreSeatedAt};
 
     ghost Value = { Stood };
 
     ghost view = { λ standing. record { stored = standing.store; marks = standing.marks.items; footing = standing.footing } };
+
+    ghost invariant = { λ standing. AreSeatedAt standing.store standing.marks.items standing.seating };
 }
 
 impl Standing {
     /// What is kept before any decision.
+    #[tactic(auto, using(crate::proofs::Stepping::seated_new))]
     pub fn new(alloc: Global, model: &Model) -> Result<Standing, AllocError>
         requires { IsLawful model.now }
         ensures { IfOk result (λ standing. KeepsList model.now [] standing) }
@@ -47,6 +58,7 @@ impl Standing {
         Ok(Standing {
             store,
             marks: Vec::new(alloc),
+            seating: Seating::new(alloc),
             footing,
         })
     }
@@ -68,7 +80,14 @@ impl Standing {
         ensures err { OnErr result ((self.new.footing ≡ Rest) × KeepsList model.now (but_last decisions.now) self.new) }
         ensures stamps { IfOk result (λ footing. footing ≡ Rest → FollowStamps self.old.stored self.new.stored) }
     {
-        let fit = push(alloc, &mut self.store, &mut self.marks, model, decisions)?;
+        let fit = push(
+            alloc,
+            &mut self.store,
+            &mut self.marks,
+            &mut self.seating,
+            model,
+            decisions,
+        )?;
         if !fit {
             self.footing = Footing::Fallen;
         }
@@ -83,7 +102,7 @@ impl Standing {
             → (self.new.footing ≡ Rest) × KeepsList model (take number decisions) self.new }
         ensures stamps { FollowStamps self.old.stored self.new.stored }
     {
-        return_to(&mut self.store, &mut self.marks, number);
+        return_to(&mut self.store, &mut self.marks, &mut self.seating, number);
         self.footing = Footing::Rest;
     }
 
@@ -102,12 +121,27 @@ impl Standing {
     }
 }
 
+// Goes back to the mark, where the step of this number began.
+fn go_back(store: &mut Store, seating: &mut Seating, mark: Mark, number: usize)
+    requires can { CanGoBack store.old mark }
+    requires step { number < length seating.old.steps.items }
+    ensures back { GoesBackTo mark store.old store.new }
+    ensures seats { seating.new.seats ≡ take (slice_index_or seating.old.steps.items number 0) seating.old.seats }
+    ensures steps { seating.new.steps.items ≡ take number seating.old.steps.items }
+    ensures marked { (now : Marked) × (seating.new.mark ≡ Some now) × IsStoreMark store.new now (snapshot_of store.new) }
+{
+    store.back_to(mark);
+    let now = store.mark();
+    seating.forget_from(number, now);
+}
+
 // Goes on by the last of the decisions, and sets a mark before it; where nothing is left, or memory runs out, the store goes
 // back.
 fn push(
     alloc: Global,
     store: &mut Store,
     marks: &mut Vec<Mark>,
+    seating: &mut Seating,
     model: &Model,
     decisions: &[Decision],
 ) -> Result<bool, AllocError>
@@ -115,43 +149,49 @@ fn push(
     requires settled { IsSettled model.now decisions.now }
     requires admissible { EndsAdmissibly model.now decisions.now }
     requires stands { StandsForList model.now (but_last decisions.now) store.old marks.old.items }
+    requires seated { AreSeatedAt store.old marks.old.items seating.old }
     ensures ok { IfOk result (λ fit. GoesOnTo model.now decisions.now fit store.new marks.new.items) }
     ensures err { OnErr result (StandsForList model.now (but_last decisions.now) store.new marks.new.items) }
     ensures stamps { IfOk result (λ fit. fit ≡ true → FollowStamps store.old store.new) }
+    ensures seated { AreSeatedAt store.new marks.new.items seating.new }
 {
     stamps_follow();
     marks.reserve(1)?;
+    seating.catch_up(store)?;
+    seating.begin_step()?;
     let mark = store.mark();
-    match take(alloc, store, model, decisions) {
+    match take(alloc, store, seating, model, decisions) {
         Ok(true) => {
             store.is_sound();
             marks.push_reserved(mark);
             Ok(true)
         }
         Ok(false) => {
-            store.back_to(mark);
+            go_back(store, seating, mark, marks.len());
             Ok(false)
         }
         Err(none) => {
-            store.back_to(mark);
+            go_back(store, seating, mark, marks.len());
             Err(none)
         }
     }
 }
 
 // Goes back to the state of the first so many decisions.
-fn return_to(store: &mut Store, marks: &mut Vec<Mark>, number: usize)
-    requires { (model : Problem) × ((decisions : List Taken) × StandsForList model decisions store.old marks.old.items) }
+fn return_to(store: &mut Store, marks: &mut Vec<Mark>, seating: &mut Seating, number: usize)
+    requires stands { (model : Problem) × ((decisions : List Taken) × StandsForList model decisions store.old marks.old.items) }
+    requires seated { AreSeatedAt store.old marks.old.items seating.old }
     ensures stands { (model : Problem) (decisions : List Taken)
         → StandsForList model decisions store.old marks.old.items → number ≤ length decisions
         → StandsForList model (take number decisions) store.new marks.new.items }
     ensures stamps { FollowStamps store.old store.new }
+    ensures seated { AreSeatedAt store.new marks.new.items seating.new }
 {
     stamps_follow();
     store.is_sound();
     if number < marks.len() {
         let mark = marks[number];
-        store.back_to(mark);
+        go_back(store, seating, mark, number);
         marks.truncate(number);
     }
 }

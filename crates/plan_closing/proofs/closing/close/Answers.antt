@@ -3,6 +3,7 @@ use Rattle.std.proofs.lemmas.Result.{err_from_is_err_and}
 use Rattle.plan_posting.specs.Tables.{HaveTables}
 use Rattle.plan_closing.proofs.Resting.{close_fails, close_way, closes_on}
 use Rattle.plan_posting.proofs.Storing.{marks_both}
+use Rattle.plan_closing.proofs.Seated.{kept_both}
 use Rattle.plan_closing.proofs.closing.close.Goals as goal
 
 pub look_at_all-requires-clause-way : goal.look_at_all-requires-clause-way
@@ -32,3 +33,11 @@ returns-clause-closes c =
 pub returns-clause-marks : goal.returns-clause-marks
 returns-clause-marks c =
     marks_both c.args.store.now c.look_at_all.new.store c.run.new.store c.in_ok-look_at_all.ensures.marks c.run.ensures.marks
+
+pub run-requires-clause-seated : goal.run-requires-clause-seated
+run-requires-clause-seated c = c.in_ok-look_at_all.ensures.seated.is
+
+pub returns-clause-seated : goal.returns-clause-seated
+returns-clause-seated c =
+    kept_both c.args.seating.now c.look_at_all.new.seating c.run.new.seating c.look_at_all.new.store c.run.new.store c.in_ok-look_at_all.ensures.seated
+    c.run.ensures.seated

@@ -2,6 +2,7 @@ use Rattle.std.proofs.Common.{◌∙◌}
 use Rattle.std.proofs.lemmas.Result.{err_from_is_err_and}
 use Rattle.plan_closing.proofs.Resting.{taken_way, taken_tables, heeds_some, heeds_fails, heeds_none}
 use Rattle.plan_posting.proofs.Storing.{marks_both}
+use Rattle.plan_closing.proofs.Seated.{kept_on, seating_on}
 use Rattle.plan_closing.proofs.closing.heed_next.Goals as goal
 
 pub look_at-requires-clause-way : goal.look_at-requires-clause-way
@@ -41,3 +42,11 @@ returns-in_err-look_at-clause-marks c =
 pub returns-clause-marks : goal.returns-clause-marks
 returns-clause-marks c =
     marks_both c.args.store.now c.next_changed.new.self c.look_at.new.store c.next_changed.ensures.marks c.in_ok-look_at.ensures.marks
+
+pub look_at-requires-clause-seated : goal.look_at-requires-clause-seated
+look_at-requires-clause-seated c =
+    seating_on c.args.store.now c.next_changed.new.self c.args.seating.now c.next_changed.ensures.marks c.requires.seated
+
+pub returns-in_default-clause-seated : goal.returns-in_default-clause-seated
+returns-in_default-clause-seated c =
+    kept_on c.args.store.now c.next_changed.new.self c.args.seating.now c.next_changed.ensures.marks c.requires.seated

@@ -3,10 +3,17 @@ use Rattle.std.proofs.lemmas.List.{drop_all}
 use Rattle.std.proofs.lemmas.Result.{err_from_is_err_and}
 use Rattle.plan_closing.proofs.Resting.{looked_way, looked_more, looked_fails, looked_all}
 use Rattle.plan_posting.proofs.Storing.{marks_same, marks_both}
+use Rattle.plan_closing.proofs.Seated.{kept_same, kept_both}
 use Rattle.plan_closing.proofs.closing.look_at_all.Goals as goal
 
 pub loop-variable-init : goal.loop-variable-init
-loop-variable-init c = record { looked = λ decisions waiting way. way; tables = refl; changed = refl; marks = marks_same _ }
+loop-variable-init c = record {
+  looked = λ decisions waiting way. way;
+  tables = refl;
+  changed = refl;
+  marks = marks_same _;
+  seated = kept_same c.args.store.now c.args.seating.now c.requires.seated;
+}
 
 pub look_at-requires-clause-way : goal.look_at-requires-clause-way
 look_at-requires-clause-way c =
@@ -29,6 +36,7 @@ loop-variable-preserved c =
       tables = step.tables ∙ before.tables;
       changed = step.changed ∙ before.changed;
       marks = marks_both _ _ _ before.marks step.marks;
+      seated = kept_both c.args.seating.now c.loop-variable.seating c.look_at.new.seating c.loop-variable.store c.look_at.new.store before.seated step.seated;
     }
 
 pub returns-clause-looks : goal.returns-clause-looks
@@ -39,3 +47,11 @@ returns-clause-looks c =
 pub returns-in_err-look_at-clause-marks : goal.returns-in_err-look_at-clause-marks
 returns-in_err-look_at-clause-marks c =
     marks_both c.args.store.now c.loop-variable.store c.look_at.new.store c.loop-variable.invariant.marks c.in_err-look_at.ensures.marks
+
+pub look_at-requires-clause-seated : goal.look_at-requires-clause-seated
+look_at-requires-clause-seated c = c.loop-variable.invariant.seated.is
+
+pub returns-in_err-look_at-clause-seated : goal.returns-in_err-look_at-clause-seated
+returns-in_err-look_at-clause-seated c =
+    kept_both c.args.seating.now c.loop-variable.seating c.look_at.new.seating c.loop-variable.store c.look_at.new.store c.loop-variable.invariant.seated
+    c.in_err-look_at.ensures.seated

@@ -4,10 +4,16 @@ use Rattle.plan_posting.specs.Tables.{HaveTables}
 use Rattle.plan_closing.specs.Closing.{StepLeaves}
 use Rattle.plan_closing.proofs.Resting.{run_fails, run_ends}
 use Rattle.plan_posting.proofs.Storing.{marks_same, marks_both}
+use Rattle.plan_closing.proofs.Seated.{kept_same, kept_both}
 use Rattle.plan_closing.proofs.closing.run.Goals as goal
 
 pub loop-round-init : goal.loop-round-init
-loop-round-init c = record { on = λ decisions way. way; tables = refl; marks = marks_same _ }
+loop-round-init c = record {
+  on = λ decisions way. way;
+  tables = refl;
+  marks = marks_same _;
+  seated = kept_same c.args.store.now c.args.seating.now c.requires.seated;
+}
 
 pub take_step-requires-clause-tables : goal.take_step-requires-clause-tables
 take_step-requires-clause-tables c = subst (HaveTables c.args.model.now) (sym c.loop-round.invariant.tables) c.requires.tables
@@ -33,6 +39,7 @@ loop-round-preserved c =
       on = λ decisions way. subst (λ next. StepLeaves c.args.model.now decisions next c.take_step.new.store) c.in-On.is (taken.steps decisions (c.loop-round.invariant.on decisions way));
       tables = taken.tables ∙ c.loop-round.invariant.tables;
       marks = marks_both _ _ _ c.loop-round.invariant.marks taken.marks;
+      seated = kept_both c.args.seating.now c.loop-round.seating c.take_step.new.seating c.loop-round.store c.take_step.new.store c.loop-round.invariant.seated taken.seated;
     }
 
 pub returns-in_err-next-clause-marks : goal.returns-in_err-next-clause-marks
@@ -42,3 +49,16 @@ returns-in_err-next-clause-marks c =
 pub returns-in_default-clause-marks : goal.returns-in_default-clause-marks
 returns-in_default-clause-marks c =
     marks_both c.args.store.now c.loop-round.store c.take_step.new.store c.loop-round.invariant.marks c.in_ok-next.ensures.marks
+
+pub take_step-requires-clause-seated : goal.take_step-requires-clause-seated
+take_step-requires-clause-seated c = c.loop-round.invariant.seated.is
+
+pub returns-in_err-next-clause-seated : goal.returns-in_err-next-clause-seated
+returns-in_err-next-clause-seated c =
+    kept_both c.args.seating.now c.loop-round.seating c.take_step.new.seating c.loop-round.store c.take_step.new.store c.loop-round.invariant.seated
+    c.in_err-next.ensures.seated
+
+pub returns-in_default-clause-seated : goal.returns-in_default-clause-seated
+returns-in_default-clause-seated c =
+    kept_both c.args.seating.now c.loop-round.seating c.take_step.new.seating c.loop-round.store c.take_step.new.store c.loop-round.invariant.seated
+    c.in_ok-next.ensures.seated

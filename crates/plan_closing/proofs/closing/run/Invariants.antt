@@ -2,6 +2,7 @@ use Rattle.std.proofs.Common.{◌≡◌, List}
 use Rattle.model_core.specs.declared.decision.Decision.{Decision}
 use Rattle.plan_store.specs.StoreMarks.{KeepStoreMarks}
 use Rattle.plan_closing.specs.Looking.{IsOnWay}
+use Rattle.plan_closing.specs.Seating.{KeepsSeating}
 use Rattle.plan_closing.proofs.closing.run.Given as goal
 
 abbrev pub invariant-loop-round : goal.invariant-loop-round
@@ -10,4 +11,5 @@ invariant-loop-round l = record {
       → IsOnWay l.model decisions l.store l.count l.store.net.changed;
   tables : l.store.net.tables ≡ l.fn.store.net.tables;
   marks : KeepStoreMarks l.fn.store l.store;
+  seated : KeepsSeating l.fn.seating l.store l.seating;
 }

@@ -1,6 +1,7 @@
 use Rattle.std.proofs.lemmas.Result.{err_from_is_err_and}
 use Rattle.plan_closing.proofs.Resting.{settle_fails, settled_way, behind_fails, behind_on, behind_rest}
 use Rattle.plan_posting.proofs.Storing.{marks_both}
+use Rattle.plan_closing.proofs.Seated.{kept_on, seating_on}
 use Rattle.plan_closing.proofs.closing.settle.Goals as goal
 
 pub returns-in_err-settle-clause-steps : goal.returns-in_err-settle-clause-steps
@@ -40,3 +41,11 @@ returns-in_err-heeded-clause-marks c =
 pub returns-then-heeded-clause-marks : goal.returns-then-heeded-clause-marks
 returns-then-heeded-clause-marks c =
     marks_both c.args.store.now c.settle.new.self c.heed_next.new.store c.settle.ensures.marks c.in_ok-heeded.ensures.marks
+
+pub heed_next-requires-clause-seated : goal.heed_next-requires-clause-seated
+heed_next-requires-clause-seated c =
+    seating_on c.args.store.now c.settle.new.self c.args.seating.now c.settle.ensures.marks c.requires.seated
+
+pub returns-in_err-settle-clause-seated : goal.returns-in_err-settle-clause-seated
+returns-in_err-settle-clause-seated c =
+    kept_on c.args.store.now c.settle.new.self c.args.seating.now c.settle.ensures.marks c.requires.seated

@@ -4,6 +4,7 @@ use Rattle.std.proofs.lemmas.Result.{err_from_is_err_and}
 use Rattle.plan_store.specs.Stores.{Stored}
 use Rattle.plan_closing.specs.Closing.{CanGoOn, Steps}
 use Rattle.plan_closing.proofs.Resting.{unfolds_on, unfold_fails, step_fails, step_on, none_heeded}
+use Rattle.plan_closing.proofs.Seated.{kept_on, kept_both}
 use Rattle.plan_closing.proofs.closing.take_step.Goals as goal
 
 pub unfold-requires-clause-underway : goal.unfold-requires-clause-underway
@@ -48,3 +49,19 @@ pub returns-clause-tables : goal.returns-clause-tables
 returns-clause-tables c =
     let none = none_heeded c.args.model.now c.args.unfolded c.args.store.now c.heed_next.new.store c.in_ok-heeded.heeded c.if-heeded.false c.in_ok-heeded.ensures.heeds in
     subst (λ (stored : Stored). OnOk c.settle.result (c.settle.new.store.net.tables ≡ stored.net.tables)) none c.settle.ensures.tables
+
+pub returns-in_err-unfold-clause-seated : goal.returns-in_err-unfold-clause-seated
+returns-in_err-unfold-clause-seated c =
+    kept_on c.args.store.now c.unfold.new.store c.args.seating.now c.in_err-unfold.ensures.marks c.requires.seated
+
+pub returns-then-unfolded-blocks-clause-seated : goal.returns-then-unfolded-blocks-clause-seated
+returns-then-unfolded-blocks-clause-seated c =
+    kept_on c.args.store.now c.unfold.new.store c.args.seating.now c.in_ok-unfold.ensures.marks c.requires.seated
+
+pub settle-requires-clause-seated : goal.settle-requires-clause-seated
+settle-requires-clause-seated c = c.in_ok-heeded.ensures.seated.is
+
+pub returns-clause-seated : goal.returns-clause-seated
+returns-clause-seated c =
+    kept_both c.args.seating.now c.heed_next.new.seating c.settle.new.seating c.heed_next.new.store c.settle.new.store c.in_ok-heeded.ensures.seated
+    c.settle.ensures.seated

@@ -3,6 +3,7 @@ use Rattle.std.proofs.lemmas.Result.{err_from_is_err_and}
 use Rattle.plan_store.specs.Stores.{Stored}
 use Rattle.plan_closing.proofs.Heeding.{keep_way, look_fails, looked}
 use Rattle.plan_posting.proofs.Storing.{marks_both}
+use Rattle.plan_closing.proofs.Seated.{kept_on, seating_on}
 use Rattle.plan_closing.proofs.looking.look_at.Goals as goal
 
 pub returns-in_err-look_at_watchers-clause-looks : goal.returns-in_err-look_at_watchers-clause-looks
@@ -11,11 +12,10 @@ returns-in_err-look_at_watchers-clause-looks c =
     rw (p.1, p.2)
     (look_fails c.args.model.now c.args.unfolded c.args.variable c.args.store.now c.look_at_watchers.new.store c.in_err-look_at_watchers.field-0.0 c.in_err-look_at_watchers.ensures.underway)
 
-pub look_at_owner-requires : goal.look_at_owner-requires
-look_at_owner-requires c = record {
-  way = keep_way c.args.model.now c.args.store.now c.look_at_watchers.new.store c.args.unfolded
-      (λ followed decisions unfolded due under. c.in_ok-look_at_watchers.ensures.underway followed decisions unfolded due under tt) c.requires.way;
-}
+pub look_at_owner-requires-clause-way : goal.look_at_owner-requires-clause-way
+look_at_owner-requires-clause-way c =
+    keep_way c.args.model.now c.args.store.now c.look_at_watchers.new.store c.args.unfolded
+    (λ followed decisions unfolded due under. c.in_ok-look_at_watchers.ensures.underway followed decisions unfolded due under tt) c.requires.way
 
 pub returns-clause-looks : goal.returns-clause-looks
 returns-clause-looks c = λ decisions due way.
@@ -37,3 +37,11 @@ returns-in_err-look_at_owner-clause-marks c =
 pub returns-clause-marks : goal.returns-clause-marks
 returns-clause-marks c =
     marks_both c.args.store.now c.look_at_watchers.new.store c.look_at_owner.new.store c.in_ok-look_at_watchers.ensures.marks c.in_ok-look_at_owner.ensures.marks
+
+pub look_at_owner-requires-clause-seated : goal.look_at_owner-requires-clause-seated
+look_at_owner-requires-clause-seated c =
+    seating_on c.args.store.now c.look_at_watchers.new.store c.args.seating.now c.in_ok-look_at_watchers.ensures.marks c.requires.seated
+
+pub returns-in_err-look_at_watchers-clause-seated : goal.returns-in_err-look_at_watchers-clause-seated
+returns-in_err-look_at_watchers-clause-seated c =
+    kept_on c.args.store.now c.look_at_watchers.new.store c.args.seating.now c.in_err-look_at_watchers.ensures.marks c.requires.seated

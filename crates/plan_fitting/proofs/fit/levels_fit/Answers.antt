@@ -2,6 +2,7 @@ use Rattle.std.proofs.Common.{◌≡◌, true, false, sym, subst}
 use Rattle.std.specs.Prelude.{IsTrue, ◌↔◌}
 use Rattle.plan_resources.specs.Actors.{IsSoundView}
 use Rattle.plan_resources.specs.Fits.{FitLevels}
+use Rattle.plan_resources.proofs.Fitting.{none_reservoir}
 use Rattle.plan_view.specs.Seeing.{Seen, seen_state}
 use Rattle.token_store.specs.Tokens.{TokenPast, tokens_now}
 use Rattle.plan_refusals.proofs.Told.{isnt}
@@ -20,6 +21,12 @@ pub are_all_settled-requires-clause-there : goal.are_all_settled-requires-clause
 are_all_settled-requires-clause-there c =
     blocks_there c.args.model.now c.args.decisions.now c.args.store.now c.is_sound.ensures
     (c.settled_lists_decide_once.ensures c.args.model.now c.args.decisions.now c.requires.settled) c.requires.rest
+
+pub returns-then-not-has_reservoir : goal.returns-then-not-has_reservoir
+returns-then-not-has_reservoir c =
+    levels_hold c.args.model.now c.args.decisions.now c.args.store.now c.is_sound.ensures
+    (c.settled_lists_decide_once.ensures c.args.model.now c.args.decisions.now c.requires.settled) c.requires.rest
+    (none_reservoir c.args.model.now c.args.decisions.now (seen_state c.args.store.now) c.if-not-has_reservoir.ensures)
 
 pub returns-then-not-are_all_decided : goal.returns-then-not-are_all_decided
 returns-then-not-are_all_decided c =

@@ -6,6 +6,7 @@ use Rattle.plan_store.specs.Stores.{snapshot_of}
 use Rattle.plan_closing.specs.Closing.{BringsToRest}
 use Rattle.plan_posting.proofs.Storing.{marks_both}
 use Rattle.plan_state.proofs.Going.{may_follow, taking_fails, can_close, advances}
+use Rattle.plan_closing.proofs.Seated.{seating_on, kept_on}
 use Rattle.plan_state.proofs.advance.advance.Goals as goal
 
 pub take_up-requires-clause-may : goal.take_up-requires-clause-may
@@ -36,3 +37,11 @@ returns-clause-advances c =
 pub returns-clause-marks : goal.returns-clause-marks
 returns-clause-marks c =
     marks_both c.args.store.now c.take_up.new.store c.close.new.store c.take_up.ensures.marks c.close.ensures.marks
+
+pub close-requires-clause-seated : goal.close-requires-clause-seated
+close-requires-clause-seated c =
+    seating_on c.args.store.now c.take_up.new.store c.args.seating.now c.take_up.ensures.marks c.requires.seated
+
+pub returns-in_err-due-clause-seated : goal.returns-in_err-due-clause-seated
+returns-in_err-due-clause-seated c =
+    kept_on c.args.store.now c.take_up.new.store c.args.seating.now c.take_up.ensures.marks c.requires.seated

@@ -1,5 +1,7 @@
-use Rattle.std.proofs.Common.{subst}
+use Rattle.std.proofs.Common.{Option, sym, subst}
+use Rattle.plan_store.specs.declared.store.Mark.{Mark}
 use Rattle.plan_closing.specs.Closing.{BringsToRest}
+use Rattle.plan_closing.specs.Seating.{AreSeatsUpTo}
 use Rattle.plan_state.proofs.Going.{can_begin, settles_down}
 use Rattle.plan_state.proofs.advance.settle_down.Goals as goal
 
@@ -12,3 +14,7 @@ pub returns : goal.returns
 returns c =
     settles_down c.args.model.now c.args.store.now c.requires.beginning c.in_ok-due.due.items c.in_ok-due.ensures c.close.new.store c.close.result
     (subst (λ due. BringsToRest c.args.model.now 0 due c.args.store.now c.close.result c.close.new.store) c.as_slice.ensures.value c.close.ensures.closes) c.close.ensures.tables
+
+pub close-requires-clause-seated : goal.close-requires-clause-seated
+close-requires-clause-seated c =
+    subst (λ (mark : Option Mark). AreSeatsUpTo c.args.store.now mark c.new-seating.result.seats) (sym c.new-seating.ensures.mark) tt

@@ -1,16 +1,21 @@
-use Rattle.std.proofs.Common.{◌∷◌, [], ◌++◌, sym, ◌∙◌, ap, subst}
+use Rattle.std.proofs.Common.{List, ◌∷◌, [], ◌++◌, length, sym, ◌∙◌, ap, subst, arith}
+use Rattle.std.proofs.lemmas.List.{length_push}
+use Rattle.plan_store.specs.declared.store.Mark.{Mark}
+use Rattle.plan_state.specs.Seated.{AreSeatedAt}
 use Rattle.plan_store.specs.Stores.{snapshot_of}
 use Rattle.plan_state.specs.Advancing.{LeavesLeast, but_last}
 use Rattle.plan_state.specs.Standing.{StandsForList}
 use Rattle.plan_state.proofs.Resting.{one_less, before_again}
 use Rattle.plan_state.proofs.Returning.{pushed, kept_back}
+use Rattle.plan_posting.proofs.Storing.{marks_same}
+use Rattle.plan_state.proofs.Stepping.{seated_on, seated_same, seated_step, seated_given_up}
 use Rattle.plan_state.proofs.standing.push.Goals as goal
 
-pub back_to-requires : goal.back_to-requires
-back_to-requires c = (snapshot_of c.args.store.now, c.take.ensures.marks.marks c.mark-mark.result (snapshot_of c.args.store.now) c.mark-mark.ensures.is)
+pub go_back-requires-clause-can : goal.go_back-requires-clause-can
+go_back-requires-clause-can c = (snapshot_of c.args.store.now, c.take.ensures.marks.marks c.mark-mark.result (snapshot_of c.args.store.now) c.mark-mark.ensures.is)
 
-pub back_to-requires-in-Err : goal.back_to-requires-in-Err
-back_to-requires-in-Err c = (snapshot_of c.args.store.now, c.take.ensures.marks.marks c.mark-mark.result (snapshot_of c.args.store.now) c.mark-mark.ensures.is)
+pub go_back-requires-in-Err-clause-can : goal.go_back-requires-in-Err-clause-can
+go_back-requires-in-Err-clause-can c = (snapshot_of c.args.store.now, c.take.ensures.marks.marks c.mark-mark.result (snapshot_of c.args.store.now) c.mark-mark.ensures.is)
 
 pub returns-in-Ok-true-clause-ok : goal.returns-in-Ok-true-clause-ok
 returns-in-Ok-true-clause-ok c =
@@ -25,9 +30,9 @@ pub returns-in-Ok-false-clause-ok : goal.returns-in-Ok-false-clause-ok
 returns-in-Ok-false-clause-ok c =
     let model = c.args.model.now in
     let decisions = c.args.decisions.now in (
-      subst (StandsForList model (but_last decisions) c.back_to.new.self) (sym c.reserve.ensures.items)
+      subst (StandsForList model (but_last decisions) c.go_back.new.store) (sym c.reserve.ensures.items)
           (kept_back model (but_last decisions) c.args.marks.now.items c.args.store.now c.take.new.store c.mark-mark.result c.requires.stands c.take.ensures.marks c.mark-mark.ensures.is c.mark-mark.ensures.latest
-          c.back_to.new.self c.back_to.ensures),
+          c.go_back.new.store c.go_back.ensures.back),
       subst (λ fit. LeavesLeast model decisions fit c.take.new.store) c.in-Ok-false.field-0-test c.in-Ok-false.ensures.taken,
     )
 
@@ -35,10 +40,87 @@ pub returns-in-Err-clause-err : goal.returns-in-Err-clause-err
 returns-in-Err-clause-err c =
     let model = c.args.model.now in
     let decisions = c.args.decisions.now in
-    subst (StandsForList model (but_last decisions) c.back_to-in-Err.new.self) (sym c.reserve.ensures.items)
+    subst (StandsForList model (but_last decisions) c.go_back-in-Err.new.store) (sym c.reserve.ensures.items)
     (kept_back model (but_last decisions) c.args.marks.now.items c.args.store.now c.take.new.store c.mark-mark.result c.requires.stands c.take.ensures.marks c.mark-mark.ensures.is c.mark-mark.ensures.latest
-    c.back_to-in-Err.new.self c.back_to-in-Err.ensures)
+    c.go_back-in-Err.new.store c.go_back-in-Err.ensures.back)
 
 pub returns-in-Ok-true-clause-stamps : goal.returns-in-Ok-true-clause-stamps
 returns-in-Ok-true-clause-stamps c = λ fit.
     c.stamps_follow.ensures c.args.store.now c.take.new.store (c.mark-mark.ensures.is).is c.is_sound.ensures c.take.ensures.marks
+
+pub returns-in_err-reserve-clause-seated : goal.returns-in_err-reserve-clause-seated
+returns-in_err-reserve-clause-seated c =
+    subst (λ (marks : List Mark). AreSeatedAt c.args.store.now marks c.args.seating.now) (sym c.reserve.ensures.items) c.requires.seated
+
+pub catch_up-requires : goal.catch_up-requires
+catch_up-requires c = c.requires.seated.is
+
+pub returns-in_err-catch_up-clause-seated : goal.returns-in_err-catch_up-clause-seated
+returns-in_err-catch_up-clause-seated c =
+    subst (λ (marks : List Mark). AreSeatedAt c.args.store.now marks c.catch_up.new.self) (sym c.reserve.ensures.items)
+    (seated_on c.args.store.now c.args.store.now c.args.marks.now.items c.args.seating.now c.catch_up.new.self (marks_same c.args.store.now)
+    c.in_err-catch_up.ensures.kept c.requires.seated)
+
+pub returns-in_err-begin_step-clause-seated : goal.returns-in_err-begin_step-clause-seated
+returns-in_err-begin_step-clause-seated c =
+    subst (λ (marks : List Mark). AreSeatedAt c.args.store.now marks c.begin_step.new.self) (sym c.reserve.ensures.items)
+    (seated_same c.args.store.now c.args.marks.now.items c.catch_up.new.self c.begin_step.new.self c.in_err-begin_step.ensures.seats c.in_err-begin_step.ensures.mark
+    c.in_err-begin_step.ensures.err
+    (seated_on c.args.store.now c.args.store.now c.args.marks.now.items c.args.seating.now c.catch_up.new.self (marks_same c.args.store.now)
+    c.in_ok-catch_up.ensures.kept c.requires.seated))
+
+pub take-requires-clause-seated : goal.take-requires-clause-seated
+take-requires-clause-seated c =
+    let marks = c.args.marks.now.items in
+    let store = c.args.store.now in
+    let caught = seated_on store store marks c.args.seating.now c.catch_up.new.self (marks_same store) c.in_ok-catch_up.ensures.kept c.requires.seated in
+    (seated_step store marks c.mark-mark.result c.catch_up.new.self c.begin_step.new.self caught c.in_ok-catch_up.ensures.all c.mark-mark.ensures.is
+    c.in_ok-begin_step.ensures.seats c.in_ok-begin_step.ensures.mark c.in_ok-begin_step.ensures.ok).is
+
+pub returns-in-Ok-true-clause-seated : goal.returns-in-Ok-true-clause-seated
+returns-in-Ok-true-clause-seated c =
+    let marks = c.args.marks.now.items in
+    let store = c.args.store.now in
+    let caught = seated_on store store marks c.args.seating.now c.catch_up.new.self (marks_same store) c.in_ok-catch_up.ensures.kept c.requires.seated in
+    let begun = seated_step store marks c.mark-mark.result c.catch_up.new.self c.begin_step.new.self caught c.in_ok-catch_up.ensures.all c.mark-mark.ensures.is
+    c.in_ok-begin_step.ensures.seats c.in_ok-begin_step.ensures.mark c.in_ok-begin_step.ensures.ok in
+    subst (λ (list : List Mark). AreSeatedAt c.take.new.store list c.take.new.seating) (sym (c.push_reserved.ensures.items ∙ ap (λ list. list ++ c.mark-mark.result ∷ []) c.reserve.ensures.items))
+    (seated_on store c.take.new.store (marks ++ c.mark-mark.result ∷ []) c.begin_step.new.self c.take.new.seating c.take.ensures.marks c.take.ensures.seated begun)
+
+pub go_back-requires-clause-step : goal.go_back-requires-clause-step
+go_back-requires-clause-step c =
+    let steps = ap length c.take.ensures.seated.steps ∙ ap length c.in_ok-begin_step.ensures.ok ∙ length_push c.catch_up.new.self.steps.items (length c.catch_up.new.self.seats) in
+    omega (arith, steps, ap length c.in_ok-catch_up.ensures.kept.steps, c.requires.seated.count, c.len.ensures, ap length c.reserve.ensures.items)
+
+pub returns-in-Ok-false-clause-seated : goal.returns-in-Ok-false-clause-seated
+returns-in-Ok-false-clause-seated c =
+    let marks = c.args.marks.now.items in
+    let store = c.args.store.now in
+    let caught = seated_on store store marks c.args.seating.now c.catch_up.new.self (marks_same store) c.in_ok-catch_up.ensures.kept c.requires.seated in
+    let begun = seated_step store marks c.mark-mark.result c.catch_up.new.self c.begin_step.new.self caught c.in_ok-catch_up.ensures.all c.mark-mark.ensures.is
+    c.in_ok-begin_step.ensures.seats c.in_ok-begin_step.ensures.mark c.in_ok-begin_step.ensures.ok in
+    let taken = seated_on store c.take.new.store (marks ++ c.mark-mark.result ∷ []) c.begin_step.new.self c.take.new.seating c.take.ensures.marks c.take.ensures.seated begun in
+    subst (λ (list : List Mark). AreSeatedAt c.go_back.new.store list c.go_back.new.seating) (sym c.reserve.ensures.items)
+    (seated_given_up store c.take.new.store c.go_back.new.store marks c.mark-mark.result c.take.new.seating c.go_back.new.seating taken c.mark-mark.ensures.latest
+    (λ k earlier at. let was = c.requires.stands.marked k earlier at in (was.0, was.1)) c.go_back.ensures.back c.len.result
+    (omega (arith, c.len.ensures, ap length c.reserve.ensures.items))
+    c.go_back.ensures.seats c.go_back.ensures.marked c.go_back.ensures.steps)
+
+pub go_back-requires-in-Err-clause-step : goal.go_back-requires-in-Err-clause-step
+go_back-requires-in-Err-clause-step c =
+    let steps = ap length c.take.ensures.seated.steps ∙ ap length c.in_ok-begin_step.ensures.ok ∙ length_push c.catch_up.new.self.steps.items (length c.catch_up.new.self.seats) in
+    omega (arith, steps, ap length c.in_ok-catch_up.ensures.kept.steps, c.requires.seated.count, c.len-in-Err.ensures, ap length c.reserve.ensures.items)
+
+pub returns-in-Err-clause-seated : goal.returns-in-Err-clause-seated
+returns-in-Err-clause-seated c =
+    let marks = c.args.marks.now.items in
+    let store = c.args.store.now in
+    let caught = seated_on store store marks c.args.seating.now c.catch_up.new.self (marks_same store) c.in_ok-catch_up.ensures.kept c.requires.seated in
+    let begun = seated_step store marks c.mark-mark.result c.catch_up.new.self c.begin_step.new.self caught c.in_ok-catch_up.ensures.all c.mark-mark.ensures.is
+    c.in_ok-begin_step.ensures.seats c.in_ok-begin_step.ensures.mark c.in_ok-begin_step.ensures.ok in
+    let taken = seated_on store c.take.new.store (marks ++ c.mark-mark.result ∷ []) c.begin_step.new.self c.take.new.seating c.take.ensures.marks c.take.ensures.seated begun in
+    subst (λ (list : List Mark). AreSeatedAt c.go_back-in-Err.new.store list c.go_back-in-Err.new.seating) (sym c.reserve.ensures.items)
+    (seated_given_up store c.take.new.store c.go_back-in-Err.new.store marks c.mark-mark.result c.take.new.seating c.go_back-in-Err.new.seating taken c.mark-mark.ensures.latest
+    (λ k earlier at. let was = c.requires.stands.marked k earlier at in (was.0, was.1)) c.go_back-in-Err.ensures.back c.len-in-Err.result
+    (omega (arith, c.len-in-Err.ensures, ap length c.reserve.ensures.items))
+    c.go_back-in-Err.ensures.seats c.go_back-in-Err.ensures.marked c.go_back-in-Err.ensures.steps)

@@ -12,3 +12,9 @@ invariant_of-result c = record {
     list = λ ready. subst (λ (h : History). KeepsList c.args.model (standing h) c.in_ok-kept.kept) (sym c.new-2.ensures) c.in_ok-kept.ensures;
   };
 }
+
+pub returns-clause-sound : goal.returns-clause-sound
+returns-clause-sound c = record {
+  lawful = c.requires;
+  history = subst (IsHistory c.args.model) (sym c.new-2.ensures) refl;
+}

@@ -1,11 +1,12 @@
+use Rattle.std.proofs.Common.{take}
 use Rattle.plan_store.specs.StoreMarks.{KeepStoreMarks}
 use Rattle.plan_posting.specs.Posted.{OnlyPosts}
-use Rattle.plan_closing.specs.Turns.{TakesTurnsBefore}
-use Rattle.plan_closing.proofs.turns.take_turns_on.Given as goal
+use Rattle.plan_closing.specs.Turns.{TakesTurnsAmong}
+use Rattle.plan_closing.proofs.turns.take_turns_among.Given as goal
 
 abbrev pub invariant-loop-other : goal.invariant-loop-other
 invariant-loop-other l = record {
-  turns : TakesTurnsBefore l.model l.place l.other l.fn.store l.store;
+  turns : TakesTurnsAmong l.model l.place (take l.other-index l.others) l.fn.store l.store;
   only : OnlyPosts l.fn.store l.store;
   marks : KeepStoreMarks l.fn.store l.store;
 }

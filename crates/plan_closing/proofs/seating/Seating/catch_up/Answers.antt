@@ -1,0 +1,29 @@
+use Rattle.std.proofs.Common.{refl}
+use Rattle.plan_store.specs.Stores.{snapshot_of}
+use Rattle.plan_closing.proofs.Seated.{can_go, seats_all, up_to_more}
+use Rattle.plan_closing.proofs.seating.Seating.catch_up.Goals as goal
+
+pub seat_since-requires : goal.seat_since-requires
+seat_since-requires c = can_go c.args.store.now c.args.self.now.mark c.args.self.now.seats c.requires
+
+pub returns-in_err-seat_since-clause-kept : goal.returns-in_err-seat_since-clause-kept
+returns-in_err-seat_since-clause-kept c = record {
+  grown = c.in_err-seat_since.ensures.grown;
+  steps = refl;
+  is = up_to_more c.args.store.now c.args.self.now.mark c.args.self.now.seats c.seat_since.new.seats c.in_err-seat_since.ensures.grown c.requires;
+}
+
+pub returns-clause-kept : goal.returns-clause-kept
+returns-clause-kept c = record {
+  grown = c.in_ok-seat_since.ensures.grown;
+  steps = refl;
+  is = (
+    snapshot_of c.args.store.now,
+    c.mark.ensures.is,
+    seats_all c.args.store.now c.args.self.now.mark c.args.self.now.seats c.seat_since.new.seats c.in_ok-seat_since.ensures.grown c.requires c.in_ok-seat_since.ensures.ok,
+  );
+}
+
+pub returns-clause-all : goal.returns-clause-all
+returns-clause-all c =
+    seats_all c.args.store.now c.args.self.now.mark c.args.self.now.seats c.seat_since.new.seats c.in_ok-seat_since.ensures.grown c.requires c.in_ok-seat_since.ensures.ok
