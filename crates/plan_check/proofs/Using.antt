@@ -28,7 +28,7 @@ use Rattle.resource_profile.specs.declared.usage.Use.{Use}
 use Rattle.resource_profile.specs.Instant.{IsFirst}
 use Rattle.resource_profile.specs.Usage.{quantity_at, taken_at, IsOverUsed}
 use Rattle.plan_check.specs.ByObject.{IsOnObject, IsLineOn, FindsOn}
-use Rattle.plan_check.proofs.Linking.{dealt, dealt_more, dealt_within, on_the_way, passed_over, way_below}
+use Rattle.plan_check.proofs.Linking.{dealt, dealt_more, dealt_within, IsOnTheWay, on_the_way, passed_over, way_there, way_below}
 use Rattle.plan_check.specs.Acts.{acts_among, Collects, TokenUses, IsUseOf, FindsInstant}
 use Rattle.plan_check.proofs.Suited.{starts_within, ends_within, quantity_within}
 
@@ -47,10 +47,7 @@ present_push (None ∷ each) found = present_push each found
 present_push (Some b ∷ each) found = ap (λ xs. b ∷ xs) (present_push each found)
 
 module _ {A : Type 0} (IsDone : Line → Option A → Type 0) where
-  pub nothing_yet : (listed : List Line) (acts : List A) → acts ≡ [] → Collects IsDone (take 0 listed) acts
-  nothing_yet listed acts none = record { each = []; are = tt; acts_are = sym none }
-
-  pub one_line_more : (listed : List Line) (i : ℕ) (line : Line) (found : Option A) (acts more : List A) → i < length listed → line ≡ get_or listed i line → IsDone line found
+  one_line_more : (listed : List Line) (i : ℕ) (line : Line) (found : Option A) (acts more : List A) → i < length listed → line ≡ get_or listed i line → IsDone line found
       → more ≡ acts ++ option_to_list found → Collects IsDone (take i listed) acts → Collects IsDone (take (i + 1) listed) more
   one_line_more listed i line found acts more within is done same so_far = record {
     each = so_far.each ++ found ∷ [];
@@ -59,9 +56,6 @@ module _ {A : Type 0} (IsDone : Line → Option A → Type 0) where
         (subst (λ (l : Line). AllZip IsDone (take i listed ++ l ∷ []) (so_far.each ++ found ∷ [])) is (zip_push IsDone (take i listed) so_far.each line found so_far.are done));
     acts_are = present_push so_far.each found ∙ (ap (λ xs. xs ++ option_to_list found) so_far.acts_are ∙ sym same);
   }
-
-  pub all_collected : (listed : List Line) (i : ℕ) (acts : List A) → length listed ≤ i → Collects IsDone (take i listed) acts → Collects IsDone listed acts
-  all_collected listed i acts past so_far = subst (λ (xs : List Line). Collects IsDone xs acts) (take_all i listed past) so_far
 
   -- the lines up to this one, which do nothing, are passed over
   collected_past : (listed : List Line) (acts : List A) (gap from to : ℕ) → from + gap ≡ to → to ≤ length listed
@@ -72,32 +66,48 @@ module _ {A : Type 0} (IsDone : Line → Option A → Type 0) where
       collected_past listed acts gap (from + 1) to (omega arith) within (λ place line past less at. idle place line (omega arith) less at)
       (one_line_more listed from here.0 None acts acts (omega arith) (sym (get_or_from_slice_get listed from here.0 here.0 here.1)) (idle from here.0 (omega arith) (omega arith) here.1) (sym (append-nil acts)) so_far)
 
-  -- the lines up to the next one on the object, where only what is on the object does anything
+  -- the lines up to the next one on the object are dealt with
+  pub record Gathered (listed : List Line) (object : ℕ) (next : Option ℕ) (acts : List A) : Type 0 where
+    pub on_the_way : IsOnTheWay listed object next
+    pub collected : Collects IsDone (take (dealt (length listed) next) listed) acts
+
+  pub gathered_at : (listed : List Line) (object here : ℕ) (next : Option ℕ) (acts : List A) → next ≡ Some here → Gathered listed object next acts → IsLineOn listed object here
+  gathered_at listed object here next acts same gathered = way_there listed object here next same gathered.on_the_way
+
+  -- no line is left
+  pub gathered_all : (listed : List Line) (object : ℕ) (next : Option ℕ) (acts : List A) → next ≡ None → Gathered listed object next acts → Collects IsDone listed acts
+  gathered_all listed object next acts none gathered =
+      let now : dealt (length listed) next ≡ length listed = ap (dealt (length listed)) none in
+      subst (λ (xs : List Line). Collects IsDone xs acts) (take_all (dealt (length listed) next) listed (omega arith)) gathered.collected
+
+  -- only what is on the object does anything
   module _ (listed : List Line) (object : ℕ) (idle : (line : Line) → (IsOnObject line object → ⊥) → IsDone line None) where
-    pub collected_to : (acts : List A) (from : ℕ) (found : Option ℕ) → from ≤ length listed → FindsOn listed object from found → Collects IsDone (take from listed) acts
-        → Collects IsDone (take (dealt (length listed) found) listed) acts
-    collected_to acts from found within finds so_far =
+    gathered_to : (acts : List A) (from : ℕ) (found : Option ℕ) → from ≤ length listed → FindsOn listed object from found → Collects IsDone (take from listed) acts
+        → Gathered listed object found acts
+    gathered_to acts from found within finds so_far =
         let more = dealt_more listed object from found within finds in
-        let most = dealt_within listed object found (on_the_way listed object from found finds) in
-        collected_past listed acts (dealt (length listed) found - from) from (dealt (length listed) found) (omega arith) most
-        (λ place line past less at. idle line (λ on. passed_over listed object from found finds place past less (line, at, on))) so_far
+        let way = on_the_way listed object from found finds in
+        let most = dealt_within listed object found way in
+        record {
+          on_the_way = way;
+          collected = collected_past listed acts (dealt (length listed) found - from) from (dealt (length listed) found) (omega arith) most
+              (λ place line past less at. idle line (λ on. passed_over listed object from found finds place past less (line, at, on))) so_far;
+        }
+
+    pub gathered_first : (acts : List A) (found : Option ℕ) → acts ≡ [] → FindsOn listed object 0 found → Gathered listed object found acts
+    gathered_first acts found none finds = gathered_to acts 0 found (omega arith) finds (record { each = []; are = tt; acts_are = sym none })
 
     -- the next one on the object is dealt with as well
-    pub collected_next : (read : List Line) (here : ℕ) (next found : Option ℕ) (line : Line) (done : Option A) (acts more : List A) → next ≡ Some here → IsLineOn listed object here
-        → FindsOn listed object (here + 1) found → read ≡ listed → line ≡ get_or read here line → IsDone line done → more ≡ acts ++ option_to_list done
-        → Collects IsDone (take (dealt (length listed) next) listed) acts → Collects IsDone (take (dealt (length listed) found) listed) more
-    collected_next read here next found line done acts more same on finds read_is line_is is added so_far =
+    pub gathered_next : (read : List Line) (here : ℕ) (next found : Option ℕ) (line : Line) (done : Option A) (acts more : List A) → next ≡ Some here
+        → (IsLineOn listed object here → FindsOn listed object (here + 1) found) → read ≡ listed → line ≡ get_or read here line → IsDone line done → more ≡ acts ++ option_to_list done
+        → Gathered listed object next acts → Gathered listed object found more
+    gathered_next read here next found line done acts more same after read_is line_is is added gathered =
+        let on = gathered_at listed object here next acts same gathered in
         let below = way_below listed listed object here refl on in
         let now : dealt (length listed) next ≡ here = ap (dealt (length listed)) same in
-        collected_to more (here + 1) found (omega arith) finds
+        gathered_to more (here + 1) found (omega arith) (after on)
         (one_line_more listed here line done acts more below (subst (λ (xs : List Line). line ≡ get_or xs here line) read_is line_is) is added
-        (subst (λ (n : ℕ). Collects IsDone (take n listed) acts) now so_far))
-
-    -- no line is left
-    pub all_dealt : (next : Option ℕ) (acts : List A) → next ≡ None → Collects IsDone (take (dealt (length listed) next) listed) acts → Collects IsDone listed acts
-    all_dealt next acts none so_far =
-        let now : dealt (length listed) next ≡ length listed = ap (dealt (length listed)) none in
-        all_collected listed (dealt (length listed) next) acts (omega arith) so_far
+        (subst (λ (n : ℕ). Collects IsDone (take n listed) acts) now gathered.collected))
 
 -- ---- tests of order
 

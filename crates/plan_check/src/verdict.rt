@@ -34,9 +34,9 @@ fn broken_first(alloc: Global, model: &Model, plan: &Plan) -> Result<Option<Brok
 
 /// Whether the plan is valid for the model, and else which clause it breaks first, and at which place.
 ///
-/// The time is that of the lines with the logarithm of their number, of the objects of the model, and of the square of the
-/// lines on one object, where this is a timeline or a resource. A number for each line and each object takes memory, and so
-/// does what is done to one resource.
+/// The time is that of the lines with the logarithm of their number, of what stands in the rules of the tokens that take place,
+/// of the objects of the model, and of the square of the lines on one object, where this is a timeline or a resource. A number
+/// for each line and each object takes memory, and so does what is done to one resource.
 pub fn check(alloc: Global, model: &Model, plan: &Plan) -> Result<Verdict, AllocError>
     requires lawful { IsLawful model.now }
     requires is_plan { IsPlanOf model.now plan.now }

@@ -1,6 +1,6 @@
 -- What suits tokens, merged ones and roots, by their lines.
-use Rattle.std.proofs.Common.{◌≡◌, ℕ, ℤ, Bool, true, false, List, Bor, Option, inl, inr, refl, sym, ap, ◌∙◌, subst}
-use Rattle.std.specs.Prelude.{Contains, MatchBool, MatchOption}
+use Rattle.std.proofs.Common.{◌≡◌, ℕ, ℤ, Bool, true, false, List, inl, inr, refl, sym, ap, ◌∙◌, subst}
+use Rattle.std.specs.Prelude.{Contains, MatchBool}
 use Rattle.eu_name.specs.declared.name.Step.{Step}
 use Rattle.eu_name.specs.declared.name.TokenName.{TokenName}
 use Rattle.model_core.specs.declared.model.Model.{Model}
@@ -19,10 +19,10 @@ use Rattle.plan_defs.proofs.Saying.{one_line}
 use Rattle.plan_values.specs.Keys.{IsOrderly}
 use Rattle.plan_values.specs.Openings.{StandsInRule}
 use Rattle.plan_values.specs.Values.{IsLineFor, HasValues}
-use Rattle.plan_values.proofs.Matching.{match_bool, match_option}
-use Rattle.plan_values.proofs.Naming.{of_token, gives_from, gives_there, isnt_active}
+use Rattle.plan_values.proofs.Matching.{match_bool}
+use Rattle.plan_values.proofs.Naming.{of_token, gives_from, gives_there}
 use Rattle.plan_inventory.specs.Bases.{AreDeclaredIn}
-use Rattle.plan_inventory.specs.Breaks.{SuitsKind, IsActivatedBy}
+use Rattle.plan_inventory.specs.Breaks.{SuitsKind}
 
 -- ---- values
 
@@ -110,23 +110,6 @@ module _ (plan : Plan) (ok : IsOrderly plan) (token : TokenName) (line : Line) (
       subst (λ (n : TokenName). MatchBool answer (Becomes plan kind n) (Becomes plan kind n → ⊥)) same
       (match_bool answer _ _ _ _ (suits_becomes kind line refl) (λ none becomes. none (becomes_suits kind becomes)) suits)
 
-  -- the token that takes place by the line
-  by_line : (shape : Line) (name : TokenName) → IsActivatedBy shape name → (values : List ℤ) × (shape ≡ lines.Token name false values)
-  by_line (lines.Token own false values) name same = (values, ap (λ (n : TokenName). lines.Token n false values) (sym same))
-  by_line (lines.Token own true values) name same = absurd same
-  by_line (lines.Merged own target) name same = absurd same
-  by_line (lines.Rejected own) name same = absurd same
-  by_line (lines.Local own value) name same = absurd same
-
-  pub activated_found : (found : Option (Bor TokenName)) → MatchOption found ((name : TokenName) → IsActivatedBy line name → ⊥) (λ name. IsActivatedBy line name.now)
-      → MatchOption found (IsActivatedIn plan token → ⊥) (λ name. (name.now ≡ token) × IsActivatedIn plan name.now)
-  activated_found found activated = match_option found _ _ _ _
-      (λ none. isnt_active plan ok token line is (λ name values says. none name (subst (λ (l : Line). IsActivatedBy l name) (sym says) refl)))
-      (λ name by.
-      let says = by_line line name.now by in
-      let same = same_name name.now (ap order_name says.1) in
-      (same, subst (IsActivatedIn plan) (sym same) (says.0, own_line name.now false says.0 says.1))) activated
-
 pub no_becoming : (plan : Plan) (kind : RootKind) (token named : TokenName) → token ≡ named → ((line : Line) → IsLineFor plan (of_token token) line → ⊥) → Becomes plan kind named → ⊥
 no_becoming plan kind token named same none becomes = none_at kind (subst (Becomes plan kind) (sym same) becomes)
   where
@@ -181,11 +164,16 @@ module _ (model : Model) (plan : Plan) (token : TokenName) where
     stands = stands.inside.1.2;
   }
 
-pub slot_answer : (model : Model) (plan : Plan) (token parent : TokenName) (step : Step) (slot : ℕ) (answer : Bool) → parent ≡ token → slot ≡ step.slot → IsActivatedIn plan parent
-    → MatchBool answer (StandsInRule model plan parent step.rule (OfSlot slot)) (StandsInRule model plan parent step.rule (OfSlot slot) → ⊥)
-    → MatchBool answer (AsksFor model (plan_situation plan) token step) (AsksFor model (plan_situation plan) token step → ⊥)
-slot_answer model plan token parent step slot answer same number activated stands =
-    subst (λ (t : TokenName). MatchBool answer (AsksFor model (plan_situation plan) t step) (AsksFor model (plan_situation plan) t step → ⊥)) same
-    (match_bool answer _ _ _ _
-    (λ there. stands_asks model plan parent step activated (subst (λ (n : ℕ). StandsInRule model plan parent step.rule (OfSlot n)) number there))
-    (λ none asks. none (subst (λ (n : ℕ). StandsInRule model plan parent step.rule (OfSlot n)) (sym number) (asks_stands model plan parent step asks))) stands)
+-- what an open block of the token asks for, where the token takes place under its other name
+module _ (model : Model) (plan : Plan) (token parent : TokenName) (same : parent ≡ token) (activated : IsActivatedIn plan parent) where
+  pub slot_answer : (step : Step) (answer : Bool) → MatchBool answer (StandsInRule model plan parent step.rule (OfSlot step.slot)) (StandsInRule model plan parent step.rule (OfSlot step.slot) → ⊥)
+      → MatchBool answer (AsksFor model (plan_situation plan) token step) (AsksFor model (plan_situation plan) token step → ⊥)
+  slot_answer step answer stands =
+      subst (λ (t : TokenName). MatchBool answer (AsksFor model (plan_situation plan) t step) (AsksFor model (plan_situation plan) t step → ⊥)) same
+      (match_bool answer _ _ _ _ (stands_asks model plan parent step activated) (λ none asks. none (asks_stands model plan parent step asks)) stands)
+
+  pub local_answer : (rule number : ℕ) (answer : Bool) → MatchBool answer (StandsInRule model plan parent rule (OfLocal number)) (StandsInRule model plan parent rule (OfLocal number) → ⊥)
+      → MatchBool answer (AsksForLocal model plan token rule number) (AsksForLocal model plan token rule number → ⊥)
+  local_answer rule number answer stands =
+      subst (λ (t : TokenName). MatchBool answer (AsksForLocal model plan t rule number) (AsksForLocal model plan t rule number → ⊥)) same
+      (match_bool answer _ _ _ _ (stands_local model plan parent rule number activated) (λ none asks. none (local_stands model plan parent rule number asks)) stands)

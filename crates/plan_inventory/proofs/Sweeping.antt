@@ -25,7 +25,7 @@ use Rattle.plan_defs.specs.declared.plan.Place.{Place}
 use Rattle.plan_defs.specs.declared.plan.Place.TheVariants as places
 use Rattle.plan_defs.specs.declared.plan.Plan.{Plan}
 use Rattle.plan_defs.specs.Broken.{AreLesserNames, IsLeastBroken}
-use Rattle.plan_defs.specs.Plans.{IsTakenIn, IsActivatedIn, GivesValue, plan_situation}
+use Rattle.plan_defs.specs.Plans.{order_name, IsTakenIn, IsActivatedIn, GivesValue, plan_situation}
 use Rattle.plan_defs.specs.Refusals.{IsDeclared}
 use Rattle.plan_defs.specs.Support.{AsksFor}
 use Rattle.plan_defs.specs.Terms.{InRule}
@@ -36,6 +36,7 @@ use Rattle.plan_values.specs.Openings.{Allows, StandsInRule}
 use Rattle.plan_values.specs.Walks.{HasRuleOf}
 use Rattle.plan_values.proofs.Few.{few_of}
 use Rattle.plan_values.proofs.Matching.{match_bool}
+use Rattle.plan_values.proofs.Naming.{of_token, isnt_active}
 use Rattle.plan_values.proofs.Ruling.{one_rule}
 use Rattle.plan_values.proofs.Valuing.{gives_once, zip_length}
 use Rattle.plan_inventory.specs.Asking.{IsSlotKept, IsLocalKept, IsOnLine, IsLeastOnLine}
@@ -45,28 +46,21 @@ use Rattle.plan_inventory.proofs.Suiting.{asks_stands, stands_asks, local_stands
 
 -- ---- one slot, one local
 
-module _ (model : Model) (plan : Plan) (token : TokenName) (rule slot number : ℕ) (same : number ≡ slot) where
-  pub slot_kept_answer : (taken : TokenName) (answer : Bool) → taken ≡ slot_token token rule number → StandsInRule model plan token rule (OfSlot number)
-      → MatchBool answer (IsTakenIn plan taken) (IsTakenIn plan taken → ⊥) → MatchBool answer (IsSlotKept model plan token rule slot) (IsSlotKept model plan token rule slot → ⊥)
-  slot_kept_answer taken answer is stands taking =
+module _ (Marked : Type 0) (marked : Marked) where
+  pub slot_kept_answer : (plan : Plan) (token taken : TokenName) (rule slot number : ℕ) (answer : Bool) → number ≡ slot → taken ≡ slot_token token rule number
+      → MatchBool answer (IsTakenIn plan taken) (IsTakenIn plan taken → ⊥)
+      → MatchBool answer (Marked → IsTakenIn plan (slot_token token rule slot)) ((Marked → IsTakenIn plan (slot_token token rule slot)) → ⊥)
+  slot_kept_answer plan token taken rule slot number answer same is taking =
       let names : taken ≡ slot_token token rule slot = is ∙ ap (slot_token token rule) same in
       match_bool answer _ _ _ _
-      (λ is_taken stands'. subst (IsTakenIn plan) names is_taken)
-      (λ not_taken keeps. not_taken (subst (IsTakenIn plan) (sym names) (keeps (subst (λ (n : ℕ). StandsInRule model plan token rule (OfSlot n)) same stands)))) taking
+      (λ is_taken also. subst (IsTakenIn plan) names is_taken)
+      (λ not_taken keeps. not_taken (subst (IsTakenIn plan) (sym names) (keeps marked))) taking
 
-  pub slot_closed : (StandsInRule model plan token rule (OfSlot number) → ⊥) → IsSlotKept model plan token rule slot
-  slot_closed none stands = absurd (none (subst (λ (n : ℕ). StandsInRule model plan token rule (OfSlot n)) (sym same) stands))
+  -- where it is marked, it is so
+  pub where_marked : (P : Type 0) (answer : Bool) → MatchBool answer P (P → ⊥) → MatchBool answer (Marked → P) ((Marked → P) → ⊥)
+  where_marked P answer is = match_bool answer _ _ _ _ (λ holds also. holds) (λ fails keeps. fails (keeps marked)) is
 
-  pub local_kept_answer : (answer : Bool) → StandsInRule model plan token rule (OfLocal number)
-      → MatchBool answer (HasDeclaredValue model plan (variables.Local token rule slot)) (HasDeclaredValue model plan (variables.Local token rule slot) → ⊥)
-      → MatchBool answer (IsLocalKept model plan token rule slot) (IsLocalKept model plan token rule slot → ⊥)
-  local_kept_answer answer stands is = match_bool answer _ _ _ _
-      (λ has stands'. has)
-      (λ lacks keeps. lacks (keeps (subst (λ (n : ℕ). StandsInRule model plan token rule (OfLocal n)) same stands))) is
-
-  pub local_closed : (StandsInRule model plan token rule (OfLocal number) → ⊥) → IsLocalKept model plan token rule slot
-  local_closed none stands = absurd (none (subst (λ (n : ℕ). StandsInRule model plan token rule (OfLocal n)) (sym same) stands))
-
+module _ (model : Model) (plan : Plan) (token : TokenName) (rule slot number : ℕ) (same : number ≡ slot) where
   pub local_value_answer : (named : TokenName) (value value' : ℤ) (answer : Bool) → IsOrderly plan → named ≡ token → value' ≡ value → GivesValue plan (variables.Local named rule number) value
       → MatchBool answer (IsDeclared model (variables.Local token rule slot) value') (IsDeclared model (variables.Local token rule slot) value' → ⊥)
       → MatchBool answer (HasDeclaredValue model plan (variables.Local token rule slot)) (HasDeclaredValue model plan (variables.Local token rule slot) → ⊥)
@@ -186,6 +180,18 @@ module _ (plan : Plan) (place : ℕ) where
   pub activated_in : (token : TokenName) → IsActivatedAt plan place token → IsActivatedIn plan token
   activated_in token activated = (activated.0, contains_from_get plan.lines place (lines.Token token false activated.0) activated.1)
 
+-- the token of this name, by its line
+module _ (plan : Plan) (ok : IsOrderly plan) (token : TokenName) (place : ℕ) (line : Line) (at : IsLineAt plan place line) (named : order_name line ≡ of_token token) where
+  pub found_active : (name : TokenName) → IsActivatedBy line name → (name ≡ token) × IsActivatedAt plan place name
+  found_active name by =
+      let says = by_line line name by in
+      let names : of_token name ≡ of_token token = ap order_name (sym says.1) ∙ named in
+      (cc, activated_at plan place line name at by)
+
+  pub found_idle : ((name : TokenName) → IsActivatedBy line name → ⊥) → IsActivatedIn plan token → ⊥
+  found_idle none = isnt_active plan ok token line (contains_from_get plan.lines place line at, named)
+      (λ name values says. none name (subst (λ (l : Line). IsActivatedBy l name) (sym says) refl))
+
 -- ---- V5
 
 module _ (model : Model) (plan : Plan) (line : ℕ) (token : TokenName) (activated : IsActivatedAt plan line token) where
@@ -250,6 +256,17 @@ module _ (model : Model) (plan : Plan) (line : ℕ) (none : (token : TokenName) 
 module _ (model : Model) (plan : Plan) where
   pub past : (line : ℕ) → length plan.lines ≤ line → (token : TokenName) → IsActivatedAt plan line token → ⊥
   past line beyond token activated = omega (arith, beyond, get_below plan.lines line (lines.Token token false activated.0) activated.1)
+
+  -- so it is with one line more
+  pub one_more_line : (IsSo : Line → Type 0) (place : ℕ) (line : Line) → IsLineAt plan place line
+      → ((earlier : ℕ) (other : Line) → earlier < place → IsLineAt plan earlier other → IsSo other) → IsSo line
+      → (earlier : ℕ) (other : Line) → earlier < place + 1 → IsLineAt plan earlier other → IsSo other
+  one_more_line IsSo place line at before here earlier other below there = elim (cases_lt earlier place) [
+    | inl less ↦ before earlier other less there
+    | inr not_less ↦ (
+        let same : earlier ≡ place = omega arith in
+        subst IsSo (get_same plan.lines place line other at (subst (λ (k : ℕ). IsLineAt plan k other) same there)) here)
+  ]
 
   abbrev pub Upto : Clause → ℕ → Type 0
   Upto clause count = (earlier : ℕ) → earlier < count → (place : Place) → IsOnLine earlier place → IsClauseKept model plan clause place

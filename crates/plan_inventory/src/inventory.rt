@@ -92,7 +92,8 @@ fn broken_in_order(model: &Model, plan: &Plan) -> Option<Broken>
 }
 
 /// The first of the clauses V1 to V6 that the plan breaks: those on what a plan has to have, with which values, and on what it
-/// may have beside that. It takes no memory. The time is that of the lines with the logarithm of their number.
+/// may have beside that. It takes no memory. The time is that of the lines with the logarithm of their number, and of what stands
+/// in the rules of the tokens that take place.
 pub fn broken_inventory(model: &Model, plan: &Plan) -> Option<Broken>
     requires lawful { IsLawful model.now }
     requires is_plan { IsPlanOf model.now plan.now }

@@ -7,8 +7,11 @@ mod asked;
 mod bases;
 mod globals;
 pub mod inventory;
+mod marks;
 mod open;
+mod recalled;
 mod roots;
+mod standing;
 mod tokens;
 
 pub use asked::activated_by;

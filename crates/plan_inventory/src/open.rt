@@ -8,7 +8,8 @@ ghost use Rattle.model_core.specs.Blocks.{OfSlot, OfLocal};
 ghost use Rattle.model_core.specs.Lawful.{IsLawful};
 ghost use Rattle.plan_defs.specs.declared.plan.Clause.TheVariants.{V5};
 ghost use Rattle.plan_defs.specs.declared.plan.Plan.{Plan};
-ghost use Rattle.plan_defs.specs.Plans.{IsPlanOf};
+ghost use Rattle.model_core.specs.Tokens.{slot_token};
+ghost use Rattle.plan_defs.specs.Plans.{IsPlanOf, IsTakenIn};
 ghost use Rattle.plan_defs.specs.Refusals.{IsDeclared};
 ghost use Rattle.plan_defs.specs.Valid.{HasDeclaredValue, IsActivatedAt, IsLineAt};
 ghost use Rattle.plan_values.specs.Keys.{IsOrderly};
@@ -16,9 +17,12 @@ ghost use Rattle.plan_values.specs.Openings.{StandsInRule};
 ghost use Rattle.plan_values.specs.Walks.{HasRuleOf};
 ghost use Rattle.plan_inventory.specs.Breaks.{FindsBreak, FindsNumber, IsFirstInRules};
 ghost use Rattle.plan_inventory.specs.Asking.{IsSlotKept, IsLocalKept, FindsOnLine};
+ghost use Rattle.plan_inventory.specs.Marking.{IsMarked};
 
 use super::asked::activated_by;
 use super::bases::pred_in;
+use super::marks::Marks;
+use super::standing::marks_of;
 use eu_name::name::TokenName;
 use model_core::model::Model;
 use model_core::rule::Rule;
@@ -27,8 +31,7 @@ use plan_bases::is_local_declared;
 use plan_defs::plan::{Line, Place, Plan};
 use plan_values::key::TokenKey;
 use plan_values::lines::{is_taken, local_value};
-use plan_values::open::Standing;
-use plan_values::rules::{rule_of, stands_open};
+use plan_values::rules::rule_of;
 use plan_values::tokens::pred_of;
 
 /// Something of a rule: the numbers of the rule, and of the slot or the local in it.
@@ -38,16 +41,15 @@ struct InRule {
     number: u16,
 }
 
-// Whether the slot's token is taken, where the slot stands in an open block.
-fn is_slot_kept(model: &Model, plan: &Plan, token: &TokenName, rule: u16, slot: u16) -> bool
+// Whether the slot's token is taken, where the slot is marked.
+fn is_slot_kept(plan: &Plan, marks: &Marks, token: &TokenName, rule: u16, slot: u16) -> bool
     requires { IsOrderly plan.now }
     ensures { MatchBool result
-        (IsSlotKept model.now plan.now token.now rule slot)
-        (IsSlotKept model.now plan.now token.now rule slot → ⊥) }
+        (IsMarked marks.now (OfSlot slot) → IsTakenIn plan.now (slot_token token.now rule slot))
+        ((IsMarked marks.now (OfSlot slot) → IsTakenIn plan.now (slot_token token.now rule slot)) → ⊥) }
 {
-    let number = u32::from(slot);
-    if stands_open(model, plan, token, rule, Standing::Slot(number)) {
-        is_taken(plan, TokenKey::of_slot(token, rule, number))
+    if marks.has_slot(slot) {
+        is_taken(plan, TokenKey::of_slot(token, rule, u32::from(slot)))
     } else {
         true
     }
@@ -66,14 +68,23 @@ fn has_local_value(model: &Model, plan: &Plan, token: &TokenName, rule: u16, num
     }
 }
 
-// Whether the local has a value that it is declared with, where it stands in an open block.
-fn is_local_kept(model: &Model, plan: &Plan, token: &TokenName, rule: u16, number: u16) -> bool
+// Whether the local has a value that it is declared with, where it is marked.
+fn is_local_kept(
+    model: &Model,
+    plan: &Plan,
+    marks: &Marks,
+    token: &TokenName,
+    rule: u16,
+    number: u16,
+) -> bool
     requires { IsOrderly plan.now }
     ensures { MatchBool result
-        (IsLocalKept model.now plan.now token.now rule number)
-        (IsLocalKept model.now plan.now token.now rule number → ⊥) }
+        (IsMarked marks.now (OfLocal number)
+        → HasDeclaredValue model.now plan.now (variables.Local token.now rule number))
+        ((IsMarked marks.now (OfLocal number)
+        → HasDeclaredValue model.now plan.now (variables.Local token.now rule number)) → ⊥) }
 {
-    if stands_open(model, plan, token, rule, Standing::Local(u32::from(number))) {
+    if marks.has_local(number) {
         has_local_value(model, plan, token, rule, number)
     } else {
         true
@@ -122,8 +133,9 @@ fn unkept_slot_in(model: &Model, plan: &Plan, token: &TokenName, rule: u16) -> O
     requires orderly { IsOrderly plan.now }
     ensures { FindsNumber (IsSlotKept model.now plan.now token.now rule) result }
 {
+    let marks = marks_of(model, plan, token, rule);
     for slot in 0..count_slots(model, token, rule) {
-        if !is_slot_kept(model, plan, token, rule, slot) {
+        if !is_slot_kept(plan, &marks, token, rule, slot) {
             return Some(slot);
         }
     }
@@ -136,8 +148,9 @@ fn unkept_local_in(model: &Model, plan: &Plan, token: &TokenName, rule: u16) -> 
     requires orderly { IsOrderly plan.now }
     ensures { FindsNumber (IsLocalKept model.now plan.now token.now rule) result }
 {
+    let marks = marks_of(model, plan, token, rule);
     for number in 0..count_locals(model, token, rule) {
-        if !is_local_kept(model, plan, token, rule, number) {
+        if !is_local_kept(model, plan, &marks, token, rule, number) {
             return Some(number);
         }
     }

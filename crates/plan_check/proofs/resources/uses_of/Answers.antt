@@ -1,44 +1,36 @@
-use Rattle.std.proofs.Common.{◌+◌, pos, length, arith}
+use Rattle.std.proofs.Common.{pos, length}
 use Rattle.plan_check.specs.Acts.{IsUseOf}
-use Rattle.plan_check.proofs.Linking.{on_the_way, way_there, way_below, way_shorter}
-use Rattle.plan_check.proofs.Using.{nothing_yet, collected_to, collected_next, all_dealt, uses_none}
+use Rattle.plan_check.proofs.Linking.{way_below, way_shorter}
+use Rattle.plan_check.proofs.Using.{gathered_at, gathered_first, gathered_next, gathered_all, uses_none}
 use Rattle.plan_check.proofs.resources.uses_of.Goals as goal
 
 pub loop-next-init : goal.loop-next-init
 loop-next-init c =
     let listed = c.args.plan.now.lines in
-    let finds = c.first_on-next.ensures listed (length c.args.model.now.objects) c.requires.linked c.requires.there in
-    record {
-      on_the_way = on_the_way listed c.args.object 0 c.first_on-next.result finds;
-      collected = collected_to (IsUseOf c.args.model.now (pos c.args.object)) listed c.args.object (uses_none c.args.model.now c.args.object) c.new-uses.result.items 0 c.first_on-next.result (omega arith) finds
-          (nothing_yet (IsUseOf c.args.model.now (pos c.args.object)) listed c.new-uses.result.items c.new-uses.ensures.items);
-    }
+    gathered_first (IsUseOf c.args.model.now (pos c.args.object)) listed c.args.object (uses_none c.args.model.now c.args.object) c.new-uses.result.items c.first_on-next.result c.new-uses.ensures.items
+    (c.first_on-next.ensures listed (length c.args.model.now.objects) c.requires.linked c.requires.there)
 
 pub bounds-lines-place : goal.bounds-lines-place
 bounds-lines-place c =
     let listed = c.args.plan.now.lines in
-    way_below listed c.as_slice-lines.result.now c.args.object c.in-Some.place c.as_slice-lines.ensures (way_there listed c.args.object c.in-Some.place c.loop-next.next c.in-Some.is c.loop-next.invariant.on_the_way)
+    let on = gathered_at (IsUseOf c.args.model.now (pos c.args.object)) listed c.args.object c.in-Some.place c.loop-next.next c.loop-next.uses.items c.in-Some.is c.loop-next.invariant in
+    way_below listed c.as_slice-lines.result.now c.args.object c.in-Some.place c.as_slice-lines.ensures on
 
 pub loop-next-smaller : goal.loop-next-smaller
 loop-next-smaller c =
     let listed = c.args.plan.now.lines in
-    let there = way_there listed c.args.object c.in-Some.place c.loop-next.next c.in-Some.is c.loop-next.invariant.on_the_way in
-    way_shorter listed c.args.object c.in-Some.place c.loop-next.next c.after-next.result c.in-Some.is there
-    (c.after-next.ensures listed (length c.args.model.now.objects) c.args.object c.requires.linked c.requires.there there)
+    let on = gathered_at (IsUseOf c.args.model.now (pos c.args.object)) listed c.args.object c.in-Some.place c.loop-next.next c.loop-next.uses.items c.in-Some.is c.loop-next.invariant in
+    way_shorter listed c.args.object c.in-Some.place c.loop-next.next c.after-next.result c.in-Some.is on
+    (c.after-next.ensures listed (length c.args.model.now.objects) c.args.object c.requires.linked c.requires.there on)
 
 pub loop-next-preserved : goal.loop-next-preserved
 loop-next-preserved c =
     let listed = c.args.plan.now.lines in
-    let there = way_there listed c.args.object c.in-Some.place c.loop-next.next c.in-Some.is c.loop-next.invariant.on_the_way in
-    let finds = c.after-next.ensures listed (length c.args.model.now.objects) c.args.object c.requires.linked c.requires.there there in
-    record {
-      on_the_way = on_the_way listed c.args.object (c.in-Some.place + 1) c.after-next.result finds;
-      collected = collected_next (IsUseOf c.args.model.now (pos c.args.object)) listed c.args.object (uses_none c.args.model.now c.args.object)
-          c.as_slice-lines.result.now c.in-Some.place c.loop-next.next c.after-next.result c.index-lines-place.result c.use_of.result c.loop-next.uses.items c.keep.new.acts.items
-          c.in-Some.is there finds c.as_slice-lines.ensures c.index-lines-place.is c.use_of.ensures c.in_ok-keep.ensures c.loop-next.invariant.collected;
-    }
+    gathered_next (IsUseOf c.args.model.now (pos c.args.object)) listed c.args.object (uses_none c.args.model.now c.args.object) c.as_slice-lines.result.now c.in-Some.place c.loop-next.next c.after-next.result
+    c.index-lines-place.result c.use_of.result c.loop-next.uses.items c.keep.new.acts.items c.in-Some.is
+    (c.after-next.ensures listed (length c.args.model.now.objects) c.args.object c.requires.linked c.requires.there)
+    c.as_slice-lines.ensures c.index-lines-place.is c.use_of.ensures c.in_ok-keep.ensures c.loop-next.invariant
 
 pub returns : goal.returns
 returns c =
-    let listed = c.args.plan.now.lines in
-    all_dealt (IsUseOf c.args.model.now (pos c.args.object)) listed c.args.object (uses_none c.args.model.now c.args.object) c.loop-next.next c.loop-next.uses.items c.in_default.is c.loop-next.invariant.collected
+    gathered_all (IsUseOf c.args.model.now (pos c.args.object)) c.args.plan.now.lines c.args.object c.loop-next.next c.loop-next.uses.items c.in_default.is c.loop-next.invariant

@@ -1,10 +1,8 @@
-use Rattle.plan_inventory.proofs.Sweeping.{local_kept_answer, local_closed}
+use Rattle.plan_inventory.proofs.Sweeping.{where_marked}
 use Rattle.plan_inventory.proofs.open.is_local_kept.Goals as goal
 
-pub returns-then-stands_open : goal.returns-then-stands_open
-returns-then-stands_open c =
-    local_kept_answer c.args.model.now c.args.plan.now c.args.token.now c.args.rule c.args.number c.from.result c.from.ensures c.has_local_value.result c.if-stands_open.ensures c.has_local_value.ensures
+pub returns-then-has_local : goal.returns-then-has_local
+returns-then-has_local c = where_marked _ c.if-has_local.ensures _ c.has_local_value.result c.has_local_value.ensures
 
-pub returns-else-stands_open : goal.returns-else-stands_open
-returns-else-stands_open c =
-    local_closed c.args.model.now c.args.plan.now c.args.token.now c.args.rule c.args.number c.from.result c.from.ensures c.if-stands_open.ensures
+pub returns-else-has_local : goal.returns-else-has_local
+returns-else-has_local c = λ marked. absurd (c.if-has_local.ensures marked)
