@@ -9,18 +9,33 @@ use indexmap::IndexMap;
 use std::alloc::{AllocError, Global};
 use std::cmp::Ordering;
 
-/// What a name says, in words.
-fn described(alloc: Global, name: &NameText) -> Result<String, AllocError> {
-    let mut words = String::from_str(alloc, name.label.as_str())?;
-    for step in name.steps.as_slice() {
+/// Puts the steps into words.
+fn describe_steps(words: &mut String, steps: &[Step]) -> Result<(), AllocError> {
+    for step in steps {
         write!(words, ", slot {} of rule {}", step.slot, step.rule)?;
     }
+    Ok(())
+}
+
+/// Puts what a name says into words.
+fn describe(words: &mut String, name: &NameText) -> Result<(), AllocError> {
+    words.push_str(name.label.as_str())?;
+    describe_steps(words, name.steps.as_slice())?;
     match &name.tail {
         Tail::None => {}
         Tail::Part(part) => write!(words, ", its {}", part.as_str())?,
         Tail::Local { rule, number } => write!(words, ", local {number} of rule {rule}")?,
     }
-    Ok(words)
+    Ok(())
+}
+
+/// What a name says, in words.
+fn described(alloc: Global, name: &NameText) -> Result<String, AllocError> {
+    let mut words = String::new(alloc);
+    match describe(&mut words, name) {
+        Ok(()) => Ok(words),
+        Err(none) => Err(none),
+    }
 }
 
 /// Whether the name says this.
@@ -250,9 +265,8 @@ fn variables_are_in_order(rt: HostRuntime) {
     for (place, one) in VARIABLES.iter().enumerate() {
         for (other_place, other) in VARIABLES.iter().enumerate() {
             let found = variables_compared(rt.alloc(), *one, *other);
-            assert_eq!(rt;
-                found,
-                Some(place.cmp(&other_place)),
+            assert!(rt;
+                found == Some(place.cmp(&other_place)),
                 "{place} and {other_place}"
             );
         }
@@ -283,15 +297,28 @@ fn copies_are_equal(rt: HostRuntime) {
     assert!(rt; are_copied_bytes(rt.alloc(), b"\x00\xff"));
 }
 
+/// Whether three names are put into the map.
+fn are_noted(map: &mut IndexMap<TokenName, u32>, alloc: Global) -> bool {
+    is_noted(map, token(alloc, 1, &[]), 10)
+        && is_noted(map, token(alloc, 1, &[(0, 2)]), 20)
+        && is_noted(map, token(alloc, 1, &[(0, 3)]), 30)
+}
+
+/// What the map has for the second of them.
+fn second_in(map: &IndexMap<TokenName, u32>, alloc: Global) -> Option<u32> {
+    match token(alloc, 1, &[(0, 2)]) {
+        Ok(name) => map.get(&name).copied(),
+        Err(_) => None,
+    }
+}
+
 /// What a map of names has for the second of three names.
 fn second_in_map(alloc: Global) -> Option<u32> {
     let mut map = IndexMap::new(alloc);
-    let noted = is_noted(&mut map, token(alloc, 1, &[]), 10)
-        && is_noted(&mut map, token(alloc, 1, &[(0, 2)]), 20)
-        && is_noted(&mut map, token(alloc, 1, &[(0, 3)]), 30);
-    match token(alloc, 1, &[(0, 2)]) {
-        Ok(name) if noted => map.get(&name).copied(),
-        _ => None,
+    if are_noted(&mut map, alloc) {
+        second_in(&map, alloc)
+    } else {
+        None
     }
 }
 
@@ -309,5 +336,5 @@ fn is_noted(
 
 #[test]
 fn names_are_keys(rt: HostRuntime) {
-    assert_eq!(rt; second_in_map(rt.alloc()), Some(20));
+    assert!(rt; second_in_map(rt.alloc()) == Some(20));
 }

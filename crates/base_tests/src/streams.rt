@@ -27,13 +27,26 @@ fn entry(alloc: Global, name: &str, bytes: &str) -> Result<FileEntry, AllocError
     })
 }
 
+fn put(entries: &mut Vec<FileEntry>, name: &str, bytes: &str) -> Result<(), AllocError> {
+    let file = entry(*entries.allocator(), name, bytes)?;
+    entries.push(file)?;
+    Ok(())
+}
+
+fn put_three(entries: &mut Vec<FileEntry>) -> Result<(), AllocError> {
+    put(entries, "a", "first")?;
+    put(entries, "a", "second")?;
+    put(entries, "dir/b", "")?;
+    Ok(())
+}
+
 /// Two files of the name `a`, and an empty one in a folder.
 fn three_files(alloc: Global) -> Result<Vec<FileEntry>, AllocError> {
     let mut entries = Vec::new(alloc);
-    entries.push(entry(alloc, "a", "first")?)?;
-    entries.push(entry(alloc, "a", "second")?)?;
-    entries.push(entry(alloc, "dir/b", "")?)?;
-    Ok(entries)
+    match put_three(&mut entries) {
+        Ok(()) => Ok(entries),
+        Err(none) => Err(none),
+    }
 }
 
 /// Whether the shelf gives these bytes.
@@ -58,6 +71,13 @@ fn answers<S: Shelf>(shelf: &mut S) -> [Result<bool, ShelfFail>; 4] {
     ]
 }
 
+const GIVEN: [Result<bool, ShelfFail>; 4] = [
+    Ok(true),
+    Err(ShelfFail::TooLong),
+    Ok(true),
+    Err(ShelfFail::Absent),
+];
+
 fn calm_answers(alloc: Global) -> Result<[Result<bool, ShelfFail>; 4], AllocError> {
     Ok(answers(&mut CalmShelf::new(three_files(alloc)?)))
 }
@@ -73,18 +93,9 @@ fn failing_answers(
 }
 
 #[test]
-fn a_shelf_gives_the_first_of_two_files(rt: HostRuntime) -> Result<(), Fail> {
-    let expected = [
-        Ok(true),
-        Err(ShelfFail::TooLong),
-        Ok(true),
-        Err(ShelfFail::Absent),
-    ];
-    assert_eq!(rt; calm_answers(rt.alloc())?, expected);
-    let (four, fifth, faults) = failing_answers(rt.alloc())?;
-    assert_eq!(rt; four, expected);
-    assert_eq!(rt; (fifth, faults), (Err(ShelfFail::Failed), 1));
-    Ok(())
+fn a_shelf_gives_the_first_of_two_files(rt: HostRuntime) {
+    assert!(rt; calm_answers(rt.alloc()) == Ok(GIVEN));
+    assert!(rt; failing_answers(rt.alloc()) == Ok((GIVEN, Err(ShelfFail::Failed), 1)));
 }
 
 /// What a read answers, and how many reads have failed.
@@ -92,6 +103,8 @@ fn read<S: Source>(source: &mut S) -> Result<usize, Failed> {
     let mut buffer = [0; 64];
     source.read(&mut buffer)
 }
+
+const READ: [Result<usize, Failed>; 5] = [Ok(16), Err(Failed), Ok(16), Ok(8), Ok(0)];
 
 /// What five reads answer of which the second fails, and how many have failed.
 fn reads(alloc: Global) -> Result<([Result<usize, Failed>; 5], u64), AllocError> {
@@ -108,14 +121,13 @@ fn reads(alloc: Global) -> Result<([Result<usize, Failed>; 5], u64), AllocError>
 }
 
 #[test]
-fn a_source_fails_at_its_second_call(rt: HostRuntime) -> Result<(), Fail> {
-    let expected = [Ok(16), Err(Failed), Ok(16), Ok(8), Ok(0)];
-    assert_eq!(rt; reads(rt.alloc())?, (expected, 1));
-    Ok(())
+fn a_source_fails_at_its_second_call(rt: HostRuntime) {
+    assert!(rt; reads(rt.alloc()) == Ok((READ, 1)));
 }
 
-/// What five writes answer of which the third fails and the last has no room, how many have failed, and whether the
-/// right
+const WRITTEN: [Result<usize, Failed>; 5] = [Ok(2), Ok(0), Err(Failed), Ok(6), Err(Failed)];
+
+/// What five writes answer of which the third fails and the last has no room, how many have failed, and whether the right
 /// bytes were written.
 fn writes(alloc: Global) -> Result<([Result<usize, Failed>; 5], u64, bool), AllocError> {
     let mut sink = MemSink::new(alloc, 8, usize::MAX, vec![in alloc; 3]?)?;
@@ -134,10 +146,8 @@ fn writes(alloc: Global) -> Result<([Result<usize, Failed>; 5], u64, bool), Allo
 }
 
 #[test]
-fn a_sink_fails_at_its_third_call(rt: HostRuntime) -> Result<(), Fail> {
-    let expected = [Ok(2), Ok(0), Err(Failed), Ok(6), Err(Failed)];
-    assert_eq!(rt; writes(rt.alloc())?, (expected, 2, true));
-    Ok(())
+fn a_sink_fails_at_its_third_call(rt: HostRuntime) {
+    assert!(rt; writes(rt.alloc()) == Ok((WRITTEN, 2, true)));
 }
 
 /// What calm streams answer to one call each.
@@ -152,9 +162,8 @@ fn calm_calls(
 }
 
 #[test]
-fn calm_streams_move_all(rt: HostRuntime) -> Result<(), Fail> {
-    assert_eq!(rt; calm_calls(rt.alloc())?, (Ok(2), Ok(1), true));
-    Ok(())
+fn calm_streams_move_all(rt: HostRuntime) {
+    assert!(rt; calm_calls(rt.alloc()) == Ok((Ok(2), Ok(1), true)));
 }
 
 /// A reader that fails at each call.
@@ -189,8 +198,8 @@ fn slice_reads(bytes: &[u8]) -> ([Result<usize, Failed>; 3], [u8; 2], u64) {
 
 #[test]
 fn a_reader_is_a_source(rt: HostRuntime) {
-    assert_eq!(rt; slice_reads(b"abc"), ([Ok(2), Ok(1), Ok(0)], *b"ab", 0));
-    assert_eq!(rt; broken_reads(), (Err(Failed), Err(Failed), 2));
+    assert!(rt; slice_reads(b"abc") == ([Ok(2), Ok(1), Ok(0)], *b"ab", 0));
+    assert!(rt; broken_reads() == (Err(Failed), Err(Failed), 2));
 }
 
 /// What three writes to a vector answer, and whether it has their bytes then.
@@ -205,14 +214,18 @@ fn vector_writes(alloc: Global) -> ([Result<usize, Failed>; 3], u64, bool) {
     )
 }
 
+/// What two writes to a room of one byte answer, and how many have failed.
+fn room_writes() -> ([Result<usize, Failed>; 2], u64) {
+    let mut room = [0; 1];
+    let mut sink = StdSink::new(room.as_mut_slice());
+    let answers = [sink.write(b"ab"), sink.write(b"b")];
+    (answers, sink.faults())
+}
+
 #[test]
 fn a_writer_is_a_sink(rt: HostRuntime) {
-    assert_eq!(rt; vector_writes(rt.alloc()), ([Ok(2), Ok(0), Ok(1)], 0, true));
-    let mut room = [0; 1];
-    let mut full = StdSink::new(room.as_mut_slice());
-    assert_eq!(rt; full.write(b"ab"), Ok(1));
-    assert_eq!(rt; full.write(b"b"), Err(Failed));
-    assert_eq!(rt; full.faults(), 1);
+    assert!(rt; vector_writes(rt.alloc()) == ([Ok(2), Ok(0), Ok(1)], 0, true));
+    assert!(rt; room_writes() == ([Ok(1), Err(Failed)], 1));
 }
 
 /// What a shelf of files answers to one call, and how many of its calls have failed.
@@ -246,23 +259,27 @@ fn file_answers(rt: &HostRuntime, path: &str) -> io::Result<[(Result<bool, Shelf
     Ok([whole, longer, file_answer(rt, path, 3)])
 }
 
-fn temporary_answers(rt: &HostRuntime) -> io::Result<[(Result<bool, ShelfFail>, u64); 3]> {
+/// Whether they are as they should be.
+fn temporary_answers(rt: &HostRuntime) -> io::Result<bool> {
     let path = path_of(rt)?;
-    file_answers(rt, path.as_str())
+    let answers = file_answers(rt, path.as_str())?;
+    Ok(answers == FILED)
+}
+
+const FILED: [(Result<bool, ShelfFail>, u64); 3] = [
+    (Ok(true), 0),
+    (Err(ShelfFail::TooLong), 0),
+    (Err(ShelfFail::Absent), 0),
+];
+
+/// Whether there is no file of no name, and a folder is none.
+fn are_no_files(rt: &HostRuntime) -> bool {
+    file_answer(rt, "", 3) == (Err(ShelfFail::Absent), 0)
+        && file_answer(rt, ".", u64::MAX) == (Err(ShelfFail::Failed), 1)
 }
 
 #[test]
 fn a_shelf_reads_files(rt: HostRuntime) -> Result<(), Fail> {
-    let expected = [
-        (Ok(true), 0),
-        (Err(ShelfFail::TooLong), 0),
-        (Err(ShelfFail::Absent), 0),
-    ];
-    assert_eq!(rt; temporary_answers(&rt)?, expected);
-    assert_eq!(rt; file_answer(&rt, "", 3), (Err(ShelfFail::Absent), 0));
-    assert_eq!(rt;
-        file_answer(&rt, ".", u64::MAX),
-        (Err(ShelfFail::Failed), 1)
-    );
+    assert!(rt; temporary_answers(&rt)? && are_no_files(&rt));
     Ok(())
 }

@@ -1,8 +1,11 @@
 //! The database over two ranges, of which the first is at most the second: each call is run, and what it answers and leaves is
 //! compared.
 
+ghost use Rattle.model_core.specs.Lawful.{IsLawful};
+
 use eu_name::name::VarName;
 use model_core::decision::Decision;
+use model_core::model::Model;
 use plan_db::{Db, DbFault, Outcome, QueryFault, Subject};
 use range_problem::problem::read_problem;
 use std::alloc::Global;
@@ -32,10 +35,31 @@ type Left = (
     u64,
 );
 
-// The database of the text, in which nothing is decided.
-fn started(alloc: Global, text: &str) -> Option<Db> {
-    match read_problem(alloc, text.as_bytes()) {
-        Ok(Some(model)) => Db::new(alloc, model).ok(),
+/// What is done with a database, and told of it in plain values. Only `told_of` owns one, since a proof goes through all that
+/// an owner may drop.
+trait Trial {
+    type Told: Drop;
+
+    fn tell(&self, db: &mut Db) -> Self::Told;
+}
+
+// What is told of a new database of the model.
+fn told_of<T: Trial>(alloc: Global, model: Model, trial: &T) -> Option<T::Told>
+    requires { IsLawful model }
+{
+    match Db::new(alloc, model) {
+        Ok(db) => {
+            let mut db = db;
+            Some(trial.tell(&mut db))
+        }
+        Err(_none) => None,
+    }
+}
+
+// What is told of the two ranges, of which nothing is decided.
+fn told_on_ordered<T: Trial>(alloc: Global, trial: &T) -> Option<T::Told> {
+    match read_problem(alloc, ORDERED.as_bytes()) {
+        Ok(Some(model)) => told_of(alloc, model, trial),
         _ => None,
     }
 }
@@ -77,16 +101,25 @@ fn rebuilt(db: &mut Db) -> Result<Outcome, DbFault> {
     }
 }
 
-// What the last of the steps answers and leaves, from a fresh database on; of none, what undoing answers.
-fn after(alloc: Global, steps: &[Step]) -> Option<Left> {
-    let Some(mut db) = started(alloc, ORDERED) else {
-        return None;
-    };
-    let mut last = answer(&mut db, Step::Undo);
+// What the last of the steps answers and leaves; of none, what undoing answers.
+fn after(db: &mut Db, steps: &[Step]) -> Left {
+    let mut last = answer(db, Step::Undo);
     for step in steps {
-        last = answer(&mut db, *step);
+        last = answer(db, *step);
     }
-    Some((last, ends(&db, Y), db.history()))
+    (last, ends(db, Y), db.history())
+}
+
+/// Steps, of which it is told what the last one answers and leaves.
+#[derive(Clone, Copy)]
+struct Steps(&'static [Step]);
+
+impl Trial for Steps {
+    type Told = Left;
+
+    fn tell(&self, db: &mut Db) -> Left {
+        after(db, self.0)
+    }
 }
 
 const CONSISTENT: Result<Outcome, DbFault> = Ok(Outcome::Consistent);
@@ -94,9 +127,8 @@ const CONSISTENT: Result<Outcome, DbFault> = Ok(Outcome::Consistent);
 const INCONSISTENT: Result<Outcome, DbFault> = Ok(Outcome::Inconsistent);
 
 // Whether each list of steps answers and leaves this.
-fn leave(alloc: Global, rows: &[(&[Step], Left)]) -> bool {
-    rows.iter()
-        .all(|(steps, left)| after(alloc, steps) == Some(*left))
+fn leave(alloc: Global, rows: &[(&'static [Step], Left)]) -> bool {
+    rows.iter().all(|(steps, left)| told_on_ordered(alloc, &Steps(*steps)) == Some(*left))
 }
 
 // Decisions that are taken and undone, and what is answered and left.
@@ -185,9 +217,11 @@ fn decisions_are_taken_out(rt: HostRuntime) {
     assert!(rt; leave(rt.alloc(), &TAKEN_OUT));
 }
 
-// What is told of a database: whether it is consistent and whether it is behind, how many decisions stand, how many globals it
-// has, and what is said of one that isn't there.
-fn told(db: &Db) -> (bool, bool, usize, usize, Result<(i32, i32), QueryFault>) {
+// What a database tells of itself: whether it is consistent and whether it is behind, how many decisions stand, how many
+// globals it has, and what is said of one that isn't there.
+type Account = (bool, bool, usize, usize, Result<(i32, i32), QueryFault>);
+
+fn told(db: &Db) -> Account {
     (
         db.is_consistent(),
         db.is_behind(),
@@ -197,19 +231,21 @@ fn told(db: &Db) -> (bool, bool, usize, usize, Result<(i32, i32), QueryFault>) {
     )
 }
 
-// The same after one decision.
-fn told_after_one(
-    alloc: Global,
-) -> Option<(bool, bool, usize, usize, Result<(i32, i32), QueryFault>)> {
-    let Some(mut db) = started(alloc, ORDERED) else {
-        return None;
-    };
-    let _answer = specified(&mut db, X, 4);
-    Some(told(&db))
+/// What a database tells of itself after one decision.
+#[derive(Clone, Copy)]
+struct AfterOne;
+
+impl Trial for AfterOne {
+    type Told = Account;
+
+    fn tell(&self, db: &mut Db) -> Account {
+        let _answer = specified(db, X, 4);
+        told(db)
+    }
 }
 
 #[test]
 fn a_database_tells_of_itself(rt: HostRuntime) {
     let expected = (true, false, 1, 2, Err(QueryFault::Unknown));
-    assert!(rt; told_after_one(rt.alloc()) == Some(expected));
+    assert!(rt; told_on_ordered(rt.alloc(), &AfterOne) == Some(expected));
 }

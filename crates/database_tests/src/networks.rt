@@ -14,6 +14,21 @@ use domain_core::{Change, Dom};
 use model_core::item::Kind;
 use std::alloc::Global;
 
+/// What is done with a network, and seen of it in plain values. Only `seen` owns one, since a proof goes through all that an
+/// owner may drop.
+trait Run {
+    type Seen: Drop;
+
+    fn run(&self, net: &mut Net, alloc: Global) -> Self::Seen
+        requires { length net.old.tables ≡ 0 };
+}
+
+/// What is seen of a new network.
+fn seen<R: Run>(alloc: Global, run: &R) -> R::Seen {
+    let mut net = Net::new(alloc);
+    run.run(&mut net, alloc)
+}
+
 /// The number of a new variable with this domain.
 fn add(net: &mut Net, alloc: Global, written: Written) -> Option<usize> {
     match made(alloc, written) {
@@ -98,14 +113,24 @@ fn run_equal(
     (made && settled, before, change, after)
 }
 
-fn equal_run(alloc: Global) -> (bool, [Option<Shape>; 2], Option<Change>, [Option<Shape>; 2]) {
-    let mut net = Net::new(alloc);
-    run_equal(&mut net, alloc)
+#[derive(Clone, Copy)]
+struct Equal;
+
+impl Run for Equal {
+    type Seen = (bool, [Option<Shape>; 2], Option<Change>, [Option<Shape>; 2]);
+
+    fn run(
+        &self,
+        net: &mut Net,
+        alloc: Global,
+    ) -> (bool, [Option<Shape>; 2], Option<Change>, [Option<Shape>; 2]) {
+        run_equal(net, alloc)
+    }
 }
 
 #[test]
 fn a_range_and_a_set_are_equal(rt: HostRuntime) {
-    let (settled, before, change, after) = equal_run(rt.alloc());
+    let (settled, before, change, after) = seen(rt.alloc(), &Equal);
     assert!(rt; settled);
     assert!(rt; before == [Some((true, 2, 9, 8)), Some((false, 2, 9, 3))]);
     assert!(rt; change == Some(Change::Smaller));
@@ -127,14 +152,20 @@ fn run_apart(net: &mut Net, alloc: Global) -> (bool, [Option<Shape>; 2], Option<
     (made && settled, after, net.stamp(1))
 }
 
-fn apart_run(alloc: Global) -> (bool, [Option<Shape>; 2], Option<u64>) {
-    let mut net = Net::new(alloc);
-    run_apart(&mut net, alloc)
+#[derive(Clone, Copy)]
+struct Apart;
+
+impl Run for Apart {
+    type Seen = (bool, [Option<Shape>; 2], Option<u64>);
+
+    fn run(&self, net: &mut Net, alloc: Global) -> (bool, [Option<Shape>; 2], Option<u64>) {
+        run_apart(net, alloc)
+    }
 }
 
 #[test]
 fn a_set_that_stays_is_not_written(rt: HostRuntime) {
-    let (settled, after, written) = apart_run(rt.alloc());
+    let (settled, after, written) = seen(rt.alloc(), &Apart);
     assert!(rt; settled);
     assert!(rt; after == [Some((true, 4, 7, 4)), Some((false, 12, 20, 3))]);
     assert!(rt; written == Some(0));
@@ -157,14 +188,20 @@ fn run_product(net: &mut Net, alloc: Global) -> (bool, [Option<Shape>; 3], [Opti
     (made && settled, before, after)
 }
 
-fn product_run(alloc: Global) -> (bool, [Option<Shape>; 3], [Option<Shape>; 3]) {
-    let mut net = Net::new(alloc);
-    run_product(&mut net, alloc)
+#[derive(Clone, Copy)]
+struct Product;
+
+impl Run for Product {
+    type Seen = (bool, [Option<Shape>; 3], [Option<Shape>; 3]);
+
+    fn run(&self, net: &mut Net, alloc: Global) -> (bool, [Option<Shape>; 3], [Option<Shape>; 3]) {
+        run_product(net, alloc)
+    }
 }
 
 #[test]
 fn a_product_is_settled_before_and_after_a_test_is_false(rt: HostRuntime) {
-    let (settled, before, after) = product_run(rt.alloc());
+    let (settled, before, after) = seen(rt.alloc(), &Product);
     assert!(rt; settled);
     let open = [
         Some((true, 0, 3, 4)),
@@ -188,18 +225,25 @@ fn make_contradiction(net: &mut Net, alloc: Global) -> bool {
 }
 
 /// Why the two can't be settled.
-fn contradiction_run(alloc: Global) -> (bool, Option<NetFault>) {
-    let mut net = Net::new(alloc);
-    let made = make_contradiction(&mut net, alloc);
+fn run_contradiction(net: &mut Net, alloc: Global) -> (bool, Option<NetFault>) {
+    let made = make_contradiction(net, alloc);
     (made, net.settle_all().err())
+}
+
+#[derive(Clone, Copy)]
+struct Contradiction;
+
+impl Run for Contradiction {
+    type Seen = (bool, Option<NetFault>);
+
+    fn run(&self, net: &mut Net, alloc: Global) -> (bool, Option<NetFault>) {
+        run_contradiction(net, alloc)
+    }
 }
 
 #[test]
 fn orders_that_contradict_each_other_collapse(rt: HostRuntime) {
-    assert_eq!(rt;
-        contradiction_run(rt.alloc()),
-        (true, Some(NetFault::Collapsed))
-    );
+    assert!(rt; seen(rt.alloc(), &Contradiction) == (true, Some(NetFault::Collapsed)));
 }
 
 /// Objects with 5 in a field.
@@ -217,19 +261,31 @@ fn post_field(net: &mut Net, objects: Dom) -> bool
 }
 
 /// What is left of the objects.
-fn field_run(alloc: Global) -> (bool, Option<Shape>) {
-    let mut net = Net::new(alloc);
+fn run_field(net: &mut Net, alloc: Global) -> (bool, Option<Shape>)
+    requires { length net.old.tables ≡ 0 }
+{
     let posted = match made(alloc, Members([0, 1, 2])) {
-        Some(objects) => post_field(&mut net, objects),
+        Some(objects) => post_field(net, objects),
         None => false,
     };
     let settled = net.settle_all().is_ok();
-    (posted && settled, left(&net, 0))
+    (posted && settled, left(net, 0))
+}
+
+#[derive(Clone, Copy)]
+struct FieldRead;
+
+impl Run for FieldRead {
+    type Seen = (bool, Option<Shape>);
+
+    fn run(&self, net: &mut Net, alloc: Global) -> (bool, Option<Shape>) {
+        run_field(net, alloc)
+    }
 }
 
 #[test]
 fn a_field_is_read_from_its_table(rt: HostRuntime) {
-    assert_eq!(rt; field_run(rt.alloc()), (true, Some((false, 0, 2, 2))));
+    assert!(rt; seen(rt.alloc(), &FieldRead) == (true, Some((false, 0, 2, 2))));
 }
 
 /// Each of so many variables is at most the next one.
@@ -255,17 +311,24 @@ fn run_chain(net: &mut Net, alloc: Global, count: usize) -> (bool, u64, Option<S
     (made && settled, spent, left(net, count.saturating_sub(1)))
 }
 
-fn chain_run(alloc: Global, count: usize) -> (bool, u64, Option<Shape>) {
-    let mut net = Net::new(alloc);
-    run_chain(&mut net, alloc, count)
+/// A chain of so many variables.
+#[derive(Clone, Copy)]
+struct Chain(usize);
+
+impl Run for Chain {
+    type Seen = (bool, u64, Option<Shape>);
+
+    fn run(&self, net: &mut Net, alloc: Global) -> (bool, u64, Option<Shape>) {
+        run_chain(net, alloc, self.0)
+    }
 }
 
 #[test]
 fn a_chain_takes_three_narrowings_a_variable(rt: HostRuntime) {
-    let (settled, spent, last) = chain_run(rt.alloc(), 100);
+    let (settled, spent, last) = seen(rt.alloc(), &Chain(100));
     assert!(rt; settled);
     assert!(rt; spent <= 300, "{spent}");
-    assert_eq!(rt; last, Some((true, 7, 1000, 994)));
+    assert!(rt; last == Some((true, 7, 1000, 994)));
 }
 
 /// Limits the variable, where there is one, and keeps the marks.
@@ -324,19 +387,24 @@ fn run_back(net: &mut Net, alloc: Global, first: &Dom, third: &Dom) -> Option<(V
     Some((visited, net.settle_all().is_ok()))
 }
 
-/// The same on a new network.
-fn run_back_for(alloc: Global, first: &Dom, third: &Dom) -> Option<(Visited, bool)> {
-    let mut net = Net::new(alloc);
-    run_back(&mut net, alloc, first, third)
+/// To where the first and the third variable of a chain become less, by their ends, and back.
+#[derive(Clone, Copy)]
+struct Journey {
+    first: (i32, i32),
+    third: (i32, i32),
 }
 
-fn back_run(alloc: Global, first: (i32, i32), third: (i32, i32)) -> Option<(Visited, bool)> {
-    match Dom::range(first.0, first.1) {
-        Some(first) => match Dom::range(third.0, third.1) {
-            Some(third) => run_back_for(alloc, &first, &third),
+impl Run for Journey {
+    type Seen = Option<(Visited, bool)>;
+
+    fn run(&self, net: &mut Net, alloc: Global) -> Option<(Visited, bool)> {
+        match Dom::range(self.first.0, self.first.1) {
+            Some(first) => match Dom::range(self.third.0, self.third.1) {
+                Some(third) => run_back(net, alloc, &first, &third),
+                None => None,
+            },
             None => None,
-        },
-        None => None,
+        }
     }
 }
 
@@ -349,7 +417,11 @@ fn a_chain_goes_back_to_a_mark(rt: HostRuntime) {
         shapes,
         [Some(1), Some(2), Some(0)],
     );
-    assert!(rt; back_run(rt.alloc(), (7, 9), (0, 1000)) == Some((visited, true)));
+    let journey = Journey {
+        first: (7, 9),
+        third: (0, 1000),
+    };
+    assert!(rt; seen(rt.alloc(), &journey) == Some((visited, true)));
 }
 
 /// The first four variables on the list of those that have changed, after the first of a chain of three became less and
@@ -369,15 +441,21 @@ fn run_changed(net: &mut Net, alloc: Global) -> Option<[Option<usize>; 4]> {
     ])
 }
 
-fn changed_run(alloc: Global) -> Option<[Option<usize>; 4]> {
-    let mut net = Net::new(alloc);
-    run_changed(&mut net, alloc)
+#[derive(Clone, Copy)]
+struct Changes;
+
+impl Run for Changes {
+    type Seen = Option<[Option<usize>; 4]>;
+
+    fn run(&self, net: &mut Net, alloc: Global) -> Option<[Option<usize>; 4]> {
+        run_changed(net, alloc)
+    }
 }
 
 #[test]
 fn a_network_tells_what_has_changed(rt: HostRuntime) {
     let changed = [Some(0), Some(1), Some(2), None];
-    assert!(rt; changed_run(rt.alloc()) == Some(changed));
+    assert!(rt; seen(rt.alloc(), &Changes) == Some(changed));
 }
 
 #[test]
@@ -385,5 +463,9 @@ fn a_collapsed_chain_settles_after_going_back(rt: HostRuntime) {
     let faults = [Some(NetFault::Collapsed), Some(NetFault::Collapsed)];
     let shapes = [Some((true, 0, 5, 6)), Some((true, 0, 1000, 1001))];
     let visited = ([true, true], faults, shapes, [Some(1), Some(2), Some(0)]);
-    assert!(rt; back_run(rt.alloc(), (7, 9), (0, 5)) == Some((visited, true)));
+    let journey = Journey {
+        first: (7, 9),
+        third: (0, 5),
+    };
+    assert!(rt; seen(rt.alloc(), &journey) == Some((visited, true)));
 }

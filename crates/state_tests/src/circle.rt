@@ -1,14 +1,11 @@
 //! Three tokens of one track in a circle: how often their starts were written, and the time edges of the circle.
 
-ghost use Rattle.model_core.specs.Lawful.{IsLawful};
-
 use super::asking::model_of;
 use super::names::{decision, variable};
 use super::steps::Choice;
-use model_core::model::Model;
+use super::trial::{Trial, told_on_rounds};
 use plan_db::{Db, NamedEdge, Point};
-use sample_models::rounds::rounds;
-use std::alloc::{AllocError, Global};
+use std::alloc::Global;
 
 // What was written how often, or nothing of what is asked.
 type Stamps = [Option<u64>; 3];
@@ -188,27 +185,19 @@ fn is_told(alloc: Global, db: &mut Db) -> bool {
     free && goes_round(alloc, db) && has_edges(db)
 }
 
-// The same on a new database of the model.
-fn told_of(alloc: Global, model: Model) -> Result<bool, AllocError>
-    requires { IsLawful model }
-{
-    match Db::new(alloc, model) {
-        Ok(db) => {
-            let mut db = db;
-            Ok(is_told(alloc, &mut db))
-        }
-        Err(none) => Err(none),
-    }
-}
+/// Whether the circle is told.
+#[derive(Clone, Copy)]
+struct Circle;
 
-fn told(alloc: Global) -> Result<bool, AllocError> {
-    match rounds(alloc) {
-        Ok(model) => told_of(alloc, model),
-        Err(none) => Err(none),
+impl Trial for Circle {
+    type Told = bool;
+
+    fn tell(&self, alloc: Global, db: &mut Db) -> bool {
+        is_told(alloc, db)
     }
 }
 
 #[test]
 fn a_circle_is_told(rt: HostRuntime) {
-    assert_eq!(rt; told(rt.alloc()), Ok(true));
+    assert!(rt; told_on_rounds(rt.alloc(), &Circle) == Ok(true));
 }

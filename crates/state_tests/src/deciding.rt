@@ -1,7 +1,5 @@
 //! Runs steps on a database, and compares what each answers.
 
-ghost use Rattle.model_core.specs.Lawful.{IsLawful};
-
 use super::asking::{
     domain, has_plan, has_tokens, is_flawed, is_unseen, is_untold, model_of, ordered, stand,
     token_fate,
@@ -9,11 +7,9 @@ use super::asking::{
 use super::names::{decision, subject};
 use super::reasons::{has_no_reason, is_conflict, is_cycle};
 use super::steps::{Choice, On, Said, Step};
-use model_core::model::Model;
+use super::trial::Trial;
 use plan_db::{Db, DbFault, Outcome, QueryFault};
-use sample_models::mission::mission;
-use sample_models::rounds::rounds;
-use std::alloc::{AllocError, Global};
+use std::alloc::Global;
 
 fn said(answer: Result<Outcome, DbFault>) -> Said {
     match answer {
@@ -86,31 +82,14 @@ fn first_wrong_in(alloc: Global, db: &mut Db, steps: &[Step]) -> Option<usize> {
     None
 }
 
-// The same on a new database of the model.
-fn first_wrong_of(alloc: Global, model: Model, steps: &[Step]) -> Result<Option<usize>, AllocError>
-    requires { IsLawful model }
-{
-    match Db::new(alloc, model) {
-        Ok(db) => {
-            let mut db = db;
-            Ok(first_wrong_in(alloc, &mut db, steps))
-        }
-        Err(none) => Err(none),
-    }
-}
+/// Steps, of which the place of the first is told that answers something else.
+#[derive(Clone, Copy)]
+pub struct Steps(pub &'static [Step]);
 
-/// The place of the first step that answers something else on the mission.
-pub fn wrong_on_mission(alloc: Global, steps: &[Step]) -> Result<Option<usize>, AllocError> {
-    match mission(alloc) {
-        Ok(model) => first_wrong_of(alloc, model, steps),
-        Err(none) => Err(none),
-    }
-}
+impl Trial for Steps {
+    type Told = Option<usize>;
 
-/// The same on the rounds.
-pub fn wrong_on_rounds(alloc: Global, steps: &[Step]) -> Result<Option<usize>, AllocError> {
-    match rounds(alloc) {
-        Ok(model) => first_wrong_of(alloc, model, steps),
-        Err(none) => Err(none),
+    fn tell(&self, alloc: Global, db: &mut Db) -> Option<usize> {
+        first_wrong_in(alloc, db, self.0)
     }
 }

@@ -1,13 +1,10 @@
 //! As many active tokens as there may be.
 
-ghost use Rattle.model_core.specs.Lawful.{IsLawful};
-
+use super::trial::{Trial, told_on_rounds};
 use eu_name::name::{Step, TokenName};
 use eu_name::sequence::Sequence;
 use model_core::decision::Decision;
-use model_core::model::Model;
 use plan_db::{Db, DbFault, Outcome};
-use sample_models::rounds::rounds;
 use std::alloc::{AllocError, Global};
 
 // The token to which so many steps lead from the link, each to one more of the same.
@@ -43,27 +40,20 @@ fn activate_links(alloc: Global, db: &mut Db) -> Result<(u32, Option<DbFault>), 
     Ok((600, None))
 }
 
-// The same on a new database of the model.
-fn links_of(alloc: Global, model: Model) -> Result<(u32, Option<DbFault>), AllocError>
-    requires { IsLawful model }
-{
-    match Db::new(alloc, model) {
-        Ok(db) => {
-            let mut db = db;
-            activate_links(alloc, &mut db)
-        }
-        Err(none) => Err(none),
-    }
-}
+/// How many links can be activated, and why no more.
+#[derive(Clone, Copy)]
+struct Links;
 
-fn links(alloc: Global) -> Result<(u32, Option<DbFault>), AllocError> {
-    match rounds(alloc) {
-        Ok(model) => links_of(alloc, model),
-        Err(none) => Err(none),
+impl Trial for Links {
+    type Told = Result<(u32, Option<DbFault>), AllocError>;
+
+    fn tell(&self, alloc: Global, db: &mut Db) -> Result<(u32, Option<DbFault>), AllocError> {
+        activate_links(alloc, db)
     }
 }
 
 #[test]
 fn no_more_are_active_than_may_be(rt: HostRuntime) {
-    assert_eq!(rt; links(rt.alloc()), Ok((512, Some(DbFault::ActiveFull))));
+    let told = told_on_rounds(rt.alloc(), &Links);
+    assert!(rt; told == Ok(Ok((512, Some(DbFault::ActiveFull)))));
 }

@@ -22,4 +22,6 @@ mod searching;
 #[cfg(test)]
 mod steps;
 #[cfg(test)]
+mod trial;
+#[cfg(test)]
 mod work;

@@ -1,7 +1,8 @@
 //! Steps on the two models, with what each answers as it was worked out by hand from what a state is.
 
-use super::deciding::{wrong_on_mission, wrong_on_rounds};
+use super::deciding::Steps;
 use super::steps::{Choice, Fate, Gap, On, Said, Step};
+use super::trial::{told_on_mission, told_on_rounds};
 use conflict_core::WhyFault;
 use plan_db::DbFault;
 use std::test::Fail;
@@ -590,7 +591,11 @@ const ON_ROUNDS: [(&str, &[Step]); 12] = [
 #[test]
 fn the_mission_answers(rt: HostRuntime) -> Result<(), Fail> {
     for row in &ON_MISSION {
-        assert_eq!(rt; wrong_on_mission(rt.alloc(), row.1)?, None, "{}", row.0);
+        assert!(rt;
+            told_on_mission(rt.alloc(), &Steps(row.1))?.is_none(),
+            "{}",
+            row.0
+        );
     }
     Ok(())
 }
@@ -598,7 +603,11 @@ fn the_mission_answers(rt: HostRuntime) -> Result<(), Fail> {
 #[test]
 fn the_rounds_answer(rt: HostRuntime) -> Result<(), Fail> {
     for row in &ON_ROUNDS {
-        assert_eq!(rt; wrong_on_rounds(rt.alloc(), row.1)?, None, "{}", row.0);
+        assert!(rt;
+            told_on_rounds(rt.alloc(), &Steps(row.1))?.is_none(),
+            "{}",
+            row.0
+        );
     }
     Ok(())
 }

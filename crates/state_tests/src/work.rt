@@ -1,14 +1,11 @@
 //! How much is done for a decision, and for building anew.
 
-ghost use Rattle.model_core.specs.Lawful.{IsLawful};
-
 use super::asking::model_of;
 use super::names::decision;
 use super::steps::Choice;
-use model_core::model::Model;
+use super::trial::{Trial, told_on_rounds};
 use plan_db::Db;
-use sample_models::rounds::rounds;
-use std::alloc::{AllocError, Global};
+use std::alloc::Global;
 use std::test::Fail;
 
 // The narrowings for taking the decision, which fits.
@@ -50,31 +47,23 @@ fn works_in(alloc: Global, db: &mut Db) -> [Option<u64>; 4] {
     [free, bound, back, work_anew(db)]
 }
 
-// The same on a new database of the model.
-fn works_of(alloc: Global, model: Model) -> Result<[Option<u64>; 4], AllocError>
-    requires { IsLawful model }
-{
-    match Db::new(alloc, model) {
-        Ok(db) => {
-            let mut db = db;
-            Ok(works_in(alloc, &mut db))
-        }
-        Err(none) => Err(none),
-    }
-}
+/// The narrowings of all these.
+#[derive(Clone, Copy)]
+struct Works;
 
-fn works(alloc: Global) -> Result<[Option<u64>; 4], AllocError> {
-    match rounds(alloc) {
-        Ok(model) => works_of(alloc, model),
-        Err(none) => Err(none),
+impl Trial for Works {
+    type Told = [Option<u64>; 4];
+
+    fn tell(&self, alloc: Global, db: &mut Db) -> [Option<u64>; 4] {
+        works_in(alloc, db)
     }
 }
 
 // Building anew narrows each item once at least: one constraint, and of each of six tokens that it lasts as it says.
 #[test]
 fn a_decision_costs_what_it_touches(rt: HostRuntime) -> Result<(), Fail> {
-    let [free, bound, back, anew] = works(rt.alloc())?;
-    assert_eq!(rt; (free, back), (Some(0), Some(0)));
+    let [free, bound, back, anew] = told_on_rounds(rt.alloc(), &Works)?;
+    assert!(rt; (free, back) == (Some(0), Some(0)));
     assert!(rt; bound.is_some_and(|count| count >= 1 && count < 7));
     assert!(rt; anew.is_some_and(|count| count >= 7));
     Ok(())

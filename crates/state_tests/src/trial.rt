@@ -1,0 +1,46 @@
+//! What is tried on a new database of a model.
+
+ghost use Rattle.model_core.specs.Lawful.{IsLawful};
+
+use model_core::model::Model;
+use plan_db::Db;
+use sample_models::mission::mission;
+use sample_models::rounds::rounds;
+use std::alloc::{AllocError, Global};
+
+/// What is done with a database, and told of it in plain values. Only `told_of` owns one, since a proof goes through all that
+/// an owner may drop.
+pub trait Trial {
+    type Told: Drop;
+
+    fn tell(&self, alloc: Global, db: &mut Db) -> Self::Told;
+}
+
+// What is told of a new database of the model.
+fn told_of<T: Trial>(alloc: Global, model: Model, trial: &T) -> Result<T::Told, AllocError>
+    requires { IsLawful model }
+{
+    match Db::new(alloc, model) {
+        Ok(db) => {
+            let mut db = db;
+            Ok(trial.tell(alloc, &mut db))
+        }
+        Err(none) => Err(none),
+    }
+}
+
+/// What is told of the mission.
+pub fn told_on_mission<T: Trial>(alloc: Global, trial: &T) -> Result<T::Told, AllocError> {
+    match mission(alloc) {
+        Ok(model) => told_of(alloc, model, trial),
+        Err(none) => Err(none),
+    }
+}
+
+/// What is told of the rounds.
+pub fn told_on_rounds<T: Trial>(alloc: Global, trial: &T) -> Result<T::Told, AllocError> {
+    match rounds(alloc) {
+        Ok(model) => told_of(alloc, model, trial),
+        Err(none) => Err(none),
+    }
+}
