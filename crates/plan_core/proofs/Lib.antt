@@ -10,3 +10,4 @@ pub mod Stepping
 pub mod LocalValues
 pub mod Globals
 pub mod Texts
+pub mod Points

@@ -1,5 +1,5 @@
 -- Words that were written.
-use Rattle.std.proofs.Common.{◌≡◌, ℕ, ℤ, List, ◌++◌, Result, Ok, Err, Some, slice_get, get_or, refl, sym, ◌∙◌, ap, subst, codes, w32, to_z, of_z, arith}
+use Rattle.std.proofs.Common.{◌≡◌, ℕ, ℤ, pos, inl, inr, List, ◌++◌, Result, Ok, Err, Some, slice_get, get_or, refl, sym, ◌∙◌, ap, subst, codes, w32, to_z, of_z, arith}
 use Rattle.std.proofs.lemmas.Int.{ints}
 use Rattle.std.specs.Prelude.{OnOk}
 use Rattle.std.specs.Fmt.{signed_decimal}
@@ -25,7 +25,7 @@ use Rattle.plan_core.specs.Found.{Exactly}
 use Rattle.plan_core.specs.Lines.{OnePart}
 use Rattle.plan_core.specs.Writing.{Adds}
 use Rattle.plan_core.proofs.Adding.{adds_word, adds_then}
-use Rattle.plan_core.proofs.Unbroken.{name_unbroken, object_unbroken, number_unbroken}
+use Rattle.plan_core.proofs.Unbroken.{name_unbroken, object_unbroken, number_unbroken, unbroken_from}
 
 kept_member : (model : Model) (number : ℕ) (value : ℤ) → IsLawful model → IsMemberOf model number value → to_z w32 (of_z w32 value) ≡ value
 kept_member model number value lawful is =
@@ -35,30 +35,32 @@ kept_object : (model : Model) (value : ℤ) → IsLawful model → (object : Obj
 kept_object model value lawful (object, (place, is_place, is_object)) = omega (arith, ints, is_place, item_within model.objects place object is_object, lawful.few_objects)
 
 -- a name of the token
-pub token_put : {A E : Type 0} (model : Model) (token : TokenName) (text : NameText) (old new : List ℕ) (r : Result A E) → IsLawful model → NamesToken model text token → OnOk r (new ≡ old ++ (codes " " ++ name_spelling text))
-    → OnOk r ((word : List ℕ) × ((new ≡ old ++ (codes " " ++ word)) × IsNameOf model (variables.Token token Start) word))
-token_put model token text old new (Ok x) lawful names put =
+pub token_put : {A E : Type 0} (model : Model) (token : TokenName) (text : NameText) (gap old new : List ℕ) (r : Result A E) → IsLawful model → NamesToken model text token → OnOk r (new ≡ old ++ (gap ++ name_spelling text))
+    → OnOk r ((word : List ℕ) × ((new ≡ old ++ (gap ++ word)) × IsNameOf model (variables.Token token Start) word))
+token_put model token text gap old new (Ok x) lawful names put =
     (name_spelling text, (put, record { text = text; spells = (token_text_well_formed model text token lawful names, refl); names = names }))
-token_put model token text old new (Err e) lawful names put = tt
+token_put model token text gap old new (Err e) lawful names put = tt
 
--- a value
-value_put : {A E : Type 0} (model : Model) (kind : ValueKind) (value : ℤ) (word old new : List ℕ) (r : Result A E) → IsUnbroken word → IsValueText model kind value word
-    → OnOk r (new ≡ old ++ (codes " " ++ word)) → OnOk r (Adds IsPaused (OneValue model kind) value old new)
-value_put model kind value word old new (Ok x) whole says put = adds_word 32 word old new (IsValueText model kind) _ value refl whole says put
-value_put model kind value word old new (Err e) whole says put = tt
+-- how the value is written stands behind the gap
+abbrev pub Shows : Model → ValueKind → ℤ → List ℕ → List ℕ → List ℕ → Type 0
+Shows model kind value gap old new = (word : List ℕ) × ((new ≡ old ++ (gap ++ word)) × IsValueText model kind value word)
 
-pub number_put : {A E : Type 0} (model : Model) (kind : ValueKind) (value written : ℤ) (old new : List ℕ) (r : Result A E) → written ≡ value → kind ≡ kinds.Int → IsValueOf model kind value
-    → OnOk r (new ≡ old ++ (codes " " ++ signed_decimal written)) → OnOk r (Adds IsPaused (OneValue model kind) value old new)
-number_put model kind value written old new r same is of put =
+shown_put : {A E : Type 0} (model : Model) (kind is_kind : ValueKind) (value : ℤ) (word gap old new : List ℕ) (r : Result A E) → kind ≡ is_kind → IsValueText model is_kind value word
+    → OnOk r (new ≡ old ++ (gap ++ word)) → OnOk r (Shows model kind value gap old new)
+shown_put model kind is_kind value word gap old new (Ok x) is says put = (word, (put, subst (λ k. IsValueText model k value word) (sym is) says))
+shown_put model kind is_kind value word gap old new (Err e) is says put = tt
+
+pub number_put : {A E : Type 0} (model : Model) (kind : ValueKind) (value written : ℤ) (gap old new : List ℕ) (r : Result A E) → written ≡ value → kind ≡ kinds.Int → IsValueOf model kind value
+    → OnOk r (new ≡ old ++ (gap ++ signed_decimal written)) → OnOk r (Shows model kind value gap old new)
+number_put model kind value written gap old new r same is of put =
     let value_of = subst (λ k. IsValueOf model k value) is of in
-    subst (λ k. OnOk r (Adds IsPaused (OneValue model k) value old new)) (sym is)
-    (value_put model kinds.Int value (signed_decimal value) old new r (number_unbroken value value_of) (value_of, refl) (subst (λ v. OnOk r (new ≡ old ++ (codes " " ++ signed_decimal v))) same put))
+    shown_put model kind kinds.Int value (signed_decimal value) gap old new r is (value_of, refl) (subst (λ v. OnOk r (new ≡ old ++ (gap ++ signed_decimal v))) same put)
 
--- a name of a member or an object
-pub word_put : {A E : Type 0} (model : Model) (kind is_kind : ValueKind) (value : ℤ) (word old new : List ℕ) (r : Result A E) → kind ≡ is_kind → IsUnbroken word → IsValueText model is_kind value word
-    → OnOk r (new ≡ old ++ (codes " " ++ word)) → OnOk r (Adds IsPaused (OneValue model kind) value old new)
-word_put model kind is_kind value word old new r is whole says put =
-    subst (λ k. OnOk r (Adds IsPaused (OneValue model k) value old new)) (sym is) (value_put model is_kind value word old new r whole says put)
+pub truth_put : {A E : Type 0} (model : Model) (kind : ValueKind) (value written : ℤ) (text gap old new : List ℕ) (r : Result A E) → written ≡ value → kind ≡ kinds.Bool → IsValueOf model kind value
+    → (written ≡ pos 0 → text ≡ codes "false") → (written ≡ pos 1 → text ≡ codes "true") → OnOk r (new ≡ old ++ (gap ++ text)) → OnOk r (Shows model kind value gap old new)
+truth_put model kind value written text gap old new r same is of zero one put =
+    shown_put model kind kinds.Bool value text gap old new r is
+    (elim (subst (λ k. IsValueOf model k value) is of) [ inl none ↦ inl (none, zero (same ∙ none)) | inr single ↦ inr (single, one (same ∙ single)) ]) put
 
 pub member_unbroken : (model : Model) (number : ℕ) (value : ℤ) (word : List ℕ) → IsLawful model → IsMemberNamed model number value word → IsUnbroken word
 member_unbroken model number value word lawful is =
@@ -67,6 +69,21 @@ member_unbroken model number value word lawful is =
 pub object_name_unbroken : (model : Model) (value : ℤ) (word : List ℕ) → IsLawful model → (object : Object) × (IsObject model value object × (object.name ≡ word)) → IsUnbroken word
 object_name_unbroken model value word lawful (object, ((place, is_place, is_object), named)) =
     subst IsUnbroken named (object_unbroken object.name (item_all (IsLawfulObject model) model.objects place object lawful.objects is_object).name)
+
+value_unbroken : (model : Model) (kind : ValueKind) (value : ℤ) (word : List ℕ) → IsLawful model → IsValueText model kind value word → IsUnbroken word
+value_unbroken model kinds.Int value word lawful (is, same) = subst IsUnbroken (sym same) (number_unbroken value is)
+value_unbroken model kinds.Bool value word lawful (inl (is, same)) = subst IsUnbroken (sym same) (unbroken_from (codes "false") (omega arith) (refl, (refl, (refl, (refl, (refl, tt))))))
+value_unbroken model kinds.Bool value word lawful (inr (is, same)) = subst IsUnbroken (sym same) (unbroken_from (codes "true") (omega arith) (refl, (refl, (refl, (refl, tt)))))
+value_unbroken model (kinds.Enum number) value word lawful is = member_unbroken model number value word lawful is
+value_unbroken model kinds.Object value word lawful is = object_name_unbroken model value word lawful is
+
+-- a word of which a reader gets the value
+pub value_put : {A E : Type 0} (model : Model) (kind : ValueKind) (value written : ℤ) (old new : List ℕ) (r : Result A E) → written ≡ value → IsLawful model → OnOk r (Shows model kind written (codes " ") old new)
+    → OnOk r (Adds IsPaused (OneValue model kind) value old new)
+value_put model kind value written old new (Ok x) same lawful (word, (put, is)) =
+    let says = subst (λ v. IsValueText model kind v word) same is in
+    adds_word 32 word old new (IsValueText model kind) _ value refl (value_unbroken model kind value word lawful says) says put
+value_put model kind value written old new (Err e) same lawful put = tt
 
 -- the item that the code finds at a place
 pub found_item : {X : Type 0} (xs items : List X) (k : ℕ) (x found : X) → items ≡ xs → x ≡ get_or items k x → slice_get xs k ≡ Some found → found ≡ x
@@ -80,22 +97,15 @@ part_put model label kind value written old mid new (Ok x) same whole put adds =
     (subst (λ v. Adds IsPaused (OneValue model kind) v mid new) same adds)
 part_put model label kind value written old mid new (Err e) same whole put adds = tt
 
--- the same value, however it is handed on
-pub same_value : {A E : Type 0} (model : Model) (kind : ValueKind) (value written : ℤ) (old new : List ℕ) (r : Result A E) → written ≡ value
-    → OnOk r (Adds IsPaused (OneValue model kind) written old new) → OnOk r (Adds IsPaused (OneValue model kind) value old new)
-same_value model kind value written old new r same = subst (λ v. OnOk r (Adds IsPaused (OneValue model kind) v old new)) same
+pub member_text_put : {A E : Type 0} (model : Model) (kind : ValueKind) (number : ℕ) (value written : ℤ) (word gap old new : List ℕ) (r : Result A E) → written ≡ value → kind ≡ kinds.Enum number
+    → IsMemberNamed model number written word → OnOk r (new ≡ old ++ (gap ++ word)) → OnOk r (Shows model kind value gap old new)
+member_text_put model kind number value written word gap old new r same is named put =
+    shown_put model kind (kinds.Enum number) value word gap old new r is (subst (λ v. IsMemberNamed model number v word) same named) put
 
-pub member_text_put : {A E : Type 0} (model : Model) (kind : ValueKind) (number : ℕ) (value written : ℤ) (word old new : List ℕ) (r : Result A E) → written ≡ value → IsLawful model → kind ≡ kinds.Enum number
-    → IsMemberNamed model number written word → OnOk r (new ≡ old ++ (codes " " ++ word)) → OnOk r (Adds IsPaused (OneValue model kind) value old new)
-member_text_put model kind number value written word old new r same lawful is named put =
-    let says = subst (λ v. IsMemberNamed model number v word) same named in
-    word_put model kind (kinds.Enum number) value word old new r is (member_unbroken model number value word lawful says) says put
-
-pub object_text_put : {A E : Type 0} (model : Model) (kind : ValueKind) (value written : ℤ) (word old new : List ℕ) (r : Result A E) → written ≡ value → IsLawful model → kind ≡ kinds.Object
-    → (object : Object) × (IsObject model written object × (object.name ≡ word)) → OnOk r (new ≡ old ++ (codes " " ++ word)) → OnOk r (Adds IsPaused (OneValue model kind) value old new)
-object_text_put model kind value written word old new r same lawful is named put =
-    let says = subst (λ v. (object : Object) × (IsObject model v object × (object.name ≡ word))) same named in
-    word_put model kind kinds.Object value word old new r is (object_name_unbroken model value word lawful says) says put
+pub object_text_put : {A E : Type 0} (model : Model) (kind : ValueKind) (value written : ℤ) (word gap old new : List ℕ) (r : Result A E) → written ≡ value → kind ≡ kinds.Object
+    → (object : Object) × (IsObject model written object × (object.name ≡ word)) → OnOk r (new ≡ old ++ (gap ++ word)) → OnOk r (Shows model kind value gap old new)
+object_text_put model kind value written word gap old new r same is named put =
+    shown_put model kind kinds.Object value word gap old new r is (subst (λ v. (object : Object) × (IsObject model v object × (object.name ≡ word))) same named) put
 
 pub member_of : (model : Model) (kind : ValueKind) (number : ℕ) (value : ℤ) → IsLawful model → kind ≡ kinds.Enum number → IsValueOf model kind value → IsMemberOf model number (to_z w32 (of_z w32 value))
 member_of model kind number value lawful is of =

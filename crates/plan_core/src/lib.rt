@@ -8,6 +8,7 @@ pub mod fault;
 pub mod names;
 pub mod statement;
 pub mod subject;
+pub mod value_words;
 pub mod words;
 pub mod writing;
 

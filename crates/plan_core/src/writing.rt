@@ -25,7 +25,7 @@ ghost use Rattle.plan_core.specs.declared.statement.Statement.TheVariants as sta
 ghost use Rattle.plan_core.specs.Lines.{keyword_text, OneKeyword, OnePart, FirstParts, LastParts, TokenValues};
 ghost use Rattle.plan_core.specs.PlanTexts.{global_statements, IsPlanText};
 ghost use Rattle.plan_core.specs.Subjects.{IsNameOf, IsLocalOfKind, OnePredicate};
-ghost use Rattle.plan_core.specs.Values.{IsMemberNamed, OneValue};
+ghost use Rattle.plan_core.specs.Values.{IsMemberNamed, IsValueText, OneValue};
 ghost use Rattle.plan_core.specs.Words.{IsPaused, IsUnbroken};
 ghost use Rattle.plan_core.specs.Writing.{Adds, AddsLine, AddsLines, EndsLine};
 
@@ -41,16 +41,37 @@ use model_core::variable::{ValueKind, VarDecl};
 use plan_defs::plan::{Line, Plan};
 use std::alloc::{AllocError, Global};
 
-// The word, behind the gap.
-fn put_word(out: &mut Vec<u8>, gap: &[u8], word: &[u8]) -> Result<(), AllocError>
+/// The word, behind the gap.
+pub fn put_word(out: &mut Vec<u8>, gap: &[u8], word: &[u8]) -> Result<(), AllocError>
     ensures { OnOk result (out.new.items ≡ out.old.items ++ (gap.now ++ word.now)) }
 {
     out.extend_from_slice(gap)?;
     out.extend_from_slice(word)
 }
 
-// How the value of the kind is written, behind a space.
-fn put_value(
+/// How the value of the kind is written, behind the gap.
+pub fn put_shown(
+    out: &mut Vec<u8>,
+    gap: &[u8],
+    model: &Model,
+    kind: ValueKind,
+    value: i32,
+) -> Result<(), AllocError>
+    requires lawful { IsLawful model.now }
+    requires value { IsValueOf model.now kind value }
+    ensures { OnOk result ((word : List ℕ) × ((out.new.items ≡ out.old.items ++ (gap.now ++ word))
+        × IsValueText model.now kind value word)) }
+{
+    match kind {
+        ValueKind::Int => put_number(out, gap, value),
+        ValueKind::Bool => put_word(out, gap, truth_text(value)),
+        ValueKind::Enum(number) => put_word(out, gap, member_text(model, number, value)),
+        ValueKind::Object => put_word(out, gap, object_text(model, value)),
+    }
+}
+
+/// How the value of the kind is written, behind a space: a word of which a reader gets it.
+pub fn put_value(
     out: &mut Vec<u8>,
     model: &Model,
     kind: ValueKind,
@@ -60,12 +81,7 @@ fn put_value(
     requires value { IsValueOf model.now kind value }
     ensures { OnOk result (Adds IsPaused (OneValue model.now kind) value out.old.items out.new.items) }
 {
-    match kind {
-        ValueKind::Int => put_number(out, value),
-        ValueKind::Bool => put_word(out, b" ", truth_text(value)),
-        ValueKind::Enum(number) => put_word(out, b" ", member_text(model, number, value)),
-        ValueKind::Object => put_word(out, b" ", object_text(model, value)),
-    }
+    put_shown(out, b" ", model, kind, value)
 }
 
 // The place that is this value.
@@ -76,8 +92,8 @@ fn value_place(value: i32) -> usize
     value as usize
 }
 
-// The name of a member of an enum.
-fn member_text(model: &Model, number: u32, value: i32) -> &[u8]
+/// The name of a member of an enum.
+pub fn member_text(model: &Model, number: u32, value: i32) -> &[u8]
     requires { IsMemberOf model.now number value }
     ensures { IsMemberNamed model.now number value result.now }
 {
@@ -86,8 +102,8 @@ fn member_text(model: &Model, number: u32, value: i32) -> &[u8]
     found.members.as_slice()[place].as_bytes()
 }
 
-// The name of an object.
-fn object_text(model: &Model, value: i32) -> &[u8]
+/// The name of an object.
+pub fn object_text(model: &Model, value: i32) -> &[u8]
     requires { (object : Object) × IsObject model.now value object }
     ensures { (object : Object) × (IsObject model.now value object × (object.name ≡ result.now)) }
 {
@@ -95,28 +111,33 @@ fn object_text(model: &Model, value: i32) -> &[u8]
     model.objects.as_slice()[place].name.as_bytes()
 }
 
-// The number, behind a space.
-fn put_number(out: &mut Vec<u8>, value: i32) -> Result<(), AllocError>
-    ensures { OnOk result (out.new.items ≡ out.old.items ++ (codes " " ++ signed_decimal value)) }
+/// The number, behind the gap.
+pub fn put_number(out: &mut Vec<u8>, gap: &[u8], value: i32) -> Result<(), AllocError>
+    ensures { OnOk result (out.new.items ≡ out.old.items ++ (gap.now ++ signed_decimal value)) }
 {
     let mut buffer = Buffer::new();
-    put_word(out, b" ", buffer.format(value).as_bytes())
+    put_word(out, gap, buffer.format(value).as_bytes())
 }
 
-// How the truth is written.
-fn truth_text(value: i32) -> &'static [u8]
+/// How the truth is written.
+pub fn truth_text(value: i32) -> &'static [u8]
     ensures zero { value ≡ pos 0 → result.now ≡ codes "false" }
     ensures one { value ≡ pos 1 → result.now ≡ codes "true" }
 {
     if value == 0 { b"false" } else { b"true" }
 }
 
-// The name, behind a space.
-fn put_name(out: &mut Vec<u8>, alloc: Global, name: &NameText) -> Result<(), AllocError>
-    ensures { OnOk result (out.new.items ≡ out.old.items ++ (codes " " ++ name_spelling name.now)) }
+/// The name, behind the gap.
+pub fn put_name(
+    out: &mut Vec<u8>,
+    gap: &[u8],
+    alloc: Global,
+    name: &NameText,
+) -> Result<(), AllocError>
+    ensures { OnOk result (out.new.items ≡ out.old.items ++ (gap.now ++ name_spelling name.now)) }
 {
     let bytes = write_name(alloc, name)?;
-    put_word(out, b" ", bytes.as_slice())
+    put_word(out, gap, bytes.as_slice())
 }
 
 // The text that names the token.
@@ -133,35 +154,37 @@ fn token_text(model: &Model, token: &TokenName) -> Result<NameText, AllocError>
     })
 }
 
-// The name of the token, behind a space.
-fn put_token(
+/// The name of the token, behind the gap.
+pub fn put_token(
     out: &mut Vec<u8>,
+    gap: &[u8],
     alloc: Global,
     model: &Model,
     token: &TokenName,
 ) -> Result<(), AllocError>
     requires lawful { IsLawful model.now }
     requires there { IsToken model.now token.now }
-    ensures { OnOk result ((word : List ℕ) × ((out.new.items ≡ out.old.items ++ (codes " " ++ word))
+    ensures { OnOk result ((word : List ℕ) × ((out.new.items ≡ out.old.items ++ (gap.now ++ word))
         × IsNameOf model.now (variables.Token token.now Start) word)) }
 {
     let text = token_text(model, token)?;
-    put_name(out, alloc, &text)
+    put_name(out, gap, alloc, &text)
 }
 
-// The name of the variable, behind a space.
-fn put_variable(
+/// The name of the variable, behind the gap.
+pub fn put_variable(
     out: &mut Vec<u8>,
+    gap: &[u8],
     alloc: Global,
     model: &Model,
     variable: &VarName,
 ) -> Result<(), AllocError>
     requires { (base : Base) × HasBase model.now variable.now base }
-    ensures { OnOk result ((text : NameText) × ((out.new.items ≡ out.old.items ++ (codes " " ++ name_spelling text))
+    ensures { OnOk result ((text : NameText) × ((out.new.items ≡ out.old.items ++ (gap.now ++ name_spelling text))
         × NamesVariable model.now text variable.now)) }
 {
     let text = model.var_text(variable)?;
-    put_name(out, alloc, &text)
+    put_name(out, gap, alloc, &text)
 }
 
 // The word with which a line begins.
@@ -186,8 +209,8 @@ fn put_keyword(out: &mut Vec<u8>, keyword: Keyword) -> Result<(), AllocError>
     put_word(out, b"\n", keyword_text(keyword))
 }
 
-// The predicate, behind a space.
-fn put_predicate(out: &mut Vec<u8>, model: &Model, number: u32) -> Result<(), AllocError>
+/// The predicate, behind a space.
+pub fn put_predicate(out: &mut Vec<u8>, model: &Model, number: u32) -> Result<(), AllocError>
     requires lawful { IsLawful model.now }
     requires there { number < length model.now.preds }
     ensures { OnOk result (Adds IsPaused (OnePredicate model.now number) tt out.old.items out.new.items) }
@@ -284,7 +307,7 @@ fn put_global_name(
         × NamesVariable model.now text (variables.Global number))) }
 {
     let name = VarName::Global(number);
-    put_variable(out, alloc, model, &name)
+    put_variable(out, b" ", alloc, model, &name)
 }
 
 // The line of a global of the model.
@@ -325,7 +348,7 @@ fn put_active(
     ensures { OnOk result (AddsLine model.now (statements.Of (lines.Token name.now fact values.now)) out.old.items out.new.items) }
 {
     put_keyword(out, active_keyword(fact))?;
-    put_token(out, alloc, model, name)?;
+    put_token(out, b" ", alloc, model, name)?;
     let pred = pred_of(model, name);
     put_predicate(out, model, pred)?;
     put_values(out, model, pred, values)
@@ -344,8 +367,8 @@ fn put_merged(
     ensures { OnOk result (AddsLine model.now (statements.Of (lines.Merged name.now target.now)) out.old.items out.new.items) }
 {
     put_keyword(out, Keyword::Merged)?;
-    put_token(out, alloc, model, name)?;
-    put_token(out, alloc, model, target)
+    put_token(out, b" ", alloc, model, name)?;
+    put_token(out, b" ", alloc, model, target)
 }
 
 // The line of a token that doesn't take place.
@@ -360,7 +383,7 @@ fn put_rejected(
     ensures { OnOk result (AddsLine model.now (statements.Of (lines.Rejected name.now)) out.old.items out.new.items) }
 {
     put_keyword(out, Keyword::Rejected)?;
-    put_token(out, alloc, model, name)
+    put_token(out, b" ", alloc, model, name)
 }
 
 // The line of a local.
@@ -376,7 +399,7 @@ fn put_local(
     ensures { OnOk result (AddsLine model.now (statements.Of (lines.Local name.now value)) out.old.items out.new.items) }
 {
     put_keyword(out, Keyword::Local)?;
-    put_variable(out, alloc, model, name)?;
+    put_variable(out, b" ", alloc, model, name)?;
     put_local_value(out, model, name, value)
 }
 

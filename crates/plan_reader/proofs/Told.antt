@@ -1,10 +1,9 @@
 -- What each word says is one.
-use Rattle.std.proofs.Common.{◌≡◌, ℕ, ◌<◌, ◌^◌, zero, suc, Bool, true, false, ℤ, pos, negsuc, List, [], ◌∷◌, length, get_or, slice_get, map, Some, refl, sym, ◌∙◌, ap, subst, inl, inr, arith, All, IsTrue, Contains}
-use Rattle.std.specs.Prelude.{◌≢◌, AllPairs}
+use Rattle.std.proofs.Common.{◌≡◌, ℕ, ◌<◌, ◌^◌, zero, suc, Bool, true, false, ℤ, pos, negsuc, List, [], ◌∷◌, length, get_or, slice_get, Some, refl, sym, ◌∙◌, ap, subst, inl, inr, arith, All, IsTrue, Contains}
 use Rattle.std.specs.Char.{is_ascii_digit}
 use Rattle.std.specs.Fmt.{decimal, signed_decimal}
-use Rattle.std.specs.List.{AllByRecursion, flat_map, join_with_byte, slice_split}
-use Rattle.std.proofs.lemmas.Fmt.{signed_decimal_injective, digits_decimal, decimal_nonempty, first_decimal, decimal_digit}
+use Rattle.std.specs.List.{AllByRecursion, join_with_byte, slice_split}
+use Rattle.std.proofs.lemmas.Fmt.{digits_decimal, decimal_nonempty, first_decimal, decimal_digit}
 use Rattle.std.proofs.lemmas.Int.{ints}
 use Rattle.std.proofs.lemmas.List.Elements.{All-from_recursion, recursion_from_All}
 use Rattle.std.proofs.lemmas.List.Splits.{slice_split_none, slice_split_at}
@@ -28,8 +27,7 @@ use Rattle.model_core.specs.Lawful.{IsLawful, IsLawfulEnum, IsLawfulObject}
 use Rattle.model_core.specs.Names.{NamesOneToken, NamesOneVariable}
 use Rattle.model_core.specs.Naming.{IsObjectName}
 use Rattle.model_core.specs.Tokens.{HasRule, HasToken}
-use Rattle.model_core.proofs.Distinct.{pairs_front, pairs_back, place_once}
-use Rattle.model_core.proofs.Items.{item_within, item_is, item_all}
+use Rattle.model_core.proofs.Items.{item_all}
 use Rattle.model_core.proofs.Leading.{token_once}
 use Rattle.model_core.proofs.Rules.{has_rule_once}
 use Rattle.plan_core.specs.declared.fault.Wrong.{Wrong}
@@ -45,8 +43,10 @@ use Rattle.plan_core.specs.PlanTexts.{opening_text, IsNoOpening, IsCount, IsNoCo
 use Rattle.plan_core.specs.Subjects.{IsNameOf, IsFreshName, IsNoFreshName, IsGlobalOf, IsTokenOf, IsLocalOf, IsLocalOfKind, IsTargetName, IsNoTarget, IsPredicateText, AreTwoNames, IsNoPredicate}
 use Rattle.plan_core.specs.Values.{is_point, IsPlainNumber, IsNumberWord, IsPathWord, IsValueWord, IsValueText, IsNoValueText}
 use Rattle.plan_words.proofs.Naming.{one_name}
+use Rattle.plan_words.proofs.Telling.{value_told}
 use Rattle.plan_reader.proofs.Once.{SaysOnce}
-use Rattle.plan_words.proofs.Valuing.{name_no_point, no_point, value_small}
+use Rattle.plan_core.proofs.Points.{no_point}
+use Rattle.plan_words.proofs.Valuing.{name_no_point}
 
 some_is : {X : Type 0} (one other : X) → Some one ≡ Some other → one ≡ other
 some_is one other same = cc
@@ -237,45 +237,6 @@ value_word model (kinds.Enum number) value word lawful is =
     inr (inr (member_path word (item_all IsName is.found.members is.place word (item_all IsLawfulEnum model.enums number is.found lawful.enums is.is_enum).members is.is_member)))
 value_word model kinds.Object value word lawful (object, ((place, at, is), named)) =
     inr (inr (subst IsPathWord named (object_path object.name (item_all (IsLawfulObject model) model.objects place object lawful.objects is).name)))
-
-flat_distinct : (enums : List Enum) (number : ℕ) (found : Enum) → AllPairs ◌≢◌ (flat_map (λ (e : Enum). e.members) enums) → slice_get enums number ≡ Some found → AllPairs ◌≢◌ found.members
-flat_distinct [] number found pairs is = cc
-flat_distinct (first ∷ enums) zero found pairs is =
-    subst (λ (e : Enum). AllPairs ◌≢◌ e.members) (some_is first found is) (pairs_front ◌≢◌ first.members (flat_map (λ (e : Enum). e.members) enums) pairs)
-flat_distinct (first ∷ enums) (suc number) found pairs is =
-    flat_distinct enums number found (pairs_back ◌≢◌ first.members (flat_map (λ (e : Enum). e.members) enums) pairs) is
-
-named_once : (names : List (List ℕ)) (i j : ℕ) (name : List ℕ) → AllPairs ◌≢◌ names → slice_get names i ≡ Some name → slice_get names j ≡ Some name → i ≡ j
-named_once names i j name distinct first second =
-    place_once names i j name distinct (item_within names i name first) (item_within names j name second) (item_is names i name name first ∙ sym (item_is names j name name second))
-
-objects_once : (model : Model) (i j : ℕ) (one other : Object) → IsLawful model → slice_get model.objects i ≡ Some one → slice_get model.objects j ≡ Some other → one.name ≡ other.name → i ≡ j
-objects_once model i j one other lawful first second same =
-    let names = map (λ (o : Object). o.name) model.objects in
-    let distinct : AllPairs ◌≢◌ names = pairs_front ◌≢◌ names _ (pairs_back ◌≢◌ (map (λ root. root.label) model.problem.roots) _ (pairs_back ◌≢◌ (map (λ variable. variable.name) model.problem.globals) _ (pairs_front ◌≢◌ _ _ lawful.distinct))) in
-    named_once names i j one.name distinct (named_at model.objects i one first) (subst (λ n. slice_get names j ≡ Some n) (sym same) (named_at model.objects j other second))
-  where
-    named_at : (objects : List Object) (k : ℕ) (o : Object) → slice_get objects k ≡ Some o → slice_get (map (λ (o : Object). o.name) objects) k ≡ Some o.name
-    named_at [] k o is = cc
-    named_at (first ∷ objects) zero o is = ap (λ (x : Object). Some x.name) (some_is first o is)
-    named_at (first ∷ objects) (suc k) o is = named_at objects k o is
-
-value_told : (model : Model) (kind : ValueKind) (word : List ℕ) (one other : ℤ) → IsLawful model → IsValueText model kind one word → IsValueText model kind other word → one ≡ other
-value_told model kinds.Int word one other lawful a b = signed_decimal_injective one other (value_small one a.0) (value_small other b.0) (sym a.1 ∙ b.1)
-value_told model kinds.Bool word one other lawful (inl a) (inl b) = a.0 ∙ sym b.0
-value_told model kinds.Bool word one other lawful (inl a) (inr b) = absurd (omega (arith, ap length (sym a.1 ∙ b.1)))
-value_told model kinds.Bool word one other lawful (inr a) (inl b) = absurd (omega (arith, ap length (sym a.1 ∙ b.1)))
-value_told model kinds.Bool word one other lawful (inr a) (inr b) = a.0 ∙ sym b.0
-value_told model (kinds.Enum number) word one other lawful a b =
-    let both : Some a.found ≡ Some b.found = sym a.is_enum ∙ b.is_enum in
-    let same = some_is a.found b.found both in
-    let distinct : AllPairs ◌≢◌ a.found.members =
-    flat_distinct model.enums number a.found (pairs_back ◌≢◌ (map (λ (e : Enum). e.name) model.enums) _ (pairs_back ◌≢◌ (map (λ (o : Object). o.name) model.objects) _ (pairs_back ◌≢◌ (map (λ root. root.label) model.problem.roots) _
-    (pairs_back ◌≢◌ (map (λ variable. variable.name) model.problem.globals) _ (pairs_front ◌≢◌ _ _ lawful.distinct))))) a.is_enum in
-    let places = named_once a.found.members a.place b.place word distinct a.is_member (subst (λ (e : Enum). slice_get e.members b.place ≡ Some word) (sym same) b.is_member) in
-    a.is_place ∙ (ap pos places ∙ sym b.is_place)
-value_told model kinds.Object word one other lawful (object, ((place, at, is), named)) (object', ((place', at', is'), named')) =
-    at ∙ (ap pos (objects_once model place place' object object' lawful is is' (named ∙ sym named')) ∙ sym at')
 
 pub value_once : (model : Model) (kind : ValueKind) → IsLawful model → SaysOnce (IsValueText model kind) (IsNoValueText model kind)
 value_once model kind lawful = record { says = λ word one other a b. value_told model kind word one other lawful a b; whole = whole; amiss = amiss }

@@ -9,6 +9,7 @@ ghost use Rattle.plan_core.specs.Lines.{stated_name};
 ghost use Rattle.plan_core.specs.PlanTexts.{AllLines, WholeText, Gathers, ReadsPlan, plan_fault_at};
 ghost use Rattle.plan_core.specs.Words.{place_in};
 ghost use Rattle.plan_reader.specs.Gathering.{said_of, AreNamed, AreNamesOnce, AreKept};
+ghost use Rattle.plan_words.specs.Indexing.{IsModelIndex};
 
 use super::gathering::{Named, gathered};
 use super::openings::{opening, text_ending};
@@ -21,7 +22,7 @@ use plan_core::statement::Statement;
 use plan_core::words::{Cursor, place_in};
 use plan_defs::plan::{Line, Plan};
 use plan_statements::one_line;
-use plan_words::indexed::IndexedModel;
+use plan_words::indexed::{IndexedModel, ModelIndex};
 use std::alloc::{AllocError, Global};
 
 // The name that the line goes by.
@@ -171,6 +172,23 @@ fn read_indexed(alloc: Global, model: &IndexedModel<'_>, text: &[u8]) -> Result<
     answer(alloc, text, cursor.rest, read, said)
 }
 
+// The same, with the index of the model.
+fn read_with<'a>(
+    alloc: Global,
+    model: &'a Model,
+    index: &'a ModelIndex,
+    text: &[u8],
+) -> Result<Plan, PlanTextFault>
+    requires lawful { IsLawful model.now }
+    requires indexed { IsModelIndex model.now index.now }
+    requires small { length text.now < 2 ^ 32 }
+    ensures reads { ReadsPlan model.now text.now result }
+    ensures plan { IfOk result (IsPlanOf model.now) }
+{
+    let indexed = index.of(model);
+    read_indexed(alloc, &indexed, text)
+}
+
 /// Reads the plan that the text says, whatever the order of its lines; or says what is wrong with the text first, by place. A
 /// text of 2^32 bytes or more, whose places have no numbers, is answered by `Memory`.
 pub fn read_plan(alloc: Global, model: &Model, text: &[u8]) -> Result<Plan, PlanTextFault>
@@ -181,8 +199,8 @@ pub fn read_plan(alloc: Global, model: &Model, text: &[u8]) -> Result<Plan, Plan
     if text.len() > u32::MAX as usize {
         return Err(PlanTextFault::Memory);
     }
-    match IndexedModel::new(alloc, model) {
-        Ok(indexed) => read_indexed(alloc, &indexed, text),
+    match ModelIndex::new(alloc, model) {
+        Ok(index) => read_with(alloc, &*model, &index, text),
         Err(_none) => Err(PlanTextFault::Memory),
     }
 }

@@ -1,12 +1,13 @@
 -- An index of names, one name after another.
 use Rattle.std.proofs.Common.{◌≡◌, ℕ, suc, ◌+◌, ◌<◌, ◌≤◌, ◌^◌, Bool, true, false, cond, List, [], ◌∷◌, ◌++◌, length, map, get_or, Option, Some, None, MatchOption, slice_get, refl, sym, ap, ◌∙◌, subst, ⊎_elim, arith}
-use Rattle.std.specs.Prelude.{Contains, take, bytes_eq}
+use Rattle.std.specs.Prelude.{Contains, take, bytes_eq, Result, Ok, Err, OnOk}
 use Rattle.std.specs.Option.{option_or, option_map}
 use Rattle.std.proofs.Math.Seq.{take-suc, get_or-append_seam}
 use Rattle.std.proofs.lemmas.List.{length-append, length-map, length-take-le, take_all, get_or-map, get_or_append_left}
 use Rattle.std.proofs.lemmas.List.Elements.{Contains-push_cases}
 use Rattle.std.proofs.lemmas.Option.{get_or_from_slice_get, slice_get-get_or, slice_get-map}
 use Rattle.std.proofs.lemmas.Slice.Eq.{bytes_eq-Decides}
+use Rattle.model_core.specs.declared.class.Object.{Object}
 use Rattle.model_core.specs.declared.model.Model.{Model}
 use Rattle.model_core.specs.declared.model.Root.{Root}
 use Rattle.model_core.specs.declared.variable.VarDecl.{VarDecl}
@@ -17,7 +18,7 @@ use Rattle.nddl_scope.specs.Index.{Noted, noted_number, with_noted}
 use Rattle.nddl_scope.proofs.Indexes.{noted_with}
 use Rattle.plan_defs.proofs.Ordered.{contains_none}
 use Rattle.eu_name.proofs.Members.{contains_from_get, get_below, get_within}
-use Rattle.plan_words.specs.Indexing.{IsIndexOf}
+use Rattle.plan_words.specs.Indexing.{IsIndexOf, object_names}
 
 pub index_none : IsIndexOf [] []
 index_none name = contains_none name
@@ -124,6 +125,20 @@ pub name_found : (inner model : Model) (name : List ℕ) (result : Option ℕ) �
 name_found inner model name result same found =
     subst (λ (m : Model). MatchOption result ((number : ℕ) (variable : VarDecl) → IsGlobal m number variable → variable.name ≡ name → ⊥) (λ number. (variable : VarDecl) × IsGlobal m number variable × (variable.name ≡ name))) same
     (place_found (λ (variable : VarDecl). variable.name) inner.problem.globals name result found)
+
+pub object_found : (inner model : Model) (noted : Noted) (word : List ℕ) (result : Option ℕ) → inner ≡ model → result ≡ noted_number noted word → IsIndexOf (object_names inner.objects) noted
+    → MatchOption result ((place : ℕ) (object : Object) → slice_get model.objects place ≡ Some object → object.name ≡ word → ⊥)
+    (λ place. (object : Object) × (slice_get model.objects place ≡ Some object) × (object.name ≡ word))
+object_found inner model noted word result same is index =
+    let found = subst (λ (p : Option ℕ). MatchOption p (Contains (object_names inner.objects) word → ⊥) (λ k. slice_get (object_names inner.objects) k ≡ Some word)) (sym is) (index word) in
+    subst (λ (m : Model). MatchOption result ((place : ℕ) (object : Object) → slice_get m.objects place ≡ Some object → object.name ≡ word → ⊥) (λ place. (object : Object) × (slice_get m.objects place ≡ Some object) × (object.name ≡ word))) same
+    (place_found (λ (object : Object). object.name) inner.objects word result found)
+
+-- the name that was noted as bytes is the next one, unless memory ran out
+pub noted_next : {A E : Type 0} (r : Result A E) (noted new : Noted) (word name : List ℕ) (place : ℕ) → word ≡ name → OnOk r (new ≡ with_noted noted word place)
+    → OnOk r ((names : List (List ℕ)) → length names ≡ place → IsIndexOf names noted → IsIndexOf (names ++ name ∷ []) new)
+noted_next (Ok done) noted new word name place same is = next_noted noted new name place (is ∙ ap (λ n. with_noted noted n place) same)
+noted_next (Err fault) noted new word name place same is = tt
 
 -- the number of a place among few names is the place
 pub few_places : (noted : Noted) (name : List ℕ) (place : ℕ) → Some place ≡ noted_number noted name → (names : List (List ℕ)) × IsIndexOf names noted × (length names < 2 ^ 32) → place < 2 ^ 32

@@ -1,18 +1,20 @@
 //! What texts name in a model with an index.
 
 ghost use Rattle.std.specs.Prelude.{◌≡◌, ℕ, IfOk, MatchOption};
+ghost use Rattle.eu_name.specs.declared.name.Part.{Part as PartName};
 ghost use Rattle.eu_name.specs.declared.name.TokenName.{TokenName};
 ghost use Rattle.eu_name.specs.declared.name.VarName.{VarName};
 ghost use Rattle.eu_name.specs.declared.name_text.Tail.TheVariants as tails;
 ghost use Rattle.model_core.specs.declared.rule.Slot.{Slot};
 ghost use Rattle.model_core.specs.Lawful.{IsLawful};
-ghost use Rattle.model_core.specs.Names.{LeadsToToken, NamesGlobal, token_at};
+ghost use Rattle.model_core.specs.Names.{LeadsToToken, NamesToken, NamesVariable, NamesGlobal, IsPartWord, token_at};
 ghost use Rattle.plan_core.specs.Subjects.{NamesSubject};
 
 use super::indexed::IndexedModel;
 use eu_name::name::{Part, Step, TokenName, VarName};
 use eu_name::name_text::{NameText, Tail};
 use eu_name::sequence::Sequence;
+use plan_core::words::is_word;
 use std::alloc::AllocError;
 
 // The token to which a name leads: the number of its root, and its predicate.
@@ -86,7 +88,7 @@ fn whole_subject(model: &IndexedModel<'_>, name: &NameText) -> Result<Option<Var
 }
 
 // The local of the token to which the name leads.
-fn local_subject(
+fn local_variable(
     model: &IndexedModel<'_>,
     name: &NameText,
     rule: u16,
@@ -95,8 +97,8 @@ fn local_subject(
     requires lawful { IsLawful model.now }
     requires tail { name.now.tail ≡ tails.Local rule number }
     ensures { IfOk result (λ answer. MatchOption answer
-        ((variable : VarName) → NamesSubject model.now name.now variable → ⊥)
-        (NamesSubject model.now name.now)) }
+        ((variable : VarName) → NamesVariable model.now name.now variable → ⊥)
+        (NamesVariable model.now name.now)) }
 {
     let Some(reached) = token_reached(model, name) else {
         return Ok(None);
@@ -110,6 +112,118 @@ fn local_subject(
         rule,
         number,
     }))
+}
+
+// The same, as what a line can be about.
+fn local_subject(
+    model: &IndexedModel<'_>,
+    name: &NameText,
+    rule: u16,
+    number: u16,
+) -> Result<Option<VarName>, AllocError>
+    requires lawful { IsLawful model.now }
+    requires tail { name.now.tail ≡ tails.Local rule number }
+    ensures { IfOk result (λ answer. MatchOption answer
+        ((variable : VarName) → NamesSubject model.now name.now variable → ⊥)
+        (NamesSubject model.now name.now)) }
+{
+    local_variable(model, name, rule, number)
+}
+
+// The global that the name is by itself.
+fn global_variable(model: &IndexedModel<'_>, name: &NameText) -> Option<VarName>
+    requires lawful { IsLawful model.now }
+    requires whole { name.now.tail ≡ tails.None }
+    ensures { MatchOption result
+        ((variable : VarName) → NamesVariable model.now name.now variable → ⊥)
+        (NamesVariable model.now name.now) }
+{
+    match whole_global(model, name) {
+        Some(number) => Some(VarName::Global(number)),
+        None => None,
+    }
+}
+
+// The part of a token of this predicate that the word names.
+fn part_named(model: &IndexedModel<'_>, pred: u32, word: &[u8]) -> Option<Part>
+    requires { IsLawful model.now }
+    ensures { MatchOption result
+        ((part : PartName) → IsPartWord model.now pred part word.now → ⊥)
+        (λ part. IsPartWord model.now pred part word.now) }
+{
+    if is_word(word, b"start") {
+        return Some(Part::Start);
+    }
+    if is_word(word, b"end") {
+        return Some(Part::End);
+    }
+    if is_word(word, b"duration") {
+        return Some(Part::Duration);
+    }
+    if is_word(word, b"object") {
+        return Some(Part::Object);
+    }
+    match model.model().param_named(pred, word) {
+        Some(number) => Some(Part::Param(number)),
+        None => None,
+    }
+}
+
+// The part that the word names of the token to which the name leads.
+fn part_variable(
+    model: &IndexedModel<'_>,
+    name: &NameText,
+    word: &[u8],
+) -> Result<Option<VarName>, AllocError>
+    requires lawful { IsLawful model.now }
+    requires tail { name.now.tail ≡ tails.Part word.now }
+    ensures { IfOk result (λ answer. MatchOption answer
+        ((variable : VarName) → NamesVariable model.now name.now variable → ⊥)
+        (NamesVariable model.now name.now)) }
+{
+    let Some(reached) = token_reached(model, name) else {
+        return Ok(None);
+    };
+    let Some(part) = part_named(model, reached.pred, word) else {
+        return Ok(None);
+    };
+    Ok(Some(VarName::Token(token_of(reached, name)?, part)))
+}
+
+/// The token that the text names.
+pub fn token_named(
+    model: &IndexedModel<'_>,
+    name: &NameText,
+) -> Result<Option<TokenName>, AllocError>
+    requires { IsLawful model.now }
+    ensures { IfOk result (λ answer. MatchOption answer
+        ((token : TokenName) → NamesToken model.now name.now token → ⊥)
+        (NamesToken model.now name.now)) }
+{
+    let Tail::None = &name.tail else {
+        return Ok(None);
+    };
+    let Some(reached) = token_reached(model, name) else {
+        return Ok(None);
+    };
+    Ok(Some(token_of(reached, name)?))
+}
+
+/// The variable that the text names.
+pub fn variable_named(
+    model: &IndexedModel<'_>,
+    name: &NameText,
+) -> Result<Option<VarName>, AllocError>
+    requires { IsLawful model.now }
+    ensures { IfOk result (λ answer. MatchOption answer
+        ((variable : VarName) → NamesVariable model.now name.now variable → ⊥)
+        (NamesVariable model.now name.now)) }
+{
+    match &name.tail {
+        Tail::None => Ok(global_variable(model, name)),
+        Tail::Part(word) => part_variable(model, name, word.as_bytes()),
+        Tail::Local { rule, number } => local_variable(model, name, *rule, *number),
+    }
 }
 
 /// The global, token or local that the text names.

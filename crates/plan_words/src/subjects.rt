@@ -20,7 +20,6 @@ ghost use Rattle.plan_words.specs.Naming.{SaysSubject, IsNoName, SaysFresh, IsNo
 
 use super::indexed::IndexedModel;
 use super::resolving::subject_of;
-use super::values::cut_at_point;
 use eu_name::laws::{names_are_read_back, names_are_told_apart};
 use eu_name::name::{TokenName, VarName};
 use eu_name::name_text::NameFault;
@@ -32,6 +31,7 @@ use model_core::variable::ValueKind;
 use plan_core::fault::Wrong;
 use plan_core::names::{self, local_kind};
 use plan_core::subject::{NamedGlobal, NamedLocal, NamedToken};
+use plan_core::value_words::cut_at_point;
 use plan_core::words::is_word;
 use std::alloc::{AllocError, Global};
 

@@ -1,5 +1,6 @@
 use Rattle.plan_core.specs.Subjects.{AreTwoNames}
-use Rattle.plan_words.proofs.Valuing.{two_names_are, no_first_name, no_two_names, false_never}
+use Rattle.plan_core.proofs.Points.{false_never}
+use Rattle.plan_words.proofs.Valuing.{two_names_are, no_first_name, no_two_names}
 use Rattle.plan_words.proofs.subjects.are_two_names.Goals as goal
 
 pub returns-then-is_name : goal.returns-then-is_name

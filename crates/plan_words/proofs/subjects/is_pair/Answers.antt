@@ -1,6 +1,6 @@
 use Rattle.std.proofs.Common.{◌≡◌, ◌++◌, codes}
 use Rattle.plan_words.proofs.Naming.{pair_is, no_pair}
-use Rattle.plan_words.proofs.Valuing.{false_never}
+use Rattle.plan_core.proofs.Points.{false_never}
 use Rattle.plan_words.proofs.subjects.is_pair.Goals as goal
 
 pub returns-in-Some-behind : goal.returns-in-Some-behind

@@ -1,6 +1,5 @@
-use Rattle.std.proofs.Common.{◌∙◌, ap}
-use Rattle.model_core.specs.declared.model.Model.{Model}
-use Rattle.plan_words.proofs.Valuing.{few_members, member_text, object_text}
+use Rattle.std.proofs.Common.{refl}
+use Rattle.plan_words.proofs.Valuing.{few_members, few_objects, member_text, object_text}
 use Rattle.plan_words.proofs.values.value_of.Goals as goal
 
 pub value_at-requires : goal.value_at-requires
@@ -11,4 +10,7 @@ returns-in-Enum c = member_text c.args.model.now c.args.kind c.in-Enum.number c.
 
 pub returns-in-Object : goal.returns-in-Object
 returns-in-Object c =
-    object_text c.args.model.now c.args.kind c.as_slice.result.now c.args.word.now c.object_place.result c.value_at-in-Object.result c.in-Object.is (c.as_slice.ensures ∙ ap (λ (m : Model). m.objects) c.model.ensures) c.object_place.ensures c.value_at-in-Object.ensures
+    object_text c.args.model.now c.args.kind c.args.model.now.objects c.args.word.now c.object_named.result c.value_at-in-Object.result c.in-Object.is refl c.object_named.ensures c.value_at-in-Object.ensures
+
+pub value_at-requires-in-Object : goal.value_at-requires-in-Object
+value_at-requires-in-Object c = few_objects c.args.model.now c.args.model.now.objects c.args.word.now c.object_named.result c.requires refl c.object_named.ensures

@@ -3,8 +3,8 @@ use Rattle.plan_words.proofs.Indexing.{few_labels, label_found}
 use Rattle.plan_words.proofs.indexed.IndexedModel.root_labelled.Goals as goal
 
 pub place_of-requires : goal.place_of-requires
-place_of-requires c = (labels c.self.inside.model.now, c.self.invariant.0, few_labels c.self.inside.model.now c.args.self.now c.self.view_is c.requires)
+place_of-requires c = (labels c.self.inside.model.now, c.self.invariant.roots, few_labels c.self.inside.model.now c.args.self.now c.self.view_is c.requires)
 
 pub returns : goal.returns
 returns c =
-    label_found c.self.inside.model.now c.args.self.now c.args.label.now c.place_of.result c.self.view_is (c.place_of.ensures (labels c.self.inside.model.now) c.self.invariant.0)
+    label_found c.self.inside.model.now c.args.self.now c.args.label.now c.place_of.result c.self.view_is (c.place_of.ensures (labels c.self.inside.model.now) c.self.invariant.roots)

@@ -2,7 +2,7 @@ use Rattle.std.proofs.Common.{◌↔◌, length, All}
 use Rattle.std.specs.List.{slice_split}
 use Rattle.eu_name.specs.Word.{IsName}
 use Rattle.plan_core.specs.Values.{is_point}
-use Rattle.plan_words.proofs.values.is_path_word.Given as goal
+use Rattle.plan_core.proofs.value_words.is_path_word.Given as goal
 
 -- whatever the rest is, the whole word is
 abbrev pub invariant-loop-name : goal.invariant-loop-name

@@ -1,5 +1,5 @@
-use Rattle.plan_words.proofs.Valuing.{cut_there, not_cut}
-use Rattle.plan_words.proofs.values.cut_at_point.Goals as goal
+use Rattle.plan_core.proofs.Points.{cut_there, not_cut}
+use Rattle.plan_core.proofs.value_words.cut_at_point.Goals as goal
 
 pub returns-in-Some : goal.returns-in-Some
 returns-in-Some c =

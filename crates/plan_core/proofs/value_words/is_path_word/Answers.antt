@@ -2,8 +2,8 @@ use Rattle.std.proofs.Common.{All, refl}
 use Rattle.std.specs.List.{slice_split}
 use Rattle.eu_name.specs.Word.{IsName}
 use Rattle.plan_core.specs.Values.{is_point, IsPathWord}
-use Rattle.plan_words.proofs.Valuing.{never, false_never, not_all_parts, all_parts, one_part, both_ways, parts_there, parts_whole}
-use Rattle.plan_words.proofs.values.is_path_word.Goals as goal
+use Rattle.plan_core.proofs.Points.{never, false_never, not_all_parts, all_parts, one_part, both_ways, parts_there, parts_whole}
+use Rattle.plan_core.proofs.value_words.is_path_word.Goals as goal
 
 pub returns-then-not-is_name : goal.returns-then-not-is_name
 returns-then-not-is_name c =
