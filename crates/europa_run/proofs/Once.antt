@@ -10,8 +10,8 @@ use Rattle.line_session.proofs.LawLemmas.{session_is_one, fault_writes_front}
 use Rattle.model_core.specs.declared.model.Model.{Model}
 use Rattle.plan_db.specs.Database.{Database}
 use Rattle.range_problem.proofs.Unique.{spells_unique}
-use Rattle.session_core.specs.Replies.{AnswersLine}
-use Rattle.session_core.proofs.Once.{one_reply}
+use Rattle.range_session.specs.Replies.{AnswersLine}
+use Rattle.range_session.proofs.Once.{one_reply}
 use Rattle.europa_run.specs.declared.command_line.Request.{Request}
 use Rattle.europa_run.specs.declared.command_line.Request.TheVariants.{Script, Show}
 use Rattle.europa_run.specs.declared.status.RunEnd.{RunEnd}

@@ -7,7 +7,7 @@ use Rattle.line_session.specs.Sessions.{Ending, AtEnd, AtAnswer, AtLimit, Course
 use Rattle.model_core.specs.declared.model.Model.{Model}
 use Rattle.plan_db.specs.Database.{Database}
 use Rattle.range_problem.specs.Spelling.{Spells}
-use Rattle.session_core.specs.Replies.{AnswersLine}
+use Rattle.range_session.specs.Replies.{AnswersLine}
 use Rattle.europa_run.specs.declared.command_line.Request.{Request}
 use Rattle.europa_run.specs.declared.command_line.Request.TheVariants.{Script, Show}
 use Rattle.europa_run.specs.declared.status.RunEnd.{RunEnd}

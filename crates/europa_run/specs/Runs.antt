@@ -10,7 +10,7 @@ use Rattle.line_session.specs.Ends.{Passage, input_of, begun, Ends}
 use Rattle.model_core.specs.declared.model.Model.{Model}
 use Rattle.plan_db.specs.Database.{Database}
 use Rattle.range_problem.specs.Spelling.{Spells}
-use Rattle.session_core.specs.Replies.{AnswersLine}
+use Rattle.range_session.specs.Replies.{AnswersLine}
 use Rattle.europa_run.specs.declared.command_line.Request.TheVariants.{Script}
 use Rattle.europa_run.specs.declared.status.RunEnd.{RunEnd}
 use Rattle.europa_run.specs.declared.status.RunEnd.TheVariants.{Done, Usage, Text, LinesSpent}

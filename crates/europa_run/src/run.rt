@@ -21,7 +21,7 @@ use line_session::fault::SessionFault;
 use line_session::talk::{SessionEnd, session};
 use model_core::model::Model;
 use plan_db::database::Db;
-use session_core::editor::Editor;
+use range_session::editor::Editor;
 use std::alloc::Global;
 
 /// Runs the program on the words after its name: carries out the command that they ask for, over the file that they

@@ -1,7 +1,7 @@
 //! The commands of lines as one would type them, and the values of numbers.
 
-use script_lang::line::{Command, LineFault, read_line};
-use script_lang::number::{is_number, value_of};
+use range_script::line::{Command, LineFault, read_line};
+use range_script::number::{is_number, value_of};
 use std::alloc::{AllocError, Global};
 use std::test::Fail;
 

@@ -1,45 +1,410 @@
 -- Laws of what words and lines ask for.
-use Rattle.std.proofs.Common.{◌≡◌, ℕ, ◌≤◌, ◌<◌, ◌⊎◌, List, [], ◌∷◌, length, take, get_or, Result, Ok, Err, refl, sym, ap, ◌∙◌, subst, inl, inr, arith}
-use Rattle.std.specs.Prelude.{codes}
+use Rattle.std.proofs.Common.{◌≡◌, ℕ, ◌≤◌, ◌<◌, ◌⊎◌, List, [], ◌∷◌, length, take, Result, Ok, Err, Some, None, Bool, true, false, cond, refl, sym, ap, ◌∙◌, subst, inl, inr, arith}
+use Rattle.std.specs.Prelude.{codes, ⊤, IsOkAnd, MatchResult}
+use Rattle.std.specs.Fmt.{decimal}
+use Rattle.std.specs.List.{find}
+use Rattle.std.specs.Str.{bytes_eq}
 use Rattle.std.proofs.lemmas.Bool.{cases_lt}
+use Rattle.std.proofs.lemmas.Fmt.{decimal_injective}
 use Rattle.std.proofs.lemmas.List.{take_all, length-take-le}
-use Rattle.script_lang.specs.declared.line.Command.{Command}
-use Rattle.script_lang.specs.declared.line.Command.TheVariants.{Empty, Specify, Undo, Domain}
-use Rattle.script_lang.specs.declared.line.LineFault.{LineFault}
-use Rattle.script_lang.specs.declared.line.LineFault.TheVariants.{TooLong, Syntax, Memory}
-use Rattle.script_lang.specs.Line.{ReadsLine}
-use Rattle.script_lang.specs.Words.{words_of}
+use Rattle.std.proofs.lemmas.Slice.Eq.{bytes_eq-Decides}
+use Rattle.eu_name.specs.declared.name_text.NameText.{NameText}
+use Rattle.eu_name.specs.Spelling.{Spells}
+use Rattle.eu_name.proofs.Names.{spells_one_name}
+use Rattle.script_commands.specs.declared.command.Command.{Command}
+use Rattle.script_commands.specs.declared.command.Command.TheVariants as commands
+use Rattle.script_commands.specs.declared.command.LineFault.{LineFault}
+use Rattle.script_commands.specs.declared.command.LineFault.TheVariants.{TooLong, Syntax, Memory}
+use Rattle.script_commands.specs.Line.{IsCommand, KeepsWord, AnswersWords, ReadsLine}
+use Rattle.script_commands.specs.Words.{words_of}
+use Rattle.script_lang.specs.declared.verb.Verb.{Verb}
+use Rattle.script_lang.specs.declared.verb.Verb.TheVariants as verbs
 use Rattle.script_lang.specs.Laws.{WordsAskOnce, LinesAskOnce, LinesHaveOneAnswer, FrontDecides}
+use Rattle.script_lang.specs.Operands.{Says, Tells, IsValueOf, IsOne, AreTwo, AreBounds}
+use Rattle.script_lang.specs.Verbs.{verb_word, all_verbs, verb_of}
 
--- the word at a place, and the empty word past the end
-abbrev word_at : List (List ℕ) → ℕ → List ℕ
-word_at words place = get_or words place []
+-- ---- verbs
 
--- the first byte of the first word
-abbrev initial : List (List ℕ) → ℕ
-initial words = get_or (word_at words 0) 0 0
+-- the test by which a verb is found
+abbrev spells_verb : List ℕ → Verb → Bool
+spells_verb word verb = bytes_eq (verb_word verb) word
+
+found_in : (word : List ℕ) (those : List Verb) (verb : Verb) → find (spells_verb word) those ≡ Some verb → verb_word verb ≡ word
+found_in word [] verb is = absurd cc
+found_in word (first ∷ those) verb is = chosen (found_in word those verb) (spells_verb word first) refl is where
+  chosen : (find (spells_verb word) those ≡ Some verb → verb_word verb ≡ word) → (flag : Bool) → spells_verb word first ≡ flag
+      → cond flag (Some first) (find (spells_verb word) those) ≡ Some verb → verb_word verb ≡ word
+  chosen further true same found =
+      let one : first ≡ verb = cc in
+      subst (λ v. verb_word v ≡ word) one ((bytes_eq-Decides (verb_word first) word).0 same)
+  chosen further false other found = further found
+
+-- the verb that is found is written so
+pub verb_found : (word : List ℕ) (verb : Verb) → verb_of word ≡ Some verb → verb_word verb ≡ word
+unfolding verb_of
+verb_found word verb is = found_in word all_verbs verb is
+
+-- no two verbs are written alike
+named_verb : (verb : Verb) → verb_of (verb_word verb) ≡ Some verb
+unfolding verb_of
+named_verb verbs.Specify = refl
+named_verb verbs.Activate = refl
+named_verb verbs.Merge = refl
+named_verb verbs.Reject = refl
+named_verb verbs.Order = refl
+named_verb verbs.Reset = refl
+named_verb verbs.Undo = refl
+named_verb verbs.Domain = refl
+named_verb verbs.Tokens = refl
+named_verb verbs.Decisions = refl
+named_verb verbs.Flaws = refl
+named_verb verbs.Solve = refl
+named_verb verbs.Why = refl
+named_verb verbs.Cycle = refl
+named_verb verbs.Quit = refl
+
+-- where none is found, the word is none
+pub verb_missed : (word : List ℕ) → verb_of word ≡ None → (verb : Verb) → word ≡ verb_word verb → ⊥
+verb_missed word none verb is =
+    let both : None ≡ Some verb = sym none ∙ (ap verb_of is ∙ named_verb verb) in
+    cc
+
+same_verb : (one other : Verb) → verb_word one ≡ verb_word other → one ≡ other
+same_verb one other same =
+    let both : Some one ≡ Some other = sym (named_verb one) ∙ (ap verb_of same ∙ named_verb other) in
+    cc
+
+-- ---- what a verb asks for, by the words behind it
+
+abbrev Asked : Verb → Type 0
+Asked verbs.Specify = NameText × List ℕ
+Asked verbs.Activate = NameText
+Asked verbs.Merge = NameText × NameText
+Asked verbs.Reject = NameText
+Asked verbs.Order = NameText × NameText
+Asked verbs.Reset = NameText ⊎ (NameText × NameText)
+Asked verbs.Domain = NameText
+Asked verbs.Solve = ℕ × ℕ
+Asked verbs.Undo = ⊤
+Asked verbs.Tokens = ⊤
+Asked verbs.Decisions = ⊤
+Asked verbs.Flaws = ⊤
+Asked verbs.Why = ⊤
+Asked verbs.Cycle = ⊤
+Asked verbs.Quit = ⊤
+
+abbrev command_of : (verb : Verb) → Asked verb → Command
+command_of verbs.Specify asked = commands.Specify asked.0 asked.1
+command_of verbs.Activate asked = commands.Activate asked
+command_of verbs.Merge asked = commands.Merge asked.0 asked.1
+command_of verbs.Reject asked = commands.Reject asked
+command_of verbs.Order asked = commands.Order asked.0 asked.1
+command_of verbs.Reset (inl name) = commands.Reset name
+command_of verbs.Reset (inr names) = commands.ResetOrder names.0 names.1
+command_of verbs.Domain asked = commands.Domain asked
+command_of verbs.Solve asked = commands.Solve asked.0 asked.1
+command_of verbs.Undo asked = commands.Undo
+command_of verbs.Tokens asked = commands.Tokens
+command_of verbs.Decisions asked = commands.Decisions
+command_of verbs.Flaws asked = commands.Flaws
+command_of verbs.Why asked = commands.Why
+command_of verbs.Cycle asked = commands.Cycle
+command_of verbs.Quit asked = commands.Quit
+
+abbrev IsBehind : (verb : Verb) → List (List ℕ) → Asked verb → Type 0
+IsBehind verbs.Specify rest asked = AreTwo Spells IsValueOf rest asked
+IsBehind verbs.Activate rest asked = IsOne Spells rest asked
+IsBehind verbs.Merge rest asked = AreTwo Spells Spells rest asked
+IsBehind verbs.Reject rest asked = IsOne Spells rest asked
+IsBehind verbs.Order rest asked = AreTwo Spells Spells rest asked
+IsBehind verbs.Reset rest (inl name) = IsOne Spells rest name
+IsBehind verbs.Reset rest (inr names) = AreTwo Spells Spells rest names
+IsBehind verbs.Domain rest asked = IsOne Spells rest asked
+IsBehind verbs.Solve rest asked = AreBounds rest asked
+IsBehind verbs.Undo rest asked = rest ≡ []
+IsBehind verbs.Tokens rest asked = rest ≡ []
+IsBehind verbs.Decisions rest asked = rest ≡ []
+IsBehind verbs.Flaws rest asked = rest ≡ []
+IsBehind verbs.Why rest asked = rest ≡ []
+IsBehind verbs.Cycle rest asked = rest ≡ []
+IsBehind verbs.Quit rest asked = rest ≡ []
+
+-- a word before equal lists
+onto : (word : List ℕ) (one other : List (List ℕ)) → one ≡ other → word ∷ one ≡ word ∷ other
+onto word one other same = ap (λ words. word ∷ words) same
+
+pub is_command : (verb : Verb) (rest : List (List ℕ)) (asked : Asked verb) → IsBehind verb rest asked → IsCommand (verb_word verb ∷ rest) (command_of verb asked)
+is_command verbs.Specify rest asked (word, (value, (are, spells, (same, form)))) =
+    (word, (onto (codes "specify") rest (word ∷ asked.1 ∷ []) (are ∙ ap (λ last. word ∷ last ∷ []) same), spells, form))
+is_command verbs.Activate rest asked (word, (are, spells)) = (word, (onto (codes "activate") rest _ are, spells))
+is_command verbs.Merge rest asked (word, (next, (are, one, other))) = (word, (next, (onto (codes "merge") rest _ are, one, other)))
+is_command verbs.Reject rest asked (word, (are, spells)) = (word, (onto (codes "reject") rest _ are, spells))
+is_command verbs.Order rest asked (word, (next, (are, one, other))) = (word, (next, (onto (codes "order") rest _ are, one, other)))
+is_command verbs.Reset rest (inl name) (word, (are, spells)) = (word, (onto (codes "reset") rest _ are, spells))
+is_command verbs.Reset rest (inr names) (word, (next, (are, one, other))) = (word, (next, (onto (codes "reset") rest _ are, one, other)))
+is_command verbs.Domain rest asked (word, (are, spells)) = (word, (onto (codes "domain") rest _ are, spells))
+is_command verbs.Solve rest asked (are, some, few, small) = (onto (codes "solve") rest _ are, some, few, small)
+is_command verbs.Undo rest asked none = onto (codes "undo") rest [] none
+is_command verbs.Tokens rest asked none = onto (codes "tokens") rest [] none
+is_command verbs.Decisions rest asked none = onto (codes "decisions") rest [] none
+is_command verbs.Flaws rest asked none = onto (codes "flaws") rest [] none
+is_command verbs.Why rest asked none = onto (codes "why") rest [] none
+is_command verbs.Cycle rest asked none = onto (codes "cycle") rest [] none
+is_command verbs.Quit rest asked none = onto (codes "quit") rest [] none
+
+-- the command is what a verb asks for before words
+record IsAsked (words : List (List ℕ)) (command : Command) : Type 0 where
+  verb : Verb
+  asked : Asked verb
+  rest : List (List ℕ)
+  whole : words ≡ verb_word verb ∷ rest
+  is : command ≡ command_of verb asked
+  behind : IsBehind verb rest asked
+
+not_empty : (first : List ℕ) (rest : List (List ℕ)) → first ∷ rest ≡ [] → ⊥
+not_empty first rest none = cc
+
+first_word : (one other : List ℕ) (rest left : List (List ℕ)) → one ∷ rest ≡ other ∷ left → one ≡ other
+first_word one other rest left same = cc
+
+-- a command without a word behind the verb
+lone : (verb : Verb) (asked : Asked verb) (words : List (List ℕ)) (command : Command) → IsBehind verb [] asked → command ≡ command_of verb asked → words ≡ verb_word verb ∷ [] → IsAsked words command
+lone verb asked words command behind is are = record { verb = verb; asked = asked; rest = []; whole = are; is = is; behind = behind }
+
+-- words ask for nothing where there are none, and else what their verb asks for
+parts : (words : List (List ℕ)) (command : Command) → IsCommand words command → ((words ≡ []) × (command ≡ commands.Empty)) ⊎ IsAsked words command
+parts words commands.Empty none = inl (none, refl)
+parts words (commands.Specify variable value) (word, (are, spells, form)) =
+    inr (record { verb = verbs.Specify; asked = (variable, value); rest = word ∷ value ∷ []; whole = are; is = refl; behind = (word, (value, (refl, spells, (refl, form)))) })
+parts words (commands.Activate token) (word, (are, spells)) =
+    inr (record { verb = verbs.Activate; asked = token; rest = word ∷ []; whole = are; is = refl; behind = (word, (refl, spells)) })
+parts words (commands.Merge token target) (word, (next, (are, one, other))) =
+    inr (record { verb = verbs.Merge; asked = (token, target); rest = word ∷ next ∷ []; whole = are; is = refl; behind = (word, (next, (refl, one, other))) })
+parts words (commands.Reject token) (word, (are, spells)) =
+    inr (record { verb = verbs.Reject; asked = token; rest = word ∷ []; whole = are; is = refl; behind = (word, (refl, spells)) })
+parts words (commands.Order first second) (word, (next, (are, one, other))) =
+    inr (record { verb = verbs.Order; asked = (first, second); rest = word ∷ next ∷ []; whole = are; is = refl; behind = (word, (next, (refl, one, other))) })
+parts words (commands.Reset subject) (word, (are, spells)) =
+    inr (record { verb = verbs.Reset; asked = inl subject; rest = word ∷ []; whole = are; is = refl; behind = (word, (refl, spells)) })
+parts words (commands.ResetOrder first second) (word, (next, (are, one, other))) =
+    inr (record { verb = verbs.Reset; asked = inr (first, second); rest = word ∷ next ∷ []; whole = are; is = refl; behind = (word, (next, (refl, one, other))) })
+parts words commands.Undo are = inr (lone verbs.Undo tt words commands.Undo refl refl are)
+parts words (commands.Domain variable) (word, (are, spells)) =
+    inr (record { verb = verbs.Domain; asked = variable; rest = word ∷ []; whole = are; is = refl; behind = (word, (refl, spells)) })
+parts words commands.Tokens are = inr (lone verbs.Tokens tt words commands.Tokens refl refl are)
+parts words commands.Decisions are = inr (lone verbs.Decisions tt words commands.Decisions refl refl are)
+parts words commands.Flaws are = inr (lone verbs.Flaws tt words commands.Flaws refl refl are)
+parts words (commands.Solve steps tokens) (are, some, few, small) =
+    inr (record { verb = verbs.Solve; asked = (steps, tokens); rest = decimal steps ∷ decimal tokens ∷ []; whole = are; is = refl; behind = (refl, some, few, small) })
+parts words commands.Why are = inr (lone verbs.Why tt words commands.Why refl refl are)
+parts words commands.Cycle are = inr (lone verbs.Cycle tt words commands.Cycle refl refl are)
+parts words commands.Quit are = inr (lone verbs.Quit tt words commands.Quit refl refl are)
+
+-- the verb before words is their first one
+record HasVerb (verb : Verb) (rest : List (List ℕ)) (command : Command) : Type 0 where
+  asked : Asked verb
+  is : command ≡ command_of verb asked
+  behind : IsBehind verb rest asked
+
+with_verb : (verb : Verb) (rest : List (List ℕ)) (command : Command) → IsAsked (verb_word verb ∷ rest) command → HasVerb verb rest command
+with_verb verb rest command found =
+    let both : verb_word verb ∷ rest ≡ verb_word found.verb ∷ found.rest = found.whole in
+    let heads : verb_word found.verb ≡ verb_word verb = cc in
+    let tails : found.rest ≡ rest = cc in
+    let P : Verb → Type 0 = λ v. (asked : Asked v) → command ≡ command_of v asked → IsBehind v rest asked → HasVerb verb rest command in
+    let base : P verb = λ asked is behind. record { asked = asked; is = is; behind = behind } in
+    subst P (sym (same_verb found.verb verb heads)) base found.asked found.is
+    (subst (λ words. IsBehind found.verb words found.asked) tails found.behind)
+
+-- what a command that begins with the verb asks for
+of_verb : (verb : Verb) (rest : List (List ℕ)) (command : Command) → IsCommand (verb_word verb ∷ rest) command → HasVerb verb rest command
+of_verb verb rest command is = elim (parts (verb_word verb ∷ rest) command is) [
+  | inl empty ↦ absurd (not_empty (verb_word verb) rest empty.0)
+  | inr found ↦ with_verb verb rest command found
+]
+
+pub no_command : (verb : Verb) (rest : List (List ℕ)) → ((asked : Asked verb) → IsBehind verb rest asked → ⊥) → (command : Command) → IsCommand (verb_word verb ∷ rest) command → ⊥
+no_command verb rest none command is = let found = of_verb verb rest command is in none found.asked found.behind
+
+-- a first word that is no verb begins no command
+pub no_verb : (first : List ℕ) (rest : List (List ℕ)) → ((verb : Verb) → first ≡ verb_word verb → ⊥) → (command : Command) → IsCommand (first ∷ rest) command → ⊥
+no_verb first rest none command is = elim (parts (first ∷ rest) command is) [
+  | inl empty ↦ not_empty first rest empty.0
+  | inr found ↦ none found.verb (first_word first (verb_word found.verb) rest found.rest found.whole)
+]
+
+-- ---- what is answered
+
+-- what is answered where nothing is said
+faulty : (verb : Verb) (rest : List (List ℕ)) (fault : LineFault) → ((asked : Asked verb) → KeepsWord (command_of verb asked)) → Says (IsBehind verb rest) (Err fault)
+    → AnswersWords (verb_word verb ∷ rest) (Err fault)
+faulty verb rest TooLong keeps says = says
+faulty verb rest Syntax keeps says = no_command verb rest says
+faulty verb rest Memory keeps says = (command_of verb says.0, is_command verb rest says.0 says.1, keeps says.0)
+
+faulty_told : (verb : Verb) (rest : List (List ℕ)) (fault : LineFault) → Tells (IsBehind verb rest) (Err fault) → AnswersWords (verb_word verb ∷ rest) (Err fault)
+faulty_told verb rest TooLong tells = tells
+faulty_told verb rest Syntax tells = no_command verb rest tells
+faulty_told verb rest Memory tells = absurd tells
+
+-- what is said, which takes memory, is answered as the verb's command
+pub answers_keeping : (verb : Verb) (rest : List (List ℕ)) (said : Result (Asked verb) LineFault) (result : Result Command LineFault) (Post : Asked verb → Command → Type 0)
+    → ((asked : Asked verb) → KeepsWord (command_of verb asked)) → ((asked : Asked verb) (command : Command) → Post asked command → command ≡ command_of verb asked)
+    → Says (IsBehind verb rest) said → MatchResult said (λ asked. IsOkAnd result (Post asked)) (λ fault. result ≡ Err fault) → AnswersWords (verb_word verb ∷ rest) result
+answers_keeping verb rest (Ok asked) (Ok command) Post keeps gives says post = subst (IsCommand (verb_word verb ∷ rest)) (sym (gives asked command post)) (is_command verb rest asked says)
+answers_keeping verb rest (Ok asked) (Err fault) Post keeps gives says post = absurd post
+answers_keeping verb rest (Err fault) result Post keeps gives says same = subst (AnswersWords (verb_word verb ∷ rest)) (sym same) (faulty verb rest fault keeps says)
+
+-- and what takes none
+pub answers_told : (verb : Verb) (rest : List (List ℕ)) (said : Result (Asked verb) LineFault) (result : Result Command LineFault) (Post : Asked verb → Command → Type 0)
+    → ((asked : Asked verb) (command : Command) → Post asked command → command ≡ command_of verb asked)
+    → Tells (IsBehind verb rest) said → MatchResult said (λ asked. IsOkAnd result (Post asked)) (λ fault. result ≡ Err fault) → AnswersWords (verb_word verb ∷ rest) result
+answers_told verb rest (Ok asked) (Ok command) Post gives tells post = subst (IsCommand (verb_word verb ∷ rest)) (sym (gives asked command post)) (is_command verb rest asked tells)
+answers_told verb rest (Ok asked) (Err fault) Post gives tells post = absurd post
+answers_told verb rest (Err fault) result Post gives tells same = subst (AnswersWords (verb_word verb ∷ rest)) (sym same) (faulty_told verb rest fault tells)
+
+-- the same of a verb that was told apart
+pub keeps_for : (given verb : Verb) (rest : List (List ℕ)) (said : Result (Asked verb) LineFault) (result : Result Command LineFault) (Post : Asked verb → Command → Type 0) → given ≡ verb
+    → ((asked : Asked verb) → KeepsWord (command_of verb asked)) → ((asked : Asked verb) (command : Command) → Post asked command → command ≡ command_of verb asked)
+    → Says (IsBehind verb rest) said → MatchResult said (λ asked. IsOkAnd result (Post asked)) (λ fault. result ≡ Err fault) → AnswersWords (verb_word given ∷ rest) result
+keeps_for given verb rest said result Post same keeps gives says cases =
+    let P : Verb → Type 0 = λ v. AnswersWords (verb_word v ∷ rest) result in
+    subst P (sym same) (answers_keeping verb rest said result Post keeps gives says cases)
+
+pub told_for : (given verb : Verb) (rest : List (List ℕ)) (said : Result (Asked verb) LineFault) (result : Result Command LineFault) (Post : Asked verb → Command → Type 0) → given ≡ verb
+    → ((asked : Asked verb) (command : Command) → Post asked command → command ≡ command_of verb asked)
+    → Tells (IsBehind verb rest) said → MatchResult said (λ asked. IsOkAnd result (Post asked)) (λ fault. result ≡ Err fault) → AnswersWords (verb_word given ∷ rest) result
+told_for given verb rest said result Post same gives tells cases =
+    let P : Verb → Type 0 = λ v. AnswersWords (verb_word v ∷ rest) result in
+    subst P (sym same) (answers_told verb rest said result Post gives tells cases)
+
+-- `reset` asks for two names where there are two, and else for one
+neither : (rest : List (List ℕ)) → ((names : NameText × NameText) → AreTwo Spells Spells rest names → ⊥) → ((name : NameText) → IsOne Spells rest name → ⊥)
+    → (asked : Asked verbs.Reset) → IsBehind verbs.Reset rest asked → ⊥
+neither rest no_two no_one (inl name) is = no_one name is
+neither rest no_two no_one (inr names) is = no_two names is
+
+faulty_one : (rest : List (List ℕ)) (fault : LineFault) → ((names : NameText × NameText) → AreTwo Spells Spells rest names → ⊥) → Says (IsOne Spells rest) (Err fault)
+    → AnswersWords (codes "reset" ∷ rest) (Err fault)
+faulty_one rest TooLong none says = says
+faulty_one rest Syntax none says = no_command verbs.Reset rest (neither rest none says)
+faulty_one rest Memory none says = (commands.Reset says.0, is_command verbs.Reset rest (inl says.0) says.1, tt)
+
+pub reset_one : (rest : List (List ℕ)) (said : Result NameText LineFault) (result : Result Command LineFault) (Post : NameText → Command → Type 0)
+    → ((names : NameText × NameText) → AreTwo Spells Spells rest names → ⊥) → ((name : NameText) (command : Command) → Post name command → command ≡ commands.Reset name)
+    → Says (IsOne Spells rest) said → MatchResult said (λ name. IsOkAnd result (Post name)) (λ fault. result ≡ Err fault) → AnswersWords (codes "reset" ∷ rest) result
+reset_one rest (Ok name) (Ok command) Post none gives says post = subst (IsCommand (codes "reset" ∷ rest)) (sym (gives name command post)) (is_command verbs.Reset rest (inl name) says)
+reset_one rest (Ok name) (Err fault) Post none gives says post = absurd post
+reset_one rest (Err fault) result Post none gives says same = subst (AnswersWords (codes "reset" ∷ rest)) (sym same) (faulty_one rest fault none says)
+
+pub reset_two : (rest : List (List ℕ)) (said : Result (NameText × NameText) LineFault) (first second : NameText) → said ≡ Ok (first, second)
+    → Says (AreTwo Spells Spells rest) said → AnswersWords (codes "reset" ∷ rest) (Ok (commands.ResetOrder first second))
+reset_two rest said first second is says = is_command verbs.Reset rest (inr (first, second)) (subst (Says (AreTwo Spells Spells rest)) is says)
+
+-- that there are no two names
+pub none_two : (rest : List (List ℕ)) (said : Result (NameText × NameText) LineFault) (fault : LineFault) → said ≡ Err fault → fault ≡ Syntax
+    → Says (AreTwo Spells Spells rest) said → (names : NameText × NameText) → AreTwo Spells Spells rest names → ⊥
+none_two rest said fault is same says = subst (Says (AreTwo Spells Spells rest)) (is ∙ ap Err same) says
+
+-- want of memory for two names
+pub reset_memory : (rest : List (List ℕ)) (said : Result (NameText × NameText) LineFault) (fault : LineFault) → said ≡ Err fault → fault ≡ Memory
+    → Says (AreTwo Spells Spells rest) said → AnswersWords (codes "reset" ∷ rest) (Err Memory)
+reset_memory rest said fault is same says =
+    let found : Says (AreTwo Spells Spells rest) (Err Memory) = subst (Says (AreTwo Spells Spells rest)) (is ∙ ap Err same) says in
+    (commands.ResetOrder found.0.0 found.0.1, is_command verbs.Reset rest (inr found.0) found.1, tt)
+
+pub never_long : (rest : List (List ℕ)) (said : Result (NameText × NameText) LineFault) (fault : LineFault) → said ≡ Err fault → fault ≡ TooLong
+    → Says (AreTwo Spells Spells rest) said → ⊥
+never_long rest said fault is same says = subst (Says (AreTwo Spells Spells rest)) (is ∙ ap Err same) says
+
+-- a first word that is a verb, and one that is none
+pub read_first : (words : List (List ℕ)) (first : List ℕ) (rest : List (List ℕ)) (verb : Verb) (r : Result Command LineFault) → words ≡ first ∷ rest → verb_of first ≡ Some verb
+    → AnswersWords (verb_word verb ∷ rest) r → AnswersWords words r
+read_first words first rest verb r whole is answers =
+    subst (λ ws. AnswersWords ws r) (ap (λ (word : List ℕ). word ∷ rest) (verb_found first verb is) ∙ sym whole) answers
+
+pub read_none : (words : List (List ℕ)) (first : List ℕ) (rest : List (List ℕ)) → words ≡ first ∷ rest → verb_of first ≡ None → (command : Command) → IsCommand words command → ⊥
+read_none words first rest whole none command is =
+    no_verb first rest (verb_missed first none) command (subst (λ ws. IsCommand ws command) whole is)
+
+-- ---- laws
+
+same_one : (rest : List (List ℕ)) (one other : NameText) → IsOne Spells rest one → IsOne Spells rest other → one ≡ other
+same_one rest one other (word, (are, spells)) (word', (are', spells')) =
+    let both : word ∷ [] ≡ word' ∷ [] = sym are ∙ are' in
+    let same : word' ≡ word = cc in
+    spells_one_name word one other spells (subst (λ w. Spells w other) same spells')
+
+-- the same two words
+record AreSame (first second first' second' : List ℕ) : Type 0 where
+  front : first' ≡ first
+  back : second' ≡ second
+
+same_words : (rest : List (List ℕ)) (first second first' second' : List ℕ) → rest ≡ first ∷ second ∷ [] → rest ≡ first' ∷ second' ∷ [] → AreSame first second first' second'
+same_words rest first second first' second' are are' =
+    let both : first ∷ (second ∷ []) ≡ first' ∷ (second' ∷ []) = sym are ∙ are' in
+    record { front = cc; back = cc }
+
+same_two : {B : Type 0} (Other : List ℕ → B → Type 0) → ((word : List ℕ) (one other : B) → Other word one → Other word other → one ≡ other)
+    → (rest : List (List ℕ)) (one other : NameText × B) → AreTwo Spells Other rest one → AreTwo Spells Other rest other → (one.0 ≡ other.0) × (one.1 ≡ other.1)
+same_two Other once rest one other (first, (second, (are, is, is_too))) (first', (second', (are', is', is_too'))) =
+    let same = same_words rest first second first' second' are are' in
+    (spells_one_name first one.0 other.0 is (subst (λ w. Spells w other.0) same.front is'), once second one.1 other.1 is_too (subst (λ w. Other w other.1) same.back is_too'))
+
+same_value : (word one other : List ℕ) → IsValueOf word one → IsValueOf word other → one ≡ other
+same_value word one other is is' = sym is.0 ∙ is'.0
+
+same_bounds : (rest : List (List ℕ)) (one other : ℕ × ℕ) → AreBounds rest one → AreBounds rest other → (one.0 ≡ other.0) × (one.1 ≡ other.1)
+same_bounds rest one other is is' =
+    let same = same_words rest (decimal one.0) (decimal one.1) (decimal other.0) (decimal other.1) is.0 is'.0 in (
+      decimal_injective one.0 other.0 (omega (arith, is.2)) (omega (arith, is'.2)) (sym same.front),
+      decimal_injective one.1 other.1 (omega (arith, is.3)) (omega (arith, is'.3)) (sym same.back),
+    )
+
+one_or_two : (rest : List (List ℕ)) (name : NameText) (names : NameText × NameText) → IsOne Spells rest name → AreTwo Spells Spells rest names → ⊥
+one_or_two rest name names (word, (are, spells)) (first, (second, (are', is, is_too))) =
+    let both : word ∷ [] ≡ first ∷ (second ∷ []) = sym are ∙ are' in
+    cc
+
+joined_pair : {A B : Type 0} (make : A → B → Command) (one other : A) (two twin : B) → (one ≡ other) × (two ≡ twin) → make one two ≡ make other twin
+joined_pair make one other two twin same = rw (same.0, same.1) refl
+
+-- words behind a verb say one thing at most
+same_asked : (verb : Verb) (rest : List (List ℕ)) (one other : Asked verb) → IsBehind verb rest one → IsBehind verb rest other → command_of verb one ≡ command_of verb other
+same_asked verbs.Specify rest one other is is' = joined_pair commands.Specify one.0 other.0 one.1 other.1 (same_two IsValueOf same_value rest one other is is')
+same_asked verbs.Activate rest one other is is' = ap commands.Activate (same_one rest one other is is')
+same_asked verbs.Merge rest one other is is' = joined_pair commands.Merge one.0 other.0 one.1 other.1 (same_two Spells spells_one_name rest one other is is')
+same_asked verbs.Reject rest one other is is' = ap commands.Reject (same_one rest one other is is')
+same_asked verbs.Order rest one other is is' = joined_pair commands.Order one.0 other.0 one.1 other.1 (same_two Spells spells_one_name rest one other is is')
+same_asked verbs.Reset rest (inl one) (inl other) is is' = ap commands.Reset (same_one rest one other is is')
+same_asked verbs.Reset rest (inl one) (inr other) is is' = absurd (one_or_two rest one other is is')
+same_asked verbs.Reset rest (inr one) (inl other) is is' = absurd (one_or_two rest other one is' is)
+same_asked verbs.Reset rest (inr one) (inr other) is is' = joined_pair commands.ResetOrder one.0 other.0 one.1 other.1 (same_two Spells spells_one_name rest one other is is')
+same_asked verbs.Domain rest one other is is' = ap commands.Domain (same_one rest one other is is')
+same_asked verbs.Solve rest one other is is' = joined_pair commands.Solve one.0 other.0 one.1 other.1 (same_bounds rest one other is is')
+same_asked verbs.Undo rest one other is is' = refl
+same_asked verbs.Tokens rest one other is is' = refl
+same_asked verbs.Decisions rest one other is is' = refl
+same_asked verbs.Flaws rest one other is is' = refl
+same_asked verbs.Why rest one other is is' = refl
+same_asked verbs.Cycle rest one other is is' = refl
+same_asked verbs.Quit rest one other is is' = refl
+
+once_asked : (words : List (List ℕ)) (one other : Command) → IsAsked words one → IsCommand words other → one ≡ other
+once_asked words one other found is_other =
+    let P : List (List ℕ) → Type 0 = λ ws. IsCommand ws other in
+    let twin = of_verb found.verb found.rest other (subst P found.whole is_other) in
+    found.is ∙ (same_asked found.verb found.rest found.asked twin.asked found.behind twin.behind ∙ sym twin.is)
+
+once_empty : (words : List (List ℕ)) (other : Command) → words ≡ [] → ((words ≡ []) × (other ≡ commands.Empty)) ⊎ IsAsked words other → commands.Empty ≡ other
+once_empty words other none (inl empty) = sym empty.1
+once_empty words other none (inr found) = absurd (not_empty (verb_word found.verb) found.rest (sym found.whole ∙ none))
 
 pub words_ask_once : WordsAskOnce
-words_ask_once words Empty Empty one other = refl
-words_ask_once words Empty (Specify variable value) one other = absurd (omega (arith, ap initial (sym one ∙ other.0)))
-words_ask_once words Empty Undo one other = absurd (omega (arith, ap initial (sym one ∙ other)))
-words_ask_once words Empty (Domain variable) one other = absurd (omega (arith, ap initial (sym one ∙ other.0)))
-words_ask_once words (Specify variable value) Empty one other = absurd (omega (arith, ap initial (sym one.0 ∙ other)))
-words_ask_once words (Specify variable value) (Specify variable' value') one other =
-    let same : (codes "specify" ∷ variable ∷ value ∷ []) ≡ (codes "specify" ∷ variable' ∷ value' ∷ []) = sym one.0 ∙ other.0 in
-    rw (ap (λ ws. word_at ws 1) same, ap (λ ws. word_at ws 2) same) refl
-words_ask_once words (Specify variable value) Undo one other = absurd (omega (arith, ap initial (sym one.0 ∙ other)))
-words_ask_once words (Specify variable value) (Domain variable') one other = absurd (omega (arith, ap initial (sym one.0 ∙ other.0)))
-words_ask_once words Undo Empty one other = absurd (omega (arith, ap initial (sym one ∙ other)))
-words_ask_once words Undo (Specify variable value) one other = absurd (omega (arith, ap initial (sym one ∙ other.0)))
-words_ask_once words Undo Undo one other = refl
-words_ask_once words Undo (Domain variable) one other = absurd (omega (arith, ap initial (sym one ∙ other.0)))
-words_ask_once words (Domain variable) Empty one other = absurd (omega (arith, ap initial (sym one.0 ∙ other)))
-words_ask_once words (Domain variable) (Specify variable' value) one other = absurd (omega (arith, ap initial (sym one.0 ∙ other.0)))
-words_ask_once words (Domain variable) Undo one other = absurd (omega (arith, ap initial (sym one.0 ∙ other)))
-words_ask_once words (Domain variable) (Domain variable') one other =
-    let same : (codes "domain" ∷ variable ∷ []) ≡ (codes "domain" ∷ variable' ∷ []) = sym one.0 ∙ other.0 in
-    rw (ap (λ ws. word_at ws 1) same) refl
+words_ask_once words one other is_one is_other = elim (parts words one is_one) [
+  | inl empty ↦ empty.1 ∙ once_empty words other empty.0 (parts words other is_other)
+  | inr found ↦ once_asked words one other found is_other
+]
 
 pub lines_ask_once : LinesAskOnce
 lines_ask_once line one other is_one is_other = words_ask_once (words_of line) one other is_one.1 is_other.1

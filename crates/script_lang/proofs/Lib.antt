@@ -1,4 +1,4 @@
-pub mod Parts
 pub mod Commands
-pub mod Ascii
-pub mod Numbers
+pub mod Counting
+pub mod Low
+pub mod Naming

@@ -1,22 +1,9 @@
 -- Laws of the lines of a script.
-use Rattle.std.specs.Prelude.{◌≡◌, ℕ, true, false, List, [], ◌∷◌, ◌++◌, All, take, Result, Ok, Err}
-use Rattle.script_lang.specs.declared.line.Command.{Command}
-use Rattle.script_lang.specs.declared.line.LineFault.{LineFault}
-use Rattle.script_lang.specs.declared.line.LineFault.TheVariants.{Memory}
-use Rattle.script_lang.specs.Words.{is_separator, words_of}
-use Rattle.script_lang.specs.Line.{IsCommand, ReadsLine}
-
--- bytes without a blank among them are one word
-abbrev pub RunsAreWords : Type 0
-RunsAreWords =
-    (first : ℕ) (rest : List ℕ) → All (λ byte. is_separator byte ≡ false) (first ∷ rest)
-    → words_of (first ∷ rest) ≡ (first ∷ rest) ∷ []
-
--- the words round a blank are those before it and those after it
-abbrev pub SeparatorsSplit : Type 0
-SeparatorsSplit =
-    (before after : List ℕ) (byte : ℕ) → is_separator byte ≡ true
-    → words_of (before ++ byte ∷ after) ≡ words_of before ++ words_of after
+use Rattle.std.specs.Prelude.{◌≡◌, ℕ, List, take, Result, Ok, Err}
+use Rattle.script_commands.specs.declared.command.Command.{Command}
+use Rattle.script_commands.specs.declared.command.LineFault.{LineFault}
+use Rattle.script_commands.specs.declared.command.LineFault.TheVariants.{Memory}
+use Rattle.script_commands.specs.Line.{IsCommand, ReadsLine}
 
 -- words ask for one command at most
 abbrev pub WordsAskOnce : Type 0

@@ -1,4 +1,3 @@
-pub mod Words
-pub mod Number
-pub mod Line
+pub mod Verbs
+pub mod Operands
 pub mod Laws

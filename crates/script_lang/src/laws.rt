@@ -1,15 +1,6 @@
 //! Laws of the lines of a script, for whoever reads lines by their contract.
 
-ghost use Rattle.std.specs.Prelude.{◌≡◌, []};
-ghost use Rattle.script_lang.specs.Laws.{RunsAreWords, SeparatorsSplit, WordsAskOnce, LinesAskOnce, LinesHaveOneAnswer, FrontDecides};
-ghost use Rattle.script_lang.specs.Words.{words_of};
-
-/// A law: the words of a line are its longest runs without a blank.
-pub fn words_are_runs()
-    ensures none { words_of [] ≡ [] }
-    ensures run { RunsAreWords }
-    ensures blank { SeparatorsSplit }
-{}
+ghost use Rattle.script_lang.specs.Laws.{WordsAskOnce, LinesAskOnce, LinesHaveOneAnswer, FrontDecides};
 
 /// A law: a line has one answer, and only its first 4,097 bytes matter.
 pub fn lines_have_one_answer()

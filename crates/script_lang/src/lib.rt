@@ -6,8 +6,8 @@
 
 pub mod laws;
 pub mod line;
-pub mod number;
-mod words;
+mod numbers;
+mod operands;
+mod verb;
 
-pub use line::{Command, LINE_LIMIT, LineFault, read_line};
-pub use number::{is_number, value_of};
+pub use line::{LINE_LIMIT, read_line};

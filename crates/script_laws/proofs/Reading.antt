@@ -7,13 +7,13 @@ use Rattle.std.proofs.lemmas.List.Elements.{All-nil, All-cons, All-head, All-tai
 use Rattle.std.proofs.lemmas.Slice.Eq.{bytes_eq-Decides}
 use Rattle.eu_name.specs.Word.{is_word_start, is_word_byte, reserved_words, reserved_of, IsWord, IsName}
 use Rattle.eu_name.proofs.Reserved.{is_reserved, reserved_is}
-use Rattle.script_lang.specs.declared.line.Command.{Command}
-use Rattle.script_lang.specs.declared.line.Command.TheVariants.{Empty, Specify, Undo, Domain}
-use Rattle.script_lang.specs.declared.line.LineFault.TheVariants.{TooLong, Syntax}
-use Rattle.script_lang.specs.Line.{IsCommand, ReadsLine}
-use Rattle.script_lang.specs.Number.{IsSignedNumber, without_minus}
-use Rattle.script_lang.specs.Words.{words_of}
-use Rattle.session_core.specs.Replies.{LineAsksFor}
+use Rattle.range_script.specs.declared.line.Command.{Command}
+use Rattle.range_script.specs.declared.line.Command.TheVariants.{Empty, Specify, Undo, Domain}
+use Rattle.range_script.specs.declared.line.LineFault.TheVariants.{TooLong, Syntax}
+use Rattle.range_script.specs.Line.{IsCommand, ReadsLine}
+use Rattle.range_script.specs.Number.{IsSignedNumber, without_minus}
+use Rattle.range_script.specs.Words.{words_of}
+use Rattle.range_session.specs.Replies.{LineAsksFor}
 
 -- it is so, or it isn't
 abbrev OrNot : Type 0 → Type 0

@@ -18,15 +18,15 @@ use Rattle.plan_db.specs.declared.fault.Outcome.{Outcome}
 use Rattle.plan_db.specs.declared.fault.Outcome.TheVariants.{Consistent, Inconsistent}
 use Rattle.plan_steps.proofs.Keeping.{accepted_is}
 use Rattle.range_laws.proofs.Existing.{least_or_collapsed}
-use Rattle.script_lang.specs.declared.line.Command.{Command}
-use Rattle.script_lang.specs.declared.line.Command.TheVariants.{Empty, Specify, Undo, Domain}
-use Rattle.script_lang.specs.Number.{signed_value}
-use Rattle.session_core.specs.declared.reason.RefusalReason.{RefusalReason}
-use Rattle.session_core.specs.declared.reason.RefusalReason.TheVariants as reason
-use Rattle.session_core.specs.Reasons.{reason_rank, refusal, IsFirstReason, NothingStops}
-use Rattle.session_core.specs.Replies.{IsGlobalNamed, StopsSpecify, StopsUndo, StopsCommand, RepliesTo, Replies, AnswersLine, outcome_line, domain_line}
-use Rattle.session_core.proofs.Lines.{line_replies, long_first, syntax_first}
-use Rattle.session_core.proofs.Stopping.{named_within, collapsed_first, unknown_first, applied, not_applied, domain_collapsed, domain_unknown, domain_told}
+use Rattle.range_script.specs.declared.line.Command.{Command}
+use Rattle.range_script.specs.declared.line.Command.TheVariants.{Empty, Specify, Undo, Domain}
+use Rattle.range_script.specs.Number.{signed_value}
+use Rattle.range_session.specs.declared.reason.RefusalReason.{RefusalReason}
+use Rattle.range_session.specs.declared.reason.RefusalReason.TheVariants as reason
+use Rattle.range_session.specs.Reasons.{reason_rank, refusal, IsFirstReason, NothingStops}
+use Rattle.range_session.specs.Replies.{IsGlobalNamed, StopsSpecify, StopsUndo, StopsCommand, RepliesTo, Replies, AnswersLine, outcome_line, domain_line}
+use Rattle.range_session.proofs.Lines.{line_replies, long_first, syntax_first}
+use Rattle.range_session.proofs.Stopping.{named_within, collapsed_first, unknown_first, applied, not_applied, domain_collapsed, domain_unknown, domain_told}
 use Rattle.script_laws.specs.Laws.{IsSoundOfRanges}
 use Rattle.script_laws.proofs.Checking.{known_within, first_decided, first_not_in_domain, free_global}
 use Rattle.script_laws.proofs.Reading.{IsRead, line_read}

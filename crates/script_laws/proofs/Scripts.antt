@@ -4,7 +4,7 @@ use Rattle.line_session.specs.Ends.{begun}
 use Rattle.line_session.specs.Lines.{lines_of}
 use Rattle.model_core.specs.declared.model.Model.{Model}
 use Rattle.range_problem.specs.Spelling.{Spells}
-use Rattle.session_core.specs.Replies.{AnswersLine}
+use Rattle.range_session.specs.Replies.{AnswersLine}
 use Rattle.europa_run.specs.Output.{start_of, end_of}
 use Rattle.script_laws.specs.Laws.{IsSoundOfRanges, HasSomeScriptOutput}
 use Rattle.script_laws.proofs.Replying.{each_line_replied}

@@ -5,7 +5,7 @@ use Rattle.model_core.specs.declared.model.Model.{Model}
 use Rattle.plan_db.specs.Database.{Database, IsSound}
 use Rattle.range_problem.specs.Ranges.{IsOfRanges}
 use Rattle.range_problem.specs.Spelling.{Spells}
-use Rattle.session_core.specs.Replies.{AnswersLine}
+use Rattle.range_session.specs.Replies.{AnswersLine}
 use Rattle.europa_run.specs.declared.status.RunEnd.{RunEnd}
 use Rattle.europa_run.specs.Output.{ScriptOutput}
 

@@ -1,3 +1,9 @@
-pub mod Lines
-pub mod Once
-pub mod Stopping
+mod Stepping
+mod Decisions
+mod Keeping
+mod Lines
+mod Searches
+mod Told
+mod Choices
+mod Flaws
+mod Explained

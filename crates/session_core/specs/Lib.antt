@@ -1,3 +1,4 @@
-pub mod FrontLaw
 pub mod Reasons
 pub mod Replies
+pub mod Steps
+pub mod FrontLaw

@@ -1,79 +1,40 @@
--- The reasons for which a line is refused, and which of them is the first.
-use Rattle.std.specs.Prelude.{◌≡◌, ℕ, ◌<◌, List, ◌∷◌, ◌++◌, ◌⊎◌, [], codes, Result, Ok, Err, ⊤}
-use Rattle.plan_db.specs.Database.{Database}
-use Rattle.plan_db.specs.declared.fault.DbFault.{DbFault}
-use Rattle.plan_db.specs.declared.fault.DbFault.TheVariants as fault
+-- The reasons for which a line is refused, and how a step is answered.
+use Rattle.std.specs.Prelude.{ℕ, List, ◌++◌, codes, Result, Ok, Err}
 use Rattle.plan_db.specs.declared.fault.Outcome.{Outcome}
+use Rattle.plan_db.specs.declared.fault.Outcome.TheVariants.{Consistent}
+use Rattle.plan_db.specs.declared.fault.Outcome.TheVariants as outcome
+use Rattle.script_lines.specs.Lines.{with_line_feed}
 use Rattle.session_core.specs.declared.reason.RefusalReason.{RefusalReason}
-use Rattle.session_core.specs.declared.reason.RefusalReason.TheVariants.{Long, Syntax, Inconsistent, Unknown, Decided, NotInDomain, Nothing}
-use Rattle.session_core.specs.declared.reason.StepStop.{StepStop}
-use Rattle.session_core.specs.declared.reason.StepStop.TheVariants.{Refused, Memory}
-
--- the place of the reason in the order in which they are looked for
-abbrev pub reason_rank : RefusalReason → ℕ
-reason_rank Long = 0
-reason_rank Syntax = 1
-reason_rank Inconsistent = 2
-reason_rank Unknown = 3
-reason_rank Decided = 4
-reason_rank NotInDomain = 5
-reason_rank Nothing = 6
+use Rattle.session_core.specs.declared.reason.RefusalReason.TheVariants as reason
 
 -- the word that is printed for the reason
 abbrev pub reason_word : RefusalReason → List ℕ
-reason_word Long = codes "long"
-reason_word Syntax = codes "syntax"
-reason_word Inconsistent = codes "inconsistent"
-reason_word Unknown = codes "unknown"
-reason_word Decided = codes "decided"
-reason_word NotInDomain = codes "not-in-domain"
-reason_word Nothing = codes "nothing"
-
--- the database may answer so where a variable of the problem gets a value, or the last step is taken back
-abbrev pub MayStop : DbFault → Type 0
-MayStop fault.NotActive = ⊥
-MayStop fault.NotSamePredicate = ⊥
-MayStop fault.NotRejectable = ⊥
-MayStop fault.Same = ⊥
-MayStop fault.ActiveFull = ⊥
-MayStop fault.NoSuchDecision = ⊥
-MayStop fault = ⊤
-
--- what the database's fault means for a step: one that is behind says no more than one that lacks memory
-abbrev pub stop_of : DbFault → StepStop
-stop_of fault.InInconsistent = Refused Inconsistent
-stop_of fault.Unknown = Refused Unknown
-stop_of fault.Decided = Refused Decided
-stop_of fault.NotInDomain = Refused NotInDomain
-stop_of fault.Nothing = Refused Nothing
-stop_of fault = Memory
-
--- a line as it is printed, with its line feed
-abbrev pub with_line_feed : List ℕ → List ℕ
-with_line_feed text = text ++ 10 ∷ []
+reason_word reason.Long = codes "long"
+reason_word reason.Syntax = codes "syntax"
+reason_word reason.Full = codes "full"
+reason_word reason.Inconsistent = codes "inconsistent"
+reason_word reason.Unknown = codes "unknown"
+reason_word reason.Decided = codes "decided"
+reason_word reason.NotInDomain = codes "not-in-domain"
+reason_word reason.NotActive = codes "not-active"
+reason_word reason.NotSamePredicate = codes "not-same-predicate"
+reason_word reason.NotRejectable = codes "not-rejectable"
+reason_word reason.Same = codes "same"
+reason_word reason.ActiveFull = codes "active-full"
+reason_word reason.NoDecision = codes "no-decision"
+reason_word reason.Nothing = codes "nothing"
+reason_word reason.Consistent = codes "consistent"
 
 -- the reply that refuses for this reason
 abbrev pub refusal : RefusalReason → List ℕ
-refusal reason = with_line_feed (codes "refused " ++ reason_word reason)
+refusal why = with_line_feed (codes "refused " ++ reason_word why)
 
--- of the reasons that stop it this is the first
-pub record IsFirstReason (Stops : RefusalReason → Type 0) (reason : RefusalReason) : Type 0 where
-  pub stops : Stops reason
-  pub first : (earlier : RefusalReason) → reason_rank earlier < reason_rank reason → Stops earlier → ⊥
+-- how an outcome is printed
+abbrev pub outcome_text : Outcome → List ℕ
+outcome_text Consistent = with_line_feed (codes "ok")
+outcome_text outcome.Inconsistent = with_line_feed (codes "inconsistent")
 
--- no reason stops it
-abbrev pub NothingStops : (RefusalReason → Type 0) → Type 0
-NothingStops Stops = (reason : RefusalReason) → Stops reason → ⊥
-
--- it is refused for the first reason that stops it, and nothing changes; or no reason stops it, and it is carried out
-abbrev pub RefusedOr : (RefusalReason → Type 0) → (List ℕ → Database → Type 0) → Database → List ℕ → Database → Type 0
-RefusedOr Stops CarriesOut old reply new =
-    ((reason : RefusalReason) × IsFirstReason Stops reason × (reply ≡ refusal reason) × (new ≡ old))
-    ⊎ (NothingStops Stops × CarriesOut reply new)
-
--- The same of a step that has an outcome in place of a reply, and may lack memory, where nothing changes either.
-abbrev pub StepsOr : (RefusalReason → Type 0) → (Outcome → Database → Type 0) → Database → Result Outcome StepStop
-    → Database → Type 0
-StepsOr Stops CarriesOut old (Ok outcome) new = NothingStops Stops × CarriesOut outcome new
-StepsOr Stops CarriesOut old (Err (Refused reason)) new = IsFirstReason Stops reason × (new ≡ old)
-StepsOr Stops CarriesOut old (Err Memory) new = new ≡ old
+-- how a step is answered: by its outcome, or by why it isn't made
+abbrev pub step_text : Result Outcome RefusalReason → List ℕ
+step_text (Ok found) = outcome_text found
+step_text (Err why) = refusal why

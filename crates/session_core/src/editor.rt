@@ -1,15 +1,28 @@
 //! Editing a plan by the lines of a script.
 
-ghost use Rattle.std.specs.Prelude.{◌≡◌, IfOk, OnErr};
-ghost use Rattle.session_core.specs.Replies.{HasNumbers, Replies, RepliesTo, IsLost};
+ghost use Rattle.std.specs.Prelude.{◌≡◌, ℕ, true, false, List, Ok, IfOk, OnErr, MatchBool};
+ghost use Rattle.line_session.specs.Answering.{LeavesUnanswered};
+ghost use Rattle.plan_db.specs.Database.{IsSound};
+ghost use Rattle.plan_words.specs.Indexing.{IsModelIndex};
+ghost use Rattle.script_commands.specs.Line.{IsCommand};
+ghost use Rattle.session_core.specs.Reasons.{refusal};
+ghost use Rattle.session_core.specs.Replies.{AnswersLine, AnswersRead, IsLost, RepliesTo, goes_on_behind};
+ghost use Rattle.session_core.specs.Steps.{AnswersCommand};
 
-use super::commands::{domain, specify_number, undo};
+use super::deciding::decide_reply;
+use super::explaining::{why_cycle, why_reply};
 use super::reason::RefusalReason;
-use super::replies::{refused, step_reply};
+use super::replies::{no_reply, refused};
+use super::resetting::{reset_order_reply, reset_reply};
+use super::searching::search_reply;
+use super::telling::{tell_decisions, tell_domain, tell_flaw, tell_tokens};
+use super::undoing::undo;
 use eu_name::bytes::Bytes;
 use line_session::reply::{Answer, Responder};
-use plan_db::database::Db;
-use script_lang::line::{Command, LineFault, read_line};
+use plan_db::Db;
+use plan_words::indexed::ModelIndex;
+use script_commands::{Command, LineFault};
+use script_lang::read_line;
 use std::alloc::{AllocError, Global};
 use std::marker::Model;
 
@@ -17,11 +30,14 @@ use std::marker::Model;
 #[derive(Drop)]
 pub struct Editor {
     alloc: Global,
+    // The names of the database's model.
+    index: ModelIndex,
     db: Db,
 }
 
 impl Model for Editor {
     ghost use Rattle.plan_db.specs.Database.{Database};
+    ghost use Rattle.plan_words.specs.Indexing.{IsModelIndex};
 
     ghost Value = { Database };
 
@@ -31,14 +47,17 @@ impl Model for Editor {
     ghost coded = { Prim.hlevel (codes, a_model.the_row.coded) };
 
     ghost view = { λ editor. editor.db.database };
+
+    ghost invariant = { λ editor. IsModelIndex editor.db.database.model editor.index };
 }
 
 impl Editor {
     /// An editor of what the database holds.
-    pub fn new(alloc: Global, db: Db) -> Editor
-        ensures { result ≡ db.database }
+    pub fn new(alloc: Global, db: Db) -> Result<Editor, AllocError>
+        ensures { IfOk result (λ editor. editor ≡ db.database) }
     {
-        Editor { alloc, db }
+        let index = ModelIndex::new(alloc, db.model())?;
+        Ok(Editor { alloc, index, db })
     }
 
     /// Gives the database back as it is now.
@@ -57,49 +76,150 @@ impl Responder for Editor {
     ghost answers = { AnswersLine };
 
     fn answer(&mut self, line: &[u8]) -> Result<Answer, AllocError> {
-        match reply_to(self.alloc, &mut self.db, line) {
-            Ok(reply) => {
-                return Ok(Answer {
-                    reply,
-                    goes_on: true,
-                });
-            }
-            Err(none) => return Err(none),
-        }
+        answer_line(self.alloc, &mut self.db, &self.index, line)
     }
 
     ghost reads_front = { front_answers };
 }
 
-// Does what a line asks for, and gives the reply.
-fn reply_to(alloc: Global, db: &mut Db, line: &[u8]) -> Result<Bytes, AllocError>
-    ensures reply { IfOk result (λ reply. Replies db.old.database line.now reply db.new.database) }
-    ensures memory { OnErr result (IsLost (Replies db.old.database line.now) db.old.database db.new.database) }
+// Whether the database isn't behind.
+fn is_ready(db: &Db) -> bool
+    ensures ready { MatchBool result (db.now.behind ≡ false) (db.now.behind ≡ true) }
+    ensures sound { IsSound db.now.database }
+{
+    let _sound = db.model();
+    !db.is_behind()
+}
+
+// Answers a line, unless the database is behind.
+fn answer_line(
+    alloc: Global,
+    db: &mut Db,
+    index: &ModelIndex,
+    line: &[u8],
+) -> Result<Answer, AllocError>
+    requires { IsModelIndex db.old.database.model index.now }
+    ensures answer { IfOk result (λ answer. AnswersLine db.old.database line.now answer db.new.database) }
+    ensures memory { OnErr result (LeavesUnanswered AnswersLine db.old.database line.now db.new.database) }
+    ensures model { db.new.database.model ≡ db.old.database.model }
+{
+    if !is_ready(db) {
+        return Err(AllocError);
+    }
+    answer_ready(alloc, db, index, line)
+}
+
+// Answers a line.
+fn answer_ready(
+    alloc: Global,
+    db: &mut Db,
+    index: &ModelIndex,
+    line: &[u8],
+) -> Result<Answer, AllocError>
+    requires ready { db.old.behind ≡ false }
+    requires sound { IsSound db.old.database }
+    requires index { IsModelIndex db.old.database.model index.now }
+    ensures answer { IfOk result (λ answer. AnswersLine db.old.database line.now answer db.new.database) }
+    ensures memory { OnErr result (LeavesUnanswered AnswersLine db.old.database line.now db.new.database) }
+    ensures model { db.new.database.model ≡ db.old.database.model }
 {
     match read_line(alloc, line) {
-        Ok(command) => carry_out(alloc, db, &command),
-        Err(LineFault::TooLong) => refused(alloc, RefusalReason::Long),
-        Err(LineFault::Syntax) => refused(alloc, RefusalReason::Syntax),
+        Ok(command) => answer_command(alloc, db, index, &command),
+        Err(LineFault::TooLong) => refuse_line(alloc, RefusalReason::Long),
+        Err(LineFault::Syntax) => refuse_line(alloc, RefusalReason::Syntax),
         Err(LineFault::Memory) => Err(AllocError),
     }
 }
 
-// Does what a command says, and gives the reply.
-fn carry_out(alloc: Global, db: &mut Db, command: &Command) -> Result<Bytes, AllocError>
-    requires { HasNumbers command.now }
-    ensures reply { IfOk result (λ reply. RepliesTo db.old.database command.now reply db.new.database) }
+// The answer that refuses a line.
+fn refuse_line(alloc: Global, reason: RefusalReason) -> Result<Answer, AllocError>
+    ensures { IfOk result (λ answer. (answer.reply ≡ refusal reason) × (answer.goes_on ≡ true)) }
+{
+    match refused(alloc, reason) {
+        Ok(reply) => Ok(Answer {
+            reply,
+            goes_on: true,
+        }),
+        Err(none) => Err(none),
+    }
+}
+
+// Does what a command says, and answers it.
+fn answer_command(
+    alloc: Global,
+    db: &mut Db,
+    index: &ModelIndex,
+    command: &Command,
+) -> Result<Answer, AllocError>
+    requires ready { db.old.behind ≡ false }
+    requires index { IsModelIndex db.old.database.model index.now }
+    requires words { (words : List (List ℕ)) × IsCommand words command.now }
+    ensures answer { IfOk result (λ answer. AnswersRead db.old.database (Ok command.now) answer db.new.database) }
     ensures memory { OnErr result (IsLost (RepliesTo db.old.database command.now) db.old.database db.new.database) }
+    ensures model { db.new.database.model ≡ db.old.database.model }
+{
+    let goes_on = goes_on_behind(command);
+    match carry_out(alloc, db, index, command) {
+        Ok(reply) => Ok(Answer { reply, goes_on }),
+        Err(none) => Err(none),
+    }
+}
+
+// Whether the session goes on behind the command.
+fn goes_on_behind(command: &Command) -> bool
+    ensures { result ≡ goes_on_behind command.now }
 {
     match command {
-        Command::Empty => Ok(Bytes::from_vec(Vec::new(alloc))),
-        Command::Specify { variable, value } => {
-            let step = specify_number(db, variable, value);
-            step_reply(alloc, step)
+        Command::Quit => false,
+        Command::Empty
+        | Command::Specify { .. }
+        | Command::Activate { .. }
+        | Command::Merge { .. }
+        | Command::Reject { .. }
+        | Command::Order { .. }
+        | Command::Reset { .. }
+        | Command::ResetOrder { .. }
+        | Command::Undo
+        | Command::Domain { .. }
+        | Command::Tokens
+        | Command::Decisions
+        | Command::Flaws
+        | Command::Solve { .. }
+        | Command::Why
+        | Command::Cycle => true,
+    }
+}
+
+// Does what a command says, and gives the reply.
+fn carry_out(
+    alloc: Global,
+    db: &mut Db,
+    index: &ModelIndex,
+    command: &Command,
+) -> Result<Bytes, AllocError>
+    requires ready { db.old.behind ≡ false }
+    requires index { IsModelIndex db.old.database.model index.now }
+    requires words { (words : List (List ℕ)) × IsCommand words command.now }
+    ensures { AnswersCommand db.old.database command.now result db.new.database }
+{
+    match command {
+        Command::Empty | Command::Quit => Ok(no_reply(alloc)),
+        Command::Specify { .. }
+        | Command::Activate { .. }
+        | Command::Merge { .. }
+        | Command::Reject { .. }
+        | Command::Order { .. } => decide_reply(alloc, db, index, command),
+        Command::Reset { subject } => reset_reply(alloc, db, index, subject),
+        Command::ResetOrder { first, second } => {
+            reset_order_reply(alloc, db, index, first, second)
         }
-        Command::Undo => {
-            let step = undo(db);
-            step_reply(alloc, step)
-        }
-        Command::Domain { variable } => domain(alloc, db, variable),
+        Command::Undo => undo(alloc, db),
+        Command::Domain { variable } => tell_domain(alloc, db, index, variable),
+        Command::Tokens => tell_tokens(alloc, db),
+        Command::Decisions => tell_decisions(alloc, db),
+        Command::Flaws => tell_flaw(alloc, db),
+        Command::Solve { steps, tokens } => search_reply(alloc, db, *steps, *tokens),
+        Command::Why => why_reply(alloc, db),
+        Command::Cycle => why_cycle(alloc, db),
     }
 }

@@ -1,15 +1,21 @@
 //! The bytes of replies.
 
-ghost use Rattle.std.specs.Prelude.{◌≡◌, IfOk, string_bytes};
-ghost use Rattle.session_core.specs.Reasons.{with_line_feed, refusal};
-ghost use Rattle.session_core.specs.Replies.{outcome_line, domain_line, SaysStep};
+ghost use Rattle.std.specs.Prelude.{◌≡◌, [], IfOk};
+ghost use Rattle.session_core.specs.Reasons.{outcome_text, refusal};
+ghost use Rattle.session_core.specs.Steps.{SaysStep};
 
 use super::reason::{RefusalReason, StepStop, word_of};
-use domain_core::domain::Dom;
 use eu_name::bytes::Bytes;
-use eu_name::text::Text;
-use plan_db::fault::Outcome;
+use plan_db::Outcome;
+use search_texts::one_line;
 use std::alloc::{AllocError, Global};
+
+/// The reply that says nothing.
+pub fn no_reply(alloc: Global) -> Bytes
+    ensures { result ≡ [] }
+{
+    Bytes::from_vec(Vec::new(alloc))
+}
 
 /// What a step is answered that ended so.
 pub fn step_reply(alloc: Global, step: Result<Outcome, StepStop>) -> Result<Bytes, AllocError>
@@ -24,7 +30,7 @@ pub fn step_reply(alloc: Global, step: Result<Outcome, StepStop>) -> Result<Byte
 
 /// Whether the decisions leave something possible.
 pub fn outcome_reply(alloc: Global, outcome: Outcome) -> Result<Bytes, AllocError>
-    ensures { IfOk result (λ reply. reply ≡ outcome_line outcome) }
+    ensures { IfOk result (λ reply. reply ≡ outcome_text outcome) }
 {
     match outcome {
         Outcome::Consistent => one_line(String::from_str(alloc, "ok")?),
@@ -38,22 +44,4 @@ pub fn refused(alloc: Global, reason: RefusalReason) -> Result<Bytes, AllocError
 {
     let word = word_of(reason);
     one_line(format!(in alloc; "refused {word}")?)
-}
-
-/// The variable with its domain.
-pub fn domain_reply(alloc: Global, variable: &Text, domain: &Dom) -> Result<Bytes, AllocError>
-    ensures { IfOk result (λ reply. reply ≡ domain_line variable.now domain.now) }
-{
-    let name = variable.as_str();
-    let lo = domain.lo();
-    let hi = domain.hi();
-    one_line(format!(in alloc; "{name} [{lo} {hi}]")?)
-}
-
-/// A reply of one line.
-fn one_line(mut line: String) -> Result<Bytes, AllocError>
-    ensures { IfOk result (λ reply. reply ≡ with_line_feed (string_bytes line)) }
-{
-    line.push('\n')?;
-    Ok(Bytes::from_vec(line.into_bytes()))
 }

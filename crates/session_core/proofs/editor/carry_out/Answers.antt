@@ -1,27 +1,18 @@
-use Rattle.std.proofs.Common.{refl, sym, subst}
-use Rattle.script_lang.specs.declared.line.Command.{Command}
-use Rattle.script_lang.specs.declared.line.Command.TheVariants.{Specify, Undo}
-use Rattle.script_lang.specs.Number.{signed_value}
-use Rattle.session_core.specs.Replies.{StopsSpecify, Specifies, StopsUndo, UndoesLast, CarriesOut, RepliesTo, IsLost}
-use Rattle.session_core.proofs.Stopping.{on_err, step_lost}
+use Rattle.std.proofs.Common.{sym, subst}
+use Rattle.script_commands.specs.declared.command.Command.{Command}
+use Rattle.session_core.specs.Steps.{AnswersCommand}
+use Rattle.session_core.proofs.Lines.{few_tokens}
 use Rattle.session_core.proofs.editor.carry_out.Goals as goal
 
-pub returns-in-Specify-clause-memory : goal.returns-in-Specify-clause-memory
-returns-in-Specify-clause-memory c =
-    let old = c.args.db.now.database in
-    let new = c.specify_number-step.new.db.database in
-    let value = signed_value c.in-Specify.value in
-    let command = Specify c.in-Specify.variable c.in-Specify.value in
-    on_err c.step_reply.result (IsLost (RepliesTo old c.args.command.now) old new)
-    (subst (λ (asked : Command). IsLost (RepliesTo old asked) old new) (sym c.in-Specify.is)
-    (step_lost (StopsSpecify old c.in-Specify.variable value) (Specifies old c.in-Specify.variable value) (CarriesOut old command) old new c.specify_number-step.result
-    (λ outcome does. (outcome, does, refl)) c.specify_number-step.ensures))
+pub search_reply-requires : goal.search_reply-requires
+search_reply-requires c = few_tokens c.requires.words.0 c.in-Solve.steps c.in-Solve.tokens (rw c.in-Solve.is at c.requires.words.1)
 
-pub returns-in-Undo-clause-memory : goal.returns-in-Undo-clause-memory
-returns-in-Undo-clause-memory c =
-    let old = c.args.db.now.database in
-    let new = c.undo-step.new.db.database in
-    on_err c.step_reply-in-Undo.result (IsLost (RepliesTo old c.args.command.now) old new)
-    (subst (λ (asked : Command). IsLost (RepliesTo old asked) old new) (sym c.in-Undo.is)
-    (step_lost (StopsUndo old) (UndoesLast old) (CarriesOut old Undo) old new c.undo-step.result
-    (λ outcome does. (outcome, does, refl)) c.undo-step.ensures))
+pub returns-in-Reset : goal.returns-in-Reset
+returns-in-Reset c =
+    subst (λ (asked : Command). AnswersCommand c.args.db.now.database asked c.reset_reply.result c.reset_reply.new.db.database)
+    (sym c.in-Reset.is) c.reset_reply.ensures
+
+pub returns-in-ResetOrder : goal.returns-in-ResetOrder
+returns-in-ResetOrder c =
+    subst (λ (asked : Command). AnswersCommand c.args.db.now.database asked c.reset_order_reply.result c.reset_order_reply.new.db.database)
+    (sym c.in-ResetOrder.is) c.reset_order_reply.ensures

@@ -1,0 +1,4 @@
+pub mod Parts
+pub mod Commands
+pub mod Ascii
+pub mod Numbers

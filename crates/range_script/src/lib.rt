@@ -1,0 +1,13 @@
+//! What the lines of a script ask for.
+//!
+//! `read_line(alloc, b"specify x 4")` answers the command that gives `x` the value 4, or why the line asks for
+//! nothing: it is too long, or its words are no command.
+#![tactic(auto)]
+
+pub mod laws;
+pub mod line;
+pub mod number;
+mod words;
+
+pub use line::{Command, LINE_LIMIT, LineFault, read_line};
+pub use number::{is_number, value_of};

@@ -1,0 +1,3 @@
+pub mod FrontLaw
+pub mod Reasons
+pub mod Replies
