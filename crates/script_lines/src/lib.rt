@@ -1,0 +1,12 @@
+//! The lines of replies: domains, tokens, decisions, edges and flaws as a session prints them.
+#![tactic(auto)]
+
+mod counting;
+pub mod decisions;
+pub mod domains;
+pub mod edges;
+pub mod flaws;
+mod kinds;
+mod places;
+pub mod replies;
+pub mod tokens;
