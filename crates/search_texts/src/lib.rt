@@ -1,0 +1,10 @@
+//! How the end of a search is told: by a line, and behind what was found by the text of the plan.
+//!
+//! `end_text(alloc, &db, end)?` tells how a search ended in whose database the decisions found stand.
+#![tactic(auto)]
+
+pub mod line;
+pub mod texts;
+
+pub use line::one_line;
+pub use texts::end_text;

@@ -1,0 +1,11 @@
+pub mod Words
+pub mod Lines
+pub mod Taking
+pub mod Resetting
+pub mod Cycling
+pub mod Edging
+pub mod Flawing
+pub mod Telling
+pub mod Searching
+pub mod Answering
+pub mod Ending
