@@ -1,0 +1,5 @@
+pub mod Placing
+pub mod Ranging
+pub mod Answering
+pub mod Printing
+pub mod Telling

@@ -1,0 +1,4 @@
+pub mod Naming
+pub mod Verdicts
+pub mod Counting
+pub mod Laws
