@@ -4,8 +4,6 @@
 #![tactic(auto)]
 
 #[cfg(test)]
-mod database;
-#[cfg(test)]
 mod names;
 #[cfg(test)]
 mod narrowing;
