@@ -5,3 +5,4 @@ pub mod ReplyLemmas
 pub mod SessionLemmas
 pub mod Streams
 pub mod ToldLemmas
+pub mod Written

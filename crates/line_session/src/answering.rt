@@ -10,7 +10,7 @@ ghost use Rattle.line_session.specs.Pieces.{TakesTurn};
 use super::fault::SessionFault;
 use super::line::Line;
 use super::reply::Responder;
-use super::whole::write_whole;
+use super::whole::write_lines;
 use eu_io::fault::Failed;
 use eu_io::sink::Sink;
 
@@ -32,7 +32,7 @@ fn cost_of(length: usize) -> usize
     ((length + 4095) / 4096).max(1)
 }
 
-/// Answers a line and writes the reply, unless the line brings the count above the most.
+/// Answers a line and writes the reply, each line of it as one piece, unless the line brings the count above the most.
 pub fn answer_line<T: Responder, O: Sink>(
     responder: &mut T,
     out: &mut O,
@@ -52,7 +52,7 @@ pub fn answer_line<T: Responder, O: Sink>(
     }
     let answer = responder.answer(line.front())?;
     let goes_on = answer.goes_on;
-    match write_whole(out, answer.reply.as_slice()) {
+    match write_lines(out, answer.reply.as_slice()) {
         Ok(()) => Ok(Answered { count, goes_on }),
         Err(Failed) => Err(SessionFault::WriteFault),
     }

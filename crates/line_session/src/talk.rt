@@ -24,7 +24,7 @@ pub enum SessionEnd {
     ByAnswer,
 }
 
-/// Reads lines to the end of the input, has each answered, and writes the replies, each of them as one piece.
+/// Reads lines to the end of the input, has each answered, and writes the replies, each line of them as one piece.
 /// After a fault nothing more is read or written.
 pub fn session<T: Responder, S: Source, O: Sink>(
     alloc: Global,
