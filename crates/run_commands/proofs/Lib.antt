@@ -1,0 +1,2 @@
+mod Posed
+mod Searched

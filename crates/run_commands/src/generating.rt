@@ -1,0 +1,27 @@
+//! The command `gen`.
+
+ghost use Rattle.std.specs.Prelude.{◌≡◌, ◌≤◌, false};
+ghost use Rattle.run_commands.specs.Generating.{GenerateOutput};
+ghost use Rattle.run_printing.specs.Printed.{AnswersAs};
+ghost use Rattle.run_printing.specs.Statuses.{is_read};
+
+use problem_gen::{GenFault, generate};
+use run_printing::{Printed, RunEnd, RunFault};
+use std::alloc::Global;
+
+/// The generated problem of so many goals.
+pub fn generated(alloc: Global, number: u32) -> Result<Printed, RunFault>
+    requires some { 1 ≤ number }
+    requires few { number ≤ 200 }
+    ensures generated { AnswersAs (GenerateOutput number) result }
+    ensures no_read { is_read result ≡ false }
+{
+    match generate(alloc, number) {
+        Ok(text) => Ok(Printed {
+            text,
+            end: RunEnd::Done,
+        }),
+        Err(GenFault::OutOfRange) => unreachable!(),
+        Err(GenFault::Memory) => Err(RunFault::Memory),
+    }
+}

@@ -1,0 +1,21 @@
+//! Files that pose no database.
+
+ghost use Rattle.std.specs.Prelude.{◌≡◌};
+ghost use Rattle.run_commands.specs.Posing.{IsUnposed, is_read_fault};
+ghost use Rattle.run_printing.specs.Statuses.{is_read};
+
+use posed_files::fault::PoseFault;
+use run_printing::{Printed, RunFault, faulty};
+use std::alloc::Global;
+
+/// What is printed where a file poses no database.
+pub fn unposed(alloc: Global, fault: PoseFault) -> Result<Printed, RunFault>
+    ensures told { IsUnposed fault result }
+    ensures counted { is_read result ≡ is_read_fault fault }
+{
+    match fault {
+        PoseFault::Text { kind, file, at } => faulty(alloc, kind, &file, at),
+        PoseFault::Read => Err(RunFault::Read),
+        PoseFault::Memory => Err(RunFault::Memory),
+    }
+}
