@@ -1,6 +1,9 @@
-pub mod Lines
-pub mod Once
-pub mod Requests
-pub mod Scripts
-pub mod Shows
-pub mod Written
+mod Comings
+mod Once
+mod Planned
+mod Printing
+mod Ranging
+mod Requests
+mod Scripts
+mod Searching
+mod Written

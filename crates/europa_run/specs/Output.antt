@@ -1,29 +1,35 @@
--- What the program prints and how its run ends, as a relation between what is asked for, the files, the input and the
--- output.
-use Rattle.std.specs.Prelude.{◌≡◌, ℕ, ◌<◌, ◌≤◌, List, [], ◌∷◌, ◌⊎◌, length, Option, Some, None, codes}
+-- What the program prints and how its run ends, as a relation between what is asked for, the files, the input and the output.
+use Rattle.std.specs.Prelude.{◌≡◌, ℕ, Bool, true, false, List, ◌⊎◌}
+use Rattle.command_words.specs.declared.request.Request.{Request}
+use Rattle.command_words.specs.declared.request.Request.TheVariants.{Plan, Script, Check, Show, Generate, Try}
+use Rattle.command_words.specs.Requests.{Asks, AreNoCommand}
+use Rattle.eu_io.specs.Files.{file_named}
+use Rattle.eu_io.specs.declared.shelf.FileEntry.{FileEntry}
 use Rattle.line_session.specs.Ends.{begun}
 use Rattle.line_session.specs.Lines.{lines_of}
 use Rattle.line_session.specs.Sessions.{Ending, AtEnd, AtAnswer, AtLimit, Course, Session}
-use Rattle.model_core.specs.declared.model.Model.{Model}
 use Rattle.plan_db.specs.Database.{Database}
-use Rattle.range_problem.specs.Spelling.{Spells}
-use Rattle.range_session.specs.Replies.{AnswersLine}
-use Rattle.europa_run.specs.declared.command_line.Request.{Request}
-use Rattle.europa_run.specs.declared.command_line.Request.TheVariants.{Script, Show}
-use Rattle.europa_run.specs.declared.status.RunEnd.{RunEnd}
-use Rattle.europa_run.specs.declared.status.RunEnd.TheVariants.{Done, Usage, LinesSpent}
-use Rattle.europa_run.specs.CommandLine.{Asks, AreNoCommand}
-use Rattle.europa_run.specs.Printed.{printed, usage_line, FaultOutput, file_limit}
-use Rattle.europa_run.specs.Showing.{ShowOutput}
+use Rattle.run_commands.specs.Checking.{CheckOutput}
+use Rattle.run_commands.specs.Generating.{GenerateOutput}
+use Rattle.run_commands.specs.Planning.{PlanOutput}
+use Rattle.run_commands.specs.Posing.{PosedOutput}
+use Rattle.run_commands.specs.Showing.{ShowOutput}
+use Rattle.run_printing.specs.declared.status.RunEnd.{RunEnd}
+use Rattle.run_printing.specs.declared.status.RunEnd.TheVariants.{Done, LinesSpent}
+use Rattle.run_printing.specs.Printed.{UsageOutput}
+use Rattle.run_trials.specs.Trying.{TryOutput}
+use Rattle.session_core.specs.Replies.{AnswersLine}
 
--- what a run may read: the content of the file of each name, if there is one, and the bytes of its input
+-- what a run may read: the files, and the bytes of its input
 pub record Given : Type 0 where
-  pub content_of : List ℕ → Option (List ℕ)
+  pub files : List FileEntry
   pub input : List ℕ
 
--- a database of the model in which nothing is decided
-abbrev pub start_of : Model → Database
-start_of model = record { model = model; history = [] ∷ [] }
+-- these files and this input
+abbrev pub given_by : List FileEntry → List ℕ → Given
+given_by files input = record { files = files; input = input }
+
+-- ---- scripts
 
 -- how a script ends whose session ends so
 abbrev pub end_of : Ending → RunEnd
@@ -31,29 +37,44 @@ end_of AtEnd = Done
 end_of AtAnswer = Done
 end_of AtLimit = LinesSpent
 
--- the session of the input's lines with the model
-abbrev pub ScriptOutput : Model → List ℕ → List ℕ → RunEnd → Type 0
-ScriptOutput model input out end =
-    (course : Course Database) × Session AnswersLine (begun (start_of model)) (lines_of input) course
-    × (out ≡ course.out) × (end ≡ end_of course.ending)
+-- the session of the input's lines with the database
+abbrev pub SessionOutput : List ℕ → Database → List ℕ → RunEnd → Type 0
+SessionOutput input database out end =
+    (course : Course Database) × (Session AnswersLine (begun database) (lines_of input) course
+    × (out ≡ course.out) × (end ≡ end_of course.ending))
 
--- what a script's file with this content gives: a fault where it is absent, too long or spells no problem, and else
--- its session
-abbrev pub FileOutput : List ℕ → Option (List ℕ) → List ℕ → List ℕ → RunEnd → Type 0
-FileOutput file None input out end = FaultOutput (codes "Absent") file 0 out end
-FileOutput file (Some bytes) input out end =
-    ((file_limit < length bytes) × FaultOutput (codes "Limit:bytes") file 0 out end)
-    ⊎ ((length bytes ≤ file_limit) × ((model : Model) → Spells bytes model → ⊥)
-    × FaultOutput (codes "NotBuilt") file 0 out end)
-    ⊎ ((length bytes ≤ file_limit) × ((model : Model) × Spells bytes model × ScriptOutput model input out end))
+-- ---- requests
 
 -- what is asked for gives this output and ends so
 abbrev pub RequestOutput : Request (List ℕ) → Given → List ℕ → RunEnd → Type 0
-RequestOutput (Script file) given out end = FileOutput file (given.content_of file) given.input out end
-RequestOutput (Show file) given out end = ShowOutput file (given.content_of file) out end
+RequestOutput (Plan file steps tokens) given out end = PlanOutput given.files file steps tokens out end
+RequestOutput (Script file) given out end = PosedOutput given.files file (SessionOutput given.input) out end
+RequestOutput (Check file plan) given out end = CheckOutput given.files file plan out end
+RequestOutput (Show file) given out end = ShowOutput file (file_named file given.files) out end
+RequestOutput (Generate number) given out end = GenerateOutput number out end
+RequestOutput (Try number) given out end = TryOutput number out end
 
 -- The defined output of the words: the usage where they are no command line, and else what they ask for.
 abbrev pub Output : List (List ℕ) → Given → List ℕ → RunEnd → Type 0
 Output words given out end =
-    (AreNoCommand words × (out ≡ printed usage_line) × (end ≡ Usage))
-    ⊎ ((request : Request (List ℕ)) × Asks words request × RequestOutput request given out end)
+    (AreNoCommand words × UsageOutput out end)
+    ⊎ ((request : Request (List ℕ)) × (Asks words request × RequestOutput request given out end))
+
+-- whether the lines of the input are answered
+abbrev pub is_script : Request (List ℕ) → Bool
+is_script (Script file) = true
+is_script other = false
+
+-- whether files are asked for
+abbrev pub asks_files : Request (List ℕ) → Bool
+asks_files (Generate number) = false
+asks_files (Try number) = false
+asks_files other = true
+
+-- the words ask for no script
+abbrev pub AsksNoScript : List (List ℕ) → Type 0
+AsksNoScript words = (request : Request (List ℕ)) → Asks words request → is_script request ≡ false
+
+-- the words ask for no file
+abbrev pub AsksNoFile : List (List ℕ) → Type 0
+AsksNoFile words = (request : Request (List ℕ)) → Asks words request → asks_files request ≡ false

@@ -1,50 +1,85 @@
 -- What the parts of a run do. The public call promises none of it.
-use Rattle.std.specs.Prelude.{◌≡◌, ℕ, ◌<◌, ◌≤◌, List, ◌++◌, length, Option, Some, None, Result, Ok, Err, ⊤}
+use Rattle.std.specs.Prelude.{◌≡◌, ℕ, ◌<◌, ◌≤◌, ⊤, Bool, true, false, List, ◌++◌, Option, Result, Ok, Err, IfSome}
 use Rattle.std.specs.Io.KnownBytes.{Appends}
-use Rattle.eu_io.specs.Files.{HasContent}
+use Rattle.command_words.specs.declared.request.Request.{Request}
+use Rattle.command_words.specs.declared.request.Request.TheVariants.{Plan, Script, Check, Show, Generate, Try}
+use Rattle.command_words.specs.Requests.{Asks}
 use Rattle.eu_io.specs.declared.shelf.FileEntry.{FileEntry}
 use Rattle.line_session.specs.declared.fault.SessionFault.{SessionFault}
-use Rattle.line_session.specs.declared.fault.SessionFault.TheVariants as fault
+use Rattle.line_session.specs.declared.fault.SessionFault.TheVariants as session
 use Rattle.line_session.specs.declared.talk.SessionEnd.{SessionEnd}
 use Rattle.line_session.specs.Ends.{SessionTells}
-use Rattle.model_core.specs.declared.model.Model.{Model}
 use Rattle.plan_db.specs.Database.{Database}
-use Rattle.range_problem.specs.Spelling.{Spells}
-use Rattle.range_session.specs.Replies.{AnswersLine}
-use Rattle.europa_run.specs.declared.file.FileContent.{FileContent}
-use Rattle.europa_run.specs.declared.file.FileContent.TheVariants.{Absent, TooLong, NotBuilt, Problem}
-use Rattle.europa_run.specs.declared.status.RunEnd.{RunEnd}
-use Rattle.europa_run.specs.declared.status.RunEnd.TheVariants.{Done, Usage, Text, LinesSpent}
-use Rattle.europa_run.specs.declared.status.RunFault.{RunFault}
-use Rattle.europa_run.specs.declared.status.RunFault.TheVariants.{Read, Write, Memory}
-use Rattle.europa_run.specs.declared.command_line.Request.TheVariants.{Script}
-use Rattle.europa_run.specs.CommandLine.{Asks}
-use Rattle.europa_run.specs.Output.{start_of}
-use Rattle.europa_run.specs.Printed.{file_limit, printed, usage_line, fault_line}
+use Rattle.posed_files.specs.Posing.{Poses}
+use Rattle.run_printing.specs.declared.lines.Printed.{Printed as Line}
+use Rattle.run_printing.specs.declared.status.RunEnd.{RunEnd}
+use Rattle.run_printing.specs.declared.status.RunEnd.TheVariants.{Done, LinesSpent}
+use Rattle.run_printing.specs.declared.status.RunFault.{RunFault}
+use Rattle.run_printing.specs.declared.status.RunFault.TheVariants as run
+use Rattle.run_printing.specs.Printed.{UsageOutput}
+use Rattle.session_core.specs.Replies.{AnswersLine}
+use Rattle.europa_run.specs.declared.answering.Answer.{Answer}
+use Rattle.europa_run.specs.declared.answering.Answer.TheVariants as answer
+use Rattle.europa_run.specs.Output.{given_by, is_script, RequestOutput}
 use Rattle.europa_run.specs.Runs.{Outside, RunsTo}
-use Rattle.europa_run.specs.Showing.{ShowOutput}
 
--- what a file of this name has
-abbrev pub GivesContent : Option (List FileEntry) → List ℕ → Result FileContent RunFault → Type 0
-GivesContent files name (Ok Absent) = HasContent files name None
-GivesContent files name (Ok TooLong) =
-    (bytes : List ℕ) × HasContent files name (Some bytes) × (file_limit < length bytes)
-GivesContent files name (Ok NotBuilt) =
-    (bytes : List ℕ) × HasContent files name (Some bytes) × (length bytes ≤ file_limit)
-    × ((model : Model) → Spells bytes model → ⊥)
-GivesContent files name (Ok (Problem model)) =
-    (bytes : List ℕ) × HasContent files name (Some bytes) × (length bytes ≤ file_limit) × Spells bytes model
-GivesContent files name (Err Read) = ⊤
-GivesContent files name (Err Write) = ⊥
-GivesContent files name (Err Memory) = ⊤
+-- ---- requests
+
+-- the numbers of the request are those that words can ask for
+abbrev pub IsInRange : Request (List ℕ) → Type 0
+IsInRange (Plan file steps tokens) = IfSome steps (λ number. 0 < number) × (tokens ≤ 512)
+IsInRange (Script file) = ⊤
+IsInRange (Check file plan) = ⊤
+IsInRange (Show file) = ⊤
+IsInRange (Generate number) = (1 ≤ number) × (number ≤ 200)
+IsInRange (Try number) = (1 ≤ number) × (number ≤ 200)
+
+-- what is printed, as an answer; or why nothing is, which no write is to blame for
+abbrev pub told_answer : Result Line RunFault → Result Answer RunFault
+told_answer (Ok printed) = Ok (answer.Printed printed)
+told_answer (Err run.Read) = Err run.Read
+told_answer (Err fault) = Err run.Memory
+
+-- the input's lines are to be answered
+abbrev pub is_session : Answer → Bool
+is_session (answer.Printed printed) = false
+is_session (answer.Session held) = true
+
+-- what the request comes to over these files: its output, whatever the input, which is no end of a script that is done; or for a
+-- script the database of its session
+abbrev pub Comes : List FileEntry → Request (List ℕ) → Result Answer RunFault → Type 0
+Comes files request (Ok (answer.Printed printed)) =
+    ((input : List ℕ) → RequestOutput request (given_by files input) printed.text printed.end)
+    × (printed.end ≡ Done → is_script request ≡ false)
+Comes files request (Ok (answer.Session held)) =
+    (file : List ℕ) × ((request ≡ Script file) × Poses files file (Ok held.database))
+Comes files request (Err run.Read) = ⊤
+Comes files request (Err run.Write) = ⊥
+Comes files request (Err run.Memory) = ⊤
+
+-- whatever words ask for this, this is what their run leaves
+abbrev pub RunsRequest : Request (List ℕ) → Outside → Outside → Result RunEnd RunFault → Type 0
+RunsRequest request old new ended = (words : List (List ℕ)) → Asks words request → RunsTo words old new ended
+
+-- ---- printing
+
+-- the usage was appended, or where a write failed a front of it; or nothing for want of memory
+abbrev pub UsagePrints : Option (List ℕ) → Option (List ℕ) → Result RunEnd RunFault → Type 0
+UsagePrints old new (Ok end) = (text : List ℕ) × (Appends old new text × UsageOutput text end)
+UsagePrints old new (Err run.Read) = ⊥
+UsagePrints old new (Err run.Write) =
+    (front lost : List ℕ) × ((end : RunEnd) × (Appends old new front × UsageOutput (front ++ lost) end))
+UsagePrints old new (Err run.Memory) = new ≡ old
+
+-- ---- scripts
 
 -- how a script ends whose session ended so
 abbrev pub ended_by : Result SessionEnd SessionFault → Result RunEnd RunFault
 ended_by (Ok end) = Ok Done
-ended_by (Err fault.ReadFault) = Err Read
-ended_by (Err fault.WriteFault) = Err Write
-ended_by (Err fault.LinesSpent) = Ok LinesSpent
-ended_by (Err fault.Memory) = Err Memory
+ended_by (Err session.ReadFault) = Err run.Read
+ended_by (Err session.WriteFault) = Err run.Write
+ended_by (Err session.LinesSpent) = Ok LinesSpent
+ended_by (Err session.Memory) = Err run.Memory
 
 -- the bytes that the input has left and those that the output has so far, where these are told
 pub record Streams : Type 0 where
@@ -54,43 +89,6 @@ pub record Streams : Type 0 where
 -- a session that begins with this database ended so
 abbrev pub EditTells : Database → Streams → Streams → Result RunEnd RunFault → Type 0
 EditTells start old new ended =
-    (last : Database) × (end : Result SessionEnd SessionFault) × (ended ≡ ended_by end)
+    (last : Database) × ((end : Result SessionEnd SessionFault) × ((ended ≡ ended_by end)
     × SessionTells AnswersLine (record { responder = start; left = old.left; written = old.written })
-    (record { responder = last; left = new.left; written = new.written }) end
-
--- the same with a new database of the model
-abbrev pub ScriptTells : Model → Streams → Streams → Result RunEnd RunFault → Type 0
-ScriptTells model old new ended = EditTells (start_of model) old new ended
-
--- whatever words ask for this script, this is what their run leaves
-abbrev pub RunsScript : List ℕ → Outside → Outside → Result RunEnd RunFault → Type 0
-RunsScript file old new ended = (words : List (List ℕ)) → Asks words (Script file) → RunsTo words old new ended
-
--- the usage is printed
-abbrev pub UsageOutput : List ℕ → RunEnd → Type 0
-UsageOutput out end = (out ≡ printed usage_line) × (end ≡ Usage)
-
--- the line about the file was appended, or a front of it
-abbrev pub PrintsFault : List ℕ → List ℕ → ℕ → Option (List ℕ) → Option (List ℕ) → Result RunEnd RunFault → Type 0
-PrintsFault kind name place old new (Ok Text) = Appends old new (printed (fault_line kind name place))
-PrintsFault kind name place old new (Err Write) =
-    (front lost : List ℕ) × Appends old new front × (printed (fault_line kind name place) ≡ front ++ lost)
-PrintsFault kind name place old new (Err Memory) = new ≡ old
-PrintsFault kind name place old new _ = ⊥
-
--- a text was appended that may be printed by a run that ends so; or, where a write failed, a front of such a text; or
--- nothing for want of memory
-abbrev pub WritesText : (List ℕ → RunEnd → Type 0) → Option (List ℕ) → Option (List ℕ) → Result RunEnd RunFault → Type 0
-WritesText IsPrinted old new (Ok end) = (text : List ℕ) × Appends old new text × IsPrinted text end
-WritesText IsPrinted old new (Err Read) = ⊥
-WritesText IsPrinted old new (Err Write) =
-    (front lost : List ℕ) × (end : RunEnd) × Appends old new front × IsPrinted (front ++ lost) end
-WritesText IsPrinted old new (Err Memory) = new ≡ old
-
--- the file was shown as its content asks, or nothing was written after a failed read
-abbrev pub Shows : Option (List FileEntry) → List ℕ → Option (List ℕ) → Option (List ℕ) → Result RunEnd RunFault
-    → Type 0
-Shows files name old new (Err Read) = new ≡ old
-Shows files name old new (Err Memory) = new ≡ old
-Shows files name old new ended =
-    (content : Option (List ℕ)) × HasContent files name content × WritesText (ShowOutput name content) old new ended
+    (record { responder = last; left = new.left; written = new.written }) end))

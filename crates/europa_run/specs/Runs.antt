@@ -1,26 +1,24 @@
 -- What a run of the program leaves: its output or, after a fault, what was written of it and what was lost.
-use Rattle.std.specs.Prelude.{◌≡◌, ℕ, ◌≤◌, Bool, true, false, List, []}
-use Rattle.std.specs.Prelude.{◌++◌, ◌⊎◌, length, Option, Some, Result, Ok, Err}
+use Rattle.std.specs.Prelude.{◌≡◌, ℕ, Bool, true, false, List, [], ◌++◌, ◌⊎◌, Option, Some, Result, Ok, Err}
+use Rattle.command_words.specs.declared.request.Request.TheVariants.{Script}
+use Rattle.command_words.specs.Requests.{Asks}
 use Rattle.eu_io.specs.Faults.{raised}
-use Rattle.eu_io.specs.Files.{file_named}
 use Rattle.eu_io.specs.declared.shelf.FileEntry.{FileEntry}
 use Rattle.line_session.specs.declared.fault.SessionFault.{SessionFault}
 use Rattle.line_session.specs.declared.fault.SessionFault.TheVariants as session
 use Rattle.line_session.specs.Ends.{Passage, input_of, begun, Ends}
-use Rattle.model_core.specs.declared.model.Model.{Model}
+use Rattle.line_session.specs.Lines.{lines_of}
+use Rattle.line_session.specs.Sessions.{AtAnswer, Course, Session}
 use Rattle.plan_db.specs.Database.{Database}
-use Rattle.range_problem.specs.Spelling.{Spells}
-use Rattle.range_session.specs.Replies.{AnswersLine}
-use Rattle.europa_run.specs.declared.command_line.Request.TheVariants.{Script}
-use Rattle.europa_run.specs.declared.status.RunEnd.{RunEnd}
-use Rattle.europa_run.specs.declared.status.RunEnd.TheVariants.{Done, Usage, Text, LinesSpent}
-use Rattle.europa_run.specs.declared.status.RunFault.{RunFault}
-use Rattle.europa_run.specs.declared.status.RunFault.TheVariants.{Read, Write, Memory}
-use Rattle.europa_run.specs.declared.status.Status.{Status}
-use Rattle.europa_run.specs.CommandLine.{Asks}
-use Rattle.europa_run.specs.Output.{Given, start_of, Output}
-use Rattle.europa_run.specs.Printed.{file_limit}
-use Rattle.europa_run.specs.Statuses.{status_of}
+use Rattle.posed_files.specs.Posing.{IsPosed}
+use Rattle.run_printing.specs.declared.status.RunEnd.{RunEnd}
+use Rattle.run_printing.specs.declared.status.RunEnd.TheVariants.{Done}
+use Rattle.run_printing.specs.declared.status.RunFault.{RunFault}
+use Rattle.run_printing.specs.declared.status.RunFault.TheVariants.{Read, Write, Memory}
+use Rattle.run_printing.specs.declared.status.Status.{Status}
+use Rattle.run_printing.specs.Statuses.{status_of}
+use Rattle.session_core.specs.Replies.{AnswersLine}
+use Rattle.europa_run.specs.Output.{Given, given_by, Output}
 
 -- the bytes of its input that a run left, and what it wrote
 pub record Leavings : Type 0 where
@@ -33,37 +31,46 @@ LeavesAll given leavings = (leavings.out ≡ []) × (leavings.left ≡ given.inp
 
 -- a front of the defined output was written, and the rest was lost
 abbrev pub LosesRest : List (List ℕ) → Given → Leavings → Type 0
-LosesRest words given leavings = (lost : List ℕ) × (end : RunEnd) × Output words given (leavings.out ++ lost) end
+LosesRest words given leavings = (lost : List ℕ) × ((end : RunEnd) × Output words given (leavings.out ++ lost) end)
+
+-- the words ask for a script of this file, which poses this database
+pub record HoldsSession (words : List (List ℕ)) (given : Given) (file : List ℕ) (database : Database) : Type 0 where
+  pub asks : Asks words (Script file)
+  pub posed : IsPosed given.files file database
 
 -- the words ask for a script, whose session a fault ended: what `Ends` says of it names the lines that were answered
 pub record StopsScript (words : List (List ℕ)) (given : Given) (leavings : Leavings) (fault : SessionFault) : Type 0 where
   pub file : List ℕ
-  pub bytes : List ℕ
-  pub model : Model
+  pub database : Database
+  pub holds : HoldsSession words given file database
   pub passage : Passage Database
-  pub asks : Asks words (Script file)
-  pub content : given.content_of file ≡ Some bytes
-  pub short : length bytes ≤ file_limit
-  pub spells : Spells bytes model
   pub input : given.input ≡ input_of passage
   pub left : leavings.left ≡ passage.left
   pub out : leavings.out ≡ passage.out
-  pub ends : Ends AnswersLine (begun (start_of model)) passage (Err fault)
+  pub ends : Ends AnswersLine (begun database) passage (Err fault)
 
--- What a run leaves that ends so: the defined output, and of a script that is done nothing of the input; after a
--- failed read either nothing was done, or the script's session stopped there; after a failed write a front of the
--- output was written, or the session stopped there; and where memory ran out nothing was done, or the session stopped
--- there.
+-- an answer ended the session of a script
+pub record QuitsScript (words : List (List ℕ)) (given : Given) : Type 0 where
+  pub file : List ℕ
+  pub database : Database
+  pub holds : HoldsSession words given file database
+  pub course : Course Database
+  pub session : Session AnswersLine (begun database) (lines_of given.input) course
+  pub quits : course.ending ≡ AtAnswer
+
+-- of a script that is done nothing of the input is left, unless an answer ended its session
+abbrev pub LeavesNoInput : List (List ℕ) → Given → Leavings → Type 0
+LeavesNoInput words given leavings =
+    (file : List ℕ) → Asks words (Script file) → (leavings.left ≡ []) ⊎ QuitsScript words given
+
+-- What a run leaves that ends so: the defined output. After a failed read either nothing was done, or the script's session stopped
+-- there; after a failed write a front of the output was written, or the session stopped there; and where memory ran out nothing
+-- was done, or the session stopped there.
 abbrev pub RunLeaves : List (List ℕ) → Given → Leavings → Result RunEnd RunFault → Type 0
-RunLeaves words given leavings (Ok Done) =
-    Output words given leavings.out Done × ((file : List ℕ) → Asks words (Script file) → leavings.left ≡ [])
-RunLeaves words given leavings (Ok Usage) = Output words given leavings.out Usage
-RunLeaves words given leavings (Ok Text) = Output words given leavings.out Text
-RunLeaves words given leavings (Ok LinesSpent) = Output words given leavings.out LinesSpent
-RunLeaves words given leavings (Err Read) =
-    LeavesAll given leavings ⊎ StopsScript words given leavings session.ReadFault
-RunLeaves words given leavings (Err Write) =
-    LosesRest words given leavings ⊎ StopsScript words given leavings session.WriteFault
+RunLeaves words given leavings (Ok end) =
+    Output words given leavings.out end × (end ≡ Done → LeavesNoInput words given leavings)
+RunLeaves words given leavings (Err Read) = LeavesAll given leavings ⊎ StopsScript words given leavings session.ReadFault
+RunLeaves words given leavings (Err Write) = LosesRest words given leavings ⊎ StopsScript words given leavings session.WriteFault
 RunLeaves words given leavings (Err Memory) = LeavesAll given leavings ⊎ StopsScript words given leavings session.Memory
 
 -- the files, the bytes that the input has left and those that the output has so far, where these are told
@@ -75,14 +82,14 @@ pub record Outside : Type 0 where
 -- where all is told, this is what the run leaves
 abbrev pub RunsTo : List (List ℕ) → Outside → Outside → Result RunEnd RunFault → Type 0
 RunsTo words old new ended =
-    (files : List FileEntry) (input before : List ℕ) → old.files ≡ Some files → old.left ≡ Some input
-    → old.written ≡ Some before
-    → (leavings : Leavings) × (new.left ≡ Some leavings.left) × (new.written ≡ Some (before ++ leavings.out))
-    × RunLeaves words (record { content_of = λ name. file_named name files; input = input }) leavings ended
+    (files : List FileEntry) (input before : List ℕ)
+    → old.files ≡ Some files → old.left ≡ Some input → old.written ≡ Some before
+    → (leavings : Leavings) × ((new.left ≡ Some leavings.left) × (new.written ≡ Some (before ++ leavings.out))
+    × RunLeaves words (given_by files input) leavings ended)
 
 -- the same of a run by its status
 abbrev pub Runs : List (List ℕ) → Outside → Outside → Status → Type 0
-Runs words old new status = (ended : Result RunEnd RunFault) × (status ≡ status_of ended) × RunsTo words old new ended
+Runs words old new status = (ended : Result RunEnd RunFault) × ((status ≡ status_of ended) × RunsTo words old new ended)
 
 -- how many calls of the shelf failed, and how many reads of the input
 pub record ReadFaults : Type 0 where

@@ -1,13 +1,37 @@
 //! Laws of runs, for whoever reads them by their definitions.
 
-ghost use Rattle.europa_run.specs.Laws.{HasOneOutput, FaultLeavesFront};
+ghost use Rattle.europa_run.specs.Laws.{HasOneOutput, FaultLeavesFront, PlannedEndsProve};
+
+use plan_soundness::a_state_has_one_plan;
+use plan_verdicts::laws::texts_are_checked_once;
+use posed_files::laws::{posed_databases_are_sound, posed_once};
+use session_laws::laws::each_line_has_one_reply;
 
 /// A law: over the same files and input words have one output, and one end.
 pub fn words_have_one_output()
     ensures { HasOneOutput }
-{}
+{
+    posed_once();
+    posed_databases_are_sound();
+    each_line_has_one_reply();
+    texts_are_checked_once();
+    a_state_has_one_plan();
+}
 
 /// A law: what a run wrote before a fault comes first in the output that its words have, whatever that is.
 pub fn fault_leaves_front()
     ensures { FaultLeavesFront }
-{}
+{
+    posed_once();
+    each_line_has_one_reply();
+    words_have_one_output();
+}
+
+/// A law: a plan that `plan` prints is valid and agrees with the decisions of the text, and where it ends as exhausted no valid plan
+/// does.
+pub fn planned_ends_prove()
+    ensures { PlannedEndsProve }
+{
+    posed_once();
+    posed_databases_are_sound();
+}

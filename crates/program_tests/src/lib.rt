@@ -1,14 +1,26 @@
-//! What no clause says of the crates from a line of a script up to the whole run: that their calls succeed where
-//! memory suffices, and what a planner sees. There is nothing to call here: `rt test` proves and runs the tests.
+//! What no clause says of sessions and of whole runs: that their calls succeed where memory suffices, and what a planner sees.
+//! There is nothing to call here: `rt test` proves and runs the tests.
 #![tactic(auto)]
 
 #[cfg(test)]
-mod line_tests;
+mod checks;
 #[cfg(test)]
-mod problem_tests;
+mod faults;
 #[cfg(test)]
-mod run_tests;
+mod limits;
+#[cfg(test)]
+mod misuse;
+#[cfg(test)]
+mod plans;
+#[cfg(test)]
+mod runs;
+#[cfg(test)]
+mod scripts;
 #[cfg(test)]
 mod session_tests;
 #[cfg(test)]
 mod shelf_tests;
+#[cfg(test)]
+mod shown;
+#[cfg(test)]
+mod texts;

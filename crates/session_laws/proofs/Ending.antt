@@ -30,7 +30,7 @@ heads one other reply xs ys p q =
     let is : one ≡ other = cc in is
 
 module _ (old : Database) (lawful : IsLawful old.model) (settled : IsSettled old.model (standing old.history)) (bound steps : ℕ) (few : bound ≤ 512) (new : Database) (reply : List ℕ) where
-  found_proves : (outcome : SearchOutcome) (visits : ℕ) → Searches old.model bound steps (standing old.history) outcome → TellsEnd steps outcome old (Found visits) new
+  pub found_proves : (outcome : SearchOutcome) (visits : ℕ) → Searches old.model bound steps (standing old.history) outcome → TellsEnd steps outcome old (Found visits) new
       → TellsSearch (Found visits) new reply → ProvesPlan old new steps reply
   found_proves outcome visits searches ends (text, (is, shows)) =
       let list = standing new.history in
@@ -54,7 +54,7 @@ module _ (old : Database) (lawful : IsLawful old.model) (settled : IsSettled old
         agrees_now = right.1;
       }
 
-  exhausted_proves : (outcome : SearchOutcome) (visits : ℕ) (left_out : Bool) → Searches old.model bound steps (standing old.history) outcome
+  pub exhausted_proves : (outcome : SearchOutcome) (visits : ℕ) (left_out : Bool) → Searches old.model bound steps (standing old.history) outcome
       → TellsEnd steps outcome old (Exhausted visits left_out) new → TellsSearch (Exhausted visits left_out) new reply → ProvesNone old bound steps reply
   exhausted_proves outcome visits left_out searches ends shows = record {
     visits = visits;
@@ -66,7 +66,7 @@ module _ (old : Database) (lawful : IsLawful old.model) (settled : IsSettled old
         (elim within [ inl small ↦ inl small | inr whole ↦ inr (ends.2 ∙ whole) ]);
   }
 
-  budget_tells : (outcome : SearchOutcome) (visits : ℕ) → Searches old.model bound steps (standing old.history) outcome → TellsEnd steps outcome old (Budget visits) new
+  pub budget_tells : (outcome : SearchOutcome) (visits : ℕ) → Searches old.model bound steps (standing old.history) outcome → TellsEnd steps outcome old (Budget visits) new
       → TellsSearch (Budget visits) new reply → TellsBudget old bound steps reply
   budget_tells outcome visits searches ends shows = record {
     shows = subst (λ (n : ℕ). TellsSearch (Budget n) new reply) ends.2 shows;

@@ -76,7 +76,7 @@ module _ (old : Database) (steps : ℕ) (outcome : SearchOutcome) where
       let news : new ≡ next = λ i. record { model = models i; history = histories i } in
       (omega (arith, spent, spent'), news)
 
-  end_one : (end end' : SearchEnd) (new next : Database) → TellsEnd steps outcome old end new → TellsEnd steps outcome old end' next → (end ≡ end') × (new ≡ next)
+  pub end_one : (end end' : SearchEnd) (new next : Database) → TellsEnd steps outcome old end new → TellsEnd steps outcome old end' next → (end ≡ end') × (new ≡ next)
   end_one (Found visits) (Found visits') new next p q = let both = found_one visits visits' new next p q in (ap Found both.0, both.1)
   end_one (Found visits) (Exhausted visits' out') new next p q = absurd (fails_not_finds (standing new.history) (sym q.1 ∙ p.1))
   end_one (Found visits) (Budget visits') new next p q = absurd (stops_not_finds (standing new.history) (sym q.1 ∙ p.1))
@@ -90,7 +90,7 @@ module _ (old : Database) (steps : ℕ) (outcome : SearchOutcome) where
   end_one (Budget visits) (Exhausted visits' out') new next p q = absurd (stops_not_fails (sym p.1 ∙ q.1))
   end_one (Budget visits) (Budget visits') new next p q = let counts : visits ≡ visits' = omega (arith, p.0, q.0) in (ap Budget counts, p.3 ∙ sym q.3)
 
-end_told_one : StatesHaveOnePlan → (end : SearchEnd) (database : Database) (one other : List ℕ) → TellsSearch end database one → TellsSearch end database other → one ≡ other
+pub end_told_one : StatesHaveOnePlan → (end : SearchEnd) (database : Database) (one other : List ℕ) → TellsSearch end database one → TellsSearch end database other → one ≡ other
 end_told_one one_plan (Found visits) database one other (text, (is, shows)) (text', (is', shows')) =
     shows ∙ (ap (λ (t : List ℕ). with_line_feed (codes "found " ++ decimal visits) ++ t) (plan_told_one one_plan database text text' is is') ∙ sym shows')
 end_told_one one_plan (Exhausted visits out) database one other p q = p ∙ sym q

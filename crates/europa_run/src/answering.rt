@@ -1,0 +1,79 @@
+//! What requests come to.
+
+ghost use Rattle.std.specs.Prelude.{◌≡◌, List, Some, true, false, IfOk};
+ghost use Rattle.eu_io.specs.declared.shelf.FileEntry.{FileEntry};
+ghost use Rattle.eu_io.specs.Faults.{counted};
+ghost use Rattle.command_words.specs.declared.request.Request.TheVariants.{Script as AskedScript};
+ghost use Rattle.europa_run.specs.Output.{asks_files, is_script};
+ghost use Rattle.europa_run.specs.Pieces.{Comes, IsInRange, is_session, told_answer};
+ghost use Rattle.run_printing.specs.Statuses.{is_read, is_write};
+
+use command_words::request::Request;
+use eu_io::shelf::Shelf;
+use eu_name::text::Text;
+use plan_db::Db;
+use posed_files::pose;
+use run_commands::{check, generated, plan, show, unposed};
+use run_printing::{Printed, RunFault};
+use run_trials::trial;
+use std::alloc::Global;
+
+/// What a request comes to.
+#[derive(Drop)]
+pub enum Answer {
+    /// This is printed.
+    Printed(Printed),
+    /// The input's lines are answered over the database.
+    Session(Db),
+}
+
+// What is printed. Nothing is written here, so what else there can be is a failed read or want of memory.
+fn printed(answer: Result<Printed, RunFault>) -> Result<Answer, RunFault>
+    ensures { result ≡ told_answer answer }
+{
+    match answer {
+        Ok(printed) => Ok(Answer::Printed(printed)),
+        Err(RunFault::Read) => Err(RunFault::Read),
+        Err(RunFault::Write | RunFault::Memory) => Err(RunFault::Memory),
+    }
+}
+
+/// What the request comes to over the shelf.
+pub fn answer_request<F: Shelf>(
+    alloc: Global,
+    shelf: &mut F,
+    request: &Request<Text>,
+) -> Result<Answer, RunFault>
+    requires { IsInRange request.now }
+    ensures comes { (files : List FileEntry) → F.files shelf.old ≡ Some files → Comes files request.now result }
+    ensures of_script { IfOk result (λ answer. is_session answer ≡ true → is_script request.now ≡ true) }
+    ensures counted { F.faults shelf.new ≡ counted (is_read result) (F.faults shelf.old) }
+    ensures unasked { asks_files request.now ≡ false → shelf.new ≡ shelf.old }
+    ensures no_read { asks_files request.now ≡ false → is_read result ≡ false }
+    ensures no_write { is_write result ≡ false }
+{
+    match request {
+        Request::Plan {
+            file,
+            steps,
+            tokens,
+        } => printed(plan(alloc, shelf, file, *steps, *tokens)),
+        Request::Script { file } => script(alloc, shelf, file),
+        Request::Check { file, plan } => printed(check(alloc, shelf, file, plan)),
+        Request::Show { file } => printed(show(alloc, shelf, file)),
+        Request::Generate { number } => printed(generated(alloc, *number)),
+        Request::Try { number } => printed(trial(alloc, *number)),
+    }
+}
+
+// What a script of the file comes to.
+fn script<F: Shelf>(alloc: Global, shelf: &mut F, file: &Text) -> Result<Answer, RunFault>
+    ensures comes { (files : List FileEntry) → F.files shelf.old ≡ Some files → Comes files (AskedScript file.now) result }
+    ensures counted { F.faults shelf.new ≡ counted (is_read result) (F.faults shelf.old) }
+    ensures no_write { is_write result ≡ false }
+{
+    match pose(alloc, shelf, file) {
+        Ok(db) => Ok(Answer::Session(db)),
+        Err(fault) => printed(unposed(alloc, fault)),
+    }
+}

@@ -1,0 +1,79 @@
+//! The session of a script.
+
+ghost use Rattle.std.specs.Prelude.{◌≡◌};
+ghost use Rattle.eu_io.specs.Faults.{counted};
+ghost use Rattle.europa_run.specs.Pieces.{EditTells, ended_by};
+ghost use Rattle.run_printing.specs.Statuses.{is_read, is_write};
+
+use eu_io::sink::Sink;
+use eu_io::source::Source;
+use line_session::fault::SessionFault;
+use line_session::talk::{SessionEnd, session};
+use plan_db::Db;
+use run_printing::{RunEnd, RunFault};
+use session_core::Editor;
+use std::alloc::Global;
+
+/// Answers the input's lines over the database.
+pub fn talk<S: Source, O: Sink>(
+    alloc: Global,
+    db: Db,
+    input: &mut S,
+    out: &mut O,
+) -> Result<RunEnd, RunFault>
+    ensures told { EditTells db.database (record { left = S.left input.old; written = O.written out.old })
+        (record { left = S.left input.new; written = O.written out.new }) result }
+    ensures reads { S.faults input.new ≡ counted (is_read result) (S.faults input.old) }
+    ensures writes { O.faults out.new ≡ counted (is_write result) (O.faults out.old) }
+{
+    match Editor::new(alloc, db) {
+        Ok(editor) => edit_new(alloc, editor, input, out),
+        Err(_none) => Err(RunFault::Memory),
+    }
+}
+
+// The same by the editor that has the database.
+fn edit_new<S: Source, O: Sink>(
+    alloc: Global,
+    editor: Editor,
+    input: &mut S,
+    out: &mut O,
+) -> Result<RunEnd, RunFault>
+    ensures told { EditTells editor (record { left = S.left input.old; written = O.written out.old })
+        (record { left = S.left input.new; written = O.written out.new }) result }
+    ensures reads { S.faults input.new ≡ counted (is_read result) (S.faults input.old) }
+    ensures writes { O.faults out.new ≡ counted (is_write result) (O.faults out.old) }
+{
+    let mut editor = editor;
+    edit(alloc, &mut editor, input, out)
+}
+
+// Answers the input's lines by the editor, which has the database then.
+fn edit<S: Source, O: Sink>(
+    alloc: Global,
+    editor: &mut Editor,
+    input: &mut S,
+    out: &mut O,
+) -> Result<RunEnd, RunFault>
+    ensures told { EditTells editor.old (record { left = S.left input.old; written = O.written out.old })
+        (record { left = S.left input.new; written = O.written out.new }) result }
+    ensures reads { S.faults input.new ≡ counted (is_read result) (S.faults input.old) }
+    ensures writes { O.faults out.new ≡ counted (is_write result) (O.faults out.old) }
+{
+    let end = session(alloc, editor, input, out);
+    ended_by(end)
+}
+
+// How a script ends whose session ended so.
+fn ended_by(end: Result<SessionEnd, SessionFault>) -> Result<RunEnd, RunFault>
+    ensures { result ≡ ended_by end }
+{
+    match end {
+        Ok(SessionEnd::OfInput) => Ok(RunEnd::Done),
+        Ok(SessionEnd::ByAnswer) => Ok(RunEnd::Done),
+        Err(SessionFault::LinesSpent) => Ok(RunEnd::LinesSpent),
+        Err(SessionFault::ReadFault) => Err(RunFault::Read),
+        Err(SessionFault::WriteFault) => Err(RunFault::Write),
+        Err(SessionFault::Memory) => Err(RunFault::Memory),
+    }
+}

@@ -1,0 +1,175 @@
+//! Runs over objects in memory.
+
+use eu_io::memory::shelf::MemShelf;
+use eu_io::memory::sink::MemSink;
+use eu_io::memory::source::MemSource;
+use eu_io::shelf::FileEntry;
+use eu_name::bytes::Bytes;
+use eu_name::text::Text;
+use europa_run::run::europa;
+use std::alloc::{AllocError, Global};
+
+/// A call that no run comes to.
+pub const NONE: u64 = 9_999_999;
+
+/// Which calls fail: of the shelf, of the input, and of the output. They are counted from 1.
+pub type Fails = (u64, u64, u64);
+
+/// No call fails.
+pub const CALM: Fails = (NONE, NONE, NONE);
+
+fn words_of(alloc: Global, line: &str) -> Result<Vec<Text>, AllocError> {
+    let mut words = Vec::new(alloc);
+    for word in line.split_whitespace() {
+        words.push(Text::from_str(alloc, word)?)?;
+    }
+    Ok(words)
+}
+
+fn entry(alloc: Global, name: &str, text: &[u8]) -> Result<FileEntry, AllocError> {
+    Ok(FileEntry {
+        name: Text::from_str(alloc, name)?,
+        bytes: Bytes::from_slice(alloc, text)?,
+    })
+}
+
+fn entries(alloc: Global, files: &[(&str, &str)]) -> Result<Vec<FileEntry>, AllocError> {
+    let mut entries = Vec::new(alloc);
+    for (name, text) in files {
+        entries.push(entry(alloc, name, text.as_bytes())?)?;
+    }
+    Ok(entries)
+}
+
+/// Input that comes so many bytes a call, of which one call fails.
+fn source_of(
+    alloc: Global,
+    input: &[u8],
+    most: usize,
+    fails: u64,
+) -> Result<MemSource, AllocError> {
+    let input = Bytes::from_slice(alloc, input)?;
+    Ok(MemSource::new(input, most.max(1), vec![in alloc; fails]?))
+}
+
+/// A list of one call.
+fn one_call(alloc: Global, fails: u64) -> Result<Vec<u64>, AllocError> {
+    let calls = vec![in alloc; fails]?;
+    Ok(calls)
+}
+
+/// A shelf with these files, of which one call fails.
+fn shelf_of(alloc: Global, files: Vec<FileEntry>, fails: u64) -> Result<MemShelf, AllocError> {
+    match one_call(alloc, fails) {
+        Ok(fails) => Ok(MemShelf::new(files, fails)),
+        Err(none) => Err(none),
+    }
+}
+
+/// A sink that has room for more than so many bytes, of which one call fails.
+fn sink_of(alloc: Global, length: usize, fails: u64) -> Result<MemSink, AllocError> {
+    MemSink::new(
+        alloc,
+        length.saturating_add(99),
+        usize::MAX,
+        one_call(alloc, fails)?,
+    )
+}
+
+/// Whether a run over this shelf and this input writes this, and the number of its status.
+fn ran_from(
+    alloc: Global,
+    words: &[Text],
+    shelf: &mut MemShelf,
+    source: &mut MemSource,
+    fails: u64,
+    output: &[u8],
+) -> Result<(bool, u8), AllocError> {
+    let mut sink = sink_of(alloc, output.len(), fails)?;
+    let status = europa(alloc, words, shelf, source, &mut sink);
+    Ok((sink.as_slice() == output, status.number()))
+}
+
+/// The same of an input that comes so many bytes a call.
+fn ran_over(
+    alloc: Global,
+    words: &[Text],
+    shelf: &mut MemShelf,
+    input: (&[u8], usize),
+    fails: Fails,
+    output: &[u8],
+) -> Result<(bool, u8), AllocError> {
+    let mut source = source_of(alloc, input.0, input.1, fails.1)?;
+    ran_from(alloc, words, shelf, &mut source, fails.2, output)
+}
+
+/// The same of words, over these files.
+fn ran_words(
+    alloc: Global,
+    words: &[Text],
+    files: Vec<FileEntry>,
+    input: (&[u8], usize),
+    fails: Fails,
+    output: &[u8],
+) -> Result<(bool, u8), AllocError> {
+    let mut shelf = shelf_of(alloc, files, fails.0)?;
+    ran_over(alloc, words, &mut shelf, input, fails, output)
+}
+
+/// The same of the words of a line.
+fn ran_line(
+    alloc: Global,
+    line: &str,
+    files: Vec<FileEntry>,
+    input: (&[u8], usize),
+    fails: Fails,
+    output: &[u8],
+) -> Result<(bool, u8), AllocError> {
+    match words_of(alloc, line) {
+        Ok(words) => ran_words(alloc, words.as_slice(), files, input, fails, output),
+        Err(none) => Err(none),
+    }
+}
+
+/// Whether a run over files of these names and texts writes this, and the number of its status.
+pub fn ran(
+    alloc: Global,
+    line: &str,
+    files: &[(&str, &str)],
+    input: (&[u8], usize),
+    fails: Fails,
+    output: &[u8],
+) -> Result<(bool, u8), AllocError> {
+    let files = entries(alloc, files)?;
+    ran_line(alloc, line, files, input, fails, output)
+}
+
+/// The same where no call fails.
+pub fn prints(
+    alloc: Global,
+    line: &str,
+    files: &[(&str, &str)],
+    input: &str,
+    output: &str,
+) -> Result<(bool, u8), AllocError> {
+    ran(
+        alloc,
+        line,
+        files,
+        (input.as_bytes(), 16),
+        CALM,
+        output.as_bytes(),
+    )
+}
+
+/// The same over the one file `m.nddl`.
+pub fn prints_of(
+    alloc: Global,
+    line: &str,
+    file: &[u8],
+    input: &[u8],
+    output: &[u8],
+) -> Result<(bool, u8), AllocError> {
+    let files = vec![in alloc; entry(alloc, "m.nddl", file)?]?;
+    ran_line(alloc, line, files, (input, 4_096), CALM, output)
+}

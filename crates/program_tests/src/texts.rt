@@ -1,0 +1,136 @@
+//! Texts of problems that more than one test runs on.
+
+/// Two variables in order.
+pub const ORDERED: &str = "int [0 10] x; int [0 10] y; leq(x, y);";
+
+/// A rule that asks for one token where `b` is true, and for another where it is false.
+pub const GUARDED: &str = "class T { predicate P { bool b; } predicate Q { } predicate R { } }
+T::P { if (b) { any(object.Q q); } else { any(object.R r); } }
+T t = new T();
+close();
+goal(t.P g);
+";
+
+/// The same with a global that equals `b`.
+pub const GLOBAL: &str = "bool c;
+class T { predicate P { bool b; } predicate Q { } predicate R { } }
+T::P { if (b) { any(object.Q q); } else { any(object.R r); } }
+T t = new T();
+close();
+goal(t.P g);
+eq(g.b, c);
+";
+
+/// Tokens that each ask for another one of their predicate.
+pub const CHAIN: &str =
+    "class N { predicate A { } } N::A { any(object.A a); } N n = new N(); close(); goal(n.A g); goal(n.A h);";
+
+/// A rejectable that can't take place.
+pub const DOUBTED: &str =
+    "class N { predicate A { int [0 5] v; } } N n = new N(); close(); goal(n.A g); rejectable(n.A r); eq(g.v, 3); eq(r.v, 4); eq(r.v, g.v);";
+
+/// A rover that has to go to be somewhere else.
+pub const ROVER: &str = "class Rover extends Timeline {
+  predicate At { int [0 3] place; }
+  predicate Going { int [0 3] from; int [0 3] to; }
+}
+Rover::At { met_by(object.Going g); eq(g.to, place); }
+Rover::Going { met_by(object.At a); eq(a.place, from); neq(from, to); }
+PlannerConfig p = new PlannerConfig(0, 10, 100);
+Rover r = new Rover();
+close();
+fact(r.At init);
+goal(r.At g);
+eq(init.place, 0);
+eq(init.start, 0);
+eq(g.place, 2);
+";
+
+/// How the search tells the plan of the rover.
+pub const ROVER_FOUND: &str = "found 12
+plan
+fact init Rover.At start 0 end 1 duration 1 object r place 0
+token g Rover.At start 2 end 3 duration 1 object r place 2
+token g/0:0 Rover.Going start 1 end 2 duration 1 object r from 0 to 2
+merged g/0:0/0:0 init
+end
+";
+
+/// Two tokens of one timeline.
+pub const PAIR: &str =
+    "class L extends Timeline { predicate A { } } PlannerConfig p = new PlannerConfig(0, 10, 100); L l = new L(); close(); goal(l.A a); goal(l.A b);";
+
+/// Three of them.
+pub const THREE: &str =
+    "class L extends Timeline { predicate A { } } PlannerConfig p = new PlannerConfig(0, 10, 100); L l = new L(); close(); goal(l.A a); goal(l.A b); goal(l.A e);";
+
+/// Orders of the three that go round.
+pub const ROUND: &str = "activate a
+activate b
+activate e
+order a b
+order b e
+order e a
+cycle
+undo
+domain e.start
+";
+
+/// What is answered.
+pub const ROUND_ANSWERS: &str = "ok
+ok
+ok
+ok
+ok
+inconsistent
+cycle 6
+a.start + 1 <= a.end
+a.end + 0 <= b.start
+b.start + 1 <= b.end
+b.end + 0 <= e.start
+e.start + 1 <= e.end
+e.end + 0 <= a.start
+ok
+e.start [2 9]
+";
+
+/// Two uses of a tool.
+pub const TOOL: &str =
+    "class Tool extends Reusable { Tool(int c) { super(c); } } PlannerConfig p = new PlannerConfig(0, 10, 100); Tool t = new Tool(2); close(); goal(t.uses a); goal(t.uses b); eq(a.quantity, 2); eq(b.quantity, 1); eq(a.start, 0); eq(a.end, 5); eq(b.end, 8);";
+
+/// What takes from a battery, and what gives to it.
+pub const BATTERY: &str =
+    "class Battery extends Reservoir { Battery(int i, int l, int h) { super(i, l, h); } } PlannerConfig p = new PlannerConfig(0, 10, 100); Battery b = new Battery(5, 0, 10); close(); goal(b.consume c); goal(b.produce d);";
+
+/// A file as planners write it.
+pub const USUAL: &str = "#include \"Plasma.nddl\"
+#include \"PlannerConfig.nddl\"
+enum Location { lander, rock, hill };
+class Rover extends Timeline {
+  predicate At { Location location; }
+  predicate Going { Location from; Location to; neq(from, to); }
+}
+Rover::At { met_by(object.Going g); eq(g.to, location); }
+Rover::Going { met_by(object.At a); eq(a.location, from); eq(duration, 3); }
+PlannerConfig plannerConfig = new PlannerConfig(0, 100, 500);
+Rover spirit = new Rover();
+close();
+fact(spirit.At here);
+here.start.specify(0);
+here.location.specify(lander);
+goal(spirit.At there);
+there.location.specify(rock);
+";
+
+/// How the search tells the plan of it.
+pub const USUAL_FOUND: &str = "found 11
+plan
+fact here Rover.At start 0 end 1 duration 1 object spirit location lander
+token there Rover.At start 4 end 5 duration 1 object spirit location rock
+token there/0:0 Rover.Going start 1 end 4 duration 3 object spirit from lander to rock
+merged there/0:0/1:0 here
+end
+";
+
+pub const USAGE: &str =
+    "usage: europa plan FILE [--steps N] [--tokens N] | script FILE | check FILE PLAN | show FILE | gen N | try N\n";

@@ -1,9 +1,0 @@
-pub mod Front
-pub mod Shapes
-pub mod Lexing
-pub mod Reading
-pub mod Lists
-pub mod Lawfulness
-pub mod Unique
-pub mod Steps
-pub mod Turns

@@ -1,4 +1,0 @@
-pub mod Parts
-pub mod Commands
-pub mod Ascii
-pub mod Numbers

@@ -1,3 +1,0 @@
-pub mod FrontLaw
-pub mod Reasons
-pub mod Replies
