@@ -11,14 +11,10 @@ use Rattle.cell_store.specs.declared.trail.Entry.{Entry}
 use Rattle.cell_store.specs.declared.trail.Entry.TheVariants.{Added, Narrowed}
 use Rattle.cell_store.specs.Cells.{Celled, domain_at, StepsFrom, IsStep}
 use Rattle.cell_store.specs.Kept.{domains_before, past_of, IsTrail, CanBeEntry, cell_domains, view_of, IsKept}
+use Rattle.cell_store.specs.Trails.{written_by}
 use Rattle.cell_store.proofs.Lists.{set-set}
 use Rattle.cell_store.proofs.Rewriting.{length-past_of}
 use Rattle.cell_store.proofs.Views.{present-view, last_found, get-append_left}
-
--- the cell that the entry is about, if that wasn't added by it
-abbrev pub written_by : Entry → Option ℕ
-written_by Added = None
-written_by (Narrowed cell former saved) = Some cell
 
 -- of all lists these stand at the place
 abbrev At : List (List Domain) → ℕ → List Domain → Type 0

@@ -3,7 +3,8 @@
 ghost use Rattle.std.specs.Prelude.{◌≡◌, ◌+◌, ◌<◌, [], ◌∷◌, length, option_copied, slice_get, IfOk, OnErr};
 ghost use Rattle.cell_store.specs.Cells.{present, IsPlace, IsStep, AddsCell, NarrowsCell, GoesBack};
 
-use super::trail::{Cell, Entry, go_back, meet_and_save, meet_at};
+use super::steps::Trail;
+use super::trail::{Cell, go_back, meet_and_save, meet_at};
 use domain_core::Change;
 use domain_core::domain::Dom;
 use std::alloc::{AllocError, Global};
@@ -13,7 +14,7 @@ use std::marker::Model;
 #[derive(Drop)]
 pub struct Cells {
     cells: Vec<Cell>,
-    trail: Vec<Entry>,
+    trail: Trail,
 }
 
 /// A point to which the cells can go back, as long as they haven't gone back to one before it.
@@ -48,9 +49,9 @@ impl Model for Cells {
 
     ghost Value = { Celled };
 
-    ghost view = { λ store. view_of store.cells.items (reverse store.trail.items) };
+    ghost view = { λ store. view_of store.cells.items (reverse store.trail) };
 
-    ghost invariant = { λ store. IsKept store.cells.items (reverse store.trail.items) };
+    ghost invariant = { λ store. IsKept store.cells.items (reverse store.trail) };
 }
 
 impl Cells {
@@ -60,7 +61,7 @@ impl Cells {
     {
         Cells {
             cells: Vec::new(alloc),
-            trail: Vec::new(alloc),
+            trail: Trail::new(alloc),
         }
     }
 
@@ -68,10 +69,9 @@ impl Cells {
     pub fn new_cell(&mut self, domain: Dom) -> Result<usize, AllocError>
         ensures { AddsCell domain self.old result self.new }
     {
-        self.trail.reserve(1)?;
         self.cells.reserve(1)?;
+        self.trail.add()?;
         let number = self.cells.len();
-        self.trail.push_reserved(Entry::Added);
         self.cells.push_reserved(Cell {
             domain,
             stamp: 0,
@@ -113,10 +113,7 @@ impl Cells {
         requires { step + 1 < length self.now.past }
         ensures { IsStep step self.now result }
     {
-        match &self.trail[step] {
-            Entry::Added => None,
-            Entry::Narrowed { cell, .. } => Some(*cell),
-        }
+        self.trail.written(step)
     }
 
     /// A mark at the cells as they are.

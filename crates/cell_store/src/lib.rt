@@ -9,6 +9,7 @@
 #![tactic(auto)]
 
 pub mod cells;
+mod steps;
 mod trail;
 
 pub use cells::{Cells, Mark};

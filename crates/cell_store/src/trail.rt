@@ -1,10 +1,11 @@
 //! Cells and the trail of what was written to them.
 
-ghost use Rattle.std.specs.Prelude.{◌<◌, ◌≤◌, length, reverse, vec_len};
+ghost use Rattle.std.specs.Prelude.{◌<◌, ◌≤◌, length, reverse};
 ghost use Rattle.cell_store.specs.Kept.{IsKept};
 ghost use Rattle.cell_store.specs.Writing.{MeetsCell, MeetsBehind, MeetsAt, SavesAt, StepsBack, UndoesEntry, ReturnsTo};
 ghost use Rattle.cell_store.specs.declared.trail.Entry.TheVariants.{Narrowed};
 
+use super::steps::Trail;
 use domain_core::Change;
 use domain_core::domain::Dom;
 use std::alloc::AllocError;
@@ -17,7 +18,7 @@ pub struct Cell {
     pub saved: usize,
 }
 
-/// One entry of the trail, with what going back over it needs.
+/// One step of the trail, with what going back over it needs.
 #[derive(Drop)]
 pub enum Entry {
     /// A cell was added.
@@ -65,39 +66,36 @@ pub fn meet_at(cells: &mut Vec<Cell>, cell: usize, to: &Dom) -> Change
 /// The same, with an entry in the trail if the cell was written.
 pub fn meet_and_save(
     cells: &mut Vec<Cell>,
-    trail: &mut Vec<Entry>,
+    trail: &mut Trail,
     cell: usize,
     to: &Dom,
 ) -> Result<Change, AllocError>
     requires { cell < length cells.old.items }
-    ensures { SavesAt cell to.now (cells.old.items, trail.old.items) result (cells.new.items, trail.new.items) }
+    ensures { SavesAt cell to.now (cells.old.items, trail.old) result (cells.new.items, trail.new) }
 {
     let found = &cells[cell];
     if found.domain.lies_in(to) {
         return Ok(Change::Same);
     }
-    trail.reserve(1)?;
-    let former = found.domain.copy()?;
-    let saved = found.saved;
-    match cells[cell].meet_behind(to, trail.len() + 1) {
-        Change::Smaller => {
-            trail.push_reserved(Entry::Narrowed {
-                cell,
-                former,
-                saved,
-            });
-            return Ok(Change::Smaller);
+    trail.narrow(cell, &found.domain, found.saved)?;
+    match cells[cell].meet_behind(to, trail.len()) {
+        Change::Smaller => return Ok(Change::Smaller),
+        Change::Same => {
+            let _unused = trail.pop();
+            return Ok(Change::Same);
         }
-        Change::Same => return Ok(Change::Same),
-        Change::Empty => return Ok(Change::Empty),
+        Change::Empty => {
+            let _unused = trail.pop();
+            return Ok(Change::Empty);
+        }
     }
 }
 
 /// Goes back along the trail until it has this length.
-pub fn go_back(cells: &mut Vec<Cell>, trail: &mut Vec<Entry>, behind: usize)
-    requires kept { IsKept cells.old.items (reverse trail.old.items) }
-    requires long { behind ≤ vec_len trail.old }
-    ensures { ReturnsTo behind (cells.old.items, trail.old.items) (cells.new.items, trail.new.items) }
+pub fn go_back(cells: &mut Vec<Cell>, trail: &mut Trail, behind: usize)
+    requires kept { IsKept cells.old.items (reverse trail.old) }
+    requires long { behind ≤ length trail.old }
+    ensures { ReturnsTo behind (cells.old.items, trail.old) (cells.new.items, trail.new) }
 {
     while trail.len() > behind {
         step_back(cells, trail);
@@ -105,10 +103,10 @@ pub fn go_back(cells: &mut Vec<Cell>, trail: &mut Vec<Entry>, behind: usize)
 }
 
 // Goes back over the last entry of the trail.
-fn step_back(cells: &mut Vec<Cell>, trail: &mut Vec<Entry>)
-    requires kept { IsKept cells.old.items (reverse trail.old.items) }
-    requires some { 0 < length trail.old.items }
-    ensures { StepsBack (cells.old.items, trail.old.items) (cells.new.items, trail.new.items) }
+fn step_back(cells: &mut Vec<Cell>, trail: &mut Trail)
+    requires kept { IsKept cells.old.items (reverse trail.old) }
+    requires some { 0 < length trail.old }
+    ensures { StepsBack (cells.old.items, trail.old) (cells.new.items, trail.new) }
 {
     match trail.pop() {
         None => unreachable!(),

@@ -1,10 +1,10 @@
 -- The lists of who watches a variable.
 use Rattle.std.proofs.Common.{◌≡◌, ℕ, zero, suc, ◌+◌, ◌-◌, ◌<◌, ◌≤◌, List, [], ◌∷◌, ◌++◌, length, map, get_or, set, ⊎_elim, refl, sym, ap, ◌∙◌, subst, arith}
-use Rattle.std.specs.Prelude.{Contains, Vec, Option, Some, None, option_to_list, slice_get, Result, Ok, Err, OnErr}
+use Rattle.smallvec.specs.SmallVec.{SmallVec}
+use Rattle.std.specs.Prelude.{Contains, Option, Some, None, option_to_list, slice_get, Result, Ok, Err, OnErr}
 use Rattle.std.proofs.lemmas.Option.{slice_get_within}
 use Rattle.constraint_net.proofs.Enrolling.{get_push}
 use Rattle.std.specs.declared.alloc.AllocError.{AllocError}
-use Rattle.std.specs.declared.alloc.Global.{Global}
 use Rattle.std.proofs.lemmas.Bool.{cases_eq}
 use Rattle.std.proofs.lemmas.List.{append-nil, length_push, length-map, length-set, map-set, get_or-map, set-get_or, get_or-set_same, get_or-set_other}
 use Rattle.std.proofs.lemmas.List.Elements.{Contains-push_cases}
@@ -26,34 +26,34 @@ keeps_grown old new is = record {
   each = λ variable number member. subst (λ list. Contains list number) (sym (ap (λ lists. watchers_at lists variable) is ∙ push_default old [] variable)) member;
 }
 
-abbrev pub lists_of : List (Vec ℕ Global) → List (List ℕ)
+abbrev pub lists_of : List (SmallVec ℕ) → List (List ℕ)
 lists_of lists = map (λ list. list.items) lists
 
 -- one list was written
-pub written_list : (lists : List (Vec ℕ Global)) (variable : ℕ) (list : Vec ℕ Global) → lists_of (set lists variable list) ≡ set (lists_of lists) variable list.items
+pub written_list : (lists : List (SmallVec ℕ)) (variable : ℕ) (list : SmallVec ℕ) → lists_of (set lists variable list) ≡ set (lists_of lists) variable list.items
 written_list lists variable list = map-set (λ l. l.items) lists variable list
 
 -- what was read of a list
-pub read_list : (lists : List (Vec ℕ Global)) (variable : ℕ) (list : Vec ℕ Global) → variable < length lists → list ≡ get_or lists variable list → list.items ≡ get_or (lists_of lists) variable []
+pub read_list : (lists : List (SmallVec ℕ)) (variable : ℕ) (list : SmallVec ℕ) → variable < length lists → list ≡ get_or lists variable list → list.items ≡ get_or (lists_of lists) variable []
 read_list lists variable list below read = ap (λ l. l.items) read ∙ sym (get_or-map (λ l. l.items) lists variable list [] below)
 
-pub list_same : (lists : List (Vec ℕ Global)) (shown : List (List ℕ)) (variable : ℕ) (list left : Vec ℕ Global) → lists_of lists ≡ shown → variable < length shown → list ≡ get_or lists variable list → left.items ≡ list.items
+pub list_same : (lists : List (SmallVec ℕ)) (shown : List (List ℕ)) (variable : ℕ) (list left : SmallVec ℕ) → lists_of lists ≡ shown → variable < length shown → list ≡ get_or lists variable list → left.items ≡ list.items
     → lists_of (set lists variable left) ≡ shown
 list_same lists shown variable list left view below read same =
-    let within : variable < length lists = omega (arith, below, ap length view, length-map lists (λ (l : Vec ℕ Global). l.items)) in
+    let within : variable < length lists = omega (arith, below, ap length view, length-map lists (λ (l : SmallVec ℕ). l.items)) in
     written_list lists variable left ∙ ap (set (lists_of lists) variable) (same ∙ read_list lists variable list within read) ∙ set-get_or (lists_of lists) variable [] ∙ view
 
-pub list_more : (lists : List (Vec ℕ Global)) (shown : List (List ℕ)) (variable number : ℕ) (list left : Vec ℕ Global) → lists_of lists ≡ shown → variable < length shown → list ≡ get_or lists variable list → left.items ≡ list.items ++ number ∷ []
+pub list_more : (lists : List (SmallVec ℕ)) (shown : List (List ℕ)) (variable number : ℕ) (list left : SmallVec ℕ) → lists_of lists ≡ shown → variable < length shown → list ≡ get_or lists variable list → left.items ≡ list.items ++ number ∷ []
     → lists_of (set lists variable left) ≡ set shown variable (get_or shown variable [] ++ number ∷ [])
 list_more lists shown variable number list left view below read more =
-    let within : variable < length lists = omega (arith, below, ap length view, length-map lists (λ (l : Vec ℕ Global). l.items)) in
+    let within : variable < length lists = omega (arith, below, ap length view, length-map lists (λ (l : SmallVec ℕ). l.items)) in
     written_list lists variable left ∙ ap (set (lists_of lists) variable) (more ∙ ap (λ l. l ++ number ∷ []) (read_list lists variable list within read))
     ∙ ap (λ l. set l variable (get_or l variable [] ++ number ∷ [])) view
 
-pub list_less : (lists : List (Vec ℕ Global)) (shown : List (List ℕ)) (variable count : ℕ) (list left : Vec ℕ Global) → lists_of lists ≡ shown → variable < length shown → list ≡ get_or lists variable list → Shortens count list.items left.items
+pub list_less : (lists : List (SmallVec ℕ)) (shown : List (List ℕ)) (variable count : ℕ) (list left : SmallVec ℕ) → lists_of lists ≡ shown → variable < length shown → list ≡ get_or lists variable list → Shortens count list.items left.items
     → KeepsBelow count shown (lists_of (set lists variable left))
 list_less lists shown variable count list left view below read shortens =
-    let within : variable < length lists = omega (arith, below, ap length view, length-map lists (λ (l : Vec ℕ Global). l.items)) in
+    let within : variable < length lists = omega (arith, below, ap length view, length-map lists (λ (l : SmallVec ℕ). l.items)) in
     let is : lists_of (set lists variable left) ≡ set shown variable left.items = written_list lists variable left ∙ ap (λ l. set l variable left.items) view in
     subst (KeepsBelow count shown) (sym is) (record {
       lists = length-set shown variable left.items;

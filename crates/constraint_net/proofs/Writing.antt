@@ -1,11 +1,11 @@
 -- Which cells the steps since a place have written.
-use Rattle.std.proofs.Common.{◌≡◌, ℕ, ◌+◌, ◌<◌, ◌≤◌, pos, List, [], ◌∷◌, ◌++◌, length, ◌⊎◌, inl, inr, refl, sym, ap, ◌∙◌, subst, arith}
-use Rattle.std.specs.Prelude.{Contains, Option, Some, None, option_to_list}
+use Rattle.std.proofs.Common.{◌≡◌, ℕ, ◌+◌, ◌≤◌, pos, List, [], ◌∷◌, ◌++◌, length, inl, inr, sym, ap, ◌∙◌, subst, arith}
+use Rattle.std.specs.Prelude.{Option, Some, None, option_to_list}
 use Rattle.std.proofs.lemmas.Bool.{cases_eq}
 use Rattle.std.proofs.lemmas.List.{length-set, length_push, get_or_append_left, get_or-set_other}
 use Rattle.std.proofs.lemmas.List.Elements.{Contains-append_left, Contains-append_right}
 use Rattle.domain_core.specs.Domain.{Domain, Range}
-use Rattle.cell_store.specs.Cells.{Celled, present, domain_at, IsPlace, StepsFrom, IsStep}
+use Rattle.cell_store.specs.Cells.{Celled, domain_at, IsPlace, StepsFrom, IsStep}
 use Rattle.constraint_net.specs.Marks.{HaveChanged}
 use Rattle.constraint_net.proofs.Alerting.{one_place, place_before}
 

@@ -134,11 +134,11 @@ fn watch_one(watchers: &mut Watchers, number: usize, arg: NetArg) -> Result<(), 
 }
 
 // Lets all these numbers wait.
-fn queue_all(numbers: &[usize], waiting: &mut Queue)
+fn queue_all(numbers: &[u32], waiting: &mut Queue)
     ensures { TakesAll numbers.now waiting.old waiting.new }
 {
     for number in numbers {
-        waiting.add(*number);
+        waiting.add(*number as usize);
     }
 }
 

@@ -1,15 +1,18 @@
 //! Which constraints name a variable.
 
-ghost use Rattle.std.specs.Prelude.{◌≡◌, ◌+◌, ◌<◌, [], ◌∷◌, ◌++◌, length, slice_index_or, slice_set, OnErr, OnOk};
+ghost use Rattle.std.specs.Prelude.{◌≡◌, ◌+◌, ◌<◌, [], ◌∷◌, ◌++◌, length, slice_index_or, slice_set};
+ghost use Rattle.std.specs.Prelude.{IfOk, OnErr, OnOk};
 ghost use Rattle.constraint_net.specs.Agendas.{KeepsBelow, Shortens};
 
+use smallvec::SmallVec;
 use std::alloc::{AllocError, Global};
 use std::marker::Model;
 
-/// A list of numbers for each variable: those of the constraints that name it.
+/// A list of numbers for each variable: those of the constraints that name it. Most lists are short, and take no memory of their
+/// own.
 #[derive(Drop)]
 pub struct Watchers {
-    lists: Vec<Vec<usize>>,
+    lists: Vec<SmallVec<u32, 4>>,
 }
 
 impl Model for Watchers {
@@ -41,13 +44,13 @@ impl Watchers {
         ensures ok { OnOk result (self.new ≡ self.old ++ [] ∷ []) }
         ensures err { OnErr result (self.new ≡ self.old) }
     {
-        let empty = Vec::new(*self.lists.allocator());
+        let empty = SmallVec::new(*self.lists.allocator());
         self.lists.push(empty)?;
         Ok(())
     }
 
     /// The numbers in the list of the variable.
-    pub fn of(&self, variable: usize) -> &[usize]
+    pub fn of(&self, variable: usize) -> &[u32]
         requires { variable < length self.now }
         ensures { result.now ≡ slice_index_or self.now variable [] }
     {
@@ -61,6 +64,7 @@ impl Watchers {
             ≡ slice_set self.old variable (slice_index_or self.old variable [] ++ number ∷ [])) }
         ensures err { OnErr result (self.new ≡ self.old) }
     {
+        let number = short(number)?;
         self.lists[variable].push(number)?;
         Ok(())
     }
@@ -74,12 +78,22 @@ impl Watchers {
     }
 }
 
+// The number in 32 bits. More constraints than that are answered as want of memory.
+fn short(number: usize) -> Result<u32, AllocError>
+    ensures { IfOk result (λ kept. kept ≡ number) }
+{
+    if number > u32::MAX as usize {
+        return Err(AllocError);
+    }
+    Ok(number as u32)
+}
+
 // Takes numbers off the end that aren't below the count.
-fn trim(list: &mut Vec<usize>, count: usize)
+fn trim(list: &mut SmallVec<u32, 4>, count: usize)
     ensures { Shortens count list.old.items list.new.items }
 {
     while let Some(last) = list.as_slice().last().copied() {
-        if last < count {
+        if (last as usize) < count {
             return;
         }
         let _last = list.pop();

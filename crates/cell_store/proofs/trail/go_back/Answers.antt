@@ -8,22 +8,22 @@ use Rattle.cell_store.proofs.trail.go_back.Goals as goal
 pub loop-cells-preserved : goal.loop-cells-preserved
 loop-cells-preserved c =
     let step = c.step_back.ensures in
-    let turned : reverse c.loop-cells.trail.items ≡ step.entry ∷ reverse c.step_back.new.trail.items =
-    ap reverse step.trail ∙ reverse-append c.step_back.new.trail.items (step.entry ∷ []) in
+    let turned : reverse c.loop-cells.trail ≡ step.entry ∷ reverse c.step_back.new.trail =
+    ap reverse step.trail ∙ reverse-append c.step_back.new.trail (step.entry ∷ []) in
     record {
-      returning = returning_more c.args.cells.now.items (reverse c.args.trail.now.items) c.loop-cells.cells.items (reverse c.step_back.new.trail.items) step.entry
+      returning = returning_more c.args.cells.now.items (reverse c.args.trail.now) c.loop-cells.cells.items (reverse c.step_back.new.trail) step.entry
           c.step_back.new.cells.items
-          (subst (IsReturning c.args.cells.now.items (reverse c.args.trail.now.items) c.loop-cells.cells.items) turned c.loop-cells.invariant.returning) step.cells;
-      long = omega (arith, ap length step.trail, length-append c.step_back.new.trail.items (step.entry ∷ []), c.loop-cells.trail.ok.0, c.step_back.new.trail.ok.0);
+          (subst (IsReturning c.args.cells.now.items (reverse c.args.trail.now) c.loop-cells.cells.items) turned c.loop-cells.invariant.returning) step.cells;
+      long = omega (arith, ap length step.trail, length-append c.step_back.new.trail (step.entry ∷ []));
     }
 
 pub returns : goal.returns
 returns c =
-    let now = c.loop-cells.trail.items in
+    let now = c.loop-cells.trail in
     let returning = c.loop-cells.invariant.returning in
-    let long : length (reverse now) ≡ c.args.behind = length-reverse now ∙ omega (arith, c.loop-cells.invariant.long, c.loop-cells.trail.ok.0) in
+    let long : length (reverse now) ≡ c.args.behind = length-reverse now ∙ omega (arith, c.loop-cells.invariant.long) in
     record {
       kept = returning.kept;
-      goes = subst (λ n. GoesBack n (view_of c.args.cells.now.items (reverse c.args.trail.now.items)) (view_of c.loop-cells.cells.items (reverse now))) long
-          (goes_back c.args.cells.now.items (reverse c.args.trail.now.items) c.loop-cells.cells.items (reverse now) returning);
+      goes = subst (λ n. GoesBack n (view_of c.args.cells.now.items (reverse c.args.trail.now)) (view_of c.loop-cells.cells.items (reverse now))) long
+          (goes_back c.args.cells.now.items (reverse c.args.trail.now) c.loop-cells.cells.items (reverse now) returning);
     }

@@ -1,5 +1,7 @@
 use Rattle.std.proofs.Common.{◌≡◌, Some, slice_get, length, refl}
 use Rattle.std.proofs.lemmas.Option.{slice_get_read}
+use Rattle.cell_store.specs.declared.trail.Entry.TheVariants.{Narrowed}
+use Rattle.cell_store.proofs.Entries.{popped_again}
 use Rattle.cell_store.proofs.Views.{stays_empty}
 use Rattle.cell_store.proofs.trail.meet_and_save.Goals as goal
 
@@ -14,5 +16,5 @@ returns-in-Empty c =
       stood = stood;
       kept = stays.1;
       cells = stays.0;
-      trail = c.in_ok-reserve.ensures.items;
+      trail = popped_again c.args.trail.now c.narrow.new.self c.pop-unused-in-Empty.new.self (Narrowed c.args.cell c.index-found.result.now.domain c.index-found.result.now.saved) c.pop-unused-in-Empty.result c.in_ok-narrow.ensures.ok c.pop-unused-in-Empty.ensures;
     }

@@ -6,4 +6,4 @@ pub loop-last-preserved : goal.loop-last-preserved
 loop-last-preserved c =
     let list = c.loop-last.list.items in
     shortened_by c.args.count c.in-Some.last c.args.list.now.items list c.pop-last.new.self.items c.pop-last.result c.pop-last.ensures.items
-    (sym c.in-Some.is ∙ c.copied.ensures ∙ c.last.ensures.value ∙ ap (λ l. slice_get l (length l - 1)) c.as_slice.ensures.value) c.if-last-count.false c.loop-last.invariant
+    (sym c.in-Some.is ∙ c.copied.ensures ∙ c.last.ensures.value ∙ ap (λ l. slice_get l (length l - 1)) c.as_slice.ensures) c.if-last-count.false c.loop-last.invariant

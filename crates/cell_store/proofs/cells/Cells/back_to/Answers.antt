@@ -6,13 +6,12 @@ use Rattle.cell_store.proofs.cells.Cells.back_to.Goals as goal
 
 pub go_back-requires-clause-long : goal.go_back-requires-clause-long
 go_back-requires-clause-long c =
-    let trail = c.self.inside.trail.items in
+    let trail = c.self.inside.trail in
     omega (
       arith,
       c.requires,
       ap (λ view. length view.past) c.self.view_is,
       length-past_of (cell_domains c.self.inside.cells.items) (reverse trail),
       length-reverse trail,
-      c.self.inside.trail.ok.0,
       c.mark.view_is,
     )

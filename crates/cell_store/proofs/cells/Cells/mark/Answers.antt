@@ -7,15 +7,14 @@ use Rattle.cell_store.proofs.Views.{place-view}
 use Rattle.cell_store.proofs.cells.Cells.mark.Goals as goal
 
 pub returns-clause-place : goal.returns-clause-place
-returns-clause-place c = rw (← c.self.view_is) (place-view c.self.inside.cells.items (reverse c.self.inside.trail.items) _ (omega (arith, c.len.ensures, length-reverse c.self.inside.trail.items, c.self.inside.trail.ok.0)))
+returns-clause-place c = rw (← c.self.view_is) (place-view c.self.inside.cells.items (reverse c.self.inside.trail) _ (omega (arith, c.len.ensures, length-reverse c.self.inside.trail)))
 
 pub returns-clause-newest : goal.returns-clause-newest
 returns-clause-newest c =
     omega (
       arith,
       ap (λ (cells : Celled). length cells.past) c.self.view_is,
-      length-past_of (cell_domains c.self.inside.cells.items) (reverse c.self.inside.trail.items),
+      length-past_of (cell_domains c.self.inside.cells.items) (reverse c.self.inside.trail),
       c.len.ensures,
-      length-reverse c.self.inside.trail.items,
-      c.self.inside.trail.ok.0,
+      length-reverse c.self.inside.trail,
     )

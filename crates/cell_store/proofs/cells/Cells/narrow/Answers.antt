@@ -13,7 +13,7 @@ meet_at-requires c = within_cells _ _ _ _ c.self.view_is c.requires.exists
 pub invariant_of-self : goal.invariant_of-self
 invariant_of-self c =
     let cells = c.self.inside.cells.items in
-    let trail = reverse c.self.inside.trail.items in
+    let trail = reverse c.self.inside.trail in
     let below = within_cells cells trail _ _ c.self.view_is c.requires.exists in
     let met = c.meet_at.ensures in
     let found = one_found cells c.args.cell met.was c.index.result.now below met.stood c.index.ensures in
@@ -24,7 +24,7 @@ invariant_of-self c =
 pub returns-then-index-since : goal.returns-then-index-since
 returns-then-index-since c =
     let cells = c.self.inside.cells.items in
-    let trail = reverse c.self.inside.trail.items in
+    let trail = reverse c.self.inside.trail in
     let below = within_cells cells trail _ _ c.self.view_is c.requires.exists in
     let met = c.meet_at.ensures in
     let found = one_found cells c.args.cell met.was c.index.result.now below met.stood c.index.ensures in
@@ -39,18 +39,18 @@ meet_and_save-requires c = within_cells _ _ _ _ c.self.view_is c.requires.exists
 
 pub invariant_of-self-2 : goal.invariant_of-self-2
 invariant_of-self-2 c =
-    (narrows_saving c.self.inside.cells.items c.self.inside.trail.items c.args.cell c.since.inside.place c.args.to.now c.meet_and_save.result
-    (c.meet_and_save.new.cells.items, c.meet_and_save.new.trail.items) c.self.invariant
-    (subst (λ n. n < length (view_of c.self.inside.cells.items (reverse c.self.inside.trail.items)).past) (sym c.since.view_is)
+    (narrows_saving c.self.inside.cells.items c.self.inside.trail c.args.cell c.since.inside.place c.args.to.now c.meet_and_save.result
+    (c.meet_and_save.new.cells.items, c.meet_and_save.new.trail) c.self.invariant
+    (subst (λ n. n < length (view_of c.self.inside.cells.items (reverse c.self.inside.trail)).past) (sym c.since.view_is)
     (subst (λ view. c.args.since < length view.past) (sym c.self.view_is) c.requires.since)) c.meet_and_save.ensures).0
 
 pub returns : goal.returns
 returns c =
     subst (λ n. NarrowsCell c.args.cell c.args.to.now n c.args.self.now c.meet_and_save.result
-    (view_of c.meet_and_save.new.cells.items (reverse c.meet_and_save.new.trail.items))) c.since.view_is
+    (view_of c.meet_and_save.new.cells.items (reverse c.meet_and_save.new.trail))) c.since.view_is
     (subst (λ old. NarrowsCell c.args.cell c.args.to.now c.since.inside.place old c.meet_and_save.result
-    (view_of c.meet_and_save.new.cells.items (reverse c.meet_and_save.new.trail.items))) c.self.view_is
-    (narrows_saving c.self.inside.cells.items c.self.inside.trail.items c.args.cell c.since.inside.place c.args.to.now c.meet_and_save.result
-    (c.meet_and_save.new.cells.items, c.meet_and_save.new.trail.items) c.self.invariant
-    (subst (λ n. n < length (view_of c.self.inside.cells.items (reverse c.self.inside.trail.items)).past) (sym c.since.view_is)
+    (view_of c.meet_and_save.new.cells.items (reverse c.meet_and_save.new.trail))) c.self.view_is
+    (narrows_saving c.self.inside.cells.items c.self.inside.trail c.args.cell c.since.inside.place c.args.to.now c.meet_and_save.result
+    (c.meet_and_save.new.cells.items, c.meet_and_save.new.trail) c.self.invariant
+    (subst (λ n. n < length (view_of c.self.inside.cells.items (reverse c.self.inside.trail)).past) (sym c.since.view_is)
     (subst (λ view. c.args.since < length view.past) (sym c.self.view_is) c.requires.since)) c.meet_and_save.ensures).1)

@@ -1,6 +1,4 @@
-use Rattle.std.proofs.Common.{List, ap, subst}
-use Rattle.std.specs.Prelude.{Vec}
-use Rattle.std.specs.declared.alloc.Global.{Global}
+use Rattle.std.proofs.Common.{List, subst}
 use Rattle.std.proofs.lemmas.Result.{IfOk-weaker}
 use Rattle.cell_store.specs.Cells.{present, IsPlace}
 use Rattle.domain_core.specs.Domain.{Domain}
