@@ -110,10 +110,18 @@ module _ (model : Model) (decisions : List Decision) (stored : Stored) (is : IsS
 
   -- ---- tokens
 
+  -- what the state supports is there, and the other way round
+  pub token_here : (token : TokenName) → IsSupportedToken model (situation_of decisions seen) token → Contains names token
+  token_here token supported =
+      supported_there.tokens token (supported_further model (situation_of decisions seen) (situation_of decisions (shown content)) further_back token supported)
+
+  pub here_supported : (token : TokenName) → Contains names token → IsSupportedToken model (situation_of decisions seen) token
+  here_supported token here =
+      supported_further model (situation_of decisions (shown content)) (situation_of decisions seen) further_on token (rest.underway.justified.tokens token here)
+
   all_decided : AreAllDecided (tokens_now stored.past) → (token : TokenName) → IsSupportedToken model (situation_of decisions seen) token → IsDecided model decisions token
   all_decided all token supported =
-      let there = supported_there.tokens token (supported_further model (situation_of decisions seen) (situation_of decisions (shown content)) further_back token supported) in
-      let kept = kept_somehow (tokens_now stored.past) token there in
+      let kept = kept_somehow (tokens_now stored.past) token (token_here token supported) in
       other_decided model decisions (shown content) token kept.0 (λ inactive. all kept.1.place (kept.1.kept ∙ ap Some inactive))
       (kept_has model decisions (snapshot_of stored) told token kept.0 kept.1)
 
@@ -123,13 +131,12 @@ module _ (model : Model) (decisions : List Decision) (stored : Stored) (is : IsS
       let other = length-map (tokens_now stored.past) (λ (token : TokenName × Token). token.1.state) in
       let below = get_below (token_states (tokens_now stored.past)) place Inactive at in
       let name = get_within names place (omega (arith, long, other, below)) in
-      let supported = rest.underway.justified.tokens name.0 (contains_from_get names place name.0 name.1) in
       inactive_undecided model decisions (shown content) name.0 (rest.underway.states.states place name.0 Inactive name.1 at)
-      (decided name.0 (supported_further model (situation_of decisions (shown content)) (situation_of decisions seen) further_on name.0 supported))
+      (decided name.0 (here_supported name.0 (contains_from_get names place name.0 name.1)))
 
   -- ---- roots that are out
 
-  out_rejected : (named : Term) → IsRootOut model (tokens_now stored.past) named → IsOfRejected model decisions named
+  pub out_rejected : (named : Term) → IsRootOut model (tokens_now stored.past) named → IsOfRejected model decisions named
   out_rejected (term.Root number part) out = (out.0, kept_has model decisions (snapshot_of stored) told (root_token number) Rejected out.1)
   out_rejected (term.Lit value) out = absurd out
   out_rejected (term.Here part) out = absurd out
@@ -146,7 +153,7 @@ module _ (model : Model) (decisions : List Decision) (stored : Stored) (is : IsS
       absurd (rest.underway.states.rejected token rejected (inr (has.0, has.2)))
   rejected_state token rejected Rejected kept = kept
 
-  rejected_out : (named : Term) → IsOfRejected model decisions named → IsRootOut model (tokens_now stored.past) named
+  pub rejected_out : (named : Term) → IsOfRejected model decisions named → IsRootOut model (tokens_now stored.past) named
   rejected_out (term.Root number part) of =
       let root = of.0.1 in
       let there = misses.roots number root.0 root.1 in
@@ -160,7 +167,7 @@ module _ (model : Model) (decisions : List Decision) (stored : Stored) (is : IsS
 
   -- ---- guards
 
-  token_below : (block : OpenBlock) → Contains stored.blocks block → block.token < length names
+  pub token_below : (block : OpenBlock) → Contains stored.blocks block → block.token < length names
   token_below block there =
       let long = length-map (tokens_now stored.past) (λ (token : TokenName × Token). token.0) in
       let below = All-contains (λ (block : OpenBlock). block.token < length (tokens_now stored.past)) stored.blocks block is.of_tokens there in
@@ -206,7 +213,7 @@ module _ (model : Model) (decisions : List Decision) (stored : Stored) (is : IsS
       let same = same_open names is.tokens_once found.0 (block_behind one place side) (token_below found.0 found.1.0) (token_below one here) found.1.1 in
       subst (Contains stored.blocks) same found.1.0
 
-  all_certain : AreAllSettled model stored → (block : TokenBlock) (entries : Entries) (guard : Guard) (then otherwise : Entries)
+  pub all_certain : AreAllSettled model stored → (block : TokenBlock) (entries : Entries) (guard : Guard) (then otherwise : Entries)
       → IsSupportedBlock model (situation_of decisions seen) block entries → Contains (direct entries) (OfBranch guard then otherwise) → IsCertain model decisions seen block guard
   all_certain settled block entries guard then otherwise supported stands =
       let up = block_further model (situation_of decisions seen) (situation_of decisions (shown content)) further_back block entries supported in

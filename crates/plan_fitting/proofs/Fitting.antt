@@ -60,11 +60,17 @@ module _ (model : Model) (decisions : List Decision) (stored : Stored) (is : IsS
       let found = ending.top model decisions stored.net.tables stored.net.constraints content rest.underway.justified (misses model decisions stored is once rest) rest.consistent settled in
       subst (IsTop model decisions) (one_state content found.0 (names_are_once (snapshot_of stored) is) found.2.consistent.is_state.order found.1) found.2
 
-  pub fits_least : IsSettled model decisions → ResourcesDecide → FitReusables model decisions seen → FitReservoirs model decisions seen → IsLeast model decisions seen
+  fits_least : IsSettled model decisions → ResourcesDecide → FitReusables model decisions seen → FitReservoirs model decisions seen → IsLeast model decisions seen
   fits_least settled law uses levels = (law model decisions seen (top settled)).0 uses levels
 
   pub unfit_uses : IsSettled model decisions → ResourcesDecide → (FitReusables model decisions seen → ⊥) → IsCollapsed model decisions
   unfit_uses settled law broken = (law model decisions seen (top settled)).1 (inl broken)
 
-  pub unfit_levels : IsSettled model decisions → ResourcesDecide → (FitReservoirs model decisions seen → ⊥) → IsCollapsed model decisions
+  unfit_levels : IsSettled model decisions → ResourcesDecide → (FitReservoirs model decisions seen → ⊥) → IsCollapsed model decisions
   unfit_levels settled law broken = (law model decisions seen (top settled)).1 (inr broken)
+
+  -- where uses fit, it is told by the levels
+  pub least_told : IsSettled model decisions → ResourcesDecide → FitReusables model decisions seen → (told : Bool)
+      → MatchBool told (FitReservoirs model decisions seen) (FitReservoirs model decisions seen → ⊥) → MatchBool told (IsLeast model decisions seen) (IsCollapsed model decisions)
+  least_told settled law uses true levels = fits_least settled law uses levels
+  least_told settled law uses false broken = unfit_levels settled law broken

@@ -1,6 +1,6 @@
 //! Whether resources fit.
 
-ghost use Rattle.std.specs.Prelude.{IfOk, MatchBool};
+ghost use Rattle.std.specs.Prelude.{ℕ, IfOk, MatchBool};
 ghost use Rattle.model_core.specs.Lawful.{IsLawful};
 ghost use Rattle.plan_defs.specs.Closure.{IsLeast, IsCollapsed};
 ghost use Rattle.plan_defs.specs.Resources.{FitReusables, FitReservoirs};
@@ -11,7 +11,7 @@ ghost use Rattle.plan_view.specs.Seeing.{seen_state};
 ghost use Rattle.plan_fitting.specs.Touching.{FittedAt};
 
 use super::complete::{are_all_decided, are_all_settled};
-use super::touched::are_uses_as_before;
+use super::touched::{Resources, are_actors_as_before, are_levels_as_before};
 use model_core::decision::Decision;
 use model_core::model::Model;
 use plan_growth::laws::resources_decide;
@@ -82,42 +82,45 @@ fn uses_fit_since(
     requires lawful { IsLawful model.now }
     requires settled { IsSettled model.now decisions.now }
     requires rest { IsAtRest model.now decisions.now store.now.net.tables (snapshot_of store.now) }
-    requires fitted { FittedAt model.now decisions.now last.now store.now mark }
+    requires fitted { (opened : ℕ) × FittedAt model.now decisions.now last.now store.now mark opened }
     ensures { IfOk result (λ fit. MatchBool fit
         (FitReusables model.now decisions.now (seen_state store.now))
         (FitReusables model.now decisions.now (seen_state store.now) → ⊥)) }
 {
     settled_lists_decide_once();
     store.is_sound();
-    if are_uses_as_before(model, store, last, mark)? {
+    if are_actors_as_before(model, store, last, mark, Resources::Reusables)? {
         return Ok(true);
     }
     uses_fit(alloc, model, store, decisions)
 }
 
-// Whether all resources fit, where it is known whether the reusables do.
-fn all_fit(
+// Whether the reservoirs fit, where at the mark they fitted what all decisions but the last left. They are looked at only if
+// tokens were decided or blocks opened since, or something that changes a level may have become other.
+fn levels_fit_since(
     alloc: Global,
     model: &Model,
     store: &Store,
     decisions: &[Decision],
-    used: bool,
+    last: &Decision,
+    mark: Mark,
+    opened: usize,
 ) -> Result<bool, AllocError>
     requires lawful { IsLawful model.now }
     requires settled { IsSettled model.now decisions.now }
     requires rest { IsAtRest model.now decisions.now store.now.net.tables (snapshot_of store.now) }
-    requires used { MatchBool used
-        (FitReusables model.now decisions.now (seen_state store.now))
-        (FitReusables model.now decisions.now (seen_state store.now) → ⊥) }
+    requires fitted { FittedAt model.now decisions.now last.now store.now mark opened }
     ensures { IfOk result (λ fit. MatchBool fit
-        (IsLeast model.now decisions.now (seen_state store.now))
-        (IsCollapsed model.now decisions.now)) }
+        (FitReservoirs model.now decisions.now (seen_state store.now))
+        (FitReservoirs model.now decisions.now (seen_state store.now) → ⊥)) }
 {
     settled_lists_decide_once();
     store.is_sound();
-    resources_decide();
-    if !used {
-        return Ok(false);
+    if !has_reservoir(model) {
+        return Ok(true);
+    }
+    if are_levels_as_before(model, store, last, mark, opened)? {
+        return Ok(true);
     }
     levels_fit(alloc, model, store, decisions)
 }
@@ -137,12 +140,18 @@ pub fn resources_fit(
         (IsLeast model.now decisions.now (seen_state store.now))
         (IsCollapsed model.now decisions.now)) }
 {
-    let used = uses_fit(alloc, model, store, decisions)?;
-    all_fit(alloc, model, store, decisions, used)
+    settled_lists_decide_once();
+    store.is_sound();
+    resources_decide();
+    if !uses_fit(alloc, model, store, decisions)? {
+        return Ok(false);
+    }
+    levels_fit(alloc, model, store, decisions)
 }
 
-/// The same, where at the mark resources fitted what all decisions but the last left: the reusables are looked at only if something
-/// that is used may have become other since.
+/// The same, where at the mark, with so many blocks open, resources fitted what all decisions but the last left. The reusables are
+/// looked at only if something that is used may have become other since, and the reservoirs only if tokens were decided or blocks
+/// opened, or something that changes a level may have become other.
 pub fn resources_fit_since(
     alloc: Global,
     model: &Model,
@@ -150,15 +159,21 @@ pub fn resources_fit_since(
     decisions: &[Decision],
     last: &Decision,
     mark: Mark,
+    opened: usize,
 ) -> Result<bool, AllocError>
     requires lawful { IsLawful model.now }
     requires settled { IsSettled model.now decisions.now }
     requires rest { IsAtRest model.now decisions.now store.now.net.tables (snapshot_of store.now) }
-    requires fitted { FittedAt model.now decisions.now last.now store.now mark }
+    requires fitted { FittedAt model.now decisions.now last.now store.now mark opened }
     ensures { IfOk result (λ fit. MatchBool fit
         (IsLeast model.now decisions.now (seen_state store.now))
         (IsCollapsed model.now decisions.now)) }
 {
-    let used = uses_fit_since(alloc, model, store, decisions, last, mark)?;
-    all_fit(alloc, model, store, decisions, used)
+    settled_lists_decide_once();
+    store.is_sound();
+    resources_decide();
+    if !uses_fit_since(alloc, model, store, decisions, last, mark)? {
+        return Ok(false);
+    }
+    levels_fit_since(alloc, model, store, decisions, last, mark, opened)
 }

@@ -2,8 +2,9 @@
 //! none.
 //!
 //! `resources_fit(alloc, &model, &store, &decisions)?` looks at all reusables, and at the reservoirs if no further token can
-//! come. `resources_fit_since(alloc, &model, &store, &decisions, &last, mark)?` looks at the reusables only if something that tokens use
-//! may have become other since the mark.
+//! come. `resources_fit_since(alloc, &model, &store, &decisions, &last, mark, opened)?` looks at the reusables only if something that
+//! tokens use may have become other since the mark, and at the reservoirs only if a token was decided, a block opened, or something
+//! that changes a level may have become other.
 #![tactic(auto)]
 
 mod complete;

@@ -142,9 +142,10 @@ pub fn take(
 {
     store.is_sound();
     let mark = store.mark();
+    let opened = store.block_count();
     let decision = &decisions[decisions.len() - 1];
     match advance(alloc, store, seating, model, decision) {
-        Ok(()) => resources_fit_since(alloc, model, store, decisions, decision, mark),
+        Ok(()) => resources_fit_since(alloc, model, store, decisions, decision, mark, opened),
         Err(NetFault::Collapsed) => Ok(false),
         Err(NetFault::Memory) => Err(AllocError),
     }

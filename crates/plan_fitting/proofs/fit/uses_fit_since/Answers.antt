@@ -2,12 +2,12 @@ use Rattle.plan_store.specs.Stores.{snapshot_of}
 use Rattle.plan_fitting.proofs.Remaining.{fit_still}
 use Rattle.plan_fitting.proofs.fit.uses_fit_since.Goals as goal
 
-pub are_uses_as_before-requires : goal.are_uses_as_before-requires
-are_uses_as_before-requires c = (snapshot_of c.requires.fitted.former, c.requires.fitted.marked)
+pub are_actors_as_before-requires : goal.are_actors_as_before-requires
+are_actors_as_before-requires c = (snapshot_of c.requires.fitted.1.former, c.requires.fitted.1.marked)
 
 pub returns-then-branch : goal.returns-then-branch
 returns-then-branch c =
-    let fitted = c.requires.fitted in
-    let same = c.in_ok-are_uses_as_before.ensures c.if-branch.true (snapshot_of fitted.former) fitted.marked in
+    let fitted = c.requires.fitted.1 in
+    let same = c.in_ok-are_actors_as_before.ensures c.if-branch.true (snapshot_of fitted.former) fitted.marked in
     fit_still c.args.model.now c.args.decisions.now fitted.earlier c.args.last.now fitted.former c.args.store.now fitted.longer fitted.marked.is c.is_sound.ensures
-    (c.settled_lists_decide_once.ensures c.args.model.now c.args.decisions.now c.requires.settled) c.requires.rest fitted.goes_on same fitted.fit
+    (c.settled_lists_decide_once.ensures c.args.model.now c.args.decisions.now c.requires.settled) c.requires.rest fitted.goes_on same fitted.least.closed.reusables

@@ -34,9 +34,11 @@ resources_fit_since-requires-clause-fitted c =
       former = c.args.store.now;
       marked = c.in-Ok.ensures.marks.marks c.mark-mark.result (snapshot_of c.args.store.now) c.mark-mark.ensures.is;
       goes_on = c.in-Ok.ensures.marks.stamps c.args.store.now (goes_on_same c.args.store.now);
+      blocks = c.block_count-opened.ensures;
       earlier = but_last decisions;
       longer = sym (ends_with c.args.model.now decisions c.requires.admissible decision at);
-      fit = c.requires.least.least.closed.reusables;
+      rest = c.requires.least.rest;
+      least = c.requires.least.least;
     }
 
 pub returns-in-Ok-clause-taken : goal.returns-in-Ok-clause-taken
