@@ -1,6 +1,6 @@
 -- Leaving places out, one after the other.
 use Rattle.std.proofs.Common.{◌≡◌, ◌≢◌, ℕ, suc, zero, ◌+◌, ◌-◌, ◌<◌, ◌≤◌, ℤ, ◌-ℤ◌, ◌⊎◌, inl, inr, ⊎_elim, List, [], ◌∷◌, ◌++◌, length, Option, Some, None, refl, sym, ap, ◌∙◌, subst, arith}
-use Rattle.std.specs.Prelude.{Contains, slice_get, option_to_list}
+use Rattle.std.specs.Prelude.{Contains, All, slice_get, option_to_list}
 use Rattle.std.specs.List.{range_with_len}
 use Rattle.std.proofs.lemmas.Int.{ints}
 use Rattle.std.proofs.lemmas.List.{append-nil, append_assoc}
@@ -14,15 +14,18 @@ use Rattle.temporal_core.specs.Canonical.{places_from}
 use Rattle.temporal_core.proofs.Members.{all_from_contains, get_from_contains, get_below}
 use Rattle.temporal_core.proofs.Walks.{Contains-head, Contains-tail, Contains-cons_cases}
 
--- the values of a settled network, from the origin on, are a schedule
-pub schedule_from_settled : (points : ℕ) (edges : List Edge) (values : List ℤ) → AreSettled points edges values → (value : ℕ → ℤ) × IsSchedule edges value
-schedule_from_settled points edges values settled = (
+-- values that keep the edges are, from the origin on, a schedule
+pub schedule_from_kept : (edges : List Edge) (values : List ℤ) → All (KeepsEdge (value_at values)) edges → (value : ℕ → ℤ) × IsSchedule edges value
+schedule_from_kept edges values keeps = (
   (λ point. value_at values point -ℤ value_at values 0),
   record {
     origin = omega (arith, ints);
-    keeps = All-weaker (KeepsEdge (value_at values)) (KeepsEdge (λ point. value_at values point -ℤ value_at values 0)) (λ edge keeps. omega (arith, ints)) edges settled.keeps;
+    keeps = All-weaker (KeepsEdge (value_at values)) (KeepsEdge (λ point. value_at values point -ℤ value_at values 0)) (λ edge keeps. omega (arith, ints)) edges keeps;
   },
 )
+
+pub schedule_from_settled : (points : ℕ) (edges : List Edge) (values : List ℤ) → AreSettled points edges values → (value : ℕ → ℤ) × IsSchedule edges value
+schedule_from_settled points edges values settled = schedule_from_kept edges values settled.keeps
 
 -- more edges have no schedule either
 pub HasNoSchedule-within : (edges more : List Edge) → ((edge : Edge) → Contains edges edge → Contains more edge) → HasNoSchedule edges → HasNoSchedule more

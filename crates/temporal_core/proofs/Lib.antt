@@ -11,3 +11,4 @@ pub mod Leaving
 pub mod Needed
 pub mod Ordering
 pub mod Following
+pub mod Thinning

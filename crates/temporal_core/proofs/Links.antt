@@ -1,8 +1,9 @@
 -- The links of a graph.
-use Rattle.std.proofs.Common.{◌≡◌, ◌≢◌, ℕ, ◌+◌, ◌≤◌, ⊎_elim, List, [], ◌∷◌, ◌++◌, length, get_or, set, Option, Some, None, sym, ap, ◌∙◌, subst, arith}
+use Rattle.std.proofs.Common.{◌≡◌, ◌≢◌, ℕ, ◌+◌, ◌<◌, ◌≤◌, ⊎_elim, List, [], ◌∷◌, ◌++◌, length, get_or, set, Option, Some, None, sym, ap, ◌∙◌, subst, arith}
 use Rattle.std.specs.Prelude.{slice_get}
 use Rattle.std.proofs.lemmas.List.{length-append, length-set, get_or-set_same, get_or-set_other, get_or_append_left, get_or_at}
-use Rattle.std.proofs.lemmas.List.Elements.{All-push}
+use Rattle.std.proofs.lemmas.Option.{slice_get-get_or, get_or_from_slice_get}
+use Rattle.std.proofs.lemmas.List.Elements.{All-push, All-set}
 use Rattle.std.proofs.lemmas.Bool.{cases_eq, cases_lt}
 use Rattle.temporal_core.specs.declared.edges.Edge.{Edge}
 use Rattle.temporal_core.specs.declared.graph.Graph.{Graph}
@@ -83,3 +84,44 @@ linked points edges edge old new joins graph list earlier latest = record {
       (IsLastFrom-push edges edge edge.from (length edges) (get_or old.latest.items edge.from None) (omega arith) (graph.latest edge.from joins.from)))))
       (cases_lt place (length edges));
 }
+
+module _ (edges : List Edge) (place : ℕ) (edge d : Edge) (within : place < length edges) (same : edge.from ≡ (get_or edges place d).from) where
+  -- after an edge is replaced, each edge begins at the point where the one in its place began
+  began : (k : ℕ) (other : Edge) → slice_get (set edges place edge) k ≡ Some other → (was : Edge) × (slice_get edges k ≡ Some was) × (was.from ≡ other.from)
+  began k other at =
+      let below = get_below (set edges place edge) k other at in
+      let inside : k < length edges = omega (arith, length-set edges place edge) in
+      let here : get_or (set edges place edge) k d ≡ other = get_or_from_slice_get (set edges place edge) k other d at in (
+        get_or edges k d,
+        slice_get-get_or edges k d inside,
+        ⊎_elim
+            (λ is. ap (λ n. (get_or edges n d).from) is ∙ sym same ∙ ap (λ (e : Edge). e.from) (sym (get_or-set_same edges place edge d within) ∙ ap (λ n. get_or (set edges place edge) n d) (sym is) ∙ here))
+            (λ apart. ap (λ (e : Edge). e.from) (sym (get_or-set_other edges place k edge d apart) ∙ here))
+            (cases_eq k place),
+      )
+
+  last_replaced : (point limit : ℕ) (link : Option ℕ) → IsLastFrom edges point limit link → IsLastFrom (set edges place edge) point limit link
+  last_replaced point limit None last = λ k other below at from. let was = began k other at in last k was.0 below was.1 (was.2 ∙ from)
+  last_replaced point limit (Some link) last = (
+    last.0,
+    λ other at. let was = began link other at in sym was.2 ∙ last.1 was.0 was.1,
+    λ k other after below at from. let was = began k other at in last.2 k was.0 after below was.1 (was.2 ∙ from),
+  )
+
+  pub replaced : (points : ℕ) (old new : Graph) → IsEdge points edge → IsGraph points edges old
+      → new.edges.items ≡ set edges place edge → new.earlier.items ≡ old.earlier.items → new.latest.items ≡ old.latest.items → IsGraph points (set edges place edge) new
+  replaced points old new joins graph list earlier latest = record {
+    list = list;
+    each = All-set (IsEdge points) edges place edge joins graph.each;
+    count = ap length earlier ∙ graph.count ∙ sym (length-set edges place edge);
+    points_count = ap length latest ∙ graph.points_count;
+    latest = λ point inside.
+        subst (λ items. IsLastFrom (set edges place edge) point (length (set edges place edge)) (get_or items point None)) (sym latest)
+        (subst (λ n. IsLastFrom (set edges place edge) point n (get_or old.latest.items point None)) (sym (length-set edges place edge))
+        (last_replaced point (length edges) (get_or old.latest.items point None) (graph.latest point inside)));
+    earlier = λ k other at.
+        let was = began k other at in
+        subst (λ items. IsLastFrom (set edges place edge) other.from k (get_or items k None)) (sym earlier)
+        (subst (λ point. IsLastFrom (set edges place edge) point k (get_or old.earlier.items k None)) was.2
+        (last_replaced was.0.from k (get_or old.earlier.items k None) (graph.earlier k was.0 was.1)));
+  }

@@ -1,17 +1,18 @@
 -- Values that keep the edges, before and after a further edge.
-use Rattle.std.proofs.Common.{◌≡◌, ℕ, ◌<◌, ◌≤◌, ℤ, pos, neg_ℤ, ◌+ℤ◌, ◌≤ℤ◌, ◌<ℤ◌, ⊎_elim, Bool, true, false, MatchBool, List, [], ◌∷◌, ◌++◌, length, replicate, refl, sym, ap, ◌∙◌, subst, arith}
-use Rattle.std.specs.Prelude.{Contains, All}
+use Rattle.std.proofs.Common.{◌≡◌, ℕ, ◌<◌, ◌≤◌, ℤ, pos, neg_ℤ, ◌+ℤ◌, ◌≤ℤ◌, ◌<ℤ◌, ⊎_elim, Bool, true, false, MatchBool, List, [], ◌∷◌, ◌++◌, length, replicate, refl, sym, ap, ◌∙◌, subst, true≢false, arith}
+use Rattle.std.specs.Prelude.{Contains, All, IsTrue}
 use Rattle.std.proofs.lemmas.Int.{ints}
 use Rattle.std.proofs.lemmas.List.{get_or_past, get_or-replicate, length-replicate}
 use Rattle.std.proofs.lemmas.Bool.{cases_lt}
 use Rattle.std.proofs.lemmas.List.Elements.{All-push, All-contains, Contains-append_left, Contains-append_cases, Contains-push}
 use Rattle.temporal_core.specs.declared.edges.Edge.{Edge}
 use Rattle.temporal_core.specs.Network.{IsEdge}
-use Rattle.temporal_core.specs.Schedule.{KeepsEdge}
+use Rattle.temporal_core.specs.Schedule.{KeepsEdge, IsSchedule}
 use Rattle.temporal_core.specs.Cycle.{gap_sum}
-use Rattle.temporal_core.specs.Settled.{value_at, Walk, HasPositiveCycle, Raises, Exceeds, AreSettled}
+use Rattle.temporal_core.specs.Settled.{value_at, Walk, HasPositiveCycle, Raises, Exceeds, AreKept, AreSettled}
 use Rattle.temporal_core.proofs.Members.{all_from_contains}
 use Rattle.temporal_core.proofs.Raising.{gap_sum-append}
+use Rattle.temporal_core.proofs.Leaving.{schedule_from_kept}
 use Rattle.temporal_core.proofs.Walks.{Contains-cons_cases, LeadsFrom-append, Path, path_or_cycle, cycle_from_walk, none_keeps, IsSimple-path, simple_is_short, gap_sum_modest}
 
 -- a path is short, so its gaps sum to no more than that, up or down
@@ -41,6 +42,36 @@ settled_modest points edges values few each settled point =
 pub Walk-more : (edges : List Edge) (edge : Edge) (from to : ℕ) → Walk edges from to → Walk (edges ++ edge ∷ []) from to
 Walk-more edges edge from to walk = record { steps = walk.steps; leads = walk.leads; within = λ other among. Contains-append_left edges (edge ∷ []) other (walk.within other among) }
 
+-- an edge that leads back up to its own point
+pub cycle_alone : (edges : List Edge) (edge : Edge) (old : List ℤ) → edge.from ≡ edge.to → value_at old edge.to <ℤ (value_at old edge.from +ℤ edge.gap) → HasPositiveCycle (edges ++ edge ∷ [])
+cycle_alone edges edge old same more = record {
+  cycle = edge ∷ [];
+  within = λ other among. ⊎_elim (λ is. subst (Contains (edges ++ edge ∷ [])) is (Contains-push edges edge)) (λ none. absurd (omega (arith, none.1))) (Contains-cons_cases edge [] other among);
+  closed = sym same;
+  simple = ((λ k d below. absurd (omega arith)), tt);
+  positive = let values = ap (value_at old) same in omega (arith, ints);
+}
+
+-- the edge's second point would have to raise its first
+pub cycle_through : (edges : List Edge) (edge : Edge) (old : List ℤ) (raised : ℤ) → raised ≡ value_at old edge.from +ℤ edge.gap → Exceeds edges edge.to raised edge.from old → HasPositiveCycle (edges ++ edge ∷ [])
+cycle_through edges edge old raised is_raised exceeds =
+    let walk = exceeds.0 in
+    let more = exceeds.1 in
+    let round : Walk (edges ++ edge ∷ []) edge.from edge.from = record {
+      steps = edge ∷ walk.steps;
+      leads = (refl, walk.leads);
+      within = λ other among. ⊎_elim (λ is. subst (Contains (edges ++ edge ∷ [])) is (Contains-push edges edge)) (λ rest. Contains-append_left edges (edge ∷ []) other (walk.within other rest)) (Contains-cons_cases edge walk.steps other among);
+    } in
+    cycle_from_walk (edges ++ edge ∷ []) edge.from round (omega (arith, ints))
+
+-- whether the values could be raised tells whether they keep the edge as well
+pub kept_or_cycle : (edges : List Edge) (edge : Edge) (old : List ℤ) (raised : ℤ) → raised ≡ value_at old edge.from +ℤ edge.gap → (new : List ℤ) (done : Bool)
+    → MatchBool done (Raises edges edge.to raised edge.from old new) (Exceeds edges edge.to raised edge.from old)
+    → MatchBool done (All (KeepsEdge (value_at new)) (edges ++ edge ∷ [])) (HasPositiveCycle (edges ++ edge ∷ []))
+kept_or_cycle edges edge old raised is_raised new true raises =
+    All-push (KeepsEdge (value_at new)) edges edge raises.keeps (let stays = raises.fixed_stays in let enough = raises.started in omega (arith, ints))
+kept_or_cycle edges edge old raised is_raised new false exceeds = cycle_through edges edge old raised is_raised exceeds
+
 module _ (points : ℕ) (edges : List Edge) (edge : Edge) (old : List ℤ) (settled : AreSettled points edges old) where
   -- the values keep the further edge already
   pub settled_already : KeepsEdge (value_at old) edge → AreSettled points (edges ++ edge ∷ []) old
@@ -50,16 +81,6 @@ module _ (points : ℕ) (edges : List Edge) (edge : Edge) (old : List ℤ) (sett
     keeps = All-push (KeepsEdge (value_at old)) edges edge settled.keeps keeps;
     low = settled.low;
     walked = λ point within. let walked = settled.walked point within in (walked.0, Walk-more edges edge walked.0 point walked.1, walked.2);
-  }
-
-  -- an edge that leads back up to its own point
-  pub cycle_alone : edge.from ≡ edge.to → value_at old edge.to <ℤ (value_at old edge.from +ℤ edge.gap) → HasPositiveCycle (edges ++ edge ∷ [])
-  cycle_alone same more = record {
-    cycle = edge ∷ [];
-    within = λ other among. ⊎_elim (λ is. subst (Contains (edges ++ edge ∷ [])) is (Contains-push edges edge)) (λ none. absurd (omega (arith, none.1))) (Contains-cons_cases edge [] other among);
-    closed = sym same;
-    simple = ((λ k d below. absurd (omega arith)), tt);
-    positive = let values = ap (value_at old) same in omega (arith, ints);
   }
 
   module _ (raised : ℤ) (is_raised : raised ≡ value_at old edge.from +ℤ edge.gap) (begins : edge.from < points) where
@@ -95,18 +116,6 @@ module _ (points : ℕ) (edges : List Edge) (edge : Edge) (old : List ℤ) (sett
           (raises.each point);
     }
 
-    -- the edge's second point would have to raise its first
-    pub cycle_through : Exceeds edges edge.to raised edge.from old → HasPositiveCycle (edges ++ edge ∷ [])
-    cycle_through exceeds =
-        let walk = exceeds.0 in
-        let more = exceeds.1 in
-        let round : Walk (edges ++ edge ∷ []) edge.from edge.from = record {
-          steps = edge ∷ walk.steps;
-          leads = (refl, walk.leads);
-          within = λ other among. ⊎_elim (λ is. subst (Contains (edges ++ edge ∷ [])) is (Contains-push edges edge)) (λ rest. Contains-append_left edges (edge ∷ []) other (walk.within other rest)) (Contains-cons_cases edge walk.steps other among);
-        } in
-        cycle_from_walk (edges ++ edge ∷ []) edge.from round (omega (arith, ints))
-
 -- without an edge each point may be at 0
 pub settled_nothing : (points : ℕ) (values : List ℤ) → values ≡ replicate points (pos 0) → AreSettled points [] values
 settled_nothing points values all = record {
@@ -120,12 +129,28 @@ settled_nothing points values all = record {
     nothing point =
         ap (λ xs. value_at xs point) all ∙ ⊎_elim (λ within. get_or-replicate points point (pos 0) (pos 0) within) (λ past. get_or_past (replicate points (pos 0)) point (pos 0) (let n : length (replicate points (pos 0)) ≡ points = length-replicate points (pos 0) in omega arith)) (cases_lt point points)
 
--- after values were raised for the edge, or couldn't be
-pub kept_too : (points : ℕ) (edges : List Edge) (edge : Edge) (old : List ℤ) (settled : AreSettled points edges old) (raised : ℤ) → raised ≡ value_at old edge.from +ℤ edge.gap → edge.from < points
-    → (new : List ℤ) → length new ≡ length old → (done : Bool) → MatchBool done (Raises edges edge.to raised edge.from old new) (Exceeds edges edge.to raised edge.from old)
-    → MatchBool done (AreSettled points (edges ++ edge ∷ []) new) (HasPositiveCycle (edges ++ edge ∷ []))
-kept_too points edges edge old settled raised is_raised begins new count true raises = settled_raised points edges edge old settled raised is_raised begins new count raises
-kept_too points edges edge old settled raised is_raised begins new count false exceeds = cycle_through points edges edge old settled raised is_raised begins exceeds
+-- after values were raised for the edge
+pub settled_too : (points : ℕ) (edges : List Edge) (edge : Edge) (old : List ℤ) (settled : AreSettled points edges old) (raised : ℤ) → raised ≡ value_at old edge.from +ℤ edge.gap → edge.from < points
+    → (new : List ℤ) → length new ≡ length old → (done : Bool) → IsTrue done → MatchBool done (Raises edges edge.to raised edge.from old new) (Exceeds edges edge.to raised edge.from old)
+    → AreSettled points (edges ++ edge ∷ []) new
+settled_too points edges edge old settled raised is_raised begins new count true is raises = settled_raised points edges edge old settled raised is_raised begins new count raises
+settled_too points edges edge old settled raised is_raised begins new count false is exceeds = absurd (true≢false (sym is))
+
+-- settled values can be raised
+pub settled_kept : (points : ℕ) (edges : List Edge) (values : List ℤ) → points ≤ 65536 → All (IsEdge points) edges → AreSettled points edges values → AreKept points edges values
+settled_kept points edges values few each settled = record {
+  few = few;
+  count = settled.count;
+  keeps = settled.keeps;
+  low = settled.low;
+  high = settled_modest points edges values few each settled;
+}
+
+-- where all values keep the edges there is a schedule, or there is a cycle
+pub schedule_or_cycle : (edges : List Edge) (values : List ℤ) (done : Bool) → MatchBool done (All (KeepsEdge (value_at values)) edges) (HasPositiveCycle edges)
+    → MatchBool done ((value : ℕ → ℤ) × IsSchedule edges value) (HasPositiveCycle edges)
+schedule_or_cycle edges values true keeps = schedule_from_kept edges values keeps
+schedule_or_cycle edges values false found = found
 
 -- a further edge takes no cycle away
 pub HasPositiveCycle-within : (edges more : List Edge) → ((edge : Edge) → Contains edges edge → Contains more edge) → HasPositiveCycle edges → HasPositiveCycle more

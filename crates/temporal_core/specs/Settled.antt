@@ -143,3 +143,15 @@ pub record IsSettledGraph (points : ℕ) (edges : List Edge) (settled : Settled)
   pub few : points ≤ 65536
   pub graph : IsGraph points edges settled.graph
   pub values : AreSettled points edges settled.values.items
+
+-- no more than this is the sum of the gaps along a walk that comes to no point twice
+abbrev pub highest : ℤ
+highest = pos 131072000000
+
+-- values to which raising one of them can be tried: they keep the edges, and none is far up
+pub record AreKept (points : ℕ) (edges : List Edge) (values : List ℤ) : Type 0 where
+  pub few : points ≤ 65536
+  pub count : length values ≡ points
+  pub keeps : All (KeepsEdge (value_at values)) edges
+  pub low : (point : ℕ) → pos 0 ≤ℤ value_at values point
+  pub high : (point : ℕ) → value_at values point ≤ℤ highest

@@ -194,8 +194,9 @@ fn greatest_values(
 
 /// The least and the greatest value of each point over all schedules of the edges.
 ///
-/// It takes a shortest-path computation in each direction. Where there is no schedule it takes about one more for each
-/// edge of the cycle.
+/// It takes a shortest-path computation in each direction. Where there is no schedule it takes two, and then for each
+/// edge of the cycle a few tries to raise values: about as many as the logarithm of how many edges before it are left
+/// out.
 pub fn bounds(edges: &Edges) -> Result<TimeBounds, TimeFault>
     ensures ok { IfOk result (AreBounds edges.now) }
     ensures err { IfErr result (IsNoBounds edges.now) }

@@ -1,69 +1,105 @@
 //! The cycle that is told where there is no schedule.
 //!
 //! From first to last an edge is left out if the others still have no schedule. So the next edge that stays is the last
-//! one from which on, together with those that stay already, the edges have no schedule. It is found by putting the
-//! edges in from the last one down until there is no schedule.
+//! one from which on, together with those that stay already, the edges have no schedule. The first one is found by
+//! putting the edges in from the last one down until there is no schedule. Those behind it have values that keep them,
+//! so which of these stay is told by trying to raise the values for the first one as well.
 
-ghost use Rattle.std.specs.Prelude.{◌≡◌, ℕ, ◌+◌, ◌<◌, ◌≤◌, ◌++◌, List, length, All, Contains, IfOk, MatchOption};
+ghost use Rattle.std.specs.Prelude.{◌≡◌, ℕ, ℤ, ◌+◌, ◌<◌, ◌≤◌, [], ◌∷◌, List, length, All, Contains, IfOk, MatchBool};
 ghost use Rattle.temporal_core.specs.Network.{IsEdge};
-ghost use Rattle.temporal_core.specs.Schedule.{HasNoSchedule};
-ghost use Rattle.temporal_core.specs.Cycle.{edges_at, IsCanonicalCycle};
-ghost use Rattle.temporal_core.specs.Settled.{IsSettledGraph, HasPositiveCycle};
-ghost use Rattle.temporal_core.specs.Canonical.{edge_at, places_from, IsNextNeeded, AreNeeded, IsCycleOf};
+ghost use Rattle.temporal_core.specs.Schedule.{IsSchedule, HasNoSchedule};
+ghost use Rattle.temporal_core.specs.Cycle.{edges_at, LeavesNeeded, IsCanonicalCycle};
+ghost use Rattle.temporal_core.specs.Settled.{HasPositiveCycle};
+ghost use Rattle.temporal_core.specs.Canonical.{edge_at, IsThinned, IsNextNeeded, AreNeeded, IsCycleOf};
 
 use super::edges::Edge;
 use super::settled::Settled;
+use super::thinned::{next_needed, thinned_from};
 use std::alloc::{AllocError, Global};
 
-// Values that keep the edges at these places; None where there is no schedule.
-fn settle_kept(
+// Whether the edges at these places have a schedule.
+fn have_schedule(
     alloc: Global,
     points: usize,
     edges: &[Edge],
     kept: &[u32],
-) -> Result<Option<Settled>, AllocError>
+) -> Result<bool, AllocError>
     requires few { points ≤ 65536 }
     requires edges { All (IsEdge points) edges.now }
     requires kept { All (λ place. place < length edges.now) kept.now }
-    ensures { IfOk result (λ answer. MatchOption answer
-        (HasPositiveCycle (edges_at edges.now kept.now)) (IsSettledGraph points (edges_at edges.now kept.now))) }
+    ensures { IfOk result (λ have. MatchBool have
+        ((value : ℕ → ℤ) × IsSchedule (edges_at edges.now kept.now) value)
+        (HasPositiveCycle (edges_at edges.now kept.now))) }
 {
     let mut settled = Settled::new(alloc, points)?;
     for place in kept {
         if !settled.insert(edges[*place as usize])? {
-            return Ok(None);
+            return Ok(false);
         }
     }
-    Ok(Some(settled))
+    Ok(true)
 }
 
-// The last place from which on the edges have no schedule together with those that stay; None where those that stay
-// have none alone.
-fn next_needed(
-    alloc: Global,
-    points: usize,
-    edges: &[Edge],
-    kept: &[u32],
-    first: usize,
-) -> Result<Option<u32>, AllocError>
+// The last place from which on the edges have no schedule.
+fn first_needed(alloc: Global, points: usize, edges: &[Edge]) -> Result<u32, AllocError>
     requires few { points ≤ 65536 }
     requires edges { All (IsEdge points) edges.now }
     requires count { length edges.now < 4294967296 }
-    requires kept { All (λ place. place < length edges.now) kept.now }
-    requires first { first ≤ length edges.now }
-    requires none { HasNoSchedule (edges_at edges.now (kept.now ++ places_from first (length edges.now))) }
-    ensures { IfOk result (λ answer. MatchOption answer
-        (HasPositiveCycle (edges_at edges.now kept.now)) (IsNextNeeded edges.now kept.now first)) }
+    requires none { HasNoSchedule edges.now }
+    ensures { IfOk result (IsNextNeeded edges.now [] 0) }
 {
-    let Some(mut settled) = settle_kept(alloc, points, edges, kept)? else {
-        return Ok(None);
-    };
-    for place in (first..edges.len()).rev() {
+    let mut settled = Settled::new(alloc, points)?;
+    for place in (0..edges.len()).rev() {
         if !settled.insert(edges[place])? {
-            return Ok(Some(place as u32));
+            return Ok(place as u32);
         }
     }
     unreachable!()
+}
+
+// The places of the needed edges, of which this is the first. As many are left out before one of them as before
+// another where tokens have the same edges, so that many are tried at once.
+fn needed_behind(
+    alloc: Global,
+    edges: &[Edge],
+    first: u32,
+    thinned: &mut Settled,
+) -> Result<Vec<u32>, AllocError>
+    requires count { length edges.now < 4294967296 }
+    requires first { IsNextNeeded edges.now [] 0 first }
+    requires thinned { IsThinned (length thinned.old.values.items) edges.now (first ∷ []) (first + 1) thinned.old }
+    ensures within { IfOk result (λ kept. All (λ place. place < length edges.now) kept.items) }
+    ensures leaves { IfOk result (λ kept. LeavesNeeded edges.now kept.items) }
+    ensures none { IfOk result (λ kept. HasNoSchedule (edges_at edges.now kept.items)) }
+{
+    let mut kept = vec![in alloc; first]?;
+    let mut next = first as usize + 1;
+    let mut many = 0;
+    while let Some(place) = next_needed(edges, &kept, next, many, thinned)? {
+        kept.push(place)?;
+        many = place as usize - next;
+        next = place as usize + 1;
+    }
+    Ok(kept)
+}
+
+// The places of the needed edges, of which this is the first.
+fn needed_from(
+    alloc: Global,
+    points: usize,
+    edges: &[Edge],
+    first: u32,
+) -> Result<Vec<u32>, AllocError>
+    requires few { points ≤ 65536 }
+    requires edges { All (IsEdge points) edges.now }
+    requires count { length edges.now < 4294967296 }
+    requires first { IsNextNeeded edges.now [] 0 first }
+    ensures within { IfOk result (λ kept. All (λ place. place < length edges.now) kept.items) }
+    ensures leaves { IfOk result (λ kept. LeavesNeeded edges.now kept.items) }
+    ensures none { IfOk result (λ kept. HasNoSchedule (edges_at edges.now kept.items)) }
+{
+    let mut thinned = thinned_from(alloc, points, edges, first as usize)?;
+    needed_behind(alloc, edges, first, &mut thinned)
 }
 
 // The places that are left where from first to last each is left out if the others have no schedule.
@@ -74,11 +110,11 @@ fn needed(alloc: Global, points: usize, edges: &[Edge]) -> Result<Vec<u32>, Allo
     requires none { HasNoSchedule edges.now }
     ensures { IfOk result (λ kept. AreNeeded edges.now kept.items) }
 {
-    let mut kept = Vec::new(alloc);
-    let mut first = 0;
-    while let Some(place) = next_needed(alloc, points, edges, &kept, first)? {
-        kept.push(place)?;
-        first = place as usize + 1;
+    let first = first_needed(alloc, points, edges)?;
+    let kept = needed_from(alloc, points, edges, first)?;
+    // They have none, and so a positive cycle, which this call finds.
+    if have_schedule(alloc, points, edges, &kept)? {
+        unreachable!();
     }
     Ok(kept)
 }

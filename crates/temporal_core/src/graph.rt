@@ -1,8 +1,9 @@
 //! Edges that can be gone through by the point that they begin at.
 
-ghost use Rattle.std.specs.Prelude.{ℕ, List, [], ◌∷◌, ◌++◌, length, IfOk, OnOk};
+ghost use Rattle.std.specs.Prelude.{◌≡◌, ℕ, ◌<◌, List, [], ◌∷◌, ◌++◌, length, slice_set, IfOk, OnOk};
 ghost use Rattle.temporal_core.specs.declared.edges.Edge.{Edge as AnEdge};
 ghost use Rattle.temporal_core.specs.Network.{IsEdge};
+ghost use Rattle.temporal_core.specs.Canonical.{edge_at};
 ghost use Rattle.temporal_core.specs.Settled.{IsGraph};
 
 use super::edges::Edge;
@@ -41,5 +42,16 @@ impl Graph {
         self.edges.push(edge)?;
         self.latest[from] = Some(place);
         Ok(())
+    }
+
+    /// Puts another edge from the same point in the place of one.
+    pub fn replace(&mut self, place: usize, edge: Edge)
+        requires { place < length self.old.edges.items }
+        ensures edges { self.new.edges.items ≡ slice_set self.old.edges.items place edge }
+        ensures graph { (points : ℕ) → IsEdge points edge → edge.from ≡ (edge_at self.old.edges.items place).from
+            → IsGraph points self.old.edges.items self.old
+            → IsGraph points (slice_set self.old.edges.items place edge) self.new }
+    {
+        self.edges[place] = edge;
     }
 }

@@ -10,6 +10,7 @@ pub mod cycle;
 pub mod edges;
 mod graph;
 mod settled;
+mod thinned;
 
 pub use bounds::{TimeBounds, TimeFault};
 pub use cycle::check_cycle;

@@ -2,12 +2,12 @@
 //! others: shortest distances by Bellman and Ford with a work list, where the work begins with one edge.
 
 ghost use Rattle.std.specs.Prelude.{◌≢◌, ℕ, ◌+◌, ◌<◌, ◌≤◌, ℤ, pos, neg_ℤ, ◌≤ℤ◌, ◌<ℤ◌, [], ◌∷◌, ◌++◌, length, All, IfOk};
-ghost use Rattle.std.specs.Prelude.{MatchBool, MatchOption, ⊤};
+ghost use Rattle.std.specs.Prelude.{IsTrue, MatchBool, MatchOption, ⊤};
 ghost use Rattle.temporal_core.specs.Network.{IsEdge};
-ghost use Rattle.temporal_core.specs.Schedule.{KeepsEdge};
+ghost use Rattle.temporal_core.specs.Schedule.{KeepsEdge, IsSchedule};
 ghost use Rattle.temporal_core.specs.Settled.{IsGraph, value_at, far, RaisesEnd, RaisesFrom, IsStopped, Raises};
 ghost use Rattle.temporal_core.specs.Settled.{Exceeds};
-ghost use Rattle.temporal_core.specs.Settled.{AreModest, AreSettled, IsSettledGraph, HasPositiveCycle};
+ghost use Rattle.temporal_core.specs.Settled.{AreKept, AreModest, AreSettled, IsSettledGraph, HasPositiveCycle};
 
 use super::edges::Edge;
 use super::graph::Graph;
@@ -113,13 +113,15 @@ fn keep_too(
     values: &mut [i64],
     edge: Edge,
 ) -> Result<bool, AllocError>
-    requires few { length values.old ≤ 65536 }
     requires graph { IsGraph (length values.old) graph.now.edges.items graph.now }
-    requires settled { AreSettled (length values.old) graph.now.edges.items values.old }
+    requires values { AreKept (length values.old) graph.now.edges.items values.old }
     requires edge { IsEdge (length values.old) edge }
-    ensures { IfOk result (λ done. MatchBool done
-        (AreSettled (length values.old) (graph.now.edges.items ++ edge ∷ []) values.new)
+    ensures kept { IfOk result (λ done. MatchBool done
+        (All (KeepsEdge (value_at values.new)) (graph.now.edges.items ++ edge ∷ []))
         (HasPositiveCycle (graph.now.edges.items ++ edge ∷ []))) }
+    ensures settled { IfOk result (λ done. IsTrue done
+        → AreSettled (length values.old) graph.now.edges.items values.old
+        → AreSettled (length values.old) (graph.now.edges.items ++ edge ∷ []) values.new) }
 {
     let from = edge.from as usize;
     let to = edge.to as usize;
@@ -160,6 +162,21 @@ impl Settled {
         }
         self.graph.link(edge)?;
         Ok(true)
+    }
+
+    /// Whether there are values that keep one more edge as well. It is found by raising a copy of the values.
+    pub fn can_keep(&self, edge: Edge) -> Result<bool, AllocError>
+        requires graph { IsGraph (length self.now.values.items) self.now.graph.edges.items self.now.graph }
+        requires values { AreKept (length self.now.values.items) self.now.graph.edges.items self.now.values.items }
+        requires edge { IsEdge (length self.now.values.items) edge }
+        ensures { IfOk result (λ done. MatchBool done
+            ((value : ℕ → ℤ) × IsSchedule (self.now.graph.edges.items ++ edge ∷ []) value)
+            (HasPositiveCycle (self.now.graph.edges.items ++ edge ∷ []))) }
+    {
+        let alloc = *self.values.allocator();
+        let mut tried = self.values.clone()?;
+        let done = keep_too(alloc, &self.graph, &mut tried, edge)?;
+        Ok(done)
     }
 }
 

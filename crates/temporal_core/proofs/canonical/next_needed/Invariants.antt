@@ -1,8 +1,0 @@
-use Rattle.std.proofs.Common.{◌++◌, length}
-use Rattle.temporal_core.specs.Cycle.{edges_at}
-use Rattle.temporal_core.specs.Canonical.{places_from}
-use Rattle.temporal_core.proofs.Needed.{IsSettledWith}
-use Rattle.temporal_core.proofs.canonical.next_needed.Given as goal
-
-abbrev pub invariant-loop-place : goal.invariant-loop-place
-invariant-loop-place l = IsSettledWith l.points (edges_at l.edges (l.kept ++ places_from l.place (length l.edges))) l.settled
