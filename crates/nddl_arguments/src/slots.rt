@@ -4,6 +4,7 @@ ghost use Rattle.std.specs.Prelude.{◌≡◌, IfOk, OnOk};
 ghost use Rattle.nddl_scope.specs.Finding.{earliest_fault};
 ghost use Rattle.nddl_lines.specs.Facts.{facts_of};
 ghost use Rattle.nddl_paths.specs.Paths.{around_of};
+ghost use Rattle.nddl_paths.specs.Seen.{seen_in};
 ghost use Rattle.nddl_arguments.specs.Slots.{ask_faults, is_label, is_name_seen, label_faults, labelled_slot, own_slot, related_faults, relation_faults, unwanted_faults};
 
 use super::arguments::note_understood;
@@ -15,7 +16,9 @@ use nddl_ast::name::{Name, Path};
 use nddl_ast::statement::Ask;
 use nddl_lines::Basis;
 use nddl_paths::steps::{token_step, unknown_at};
-use nddl_paths::{Around, Denoted, PathFault, Seen, asked_token, expr_denoted, path_denoted};
+use nddl_paths::{
+    Around, Denoted, PathFault, Seen, SeenNames, asked_token, expr_denoted, path_denoted,
+};
 use nddl_scope::Fault;
 use nddl_scope::fault::note_at;
 use std::alloc::{AllocError, Global};
@@ -32,13 +35,24 @@ fn is_name_seen(name: &Text, some: &[Seen]) -> bool
     false
 }
 
+// The same in a list, if there is one.
+#[tactic(auto, using(crate::proofs::Labels::found_is_seen))]
+fn is_name_in(name: &Text, some: Option<&SeenNames>) -> bool
+    ensures { result ≡ is_name_seen name.now (seen_in some.entry) }
+{
+    match some {
+        Some(names) => names.last(name).is_some(),
+        None => false,
+    }
+}
+
 // Whether the name is the label of a slot.
 fn is_label(around: &Around<'_>, name: &Text) -> bool
     ensures { result ≡ is_label (around_of around.now) name.now }
 {
     let is_hidden = is_name_seen(name, around.formals)
-        || (is_name_seen(name, around.turns) || is_name_seen(name, around.locals));
-    !is_hidden && is_name_seen(name, around.labels)
+        || (is_name_in(name, around.turns) || is_name_in(name, around.locals));
+    !is_hidden && is_name_in(name, around.labels)
 }
 
 // Notes what is wrong with what isn't wanted where it stands.

@@ -54,8 +54,7 @@ pub fn note_block(
         &mut own,
         first,
     )?;
-    visible.forget(until);
-    Ok(())
+    visible.forget(until)
 }
 
 // Notes what is wrong with statements of a block, where those names are declared in it before.
@@ -161,8 +160,7 @@ fn note_turns(
     let turn = note_class(basis, decl, class, first);
     visible.see_turn(variable, turn)?;
     note_block(alloc, basis, decl, body, visible, first)?;
-    visible.forget(until);
-    Ok(())
+    visible.forget(until)
 }
 
 // Notes what is wrong with the class of a `foreach`. Answers what its variable means.

@@ -4,6 +4,7 @@ ghost use Rattle.std.specs.Prelude.{◌≡◌, None, IfOk, OnOk, map};
 ghost use Rattle.std.specs.List.{flat_map};
 ghost use Rattle.nddl_scope.specs.Finding.{earliest_fault};
 ghost use Rattle.nddl_lines.specs.Facts.{facts_of};
+ghost use Rattle.nddl_blocks.specs.Seeing.{token_alone};
 ghost use Rattle.nddl_blocks.specs.Rules.{all_rule_faults, class_rule_faults, decl_rule_faults, member_rule_faults, member_token, members_rule_faults, part_rule_faults, rule_faults, rule_token, token_named, token_rule_faults, token_unless};
 
 use super::blocks::note_block;
@@ -198,11 +199,27 @@ fn note_member(
 {
     match member {
         Member::Predicate { parts, .. } => {
-            let visible = Visible::new(alloc, member_token(entry, place));
-            note_parts(alloc, basis, decl, parts.as_slice(), &visible, first)
+            let token = member_token(entry, place);
+            note_body(alloc, basis, decl, token, parts.as_slice(), first)
         }
         _ => Ok(()),
     }
+}
+
+// Notes what is wrong with the constraints in the body of the predicate of this token.
+fn note_body(
+    alloc: Global,
+    basis: &Basis<'_>,
+    decl: usize,
+    token: TokenSort,
+    parts: &[PredicatePart],
+    first: &mut Option<Fault>,
+) -> Result<(), AllocError>
+    ensures { OnOk result (first.new ≡ earliest_fault first.old
+        (flat_map (part_rule_faults (facts_of basis.now) decl (token_alone token)) parts.now)) }
+{
+    let visible = Visible::new(alloc, token);
+    note_parts(alloc, basis, decl, parts, &visible, first)
 }
 
 // The token of the predicate that the class declares as its member of this place.
@@ -215,7 +232,7 @@ fn member_token(entry: usize, member: usize) -> TokenSort
     }
 }
 
-// Notes what is wrong with the constraints in the body of a predicate.
+// The same over what is seen there.
 #[tactic(auto, using(nddl_scope::proofs::Earliest::earliest_append))]
 fn note_parts(
     alloc: Global,

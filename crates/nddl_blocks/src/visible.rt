@@ -1,11 +1,11 @@
 //! What names mean in a block of a rule.
 
-ghost use Rattle.std.specs.Prelude.{◌≡◌, ◌++◌, ◌∷◌, [], OnOk};
+ghost use Rattle.std.specs.Prelude.{◌≡◌, OnOk};
 ghost use Rattle.nddl_paths.specs.Paths.{around_of};
-ghost use Rattle.nddl_blocks.specs.Seeing.{seen_as, seen_until, token_alone, until_of, seeing_label, seeing_local, seeing_turn};
+ghost use Rattle.nddl_blocks.specs.Seeing.{seen_until, token_alone, until_of, seeing_label, seeing_local, seeing_turn};
 
 use nddl_ast::name::Name;
-use nddl_paths::{Around, Denoted, Seen, TokenSort};
+use nddl_paths::{Around, Denoted, SeenNames, TokenSort};
 use std::alloc::{AllocError, Global};
 use std::marker::Model;
 
@@ -13,9 +13,9 @@ use std::marker::Model;
 /// rule it is.
 #[derive(Drop)]
 pub struct Visible {
-    turns: Vec<Seen>,
-    locals: Vec<Seen>,
-    labels: Vec<Seen>,
+    turns: SeenNames,
+    locals: SeenNames,
+    labels: SeenNames,
     token: Option<TokenSort>,
 }
 
@@ -35,9 +35,9 @@ impl Model for Visible {
 
     ghost view = { λ inside. record {
       formals = [];
-      turns = inside.turns.items;
-      locals = inside.locals.items;
-      labels = inside.labels.items;
+      turns = inside.turns;
+      locals = inside.locals;
+      labels = inside.labels;
       token = inside.token;
     } };
 }
@@ -48,9 +48,9 @@ impl Visible {
         ensures { result ≡ token_alone token }
     {
         Visible {
-            turns: Vec::new(alloc),
-            locals: Vec::new(alloc),
-            labels: Vec::new(alloc),
+            turns: SeenNames::new(alloc),
+            locals: SeenNames::new(alloc),
+            labels: SeenNames::new(alloc),
             token: Some(token),
         }
     }
@@ -60,9 +60,9 @@ impl Visible {
     {
         Around {
             formals: &[],
-            turns: self.turns.as_slice(),
-            locals: self.locals.as_slice(),
-            labels: self.labels.as_slice(),
+            turns: Some(&self.turns),
+            locals: Some(&self.locals),
+            labels: Some(&self.labels),
             token: self.token,
         }
     }
@@ -71,21 +71,21 @@ impl Visible {
     pub fn see_turn(&mut self, name: &Name, meant: Denoted) -> Result<(), AllocError>
         ensures { OnOk result (self.new ≡ seeing_turn self.old name.now meant) }
     {
-        see(&mut self.turns, name, meant)
+        self.turns.push(&name.text, meant)
     }
 
     /// A local more.
     pub fn see_local(&mut self, name: &Name, meant: Denoted) -> Result<(), AllocError>
         ensures { OnOk result (self.new ≡ seeing_local self.old name.now meant) }
     {
-        see(&mut self.locals, name, meant)
+        self.locals.push(&name.text, meant)
     }
 
     /// A label more.
     pub fn see_label(&mut self, name: &Name, meant: Denoted) -> Result<(), AllocError>
         ensures { OnOk result (self.new ≡ seeing_label self.old name.now meant) }
     {
-        see(&mut self.labels, name, meant)
+        self.labels.push(&name.text, meant)
     }
 
     /// How many of each sort are seen.
@@ -99,24 +99,12 @@ impl Visible {
         }
     }
 
-    /// Without those that came since then.
-    pub fn forget(&mut self, until: SeenUntil)
-        ensures { self.new ≡ seen_until self.old until }
+    /// Without those that came since then. Without memory some of them may be left.
+    pub fn forget(&mut self, until: SeenUntil) -> Result<(), AllocError>
+        ensures { OnOk result (self.new ≡ seen_until self.old until) }
     {
-        self.turns.truncate(until.turns);
-        self.locals.truncate(until.locals);
-        self.labels.truncate(until.labels);
+        self.turns.truncate(until.turns)?;
+        self.locals.truncate(until.locals)?;
+        self.labels.truncate(until.labels)
     }
-}
-
-// The name with what it means behind the others.
-fn see(seen: &mut Vec<Seen>, name: &Name, meant: Denoted) -> Result<(), AllocError>
-    ensures { OnOk result (seen.new.items ≡ seen.old.items ++ seen_as name.now meant ∷ []) }
-{
-    let text = name.text.copy()?;
-    seen.push(Seen {
-        name: text,
-        denoted: meant,
-    })?;
-    Ok(())
 }

@@ -30,9 +30,9 @@ pub fn around_formals(formals: &[Seen]) -> Around<'_>
 {
     Around {
         formals,
-        turns: &[],
-        locals: &[],
-        labels: &[],
+        turns: None,
+        locals: None,
+        labels: None,
         token: None,
     }
 }

@@ -3,14 +3,17 @@
 ghost use Rattle.std.specs.Prelude.{◌≡◌, ◌++◌, ◌∷◌, [], Some, IfOk, OnOk, map};
 ghost use Rattle.nddl_sorts.specs.declared.kind.TypeKind.TheVariants.{Int};
 ghost use Rattle.std.specs.Option.{option_copied};
+ghost use Rattle.nddl_lines.specs.Ancestors.{ancestry};
 ghost use Rattle.nddl_lines.specs.Facts.{facts_of};
-ghost use Rattle.nddl_constructors.specs.Wants.{builtin_along, builtin_wants, class_wants, formal_kind, line_formals, line_wants, member_formals, own_formals};
+ghost use Rattle.nddl_inherited.specs.Inherited.{members_of};
+ghost use Rattle.nddl_constructors.specs.Wants.{builtin_along, builtin_wants, class_wants, formal_kind, line_formals, member_formals, own_formals};
 
 use eu_name::sequence::Sequence;
 use nddl_ast::declaration::{Decl, Member, Typed};
 use nddl_inherited::members_of;
 use nddl_lines::Basis;
 use nddl_lines::lines::{above, ancestry};
+use nddl_lines::parents::parent_in;
 use nddl_scope::{Meaning, Scope};
 use nddl_sorts::TypeKind;
 use nddl_sorts::base::base_kind;
@@ -27,26 +30,25 @@ pub fn class_wants(
 {
     match class {
         Meaning::BuiltIn(number) => builtin_wants(alloc, number),
-        Meaning::Entry(entry) => {
-            let line = ancestry(alloc, basis.parents, entry)?;
-            line_wants(alloc, basis, line.as_slice())
-        }
+        Meaning::Entry(entry) => match formals_above(basis, entry) {
+            Some(formals) => formal_kinds(alloc, basis, formals.as_slice()),
+            None => builtin_wants_above(alloc, basis, entry),
+        },
     }
 }
 
-// Those that a class with this line wants.
-fn line_wants(
+// Those that the built-in class wants that the class of this number leads up to.
+fn builtin_wants_above(
     alloc: Global,
     basis: &Basis<'_>,
-    line: &[usize],
+    entry: usize,
 ) -> Result<Vec<Option<TypeKind>>, AllocError>
-    ensures { IfOk result (λ wants. wants.items ≡ line_wants (facts_of basis.now) line.now) }
+    ensures { IfOk result (λ wants. wants.items ≡ builtin_wants (builtin_along (facts_of basis.now).names
+        (facts_of basis.now).program (ancestry (facts_of basis.now).parents entry))) }
 {
-    let scope = basis.types.scope;
-    match line_formals(scope, basis.decls, line) {
-        Some(formals) => formal_kinds(alloc, basis, formals.as_slice()),
-        None => builtin_wants(alloc, builtin_along(scope, basis.decls, line)),
-    }
+    let line = ancestry(alloc, basis.parents, entry)?;
+    let number = builtin_along(basis.types.scope, basis.decls, line.as_slice());
+    builtin_wants(alloc, number)
 }
 
 // The kinds of these formals.
@@ -87,20 +89,47 @@ fn push_levels(wants: &mut Vec<Option<TypeKind>>) -> Result<(), AllocError>
     Ok(())
 }
 
-// The formals of the first class of the line that has a constructor.
-fn line_formals<'a>(
+// The formals of the first class that has a constructor, from the class of this number up. The line isn't gathered, since
+// this is asked of each class of it, and each may have a constructor.
+fn formals_above<'a>(basis: &Basis<'a>, entry: usize) -> Option<&'a Sequence<Typed>>
+    ensures { option_copied result ≡ line_formals (facts_of basis.now).names (facts_of basis.now).program
+        (ancestry (facts_of basis.now).parents entry) }
+{
+    formals_along(
+        basis.types.scope,
+        basis.decls,
+        basis.parents.as_slice(),
+        entry,
+    )
+}
+
+// The same, where the classes stand under these.
+fn formals_along<'a>(
     scope: &Scope,
     decls: &[&'a Decl],
-    line: &[usize],
+    parents: &[Option<usize>],
+    entry: usize,
 ) -> Option<&'a Sequence<Typed>>
-    ensures { option_copied result ≡ line_formals scope.now (map (λ decl. decl.now) decls.now) line.now }
+    ensures { option_copied result ≡ line_formals scope.now (map (λ decl. decl.now) decls.now) (ancestry parents.now entry) }
 {
-    for entry in line {
-        if let Some(formals) = own_formals(members_of(scope, decls, *entry)) {
-            return Some(formals);
+    let mut next = Some(entry);
+    for _ in 0..parents.len() {
+        match next {
+            Some(here) => match formals_at(scope, decls, here) {
+                Some(formals) => return Some(formals),
+                None => next = parent_in(parents, here),
+            },
+            None => return None,
         }
     }
     None
+}
+
+// The formals of the constructor of the class of this number, if it has one.
+fn formals_at<'a>(scope: &Scope, decls: &[&'a Decl], entry: usize) -> Option<&'a Sequence<Typed>>
+    ensures { option_copied result ≡ own_formals (members_of scope.now (map (λ decl. decl.now) decls.now) entry) }
+{
+    own_formals(members_of(scope, decls, entry))
 }
 
 // The formals of the first constructor among the members.

@@ -2,7 +2,7 @@
 
 ghost use Rattle.std.specs.Prelude.{◌≡◌, ℕ, ◌-◌, ◌++◌, List, ◌∷◌, [], OnOk, OnErr, length, take, if◌then◌else◌};
 ghost use Rattle.std.specs.Str.{bytes_eq};
-ghost use Rattle.nddl_hiding.specs.Hiding.{AreIndexed, indexed_number, last_number, seen_pairs};
+ghost use Rattle.nddl_hiding.specs.Hiding.{AreIndexed, indexed_meaning, last_meaning, seen_pairs};
 
 use eu_name::laws::names_are_told_apart;
 use eu_name::text::Text;
@@ -10,37 +10,37 @@ use indexmap::IndexMap;
 use std::alloc::{AllocError, Global};
 use std::marker::Model;
 
-/// A name that is seen, with its number, and the number of the one that it hides.
+/// A name that is seen, with what it means, and what the one means that it hides.
 #[derive(Drop)]
-pub struct SeenName {
+pub struct SeenName<T> {
     pub name: Text,
-    pub number: u32,
-    pub hidden: Option<u32>,
+    pub meaning: T,
+    pub hidden: Option<T>,
 }
 
-/// Names with their numbers, the innermost last.
+/// Names with what they mean, the innermost last.
 #[derive(Drop)]
-pub struct Innermost {
-    seen: Vec<SeenName>,
-    // The number of the last of each name, or none where all of them are forgotten.
-    last: IndexMap<Text, Option<u32>>,
+pub struct Innermost<T> {
+    seen: Vec<SeenName<T>>,
+    // What the last of each name means, or nothing where all of them are forgotten.
+    last: IndexMap<Text, Option<T>>,
 }
 
-impl Model for Innermost {
-    ghost use Rattle.nddl_scope.specs.Index.{Noted};
+impl<T> Model for Innermost<T> {
+    ghost use Rattle.nddl_hiding.specs.Hiding.{AreIndexed, Meant, meant_code, seen_pairs};
 
-    ghost Value = { Noted };
+    ghost Value = { Meant T };
 
-    ghost use Rattle.nddl_hiding.specs.Hiding.{AreIndexed, seen_pairs};
+    ghost coded = { meant_code T.code };
 
     ghost view = { λ inside. seen_pairs inside.seen.items };
 
     ghost invariant = { λ inside. AreIndexed inside.last.entries inside.seen.items };
 }
 
-impl Innermost {
+impl<T: Copy + Drop> Innermost<T> {
     /// No names, which take no memory.
-    pub fn new(alloc: Global) -> Innermost
+    pub fn new(alloc: Global) -> Innermost<T>
         ensures { result ≡ [] }
     {
         Innermost {
@@ -49,19 +49,19 @@ impl Innermost {
         }
     }
 
-    /// The number of the innermost of this name.
-    pub fn find(&self, name: &Text) -> Option<u32>
-        ensures { result ≡ last_number name.now self.now }
+    /// What the innermost of this name means.
+    pub fn find(&self, name: &Text) -> Option<T>
+        ensures { result ≡ last_meaning name.now self.now }
     {
         indexed(&self.last, name)
     }
 
     /// One more, which hides others of its name.
-    pub fn push(&mut self, name: &Text, number: u32) -> Result<(), AllocError>
-        ensures { OnOk result (self.new ≡ self.old ++ (name.now, number) ∷ []) }
+    pub fn push(&mut self, name: &Text, meaning: T) -> Result<(), AllocError>
+        ensures { OnOk result (self.new ≡ self.old ++ (name.now, meaning) ∷ []) }
     {
         let hidden = indexed(&self.last, name);
-        push_seen(&mut self.seen, &mut self.last, name, number, hidden)
+        push_seen(&mut self.seen, &mut self.last, name, meaning, hidden)
     }
 
     pub fn len(&self) -> usize
@@ -78,38 +78,38 @@ impl Innermost {
     }
 }
 
-// The number that the index has of the name.
-fn indexed(last: &IndexMap<Text, Option<u32>>, name: &Text) -> Option<u32>
-    ensures { result ≡ indexed_number last.now.entries name.now }
+// What the index has of the name.
+fn indexed<T: Copy>(last: &IndexMap<Text, Option<T>>, name: &Text) -> Option<T>
+    ensures { result ≡ indexed_meaning last.now.entries name.now }
 {
     names_are_told_apart();
     match last.get(name) {
-        Some(number) => *number,
+        Some(meaning) => *meaning,
         None => None,
     }
 }
 
 // One name more, which hides this one.
 #[tactic(auto, using(crate::proofs::Hiding::pushed_pairs))]
-fn push_seen(
-    seen: &mut Vec<SeenName>,
-    last: &mut IndexMap<Text, Option<u32>>,
+fn push_seen<T: Copy + Drop>(
+    seen: &mut Vec<SeenName<T>>,
+    last: &mut IndexMap<Text, Option<T>>,
     name: &Text,
-    number: u32,
-    hidden: Option<u32>,
+    meaning: T,
+    hidden: Option<T>,
 ) -> Result<(), AllocError>
     requires indexed { AreIndexed last.old.entries seen.old.items }
-    requires hidden { hidden ≡ indexed_number last.old.entries name.now }
+    requires hidden { hidden ≡ indexed_meaning last.old.entries name.now }
     ensures indexed { AreIndexed last.new.entries seen.new.items }
-    ensures pushed { OnOk result (seen_pairs seen.new.items ≡ seen_pairs seen.old.items ++ (name.now, number) ∷ []) }
+    ensures pushed { OnOk result (seen_pairs seen.new.items ≡ seen_pairs seen.old.items ++ (name.now, meaning) ∷ []) }
 {
     let more = SeenName {
         name: name.copy()?,
-        number,
+        meaning,
         hidden,
     };
     seen.push(more)?;
-    match set_last(last, name, Some(number)) {
+    match set_last(last, name, Some(meaning)) {
         Ok(()) => Ok(()),
         Err(error) => {
             let _ = seen.pop();
@@ -118,27 +118,27 @@ fn push_seen(
     }
 }
 
-// Notes the last number of the name.
-fn set_last(
-    last: &mut IndexMap<Text, Option<u32>>,
+// Notes what the last of the name means.
+fn set_last<T: Copy + Drop>(
+    last: &mut IndexMap<Text, Option<T>>,
     name: &Text,
-    number: Option<u32>,
+    meaning: Option<T>,
 ) -> Result<(), AllocError>
-    ensures ok { OnOk result ((other : List ℕ) → indexed_number last.new.entries other
-        ≡ if bytes_eq name.now other then number else indexed_number last.old.entries other) }
+    ensures ok { OnOk result ((other : List ℕ) → indexed_meaning last.new.entries other
+        ≡ if bytes_eq name.now other then meaning else indexed_meaning last.old.entries other) }
     ensures err { OnErr result (last.new.entries ≡ last.old.entries) }
 {
     names_are_told_apart();
     let key = name.copy()?;
-    last.insert(key, number)?;
+    last.insert(key, meaning)?;
     Ok(())
 }
 
 // Without the names behind the first so many.
 #[tactic(auto, using(crate::proofs::Hiding::cut_on, crate::proofs::Hiding::cut_done, crate::proofs::Hiding::shorter))]
-fn forget_seen(
-    seen: &mut Vec<SeenName>,
-    last: &mut IndexMap<Text, Option<u32>>,
+fn forget_seen<T: Copy + Drop>(
+    seen: &mut Vec<SeenName<T>>,
+    last: &mut IndexMap<Text, Option<T>>,
     count: usize,
 ) -> Result<(), AllocError>
     requires { AreIndexed last.old.entries seen.old.items }
@@ -152,9 +152,9 @@ fn forget_seen(
 }
 
 // Without the last name, where there is one.
-fn forget_last(
-    seen: &mut Vec<SeenName>,
-    last: &mut IndexMap<Text, Option<u32>>,
+fn forget_last<T: Copy + Drop>(
+    seen: &mut Vec<SeenName<T>>,
+    last: &mut IndexMap<Text, Option<T>>,
 ) -> Result<(), AllocError>
     requires { AreIndexed last.old.entries seen.old.items }
     ensures indexed { AreIndexed last.new.entries seen.new.items }

@@ -1,12 +1,16 @@
 -- What is gathered along lines to which the same classes add members is the same.
 use Rattle.std.proofs.Common.{◌≡◌, ℕ, ◌||◌, ◌&&◌, Bool, true, false, cond, List, [], ◌∷◌, ◌++◌, refl, sym, ◌∙◌, ap}
 use Rattle.std.specs.Prelude.{Option, Some, None, Result, Ok, Err, IfOk, reverse, if◌then◌else◌}
-use Rattle.std.specs.List.{filter, flat_map}
+use Rattle.std.specs.List.{cons_option, filter, filter_map, flat_map}
 use Rattle.std.proofs.lemmas.List.{append-nil, reverse-append}
 use Rattle.std.proofs.lemmas.List.Elements.{filter-append}
 use Rattle.lineage.specs.Lines.{standing_in}
 use Rattle.nddl_ast.specs.declared.declaration.Decl.{Decl}
 use Rattle.nddl_ast.specs.declared.declaration.Member.{Member}
+use Rattle.nddl_ast.specs.declared.declaration.Member.TheVariants as members
+use Rattle.nddl_ast.specs.declared.declaration.Set.{Set}
+use Rattle.nddl_ast.specs.declared.declaration.Typed.{Typed}
+use Rattle.nddl_ast.specs.declared.name.Name.{Name}
 use Rattle.nddl_scope.specs.declared.declared.Declared.{Declared}
 use Rattle.nddl_scope.specs.declared.scope.Meaning.{Meaning}
 use Rattle.nddl_scope.specs.declared.scope.Meaning.TheVariants as meanings
@@ -15,23 +19,34 @@ use Rattle.nddl_scope.specs.Scope.{is_class_at}
 use Rattle.nddl_lines.specs.Ancestors.{above, ancestry}
 use Rattle.nddl_lines.specs.Facts.{Facts}
 use Rattle.nddl_lines.specs.Lines.{is_rooted}
-use Rattle.nddl_inherited.specs.Inherited.{builtin_noted, class_noted, line_noted, meaning_noted, member_names, members_of, names_noted}
-use Rattle.nddl_inherited.specs.Shorter.{AddTheSame, adding_along, adds_members, has_some, is_builtin_class}
+use Rattle.nddl_inherited.specs.Inherited.{builtin_noted, class_noted, line_noted, meaning_noted, member_name, members_of, names_noted}
+use Rattle.nddl_inherited.specs.Shorter.{AddTheSame, adding_along, adds_members, has_named, is_builtin_class}
 
--- what adds no members to a line has none, and extends no built-in class
+-- what adds no members to a line has constructors at the most, and extends no built-in class
 pub record AddsNone (members : List Member) (extended : Option Meaning) : Type 0 where
-  pub none : members ≡ []
+  pub none : has_named members ≡ false
   pub other : is_builtin_class extended ≡ false
 
 pub adds_none : (names : List Declared) (program : List Decl) (entry : ℕ) → adds_members names program entry ≡ false
     → AddsNone (members_of names program entry) (above names program entry)
 unfolding adds_members
-adds_none names program entry is = by (members_of names program entry) refl is
+adds_none names program entry is =
+    by (has_named (members_of names program entry)) (is_builtin_class (above names program entry)) refl refl is
   where
-    by : (members : List Member) → members_of names program entry ≡ members → (has_some members || is_builtin_class (above names program entry)) ≡ false
-        → AddsNone (members_of names program entry) (above names program entry)
-    by [] has is = record { none = has; other = is }
-    by (member ∷ more) has is = absurd (cc)
+    by : (named builtin : Bool) → has_named (members_of names program entry) ≡ named → is_builtin_class (above names program entry) ≡ builtin
+        → (named || builtin) ≡ false → AddsNone (members_of names program entry) (above names program entry)
+    by true builtin named other is = absurd (cc)
+    by false builtin named other is = record { none = named; other = other ∙ is }
+
+-- whatever only fields and predicates give, constructors alone give nothing of it
+module _ {X : Type 0} (f : Member → Option X)
+    (gives_none : (name : Name) (formals : List Typed) (sets : List Set) → f (members.Constructor name formals sets) ≡ None) where
+  pub none_named : (some : List Member) → has_named some ≡ false → filter_map f some ≡ []
+  none_named [] is = refl
+  none_named (members.Field typed ∷ more) is = absurd (cc)
+  none_named (members.Predicate at name parts ∷ more) is = absurd (cc)
+  none_named (members.Constructor name formals sets ∷ more) is =
+      ap (λ first. cons_option first (filter_map f more)) (gives_none name formals sets) ∙ none_named more is
 
 builtin_none : (noted : Noted) (extended : Option Meaning) → is_builtin_class extended ≡ false → builtin_noted noted extended ≡ noted
 builtin_none noted None is = refl
@@ -42,7 +57,8 @@ class_none : (names : List Declared) (program : List Decl) (noted : Noted) (entr
     → class_noted names program noted entry ≡ noted
 class_none names program noted entry is =
     let none = adds_none names program entry is in
-    ap (λ members. builtin_noted (names_noted noted (member_names members)) (above names program entry)) none.none
+    ap (λ some. builtin_noted (names_noted noted some) (above names program entry))
+    (none_named member_name (λ name formals sets. refl) (members_of names program entry) none.none)
     ∙ builtin_none noted (above names program entry) none.other
 
 line_adding : (names : List Declared) (program : List Decl) (noted : Noted) (line : List ℕ)

@@ -33,7 +33,8 @@ pub fn members_of<'a>(scope: &Scope, decls: &[&'a Decl], entry: usize) -> &'a [M
     }
 }
 
-fn decl_members(decl: &Decl) -> &[Member]
+/// The members of a class that is declared so.
+pub fn decl_members(decl: &Decl) -> &[Member]
     ensures { result.now ≡ decl_members decl.now }
 {
     match decl {

@@ -2,18 +2,22 @@
 //! the time that it takes to write it down, however many classes without members stand above it.
 
 ghost use Rattle.std.specs.Prelude.{◌≡◌, IfOk, map, slice_set};
+ghost use Rattle.std.specs.Option.{option_and_then};
 ghost use Rattle.lineage.specs.Lines.{IsLineageOf};
+ghost use Rattle.nddl_scope.specs.Scope.{meaning_of};
 ghost use Rattle.nddl_lines.specs.Ancestors.{ancestry, parent_in};
-ghost use Rattle.nddl_inherited.specs.Shorter.{AddTheSame, AreShorter, adds_members, has_some, is_builtin_class, passed_over};
+ghost use Rattle.nddl_lines.specs.Decls.{class_parent};
+ghost use Rattle.nddl_inherited.specs.Shorter.{AddTheSame, AreShorter, adds_body, adds_declared, has_named, is_builtin_class, is_marked, is_named, passed_over};
 
-use super::members::members_of;
+use super::members::decl_members;
 use lineage::Lineage;
 use nddl_ast::declaration::{Decl, Member};
 use nddl_lines::Basis;
 use nddl_lines::circles::is_rooted;
-use nddl_lines::lines::{above, ancestry, line_along};
+use nddl_lines::decls::{class_parent, declaration_with_body};
+use nddl_lines::lines::{ancestry, line_along};
 use nddl_lines::parents::parent_in;
-use nddl_scope::{Meaning, Scope};
+use nddl_scope::{Declared, Meaning, Scope};
 use std::alloc::{AllocError, Global};
 
 /// What is known of a program, with what each class stands under where those are passed over that add no members.
@@ -38,14 +42,27 @@ pub fn shortened(
     ensures { IfOk result (λ short. AreShorter scope.now (map (λ decl. decl.now) decls.now) parents.now
         lineage.now.marks.items short.items) }
 {
+    let adds = adding(alloc, scope, decls)?;
     let mut short = copied(alloc, parents)?;
     let order = lineage.order();
     for entry in order {
         let next = parent_in(parents, *entry);
-        let passed = passed_over(scope, decls, short.as_slice(), next);
+        let passed = passed_over(adds.as_slice(), short.as_slice(), next);
         put(&mut short, *entry, passed);
     }
     Ok(short)
+}
+
+// Whether each class adds members to a line. It is told of each once, as many may extend a class with many constructors.
+fn adding(alloc: Global, scope: &Scope, decls: &[&Decl]) -> Result<Vec<bool>, AllocError>
+    ensures { IfOk result (λ adds. adds.items ≡ map (adds_declared scope.now (map (λ decl. decl.now) decls.now)) scope.now) }
+{
+    let mut adds = Vec::new(alloc);
+    let names = scope.names();
+    for declared in names {
+        adds.push(adds_declared(scope, decls, declared))?;
+    }
+    Ok(adds)
 }
 
 fn copied(alloc: Global, some: &[Option<usize>]) -> Result<Vec<Option<usize>>, AllocError>
@@ -58,20 +75,24 @@ fn copied(alloc: Global, some: &[Option<usize>]) -> Result<Vec<Option<usize>>, A
     Ok(copy)
 }
 
-// What stands next on a line, where those are passed over that add nothing.
-fn passed_over(
-    scope: &Scope,
-    decls: &[&Decl],
-    short: &[Option<usize>],
-    next: Option<usize>,
-) -> Option<usize>
-    ensures { result ≡ passed_over scope.now (map (λ decl. decl.now) decls.now) short.now next }
+// What stands next on a line, where only those stay that are marked.
+fn passed_over(marks: &[bool], short: &[Option<usize>], next: Option<usize>) -> Option<usize>
+    ensures { result ≡ passed_over (is_marked marks.now) short.now next }
 {
     let number = next?;
-    if adds_members(scope, decls, number) {
+    if is_marked(marks, number) {
         Some(number)
     } else {
         parent_in(short, number)
+    }
+}
+
+fn is_marked(marks: &[bool], entry: usize) -> bool
+    ensures { result ≡ is_marked marks.now entry }
+{
+    match marks.get(entry) {
+        Some(mark) => *mark,
+        None => false,
     }
 }
 
@@ -84,18 +105,51 @@ fn put(short: &mut Vec<Option<usize>>, entry: usize, next: Option<usize>)
     }
 }
 
-// Whether the class of this number adds members to a line.
-#[tactic(auto, unfolding(crate::specs::Shorter::adds_members))]
-fn adds_members(scope: &Scope, decls: &[&Decl], entry: usize) -> bool
-    ensures { result ≡ adds_members scope.now (map (λ decl. decl.now) decls.now) entry }
+// Whether a class adds members to a line.
+fn adds_declared(scope: &Scope, decls: &[&Decl], declared: &Declared) -> bool
+    ensures { result ≡ adds_declared scope.now (map (λ decl. decl.now) decls.now) declared.now }
 {
-    has_some(members_of(scope, decls, entry)) || is_builtin_class(above(scope, decls, entry))
+    match declaration_with_body(scope, decls, declared) {
+        Some(body) => adds_body(scope, body),
+        None => false,
+    }
 }
 
-fn has_some(members: &[Member]) -> bool
-    ensures { result ≡ has_some members.now }
+// The same, where it is declared so.
+fn adds_body(scope: &Scope, body: &Decl) -> bool
+    ensures { result ≡ adds_body scope.now body.now }
 {
-    !members.is_empty()
+    has_named(decl_members(body)) || is_builtin_class(extended(scope, body))
+}
+
+// What the class extends that is declared so.
+fn extended(scope: &Scope, body: &Decl) -> Option<Meaning>
+    ensures { result ≡ option_and_then (λ name. meaning_of scope.now name.text) (class_parent body.now) }
+{
+    let name = class_parent(body)?;
+    scope.meaning(&name.text)
+}
+
+fn has_named(members: &[Member]) -> bool
+    ensures { result ≡ has_named members.now }
+{
+    for member in members {
+        if is_named(member) {
+            return true;
+        }
+    }
+    false
+}
+
+// Whether the member is a field or a predicate.
+fn is_named(member: &Member) -> bool
+    ensures { result ≡ is_named member.now }
+{
+    match member {
+        Member::Field(_) => true,
+        Member::Predicate { .. } => true,
+        Member::Constructor { .. } => false,
+    }
 }
 
 fn is_builtin_class(meaning: Option<Meaning>) -> bool

@@ -1,12 +1,13 @@
 -- What classes add to a line that add no members to it is nothing.
 use Rattle.std.proofs.Common.{◌≡◌, ℕ, ◌++◌, false, List, [], refl, ◌∙◌, ap, map}
 use Rattle.std.specs.Prelude.{Option, Some, None, Result, Ok, Err, IfOk, OnOk}
-use Rattle.std.specs.List.{filter_map, flat_map}
+use Rattle.std.specs.List.{flat_map}
 use Rattle.nddl_scope.specs.declared.scope.Meaning.{Meaning}
 use Rattle.nddl_scope.specs.declared.scope.Meaning.TheVariants as meanings
 use Rattle.nddl_lines.specs.Ancestors.{above}
+use Rattle.nddl_inherited.specs.Inherited.{members_of}
 use Rattle.nddl_inherited.specs.Shorter.{AddTheSame, adds_members, is_builtin_class}
-use Rattle.nddl_inherited.proofs.Adding.{adds_none, flat_same}
+use Rattle.nddl_inherited.proofs.Adding.{adds_none, flat_same, none_named}
 use Rattle.nddl_schema.specs.Classes.{class_number, given_fields, line_down}
 use Rattle.nddl_schema.specs.Predicates.{given_preds}
 use Rattle.nddl_terms.specs.declared.lexicon.Attribute.{Attribute}
@@ -28,14 +29,16 @@ no_fields : (world : World) (entry : ℕ) → adds_members world.facts.names wor
 no_fields world entry is =
     let none = adds_none world.facts.names world.facts.program entry is in
     let extended = above world.facts.names world.facts.program entry in
-    ap (λ members. map number_attribute (given_fields extended) ++ filter_map (member_attribute world) members) none.none
+    ap (λ some. map number_attribute (given_fields extended) ++ some)
+    (none_named (member_attribute world) (λ name formals sets. refl) (members_of world.facts.names world.facts.program entry) none.none)
     ∙ ap (λ some. some ++ []) (no_given_fields extended none.other)
 
 no_preds : (world : World) (class entry : ℕ) → adds_members world.facts.names world.facts.program entry ≡ false → pred_shapes_at world class entry ≡ []
 no_preds world class entry is =
     let none = adds_none world.facts.names world.facts.program entry is in
     let extended = above world.facts.names world.facts.program entry in
-    ap (λ members. map given_shape (given_preds class extended) ++ filter_map (member_shape world class) members) none.none
+    ap (λ some. map given_shape (given_preds class extended) ++ some)
+    (none_named (member_shape world class) (λ name formals sets. refl) (members_of world.facts.names world.facts.program entry) none.none)
     ∙ ap (λ some. some ++ []) (no_given_preds class extended none.other)
 
 -- the fields along a line to which the same classes add members are those of the class

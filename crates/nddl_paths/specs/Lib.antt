@@ -2,4 +2,5 @@ pub mod Fields
 pub mod Files
 pub mod Paths
 pub mod Predicates
+pub mod Seen
 pub mod Steps

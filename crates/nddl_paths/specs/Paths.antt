@@ -18,6 +18,7 @@ use Rattle.nddl_paths.specs.declared.denoted.Seen.{Seen}
 use Rattle.nddl_paths.specs.declared.denoted.TokenSort.{TokenSort}
 use Rattle.nddl_paths.specs.Files.{file_denoted}
 use Rattle.nddl_paths.specs.Predicates.{token_part}
+use Rattle.nddl_paths.specs.Seen.{seen_in}
 use Rattle.nddl_paths.specs.Steps.{Understood, asked_by, path_steps, unknown_at}
 
 -- What names mean where a path stands, beside those of the files: the formals of a constructor, the variables of `foreach`,
@@ -33,9 +34,9 @@ pub record Surroundings : Type 0 where
 abbrev pub around_of : code.Around → Surroundings
 around_of around = record {
   formals = around.formals.now;
-  turns = around.turns.now;
-  locals = around.locals.now;
-  labels = around.labels.now;
+  turns = seen_in around.turns;
+  locals = seen_in around.locals;
+  labels = seen_in around.labels;
   token = around.token;
 }
 

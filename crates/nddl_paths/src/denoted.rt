@@ -3,6 +3,7 @@
 ghost use Rattle.std.specs.Prelude.{◌≡◌};
 ghost use Rattle.nddl_paths.specs.Steps.{object_alone, settled};
 
+use super::seen::SeenNames;
 use eu_name::text::Text;
 use nddl_ast::TextKind;
 use nddl_scope::Meaning;
@@ -56,11 +57,11 @@ pub struct Seen {
 pub struct Around<'a> {
     /// The formals of a constructor.
     pub formals: &'a [Seen],
-    /// The variables of `foreach`.
-    pub turns: &'a [Seen],
-    pub locals: &'a [Seen],
+    /// The variables of `foreach`, where there may be any.
+    pub turns: Option<&'a SeenNames>,
+    pub locals: Option<&'a SeenNames>,
     /// The labels of slots.
-    pub labels: &'a [Seen],
+    pub labels: Option<&'a SeenNames>,
     /// The token whose rule it is.
     pub token: Option<TokenSort>,
 }

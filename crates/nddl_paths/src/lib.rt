@@ -8,7 +8,9 @@ pub mod fields;
 pub mod files;
 pub mod paths;
 pub mod predicates;
+pub mod seen;
 pub mod steps;
 
 pub use denoted::{Around, Denoted, PathFault, Predicate, Seen, TokenSort};
 pub use paths::{asked_token, expr_denoted, path_denoted};
+pub use seen::SeenNames;

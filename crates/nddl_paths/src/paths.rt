@@ -4,10 +4,12 @@ ghost use Rattle.std.specs.Prelude.{◌≡◌, IfOk};
 ghost use Rattle.std.specs.Option.{option_or};
 ghost use Rattle.nddl_lines.specs.Facts.{facts_of};
 ghost use Rattle.nddl_paths.specs.Paths.{around_of, asked_token, constant_of, expr_denoted, first_denoted, last_seen, literal_denoted, named_seen, near_denoted, own_denoted, path_denoted};
+ghost use Rattle.nddl_paths.specs.Seen.{seen_in};
 
 use super::denoted::{Around, Denoted, PathFault, Seen};
 use super::files::file_denoted;
 use super::predicates::token_part;
+use super::seen::SeenNames;
 use super::steps::{asked_by, path_steps, unknown_at};
 use eu_name::text::Text;
 use nddl_ast::TextKind;
@@ -108,9 +110,9 @@ fn near_denoted(around: &Around<'_>, name: &Text) -> Option<Denoted>
     ensures { result ≡ near_denoted (around_of around.now) name.now }
 {
     last_seen(around.formals, name)
-        .or(last_seen(around.turns, name))
-        .or(last_seen(around.locals, name))
-        .or(last_seen(around.labels, name))
+        .or(last_in(around.turns, name))
+        .or(last_in(around.locals, name))
+        .or(last_in(around.labels, name))
 }
 
 // What the last of these of this name means.
@@ -122,6 +124,16 @@ fn last_seen(seen: &[Seen], name: &Text) -> Option<Denoted>
         found = seen_or(name, other, found);
     }
     found
+}
+
+// The same in a list, if there is one.
+fn last_in(seen: Option<&SeenNames>, name: &Text) -> Option<Denoted>
+    ensures { result ≡ last_seen name.now (seen_in seen.entry) }
+{
+    match seen {
+        Some(seen) => seen.last(name),
+        None => None,
+    }
 }
 
 // What it means, if this is its name, and else this.

@@ -29,7 +29,7 @@ use Rattle.nddl_trees.specs.declared.tree.Meaning.{Meaning}
 use Rattle.nddl_trees.specs.declared.tree.Meaning.TheVariants as meanings
 use Rattle.nddl_trees.specs.declared.tree.ReadName.{ReadName}
 use Rattle.nddl_reads.specs.declared.sources.NameSources as code
-use Rattle.nddl_hiding.specs.Hiding.{last_number}
+use Rattle.nddl_hiding.specs.Hiding.{last_meaning}
 use Rattle.nddl_reads.specs.Sight.{Sight}
 
 -- where names come from that the text of a rule doesn't declare: the scope of the files, with the place of each name in it,
@@ -66,9 +66,9 @@ own_part params name =
 -- what it means by what the text declares: a variable of `foreach`, then a local, then a label
 abbrev pub sight_meaning : Sight → List ℕ → Option Meaning
 sight_meaning sight name =
-    option_or (option_map meanings.Turn (last_number name sight.turns))
-    (option_or (option_map meanings.Local (last_number name sight.locals))
-    (option_map meanings.Slot (last_number name sight.labels)))
+    option_or (option_map meanings.Turn (last_meaning name sight.turns))
+    (option_or (option_map meanings.Local (last_meaning name sight.locals))
+    (option_map meanings.Slot (last_meaning name sight.labels)))
 
 -- what it means at the front of a path: by what the text declares, then as a part of the token, then as one of the files
 abbrev pub front_meaning : NameSources → Sight → List ℕ → Option Meaning

@@ -22,9 +22,9 @@ pub struct Tally {
 /// The variables of `foreach`, the locals and the labels that are seen.
 #[derive(Drop)]
 pub struct Sight {
-    turns: Innermost,
-    locals: Innermost,
-    labels: Innermost,
+    turns: Innermost<u32>,
+    locals: Innermost<u32>,
+    labels: Innermost<u32>,
 }
 
 /// How many of each sort are seen.

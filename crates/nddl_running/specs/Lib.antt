@@ -1,3 +1,4 @@
 pub mod Construction
 pub mod Finished
 pub mod Made
+pub mod Settings

@@ -7,6 +7,7 @@ ghost use Rattle.nddl_lines.specs.Facts.{facts_of};
 ghost use Rattle.nddl_data.specs.Reading.{field_datum};
 ghost use Rattle.nddl_running.specs.Finished.{are_all_set, are_builtin_set, datum_below, finished_faults, is_class_out, is_class_set, is_member_set, is_out_of_bounds, is_set, is_set_once};
 
+use super::settings::{Settings, is_told_once, set_names};
 use eu_name::text::Text;
 use nddl_ast::TextKind;
 use nddl_ast::declaration::Member;
@@ -44,20 +45,20 @@ fn is_set_once(name: &str, fields: &[FieldValue]) -> bool
 }
 
 // Whether the member is no field, or one that is set once.
-fn is_member_set(fields: &[FieldValue], member: &Member) -> bool
-    ensures { result ≡ is_member_set fields.now member.now }
+fn is_member_set(settings: &Settings<'_>, member: &Member) -> bool
+    ensures { result ≡ is_member_set settings.now.fields.now member.now }
 {
     match member {
-        Member::Field(typed) => is_set_once(typed.name.text.as_str(), fields),
+        Member::Field(typed) => is_told_once(settings, &typed.name.text),
         _ => true,
     }
 }
 
-fn are_members_set(fields: &[FieldValue], members: &[Member]) -> bool
-    ensures { result ≡ list_all (is_member_set fields.now) members.now }
+fn are_members_set(settings: &Settings<'_>, members: &[Member]) -> bool
+    ensures { result ≡ list_all (is_member_set settings.now.fields.now) members.now }
 {
     for member in members {
-        if !is_member_set(fields, member) {
+        if !is_member_set(settings, member) {
             return false;
         }
     }
@@ -79,27 +80,44 @@ fn are_builtin_set(fields: &[FieldValue], number: u32) -> bool
 }
 
 // Whether each field is that the class adds.
-fn is_class_set(basis: &Basis<'_>, fields: &[FieldValue], class: Meaning) -> bool
-    ensures { result ≡ is_class_set (facts_of basis.now) fields.now class }
+fn is_class_set(basis: &Basis<'_>, settings: &Settings<'_>, class: Meaning) -> bool
+    ensures { result ≡ is_class_set (facts_of basis.now) settings.now.fields.now class }
 {
     match class {
-        Meaning::BuiltIn(number) => are_builtin_set(fields, number),
+        Meaning::BuiltIn(number) => are_builtin_set(settings.fields, number),
         Meaning::Entry(entry) => {
-            are_members_set(fields, members_of(basis.types.scope, basis.decls, entry))
+            are_members_set(settings, members_of(basis.types.scope, basis.decls, entry))
         }
     }
 }
 
 // Whether each field is of an object with this line.
-fn are_all_set(basis: &Basis<'_>, fields: &[FieldValue], line: &[Meaning]) -> bool
-    ensures { result ≡ are_all_set (facts_of basis.now) fields.now line.now }
+fn are_classes_set(basis: &Basis<'_>, settings: &Settings<'_>, line: &[Meaning]) -> bool
+    ensures { result ≡ are_all_set (facts_of basis.now) settings.now.fields.now line.now }
 {
     for class in line {
-        if !is_class_set(basis, fields, *class) {
+        if !is_class_set(basis, settings, *class) {
             return false;
         }
     }
     true
+}
+
+// The same, where the names are yet to be gathered.
+fn are_all_set(
+    alloc: Global,
+    basis: &Basis<'_>,
+    fields: &[FieldValue],
+    line: &[Meaning],
+) -> Result<bool, AllocError>
+    ensures { IfOk result (λ all. all ≡ are_all_set (facts_of basis.now) fields.now line.now) }
+{
+    let names = set_names(alloc, fields)?;
+    let settings = Settings {
+        fields,
+        names: &names,
+    };
+    Ok(are_classes_set(basis, &settings, line))
 }
 
 // Whether the one number is less than the other, where both are known.
@@ -178,7 +196,7 @@ pub fn note_finished(
     ensures { OnOk result (first.new ≡ earliest_fault first.old
         (finished_faults (facts_of basis.now) place line.now fields.now)) }
 {
-    let is_wrong = !are_all_set(basis, fields, line);
+    let is_wrong = !are_all_set(alloc, basis, fields, line)?;
     note_at(
         first,
         place.decl,

@@ -1,7 +1,7 @@
 -- What classes add to a line that add no members to it is nothing.
 use Rattle.std.proofs.Common.{◌≡◌, ℕ, ◌++◌, false, List, [], refl, ◌∙◌, ap}
 use Rattle.std.specs.Prelude.{Option, Some, None, Result, Ok, Err, IfOk, OnOk}
-use Rattle.std.specs.List.{filter_map, flat_map}
+use Rattle.std.specs.List.{flat_map}
 use Rattle.model_core.specs.declared.class.Enum.{Enum}
 use Rattle.model_core.specs.declared.class.Pred.{Pred}
 use Rattle.model_core.specs.declared.variable.VarDecl.{VarDecl}
@@ -9,9 +9,11 @@ use Rattle.nddl_scope.specs.declared.scope.Meaning.{Meaning}
 use Rattle.nddl_scope.specs.declared.scope.Meaning.TheVariants as meanings
 use Rattle.nddl_lines.specs.Ancestors.{above}
 use Rattle.nddl_lines.specs.Facts.{Facts}
+use Rattle.nddl_variables.specs.Declares.{variables_of}
+use Rattle.nddl_inherited.specs.Inherited.{members_of}
 use Rattle.nddl_inherited.specs.Shorter.{AddTheSame, adds_members, is_builtin_class}
-use Rattle.nddl_inherited.proofs.Adding.{adds_none, flat_same}
-use Rattle.nddl_schema.specs.Classes.{class_fields, class_number, declared_fields, fields_at, given_fields, line_down}
+use Rattle.nddl_inherited.proofs.Adding.{adds_none, flat_same, none_named}
+use Rattle.nddl_schema.specs.Classes.{class_fields, class_number, fields_at, given_fields, line_down, member_field}
 use Rattle.nddl_schema.specs.Predicates.{class_preds, given_preds, pred_of, preds_at}
 
 no_given_fields : (extended : Option Meaning) → is_builtin_class extended ≡ false → given_fields extended ≡ []
@@ -27,14 +29,16 @@ no_given_preds class (Some (meanings.Entry entry)) is = refl
 no_fields : (facts : Facts) (enums : List Enum) (entry : ℕ) → adds_members facts.names facts.program entry ≡ false → fields_at facts enums entry ≡ []
 no_fields facts enums entry is =
     let none = adds_none facts.names facts.program entry is in
-    ap (λ members. given_fields (above facts.names facts.program entry) ++ declared_fields facts enums members) none.none
+    ap (λ some. given_fields (above facts.names facts.program entry) ++ variables_of facts enums some)
+    (none_named member_field (λ name formals sets. refl) (members_of facts.names facts.program entry) none.none)
     ∙ ap (λ some. some ++ []) (no_given_fields (above facts.names facts.program entry) none.other)
 
 no_preds : (facts : Facts) (enums : List Enum) (class entry : ℕ) → adds_members facts.names facts.program entry ≡ false
     → preds_at facts enums class entry ≡ []
 no_preds facts enums class entry is =
     let none = adds_none facts.names facts.program entry is in
-    ap (λ members. given_preds class (above facts.names facts.program entry) ++ filter_map (pred_of facts enums class) members) none.none
+    ap (λ some. given_preds class (above facts.names facts.program entry) ++ some)
+    (none_named (pred_of facts enums class) (λ name formals sets. refl) (members_of facts.names facts.program entry) none.none)
     ∙ ap (λ some. some ++ []) (no_given_preds class (above facts.names facts.program entry) none.other)
 
 -- the fields along a line to which the same classes add members are those of the class

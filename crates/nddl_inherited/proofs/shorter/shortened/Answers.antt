@@ -1,9 +1,10 @@
-use Rattle.std.proofs.Common.{◌≡◌, ℕ, List, ◌+◌, length, get_or, map, sym, ◌∙◌, ap, subst}
+use Rattle.std.proofs.Common.{◌≡◌, ℕ, List, ◌+◌, get_or, map, sym, ◌∙◌, ap, subst}
 use Rattle.std.specs.Prelude.{Option, slice_set}
 use Rattle.std.proofs.lemmas.Option.{slice_get-get_or}
 use Rattle.lineage.specs.Lines.{IsLineageOf}
-use Rattle.nddl_inherited.specs.Shorter.{passed_over}
-use Rattle.nddl_inherited.proofs.Passing.{ArePassed, all_shorter, none_passed, passes_on}
+use Rattle.nddl_lines.specs.Ancestors.{parent_in}
+use Rattle.nddl_inherited.specs.Shorter.{is_marked, passed_over}
+use Rattle.nddl_inherited.proofs.Passing.{ArePassed, all_shorter, marked_over, none_passed, passes_on}
 use Rattle.nddl_lines.proofs.Ways.{within_way}
 use Rattle.nddl_inherited.proofs.shorter.shortened.Goals as goal
 
@@ -28,7 +29,8 @@ loop-entry-preserved c =
     let inside = (within_way parents entry rooted.path rooted.root rooted.leads rooted.ends).0 in
     let P : List (Option ℕ) → Type 0 = λ some. ArePassed names program parents order (count + 1) some in
     let next = c.passed_over-passed.ensures
-    ∙ ((λ i. passed_over names program (c.as_slice.ensures.value i) (c.parent_in-next.ensures i))) in
+    ∙ ((λ i. passed_over (is_marked (c.as_slice.ensures.value i)) (c.as_slice-in-loop-entry.ensures.value i) (c.parent_in-next.ensures i)))
+    ∙ marked_over names program c.in_ok-adds.adds.items short (parent_in parents entry) c.in_ok-adds.ensures in
     subst P (sym (c.put.ensures ∙ ap (λ n. slice_set short entry n) next))
     (passes_on names program parents order lineage.ordered count entry short here inside c.loop-entry.invariant)
 
