@@ -18,3 +18,4 @@ mod variables;
 pub use flaw::{Flaw, VarPlace};
 pub use plain::Plain;
 pub use rule::FlawRule;
+pub use variables::variable_name;

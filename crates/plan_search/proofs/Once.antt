@@ -53,7 +53,7 @@ flaw_total (Untimed one) (Undetermined other) = inr (inr (omega arith))
 flaw_total (Untimed one) (Unordered other behind) = inr (inr (omega arith))
 flaw_total (Untimed one) (Untimed other) = elim (var_order.total one other) [ inl less ↦ inl less | inr (inl same) ↦ inr (inl (ap Untimed same)) | inr (inr more) ↦ inr (inr more) ]
 
-first_once : (model : Model) (decisions : List Decision) (state : State) (one other : Flaw) → IsFirstFlaw model decisions state one → IsFirstFlaw model decisions state other → one ≡ other
+pub first_once : (model : Model) (decisions : List Decision) (state : State) (one other : Flaw) → IsFirstFlaw model decisions state one → IsFirstFlaw model decisions state other → one ≡ other
 first_once model decisions state one other p q = elim (flaw_total one other) [
   | inl less ↦ absurd (q.first one p.is less)
   | inr (inl same) ↦ same
@@ -97,7 +97,7 @@ module _ (model : Model) (decisions : List Decision) (state : State) (order : Ar
       (λ value there. (p.all value).1 (subst (λ d. Has d value) (sym domain) ((q.all value).0 there))) in
       p.are ∙ ap (λ (l : List ℤ). map (λ value. Specify name value) l) values ∙ sym q.are
 
-  choices_once : (flaw : Flaw) (one other : List Decision) → AreChoices model decisions state bound flaw one → AreChoices model decisions state bound flaw other → one ≡ other
+  pub choices_once : (flaw : Flaw) (one other : List Decision) → AreChoices model decisions state bound flaw one → AreChoices model decisions state bound flaw other → one ≡ other
   choices_once (Undecided token) one other p q = token_choices_once token one other p q
   choices_once (Undetermined name) one other p q = value_choices_once name one other p q
   choices_once (Unordered before after) one other p q = p ∙ sym q

@@ -27,47 +27,9 @@ use Rattle.model_core.proofs.Rules.{has_rule_once}
 use Rattle.plan_progress.proofs.Lawful.{rule_lawful, base_lawful}
 use Rattle.script_names.specs.Naming.{IsVariableOfKind}
 
--- ---- the model has what the code looks up
+-- ---- what is declared is of the kind
 
 module _ (model : Model) where
-  pub global_there : (name : VarName) (number : ℕ) → name ≡ variables.Global number → (base : Base) × HasBase model name base → (variable : VarDecl) × IsGlobal model number variable
-  global_there name number is (base, has) = let here = subst (λ (n : VarName). HasBase model n base) is has in (here.0, here.1)
-
-  pub token_there : (name : VarName) (token : TokenName) (part : Part) → name ≡ variables.Token token part → (base : Base) × HasBase model name base → IsToken model token
-  token_there name token part is (base, has) = let here = subst (λ (n : VarName). HasBase model n base) is has in (here.0, here.1)
-
-  pub local_there : (name : VarName) (token : TokenName) (rule number : ℕ) → name ≡ variables.Local token rule number → (base : Base) × HasBase model name base
-      → (base : Base) × HasBase model (variables.Local token rule number) base
-  local_there name token rule number is (base, has) = (base, subst (λ (n : VarName). HasBase model n base) is has)
-
-  kind_of_part : (slot : Slot) (part : Part) (base : Base) → HasPartBase model slot part base → (kind : ValueKind) × IsPartOfKind model slot.pred kind part
-  kind_of_part slot Start base has = (kinds.Int, refl)
-  kind_of_part slot End base has = (kinds.Int, refl)
-  kind_of_part slot Duration base has = (kinds.Int, refl)
-  kind_of_part slot Object base has = (kinds.Object, refl)
-  kind_of_part slot (Param number) base (variable, has, is) = (variable.kind, (variable, has, refl))
-
-  pub part_there : (name : VarName) (token : TokenName) (part : Part) (pred : ℕ) → name ≡ variables.Token token part → (base : Base) × HasBase model name base
-      → ((slot : Slot) → HasToken model token slot → slot.pred ≡ pred) → (kind : ValueKind) × IsPartOfKind model pred kind part
-  part_there name token part pred is (base, has) preds =
-      let here = subst (λ (n : VarName). HasBase model n base) is has in
-      let of = kind_of_part here.0 part base here.2 in
-      (of.0, subst (λ (n : ℕ). IsPartOfKind model n of.0 part) (preds here.0 here.1) of.1)
-
-  pub parameter_there : (pred : ℕ) (part : Part) (number : ℕ) → part ≡ Param number → (kind : ValueKind) × IsPartOfKind model pred kind part → (variable : VarDecl) × HasParameter model pred number variable
-  parameter_there pred part number is (kind, of) = let here = subst (λ (p : Part). IsPartOfKind model pred kind p) is of in (here.0, here.1)
-
-  pub parameter_kind : (pred : ℕ) (part : Part) (number : ℕ) (kind : ValueKind) → part ≡ Param number → (variable : VarDecl) × (HasParameter model pred number variable × (kind ≡ variable.kind)) → IsPartOfKind model pred kind part
-  parameter_kind pred part number kind is (variable, (has, same)) = subst (λ (p : Part). IsPartOfKind model pred kind p) (sym is) (variable, has, same)
-
-  pub kind_of_token : (name : VarName) (token : TokenName) (part : Part) (pred : ℕ) (kind : ValueKind) → name ≡ variables.Token token part → (base : Base) × HasBase model name base
-      → ((slot : Slot) → HasToken model token slot → slot.pred ≡ pred) → IsPartOfKind model pred kind part → IsVariableOfKind model kind name
-  kind_of_token name token part pred kind is (base, has) preds of =
-      let here = subst (λ (n : VarName). HasBase model n base) is has in
-      subst (IsVariableOfKind model kind) (sym is) (here.0, (here.1, subst (λ (n : ℕ). IsPartOfKind model n kind part) (sym (preds here.0 here.1)) of))
-
-  -- ---- what is declared is of the kind
-
   int_base : (domain : Domain) → IsDomain domain → IsBaseOf model kinds.Int (Given domain)
   int_base domain is = record { values = λ value has. has_value domain value is has; range = λ range. refl }
 

@@ -8,11 +8,11 @@ ghost use Rattle.script_lines.specs.Writable.{IsWritable};
 ghost use Rattle.script_lines.specs.Written.{Writes, WritesCounted, WritesLines};
 
 use super::counting::{put_count_line, put_line_feed, put_text};
-use super::kinds::kind_of;
 use eu_name::name::{TokenName, VarName};
 use model_core::decision::Decision;
 use model_core::model::Model;
 use plan_core::writing::{put_shown, put_token, put_variable};
+use script_names::kind_of;
 use std::alloc::{AllocError, Global};
 
 /// The word and the name of the token.

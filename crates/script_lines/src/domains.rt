@@ -11,12 +11,12 @@ ghost use Rattle.script_lines.specs.Lines.{IsDomainLine, IsDomainText};
 ghost use Rattle.script_lines.specs.Written.{WritesBehind, WritesLine, WritesMembers};
 
 use super::counting::{put_line_feed, put_text};
-use super::kinds::kind_of;
 use domain_core::domain::Dom;
 use eu_name::name::VarName;
 use model_core::model::Model;
 use model_core::variable::ValueKind;
 use plan_core::writing::{put_number, put_shown, put_variable};
+use script_names::kind_of;
 use std::alloc::{AllocError, Global};
 
 // The value at this place of the domain.

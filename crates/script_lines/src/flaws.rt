@@ -16,8 +16,9 @@ ghost use Rattle.script_lines.specs.Written.{Writes, WritesBehind, WritesLine};
 
 use super::counting::{put_count, put_line_feed, put_text};
 use super::decisions::{put_on_token, put_on_tokens};
-use super::places::{token_of, variable_at};
+use super::places::token_of;
 use flaw_core::flaw::{Flaw, VarPlace};
+use flaw_core::variable_name;
 use model_core::model::Model;
 use model_core::view::View;
 use plan_core::writing::put_variable;
@@ -37,7 +38,7 @@ fn put_open<V: View>(
     ensures { OnOk result ((name : Variable) → IsVarAt (V.state view.now) at name
         → WritesBehind gap.now (IsVariableWord model.now name) out.old.items out.new.items) }
 {
-    let name = variable_at(view, at)?;
+    let name = variable_name(view, at)?;
     put_variable(out, gap, alloc, model, &name)
 }
 

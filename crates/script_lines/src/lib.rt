@@ -6,7 +6,6 @@ pub mod decisions;
 pub mod domains;
 pub mod edges;
 pub mod flaws;
-mod kinds;
 mod places;
 pub mod replies;
 pub mod tokens;

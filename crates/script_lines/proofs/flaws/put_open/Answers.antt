@@ -3,8 +3,8 @@ use Rattle.script_lines.proofs.Flawing.{found_base, open_put}
 use Rattle.script_lines.proofs.Timing.{variable_put}
 use Rattle.script_lines.proofs.flaws.put_open.Goals as goal
 
-pub variable_at-requires : goal.variable_at-requires
-variable_at-requires g c = (c.requires.there.0, c.requires.there.1.0)
+pub variable_name-requires : goal.variable_name-requires
+variable_name-requires g c = (c.requires.there.0, c.requires.there.1.0)
 
 pub put_variable-requires : goal.put_variable-requires
 put_variable-requires g c = found_base c.args.model.now (g.V.View.state c.args.view.now) c.args.at c.in_ok-name.name c.requires.there c.in_ok-name.ensures
