@@ -8,7 +8,7 @@ use Rattle.line_session.specs.declared.fault.SessionFault.{SessionFault}
 use Rattle.line_session.specs.declared.fault.SessionFault.TheVariants as fault
 use Rattle.line_session.specs.declared.talk.SessionEnd.{SessionEnd}
 use Rattle.line_session.specs.declared.talk.SessionEnd.TheVariants.{OfInput, ByAnswer}
-use Rattle.line_session.specs.Ends.{Passage, input_of, course_of, begun, Ends, SessionTells}
+use Rattle.line_session.specs.Ends.{Passage, input_of, course_of, begun, Ends}
 use Rattle.line_session.specs.Lines.{lines_of}
 use Rattle.line_session.specs.Sessions.{Ending, AtEnd, AtAnswer, AtLimit, Session}
 use Rattle.plan_db.specs.Answers.{Held}
@@ -20,7 +20,7 @@ use Rattle.session_core.specs.Replies.{AnswersLine}
 use Rattle.europa_run.specs.declared.answering.Answer.TheVariants as answer
 use Rattle.europa_run.specs.Output.{Given, given_by, end_of, Output}
 use Rattle.europa_run.specs.Pieces.{Comes, ended_by, Streams, EditTells, RunsRequest}
-use Rattle.europa_run.specs.Runs.{HoldsSession, StopsScript, RunLeaves, Outside, RunsTo}
+use Rattle.europa_run.specs.Runs.{HoldsSession, StopsScript, RunLeaves, Outside}
 
 -- where there was no memory to begin with, nothing was taken and nothing written
 pub session_unbegun : (start : Database) (streams : Streams) → EditTells start streams streams (ended_by (Err fault.Memory))

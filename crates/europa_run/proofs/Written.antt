@@ -1,23 +1,21 @@
 -- What is printed is the output of the words, or a front of it.
-use Rattle.std.proofs.Common.{◌≡◌, ℕ, Bool, true, false, List, [], ◌++◌, Option, Some, None, Result, Ok, Err, refl, sym, ap, ◌∙◌, subst, inl, inr, append-nil}
+use Rattle.std.proofs.Common.{◌≡◌, ℕ, true, false, List, [], ◌++◌, Option, Some, None, Result, Ok, Err, refl, sym, ap, ◌∙◌, subst, inl, inr, append-nil}
 use Rattle.std.specs.Io.KnownBytes.{Appends}
 use Rattle.command_words.specs.declared.request.Request.{Request}
 use Rattle.command_words.specs.declared.request.Request.TheVariants.{Script}
 use Rattle.command_words.specs.Requests.{Asks, AreNoCommand}
 use Rattle.command_words.proofs.Asking.{asks_once}
-use Rattle.eu_io.specs.Faults.{counted}
 use Rattle.eu_io.specs.declared.shelf.FileEntry.{FileEntry}
 use Rattle.run_printing.specs.declared.lines.Printed.{Printed}
 use Rattle.run_printing.specs.declared.status.RunEnd.{RunEnd}
 use Rattle.run_printing.specs.declared.status.RunEnd.TheVariants.{Done, Usage}
 use Rattle.run_printing.specs.declared.status.RunFault.{RunFault}
 use Rattle.run_printing.specs.declared.status.RunFault.TheVariants.{Read, Write, Memory}
-use Rattle.run_printing.specs.Printed.{AnswersAs, Prints, UsageOutput}
-use Rattle.run_printing.specs.Statuses.{is_read}
+use Rattle.run_printing.specs.Printed.{Prints}
 use Rattle.europa_run.specs.declared.answering.Answer.TheVariants as answer
-use Rattle.europa_run.specs.Output.{Given, given_by, is_script, RequestOutput, Output}
+use Rattle.europa_run.specs.Output.{given_by, is_script, RequestOutput, Output}
 use Rattle.europa_run.specs.Pieces.{Comes, RunsRequest, UsagePrints}
-use Rattle.europa_run.specs.Runs.{LeavesNoInput, Outside, ReadFaults, RaisesReads, RunsTo}
+use Rattle.europa_run.specs.Runs.{LeavesNoInput, Outside, RunsTo}
 
 -- what is appended to what is told is told
 appended : (old new : Option (List ℕ)) (before bytes : List ℕ) → old ≡ Some before → Appends old new bytes → new ≡ Some (before ++ bytes)

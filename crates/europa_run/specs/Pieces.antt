@@ -34,11 +34,10 @@ IsInRange (Show file) = ⊤
 IsInRange (Generate number) = (1 ≤ number) × (number ≤ 200)
 IsInRange (Try number) = (1 ≤ number) × (number ≤ 200)
 
--- what is printed, as an answer; or why nothing is, which no write is to blame for
+-- what is printed, as an answer; or why nothing is
 abbrev pub told_answer : Result Line RunFault → Result Answer RunFault
 told_answer (Ok printed) = Ok (answer.Printed printed)
-told_answer (Err run.Read) = Err run.Read
-told_answer (Err fault) = Err run.Memory
+told_answer (Err fault) = Err fault
 
 -- the input's lines are to be answered
 abbrev pub is_session : Answer → Bool

@@ -27,14 +27,15 @@ pub enum Answer {
     Session(Db),
 }
 
-// What is printed. Nothing is written here, so what else there can be is a failed read or want of memory.
+// What is printed, as what a request comes to.
 fn printed(answer: Result<Printed, RunFault>) -> Result<Answer, RunFault>
-    ensures { result ≡ told_answer answer }
+    ensures told { result ≡ told_answer answer }
+    ensures read { is_read result ≡ is_read answer }
+    ensures written { is_write result ≡ is_write answer }
 {
     match answer {
         Ok(printed) => Ok(Answer::Printed(printed)),
-        Err(RunFault::Read) => Err(RunFault::Read),
-        Err(RunFault::Write | RunFault::Memory) => Err(RunFault::Memory),
+        Err(fault) => Err(fault),
     }
 }
 

@@ -1,6 +1,6 @@
 //! A run of the program.
 
-ghost use Rattle.std.specs.Prelude.{◌≡◌, false, true, ◌⊎◌};
+ghost use Rattle.std.specs.Prelude.{◌≡◌, false};
 ghost use Rattle.eu_io.specs.Faults.{counted};
 ghost use Rattle.europa_run.specs.Output.{AsksNoFile, AsksNoScript, asks_files, is_script};
 ghost use Rattle.europa_run.specs.Pieces.{IsInRange, RunsRequest, UsagePrints};

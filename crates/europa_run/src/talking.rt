@@ -10,6 +10,7 @@ use eu_io::source::Source;
 use line_session::fault::SessionFault;
 use line_session::talk::{SessionEnd, session};
 use plan_db::Db;
+use plan_release::let_go;
 use run_printing::{RunEnd, RunFault};
 use session_core::Editor;
 use std::alloc::Global;
@@ -45,7 +46,9 @@ fn edit_new<S: Source, O: Sink>(
     ensures writes { O.faults out.new ≡ counted (is_write result) (O.faults out.old) }
 {
     let mut editor = editor;
-    edit(alloc, &mut editor, input, out)
+    let ended = edit(alloc, &mut editor, input, out);
+    let_go(editor.into_db());
+    ended
 }
 
 // Answers the input's lines by the editor, which has the database then.

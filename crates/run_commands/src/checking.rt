@@ -7,7 +7,7 @@ ghost use Rattle.eu_io.specs.Files.{file_named};
 ghost use Rattle.model_core.specs.Lawful.{IsLawful};
 ghost use Rattle.run_commands.specs.Checking.{CheckOutput, CheckedOutput, PlanFileOutput, checked_end};
 ghost use Rattle.run_printing.specs.Printed.{AnswersAs};
-ghost use Rattle.run_printing.specs.Statuses.{is_read};
+ghost use Rattle.run_printing.specs.Statuses.{is_read, is_write};
 
 use super::content::{Content, read_content};
 use super::posing::unposed;
@@ -15,6 +15,7 @@ use eu_io::shelf::Shelf;
 use eu_name::text::Text;
 use model_core::model::Model;
 use plan_db::Db;
+use plan_release::let_go;
 use plan_verdicts::check_text;
 use posed_files::pose;
 use run_printing::{Printed, RunEnd, RunFault};
@@ -31,6 +32,7 @@ pub fn check<F: Shelf>(
     ensures checked { (files : List FileEntry) → F.files shelf.old ≡ Some files
         → AnswersAs (CheckOutput files file.now plan.now) result }
     ensures reads { F.faults shelf.new ≡ counted (is_read result) (F.faults shelf.old) }
+    ensures no_write { is_write result ≡ false }
 {
     match pose(alloc, shelf, file) {
         Ok(db) => check_posed(alloc, shelf, db, plan),
@@ -48,8 +50,11 @@ fn check_posed<F: Shelf>(
     ensures checked { (files : List FileEntry) → F.files shelf.old ≡ Some files
         → AnswersAs (PlanFileOutput db.database.model plan.now (file_named plan.now files)) result }
     ensures reads { F.faults shelf.new ≡ counted (is_read result) (F.faults shelf.old) }
+    ensures no_write { is_write result ≡ false }
 {
-    check_file(alloc, shelf, db.model(), plan)
+    let checked = check_file(alloc, shelf, db.model(), plan);
+    let_go(db);
+    checked
 }
 
 // Checks whether the file has the text of a valid plan of the model.
@@ -63,6 +68,7 @@ fn check_file<F: Shelf>(
     ensures checked { (files : List FileEntry) → F.files shelf.old ≡ Some files
         → AnswersAs (PlanFileOutput model.now plan.now (file_named plan.now files)) result }
     ensures reads { F.faults shelf.new ≡ counted (is_read result) (F.faults shelf.old) }
+    ensures no_write { is_write result ≡ false }
 {
     match read_content(alloc, shelf, plan) {
         Ok(Content::Bytes(bytes)) => check_bytes(alloc, model, bytes.as_slice()),
@@ -87,6 +93,7 @@ fn check_bytes(alloc: Global, model: &Model, text: &[u8]) -> Result<Printed, Run
     requires { IsLawful model.now }
     ensures checked { AnswersAs (CheckedOutput model.now text.now) result }
     ensures no_read { is_read result ≡ false }
+    ensures no_write { is_write result ≡ false }
 {
     match check_text(alloc, model, text) {
         Ok(checked) => Ok(Printed {

@@ -1,11 +1,11 @@
 //! The content of a single file.
 
-ghost use Rattle.std.specs.Prelude.{◌≡◌, IfOk, List, Some};
+ghost use Rattle.std.specs.Prelude.{◌≡◌, IfOk, List, Some, false};
 ghost use Rattle.eu_io.specs.declared.shelf.FileEntry.{FileEntry};
 ghost use Rattle.eu_io.specs.Faults.{counted};
 ghost use Rattle.eu_io.specs.Files.{file_named};
 ghost use Rattle.run_commands.specs.Contents.{IsContent, IsShort, told_content};
-ghost use Rattle.run_printing.specs.Statuses.{is_read};
+ghost use Rattle.run_printing.specs.Statuses.{is_read, is_write};
 
 use eu_io::shelf::{Shelf, ShelfFail};
 use eu_name::bytes::Bytes;
@@ -28,6 +28,7 @@ fn wrong(printed: Result<Printed, RunFault>) -> Result<Content, RunFault>
     ensures told { result ≡ told_content printed }
     ensures short { IfOk result IsShort }
     ensures counted { is_read result ≡ is_read printed }
+    ensures written { is_write result ≡ is_write printed }
 {
     match printed {
         Ok(printed) => Ok(Content::Faulty(printed)),
@@ -46,6 +47,7 @@ pub fn read_content<F: Shelf>(
     ensures short { IfOk result IsShort }
     ensures kept { F.files shelf.new ≡ F.files shelf.old }
     ensures counted { F.faults shelf.new ≡ counted (is_read result) (F.faults shelf.old) }
+    ensures no_write { is_write result ≡ false }
 {
     match shelf.get(file.as_str(), FILE_LIMIT) {
         Ok(bytes) => Ok(Content::Bytes(bytes)),

@@ -3,7 +3,7 @@
 ghost use Rattle.std.specs.Prelude.{◌≡◌, ◌≤◌, false};
 ghost use Rattle.run_commands.specs.Generating.{GenerateOutput};
 ghost use Rattle.run_printing.specs.Printed.{AnswersAs};
-ghost use Rattle.run_printing.specs.Statuses.{is_read};
+ghost use Rattle.run_printing.specs.Statuses.{is_read, is_write};
 
 use problem_gen::{GenFault, generate};
 use run_printing::{Printed, RunEnd, RunFault};
@@ -15,6 +15,7 @@ pub fn generated(alloc: Global, number: u32) -> Result<Printed, RunFault>
     requires few { number ≤ 200 }
     ensures generated { AnswersAs (GenerateOutput number) result }
     ensures no_read { is_read result ≡ false }
+    ensures no_write { is_write result ≡ false }
 {
     match generate(alloc, number) {
         Ok(text) => Ok(Printed {

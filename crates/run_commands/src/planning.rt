@@ -8,7 +8,7 @@ ghost use Rattle.search_texts.specs.Texts.{IsFlawlessEnd, TellsSearch};
 ghost use Rattle.run_commands.specs.Planning.{PlanOutput};
 ghost use Rattle.run_commands.specs.Searching.{SearchOutput, end_of, visits_of};
 ghost use Rattle.run_printing.specs.Printed.{AnswersAs};
-ghost use Rattle.run_printing.specs.Statuses.{is_read};
+ghost use Rattle.run_printing.specs.Statuses.{is_read, is_write};
 
 use super::posing::unposed;
 use super::searching::{end_of, search};
@@ -16,6 +16,7 @@ use eu_io::shelf::Shelf;
 use eu_name::text::Text;
 use model_core::model::Model;
 use plan_db::Db;
+use plan_release::let_go;
 use posed_files::pose;
 use run_printing::{Printed, RunFault};
 use search_texts::end_text;
@@ -36,6 +37,7 @@ pub fn plan<F: Shelf>(
     ensures planned { (files : List FileEntry) → F.files shelf.old ≡ Some files
         → AnswersAs (PlanOutput files file.now steps tokens) result }
     ensures reads { F.faults shelf.new ≡ counted (is_read result) (F.faults shelf.old) }
+    ensures no_write { is_write result ≡ false }
 {
     match pose(alloc, shelf, file) {
         Ok(db) => plan_posed(alloc, db, steps, tokens),
@@ -61,10 +63,13 @@ fn plan_posed(alloc: Global, db: Db, steps: Option<u32>, tokens: u32) -> Result<
     requires tokens { tokens ≤ 512 }
     ensures planned { AnswersAs (SearchOutput tokens (visits_of steps db.database.model) db.database) result }
     ensures no_read { is_read result ≡ false }
+    ensures no_write { is_write result ≡ false }
 {
     let visits = visits_of(steps, db.model());
     let mut db = db;
-    plan_search(alloc, &mut db, visits, tokens)
+    let planned = plan_search(alloc, &mut db, visits, tokens);
+    let_go(db);
+    planned
 }
 
 // What is printed of the search from the decisions that stand.
@@ -74,6 +79,7 @@ fn plan_search(alloc: Global, db: &mut Db, steps: u32, tokens: u32) -> Result<Pr
     requires tokens { tokens ≤ 512 }
     ensures planned { AnswersAs (SearchOutput tokens steps db.old.database) result }
     ensures no_read { is_read result ≡ false }
+    ensures no_write { is_write result ≡ false }
 {
     match search(alloc, db, steps, tokens) {
         Ok(end) => plan_end(alloc, db, end),
@@ -87,6 +93,7 @@ fn plan_end(alloc: Global, db: &Db, end: SearchEnd) -> Result<Printed, RunFault>
     requires flawless { IsFlawlessEnd end db.now.database }
     ensures told { AnswersAs (λ out ended. TellsSearch end db.now.database out × (ended ≡ end_of end)) result }
     ensures no_read { is_read result ≡ false }
+    ensures no_write { is_write result ≡ false }
 {
     match end_text(alloc, db, end) {
         Ok(text) => Ok(Printed {

@@ -1,8 +1,8 @@
 //! Files that pose no database.
 
-ghost use Rattle.std.specs.Prelude.{◌≡◌};
+ghost use Rattle.std.specs.Prelude.{◌≡◌, false};
 ghost use Rattle.run_commands.specs.Posing.{IsUnposed, is_read_fault};
-ghost use Rattle.run_printing.specs.Statuses.{is_read};
+ghost use Rattle.run_printing.specs.Statuses.{is_read, is_write};
 
 use posed_files::fault::PoseFault;
 use run_printing::{Printed, RunFault, faulty};
@@ -12,6 +12,7 @@ use std::alloc::Global;
 pub fn unposed(alloc: Global, fault: PoseFault) -> Result<Printed, RunFault>
     ensures told { IsUnposed fault result }
     ensures counted { is_read result ≡ is_read_fault fault }
+    ensures no_write { is_write result ≡ false }
 {
     match fault {
         PoseFault::Text { kind, file, at } => faulty(alloc, kind, &file, at),

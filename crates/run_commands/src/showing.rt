@@ -6,7 +6,7 @@ ghost use Rattle.eu_io.specs.Faults.{counted};
 ghost use Rattle.eu_io.specs.Files.{file_named};
 ghost use Rattle.run_commands.specs.Showing.{FailOutput, TextOutput, ShowOutput, TreeOutput};
 ghost use Rattle.run_printing.specs.Printed.{AnswersAs, file_limit};
-ghost use Rattle.run_printing.specs.Statuses.{is_read};
+ghost use Rattle.run_printing.specs.Statuses.{is_read, is_write};
 
 use super::content::{Content, read_content};
 use eu_io::shelf::Shelf;
@@ -24,6 +24,7 @@ pub fn show<F: Shelf>(alloc: Global, shelf: &mut F, file: &Text) -> Result<Print
     ensures shown { (files : List FileEntry) → F.files shelf.old ≡ Some files
         → AnswersAs (ShowOutput file.now (file_named file.now files)) result }
     ensures reads { F.faults shelf.new ≡ counted (is_read result) (F.faults shelf.old) }
+    ensures no_write { is_write result ≡ false }
 {
     match read_content(alloc, shelf, file) {
         Ok(Content::Bytes(bytes)) => show_text(alloc, file, bytes.as_slice()),
@@ -37,6 +38,7 @@ fn show_text(alloc: Global, file: &Text, text: &[u8]) -> Result<Printed, RunFaul
     requires { length text.now ≤ file_limit }
     ensures shown { AnswersAs (TextOutput file.now text.now) result }
     ensures no_read { is_read result ≡ false }
+    ensures no_write { is_write result ≡ false }
 {
     match Language.read(alloc, text) {
         Ok(tree) => show_tree(alloc, tree.as_slice()),
@@ -48,6 +50,7 @@ fn show_text(alloc: Global, file: &Text, text: &[u8]) -> Result<Printed, RunFaul
 fn show_tree(alloc: Global, tree: &[Decl]) -> Result<Printed, RunFault>
     ensures shown { AnswersAs (TreeOutput tree.now) result }
     ensures no_read { is_read result ≡ false }
+    ensures no_write { is_write result ≡ false }
 {
     match print(alloc, tree) {
         Ok(text) => Ok(Printed {
@@ -62,6 +65,7 @@ fn show_tree(alloc: Global, tree: &[Decl]) -> Result<Printed, RunFault>
 fn show_fail(alloc: Global, file: &Text, fail: TextFail) -> Result<Printed, RunFault>
     ensures shown { AnswersAs (FailOutput fail file.now) result }
     ensures no_read { is_read result ≡ false }
+    ensures no_write { is_write result ≡ false }
 {
     match (fail.kind(), fail.at()) {
         (Some(kind), Some(place)) => faulty(alloc, kind, file, place),

@@ -2,7 +2,7 @@
 
 ghost use Rattle.std.specs.Prelude.{◌≡◌, IfOk, false, string_bytes};
 ghost use Rattle.run_printing.specs.Printed.{AnswersAs, FaultOutput, UsageOutput, fault_line};
-ghost use Rattle.run_printing.specs.Statuses.{is_read};
+ghost use Rattle.run_printing.specs.Statuses.{is_read, is_write};
 
 use super::status::{RunEnd, RunFault};
 use eu_name::bytes::Bytes;
@@ -28,6 +28,7 @@ pub struct Printed {
 pub fn usage(alloc: Global) -> Result<Printed, RunFault>
     ensures told { AnswersAs UsageOutput result }
     ensures no_read { is_read result ≡ false }
+    ensures no_write { is_write result ≡ false }
 {
     match Bytes::from_slice(alloc, USAGE.as_bytes()) {
         Ok(text) => Ok(Printed {
@@ -51,6 +52,7 @@ fn fault_line(alloc: Global, kind: TextKind, file: &Text, place: u32) -> Result<
 pub fn faulty(alloc: Global, kind: TextKind, file: &Text, place: u32) -> Result<Printed, RunFault>
     ensures told { AnswersAs (FaultOutput kind file.now place) result }
     ensures no_read { is_read result ≡ false }
+    ensures no_write { is_write result ≡ false }
 {
     match fault_line(alloc, kind, file, place) {
         Ok(line) => Ok(Printed {

@@ -1,5 +1,5 @@
 -- What is printed where a text poses a database, and where it poses none.
-use Rattle.std.proofs.Common.{◌≡◌, ℕ, List, Result, Ok, Err, inl, inr, sym, subst}
+use Rattle.std.proofs.Common.{ℕ, List, Result, Ok, Err, inl, inr, sym, subst}
 use Rattle.eu_io.specs.declared.shelf.FileEntry.{FileEntry}
 use Rattle.plan_db.specs.Database.{Database}
 use Rattle.posed_files.specs.declared.fault.PoseFault.{PoseFault}

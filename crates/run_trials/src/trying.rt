@@ -6,7 +6,7 @@ ghost use Rattle.plan_db.specs.Database.{IsSound};
 ghost use Rattle.problem_gen.specs.Generated.{generated_text};
 ghost use Rattle.run_commands.specs.Posing.{PosedOutput};
 ghost use Rattle.run_printing.specs.Printed.{AnswersAs};
-ghost use Rattle.run_printing.specs.Statuses.{is_read};
+ghost use Rattle.run_printing.specs.Statuses.{is_read, is_write};
 ghost use Rattle.run_trials.specs.Trying.{BodyOutput, TrialOutput, TryOutput, generated_files};
 
 use super::finding::printed_trial;
@@ -14,6 +14,7 @@ use eu_io::{CalmShelf, FileEntry};
 use eu_name::bytes::Bytes;
 use eu_name::text::Text;
 use plan_db::Db;
+use plan_release::let_go;
 use posed_files::pose;
 use problem_gen::{GenFault, generate};
 use run_commands::unposed;
@@ -26,6 +27,7 @@ pub fn trial(alloc: Global, number: u32) -> Result<Printed, RunFault>
     requires few { number ≤ 200 }
     ensures tried { AnswersAs (TryOutput number) result }
     ensures no_read { is_read result ≡ false }
+    ensures no_write { is_write result ≡ false }
 {
     match body(alloc, number) {
         Ok(printed) => headed(alloc, number, printed),
@@ -48,6 +50,7 @@ fn headed(alloc: Global, number: u32, printed: Printed) -> Result<Printed, RunFa
     requires { BodyOutput number printed.text printed.end }
     ensures tried { AnswersAs (TryOutput number) result }
     ensures no_read { is_read result ≡ false }
+    ensures no_write { is_write result ≡ false }
 {
     match head_text(alloc, number, printed.text.as_slice()) {
         Ok(text) => Ok(Printed {
@@ -90,6 +93,7 @@ fn body(alloc: Global, number: u32) -> Result<Printed, RunFault>
     requires few { number ≤ 200 }
     ensures told { AnswersAs (BodyOutput number) result }
     ensures no_read { is_read result ≡ false }
+    ensures no_write { is_write result ≡ false }
 {
     match shelf_of(alloc, number) {
         Ok(shelf) => body_over(alloc, shelf),
@@ -101,6 +105,7 @@ fn body(alloc: Global, number: u32) -> Result<Printed, RunFault>
 fn body_over(alloc: Global, shelf: CalmShelf) -> Result<Printed, RunFault>
     ensures told { AnswersAs (PosedOutput shelf (codes "gen") TrialOutput) result }
     ensures no_read { is_read result ≡ false }
+    ensures no_write { is_write result ≡ false }
 {
     let mut shelf = shelf;
     match Text::from_str(alloc, "gen") {
@@ -113,6 +118,7 @@ fn body_over(alloc: Global, shelf: CalmShelf) -> Result<Printed, RunFault>
 fn body_named(alloc: Global, shelf: &mut CalmShelf, name: &Text) -> Result<Printed, RunFault>
     ensures told { AnswersAs (PosedOutput shelf.old name.now TrialOutput) result }
     ensures no_read { is_read result ≡ false }
+    ensures no_write { is_write result ≡ false }
 {
     match pose(alloc, shelf, name) {
         Ok(db) => body_posed(alloc, db),
@@ -126,9 +132,12 @@ fn body_posed(alloc: Global, db: Db) -> Result<Printed, RunFault>
     requires sound { IsSound db.database }
     ensures told { AnswersAs (TrialOutput db.database) result }
     ensures no_read { is_read result ≡ false }
+    ensures no_write { is_write result ≡ false }
 {
     let mut db = db;
-    match printed_trial(alloc, &mut db) {
+    let tried = printed_trial(alloc, &mut db);
+    let_go(db);
+    match tried {
         Ok(printed) => Ok(printed),
         Err(_none) => Err(RunFault::Memory),
     }

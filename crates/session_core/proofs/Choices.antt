@@ -1,7 +1,7 @@
 -- Whether there is a choice of a number.
 use Rattle.std.proofs.Common.{◌≡◌, ℕ, ◌<◌, ◌≤◌, List, length, Some, None, inl, inr, sym, ◌∙◌}
 use Rattle.std.specs.Prelude.{slice_get}
-use Rattle.std.proofs.lemmas.Option.{slice_get_cases, none-some}
+use Rattle.std.proofs.lemmas.Option.{slice_get_cases}
 use Rattle.eu_name.proofs.Members.{get_below}
 use Rattle.model_core.specs.declared.decision.Decision.{Decision}
 

@@ -18,11 +18,11 @@ use Rattle.script_lines.proofs.Pointing.{edges_writable}
 use Rattle.script_lines.proofs.Settled.{standing_writable}
 use Rattle.script_lines.specs.Writable.{IsEdgeWritable}
 use Rattle.script_lines.specs.Lines.{counted_lines, IsEdgeLine}
-use Rattle.session_core.specs.declared.reason.RefusalReason.TheVariants.{Consistent}
-use Rattle.session_core.specs.Reasons.{refusal}
-use Rattle.session_core.specs.Replies.{TellsCollapse, TellsDecisions, TellsConflict, TellsCycle}
-use Rattle.session_core.specs.Steps.{AnswersCommand}
-use Rattle.session_core.proofs.Stepping.{kept_answers}
+use Rattle.session_steps.specs.declared.reason.RefusalReason.TheVariants.{Consistent}
+use Rattle.session_steps.specs.Reasons.{refusal}
+use Rattle.session_steps.specs.Replies.{TellsCollapse, TellsDecisions, TellsConflict, TellsCycle}
+use Rattle.session_steps.specs.Steps.{AnswersCommand}
+use Rattle.session_core.proofs.Told.{kept_answers}
 
 -- the edges of the list that stands can be written
 pub edges_there : (database : Database) (edges : List NamedEdge) → IsSound database → AreStandingEdges database edges

@@ -1,7 +1,6 @@
 -- Flaws and decisions that are told.
-use Rattle.std.proofs.Common.{◌≡◌, ℕ, ◌<◌, ◌≤◌, List, length, Option, Some, None, Result, Ok, Err, inl, inr, refl, sym, subst, arith}
-use Rattle.std.specs.Prelude.{Bool, true, false, IfOk, MatchBool, codes, slice_get}
-use Rattle.std.specs.List.{AllZip}
+use Rattle.std.proofs.Common.{◌≡◌, ℕ, List, length, Some, Result, Ok, Err, inl, inr, refl, sym, subst}
+use Rattle.std.specs.Prelude.{IfOk, codes}
 use Rattle.std.specs.declared.alloc.AllocError.{AllocError}
 use Rattle.model_core.specs.declared.decision.Decision.{Decision}
 use Rattle.model_core.specs.declared.model.Model.{Model}
@@ -11,12 +10,11 @@ use Rattle.flaw_core.specs.declared.flaw.Flaw.{Flaw}
 use Rattle.flaw_core.specs.Places.{IsFlawAt}
 use Rattle.flaw_core.specs.Rules.{IsFirstAt, AreChoicesAt}
 use Rattle.plan_db.specs.Database.{Database}
-use Rattle.plan_defs.specs.Settling.{IsConflict}
 use Rattle.plan_states.specs.Flaws as named
 use Rattle.script_commands.specs.declared.command.Command.TheVariants as commands
-use Rattle.script_lines.specs.Lines.{with_line_feed, counted_lines, IsDecisionLine, IsFlawLine}
-use Rattle.session_core.specs.Replies.{TellsDecisions, TellsFlaw}
-use Rattle.session_core.specs.Steps.{AnswersCommand}
+use Rattle.script_lines.specs.Lines.{with_line_feed, IsFlawLine}
+use Rattle.session_steps.specs.Replies.{TellsDecisions, TellsFlaw}
+use Rattle.session_steps.specs.Steps.{AnswersCommand}
 
 pub decisions_told : (database : Database) (result : Result (List ℕ) AllocError)
     → IfOk result (TellsDecisions database.model (codes "decisions") (standing database.history)) → AnswersCommand database commands.Decisions result database

@@ -1,7 +1,6 @@
 -- The model of a database stays, whatever a command is answered.
 use Rattle.std.proofs.Common.{◌≡◌, ℕ, List, Result, Ok, Err, inl, inr, ap}
 use Rattle.std.specs.declared.alloc.AllocError.{AllocError}
-use Rattle.model_core.specs.declared.model.Model.{Model}
 use Rattle.plan_db.specs.Database.{Database}
 use Rattle.plan_db.specs.declared.fault.Outcome.{Outcome}
 use Rattle.plan_search.specs.Search.{SearchOutcome}
@@ -11,10 +10,10 @@ use Rattle.script_commands.specs.declared.command.Command.TheVariants as command
 use Rattle.solver_core.specs.declared.ending.SearchEnd.{SearchEnd}
 use Rattle.solver_core.specs.declared.ending.SearchEnd.TheVariants.{Found, Exhausted, Budget}
 use Rattle.solver_core.specs.Solving.{TellsEnd}
-use Rattle.session_core.specs.declared.reason.RefusalReason.{RefusalReason}
-use Rattle.session_core.specs.declared.reason.RefusalReason.TheVariants as reason
-use Rattle.session_core.specs.Replies.{UnlessFull, RepliesStep, TakesAsked, ResetsAsked, UndoesLast, RepliesTo}
-use Rattle.session_core.specs.Steps.{AnswersCommand}
+use Rattle.session_steps.specs.declared.reason.RefusalReason.{RefusalReason}
+use Rattle.session_steps.specs.declared.reason.RefusalReason.TheVariants as reason
+use Rattle.session_steps.specs.Replies.{UnlessFull, RepliesStep, TakesAsked, ResetsAsked, UndoesLast, RepliesTo}
+use Rattle.session_steps.specs.Steps.{AnswersCommand}
 
 module _ (old new : Database) where
   same_model : new ≡ old → new.model ≡ old.model

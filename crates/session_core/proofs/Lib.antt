@@ -1,8 +1,5 @@
-mod Stepping
-mod Decisions
 mod Keeping
 mod Lines
-mod Searches
 mod Told
 mod Choices
 mod Flaws

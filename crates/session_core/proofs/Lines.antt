@@ -1,19 +1,18 @@
 -- From what a command is answered to what its line is answered.
-use Rattle.std.proofs.Common.{◌≡◌, ℕ, ◌≤◌, List, Result, Ok, Err, inl, inr, refl, arith}
-use Rattle.std.specs.Prelude.{⊤, true, IfOk, OnErr, MatchResult}
+use Rattle.std.proofs.Common.{◌≡◌, ℕ, ◌≤◌, List, Result, Ok, Err, inl, inr, refl}
+use Rattle.std.specs.Prelude.{true, IfOk, OnErr}
 use Rattle.std.specs.declared.alloc.AllocError.{AllocError}
 use Rattle.line_session.specs.declared.reply.Answer.{Answer}
 use Rattle.line_session.specs.Answering.{LeavesUnanswered}
 use Rattle.plan_db.specs.Database.{Database, IsSound}
 use Rattle.script_commands.specs.declared.command.Command.{Command}
 use Rattle.script_commands.specs.declared.command.Command.TheVariants as commands
-use Rattle.script_commands.specs.declared.command.LineFault.{LineFault}
 use Rattle.script_commands.specs.declared.command.LineFault.TheVariants as line
 use Rattle.script_commands.specs.Line.{IsCommand, ReadsLine}
-use Rattle.session_core.specs.declared.reason.RefusalReason.TheVariants as reason
-use Rattle.session_core.specs.Reasons.{refusal}
-use Rattle.session_core.specs.Replies.{RepliesTo, AnswersRead, AnswersLine, IsLost, goes_on_behind}
-use Rattle.session_core.specs.Steps.{AnswersCommand}
+use Rattle.session_steps.specs.declared.reason.RefusalReason.TheVariants as reason
+use Rattle.session_steps.specs.Reasons.{refusal}
+use Rattle.session_steps.specs.Replies.{RepliesTo, IsLost}
+use Rattle.session_core.specs.Replies.{AnswersRead, AnswersLine, goes_on_behind}
 
 module _ (old new : Database) (sound : IsSound old) (text : List ℕ) where
   module _ (command : Command) (reads : ReadsLine text (Ok command)) where

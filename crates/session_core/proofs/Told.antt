@@ -1,5 +1,5 @@
 -- What is told of a database.
-use Rattle.std.proofs.Common.{◌≡◌, ℕ, List, Result, Ok, Err, inl, inr, subst}
+use Rattle.std.proofs.Common.{◌≡◌, ℕ, List, Result, Ok, Err, inl, inr, refl, subst}
 use Rattle.std.specs.Prelude.{IfOk}
 use Rattle.std.specs.declared.alloc.AllocError.{AllocError}
 use Rattle.domain_core.specs.Domain.{Domain}
@@ -19,10 +19,17 @@ use Rattle.plan_db.specs.declared.fault.QueryFault.{QueryFault}
 use Rattle.plan_db.specs.declared.fault.QueryFault.TheVariants as query
 use Rattle.plan_view.specs.Seeing.{Seen, seen_state}
 use Rattle.script_lines.specs.Lines.{with_line_feed, IsDomainLine}
-use Rattle.session_core.specs.declared.reason.RefusalReason.TheVariants.{Unknown}
-use Rattle.session_core.specs.Reasons.{outcome_text, refusal}
-use Rattle.session_core.specs.Replies.{TellsState, TellsDomain}
-use Rattle.session_core.specs.Steps.{SaysUntold, TellsVariable}
+use Rattle.session_core.specs.Telling.{SaysUntold, TellsVariable}
+use Rattle.session_steps.specs.declared.reason.RefusalReason.TheVariants.{Unknown}
+use Rattle.session_steps.specs.Reasons.{outcome_text, refusal}
+use Rattle.session_steps.specs.Replies.{Keeping, TellsState, TellsDomain}
+use Rattle.session_steps.specs.Steps.{Answers}
+
+-- nothing changes where something is only told
+pub kept_answers : (old : Database) (Tells : Database → List ℕ → Type 0) (result : Result (List ℕ) AllocError)
+    → IfOk result (Tells old) → Answers (Keeping Tells old) old result old
+kept_answers old Tells (Ok reply) tells = (tells, refl)
+kept_answers old Tells (Err none) tells = inl refl
 
 -- ---- views
 

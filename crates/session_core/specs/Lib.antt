@@ -1,4 +1,3 @@
-pub mod Reasons
 pub mod Replies
-pub mod Steps
+pub mod Telling
 pub mod FrontLaw

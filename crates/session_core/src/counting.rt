@@ -27,7 +27,10 @@ fn has_choice<V: View>(
         → MatchBool has (number < length choices) (length choices ≤ number)) }
 {
     match Plain.choice(model, view, flaw, number, MOST_ACTIVE) {
-        Ok(Some(_choice)) => Ok(true),
+        Ok(Some(choice)) => {
+            drop(choice);
+            Ok(true)
+        }
         Ok(None) => Ok(false),
         Err(none) => Err(none),
     }

@@ -5,24 +5,24 @@ ghost use Rattle.line_session.specs.Answering.{LeavesUnanswered};
 ghost use Rattle.plan_db.specs.Database.{IsSound};
 ghost use Rattle.plan_words.specs.Indexing.{IsModelIndex};
 ghost use Rattle.script_commands.specs.Line.{IsCommand};
-ghost use Rattle.session_core.specs.Reasons.{refusal};
-ghost use Rattle.session_core.specs.Replies.{AnswersLine, AnswersRead, IsLost, RepliesTo, goes_on_behind};
-ghost use Rattle.session_core.specs.Steps.{AnswersCommand};
+ghost use Rattle.session_core.specs.Replies.{AnswersLine, AnswersRead, goes_on_behind};
+ghost use Rattle.session_steps.specs.Reasons.{refusal};
+ghost use Rattle.session_steps.specs.Replies.{IsLost, RepliesTo};
+ghost use Rattle.session_steps.specs.Steps.{AnswersCommand};
 
-use super::deciding::decide_reply;
 use super::explaining::{why_cycle, why_reply};
-use super::reason::RefusalReason;
-use super::replies::{no_reply, refused};
-use super::resetting::{reset_order_reply, reset_reply};
-use super::searching::search_reply;
 use super::telling::{tell_decisions, tell_domain, tell_flaw, tell_tokens};
-use super::undoing::undo;
 use eu_name::bytes::Bytes;
 use line_session::reply::{Answer, Responder};
 use plan_db::Db;
+use plan_release::let_go;
 use plan_words::indexed::ModelIndex;
 use script_commands::{Command, LineFault};
 use script_lang::read_line;
+use session_steps::replies::{no_reply, refused};
+use session_steps::{
+    RefusalReason, decide_reply, reset_order_reply, reset_reply, search_reply, undo,
+};
 use std::alloc::{AllocError, Global};
 use std::marker::Model;
 
@@ -56,8 +56,13 @@ impl Editor {
     pub fn new(alloc: Global, db: Db) -> Result<Editor, AllocError>
         ensures { IfOk result (λ editor. editor ≡ db.database) }
     {
-        let index = ModelIndex::new(alloc, db.model())?;
-        Ok(Editor { alloc, index, db })
+        match ModelIndex::new(alloc, db.model()) {
+            Ok(index) => Ok(Editor { alloc, index, db }),
+            Err(none) => {
+                let_go(db);
+                Err(none)
+            }
+        }
     }
 
     /// Gives the database back as it is now.
@@ -124,7 +129,11 @@ fn answer_ready(
     ensures model { db.new.database.model ≡ db.old.database.model }
 {
     match read_line(alloc, line) {
-        Ok(command) => answer_command(alloc, db, index, &command),
+        Ok(command) => {
+            let answer = answer_command(alloc, db, index, &command);
+            drop(command);
+            answer
+        }
         Err(LineFault::TooLong) => refuse_line(alloc, RefusalReason::Long),
         Err(LineFault::Syntax) => refuse_line(alloc, RefusalReason::Syntax),
         Err(LineFault::Memory) => Err(AllocError),

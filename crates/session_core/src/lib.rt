@@ -5,15 +5,8 @@
 #![tactic(auto)]
 
 mod counting;
-mod deciding;
 pub mod editor;
 mod explaining;
-pub mod reason;
-mod replies;
-mod resetting;
-mod searching;
 mod telling;
-mod undoing;
 
 pub use editor::Editor;
-pub use reason::RefusalReason;

@@ -5,13 +5,11 @@ ghost use Rattle.flaw_core.specs.Rules.{AreChoicesAt, IsFirstAt, IsLeastFor};
 ghost use Rattle.model_core.specs.declared.decision.Decision.{Decision};
 ghost use Rattle.plan_words.specs.Indexing.{IsModelIndex};
 ghost use Rattle.script_commands.specs.declared.command.Command.TheVariants as commands;
-ghost use Rattle.session_core.specs.Replies.{TellsFlaw, TellsState};
-ghost use Rattle.session_core.specs.Steps.{AnswersCommand, SaysUntold, TellsVariable};
+ghost use Rattle.session_core.specs.Telling.{SaysUntold, TellsVariable};
+ghost use Rattle.session_steps.specs.Replies.{TellsFlaw, TellsState};
+ghost use Rattle.session_steps.specs.Steps.{AnswersCommand};
 
 use super::counting::{MOST_ACTIVE, count_choices};
-use super::reason::RefusalReason;
-use super::replies::{outcome_reply, refused};
-use super::resetting::variable_in;
 use eu_name::bytes::Bytes;
 use eu_name::name::VarName;
 use eu_name::name_text::NameText;
@@ -23,6 +21,9 @@ use plan_words::indexed::ModelIndex;
 use script_lines::replies::{
     decisions_reply, domain_reply, flaw_reply, no_flaw_reply, tokens_reply,
 };
+use session_steps::RefusalReason;
+use session_steps::replies::{outcome_reply, refused};
+use session_steps::resetting::variable_in;
 use std::alloc::{AllocError, Global};
 
 // Why nothing is told.

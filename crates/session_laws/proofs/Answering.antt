@@ -21,10 +21,11 @@ use Rattle.script_commands.specs.declared.command.Command.TheVariants as command
 use Rattle.script_commands.specs.declared.command.LineFault.{LineFault}
 use Rattle.script_commands.specs.declared.command.LineFault.TheVariants as line
 use Rattle.script_commands.specs.Line.{IsCommand, ReadsLine}
-use Rattle.session_core.specs.declared.reason.RefusalReason.{RefusalReason}
-use Rattle.session_core.specs.Reasons.{step_text, outcome_text}
-use Rattle.session_core.specs.Replies.{UnlessFull, RepliesStep, TakesAsked, ResetsAsked, UndoesLast, TellsState, TellsCollapse, TellsDomain, TellsTokens, TellsFlaw, TellsConflict, TellsCycle}
-use Rattle.session_core.specs.Replies.{RepliesSearch, Keeping, RepliesTo, AnswersRead, AnswersLine}
+use Rattle.session_steps.specs.declared.reason.RefusalReason.{RefusalReason}
+use Rattle.session_steps.specs.Reasons.{step_text, outcome_text}
+use Rattle.session_steps.specs.Replies.{UnlessFull, RepliesStep, TakesAsked, ResetsAsked, UndoesLast, TellsState, TellsCollapse, TellsDomain, TellsTokens, TellsFlaw, TellsConflict, TellsCycle}
+use Rattle.session_steps.specs.Replies.{RepliesSearch, Keeping, RepliesTo}
+use Rattle.session_core.specs.Replies.{AnswersRead, AnswersLine}
 use Rattle.session_laws.proofs.Resetting.{resetting_one, undoing_one}
 use Rattle.session_laws.proofs.Searching.{search_one}
 use Rattle.session_laws.proofs.Taking.{taking_one}

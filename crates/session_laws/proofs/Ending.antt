@@ -16,7 +16,8 @@ use Rattle.script_commands.specs.declared.command.Command.{Command}
 use Rattle.script_commands.specs.declared.command.Command.TheVariants.{Solve}
 use Rattle.script_commands.specs.declared.command.LineFault.{LineFault}
 use Rattle.script_commands.specs.declared.command.LineFault.TheVariants as line
-use Rattle.session_core.specs.Replies.{IsStandingPlan, TellsSearch, RepliesTo, AnswersRead}
+use Rattle.session_steps.specs.Replies.{IsStandingPlan, TellsSearch, RepliesTo}
+use Rattle.session_core.specs.Replies.{AnswersRead}
 use Rattle.solver_core.specs.declared.ending.SearchEnd.{SearchEnd}
 use Rattle.solver_core.specs.declared.ending.SearchEnd.TheVariants.{Found, Exhausted, Budget}
 use Rattle.solver_core.specs.Solving.{TellsEnd}

@@ -4,7 +4,6 @@ pub mod Taking
 pub mod Resetting
 pub mod Cycling
 pub mod Edging
-pub mod Flawing
 pub mod Telling
 pub mod Searching
 pub mod Answering

@@ -20,9 +20,9 @@ use Rattle.plan_steps.specs.declared.subject.Subject.TheVariants as subjects
 use Rattle.plan_steps.specs.Subjects.{IsOfSubject}
 use Rattle.conflict_laws.proofs.Splitting.{settles_same}
 use Rattle.script_commands.specs.declared.command.Command.{Command}
-use Rattle.session_core.specs.declared.reason.RefusalReason.{RefusalReason}
-use Rattle.session_core.specs.declared.reason.RefusalReason.TheVariants as reason
-use Rattle.session_core.specs.Replies.{ResetsAsked, UndoesLast}
+use Rattle.session_steps.specs.declared.reason.RefusalReason.{RefusalReason}
+use Rattle.session_steps.specs.declared.reason.RefusalReason.TheVariants as reason
+use Rattle.session_steps.specs.Replies.{ResetsAsked, UndoesLast}
 use Rattle.session_laws.proofs.Taking.{outcome_one}
 use Rattle.session_laws.proofs.Words.{subject_one}
 

@@ -17,7 +17,7 @@ use Rattle.plan_search.proofs.Searching.{fails_not_finds, stops_not_finds, stops
 use Rattle.plan_soundness.specs.Soundness.{StatesHaveOnePlan}
 use Rattle.plan_states.specs.StatePlans.{IsStatePlan}
 use Rattle.script_lines.specs.Lines.{with_line_feed}
-use Rattle.session_core.specs.Replies.{IsStandingPlan, TellsSearch, RepliesSearch}
+use Rattle.session_steps.specs.Replies.{IsStandingPlan, TellsSearch, RepliesSearch}
 use Rattle.solver_core.specs.declared.ending.SearchEnd.{SearchEnd}
 use Rattle.solver_core.specs.declared.ending.SearchEnd.TheVariants.{Found, Exhausted, Budget}
 use Rattle.solver_core.specs.Solving.{TakesMore, TellsEnd}

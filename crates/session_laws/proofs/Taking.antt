@@ -12,9 +12,9 @@ use Rattle.plan_defs.specs.Refusals as refusals
 use Rattle.plan_defs.proofs.Reasons.{refusal_same}
 use Rattle.plan_defs.proofs.Settling.{least_same, least_not_collapsed}
 use Rattle.script_commands.specs.declared.command.Command.{Command}
-use Rattle.session_core.specs.declared.reason.RefusalReason.{RefusalReason}
-use Rattle.session_core.specs.declared.reason.RefusalReason.TheVariants as reason
-use Rattle.session_core.specs.Replies.{RefusesAsked, AsksInVain, TakesAsked}
+use Rattle.session_steps.specs.declared.reason.RefusalReason.{RefusalReason}
+use Rattle.session_steps.specs.declared.reason.RefusalReason.TheVariants as reason
+use Rattle.session_steps.specs.Replies.{RefusesAsked, AsksInVain, TakesAsked}
 use Rattle.script_names.specs.Naming.{AsksDecision}
 use Rattle.session_laws.proofs.Words.{asked_one}
 

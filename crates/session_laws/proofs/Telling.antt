@@ -19,10 +19,10 @@ use Rattle.plan_cycles.specs.TimeCycle.{IsTimeCycle}
 use Rattle.plan_search.specs.Choices.{AreChoices}
 use Rattle.plan_states.proofs.Deciding.{decides_once}
 use Rattle.script_lines.specs.Lines.{with_line_feed, counted_lines, IsDomainLine, IsTokenLine, IsDecisionLine, IsEdgeLine, IsFlawLine}
-use Rattle.session_core.specs.Replies.{TellsState, TellsCollapse, TellsDomain, TellsTokens, TellsDecisions, TellsFlaw, TellsConflict, TellsCycle}
+use Rattle.session_steps.specs.Replies.{TellsState, TellsCollapse, TellsDomain, TellsTokens, TellsDecisions, TellsFlaw, TellsConflict, TellsCycle}
 use Rattle.session_laws.proofs.Cycling.{cycle_one}
 use Rattle.session_laws.proofs.Edging.{standing_edges_one}
-use Rattle.session_laws.proofs.Flawing.{first_one, choices_one}
+use Rattle.plan_search.proofs.Once.{first_once, choices_once}
 use Rattle.session_laws.proofs.Lines.{domain_line_one, token_line_one, decision_line_one, edge_line_one, flaw_line_one}
 use Rattle.session_laws.proofs.Words.{zip_one}
 
@@ -78,8 +78,8 @@ module _ (model : Model) where
     flaw_told_one one other (inl p) (inr (flaw, choices, line, (is_first, are, is_line, is))) = absurd (p.0 (flaw, is_first.is))
     flaw_told_one one other (inr (flaw, choices, line, (is_first, are, is_line, is))) (inl q) = absurd (q.0 (flaw, is_first.is))
     flaw_told_one one other (inr (flaw, choices, line, (is_first, are, is_line, is))) (inr (flaw', choices', line', (is_first', are', is_line', is'))) =
-        let flaws = first_one model decisions state flaw' flaw is_first' is_first in
-        let lists = choices_one model decisions state order 512 flaw choices' choices (subst (λ f. AreChoices model decisions state 512 f choices') flaws are') are in
+        let flaws = first_once model decisions state flaw' flaw is_first' is_first in
+        let lists = choices_once model decisions state order 512 flaw choices' choices (subst (λ f. AreChoices model decisions state 512 f choices') flaws are') are in
         let line_of = subst (λ (n : ℕ). IsFlawLine model flaw n line') (ap length lists) (subst (λ f. IsFlawLine model f (length choices') line') flaws is_line') in
         is ∙ (ap with_line_feed (flaw_line_one model flaw (length choices) line line' is_line line_of) ∙ sym is')
 

@@ -40,7 +40,7 @@ use Rattle.script_commands.specs.declared.command.Command.{Command}
 use Rattle.script_commands.specs.declared.command.Command.TheVariants.{Specify, Activate, Merge, Reject, Order, Reset, ResetOrder}
 use Rattle.script_lines.specs.Lines.{IsTokenWord, IsVariableWord}
 use Rattle.script_names.specs.Naming.{IsVariableOfKind, SaysValue, AsksDecision}
-use Rattle.session_core.specs.Replies.{AsksSubject}
+use Rattle.session_steps.specs.Replies.{AsksSubject}
 
 -- lists of what each thing has are one, where each thing has one
 pub zip_one : {X Y : Type 0} (Has : X → Y → Type 0) → ((x : X) (y z : Y) → Has x y → Has x z → y ≡ z)

@@ -14,7 +14,8 @@ use Rattle.plan_swap.specs.SwapLaws.{count_of_tokens}
 use Rattle.script_commands.specs.declared.command.Command.TheVariants.{Solve}
 use Rattle.script_commands.specs.Line.{ReadsLine}
 use Rattle.script_lines.specs.Lines.{with_line_feed}
-use Rattle.session_core.specs.Replies.{bound_text, AnswersLine}
+use Rattle.session_steps.specs.Replies.{bound_text}
+use Rattle.session_core.specs.Replies.{AnswersLine}
 
 -- `found V` and the text of a plan that is valid, and agrees with the decisions that stood and with those that stand now
 pub record ProvesPlan (old new : Database) (steps : ℕ) (reply : List ℕ) : Type 0 where

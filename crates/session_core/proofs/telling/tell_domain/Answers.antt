@@ -1,7 +1,6 @@
 use Rattle.std.proofs.Common.{inl, refl}
-use Rattle.session_core.specs.Replies.{TellsState, TellsDomain}
-use Rattle.session_core.proofs.Stepping.{kept_answers}
-use Rattle.session_core.proofs.Told.{domain_told, domain_unknown, domain_collapsed}
+use Rattle.session_steps.specs.Replies.{TellsState, TellsDomain}
+use Rattle.session_core.proofs.Told.{kept_answers, domain_told, domain_unknown, domain_collapsed}
 use Rattle.session_core.proofs.telling.tell_domain.Goals as goal
 
 pub returns-then-not-is_consistent : goal.returns-then-not-is_consistent
