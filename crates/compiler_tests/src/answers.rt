@@ -1,5 +1,6 @@
 //! What is answered of the names, the types and the rules of texts, in words.
 
+use super::rows::Asked;
 use super::shelves::pair;
 use super::tables::table_words;
 use super::trees::rules_words;
@@ -9,9 +10,9 @@ use nddl_files::read_all;
 use nddl_table::{TypeTable, types};
 use std::alloc::{AllocError, Global};
 
-/// What is asked of files in which nothing is wrong that comes first.
+/// What is sought of files in which nothing is wrong that comes first.
 #[derive(Clone, Copy)]
-pub enum Asked {
+pub enum Sought {
     /// Nothing more.
     Fault,
     /// Their table.
@@ -30,45 +31,41 @@ pub fn fault_words(alloc: Global, fault: &TextFault) -> Result<String, AllocErro
     }
 }
 
-/// What is asked of files that have this table.
+/// What is sought of files that have this table.
 fn answer_of(
     alloc: Global,
     table: &TypeTable,
     files: &[FileDecls],
-    asked: Asked,
+    sought: Sought,
 ) -> Result<String, AllocError> {
-    match asked {
-        Asked::Fault => String::from_str(alloc, "fine"),
-        Asked::Table => table_words(alloc, table),
-        Asked::Trees => rules_words(alloc, table, files),
+    match sought {
+        Sought::Fault => String::from_str(alloc, "fine"),
+        Sought::Table => table_words(alloc, table),
+        Sought::Trees => rules_words(alloc, table, files),
     }
 }
 
-/// The first fault of names and types, or else what is asked.
-fn answer(alloc: Global, files: &[FileDecls], asked: Asked) -> Result<String, AllocError> {
+/// The first fault of names and types, or else what is sought.
+fn answer(alloc: Global, files: &[FileDecls], sought: Sought) -> Result<String, AllocError> {
     match types(alloc, files) {
-        Ok(table) => answer_of(alloc, &table, files, asked),
+        Ok(table) => answer_of(alloc, &table, files, sought),
         Err(fault) => fault_words(alloc, &fault),
     }
 }
 
 /// That of the file `m` of the first text, beside a file `q` of the second.
-fn told(alloc: Global, asked: Asked, text: &str, other: &str) -> Result<String, AllocError> {
+pub fn told(alloc: Global, sought: Sought, text: &str, other: &str) -> Result<String, AllocError> {
     let mut files = pair(alloc, text, other)?;
     match read_all(alloc, &mut files, "m") {
-        Ok(read) => answer(alloc, read.as_slice(), asked),
+        Ok(read) => answer(alloc, read.as_slice(), sought),
         Err(_) => String::from_str(alloc, "not read"),
     }
 }
 
-/// Whether this is what is told.
-pub fn comes(
-    alloc: Global,
-    asked: Asked,
-    text: &str,
-    other: &str,
-    expected: &str,
-) -> Result<bool, AllocError> {
-    let words = told(alloc, asked, text, other)?;
-    Ok(words.as_str() == expected)
+/// What is sought of a text, and maybe that of the file `q`.
+impl Asked for Sought {
+    fn answer(&self, alloc: Global, given: &str) -> Result<String, AllocError> {
+        let (text, other) = given.split_once(" | ").unwrap_or((given, ""));
+        told(alloc, *self, text, other)
+    }
 }

@@ -1,254 +1,113 @@
 //! What is wrong first with the names and types of texts, by hand from what the language allows.
 
-use super::answers::{Asked, comes};
+use super::answers::Sought;
+use super::repeating::repeated;
+use super::rows::{Asked, assert_rows};
 use std::alloc::{AllocError, Global};
 
-const FIRST: [(&str, &str, &str); 72] = [
-    ("eq(1.5, 1); float f;", "", "Float m 12"),
-    ("class A { A(float n) { } }", "", "Float m 12"),
-    ("int [0.5 3] x;", "", "Float m 5"),
-    ("x y;", "", "Unknown m 0"),
-    ("PlannerConfig p;", "", "Unknown m 0"),
-    (
-        "class A { predicate P { int v; B w; } }",
-        "",
-        "Unknown m 31",
-    ),
-    ("class A extends B { }", "", "Unknown m 16"),
-    ("class A extends PlannerConfig { }", "", "Unknown m 16"),
-    ("int {1, q} x;", "", "Unknown m 8"),
-    (
-        "enum E { a } int {1} x; bool {true, E} y;",
-        "",
-        "Unknown m 36",
-    ),
-    ("int x; bool x;", "", "Twice m 12"),
-    (
-        "enum E { a } class A { predicate P { } } goal(A.P a);",
-        "",
-        "Twice m 50",
-    ),
-    (
-        "goal(A.P a); class A { predicate P { } } enum E { b, a }",
-        "",
-        "Twice m 53",
-    ),
-    ("class A; A a = new A(); typedef int a;", "", "Twice m 36"),
-    (
-        "class N; class N { } class N; class N { }",
-        "",
-        "Twice m 36",
-    ),
-    ("class N; int N;", "", "Twice m 13"),
-    ("class A { int P; predicate P { } }", "", "Twice m 27"),
-    (
-        "class A { predicate P { int v; bool v; } }",
-        "",
-        "Twice m 36",
-    ),
-    ("class A { A(int n, bool n) { } }", "", "Twice m 24"),
-    (
-        "class A { int P; } class B extends A { predicate P { } }",
-        "",
-        "Twice m 49",
-    ),
-    (
-        "class C extends B { bool k; } class B extends A { } class A { int k; }",
-        "",
-        "Twice m 25",
-    ),
-    (
-        "class A extends Reservoir { predicate produce { } }",
-        "",
-        "Twice m 38",
-    ),
-    (
-        "class A extends Reusable { } class B extends A { int capacity; }",
-        "",
-        "Twice m 53",
-    ),
-    ("class A { A() { } A(int n) { } }", "", "Twice m 18"),
-    ("class A { A() { } B() { } }", "", "Twice m 18"),
-    (
-        "PlannerConfig p = new PlannerConfig(0, 1, 1); PlannerConfig q = new PlannerConfig(0, 1, 1);",
-        "",
-        "Twice m 60",
-    ),
-    (
-        "class A { predicate P { int v; bool end; } }",
-        "",
-        "Twice m 36",
-    ),
-    ("class A { predicate P { A object; } }", "", "Twice m 26"),
-    ("class A { predicate P { int start; } }", "", "Twice m 28"),
-    (
-        "class A { predicate P { int duration; } }",
-        "",
-        "Twice m 28",
-    ),
-    ("class Timeline;", "", "Twice m 6"),
-    ("enum E { a, Object }", "", "Twice m 12"),
-    ("int PlannerConfig;", "", "Twice m 4"),
-    ("int x; x y;", "", "WrongType m 7"),
-    ("string s;", "", "WrongType m 0"),
-    ("int x; class A extends x { }", "", "WrongType m 23"),
-    (
-        "class A { } typedef A T; class B extends T { }",
-        "",
-        "WrongType m 41",
-    ),
-    ("bool [0 1] b;", "", "WrongType m 6"),
-    ("bool [q 1] b;", "", "Unknown m 6"),
-    ("typedef int {1, 2} T; T [1 2] x;", "", "WrongType m 25"),
-    ("int [0 true] x;", "", "WrongType m 7"),
-    (
-        "enum C { red } enum D { up } C {up} x;",
-        "",
-        "WrongType m 32",
-    ),
-    ("class A { } A {3} x;", "", "WrongType m 15"),
-    ("class A extends A { }", "", "WrongType m 6"),
-    (
-        "class B extends A { } class A extends B { }",
-        "",
-        "WrongType m 6",
-    ),
-    (
-        "class C extends A { } class A extends B { } class B extends A { }",
-        "",
-        "WrongType m 28",
-    ),
-    ("typedef T T;", "", "WrongType m 10"),
-    ("T x; typedef U T; typedef T U;", "", "WrongType m 15"),
-    (
-        "typedef U V; V {3} x; typedef T U; typedef U T;",
-        "",
-        "WrongType m 32",
-    ),
-    ("class A { B() { } }", "", "WrongType m 10"),
-    ("eq(q, 1); int [4 3] x;", "", "NotInDomain m 14"),
-    ("T [3 6] x; typedef int [0 5] T;", "", "NotInDomain m 2"),
-    (
-        "typedef int [0 5] T; typedef T [1 5] U; T {0} x; U {5, 0} y;",
-        "",
-        "NotInDomain m 55",
-    ),
-    (
-        "enum C { red, up } typedef C {red} D; D {up} x;",
-        "",
-        "NotInDomain m 41",
-    ),
-    (
-        "class R { } class S { } R r = new R(); S s = new S(); R {r, s} x;",
-        "",
-        "NotInDomain m 60",
-    ),
-    ("int [4 3] x; y z;", "", "NotInDomain m 4"),
-    ("T [5 4] x; typedef q T;", "", "Unknown m 19"),
-    (
-        "class B extends A { bool k; } class A extends q { int k; }",
-        "",
-        "Unknown m 46",
-    ),
-    ("int x; #include \"q\" y z;", "bool x;", "Twice q 5"),
-    ("#include \"q\" bool x;", "int x;", "Twice m 18"),
-    (
-        "class A { int k; } #include \"q\"",
-        "class B extends A { bool k; }",
-        "Twice q 25",
-    ),
-    (
-        "#include \"q\"",
-        "class A { A() { } A() { } }",
-        "Twice q 18",
-    ),
-    (
-        "PlannerConfig p = new PlannerConfig(0, 1, 1); #include \"q\"",
-        "PlannerConfig q = new PlannerConfig(0, 1, 1);",
-        "Twice q 14",
-    ),
-    (
-        "#include \"q\"",
-        "class A { predicate P { int start; } }",
-        "Twice q 28",
-    ),
-    (
-        "#include \"q\"",
-        "int Line; class Reusable { }",
-        "Twice q 16",
-    ),
-    ("int a; x y; #include \"q\"", "z w;", "Unknown m 7"),
-    ("int a; #include \"q\" x y;", "bool b; z w;", "Unknown q 8"),
-    ("int a; #include \"q\" x y;", "bool b;", "Unknown m 20"),
-    ("class N; class N { } class N;", "", "fine"),
-    ("int {1, 1, 2} x; typedef int T; T [2, 2] y;", "", "fine"),
-    (
-        "B x; #include \"q\" class A { A(int k) { } int k; predicate P { bool k; } } int k;",
-        "class B extends A { }",
-        "fine",
-    ),
-    (
-        "eq(q, 1); N::P { x y; } class A { } typedef A T; A x = new T(1); x.close();",
-        "",
-        "fine",
-    ),
-];
+// A text, and maybe that of the file `q`.
+const FIRST: &str = "
+eq(1.5, 1); float f; | Float m 12
+class A { A(float n) { } } | Float m 12
+int [0.5 3] x; | Float m 5
+x y; | Unknown m 0
+PlannerConfig p; | Unknown m 0
+class A { predicate P { int v; B w; } } | Unknown m 31
+class A extends B { } | Unknown m 16
+class A extends PlannerConfig { } | Unknown m 16
+int {1, q} x; | Unknown m 8
+enum E { a } int {1} x; bool {true, E} y; | Unknown m 36
+int x; bool x; | Twice m 12
+enum E { a } class A { predicate P { } } goal(A.P a); | Twice m 50
+goal(A.P a); class A { predicate P { } } enum E { b, a } | Twice m 53
+class A; A a = new A(); typedef int a; | Twice m 36
+class N; class N { } class N; class N { } | Twice m 36
+class N; int N; | Twice m 13
+class A { int P; predicate P { } } | Twice m 27
+class A { predicate P { int v; bool v; } } | Twice m 36
+class A { A(int n, bool n) { } } | Twice m 24
+class A { int P; } class B extends A { predicate P { } } | Twice m 49
+class C extends B { bool k; } class B extends A { } class A { int k; } | Twice m 25
+class A extends Reservoir { predicate produce { } } | Twice m 38
+class A extends Reusable { } class B extends A { int capacity; } | Twice m 53
+class A { A() { } A(int n) { } } | Twice m 18
+class A { A() { } B() { } } | Twice m 18
+PlannerConfig p = new PlannerConfig(0, 1, 1); PlannerConfig q = new PlannerConfig(0, 1, 1); | Twice m 60
+class A { predicate P { int v; bool end; } } | Twice m 36
+class A { predicate P { A object; } } | Twice m 26
+class A { predicate P { int start; } } | Twice m 28
+class A { predicate P { int duration; } } | Twice m 28
+class Timeline; | Twice m 6
+enum E { a, Object } | Twice m 12
+int PlannerConfig; | Twice m 4
+int x; x y; | WrongType m 7
+string s; | WrongType m 0
+int x; class A extends x { } | WrongType m 23
+class A { } typedef A T; class B extends T { } | WrongType m 41
+bool [0 1] b; | WrongType m 6
+bool [q 1] b; | Unknown m 6
+typedef int {1, 2} T; T [1 2] x; | WrongType m 25
+int [0 true] x; | WrongType m 7
+enum C { red } enum D { up } C {up} x; | WrongType m 32
+class A { } A {3} x; | WrongType m 15
+class A extends A { } | WrongType m 6
+class B extends A { } class A extends B { } | WrongType m 6
+class C extends A { } class A extends B { } class B extends A { } | WrongType m 28
+typedef T T; | WrongType m 10
+T x; typedef U T; typedef T U; | WrongType m 15
+typedef U V; V {3} x; typedef T U; typedef U T; | WrongType m 32
+class A { B() { } } | WrongType m 10
+eq(q, 1); int [4 3] x; | NotInDomain m 14
+T [3 6] x; typedef int [0 5] T; | NotInDomain m 2
+typedef int [0 5] T; typedef T [1 5] U; T {0} x; U {5, 0} y; | NotInDomain m 55
+enum C { red, up } typedef C {red} D; D {up} x; | NotInDomain m 41
+class R { } class S { } R r = new R(); S s = new S(); R {r, s} x; | NotInDomain m 60
+int [4 3] x; y z; | NotInDomain m 4
+T [5 4] x; typedef q T; | Unknown m 19
+class B extends A { bool k; } class A extends q { int k; } | Unknown m 46
+int x; #include \"q\" y z; | bool x; | Twice q 5
+#include \"q\" bool x; | int x; | Twice m 18
+class A { int k; } #include \"q\" | class B extends A { bool k; } | Twice q 25
+#include \"q\" | class A { A() { } A() { } } | Twice q 18
+PlannerConfig p = new PlannerConfig(0, 1, 1); #include \"q\" | PlannerConfig q = new PlannerConfig(0, 1, 1); | Twice q 14
+#include \"q\" | class A { predicate P { int start; } } | Twice q 28
+#include \"q\" | int Line; class Reusable { } | Twice q 16
+int a; x y; #include \"q\" | z w; | Unknown m 7
+int a; #include \"q\" x y; | bool b; z w; | Unknown q 8
+int a; #include \"q\" x y; | bool b; | Unknown m 20
+class N; class N { } class N; | fine
+int {1, 1, 2} x; typedef int T; T [2, 2] y; | fine
+B x; #include \"q\" class A { A(int k) { } int k; predicate P { bool k; } } int k; | class B extends A { } | fine
+eq(q, 1); N::P { x y; } class A { } typedef A T; A x = new T(1); x.close(); | fine
+";
 
 #[test]
 fn texts_have_these_first_faults(rt: HostRuntime) {
-    for (text, other, expected) in &FIRST {
-        assert_eq!(rt;
-            comes(rt.alloc(), Asked::Fault, text, other, expected),
-            Ok(true),
-            "{text}"
-        );
+    assert_rows(&rt, &Sought::Fault, FIRST);
+}
+
+/// The first fault of a text with a repeated piece.
+struct WithPieces;
+
+impl Asked for WithPieces {
+    fn answer(&self, alloc: Global, given: &str) -> Result<String, AllocError> {
+        match repeated(alloc, given) {
+            Ok(text) => Sought::Fault.answer(alloc, text.as_str()),
+            Err(none) => Err(none),
+        }
     }
 }
 
-/// The text between front and back, with a piece for each number below the count: before and after the number.
-fn repeated(alloc: Global, parts: [&str; 4], count: u32) -> Result<String, AllocError> {
-    let [front, before, after, back] = parts;
-    let mut text = String::from_str(alloc, front)?;
-    for number in 0..count {
-        write!(text, "{before}{number}{after}")?;
-    }
-    text.push_str(back)?;
-    Ok(text)
-}
-
-fn repeated_comes(
-    alloc: Global,
-    parts: [&str; 4],
-    count: u32,
-    expected: &str,
-) -> Result<bool, AllocError> {
-    let text = repeated(alloc, parts, count)?;
-    comes(alloc, Asked::Fault, text.as_str(), "", expected)
-}
-
-const REPEATED: [([&str; 4], u32, &str); 6] = [
-    (["enum E { m", ", m", "", " }"], 4095, "fine"),
-    (["enum E { m", ", m", "", " }"], 4096, "Limit:members m 7"),
-    (["int {-1, -1", ", ", "", "} x;"], 4095, "fine"),
-    (["int {-1, -1", ", ", "", "} x;"], 4096, "Limit:members m 4"),
-    (
-        ["class A { predicate P { ", "int v", ";", " } }"],
-        32,
-        "fine",
-    ),
-    (
-        ["class A { predicate P { ", "int v", ";", " } }"],
-        33,
-        "Limit:parameters m 20",
-    ),
-];
+const PIECES: &str = "
+enum E { m<, m#> } | 4095 | fine
+enum E { m<, m#> } | 4096 | Limit:members m 7
+int {-1, -1<, #>} x; | 4095 | fine
+int {-1, -1<, #>} x; | 4096 | Limit:members m 4
+class A { predicate P { <int v#;> } } | 32 | fine
+class A { predicate P { <int v#;> } } | 33 | Limit:parameters m 20
+";
 
 #[test]
 fn members_and_parameters_are_limited(rt: HostRuntime) {
-    for (parts, count, expected) in &REPEATED {
-        assert_eq!(rt;
-            repeated_comes(rt.alloc(), *parts, *count, expected),
-            Ok(true)
-        );
-    }
+    assert_rows(&rt, &WithPieces, PIECES);
 }

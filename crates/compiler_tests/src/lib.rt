@@ -10,6 +10,10 @@ mod faults;
 #[cfg(test)]
 mod programs;
 #[cfg(test)]
+mod repeating;
+#[cfg(test)]
+mod rows;
+#[cfg(test)]
 mod rules;
 #[cfg(test)]
 mod scopes;

@@ -1,5 +1,6 @@
 //! Copies of rules.
 
+use super::rows::{Asked, assert_rows};
 use super::shelves::shelf;
 use nddl_ast::declaration::{Decl, FileDecls};
 use nddl_ast::same::Same;
@@ -38,16 +39,23 @@ fn copied(alloc: Global, text: &str) -> Result<bool, AllocError> {
     }
 }
 
-const RULES: [&str; 4] = [
-    "A::P { }",
-    "A::P { int [0 5] x = y.z; bool {true, b} w; float f = 1.5; E e; string s = new C(1, d); }",
-    "A::P { if (b) { leq(x, 3); } else if (x != y.z) { any(object.Q q); } else { eq(true, q.end); } meets(q); }",
-    "A::P { foreach (o in C) { if (o == p) { } goal(o.Q g); int {1, 2} k; } before(o.Q, -4); }",
-];
+/// Whether a copy of a rule is the same.
+struct RuleCopy;
+
+impl Asked for RuleCopy {
+    fn answer(&self, alloc: Global, given: &str) -> Result<String, AllocError> {
+        format!(in alloc; "{:?}", copied(alloc, given))
+    }
+}
+
+const RULES: &str = "
+A::P { } | Ok(true)
+A::P { int [0 5] x = y.z; bool {true, b} w; float f = 1.5; E e; string s = new C(1, d); } | Ok(true)
+A::P { if (b) { leq(x, 3); } else if (x != y.z) { any(object.Q q); } else { eq(true, q.end); } meets(q); } | Ok(true)
+A::P { foreach (o in C) { if (o == p) { } goal(o.Q g); int {1, 2} k; } before(o.Q, -4); } | Ok(true)
+";
 
 #[test]
 fn copies_of_rules_are_the_same(rt: HostRuntime) {
-    for text in &RULES {
-        assert_eq!(rt; copied(rt.alloc(), text), Ok(true), "{text}");
-    }
+    assert_rows(&rt, &RuleCopy, RULES);
 }

@@ -1,5 +1,6 @@
 //! The names that declarations give to the scope of a program, with what they are by hand.
 
+use super::rows::{Asked, assert_answer, assert_rows};
 use super::shelves::shelf;
 use nddl_ast::declaration::{Decl, FileDecls};
 use nddl_files::read_all;
@@ -60,34 +61,24 @@ fn told(alloc: Global, text: &str) -> Result<String, AllocError> {
     }
 }
 
-fn comes(alloc: Global, text: &str, expected: &str) -> Result<bool, AllocError> {
-    let words = told(alloc, text)?;
-    Ok(words.as_str() == expected)
+/// The names that a text declares.
+struct Declared;
+
+impl Asked for Declared {
+    fn answer(&self, alloc: Global, given: &str) -> Result<String, AllocError> {
+        told(alloc, given)
+    }
 }
 
-const NAMES: [(&str, &str); 5] = [
-    ("", ""),
-    (
-        "enum E { a, b } int x;",
-        "enum 0:5 member 0:9 member 0:12 global 1:20 ",
-    ),
-    (
-        "class A; class A { } typedef int [0 3] T;",
-        "forward 0:6 class 1:15 typedef 2:39 ",
-    ),
-    (
-        "A a = new A(); goal(a.P g); close();",
-        "object 0:2 root 1:24 ",
-    ),
-    (
-        "PlannerConfig p = new PlannerConfig(0, 10, 5); eq(p, 1); A::P { }",
-        "config 0:14 ",
-    ),
-];
+const NAMES: &str = "
+enum E { a, b } int x; | enum 0:5 member 0:9 member 0:12 global 1:20
+class A; class A { } typedef int [0 3] T; | forward 0:6 class 1:15 typedef 2:39
+A a = new A(); goal(a.P g); close(); | object 0:2 root 1:24
+PlannerConfig p = new PlannerConfig(0, 10, 5); eq(p, 1); A::P { } | config 0:14
+";
 
 #[test]
 fn declarations_give_these_names(rt: HostRuntime) {
-    for (text, expected) in &NAMES {
-        assert_eq!(rt; comes(rt.alloc(), text, expected), Ok(true), "{text}");
-    }
+    assert_answer(&rt, &Declared, "", "");
+    assert_rows(&rt, &Declared, NAMES);
 }

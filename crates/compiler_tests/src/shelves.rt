@@ -13,19 +13,34 @@ fn entry(alloc: Global, name: &str, text: &str) -> Result<FileEntry, AllocError>
     })
 }
 
+fn add_files(files: &mut Vec<FileEntry>, named: &[(&str, &str)]) -> Result<(), AllocError> {
+    for (name, text) in named {
+        let file = entry(*files.allocator(), name, text)?;
+        files.push(file)?;
+    }
+    Ok(())
+}
+
+/// A shelf with these files.
+fn shelf_of(alloc: Global, named: &[(&str, &str)]) -> Result<CalmShelf, AllocError> {
+    let mut files = Vec::new(alloc);
+    match add_files(&mut files, named) {
+        Ok(()) => Ok(CalmShelf::new(files)),
+        Err(none) => Err(none),
+    }
+}
+
 /// A file `m` of the first text, and a file `q` of the second.
 pub fn pair(alloc: Global, text: &str, other: &str) -> Result<CalmShelf, AllocError> {
-    let mut files = Vec::new(alloc);
-    files.push(entry(alloc, "m", text)?)?;
-    files.push(entry(alloc, "q", other)?)?;
-    Ok(CalmShelf::new(files))
+    shelf_of(alloc, &[("m", text), ("q", other)])
 }
 
 /// A file `m` of this text, and two others, of which `q` includes `r`, and `r` includes `m`.
 pub fn shelf(alloc: Global, text: &str) -> Result<CalmShelf, AllocError> {
-    let mut files = Vec::new(alloc);
-    files.push(entry(alloc, "m", text)?)?;
-    files.push(entry(alloc, "q", "int a; #include \"r\" int b;")?)?;
-    files.push(entry(alloc, "r", "int c; #include \"m\"")?)?;
-    Ok(CalmShelf::new(files))
+    let files = [
+        ("m", text),
+        ("q", "int a; #include \"r\" int b;"),
+        ("r", "int c; #include \"m\""),
+    ];
+    shelf_of(alloc, &files)
 }

@@ -1,5 +1,6 @@
 //! The sites of joined declarations, with what they are by hand.
 
+use super::rows::{Asked, assert_answer, assert_rows};
 use super::shelves::shelf;
 use nddl_ast::declaration::FileDecls;
 use nddl_files::read_all;
@@ -25,29 +26,25 @@ fn told(alloc: Global, text: &str) -> Result<String, AllocError> {
     }
 }
 
-fn comes(alloc: Global, text: &str, expected: &str) -> Result<bool, AllocError> {
-    let words = told(alloc, text)?;
-    Ok(words.as_str() == expected)
+/// The joined declarations of a text.
+struct Joined;
+
+impl Asked for Joined {
+    fn answer(&self, alloc: Global, given: &str) -> Result<String, AllocError> {
+        told(alloc, given)
+    }
 }
 
-const JOINED: [(&str, &str); 6] = [
-    ("", ""),
-    ("int x; int y;", "0:0 0:1 "),
-    ("int x; #include \"q\" int y;", "0:0 1:0 2:0 1:2 0:2 "),
-    (
-        "#include \"q\" int x; #include \"r\" int y;",
-        "1:0 2:0 1:2 0:1 0:3 ",
-    ),
-    ("#include \"r\" #include \"q\" int x;", "1:0 2:0 2:2 0:2 "),
-    (
-        "#include \"m\" #include \"Plasma.nddl\" #include \"q\" #include \"q\"",
-        "1:0 2:0 1:2 ",
-    ),
-];
+const JOINED: &str = "
+int x; int y; | 0:0 0:1
+int x; #include \"q\" int y; | 0:0 1:0 2:0 1:2 0:2
+#include \"q\" int x; #include \"r\" int y; | 1:0 2:0 1:2 0:1 0:3
+#include \"r\" #include \"q\" int x; | 1:0 2:0 2:2 0:2
+#include \"m\" #include \"Plasma.nddl\" #include \"q\" #include \"q\" | 1:0 2:0 1:2
+";
 
 #[test]
 fn declarations_of_an_include_stand_at_its_place(rt: HostRuntime) {
-    for (text, expected) in &JOINED {
-        assert_eq!(rt; comes(rt.alloc(), text, expected), Ok(true), "{text}");
-    }
+    assert_answer(&rt, &Joined, "", "");
+    assert_rows(&rt, &Joined, JOINED);
 }

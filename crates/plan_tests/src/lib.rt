@@ -5,4 +5,6 @@
 #[cfg(test)]
 mod checks;
 #[cfg(test)]
+mod rows;
+#[cfg(test)]
 mod texts;

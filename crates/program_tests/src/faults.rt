@@ -1,76 +1,130 @@
 //! What is left of a run where a call of the outside fails.
 
+use super::rows::{assert_none, assert_runs, files_of, text_in};
 use super::runs::{Fails, NONE, prints_of, ran};
-use super::texts::{ORDERED, ROUND, ROUND_ANSWERS, ROVER, THREE, USUAL};
+use super::texts::text_of;
 use std::alloc::{AllocError, Global};
 
-/// Lines over two variables in order, and what they are answered.
-const EDITS: &str = "specify x 4\ndomain y\nundo\ndomain y\n";
+/// Two variables and a plan of them, and lines over them.
+const COMMON: &str = "m.nddl
+ORDERED
+-- p.txt
+plan
+global x 1
+global y 0
+end
 
-const REPLIES: &str = "ok\ny [4 10]\nok\ny [0 10]\n";
+-- input
+specify x 4
+domain y
+undo
+domain y
+";
 
-/// A plan of the problem with two variables.
-const PLAN: &str = "plan\nglobal x 1\nglobal y 0\nend\n";
+const FAULTS: &str = "
+== 20 script m.nddl
+-- fails
+1 - -
+== 20 script m.nddl
+-- fails
+- 1 -
+== 20 script m.nddl
+-- fails
+- 2 -
+-- output
+ok
 
-// Of a command and the calls that fail: what is written, and the number of the status.
-const FAULTS: [(&str, Fails, &str, u8); 18] = [
-    ("script m.nddl", (1, NONE, NONE), "", 20),
-    ("script m.nddl", (NONE, 1, NONE), "", 20),
-    ("script m.nddl", (NONE, 2, NONE), "ok\n", 20),
-    ("script m.nddl", (NONE, NONE, 1), "", 21),
-    ("script m.nddl", (NONE, NONE, 3), "ok\ny [4 10]\n", 21),
-    // The end is a read too, and a script makes no other call behind it.
-    ("script m.nddl", (NONE, 4, NONE), REPLIES, 20),
-    ("script m.nddl", (2, 5, 5), REPLIES, 0),
-    ("script n.nddl", (NONE, NONE, 1), "", 21),
-    ("show m.nddl", (1, NONE, NONE), "", 20),
-    // A line is one piece.
-    ("show m.nddl", (NONE, NONE, 2), "int [ 0 10 ] x ;\n", 21),
-    // Only a script reads the input.
-    (
-        "show m.nddl",
-        (NONE, 1, NONE),
-        "int [ 0 10 ] x ;\nint [ 0 10 ] y ;\nleq ( x , y ) ;\n",
-        0,
-    ),
-    ("plan m.nddl", (1, NONE, NONE), "", 20),
-    ("plan m.nddl", (2, 1, 4), "found 3\nplan\nglobal x 0\n", 21),
-    // The file of the plan is the second one that is asked for.
-    ("check m.nddl p.txt", (2, NONE, NONE), "", 20),
-    ("check m.nddl p.txt", (3, 1, 2), "invalid V7 problem 0\n", 5),
-    ("check m.nddl p.txt", (NONE, NONE, 1), "", 21),
-    // Neither the shelf nor the input is called.
-    ("try 1", (1, 1, 4), "try 1\nfound 3\nactive 2\n", 21),
-    ("plan", (1, 1, 1), "", 21),
-];
+== 21 script m.nddl
+-- fails
+- - 1
+== 21 script m.nddl
+-- fails
+- - 3
+-- output
+ok
+y [4 10]
 
-/// Whether a run over two variables and a plan of them writes this where calls fail, and the number of the status.
-fn ran_faulty(
-    alloc: Global,
-    line: &str,
-    fails: Fails,
-    output: &str,
-) -> Result<(bool, u8), AllocError> {
-    let files = [("m.nddl", ORDERED), ("p.txt", PLAN)];
-    ran(
-        alloc,
-        line,
-        &files,
-        (EDITS.as_bytes(), 16),
-        fails,
-        output.as_bytes(),
-    )
-}
+== # The end is a read too, and a script makes no other call behind it.
+== 20 script m.nddl
+-- fails
+- 4 -
+-- output
+ok
+y [4 10]
+ok
+y [0 10]
+
+== 0 script m.nddl
+-- fails
+2 5 5
+-- output
+ok
+y [4 10]
+ok
+y [0 10]
+
+== 21 script n.nddl
+-- fails
+- - 1
+== 20 show m.nddl
+-- fails
+1 - -
+== # A line is one piece.
+== 21 show m.nddl
+-- fails
+- - 2
+-- output
+int [ 0 10 ] x ;
+
+== # Only a script reads the input.
+== 0 show m.nddl
+-- fails
+- 1 -
+-- output
+int [ 0 10 ] x ;
+int [ 0 10 ] y ;
+leq ( x , y ) ;
+
+== 20 plan m.nddl
+-- fails
+1 - -
+== 21 plan m.nddl
+-- fails
+2 1 4
+-- output
+found 3
+plan
+global x 0
+
+== # The file of the plan is the second one that is asked for.
+== 20 check m.nddl p.txt
+-- fails
+2 - -
+== 5 check m.nddl p.txt
+-- fails
+3 1 2
+-- output
+invalid V7 problem 0
+
+== 21 check m.nddl p.txt
+-- fails
+- - 1
+== # Neither the shelf nor the input is called.
+== 21 try 1
+-- fails
+1 1 4
+-- output
+try 1
+found 3
+active 2
+
+== 21 plan
+-- fails
+1 1 1";
 
 #[test]
 fn a_fault_ends_the_run(rt: HostRuntime) {
-    for (line, fails, output, status) in &FAULTS {
-        assert_eq!(rt;
-            ran_faulty(rt.alloc(), line, *fails, output),
-            Ok((true, *status)),
-            "{line} after {output}"
-        );
-    }
+    assert_runs(&rt, FAULTS, COMMON);
 }
 
 /// How long so many first lines are.
@@ -98,35 +152,42 @@ fn next_call(calls: usize) -> u64 {
     (calls as u64).saturating_add(1)
 }
 
-/// Whether a script writes just so many lines of its output where a call fails, and the number of the status.
+/// Whether the script of these sections writes just so many lines of its output where a call fails, and the number of the
+/// status.
 fn stopped(
     alloc: Global,
-    script: (&str, &str, &str),
+    sections: &str,
     most: usize,
     fails: Fails,
     lines: usize,
 ) -> Result<(bool, u8), AllocError> {
-    let (file, input, output) = script;
-    let output = output.as_bytes();
+    let output = text_in(sections, "output").as_bytes();
     let front = &output[..length_of(output, lines).min(output.len())];
-    ran(
-        alloc,
-        "script m.nddl",
-        &[("m.nddl", file)],
-        (input.as_bytes(), most),
-        fails,
-        front,
-    )
+    let input = text_in(sections, "input").as_bytes();
+    match files_of(alloc, sections, "") {
+        Ok(files) => ran(alloc, "script m.nddl", files, (input, most), fails, front),
+        Err(none) => Err(none),
+    }
 }
 
-// Of scripts, with all that they write: how many lines that is. A line is one piece.
-const PIECES: [((&str, &str, &str), usize); 2] = [
-    ((THREE, ROUND, ROUND_ANSWERS), 15),
-    ((ROVER, "solve 100 512\nundo\ntokens\n", FOUND_THEN), 13),
-];
+/// Orders that go round.
+const ORDERS: &str = "m.nddl
+THREE
+-- input
+ROUND
+-- output
+ROUND_ANSWERS";
 
 /// The plan of the rover is found, and what it decides last is taken back.
-const FOUND_THEN: &str = "found 12
+const FOUND_THEN: &str = "m.nddl
+ROVER
+-- input
+solve 100 512
+undo
+tokens
+
+-- output
+found 12
 plan
 fact init Rover.At start 0 end 1 duration 1 object r place 0
 token g Rover.At start 2 end 3 duration 1 object r place 2
@@ -141,48 +202,72 @@ g/0:0 Rover.Going active
 g/0:0/0:0 Rover.At merged init
 ";
 
+/// Lines over two variables.
+const EDITED: &str = "m.nddl
+ORDERED
+-- input
+specify x 4
+domain y
+undo
+domain y
+
+-- output
+ok
+y [4 10]
+ok
+y [0 10]
+";
+
 /// Whether so many lines are written where the write behind them fails, and the number of the status.
-fn written(
-    alloc: Global,
-    script: (&str, &str, &str),
-    lines: usize,
-) -> Result<(bool, u8), AllocError> {
+fn written(alloc: Global, script: &str, lines: usize) -> Result<(bool, u8), AllocError> {
     let fails = (NONE, NONE, next_call(lines));
     stopped(alloc, script, 4_096, fails, lines)
 }
 
 /// Whether so many bytes of the edits are answered where the read behind them fails, and the number of the status.
-fn read(alloc: Global, bytes: usize) -> Result<(bool, u8), AllocError> {
-    let lines = lines_in(EDITS.as_bytes(), bytes);
+fn read(alloc: Global, edits: &[u8], bytes: usize) -> Result<(bool, u8), AllocError> {
+    let lines = lines_in(edits, bytes);
     let fails = (NONE, next_call(bytes), NONE);
-    stopped(alloc, (ORDERED, EDITS, REPLIES), 1, fails, lines)
+    stopped(alloc, EDITED, 1, fails, lines)
 }
 
-#[test]
-fn a_failed_write_leaves_the_lines_before(rt: HostRuntime) {
-    for (script, pieces) in &PIECES {
-        for lines in 0..*pieces {
-            assert_eq!(rt;
-                written(rt.alloc(), *script, lines),
-                Ok((true, 21)),
-                "behind {lines}"
-            );
+/// The first of so many numbers of lines behind which a failed write leaves something else than these.
+fn wrong_write(alloc: Global, script: &str, pieces: usize) -> Option<usize> {
+    for lines in 0..pieces {
+        if written(alloc, script, lines) != Ok((true, 21)) {
+            return Some(lines);
         }
     }
+    None
+}
+
+/// The first number of bytes of the edits behind which a failed read leaves something else than it should.
+fn wrong_read(alloc: Global, edits: &[u8]) -> Option<usize> {
+    for bytes in 0..edits.len() + 1 {
+        if read(alloc, edits, bytes) != Ok((true, 20)) {
+            return Some(bytes);
+        }
+    }
+    None
+}
+
+// A line is one piece.
+#[test]
+fn a_failed_write_leaves_the_lines_before(rt: HostRuntime) {
+    assert_none(&rt, wrong_write(rt.alloc(), ORDERS, 15));
+    assert_none(&rt, wrong_write(rt.alloc(), FOUND_THEN, 13));
 }
 
 #[test]
 fn no_line_is_written_behind_the_last(rt: HostRuntime) {
-    for (script, pieces) in &PIECES {
-        assert_eq!(rt; written(rt.alloc(), *script, *pieces), Ok((true, 0)));
-    }
+    assert!(rt; written(rt.alloc(), ORDERS, 15) == Ok((true, 0)));
+    assert!(rt; written(rt.alloc(), FOUND_THEN, 13) == Ok((true, 0)));
 }
 
 #[test]
 fn a_failed_read_leaves_the_lines_before(rt: HostRuntime) {
-    for bytes in 0..EDITS.len() + 1 {
-        assert_eq!(rt; read(rt.alloc(), bytes), Ok((true, 20)), "behind {bytes}");
-    }
+    let edits = text_in(EDITED, "input").as_bytes();
+    assert_none(&rt, wrong_read(rt.alloc(), edits));
 }
 
 /// Whether so many first bytes of a file, without any input, end with one of these numbers: that the file is fine, or
@@ -193,10 +278,17 @@ fn is_read(alloc: Global, file: &[u8], count: usize) -> Result<bool, AllocError>
     Ok((silent && status == 0) || (!silent && status == 3))
 }
 
+/// The first number of bytes whose front of the file ends otherwise.
+fn wrong_front(alloc: Global, file: &[u8]) -> Option<usize> {
+    for count in 0..file.len() + 1 {
+        if is_read(alloc, file, count) != Ok(true) {
+            return Some(count);
+        }
+    }
+    None
+}
+
 #[test]
 fn each_front_of_a_file_is_fine_or_faulty(rt: HostRuntime) {
-    let file = USUAL.as_bytes();
-    for count in 0..file.len() + 1 {
-        assert_eq!(rt; is_read(rt.alloc(), file, count), Ok(true), "at {count}");
-    }
+    assert_none(&rt, wrong_front(rt.alloc(), text_of("USUAL").as_bytes()));
 }

@@ -1,7 +1,8 @@
 //! Runs at the limits.
 
-use super::runs::{prints, prints_of};
-use super::texts::ORDERED;
+use super::rows::{assert_ran, assert_runs};
+use super::runs::prints_of;
+use super::texts::text_of;
 use std::alloc::{AllocError, Global};
 use std::fmt::Write;
 
@@ -12,23 +13,21 @@ fn ran_on_blanks(alloc: Global, line: &str, count: usize) -> Result<(bool, u8), 
     prints_of(alloc, line, file.as_slice(), b"", fault)
 }
 
-const SIZES: [(&str, usize, (bool, u8)); 5] = [
-    ("script m.nddl", 1_048_577, (true, 3)),
-    ("script m.nddl", 1_048_576, (false, 0)),
-    ("show m.nddl", 1_048_577, (true, 3)),
-    ("show m.nddl", 1_048_576, (false, 0)),
-    ("check m.nddl m.nddl", 1_048_577, (true, 3)),
-];
-
 #[test]
 fn long_files_are_refused(rt: HostRuntime) {
-    for (line, count, told) in &SIZES {
-        assert_eq!(rt;
-            ran_on_blanks(rt.alloc(), line, *count),
-            Ok(*told),
-            "{line}"
-        );
-    }
+    assert_ran(
+        &rt,
+        ran_on_blanks(rt.alloc(), "script m.nddl", 1_048_577),
+        3,
+    );
+    assert!(rt; ran_on_blanks(rt.alloc(), "script m.nddl", 1_048_576) == Ok((false, 0)));
+    assert_ran(&rt, ran_on_blanks(rt.alloc(), "show m.nddl", 1_048_577), 3);
+    assert!(rt; ran_on_blanks(rt.alloc(), "show m.nddl", 1_048_576) == Ok((false, 0)));
+    assert_ran(
+        &rt,
+        ran_on_blanks(rt.alloc(), "check m.nddl m.nddl", 1_048_577),
+        3,
+    );
 }
 
 /// Whether a line of one byte many times, with another line behind it, is answered so, and the number of the status.
@@ -43,88 +42,93 @@ fn ran_on_line(
     prints_of(
         alloc,
         "script m.nddl",
-        ORDERED.as_bytes(),
+        text_of("ORDERED").as_bytes(),
         input.as_slice(),
         output.as_bytes(),
     )
 }
 
-const LINES: [(u8, usize, &str, u8); 6] = [
-    (b'a', 4_096, "refused syntax\ny [0 10]\n", 0),
-    (b'a', 4_097, "refused long\ny [0 10]\n", 0),
-    (b' ', 4_096, "y [0 10]\n", 0),
-    (b' ', 4_097, "refused long\ny [0 10]\n", 0),
-    (b'\n', 999_998, "y [0 10]\n", 0),
-    (b'\n', 999_999, "", 6),
-];
-
 #[test]
 fn long_lines_are_refused_and_lines_are_counted(rt: HostRuntime) {
-    for (byte, count, output, status) in &LINES {
-        assert_eq!(rt;
-            ran_on_line(rt.alloc(), *byte, *count, output),
-            Ok((true, *status)),
-            "{output}"
-        );
-    }
+    let alloc = rt.alloc();
+    assert_ran(
+        &rt,
+        ran_on_line(alloc, b'a', 4_096, "refused syntax\ny [0 10]\n"),
+        0,
+    );
+    assert_ran(
+        &rt,
+        ran_on_line(alloc, b'a', 4_097, "refused long\ny [0 10]\n"),
+        0,
+    );
+    assert_ran(&rt, ran_on_line(alloc, b' ', 4_096, "y [0 10]\n"), 0);
+    assert_ran(
+        &rt,
+        ran_on_line(alloc, b' ', 4_097, "refused long\ny [0 10]\n"),
+        0,
+    );
+    assert_ran(&rt, ran_on_line(alloc, b'\n', 999_998, "y [0 10]\n"), 0);
+    assert_ran(&rt, ran_on_line(alloc, b'\n', 999_999, ""), 6);
 }
 
-const NESTED: [(&str, &str, u8); 2] = [
-    (
-        "class A { predicate P { bool b; } } A::P{if(b){if(b){if(b){if(b){if(b){if(b){if(b){if(b){if(b){if(b){if(b){if(b){if(b){if(b){if(b){}}}}}}}}}}}}}}}}",
-        "",
-        0,
-    ),
-    (
-        "class A { predicate P { bool b; } } A::P{if(b){if(b){if(b){if(b){if(b){if(b){if(b){if(b){if(b){if(b){if(b){if(b){if(b){if(b){if(b){if(b){}}}}}}}}}}}}}}}}}",
-        "text Limit:nesting m.nddl 136\n",
-        3,
-    ),
-];
+const NESTED: &str = "
+== 0 script m.nddl
+-- m.nddl
+class A { predicate P { bool b; } } \
+A::P{if(b){if(b){if(b){if(b){if(b){if(b){if(b){if(b){if(b){if(b){if(b){if(b){if(b){if(b){if(b){}}}}}}}}}}}}}}}}
+== 3 script m.nddl
+-- m.nddl
+class A { predicate P { bool b; } } \
+A::P{if(b){if(b){if(b){if(b){if(b){if(b){if(b){if(b){if(b){if(b){if(b){if(b){if(b){if(b){if(b){if(b){}}}}}}}}}}}}}}}}}
+-- output
+text Limit:nesting m.nddl 136
+";
 
 #[test]
 fn blocks_are_nested_so_deep(rt: HostRuntime) {
-    for (file, output, status) in &NESTED {
-        assert_eq!(rt;
-            prints(rt.alloc(), "script m.nddl", &[("m.nddl", file)], "", output),
-            Ok((true, *status)),
-            "{output}"
-        );
-    }
+    assert_runs(&rt, NESTED, "");
 }
 
-// Of the text of the last of nine files, each of which includes the next: what is answered.
-const DEEP: [(&str, &str, u8); 2] = [
-    ("int [3 3] x;", "x [3 3]\n", 0),
-    ("int [3 3] x; #include \"i\"", "text Limit:depth h 13\n", 3),
-];
+const DEEP: &str = "
+== # The last of nine files, each of which includes the next.
+== 0 script m.nddl
+-- h
+int [3 3] x;
+-- output
+x [3 3]
 
-/// Whether a run over nine files that each include the next answers so, and the number of the status.
-fn ran_deep(alloc: Global, last: &str, output: &str) -> Result<(bool, u8), AllocError> {
-    let files = [
-        ("m.nddl", "#include \"a\""),
-        ("a", "#include \"b\""),
-        ("b", "#include \"c\""),
-        ("c", "#include \"d\""),
-        ("d", "#include \"e\""),
-        ("e", "#include \"f\""),
-        ("f", "#include \"g\""),
-        ("g", "#include \"h\""),
-        ("h", last),
-        ("i", ""),
-    ];
-    prints(alloc, "script m.nddl", &files, "domain x\n", output)
-}
+== 3 script m.nddl
+-- h
+int [3 3] x; #include \"i\"
+-- output
+text Limit:depth h 13
+";
+
+/// Files that each include the next.
+const CHAIN: &str = "m.nddl
+#include \"a\"
+-- a
+#include \"b\"
+-- b
+#include \"c\"
+-- c
+#include \"d\"
+-- d
+#include \"e\"
+-- e
+#include \"f\"
+-- f
+#include \"g\"
+-- g
+#include \"h\"
+-- i
+-- input
+domain x
+";
 
 #[test]
 fn files_are_included_so_deep(rt: HostRuntime) {
-    for (last, output, status) in &DEEP {
-        assert_eq!(rt;
-            ran_deep(rt.alloc(), last, output),
-            Ok((true, *status)),
-            "{output}"
-        );
-    }
+    assert_runs(&rt, DEEP, CHAIN);
 }
 
 /// The piece so many times, and then the rest.
@@ -137,61 +141,88 @@ fn repeated(alloc: Global, piece: &str, count: u32, rest: &str) -> Result<String
     Ok(text)
 }
 
-/// Whether a script that takes so many steps is answered `ok` each time, and at the limit refused.
-fn ran_to_full(alloc: Global, turns: u32) -> Result<(bool, u8), AllocError> {
-    let input = repeated(
-        alloc,
-        "specify x 1\nreset x\n",
-        turns,
-        "specify x 1\nsolve 1 1\nreset y\nundo\nspecify x 1\nreset x\n",
-    )?;
-    let output = repeated(
-        alloc,
-        "ok\nok\n",
-        turns,
-        "refused full\nrefused full\nrefused full\nok\nrefused decided\nok\n",
-    )?;
+/// Whether the lines over two variables are answered so, and the number of the status.
+fn ran_on_both(alloc: Global, input: &str, output: &str) -> Result<(bool, u8), AllocError> {
+    let file = text_of("ORDERED").as_bytes();
     prints_of(
         alloc,
         "script m.nddl",
-        ORDERED.as_bytes(),
+        file,
         input.as_bytes(),
         output.as_bytes(),
     )
+}
+
+/// So many steps, and those at the limit.
+fn steps(alloc: Global, turns: u32) -> Result<String, AllocError> {
+    let rest = "specify x 1\nsolve 1 1\nreset y\nundo\nspecify x 1\nreset x\n";
+    repeated(alloc, "specify x 1\nreset x\n", turns, rest)
+}
+
+/// What is answered to them.
+fn step_answers(alloc: Global, turns: u32) -> Result<String, AllocError> {
+    let rest = "refused full\nrefused full\nrefused full\nok\nrefused decided\nok\n";
+    repeated(alloc, "ok\nok\n", turns, rest)
+}
+
+/// Whether a script that takes so many steps is answered `ok` each time, and at the limit refused.
+fn ran_to_full(alloc: Global, turns: u32) -> Result<(bool, u8), AllocError> {
+    match (steps(alloc, turns), step_answers(alloc, turns)) {
+        (Ok(input), Ok(output)) => ran_on_both(alloc, input.as_str(), output.as_str()),
+        _ => Err(AllocError),
+    }
 }
 
 #[test]
 fn steps_are_counted(rt: HostRuntime) {
-    assert_eq!(rt; ran_to_full(rt.alloc(), 50_000), Ok((true, 0)));
+    assert_ran(&rt, ran_to_full(rt.alloc(), 50_000), 0);
 }
 
-/// A front, and behind it for each number below the count a piece before it and one behind it.
-fn numbered(alloc: Global, parts: (&str, &str, &str), count: u32) -> Result<String, AllocError> {
-    let (front, before, after) = parts;
+/// A front, behind it for each number below the count a piece before it and one behind it, and then the rest.
+fn numbered(alloc: Global, parts: [&str; 4], count: u32) -> Result<String, AllocError> {
+    let [front, before, after, rest] = parts;
     let mut text = String::from_str(alloc, front)?;
     for number in 0..count {
         write!(text, "{before}{number}{after}")?;
     }
+    text.push_str(rest)?;
     Ok(text)
+}
+
+/// So many goals.
+fn goals(alloc: Global, count: u32) -> Result<String, AllocError> {
+    let front = "class N { predicate A { } } N n = new N(); close(); ";
+    numbered(alloc, [front, "goal(n.A g", ");", ""], count)
+}
+
+/// Lines that activate so many goals, and merge the last one with the first.
+fn activations(alloc: Global, count: u32) -> Result<String, AllocError> {
+    numbered(alloc, ["", "activate g", "\n", "merge g512 g0\n"], count)
+}
+
+/// Whether these lines over a problem are answered `ok` 512 times, and then that no more tokens may be active.
+fn ran_to_last(alloc: Global, file: &str, input: &str) -> Result<(bool, u8), AllocError> {
+    match repeated(alloc, "ok\n", 512, "refused active-full\nok\n") {
+        Ok(output) => prints_of(
+            alloc,
+            "script m.nddl",
+            file.as_bytes(),
+            input.as_bytes(),
+            output.as_bytes(),
+        ),
+        Err(none) => Err(none),
+    }
 }
 
 /// Whether as many tokens as may be active are activated, and no more.
 fn ran_to_active(alloc: Global) -> Result<(bool, u8), AllocError> {
-    let front = "class N { predicate A { } } N n = new N(); close(); ";
-    let file = numbered(alloc, (front, "goal(n.A g", ");"), 513)?;
-    let mut input = numbered(alloc, ("", "activate g", "\n"), 513)?;
-    input.push_str("merge g512 g0\n")?;
-    let output = repeated(alloc, "ok\n", 512, "refused active-full\nok\n")?;
-    prints_of(
-        alloc,
-        "script m.nddl",
-        file.as_bytes(),
-        input.as_bytes(),
-        output.as_bytes(),
-    )
+    match (goals(alloc, 513), activations(alloc, 513)) {
+        (Ok(file), Ok(input)) => ran_to_last(alloc, file.as_str(), input.as_str()),
+        _ => Err(AllocError),
+    }
 }
 
 #[test]
 fn so_many_tokens_are_active(rt: HostRuntime) {
-    assert_eq!(rt; ran_to_active(rt.alloc()), Ok((true, 0)));
+    assert_ran(&rt, ran_to_active(rt.alloc()), 0);
 }

@@ -16,9 +16,9 @@ pub const NONE: u64 = 9_999_999;
 pub type Fails = (u64, u64, u64);
 
 /// No call fails.
-pub const CALM: Fails = (NONE, NONE, NONE);
+const CALM: Fails = (NONE, NONE, NONE);
 
-fn words_of(alloc: Global, line: &str) -> Result<Vec<Text>, AllocError> {
+pub fn words_of(alloc: Global, line: &str) -> Result<Vec<Text>, AllocError> {
     let mut words = Vec::new(alloc);
     for word in line.split_whitespace() {
         words.push(Text::from_str(alloc, word)?)?;
@@ -26,23 +26,15 @@ fn words_of(alloc: Global, line: &str) -> Result<Vec<Text>, AllocError> {
     Ok(words)
 }
 
-fn entry(alloc: Global, name: &str, text: &[u8]) -> Result<FileEntry, AllocError> {
+pub fn entry(alloc: Global, name: &str, text: &[u8]) -> Result<FileEntry, AllocError> {
     Ok(FileEntry {
         name: Text::from_str(alloc, name)?,
         bytes: Bytes::from_slice(alloc, text)?,
     })
 }
 
-fn entries(alloc: Global, files: &[(&str, &str)]) -> Result<Vec<FileEntry>, AllocError> {
-    let mut entries = Vec::new(alloc);
-    for (name, text) in files {
-        entries.push(entry(alloc, name, text.as_bytes())?)?;
-    }
-    Ok(entries)
-}
-
 /// Input that comes so many bytes a call, of which one call fails.
-fn source_of(
+pub fn source_of(
     alloc: Global,
     input: &[u8],
     most: usize,
@@ -117,7 +109,7 @@ fn ran_words(
 }
 
 /// The same of the words of a line.
-fn ran_line(
+pub fn ran(
     alloc: Global,
     line: &str,
     files: Vec<FileEntry>,
@@ -131,38 +123,7 @@ fn ran_line(
     }
 }
 
-/// Whether a run over files of these names and texts writes this, and the number of its status.
-pub fn ran(
-    alloc: Global,
-    line: &str,
-    files: &[(&str, &str)],
-    input: (&[u8], usize),
-    fails: Fails,
-    output: &[u8],
-) -> Result<(bool, u8), AllocError> {
-    let files = entries(alloc, files)?;
-    ran_line(alloc, line, files, input, fails, output)
-}
-
-/// The same where no call fails.
-pub fn prints(
-    alloc: Global,
-    line: &str,
-    files: &[(&str, &str)],
-    input: &str,
-    output: &str,
-) -> Result<(bool, u8), AllocError> {
-    ran(
-        alloc,
-        line,
-        files,
-        (input.as_bytes(), 16),
-        CALM,
-        output.as_bytes(),
-    )
-}
-
-/// The same over the one file `m.nddl`.
+/// The same over the one file `m.nddl`, where no call fails.
 pub fn prints_of(
     alloc: Global,
     line: &str,
@@ -171,5 +132,5 @@ pub fn prints_of(
     output: &[u8],
 ) -> Result<(bool, u8), AllocError> {
     let files = vec![in alloc; entry(alloc, "m.nddl", file)?]?;
-    ran_line(alloc, line, files, (input, 4_096), CALM, output)
+    ran(alloc, line, files, (input, 4_096), CALM, output)
 }

@@ -1,5 +1,6 @@
 //! Sessions over sources and sinks in memory, with a responder that says a line again.
 
+use super::runs::source_of;
 use eu_io::memory::sink::MemSink;
 use eu_io::memory::source::MemSource;
 use eu_name::bytes::Bytes;
@@ -7,7 +8,7 @@ use line_session::fault::SessionFault;
 use line_session::reply::{Answer, Responder};
 use line_session::talk::{SessionEnd, session};
 use std::alloc::{AllocError, Global};
-use std::test::Fail;
+use std::process::Abort;
 
 /// Says a short line again, then how many bytes came; to an empty line nothing. The line `quit` ends the session.
 #[derive(Drop)]
@@ -41,6 +42,21 @@ fn say_again(alloc: Global, line: &[u8]) -> Result<Bytes, AllocError> {
     Ok(Bytes::from_vec(text.into_bytes()))
 }
 
+/// How a session ends, and whether the right bytes were written.
+type Ended = (Result<SessionEnd, SessionFault>, bool);
+
+/// How a session over this source ends, where this call of the sink fails; and whether this is what was written.
+fn ended_from(
+    alloc: Global,
+    source: &mut MemSource,
+    fails: u64,
+    output: &[u8],
+) -> Result<Ended, AllocError> {
+    let mut sink = MemSink::new(alloc, 2_000, 3, vec![in alloc; fails]?)?;
+    let end = session(alloc, &mut Echo { alloc }, source, &mut sink);
+    Ok((end, sink.as_slice() == output))
+}
+
 /// How a session ends over this input, of which a read gives so many bytes, and where these calls fail; and whether
 /// this is what was written.
 fn ended(
@@ -49,77 +65,75 @@ fn ended(
     most: usize,
     fails: (u64, u64),
     output: &[u8],
-) -> Result<(Result<SessionEnd, SessionFault>, bool), AllocError> {
-    let mut echo = Echo { alloc };
-    let input = Bytes::from_slice(alloc, input)?;
-    let mut source = MemSource::new(input, most.max(1), vec![in alloc; fails.0]?);
-    let mut sink = MemSink::new(alloc, 2_000, 3, vec![in alloc; fails.1]?)?;
-    let end = session(alloc, &mut echo, &mut source, &mut sink);
-    Ok((end, sink.as_slice() == output))
+) -> Result<Ended, AllocError> {
+    match source_of(alloc, input, most, fails.0) {
+        Ok(mut source) => ended_from(alloc, &mut source, fails.1, output),
+        Err(none) => Err(none),
+    }
 }
 
-/// Of an input, how many bytes a read gives, and which read and which write fail: how the session ends, and what it
-/// writes.
-const SESSIONS: [(
-    &str,
-    usize,
-    (u64, u64),
-    Result<SessionEnd, SessionFault>,
-    &str,
-); 6] = [
-    // The last line may lack its line end.
-    (
-        "one\n\nth\rree",
-        4,
-        (99, 99),
-        Ok(SessionEnd::OfInput),
-        "one\n3\nth\rree\n6\n",
-    ),
-    (
-        "one\ntwo\n",
-        1,
-        (99, 99),
-        Ok(SessionEnd::OfInput),
-        "one\n3\ntwo\n3\n",
-    ),
-    // An answer ends the session, on a line in the middle and on the last.
-    (
-        "one\nquit\ntwo\n",
-        99,
-        (99, 99),
-        Ok(SessionEnd::ByAnswer),
-        "one\n3\nquit\n4\n",
-    ),
-    ("quit", 99, (99, 99), Ok(SessionEnd::ByAnswer), "quit\n4\n"),
-    (
-        "one\ntwo\nthree",
-        6,
-        (3, 99),
-        Err(SessionFault::ReadFault),
-        "one\n3\ntwo\n3\n",
-    ),
-    (
-        "three\ntwo\n",
-        99,
-        (99, 2),
-        Err(SessionFault::WriteFault),
-        "thr",
-    ),
-];
+fn assert_ended<R: Abort>(
+    rt: &R,
+    found: Result<Ended, AllocError>,
+    end: Result<SessionEnd, SessionFault>,
+) {
+    if found != Ok((end, true)) {
+        panic!(rt; "not {end:?}: {found:?}");
+    }
+}
 
 #[test]
-fn sessions_end_so(rt: HostRuntime) -> Result<(), Fail> {
-    for (input, most, fails, end, output) in &SESSIONS {
-        let got = ended(
-            rt.alloc(),
-            input.as_bytes(),
-            *most,
-            *fails,
-            output.as_bytes(),
-        )?;
-        assert_eq!(rt; got, (*end, true), "at {input}");
-    }
-    Ok(())
+fn sessions_end_with_their_input(rt: HostRuntime) {
+    let end = Ok(SessionEnd::OfInput);
+    let calm = (99, 99);
+    // The last line may lack its line end.
+    let unended = ended(
+        rt.alloc(),
+        b"one\n\nth\rree",
+        4,
+        calm,
+        b"one\n3\nth\rree\n6\n",
+    );
+    assert_ended(&rt, unended, end);
+    let whole = ended(rt.alloc(), b"one\ntwo\n", 1, calm, b"one\n3\ntwo\n3\n");
+    assert_ended(&rt, whole, end);
+}
+
+// On a line in the middle and on the last.
+#[test]
+fn an_answer_ends_the_session(rt: HostRuntime) {
+    let end = Ok(SessionEnd::ByAnswer);
+    let calm = (99, 99);
+    let middle = ended(
+        rt.alloc(),
+        b"one\nquit\ntwo\n",
+        99,
+        calm,
+        b"one\n3\nquit\n4\n",
+    );
+    assert_ended(&rt, middle, end);
+    assert_ended(&rt, ended(rt.alloc(), b"quit", 99, calm, b"quit\n4\n"), end);
+}
+
+#[test]
+fn a_fault_ends_the_session(rt: HostRuntime) {
+    let read = ended(
+        rt.alloc(),
+        b"one\ntwo\nthree",
+        6,
+        (3, 99),
+        b"one\n3\ntwo\n3\n",
+    );
+    assert_ended(&rt, read, Err(SessionFault::ReadFault));
+    let write = ended(rt.alloc(), b"three\ntwo\n", 99, (99, 2), b"thr");
+    assert_ended(&rt, write, Err(SessionFault::WriteFault));
+}
+
+/// One byte many times, and then these.
+fn many(alloc: Global, byte: u8, count: usize, rest: &[u8]) -> Result<Vec<u8>, AllocError> {
+    let mut input = vec![in alloc; byte; count]?;
+    input.extend_from_slice(rest)?;
+    Ok(input)
 }
 
 /// How a session ends over one byte many times and then these, and whether this is what was written.
@@ -129,24 +143,22 @@ fn ended_after(
     count: usize,
     rest: &[u8],
     output: &[u8],
-) -> Result<(Result<SessionEnd, SessionFault>, bool), AllocError> {
-    let mut input = vec![in alloc; byte; count]?;
-    input.extend_from_slice(rest)?;
-    ended(alloc, input.as_slice(), 1_000_000, (99_999, 99), output)
+) -> Result<Ended, AllocError> {
+    match many(alloc, byte, count, rest) {
+        Ok(input) => ended(alloc, input.as_slice(), 1_000_000, (99_999, 99), output),
+        Err(none) => Err(none),
+    }
 }
 
 #[test]
-fn long_lines_and_many(rt: HostRuntime) -> Result<(), Fail> {
+fn long_lines_and_many(rt: HostRuntime) {
     let alloc = rt.alloc();
-    let done = (Ok(SessionEnd::OfInput), true);
+    let done = Ok(SessionEnd::OfInput);
     // Of a long line the front is kept, and it is one line.
-    assert_eq!(rt; ended_after(alloc, b'x', 4_097, b"", b"4097\n")?, done);
-    assert_eq!(rt;
-        ended_after(alloc, b'x', 4_099, b"\nnext", b"4097\nnext\n4\n")?,
-        done
-    );
-    assert_eq!(rt; ended_after(alloc, b'\n', 1_000_000, b"", b"")?, done);
-    let spent = (Err(SessionFault::LinesSpent), true);
-    assert_eq!(rt; ended_after(alloc, b'\n', 1_000_001, b"", b"")?, spent);
-    Ok(())
+    assert_ended(&rt, ended_after(alloc, b'x', 4_097, b"", b"4097\n"), done);
+    let next = ended_after(alloc, b'x', 4_099, b"\nnext", b"4097\nnext\n4\n");
+    assert_ended(&rt, next, done);
+    assert_ended(&rt, ended_after(alloc, b'\n', 1_000_000, b"", b""), done);
+    let spent = Err(SessionFault::LinesSpent);
+    assert_ended(&rt, ended_after(alloc, b'\n', 1_000_001, b"", b""), spent);
 }

@@ -1,13 +1,16 @@
 //! Which files a run asks for: those that its words name, and what these include, each once.
 
+use super::rows::files_of;
+use super::runs::words_of;
 use eu_io::calm::sink::CalmSink;
 use eu_io::calm::source::CalmSource;
 use eu_io::memory::shelf::MemShelf;
-use eu_io::shelf::{FileEntry, Shelf, ShelfFail};
+use eu_io::shelf::{Shelf, ShelfFail};
 use eu_name::bytes::Bytes;
 use eu_name::text::Text;
 use europa_run::run::europa;
 use std::alloc::{AllocError, Global};
+use std::process::Abort;
 
 /// A shelf in memory that keeps the names that it was asked for, each before a `;`.
 #[derive(Drop)]
@@ -36,62 +39,74 @@ fn keep(names: &mut String, name: &str) -> Result<(), AllocError> {
     names.push(';')
 }
 
-fn entry(alloc: Global, name: &str, text: &[u8]) -> Result<FileEntry, AllocError> {
-    Ok(FileEntry {
-        name: Text::from_str(alloc, name)?,
-        bytes: Bytes::from_slice(alloc, text)?,
-    })
-}
-
 /// The file `m.nddl`, which includes another, and two more.
-fn files(alloc: Global) -> Result<Vec<FileEntry>, AllocError> {
-    let mut files = Vec::new(alloc);
-    files.push(entry(
-        alloc,
-        "m.nddl",
-        b"#include \"n.nddl\" #include \"m.nddl\"\n",
-    )?)?;
-    files.push(entry(alloc, "n.nddl", b"int [0 1] x;")?)?;
-    files.push(entry(alloc, "p.txt", b"plan\nend\n")?)?;
-    Ok(files)
+const FILES: &str = "m.nddl
+#include \"n.nddl\" #include \"m.nddl\"
+
+-- n.nddl
+int [0 1] x;
+-- p.txt
+plan
+end
+";
+
+/// A shelf with the files that was asked for none.
+fn shelf_of(alloc: Global) -> Result<Asked, AllocError> {
+    match files_of(alloc, FILES, "") {
+        Ok(files) => Ok(Asked {
+            shelf: MemShelf::new(files, Vec::new(alloc)),
+            names: String::new(alloc),
+        }),
+        Err(none) => Err(none),
+    }
 }
 
-fn words_of(alloc: Global, line: &str) -> Result<Vec<Text>, AllocError> {
-    let mut words = Vec::new(alloc);
-    for word in line.split_whitespace() {
-        words.push(Text::from_str(alloc, word)?)?;
-    }
-    Ok(words)
+/// Runs these words over the shelf.
+fn ask(alloc: Global, words: &[Text], shelf: &mut Asked) -> Result<(), AllocError> {
+    let mut input = CalmSource::new(Bytes::from_vec(Vec::new(alloc)), 1);
+    let mut out = CalmSink::new(alloc, 1_000, 1_000)?;
+    let _status = europa(alloc, words, shelf, &mut input, &mut out);
+    Ok(())
 }
 
 /// Whether the run of these words asks for these files.
-fn asks_for(alloc: Global, line: &str, names: &str) -> Result<bool, AllocError> {
-    let words = words_of(alloc, line)?;
-    let mut shelf = Asked {
-        shelf: MemShelf::new(files(alloc)?, Vec::new(alloc)),
-        names: String::new(alloc),
-    };
-    let mut input = CalmSource::new(Bytes::from_vec(Vec::new(alloc)), 1);
-    let mut out = CalmSink::new(alloc, 1_000, 1_000)?;
-    let _status = europa(alloc, words.as_slice(), &mut shelf, &mut input, &mut out);
-    Ok(shelf.names.as_str() == names)
+fn words_ask_for(alloc: Global, words: &[Text], names: &str) -> Result<bool, AllocError> {
+    let mut shelf = shelf_of(alloc)?;
+    let asked = ask(alloc, words, &mut shelf);
+    Ok(asked.is_ok() && shelf.names.as_str() == names)
 }
 
-const ASKED: [(&str, &str); 9] = [
-    ("show m.nddl", "m.nddl;"),
-    ("script m.nddl", "m.nddl;n.nddl;"),
-    ("plan m.nddl", "m.nddl;n.nddl;"),
-    ("check m.nddl p.txt", "m.nddl;n.nddl;p.txt;"),
-    ("check n.nddl n.nddl", "n.nddl;n.nddl;"),
-    ("script q.nddl", "q.nddl;"),
-    ("gen 1", ""),
-    ("try 1", ""),
-    ("check m.nddl", ""),
-];
+/// The same of the words of a line.
+fn asks_for(alloc: Global, line: &str, names: &str) -> Result<bool, AllocError> {
+    match words_of(alloc, line) {
+        Ok(words) => words_ask_for(alloc, words.as_slice(), names),
+        Err(none) => Err(none),
+    }
+}
+
+/// Words, and the files that are asked for.
+const ASKED: &str = "
+show m.nddl | m.nddl;
+script m.nddl | m.nddl;n.nddl;
+plan m.nddl | m.nddl;n.nddl;
+check m.nddl p.txt | m.nddl;n.nddl;p.txt;
+check n.nddl n.nddl | n.nddl;n.nddl;
+script q.nddl | q.nddl;
+gen 1
+try 1
+check m.nddl
+";
+
+fn assert_asks<R: Abort + AllocGlobal>(rt: &R, row: &str) {
+    let (line, names) = row.split_once(" | ").unwrap_or((row, ""));
+    if asks_for(rt.alloc(), line, names) != Ok(true) {
+        panic!(rt; "{row}");
+    }
+}
 
 #[test]
 fn a_run_asks_for_no_other_file(rt: HostRuntime) {
-    for (line, names) in &ASKED {
-        assert_eq!(rt; asks_for(rt.alloc(), line, names), Ok(true), "at {line}");
+    for row in ASKED.trim().split('\n') {
+        assert_asks(&rt, row);
     }
 }

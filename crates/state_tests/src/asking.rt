@@ -7,7 +7,7 @@ ghost use Rattle.plan_defs.specs.Plans.{IsPlanOf};
 ghost use Rattle.state_tests.specs.Seen.{IsSeenOf};
 
 use super::names::{decision, is_same, token, variable};
-use super::steps::{Choice, Fate};
+use super::steps::Fate;
 use domain_core::domain::Dom;
 use eu_name::name::{TokenName, VarName};
 use model_core::decision::Decision;
@@ -155,7 +155,7 @@ fn is_token_at(
     model: &Model,
     view: &StoreView<'_>,
     place: u32,
-    name: Option<&&str>,
+    name: Option<&str>,
 ) -> bool
     requires { IsLawful model.now }
 {
@@ -168,19 +168,19 @@ fn is_token_at(
     }
 }
 
-fn are_tokens(alloc: Global, model: &Model, view: &StoreView<'_>, names: &[&str]) -> bool
+fn are_tokens(alloc: Global, model: &Model, view: &StoreView<'_>, names: &str) -> bool
     requires { IsLawful model.now }
 {
-    let count = view.count();
-    let mut all = count as usize == names.len();
-    for place in 0..count {
-        all = all && is_token_at(alloc, model, view, place, names.get(place as usize));
+    let mut names = names.split(' ');
+    let mut all = true;
+    for place in 0..view.count() {
+        all = all && is_token_at(alloc, model, view, place, names.next());
     }
-    all
+    all && names.next().is_none()
 }
 
-/// Whether the tokens are those of these names, in this order.
-pub fn has_tokens(alloc: Global, db: &Db, names: &[&str]) -> bool {
+/// Whether the tokens are those of these names, in this order, between blanks.
+pub fn has_tokens(alloc: Global, db: &Db, names: &str) -> bool {
     match db.view() {
         Ok(view) => are_tokens(alloc, model_of(db), &view, names),
         Err(_fault) => false,
@@ -223,7 +223,7 @@ pub fn ordered(alloc: Global, db: &Db, first: &str, second: &str) -> Option<bool
     }
 }
 
-fn is_choice(alloc: Global, model: &Model, found: &Decision, choice: Option<&Choice>) -> bool
+fn is_choice(alloc: Global, model: &Model, found: &Decision, choice: Option<&str>) -> bool
     requires { IsLawful model.now }
 {
     let Some(choice) = choice else {
@@ -235,15 +235,16 @@ fn is_choice(alloc: Global, model: &Model, found: &Decision, choice: Option<&Cho
     }
 }
 
-/// Whether these decisions stand.
-pub fn stand(alloc: Global, model: &Model, decisions: &[Decision], choices: &[Choice]) -> bool
+/// Whether these decisions stand, as they are named between commas.
+pub fn stand(alloc: Global, model: &Model, decisions: &[Decision], choices: &str) -> bool
     requires { IsLawful model.now }
 {
-    let mut all = decisions.len() == choices.len();
-    for (place, found) in decisions.iter().enumerate() {
-        all = all && is_choice(alloc, model, found, choices.get(place));
+    let mut choices = choices.split_terminator(", ");
+    let mut all = true;
+    for found in decisions {
+        all = all && is_choice(alloc, model, found, choices.next());
     }
-    all
+    all && choices.next().is_none()
 }
 
 fn is_written(alloc: Global, model: &Model, plan: &Plan, text: &str) -> bool

@@ -2,10 +2,9 @@
 
 use super::asking::model_of;
 use super::names::{decision, variable};
-use super::steps::Choice;
 use super::trial::{Trial, told_on_rounds};
 use plan_db::{Db, NamedEdge, Point};
-use std::alloc::Global;
+use std::alloc::{AllocError, Global};
 
 // What was written how often, or nothing of what is asked.
 type Stamps = [Option<u64>; 3];
@@ -58,7 +57,7 @@ fn changes(before: Stamps, after: Stamps) -> [Change; 3] {
 }
 
 // Takes the decision, and tells which starts were written.
-fn taken(alloc: Global, db: &mut Db, choice: &Choice) -> Option<[Change; 3]> {
+fn taken(alloc: Global, db: &mut Db, choice: &str) -> Option<[Change; 3]> {
     let before = stamps(alloc, db);
     match decision(alloc, model_of(db), choice) {
         Some(decision) => match db.apply(&decision) {
@@ -80,51 +79,47 @@ fn taken_back(alloc: Global, db: &mut Db) -> Option<[Change; 3]> {
 
 fn activate_all(alloc: Global, db: &mut Db) -> bool {
     let mut all = true;
-    for name in ["one", "two", "three"] {
-        all = all && taken(alloc, db, &Choice::Activate(name)).is_some();
+    for choice in ["activate one", "activate two", "activate three"] {
+        all = all && taken(alloc, db, choice).is_some();
     }
     all
 }
 
-// A decision, or the last one taken back.
-#[derive(Clone, Copy)]
-enum Turn {
-    Take(Choice),
-    Back,
+// The first is put before the second, that is taken back, and then the circle is gone round, with what is written at each step.
+const ROUND: &str = "order one two | [Written, Written, Same]
+back | [Written, Written, Same]
+order one two | [Written, Written, Same]
+order two three | [Written, Written, Written]
+order three one | [Untold, Untold, Untold]";
+
+fn written(alloc: Global, db: &mut Db, turn: &str) -> Option<[Change; 3]> {
+    if turn == "back" {
+        taken_back(alloc, db)
+    } else {
+        taken(alloc, db, turn)
+    }
 }
 
-// The first is put before the second, that is taken back, and then the circle is gone round, with what is written at each step.
-const ROUND: [(Turn, [Change; 3]); 5] = [
-    (
-        Turn::Take(Choice::Order("one", "two")),
-        [Change::Written, Change::Written, Change::Same],
-    ),
-    (Turn::Back, [Change::Written, Change::Written, Change::Same]),
-    (
-        Turn::Take(Choice::Order("one", "two")),
-        [Change::Written, Change::Written, Change::Same],
-    ),
-    (
-        Turn::Take(Choice::Order("two", "three")),
-        [Change::Written, Change::Written, Change::Written],
-    ),
-    (
-        Turn::Take(Choice::Order("three", "one")),
-        [Change::Untold, Change::Untold, Change::Untold],
-    ),
-];
+fn is_text(found: Result<String, AllocError>, wanted: &str) -> bool {
+    match found {
+        Ok(found) => found.as_str() == wanted,
+        Err(_none) => false,
+    }
+}
 
-fn written(alloc: Global, db: &mut Db, turn: &Turn) -> Option<[Change; 3]> {
-    match turn {
-        Turn::Take(choice) => taken(alloc, db, choice),
-        Turn::Back => taken_back(alloc, db),
+// Whether this is written at the turn.
+fn is_written(alloc: Global, db: &mut Db, row: &str) -> bool {
+    let (turn, wanted) = row.split_once(" | ").unwrap_or((row, ""));
+    match written(alloc, db, turn) {
+        Some(changes) => is_text(format!(in alloc; "{changes:?}"), wanted),
+        None => false,
     }
 }
 
 fn goes_round(alloc: Global, db: &mut Db) -> bool {
     let mut all = true;
-    for (turn, wanted) in &ROUND {
-        all = all && written(alloc, db, turn) == Some(*wanted);
+    for row in ROUND.split('\n') {
+        all = all && is_written(alloc, db, row);
     }
     all
 }
@@ -146,35 +141,42 @@ fn place_of(point: &Point) -> At {
 }
 
 // The edges that have to be there, in order: those of each token by itself, and those of the orders.
-const EDGES: [(At, i32, At); 15] = [
-    (At::Origin, 0, At::Start(0)),
-    (At::End(0), -10, At::Origin),
-    (At::Start(0), 1, At::End(0)),
-    (At::End(0), -8, At::Start(0)),
-    (At::Origin, 0, At::Start(1)),
-    (At::End(1), -10, At::Origin),
-    (At::Start(1), 1, At::End(1)),
-    (At::End(1), -8, At::Start(1)),
-    (At::Origin, 0, At::Start(2)),
-    (At::End(2), -10, At::Origin),
-    (At::Start(2), 1, At::End(2)),
-    (At::End(2), -8, At::Start(2)),
-    (At::End(0), 0, At::Start(1)),
-    (At::End(1), 0, At::Start(2)),
-    (At::End(2), 0, At::Start(0)),
-];
+const EDGES: &str = "Origin 0 Start(0)
+End(0) -10 Origin
+Start(0) 1 End(0)
+End(0) -8 Start(0)
+Origin 0 Start(1)
+End(1) -10 Origin
+Start(1) 1 End(1)
+End(1) -8 Start(1)
+Origin 0 Start(2)
+End(2) -10 Origin
+Start(2) 1 End(2)
+End(2) -8 Start(2)
+End(0) 0 Start(1)
+End(1) 0 Start(2)
+End(2) 0 Start(0)";
 
-fn are_edges(edges: &[NamedEdge]) -> bool {
-    let mut all = edges.len() == EDGES.len();
-    for (edge, wanted) in edges.iter().zip(EDGES.iter()) {
-        all = all && (place_of(&edge.from), edge.gap, place_of(&edge.to)) == *wanted;
-    }
-    all
+fn is_edge(alloc: Global, edge: &NamedEdge, wanted: Option<&str>) -> bool {
+    let (from, to) = (place_of(&edge.from), place_of(&edge.to));
+    is_text(
+        format!(in alloc; "{from:?} {} {to:?}", edge.gap),
+        wanted.unwrap_or(""),
+    )
 }
 
-fn has_edges(db: &Db) -> bool {
+fn are_edges(alloc: Global, edges: &[NamedEdge]) -> bool {
+    let mut wanted = EDGES.split('\n');
+    let mut all = true;
+    for edge in edges {
+        all = all && is_edge(alloc, edge, wanted.next());
+    }
+    all && wanted.next().is_none()
+}
+
+fn has_edges(alloc: Global, db: &Db) -> bool {
     match db.time_edges() {
-        Ok(edges) => are_edges(edges.as_slice()),
+        Ok(edges) => are_edges(alloc, edges.as_slice()),
         Err(_fault) => false,
     }
 }
@@ -182,7 +184,7 @@ fn has_edges(db: &Db) -> bool {
 // Whether there are no edges before the last decision, each step writes what it should, and the edges are there in the end.
 fn is_told(alloc: Global, db: &mut Db) -> bool {
     let free = activate_all(alloc, db) && db.time_edges().is_err();
-    free && goes_round(alloc, db) && has_edges(db)
+    free && goes_round(alloc, db) && has_edges(alloc, db)
 }
 
 /// Whether the circle is told.

@@ -2,7 +2,6 @@
 
 ghost use Rattle.model_core.specs.Lawful.{IsLawful};
 
-use super::steps::{Choice, On};
 use eu_name::name::{TokenName, VarName};
 use eu_name::name_text::NameText;
 use eu_name::reading::read_name;
@@ -64,10 +63,10 @@ fn tokens(alloc: Global, model: &Model, one: &str, other: &str) -> Option<(Token
     }
 }
 
-fn specified(variable: Option<VarName>, value: i32) -> Option<Decision> {
-    match variable {
-        Some(variable) => Some(Decision::Specify(variable, value)),
-        None => None,
+fn specified(variable: Option<VarName>, value: Option<i32>) -> Option<Decision> {
+    match (variable, value) {
+        (Some(variable), Some(value)) => Some(Decision::Specify(variable, value)),
+        _ => None,
     }
 }
 
@@ -99,16 +98,24 @@ fn ordered(tokens: Option<(TokenName, TokenName)>) -> Option<Decision> {
     }
 }
 
+/// The first word, and what follows it.
+pub fn parts(words: &str) -> (&str, &str) {
+    words.split_once(' ').unwrap_or((words, ""))
+}
+
 /// The decision, where the model has what it names.
-pub fn decision(alloc: Global, model: &Model, choice: &Choice) -> Option<Decision>
+pub fn decision(alloc: Global, model: &Model, choice: &str) -> Option<Decision>
     requires { IsLawful model.now }
 {
-    match choice {
-        Choice::Specify(name, value) => specified(variable(alloc, model, name), *value),
-        Choice::Activate(name) => activated(token(alloc, model, name)),
-        Choice::Merge(name, target) => merged(tokens(alloc, model, name, target)),
-        Choice::Reject(name) => rejected(token(alloc, model, name)),
-        Choice::Order(first, second) => ordered(tokens(alloc, model, first, second)),
+    let (word, names) = parts(choice);
+    let (one, other) = parts(names);
+    match word {
+        "specify" => specified(variable(alloc, model, one), other.parse().ok()),
+        "activate" => activated(token(alloc, model, one)),
+        "merge" => merged(tokens(alloc, model, one, other)),
+        "reject" => rejected(token(alloc, model, one)),
+        "order" => ordered(tokens(alloc, model, one, other)),
+        _ => None,
     }
 }
 
@@ -134,13 +141,15 @@ fn on_order(tokens: Option<(TokenName, TokenName)>) -> Option<Subject> {
 }
 
 /// What a decision is on, where the model has it.
-pub fn subject(alloc: Global, model: &Model, on: &On) -> Option<Subject>
+pub fn subject(alloc: Global, model: &Model, on: &str) -> Option<Subject>
     requires { IsLawful model.now }
 {
-    match on {
-        On::Variable(name) => on_variable(variable(alloc, model, name)),
-        On::Token(name) => on_token(token(alloc, model, name)),
-        On::Order(first, second) => on_order(tokens(alloc, model, first, second)),
+    let (word, names) = parts(on);
+    let (one, other) = parts(names);
+    match word {
+        "variable" => on_variable(variable(alloc, model, one)),
+        "token" => on_token(token(alloc, model, one)),
+        _ => on_order(tokens(alloc, model, one, other)),
     }
 }
 

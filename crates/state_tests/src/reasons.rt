@@ -3,26 +3,33 @@
 ghost use Rattle.model_core.specs.Lawful.{IsLawful};
 
 use super::asking::{model_of, stand};
-use super::names::variable;
-use super::steps::{Choice, Gap};
+use super::names::{parts, variable};
 use conflict_core::{WhyFault, time_cycle, why};
 use eu_name::name::{Part, TokenName, VarName};
 use model_core::model::Model;
 use plan_db::{Db, NamedEdge, Point};
 use std::alloc::Global;
 
-/// Whether the conflict is these decisions.
-pub fn is_conflict(alloc: Global, db: &Db, choices: &[Choice]) -> bool {
+/// Whether the conflict is these decisions, as they are named between commas.
+pub fn is_conflict(alloc: Global, db: &Db, choices: &str) -> bool {
     match why(alloc, db) {
         Ok(found) => stand(alloc, model_of(db), &found, choices),
         Err(_fault) => false,
     }
 }
 
-/// Whether neither a conflict nor a cycle is told, for this reason.
-pub fn has_no_reason(alloc: Global, db: &Db, fault: WhyFault) -> bool {
-    matches!(why(alloc, db), Err(found) if found == fault)
-        && matches!(time_cycle(alloc, db), Err(found) if found == fault)
+// Whether the fault has this name.
+fn is_fault(alloc: Global, fault: WhyFault, name: &str) -> bool {
+    match format!(in alloc; "{fault:?}") {
+        Ok(found) => found.as_str() == name,
+        Err(_none) => false,
+    }
+}
+
+/// Whether neither a conflict nor a cycle is told, for the reason of this name.
+pub fn has_no_reason(alloc: Global, db: &Db, name: &str) -> bool {
+    matches!(why(alloc, db), Err(fault) if is_fault(alloc, fault, name))
+        && matches!(time_cycle(alloc, db), Err(fault) if is_fault(alloc, fault, name))
 }
 
 // Whether the part of the token has this name.
@@ -46,29 +53,30 @@ fn is_point(alloc: Global, model: &Model, point: &Point, name: &str) -> bool
     }
 }
 
-fn is_edge(alloc: Global, model: &Model, edge: &NamedEdge, wanted: Option<&Gap>) -> bool
+// Whether the edge has this name: its points, and between them what the second is later at least.
+fn is_edge(alloc: Global, model: &Model, edge: &NamedEdge, wanted: Option<&str>) -> bool
     requires { IsLawful model.now }
 {
-    let Some(Gap(from, gap, to)) = wanted else {
-        return false;
-    };
-    edge.gap == *gap
+    let (from, rest) = parts(wanted.unwrap_or(""));
+    let (gap, to) = parts(rest);
+    gap.parse() == Ok(edge.gap)
         && is_point(alloc, model, &edge.from, from)
         && is_point(alloc, model, &edge.to, to)
 }
 
-fn are_edges(alloc: Global, model: &Model, edges: &[NamedEdge], wanted: &[Gap]) -> bool
+fn are_edges(alloc: Global, model: &Model, edges: &[NamedEdge], wanted: &str) -> bool
     requires { IsLawful model.now }
 {
-    let mut all = edges.len() == wanted.len();
-    for (place, edge) in edges.iter().enumerate() {
-        all = all && is_edge(alloc, model, edge, wanted.get(place));
+    let mut wanted = wanted.split_terminator(", ");
+    let mut all = true;
+    for edge in edges {
+        all = all && is_edge(alloc, model, edge, wanted.next());
     }
-    all
+    all && wanted.next().is_none()
 }
 
-/// Whether the cycle has these edges, in this order.
-pub fn is_cycle(alloc: Global, db: &Db, wanted: &[Gap]) -> bool {
+/// Whether the cycle has the edges of these names, between commas, in this order.
+pub fn is_cycle(alloc: Global, db: &Db, wanted: &str) -> bool {
     match time_cycle(alloc, db) {
         Ok(edges) => are_edges(alloc, model_of(db), &edges, wanted),
         Err(_fault) => false,

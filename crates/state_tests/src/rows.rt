@@ -1,613 +1,391 @@
-//! Steps on the two models, with what each answers as it was worked out by hand from what a state is.
+//! Steps on the two models, with what each answers as it was worked out by hand from what a state is. Behind `== ` and what is
+//! shown stand the steps, a line each; one that answers something has its answer behind ` | `. A line that begins with `#` is a
+//! comment. One text costs the prover little, where an array of as many steps costs it seconds.
 
 use super::deciding::Steps;
-use super::steps::{Choice, Fate, Gap, On, Said, Step};
 use super::trial::{told_on_mission, told_on_rounds};
-use conflict_core::WhyFault;
-use plan_db::DbFault;
-use std::test::Fail;
+use std::alloc::AllocError;
+use std::process::Abort;
 
 // On the mission the horizon is from 0 to 10.
-const ON_MISSION: [(&str, &[Step]); 14] = [
-    (
-        "nothing is decided",
-        &[
-            Step::Tokens(&["base", "here", "there", "drill", "sun", "work"]),
-            Step::Within("total", 0, 5, 6),
-            Step::Within("!1", 0, 5, 6),
-            Step::Within("mode", 0, 0, 1),
-            Step::Within("here.start", 0, 9, 10),
-            Step::Within("here.end", 1, 10, 10),
-            Step::Within("here.duration", 1, 10, 10),
-            Step::Within("here.object", 0, 0, 1),
-            Step::Is("base", Fate::Fact),
-            Step::Is("here", Fate::Inactive),
-            Step::Is("here/0:1", Fate::Absent),
-            Step::Unknown("here/0:1.start"),
-            Step::Stand(&[]),
-            Step::History(0),
-            Step::Flawed,
-            Step::Undo(Said::Refused(DbFault::Nothing)),
-            Step::Backtrack(Said::Refused(DbFault::Nothing)),
-        ],
-    ),
-    (
-        "a block opens with its guard, and closes with undo",
-        &[
-            Step::Take(Choice::Activate("here"), Said::Fits),
-            Step::Tokens(&["base", "here", "there", "drill", "sun", "work", "here/0:1"]),
-            Step::Unknown("here/0!0"),
-            Step::Take(Choice::Specify("here.place", 3), Said::Fits),
-            Step::Tokens(&["base", "here", "there", "drill", "sun", "work", "here/0:1"]),
-            Step::Within("here/0!0", 0, 9, 10),
-            Step::Take(Choice::Specify("here/0:1.quantity", 2), Said::Fits),
-            Step::Within("here/0!0", 0, 2, 3),
-            Step::Undo(Said::Fits),
-            Step::Within("here/0!0", 0, 9, 10),
-            Step::Undo(Said::Fits),
-            Step::Unknown("here/0!0"),
-            Step::Take(Choice::Specify("here.place", 2), Said::Fits),
-            Step::Tokens(&[
-                "base", "here", "there", "drill", "sun", "work", "here/0:0", "here/0:1",
-            ]),
-            Step::Unknown("here/0!0"),
-            Step::Is("here/0:0", Fate::Inactive),
-            Step::Within("here.start", 1, 9, 9),
-            Step::Within("here/0:0.end", 1, 9, 9),
-            Step::Backtrack(Said::Done),
-            Step::Is("here/0:0", Fate::Absent),
-            Step::Within("here.start", 0, 9, 10),
-        ],
-    ),
-    (
-        "what a block asked for goes with the decision that opened it, and comes back",
-        &[
-            Step::Take(Choice::Activate("here"), Said::Fits),
-            Step::Take(Choice::Specify("here.place", 2), Said::Fits),
-            Step::Take(Choice::Activate("here/0:0"), Said::Fits),
-            Step::Take(Choice::Specify("total", 3), Said::Fits),
-            Step::Reset(On::Variable("here.place"), Said::Fits),
-            Step::Tokens(&["base", "here", "there", "drill", "sun", "work", "here/0:1"]),
-            Step::Stand(&[Choice::Activate("here"), Choice::Specify("total", 3)]),
-            Step::History(5),
-            Step::Undo(Said::Fits),
-            Step::Stand(&[
-                Choice::Activate("here"),
-                Choice::Specify("here.place", 2),
-                Choice::Activate("here/0:0"),
-                Choice::Specify("total", 3),
-            ]),
-            Step::History(4),
-            Step::Is("here/0:0", Fate::Active),
-            Step::Is("here/0:0/0:1", Fate::Inactive),
-        ],
-    ),
-    (
-        "a merged token has the values of the other",
-        &[
-            Step::Take(Choice::Activate("here"), Said::Fits),
-            Step::Take(Choice::Specify("here.place", 2), Said::Fits),
-            Step::Within("base.end", 1, 10, 10),
-            Step::Take(Choice::Merge("here/0:0", "base"), Said::Fits),
-            Step::Is("here/0:0", Fate::Merged(0)),
-            Step::Within("base.end", 1, 9, 9),
-            Step::Within("here/0:0.place", 0, 3, 4),
-            Step::Take(Choice::Specify("base.place", 1), Said::Fits),
-            Step::Within("here/0:0.place", 1, 1, 1),
-            Step::Take(Choice::Specify("here.start", 4), Said::Fits),
-            Step::Within("base.end", 1, 4, 4),
-            Step::Reset(On::Token("here/0:0"), Said::Fits),
-            Step::Within("base.place", 1, 1, 1),
-            Step::Within("here/0:0.place", 0, 3, 4),
-            Step::Is("here/0:0", Fate::Inactive),
-        ],
-    ),
-    (
-        "no token comes before itself, and where nothing is possible only going back is",
-        &[
-            Step::Take(Choice::Activate("here"), Said::Fits),
-            Step::Take(Choice::Specify("here.place", 2), Said::Fits),
-            Step::Take(Choice::Merge("here/0:0", "here"), Said::Fails),
-            Step::Unseen,
-            Step::Take(
-                Choice::Specify("total", 3),
-                Said::Refused(DbFault::InInconsistent),
-            ),
-            Step::History(3),
-            Step::Backtrack(Said::Done),
-            Step::Is("here/0:0", Fate::Inactive),
-            Step::Take(Choice::Specify("total", 3), Said::Fits),
-        ],
-    ),
-    (
-        "what speaks of a rejectable counts while it takes place",
-        &[
-            Step::Take(
-                Choice::Specify("there.place", 1),
-                Said::Refused(DbFault::NotActive),
-            ),
-            Step::Take(Choice::Activate("drill"), Said::Fits),
-            Step::Take(Choice::Specify("drill.start", 5), Said::Fits),
-            Step::Within("there.start", 0, 9, 10),
-            Step::Take(Choice::Activate("there"), Said::Fits),
-            Step::Within("there.start", 5, 9, 5),
-            Step::Within("there/0:1.start", 5, 9, 5),
-            Step::Undo(Said::Fits),
-            Step::Within("there.start", 0, 9, 10),
-            Step::Take(Choice::Reject("there"), Said::Fits),
-            Step::Is("there", Fate::Rejected),
-            Step::Within("there.start", 0, 9, 10),
-            Step::Take(
-                Choice::Specify("there.place", 1),
-                Said::Refused(DbFault::NotActive),
-            ),
-            Step::Reset(On::Token("there"), Said::Fits),
-            Step::Is("there", Fate::Inactive),
-        ],
-    ),
-    (
-        "a fact is there, isn't decided, and has no rules",
-        &[
-            Step::Take(Choice::Specify("base.place", 2), Said::Fits),
-            Step::Within("base.place", 2, 2, 1),
-            Step::Tokens(&["base", "here", "there", "drill", "sun", "work"]),
-            Step::Take(Choice::Activate("base"), Said::Refused(DbFault::Decided)),
-            Step::Take(Choice::Reject("base"), Said::Refused(DbFault::Decided)),
-            Step::Take(
-                Choice::Merge("base", "base"),
-                Said::Refused(DbFault::Decided),
-            ),
-            Step::Is("base", Fate::Fact),
-        ],
-    ),
-    (
-        "tokens of one timeline don't overlap",
-        &[
-            Step::Take(Choice::Specify("base.start", 0), Said::Fits),
-            Step::Take(Choice::Specify("base.end", 5), Said::Fits),
-            Step::Within("here.start", 0, 9, 10),
-            Step::Take(Choice::Activate("here"), Said::Fits),
-            Step::Within("here.start", 5, 9, 5),
-            Step::Within("here.end", 6, 10, 5),
-            Step::Take(Choice::Order("here", "base"), Said::Fails),
-            Step::Backtrack(Said::Done),
-            Step::Ordered("here", "base", false),
-            Step::Take(Choice::Order("base", "here"), Said::Fits),
-            Step::Ordered("base", "here", true),
-            Step::Ordered("here", "base", false),
-            Step::Take(
-                Choice::Order("base", "here"),
-                Said::Refused(DbFault::Decided),
-            ),
-            Step::Reset(
-                On::Order("here", "base"),
-                Said::Refused(DbFault::NoSuchDecision),
-            ),
-            Step::Reset(On::Order("base", "here"), Said::Fits),
-            Step::Ordered("base", "here", false),
-            Step::Stand(&[
-                Choice::Specify("base.start", 0),
-                Choice::Specify("base.end", 5),
-                Choice::Activate("here"),
-            ]),
-            Step::Take(Choice::Specify("here.start", 4), Said::Fails),
-            Step::Unseen,
-            Step::Reset(On::Variable("base.end"), Said::Fits),
-            Step::Within("base.end", 1, 4, 4),
-        ],
-    ),
-    (
-        "no more than two uses at a time",
-        &[
-            Step::Take(Choice::Activate("here"), Said::Fits),
-            Step::Take(Choice::Activate("here/0:1"), Said::Fits),
-            Step::Take(Choice::Specify("here/0:1.quantity", 2), Said::Fits),
-            Step::Take(Choice::Specify("here.start", 2), Said::Fits),
-            Step::Take(Choice::Specify("here.end", 4), Said::Fits),
-            Step::Within("here/0:1.start", 2, 2, 1),
-            Step::Within("here/0:1.duration", 2, 2, 1),
-            Step::Take(Choice::Activate("drill"), Said::Fits),
-            Step::Take(Choice::Specify("drill.quantity", 1), Said::Fits),
-            Step::Take(Choice::Specify("drill.end", 6), Said::Fits),
-            Step::Take(Choice::Specify("drill.start", 4), Said::Fits),
-            Step::Reset(On::Variable("drill.start"), Said::Fits),
-            Step::Take(Choice::Specify("drill.start", 3), Said::Fails),
-            Step::Undo(Said::Fits),
-            Step::Within("drill.start", 0, 5, 6),
-            Step::Take(Choice::Specify("drill.start", 5), Said::Fits),
-        ],
-    ),
-    (
-        "a level stays within its limits, once all tokens are decided",
-        &[
-            Step::Take(Choice::Merge("here", "base"), Said::Fits),
-            Step::Take(Choice::Reject("there"), Said::Fits),
-            Step::Take(Choice::Activate("sun"), Said::Fits),
-            Step::Take(Choice::Activate("work"), Said::Fits),
-            Step::Take(Choice::Specify("sun.quantity", 6), Said::Fits),
-            Step::Take(Choice::Specify("work.quantity", 6), Said::Fits),
-            Step::Take(Choice::Specify("work.start", 2), Said::Fits),
-            Step::Take(Choice::Specify("sun.start", 4), Said::Fits),
-            Step::Take(Choice::Reject("drill"), Said::Fails),
-            Step::Reset(On::Variable("sun.start"), Said::Fits),
-            Step::Is("drill", Fate::Rejected),
-            Step::Take(Choice::Specify("sun.start", 3), Said::Fails),
-            Step::Undo(Said::Fits),
-            Step::Take(Choice::Specify("sun.start", 2), Said::Fits),
-        ],
-    ),
-    (
-        "a level that gets too high",
-        &[
-            Step::Take(Choice::Merge("here", "base"), Said::Fits),
-            Step::Take(Choice::Reject("there"), Said::Fits),
-            Step::Take(Choice::Reject("drill"), Said::Fits),
-            Step::Take(Choice::Reject("work"), Said::Fits),
-            Step::Take(Choice::Activate("sun"), Said::Fits),
-            Step::Take(Choice::Specify("sun.quantity", 6), Said::Fails),
-            Step::Backtrack(Said::Done),
-            Step::Take(Choice::Specify("sun.quantity", 5), Said::Fits),
-        ],
-    ),
-    (
-        "of two reasons against a decision the first is told",
-        &[
-            Step::Take(
-                Choice::Merge("base", "here/0:1"),
-                Said::Refused(DbFault::Unknown),
-            ),
-            Step::Take(
-                Choice::Specify("here/0!0", 1),
-                Said::Refused(DbFault::Unknown),
-            ),
-            Step::Take(Choice::Specify("total", 4), Said::Fits),
-            Step::Take(
-                Choice::Specify("total", 11),
-                Said::Refused(DbFault::Decided),
-            ),
-            Step::Take(
-                Choice::Specify("there.place", 4),
-                Said::Refused(DbFault::NotInDomain),
-            ),
-            Step::Take(
-                Choice::Merge("here", "drill"),
-                Said::Refused(DbFault::NotActive),
-            ),
-            Step::Take(
-                Choice::Order("there", "there"),
-                Said::Refused(DbFault::NotActive),
-            ),
-            Step::Take(Choice::Activate("drill"), Said::Fits),
-            Step::Take(
-                Choice::Merge("here", "drill"),
-                Said::Refused(DbFault::NotSamePredicate),
-            ),
-            Step::Take(Choice::Reject("drill"), Said::Refused(DbFault::Decided)),
-            Step::Take(
-                Choice::Reject("here"),
-                Said::Refused(DbFault::NotRejectable),
-            ),
-            Step::Take(Choice::Order("base", "base"), Said::Refused(DbFault::Same)),
-            Step::Reset(On::Token("here"), Said::Refused(DbFault::NoSuchDecision)),
-            Step::Stand(&[Choice::Specify("total", 4), Choice::Activate("drill")]),
-            Step::History(2),
-        ],
-    ),
-    (
-        "the plan of a state, where nothing is open",
-        &[
-            Step::Take(Choice::Specify("total", 4), Said::Fits),
-            Step::Take(Choice::Specify("!1", 0), Said::Fits),
-            Step::Take(Choice::Specify("base.start", 0), Said::Fits),
-            Step::Take(Choice::Specify("base.end", 1), Said::Fits),
-            Step::Take(Choice::Reject("there"), Said::Fits),
-            Step::Take(Choice::Reject("drill"), Said::Fits),
-            Step::Take(Choice::Reject("sun"), Said::Fits),
-            Step::Take(Choice::Merge("here", "base"), Said::Fits),
-            Step::Take(Choice::Specify("base.place", 1), Said::Fits),
-            Step::Flawed,
-            Step::Take(Choice::Reject("work"), Said::Fits),
-            Step::Plan(
-                "plan\nglobal total 4\nglobal !1 0\nglobal mode slow\nglobal on false\nfact base Rover.At start 0 end 1 duration 1 object spirit place 1\nmerged here base\nrejected there\nrejected drill\nrejected sun\nrejected work\nend\n",
-            ),
-            Step::Reset(On::Variable("base.place"), Said::Fits),
-            Step::Flawed,
-            Step::Take(Choice::Specify("base.place", 1), Said::Fits),
-            Step::Reset(On::Token("here"), Said::Fits),
-            Step::Take(Choice::Activate("here"), Said::Fits),
-            Step::Take(Choice::Specify("here.place", 3), Said::Fits),
-            Step::Take(Choice::Specify("here.start", 2), Said::Fits),
-            Step::Take(Choice::Specify("here.duration", 2), Said::Fits),
-            Step::Take(Choice::Activate("here/0:1"), Said::Fits),
-            Step::Take(Choice::Specify("here/0:1.quantity", 1), Said::Fits),
-            Step::Flawed,
-            Step::Take(Choice::Specify("here/0!0", 1), Said::Fits),
-            Step::Plan(
-                "plan\nglobal total 4\nglobal !1 0\nglobal mode slow\nglobal on false\nfact base Rover.At start 0 end 1 duration 1 object spirit place 1\ntoken here Rover.At start 2 end 4 duration 2 object spirit place 3\nlocal here/0!0 1\nrejected there\nrejected drill\nrejected sun\nrejected work\ntoken here/0:1 Arm.uses start 2 end 4 duration 2 object arm quantity 1\nend\n",
-            ),
-        ],
-    ),
-    (
-        "tokens that overlap, and no edge of that",
-        &[
-            Step::Take(Choice::Specify("total", 3), Said::Fits),
-            Step::Take(Choice::Specify("base.start", 0), Said::Fits),
-            Step::Take(Choice::Specify("base.end", 5), Said::Fits),
-            Step::Take(Choice::Activate("here"), Said::Fits),
-            Step::Take(Choice::Specify("here.start", 4), Said::Fails),
-            Step::Why(&[
-                Choice::Specify("base.end", 5),
-                Choice::Activate("here"),
-                Choice::Specify("here.start", 4),
-            ]),
-            Step::Cycle(&[]),
-        ],
-    ),
-];
+const ON_MISSION: &str = "
+== nothing is decided
+tokens base here there drill sun work
+domain total | 0 5 6
+domain !1 | 0 5 6
+domain mode | 0 0 1
+domain here.start | 0 9 10
+domain here.end | 1 10 10
+domain here.duration | 1 10 10
+domain here.object | 0 0 1
+fate base | Fact
+fate here | Inactive
+fate here/0:1 | Absent
+unknown here/0:1.start
+stand
+history | 0
+flawed
+undo | Refused(Nothing)
+backtrack | Refused(Nothing)
+== a block opens with its guard, and closes with undo
+activate here | Fits
+tokens base here there drill sun work here/0:1
+unknown here/0!0
+specify here.place 3 | Fits
+tokens base here there drill sun work here/0:1
+domain here/0!0 | 0 9 10
+specify here/0:1.quantity 2 | Fits
+domain here/0!0 | 0 2 3
+undo | Fits
+domain here/0!0 | 0 9 10
+undo | Fits
+unknown here/0!0
+specify here.place 2 | Fits
+tokens base here there drill sun work here/0:0 here/0:1
+unknown here/0!0
+fate here/0:0 | Inactive
+domain here.start | 1 9 9
+domain here/0:0.end | 1 9 9
+backtrack | Done
+fate here/0:0 | Absent
+domain here.start | 0 9 10
+== what a block asked for goes with the decision that opened it, and comes back
+activate here | Fits
+specify here.place 2 | Fits
+activate here/0:0 | Fits
+specify total 3 | Fits
+reset variable here.place | Fits
+tokens base here there drill sun work here/0:1
+stand activate here, specify total 3
+history | 5
+undo | Fits
+stand activate here, specify here.place 2, activate here/0:0, specify total 3
+history | 4
+fate here/0:0 | Active
+fate here/0:0/0:1 | Inactive
+== a merged token has the values of the other
+activate here | Fits
+specify here.place 2 | Fits
+domain base.end | 1 10 10
+merge here/0:0 base | Fits
+fate here/0:0 | Merged(0)
+domain base.end | 1 9 9
+domain here/0:0.place | 0 3 4
+specify base.place 1 | Fits
+domain here/0:0.place | 1 1 1
+specify here.start 4 | Fits
+domain base.end | 1 4 4
+reset token here/0:0 | Fits
+domain base.place | 1 1 1
+domain here/0:0.place | 0 3 4
+fate here/0:0 | Inactive
+== no token comes before itself, and where nothing is possible only going back is
+activate here | Fits
+specify here.place 2 | Fits
+merge here/0:0 here | Fails
+unseen
+specify total 3 | Refused(InInconsistent)
+history | 3
+backtrack | Done
+fate here/0:0 | Inactive
+specify total 3 | Fits
+== what speaks of a rejectable counts while it takes place
+specify there.place 1 | Refused(NotActive)
+activate drill | Fits
+specify drill.start 5 | Fits
+domain there.start | 0 9 10
+activate there | Fits
+domain there.start | 5 9 5
+domain there/0:1.start | 5 9 5
+undo | Fits
+domain there.start | 0 9 10
+reject there | Fits
+fate there | Rejected
+domain there.start | 0 9 10
+specify there.place 1 | Refused(NotActive)
+reset token there | Fits
+fate there | Inactive
+== a fact is there, isn't decided, and has no rules
+specify base.place 2 | Fits
+domain base.place | 2 2 1
+tokens base here there drill sun work
+activate base | Refused(Decided)
+reject base | Refused(Decided)
+merge base base | Refused(Decided)
+fate base | Fact
+== tokens of one timeline don't overlap
+specify base.start 0 | Fits
+specify base.end 5 | Fits
+domain here.start | 0 9 10
+activate here | Fits
+domain here.start | 5 9 5
+domain here.end | 6 10 5
+order here base | Fails
+backtrack | Done
+ordered here base | false
+order base here | Fits
+ordered base here | true
+ordered here base | false
+order base here | Refused(Decided)
+reset order here base | Refused(NoSuchDecision)
+reset order base here | Fits
+ordered base here | false
+stand specify base.start 0, specify base.end 5, activate here
+specify here.start 4 | Fails
+unseen
+reset variable base.end | Fits
+domain base.end | 1 4 4
+== no more than two uses at a time
+activate here | Fits
+activate here/0:1 | Fits
+specify here/0:1.quantity 2 | Fits
+specify here.start 2 | Fits
+specify here.end 4 | Fits
+domain here/0:1.start | 2 2 1
+domain here/0:1.duration | 2 2 1
+activate drill | Fits
+specify drill.quantity 1 | Fits
+specify drill.end 6 | Fits
+specify drill.start 4 | Fits
+reset variable drill.start | Fits
+specify drill.start 3 | Fails
+undo | Fits
+domain drill.start | 0 5 6
+specify drill.start 5 | Fits
+== a level stays within its limits, once all tokens are decided
+merge here base | Fits
+reject there | Fits
+activate sun | Fits
+activate work | Fits
+specify sun.quantity 6 | Fits
+specify work.quantity 6 | Fits
+specify work.start 2 | Fits
+specify sun.start 4 | Fits
+reject drill | Fails
+reset variable sun.start | Fits
+fate drill | Rejected
+specify sun.start 3 | Fails
+undo | Fits
+specify sun.start 2 | Fits
+== a level that gets too high
+merge here base | Fits
+reject there | Fits
+reject drill | Fits
+reject work | Fits
+activate sun | Fits
+specify sun.quantity 6 | Fails
+backtrack | Done
+specify sun.quantity 5 | Fits
+== of two reasons against a decision the first is told
+merge base here/0:1 | Refused(Unknown)
+specify here/0!0 1 | Refused(Unknown)
+specify total 4 | Fits
+specify total 11 | Refused(Decided)
+specify there.place 4 | Refused(NotInDomain)
+merge here drill | Refused(NotActive)
+order there there | Refused(NotActive)
+activate drill | Fits
+merge here drill | Refused(NotSamePredicate)
+reject drill | Refused(Decided)
+reject here | Refused(NotRejectable)
+order base base | Refused(Same)
+reset token here | Refused(NoSuchDecision)
+stand specify total 4, activate drill
+history | 2
+== the plan of a state, where nothing is open
+specify total 4 | Fits
+specify !1 0 | Fits
+specify base.start 0 | Fits
+specify base.end 1 | Fits
+reject there | Fits
+reject drill | Fits
+reject sun | Fits
+merge here base | Fits
+specify base.place 1 | Fits
+flawed
+reject work | Fits
+plan MERGED
+reset variable base.place | Fits
+flawed
+specify base.place 1 | Fits
+reset token here | Fits
+activate here | Fits
+specify here.place 3 | Fits
+specify here.start 2 | Fits
+specify here.duration 2 | Fits
+activate here/0:1 | Fits
+specify here/0:1.quantity 1 | Fits
+flawed
+specify here/0!0 1 | Fits
+plan ACTIVE
+== tokens that overlap, and no edge of that
+specify total 3 | Fits
+specify base.start 0 | Fits
+specify base.end 5 | Fits
+activate here | Fits
+specify here.start 4 | Fails
+why specify base.end 5, activate here, specify here.start 4
+cycle
+";
 
 // On the rounds too the horizon is from 0 to 10.
-const ON_ROUNDS: [(&str, &[Step]); 12] = [
-    (
-        "one variable is at most another",
-        &[
-            Step::Take(Choice::Specify("x", 4), Said::Fits),
-            Step::Within("y", 4, 10, 7),
-            Step::Undo(Said::Fits),
-            Step::Within("y", 0, 10, 11),
-            Step::Take(Choice::Specify("z", 1), Said::Fits),
-            Step::Take(Choice::Specify("x", 4), Said::Fits),
-            Step::Take(Choice::Specify("x", 5), Said::Refused(DbFault::Decided)),
-            Step::Take(
-                Choice::Specify("y", 11),
-                Said::Refused(DbFault::NotInDomain),
-            ),
-            Step::Take(Choice::Specify("y", 3), Said::Fails),
-            Step::Unseen,
-            Step::Reset(On::Variable("y"), Said::Fits),
-            Step::Within("y", 4, 10, 7),
-            Step::Reset(On::Variable("y"), Said::Refused(DbFault::NoSuchDecision)),
-            Step::Undo(Said::Fails),
-            Step::Reset(On::Variable("x"), Said::Fits),
-            Step::Within("x", 0, 3, 4),
-            Step::Stand(&[Choice::Specify("z", 1), Choice::Specify("y", 3)]),
-        ],
-    ),
-    (
-        "only a decision is taken back with no memory",
-        &[
-            Step::Take(Choice::Specify("x", 4), Said::Fits),
-            Step::Take(Choice::Specify("y", 5), Said::Fits),
-            Step::Reset(On::Variable("x"), Said::Fits),
-            Step::Backtrack(Said::Refused(DbFault::Nothing)),
-            Step::Stand(&[Choice::Specify("y", 5)]),
-            Step::Undo(Said::Fits),
-            Step::Backtrack(Said::Done),
-            Step::Stand(&[Choice::Specify("x", 4)]),
-            Step::History(1),
-            Step::Within("y", 4, 10, 7),
-        ],
-    ),
-    (
-        "what is built anew is the same",
-        &[
-            Step::Take(Choice::Specify("x", 4), Said::Fits),
-            Step::Take(Choice::Activate("one"), Said::Fits),
-            Step::Take(Choice::Activate("link"), Said::Fits),
-            Step::Rebuild,
-            Step::Stand(&[
-                Choice::Specify("x", 4),
-                Choice::Activate("one"),
-                Choice::Activate("link"),
-            ]),
-            Step::Within("y", 4, 10, 7),
-            Step::Is("link/0:0", Fate::Inactive),
-            Step::Backtrack(Said::Done),
-            Step::Is("link/0:0", Fate::Absent),
-            Step::Undo(Said::Fits),
-            Step::Is("one", Fate::Inactive),
-            Step::Within("y", 4, 10, 7),
-        ],
-    ),
-    (
-        "merges go with their targets, and come back",
-        &[
-            Step::Take(Choice::Activate("link"), Said::Fits),
-            Step::Take(Choice::Merge("link/0:0", "link"), Said::Fits),
-            Step::Take(Choice::Activate("other"), Said::Fits),
-            Step::Take(Choice::Merge("other/0:0", "link"), Said::Fits),
-            Step::Is("other/0:0", Fate::Merged(3)),
-            Step::Reset(On::Token("link"), Said::Fits),
-            Step::Stand(&[Choice::Activate("other")]),
-            Step::Take(
-                Choice::Merge("other/0:0", "other/0:0"),
-                Said::Refused(DbFault::NotActive),
-            ),
-            Step::Take(
-                Choice::Order("other", "other"),
-                Said::Refused(DbFault::Same),
-            ),
-            Step::Undo(Said::Fits),
-            Step::Stand(&[
-                Choice::Activate("link"),
-                Choice::Merge("link/0:0", "link"),
-                Choice::Activate("other"),
-                Choice::Merge("other/0:0", "link"),
-            ]),
-            Step::Is("other/0:0", Fate::Merged(3)),
-        ],
-    ),
-    (
-        "two tokens of one track may touch",
-        &[
-            Step::Take(Choice::Activate("one"), Said::Fits),
-            Step::Take(Choice::Activate("two"), Said::Fits),
-            Step::Take(Choice::Specify("one.start", 0), Said::Fits),
-            Step::Take(Choice::Specify("one.end", 5), Said::Fits),
-            Step::Take(Choice::Specify("two.start", 5), Said::Fits),
-            Step::Within("two.end", 6, 10, 5),
-            Step::Reset(On::Variable("two.start"), Said::Fits),
-            Step::Within("two.start", 5, 9, 5),
-            Step::Take(Choice::Specify("two.start", 4), Said::Fails),
-        ],
-    ),
-    (
-        "three tokens in a circle",
-        &[
-            Step::Take(Choice::Activate("one"), Said::Fits),
-            Step::Take(Choice::Activate("two"), Said::Fits),
-            Step::Take(Choice::Activate("three"), Said::Fits),
-            Step::Take(Choice::Order("one", "two"), Said::Fits),
-            Step::Take(Choice::Order("two", "three"), Said::Fits),
-            Step::Within("three.start", 2, 9, 8),
-            Step::Take(Choice::Order("three", "one"), Said::Fails),
-            Step::Undo(Said::Fits),
-            Step::Within("three.start", 2, 9, 8),
-            Step::Within("one.end", 1, 8, 8),
-            Step::Reset(On::Token("two"), Said::Fits),
-            Step::Stand(&[Choice::Activate("one"), Choice::Activate("three")]),
-            Step::Within("three.start", 0, 9, 10),
-        ],
-    ),
-    (
-        "no token without an object",
-        &[
-            Step::Take(Choice::Activate("lost"), Said::Fails),
-            Step::Unseen,
-            Step::Undo(Said::Fits),
-            Step::Take(Choice::Activate("other"), Said::Fits),
-            Step::Is("other/0:0", Fate::Inactive),
-            Step::Take(Choice::Activate("lost"), Said::Fails),
-            Step::Backtrack(Said::Done),
-            Step::Take(Choice::Reject("lost"), Said::Fits),
-            Step::Is("lost", Fate::Rejected),
-        ],
-    ),
-    (
-        "what has no part in it is left out of a conflict, and asking changes nothing",
-        &[
-            Step::Take(Choice::Specify("z", 1), Said::Fits),
-            Step::NoWhy(WhyFault::Consistent),
-            Step::Take(Choice::Specify("x", 5), Said::Fits),
-            Step::Take(Choice::Specify("y", 3), Said::Fails),
-            Step::Why(&[Choice::Specify("x", 5), Choice::Specify("y", 3)]),
-            Step::Cycle(&[]),
-            Step::Stand(&[
-                Choice::Specify("z", 1),
-                Choice::Specify("x", 5),
-                Choice::Specify("y", 3),
-            ]),
-            Step::History(3),
-            Step::Undo(Said::Fits),
-            Step::Within("y", 5, 10, 6),
-        ],
-    ),
-    (
-        "one decision can be the whole conflict",
-        &[
-            Step::Take(Choice::Specify("x", 5), Said::Fits),
-            Step::Take(Choice::Activate("link"), Said::Fits),
-            Step::Take(Choice::Activate("lost"), Said::Fails),
-            Step::Why(&[Choice::Activate("lost")]),
-            Step::Cycle(&[]),
-            Step::History(3),
-        ],
-    ),
-    (
-        "a decision stays in a conflict for the sake of those that it allows",
-        // the merge needs link active, and other/0:0 is there only while other is active
-        &[
-            Step::Take(Choice::Activate("link"), Said::Fits),
-            Step::Take(Choice::Activate("other"), Said::Fits),
-            Step::Take(Choice::Merge("other/0:0", "link"), Said::Fits),
-            Step::Take(Choice::Specify("link.start", 2), Said::Fits),
-            Step::Take(Choice::Specify("other/0:0.start", 3), Said::Fails),
-            Step::Why(&[
-                Choice::Activate("link"),
-                Choice::Activate("other"),
-                Choice::Merge("other/0:0", "link"),
-                Choice::Specify("link.start", 2),
-                Choice::Specify("other/0:0.start", 3),
-            ]),
-            // the cycle goes through the merged token: its start is its target's
-            Step::Cycle(&[
-                Gap("origin", 3, "link.start"),
-                Gap("link.start", -2, "origin"),
-            ]),
-        ],
-    ),
-    (
-        "three tokens in a circle, and why",
-        &[
-            Step::Take(Choice::Activate("one"), Said::Fits),
-            Step::Take(Choice::Activate("two"), Said::Fits),
-            Step::Take(Choice::Activate("three"), Said::Fits),
-            Step::Take(Choice::Specify("z", 4), Said::Fits),
-            Step::Take(Choice::Order("one", "two"), Said::Fits),
-            Step::Take(Choice::Order("two", "three"), Said::Fits),
-            Step::Take(Choice::Order("three", "one"), Said::Fails),
-            Step::Cycle(&[
-                Gap("one.start", 1, "one.end"),
-                Gap("one.end", 0, "two.start"),
-                Gap("two.start", 1, "two.end"),
-                Gap("two.end", 0, "three.start"),
-                Gap("three.start", 1, "three.end"),
-                Gap("three.end", 0, "one.start"),
-            ]),
-            Step::Why(&[
-                Choice::Activate("one"),
-                Choice::Activate("two"),
-                Choice::Activate("three"),
-                Choice::Order("one", "two"),
-                Choice::Order("two", "three"),
-                Choice::Order("three", "one"),
-            ]),
-            Step::History(7),
-            Step::Undo(Said::Fits),
-            Step::Within("three.start", 2, 9, 8),
-            Step::NoWhy(WhyFault::Consistent),
-        ],
-    ),
-    (
-        "a duration that is decided last is read from the decision",
-        &[
-            Step::Take(Choice::Activate("one"), Said::Fits),
-            Step::Take(Choice::Specify("one.start", 4), Said::Fits),
-            Step::Take(Choice::Specify("one.end", 6), Said::Fits),
-            Step::Take(Choice::Specify("one.duration", 3), Said::Fails),
-            Step::Cycle(&[
-                Gap("origin", 4, "one.start"),
-                Gap("one.start", 3, "one.end"),
-                Gap("one.end", -6, "origin"),
-            ]),
-            Step::Why(&[
-                Choice::Specify("one.start", 4),
-                Choice::Specify("one.end", 6),
-                Choice::Specify("one.duration", 3),
-            ]),
-        ],
-    ),
-];
+const ON_ROUNDS: &str = "
+== one variable is at most another
+specify x 4 | Fits
+domain y | 4 10 7
+undo | Fits
+domain y | 0 10 11
+specify z 1 | Fits
+specify x 4 | Fits
+specify x 5 | Refused(Decided)
+specify y 11 | Refused(NotInDomain)
+specify y 3 | Fails
+unseen
+reset variable y | Fits
+domain y | 4 10 7
+reset variable y | Refused(NoSuchDecision)
+undo | Fails
+reset variable x | Fits
+domain x | 0 3 4
+stand specify z 1, specify y 3
+== only a decision is taken back with no memory
+specify x 4 | Fits
+specify y 5 | Fits
+reset variable x | Fits
+backtrack | Refused(Nothing)
+stand specify y 5
+undo | Fits
+backtrack | Done
+stand specify x 4
+history | 1
+domain y | 4 10 7
+== what is built anew is the same
+specify x 4 | Fits
+activate one | Fits
+activate link | Fits
+rebuild | Done
+stand specify x 4, activate one, activate link
+domain y | 4 10 7
+fate link/0:0 | Inactive
+backtrack | Done
+fate link/0:0 | Absent
+undo | Fits
+fate one | Inactive
+domain y | 4 10 7
+== merges go with their targets, and come back
+activate link | Fits
+merge link/0:0 link | Fits
+activate other | Fits
+merge other/0:0 link | Fits
+fate other/0:0 | Merged(3)
+reset token link | Fits
+stand activate other
+merge other/0:0 other/0:0 | Refused(NotActive)
+order other other | Refused(Same)
+undo | Fits
+stand activate link, merge link/0:0 link, activate other, merge other/0:0 link
+fate other/0:0 | Merged(3)
+== two tokens of one track may touch
+activate one | Fits
+activate two | Fits
+specify one.start 0 | Fits
+specify one.end 5 | Fits
+specify two.start 5 | Fits
+domain two.end | 6 10 5
+reset variable two.start | Fits
+domain two.start | 5 9 5
+specify two.start 4 | Fails
+== three tokens in a circle
+activate one | Fits
+activate two | Fits
+activate three | Fits
+order one two | Fits
+order two three | Fits
+domain three.start | 2 9 8
+order three one | Fails
+undo | Fits
+domain three.start | 2 9 8
+domain one.end | 1 8 8
+reset token two | Fits
+stand activate one, activate three
+domain three.start | 0 9 10
+== no token without an object
+activate lost | Fails
+unseen
+undo | Fits
+activate other | Fits
+fate other/0:0 | Inactive
+activate lost | Fails
+backtrack | Done
+reject lost | Fits
+fate lost | Rejected
+== what has no part in it is left out of a conflict, and asking changes nothing
+specify z 1 | Fits
+no reason | Consistent
+specify x 5 | Fits
+specify y 3 | Fails
+why specify x 5, specify y 3
+cycle
+stand specify z 1, specify x 5, specify y 3
+history | 3
+undo | Fits
+domain y | 5 10 6
+== one decision can be the whole conflict
+specify x 5 | Fits
+activate link | Fits
+activate lost | Fails
+why activate lost
+cycle
+history | 3
+== a decision stays in a conflict for the sake of those that it allows
+activate link | Fits
+activate other | Fits
+merge other/0:0 link | Fits
+specify link.start 2 | Fits
+specify other/0:0.start 3 | Fails
+why activate link, activate other, merge other/0:0 link, specify link.start 2, specify other/0:0.start 3
+# the cycle goes through the merged token: its start is its target's
+cycle origin 3 link.start, link.start -2 origin
+== three tokens in a circle, and why
+activate one | Fits
+activate two | Fits
+activate three | Fits
+specify z 4 | Fits
+order one two | Fits
+order two three | Fits
+order three one | Fails
+cycle one.start 1 one.end, one.end 0 two.start, two.start 1 two.end, two.end 0 three.start, three.start 1 three.end, three.end 0 one.start
+why activate one, activate two, activate three, order one two, order two three, order three one
+history | 7
+undo | Fits
+domain three.start | 2 9 8
+no reason | Consistent
+== a duration that is decided last is read from the decision
+activate one | Fits
+specify one.start 4 | Fits
+specify one.end 6 | Fits
+specify one.duration 3 | Fails
+cycle origin 4 one.start, one.start 3 one.end, one.end -6 origin
+why specify one.start 4, specify one.end 6, specify one.duration 3
+";
 
-#[test]
-fn the_mission_answers(rt: HostRuntime) -> Result<(), Fail> {
-    for row in &ON_MISSION {
-        assert!(rt;
-            told_on_mission(rt.alloc(), &Steps(row.1))?.is_none(),
-            "{}",
-            row.0
-        );
+// Asserts that no step of the row was answered otherwise; the first that was is told by its number.
+fn assert_right<R: Abort>(rt: &R, row: &str, wrong: Result<Option<usize>, AllocError>) {
+    if wrong != Ok(None) {
+        panic!(rt; "{wrong:?} in {row}");
     }
-    Ok(())
 }
 
 #[test]
-fn the_rounds_answer(rt: HostRuntime) -> Result<(), Fail> {
-    for row in &ON_ROUNDS {
-        assert!(rt;
-            told_on_rounds(rt.alloc(), &Steps(row.1))?.is_none(),
-            "{}",
-            row.0
-        );
+fn the_mission_answers(rt: HostRuntime) {
+    for row in ON_MISSION.split("\n== ") {
+        assert_right(&rt, row, told_on_mission(rt.alloc(), &Steps(row)));
     }
-    Ok(())
+}
+
+#[test]
+fn the_rounds_answer(rt: HostRuntime) {
+    for row in ON_ROUNDS.split("\n== ") {
+        assert_right(&rt, row, told_on_rounds(rt.alloc(), &Steps(row)));
+    }
 }

@@ -2,14 +2,13 @@
 
 use super::asking::model_of;
 use super::names::decision;
-use super::steps::Choice;
 use super::trial::{Trial, told_on_rounds};
 use plan_db::Db;
 use std::alloc::Global;
 use std::test::Fail;
 
 // The narrowings for taking the decision, which fits.
-fn work_of(alloc: Global, db: &mut Db, choice: &Choice) -> Option<u64> {
+fn work_of(alloc: Global, db: &mut Db, choice: &str) -> Option<u64> {
     let before = db.work();
     match decision(alloc, model_of(db), choice) {
         Some(decision) => match db.apply(&decision) {
@@ -41,8 +40,8 @@ fn work_anew(db: &mut Db) -> Option<u64> {
 // The narrowings for a decision on a variable of no constraint, for one on a variable of one, for taking that back, and for
 // building anew.
 fn works_in(alloc: Global, db: &mut Db) -> [Option<u64>; 4] {
-    let free = work_of(alloc, db, &Choice::Specify("z", 1));
-    let bound = work_of(alloc, db, &Choice::Specify("x", 4));
+    let free = work_of(alloc, db, "specify z 1");
+    let bound = work_of(alloc, db, "specify x 4");
     let back = work_back(db);
     [free, bound, back, work_anew(db)]
 }

@@ -1,6 +1,7 @@
 //! Files of the language over a shelf in memory, with what they are read as by hand.
 
 use super::faults::described;
+use super::rows::{Asked, assert_answer, assert_rows};
 use eu_io::calm::shelf::CalmShelf;
 use eu_io::shelf::FileEntry;
 use eu_name::bytes::Bytes;
@@ -42,35 +43,34 @@ fn told(alloc: Global, text: &str) -> Result<String, AllocError> {
     }
 }
 
-fn comes(alloc: Global, text: &str, expected: &str) -> Result<bool, AllocError> {
-    let words = told(alloc, text)?;
-    Ok(words.as_str() == expected)
+/// What a file of this text is read as.
+struct Read;
+
+impl Asked for Read {
+    fn answer(&self, alloc: Global, given: &str) -> Result<String, AllocError> {
+        told(alloc, given)
+    }
 }
 
-const FILES: [(&str, &str); 15] = [
-    ("int x; // one\nleq(x, x);", "m.nddl 2 "),
-    ("#include \"q\" int [0 1] x;", "m.nddl 2 q 1 "),
-    ("#include \"m.nddl\"; #include \"Plasma.nddl\"", "m.nddl 2 "),
-    ("", "m.nddl 0 "),
-    ("int x; @", "BadByte m.nddl 7"),
-    ("int int @", "BadByte m.nddl 8"),
-    ("/* x", "OpenComment m.nddl 0"),
-    ("int [0 1000001] x;", "OutOfRange m.nddl 7"),
-    ("int x", "Syntax m.nddl 5"),
-    ("int int x;", "Syntax m.nddl 4"),
-    ("#include \"p\"", "Absent m.nddl 0"),
-    ("#include \"p\" int x", "Syntax m.nddl 18"),
-    ("#include \"\"", "Absent m.nddl 0"),
-    (
-        "A::P{if(a){if(a){if(a){if(a){if(a){if(a){if(a){if(a){if(a){if(a){if(a){if(a){if(a){if(a){if(a){if(a){",
-        "Limit:nesting m.nddl 100",
-    ),
-    ("enum E { }", "Syntax m.nddl 9"),
-];
+const FILES: &str = "
+#include \"q\" int [0 1] x; | m.nddl 2 q 1
+#include \"m.nddl\"; #include \"Plasma.nddl\" | m.nddl 2
+ | m.nddl 0
+int x; @ | BadByte m.nddl 7
+int int @ | BadByte m.nddl 8
+/* x | OpenComment m.nddl 0
+int [0 1000001] x; | OutOfRange m.nddl 7
+int x | Syntax m.nddl 5
+int int x; | Syntax m.nddl 4
+#include \"p\" | Absent m.nddl 0
+#include \"p\" int x | Syntax m.nddl 18
+#include \"\" | Absent m.nddl 0
+A::P{if(a){if(a){if(a){if(a){if(a){if(a){if(a){if(a){if(a){if(a){if(a){if(a){if(a){if(a){if(a){if(a){ | Limit:nesting m.nddl 100
+enum E { } | Syntax m.nddl 9
+";
 
 #[test]
 fn files_are_read_as_trees(rt: HostRuntime) {
-    for (text, expected) in &FILES {
-        assert_eq!(rt; comes(rt.alloc(), text, expected), Ok(true), "{text}");
-    }
+    assert_rows(&rt, &Read, FILES);
+    assert_answer(&rt, &Read, "int x; // one\nleq(x, x);", "m.nddl 2");
 }

@@ -1,6 +1,7 @@
 //! Files with their includes over shelves in memory, with a reader of its own for texts.
 
 use super::faults::described;
+use super::rows::{Asked, assert_answer, assert_rows};
 use eu_io::calm::shelf::CalmShelf;
 use eu_io::memory::shelf::MemShelf;
 use eu_io::shelf::{FileEntry, Shelf};
@@ -16,7 +17,6 @@ use nddl_lexer::kinds::LexFault;
 use nddl_parser::parsing::ParseFault;
 use std::alloc::{AllocError, Global};
 use std::str;
-use std::test::Fail;
 
 /// Reads parts between commas, whose places are their numbers. `!` is a fault, `-` a class, nothing is nothing, and
 /// anything else an include; `?` is that of a name that isn't UTF-8.
@@ -106,44 +106,51 @@ fn told<S: Shelf>(alloc: Global, shelf: &mut S, name: &str) -> Result<String, Al
     }
 }
 
-/// Whether that is what comes of the file `name` of these files.
-fn comes(alloc: Global, files: &str, name: &str, expected: &str) -> Result<bool, AllocError> {
-    let mut shelf = CalmShelf::new(files_of(alloc, files)?);
-    let words = told(alloc, &mut shelf, name)?;
-    Ok(words.as_str() == expected)
+/// The same of a shelf with these files.
+fn told_of(alloc: Global, files: Vec<FileEntry>, name: &str) -> Result<String, AllocError> {
+    let mut shelf = CalmShelf::new(files);
+    told(alloc, &mut shelf, name)
 }
 
-const FILES: [(&str, &str, &str); 11] = [
-    ("m>a,b a>c b> c>", "m", "m a c b "),
-    ("m>-,a,a,b a>b,m b>m,a", "m", "m a b "),
-    ("m>./m ./m>m,./m", "m", "m ./m "),
-    ("m>Plasma.nddl,a,PlannerConfig.nddl a>", "m", "m a "),
-    ("m>q,q q>!", "m", "Syntax q 0"),
-    ("m>q,-,!", "m", "Syntax m 2"),
-    ("m>a,q a>-,-,q", "m", "Absent a 2"),
-    ("m>a,? a>", "m", "Absent m 1"),
-    ("a>", "m", "Absent m 0"),
-    ("m>\u{e9} \u{e9}>m", "m", "m \u{e9} "),
-    (
-        "Plasma.nddl>a a>Plasma.nddl",
-        "Plasma.nddl",
-        "Plasma.nddl a ",
-    ),
-];
-
-#[test]
-fn files_are_read_each_before_its_includes(rt: HostRuntime) {
-    for (files, name, expected) in &FILES {
-        assert_eq!(rt;
-            comes(rt.alloc(), files, name, expected),
-            Ok(true),
-            "{files}"
-        );
+/// The same of files of these names and texts.
+fn told_of_text(alloc: Global, files: &str, name: &str) -> Result<String, AllocError> {
+    match files_of(alloc, files) {
+        Ok(files) => told_of(alloc, files, name),
+        Err(none) => Err(none),
     }
 }
 
+/// What comes of files, whose names and texts stand before the name that is read.
+struct Files;
+
+impl Asked for Files {
+    fn answer(&self, alloc: Global, given: &str) -> Result<String, AllocError> {
+        let (files, name) = given.split_once(" | ").unwrap_or((given, ""));
+        told_of_text(alloc, files, name)
+    }
+}
+
+const FILES: &str = "
+m>a,b a>c b> c> | m | m a c b
+m>-,a,a,b a>b,m b>m,a | m | m a b
+m>./m ./m>m,./m | m | m ./m
+m>Plasma.nddl,a,PlannerConfig.nddl a> | m | m a
+m>q,q q>! | m | Syntax q 0
+m>q,-,! | m | Syntax m 2
+m>a,q a>-,-,q | m | Absent a 2
+m>a,? a> | m | Absent m 1
+a> | m | Absent m 0
+m>é é>m | m | m é
+Plasma.nddl>a a>Plasma.nddl | Plasma.nddl | Plasma.nddl a
+";
+
+#[test]
+fn files_are_read_each_before_its_includes(rt: HostRuntime) {
+    assert_rows(&rt, &Files, FILES);
+}
+
 /// A file `m` that includes the files from 0 up to a number, of which there are so many.
-fn row(alloc: Global, included: u32, held: u32) -> Result<String, AllocError> {
+fn row_files(alloc: Global, included: u32, held: u32) -> Result<String, AllocError> {
     let mut files = String::from_str(alloc, "m>")?;
     for number in 0..included {
         write!(files, "{number},")?;
@@ -154,29 +161,53 @@ fn row(alloc: Global, included: u32, held: u32) -> Result<String, AllocError> {
     Ok(files)
 }
 
-/// How many words come of it.
-fn row_words(alloc: Global, included: u32, held: u32) -> Result<usize, AllocError> {
-    let files = row(alloc, included, held)?;
-    let mut shelf = CalmShelf::new(files_of(alloc, files.as_str())?);
-    let words = told(alloc, &mut shelf, "m")?;
-    Ok(words.as_str().split(' ').count())
+/// What comes of one of these files.
+struct Row {
+    included: u32,
+    held: u32,
 }
 
-/// Whether this is what comes of it.
-fn row_comes(alloc: Global, included: u32, held: u32, expected: &str) -> Result<bool, AllocError> {
-    let files = row(alloc, included, held)?;
-    comes(alloc, files.as_str(), "m", expected)
+impl Asked for Row {
+    fn answer(&self, alloc: Global, given: &str) -> Result<String, AllocError> {
+        match row_files(alloc, self.included, self.held) {
+            Ok(files) => told_of_text(alloc, files.as_str(), given),
+            Err(none) => Err(none),
+        }
+    }
 }
+
+/// How many words come of the file `m`.
+fn row_words(alloc: Global, row: &Row) -> usize {
+    match row.answer(alloc, "m") {
+        Ok(words) => words.as_str().split(' ').count(),
+        Err(_none) => 0,
+    }
+}
+
+const FULL: Row = Row {
+    included: 63,
+    held: 63,
+};
+
+const LONGER: Row = Row {
+    included: 64,
+    held: 64,
+};
+
+const LACKING: Row = Row {
+    included: 64,
+    held: 63,
+};
 
 #[test]
 fn there_are_at_most_64_files(rt: HostRuntime) {
-    assert_eq!(rt; row_words(rt.alloc(), 63, 63), Ok(65));
-    assert_eq!(rt; row_comes(rt.alloc(), 64, 64, "Limit:files m 63"), Ok(true));
-    assert_eq!(rt; row_comes(rt.alloc(), 64, 63, "Absent m 63"), Ok(true));
+    assert!(rt; row_words(rt.alloc(), &FULL) == 65);
+    assert_answer(&rt, &LONGER, "m", "Limit:files m 63");
+    assert_answer(&rt, &LACKING, "m", "Absent m 63");
 }
 
 /// A file 0 that includes 1, which includes 2, and so on, where there are so many.
-fn chain(alloc: Global, held: u32, last: &str) -> Result<String, AllocError> {
+fn chain_files(alloc: Global, held: u32, last: &str) -> Result<String, AllocError> {
     let mut files = String::new(alloc);
     for number in 1..held {
         write!(files, "{}>{number} ", number - 1)?;
@@ -185,69 +216,82 @@ fn chain(alloc: Global, held: u32, last: &str) -> Result<String, AllocError> {
     Ok(files)
 }
 
-fn chain_comes(alloc: Global, held: u32, last: &str, expected: &str) -> Result<bool, AllocError> {
-    let files = chain(alloc, held, last)?;
-    comes(alloc, files.as_str(), "0", expected)
+/// What comes of the first of so many files, where this is the last one.
+struct Chain(u32);
+
+impl Asked for Chain {
+    fn answer(&self, alloc: Global, given: &str) -> Result<String, AllocError> {
+        match chain_files(alloc, self.0, given) {
+            Ok(files) => told_of_text(alloc, files.as_str(), "0"),
+            Err(none) => Err(none),
+        }
+    }
 }
 
 #[test]
 fn includes_are_at_most_8_deep(rt: HostRuntime) {
-    assert_eq!(rt;
-        chain_comes(rt.alloc(), 9, "8>", "0 1 2 3 4 5 6 7 8 "),
-        Ok(true)
-    );
-    assert_eq!(rt;
-        chain_comes(rt.alloc(), 10, "9>", "Limit:depth 8 0"),
-        Ok(true)
-    );
-    assert_eq!(rt; chain_comes(rt.alloc(), 10, "", "Absent 8 0"), Ok(true));
+    assert_answer(&rt, &Chain(9), "8>", "0 1 2 3 4 5 6 7 8");
+    assert_answer(&rt, &Chain(10), "9>", "Limit:depth 8 0");
+    assert_answer(&rt, &Chain(10), "", "Absent 8 0");
 }
 
-/// Whether this comes of a file `m`, which includes `a`, and a file `a` of so many bytes.
-fn long_comes(alloc: Global, count: usize, name: &str, expected: &str) -> Result<bool, AllocError> {
-    let mut files = files_of(alloc, "m>-,a")?;
-    files.push(FileEntry {
+/// A file `a` of so many bytes.
+fn long_file(alloc: Global, count: usize) -> Result<FileEntry, AllocError> {
+    let bytes = vec![in alloc; b','; count]?;
+    Ok(FileEntry {
         name: Text::from_str(alloc, "a")?,
-        bytes: Bytes::from_vec(vec![in alloc; b','; count]?),
-    })?;
-    let mut shelf = CalmShelf::new(files);
-    let words = told(alloc, &mut shelf, name)?;
-    Ok(words.as_str() == expected)
+        bytes: Bytes::from_vec(bytes),
+    })
 }
 
-const LENGTHS: [(usize, &str, &str); 4] = [
-    (1_048_576, "a", "a "),
-    (1_048_576, "m", "m a "),
-    (1_048_577, "a", "Limit:bytes a 0"),
-    (1_048_577, "m", "Limit:bytes m 1"),
-];
+/// A file `m`, which includes `a`, and a file `a` of so many bytes.
+fn with_long_file(alloc: Global, count: usize) -> Result<Vec<FileEntry>, AllocError> {
+    let mut files = files_of(alloc, "m>-,a")?;
+    files.push(long_file(alloc, count)?)?;
+    Ok(files)
+}
 
-#[test]
-fn a_file_has_at_most_1048576_bytes(rt: HostRuntime) {
-    for (count, name, expected) in &LENGTHS {
-        assert_eq!(rt;
-            long_comes(rt.alloc(), *count, name, expected),
-            Ok(true),
-            "{expected}"
-        );
+/// What comes of one of these files.
+struct Long(usize);
+
+impl Asked for Long {
+    fn answer(&self, alloc: Global, given: &str) -> Result<String, AllocError> {
+        match with_long_file(alloc, self.0) {
+            Ok(files) => told_of(alloc, files, given),
+            Err(none) => Err(none),
+        }
     }
 }
 
-/// Whether this comes of two files, where this call of the shelf fails.
-fn failing_comes(alloc: Global, fails: u64, expected: &str) -> Result<bool, AllocError> {
-    let files = files_of(alloc, "m>a a>")?;
-    let mut shelf = MemShelf::new(files, vec![in alloc; fails]?);
-    let words = told(alloc, &mut shelf, "m")?;
-    Ok(words.as_str() == expected)
+#[test]
+fn a_file_has_at_most_1048576_bytes(rt: HostRuntime) {
+    assert_answer(&rt, &Long(1_048_576), "a", "a");
+    assert_answer(&rt, &Long(1_048_576), "m", "m a");
+    assert_answer(&rt, &Long(1_048_577), "a", "Limit:bytes a 0");
+    assert_answer(&rt, &Long(1_048_577), "m", "Limit:bytes m 1");
+}
+
+/// A shelf of two files, where this call fails.
+fn failing_shelf(alloc: Global, fails: u64) -> Result<MemShelf, AllocError> {
+    let fails = vec![in alloc; fails]?;
+    Ok(MemShelf::new(files_of(alloc, "m>a a>")?, fails))
+}
+
+/// What comes of one of these files.
+struct Failing(u64);
+
+impl Asked for Failing {
+    fn answer(&self, alloc: Global, given: &str) -> Result<String, AllocError> {
+        match failing_shelf(alloc, self.0) {
+            Ok(mut shelf) => told(alloc, &mut shelf, given),
+            Err(none) => Err(none),
+        }
+    }
 }
 
 #[test]
 fn a_call_of_the_shelf_that_fails_ends_it(rt: HostRuntime) {
-    for (fails, expected) in &[(1, "ReadFault"), (2, "ReadFault"), (3, "m a ")] {
-        assert_eq!(rt;
-            failing_comes(rt.alloc(), *fails, expected),
-            Ok(true),
-            "{fails}"
-        );
-    }
+    assert_answer(&rt, &Failing(1), "m", "ReadFault");
+    assert_answer(&rt, &Failing(2), "m", "ReadFault");
+    assert_answer(&rt, &Failing(3), "m", "m a");
 }

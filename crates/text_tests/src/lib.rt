@@ -11,6 +11,8 @@ mod includes;
 #[cfg(test)]
 mod lexemes;
 #[cfg(test)]
+mod rows;
+#[cfg(test)]
 mod spellings;
 #[cfg(test)]
 mod texts;

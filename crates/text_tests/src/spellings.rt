@@ -1,8 +1,11 @@
 //! Texts in the canonical spelling.
 
+use super::rows::{Asked, assert_rows};
 use super::trees::tree_of;
+use eu_name::bytes::Bytes;
 use nddl_print::print;
-use std::alloc::Global;
+use std::alloc::{AllocError, Global};
+use std::str;
 
 // A file with everything that the grammar has, as one writes it by hand.
 const USUAL: &[u8] = br#"// a file
@@ -63,33 +66,54 @@ goal ( rover . Go g ) ;
 rover . specify ( false ) ;
 "#;
 
-const SPELLINGS: [(&[u8], &[u8]); 6] = [
-    (b"", b""),
-    (b"int[0,+inf]x;", b"int [ 0 1000000 ] x ;\n"),
-    (b"int [+info] x;", b"int [ 1000000 o ] x ;\n"),
-    (b"float [-0.0 007.5] x;", b"float [ 0.000 7.500 ] x ;\n"),
-    (
-        b"float{+1.5,2,-0.001,-999.999}x;",
-        b"float { 1.500 , 2 , -0.001 , -999.999 } x ;\n",
-    ),
-    (USUAL, CANONICAL),
-];
-
-/// Whether the text is printed so.
-fn is_printed(alloc: Global, text: &[u8], spelling: &[u8]) -> bool {
+/// The canonical spelling of the text, if it has no fault.
+fn spelling_of(alloc: Global, text: &[u8]) -> Option<Bytes> {
     match tree_of(alloc, text) {
-        Ok(tree) => match print(alloc, tree.as_slice()) {
-            Ok(bytes) => bytes.as_slice() == spelling,
-            Err(_) => false,
-        },
-        Err(_) => false,
+        Ok(tree) => print(alloc, tree.as_slice()).ok(),
+        Err(_) => None,
     }
 }
 
+/// Whether the text is printed so.
+fn is_printed(alloc: Global, text: &[u8], spelling: &[u8]) -> bool {
+    match spelling_of(alloc, text) {
+        Some(bytes) => bytes.as_slice() == spelling,
+        None => false,
+    }
+}
+
+/// How a text is printed, where that is printed as it is.
+struct Spelled;
+
+impl Asked for Spelled {
+    fn answer(&self, alloc: Global, given: &str) -> Result<String, AllocError> {
+        match spelling_of(alloc, given.as_bytes()) {
+            Some(spelling) => settled(alloc, spelling.as_slice()),
+            None => String::from_str(alloc, "not printed"),
+        }
+    }
+}
+
+/// The spelling, where it is printed as it is.
+fn settled(alloc: Global, spelling: &[u8]) -> Result<String, AllocError> {
+    if is_printed(alloc, spelling, spelling) {
+        format!(in alloc; "{:?}", str::from_utf8(spelling).unwrap_or("not UTF-8"))
+    } else {
+        String::from_str(alloc, "printed otherwise")
+    }
+}
+
+const SPELLINGS: &str = r#"
+ | ""
+int[0,+inf]x; | "int [ 0 1000000 ] x ;\n"
+int [+info] x; | "int [ 1000000 o ] x ;\n"
+float [-0.0 007.5] x; | "float [ 0.000 7.500 ] x ;\n"
+float{+1.5,2,-0.001,-999.999}x; | "float { 1.500 , 2 , -0.001 , -999.999 } x ;\n"
+"#;
+
 #[test]
 fn texts_have_these_canonical_spellings(rt: HostRuntime) {
-    for (text, spelling) in &SPELLINGS {
-        assert!(rt; is_printed(rt.alloc(), text, spelling));
-        assert!(rt; is_printed(rt.alloc(), spelling, spelling));
-    }
+    assert_rows(&rt, &Spelled, SPELLINGS);
+    assert!(rt; is_printed(rt.alloc(), USUAL, CANONICAL));
+    assert!(rt; is_printed(rt.alloc(), CANONICAL, CANONICAL));
 }

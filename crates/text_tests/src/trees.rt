@@ -1,5 +1,6 @@
 //! Trees of texts, compared as wholes.
 
+use super::rows::{Asked, assert_answer, assert_rows};
 use eu_name::sequence::Sequence;
 use eu_name::text::Text;
 use nddl_ast::declaration::Decl;
@@ -28,62 +29,49 @@ pub fn are_alike(alloc: Global, one: &[u8], other: &[u8]) -> bool {
     }
 }
 
+/// Whether two texts have one tree.
+struct OneTree;
+
+impl Asked for OneTree {
+    fn answer(&self, alloc: Global, given: &str) -> Result<String, AllocError> {
+        let (one, other) = given.split_once(" | ").unwrap_or((given, ""));
+        format!(in alloc; "{}", are_alike(alloc, one.as_bytes(), other.as_bytes()))
+    }
+}
+
 // Spellings of one tree, or of two.
-const PAIRS: [(&str, &str, bool); 26] = [
-    ("", " // nothing\n", true),
-    ("int[0,1]x;", "int [ 00 +1 ] /* */ x ;", true),
-    ("float x = 1.5;", "float x = 001.500;", true),
-    ("enum E {a, b};", "enum E{a,b}", true),
-    ("class A { };", "class A{}", true),
-    ("#include \"a\";", "#include \"a\"", true),
-    (
-        "A::P { if (x) { } else if (y) { } }",
-        "A::P{if(x){}else{if(y){}}}",
-        true,
-    ),
-    ("int [inf 1] x;", "int [1000000 1] x;", true),
-    ("int x;", "int y;", false),
-    ("int x;", "int x; int x;", false),
-    ("int x;", "bool x;", false),
-    ("int x = 1;", "int x = 2;", false),
-    ("int x = 1;", "float x = 0.001;", false),
-    ("int [0 1] x;", "int {0, 1} x;", false),
-    ("x.y();", "x.z();", false),
-    ("f(a, b);", "f(a);", false),
-    ("any(object.Q q);", "any(subject.Q q);", false),
-    ("class A extends B { }", "class A { }", false),
-    ("class A;", "class A { }", false),
-    ("class A { int k; }", "class A { A() { } }", false),
-    (
-        "class A { A() { x = 1; } }",
-        "class A { A() { super(1); } }",
-        false,
-    ),
-    (
-        "class A { predicate P { int x; } }",
-        "class A { predicate P { leq(x, 1); } }",
-        false,
-    ),
-    ("A::P { if (x) { } }", "A::P { if (x) { } else { } }", false),
-    (
-        "A::P { if (x == 1) { } }",
-        "A::P { if (x != 1) { } }",
-        false,
-    ),
-    (
-        "A::P { foreach (o in N) { f(1); } }",
-        "A::P { foreach (o in N) { f(2); } }",
-        false,
-    ),
-    ("#include \"a\"", "#include \"b\"", false),
-];
+const PAIRS: &str = r#"
+int[0,1]x; | int [ 00 +1 ] /* */ x ; | true
+float x = 1.5; | float x = 001.500; | true
+enum E {a, b}; | enum E{a,b} | true
+class A { }; | class A{} | true
+#include "a"; | #include "a" | true
+A::P { if (x) { } else if (y) { } } | A::P{if(x){}else{if(y){}}} | true
+int [inf 1] x; | int [1000000 1] x; | true
+int x; | int y; | false
+int x; | int x; int x; | false
+int x; | bool x; | false
+int x = 1; | int x = 2; | false
+int x = 1; | float x = 0.001; | false
+int [0 1] x; | int {0, 1} x; | false
+x.y(); | x.z(); | false
+f(a, b); | f(a); | false
+any(object.Q q); | any(subject.Q q); | false
+class A extends B { } | class A { } | false
+class A; | class A { } | false
+class A { int k; } | class A { A() { } } | false
+class A { A() { x = 1; } } | class A { A() { super(1); } } | false
+class A { predicate P { int x; } } | class A { predicate P { leq(x, 1); } } | false
+A::P { if (x) { } } | A::P { if (x) { } else { } } | false
+A::P { if (x == 1) { } } | A::P { if (x != 1) { } } | false
+A::P { foreach (o in N) { f(1); } } | A::P { foreach (o in N) { f(2); } } | false
+#include "a" | #include "b" | false
+"#;
 
 #[test]
 fn trees_are_compared_without_their_places(rt: HostRuntime) {
-    for (one, other, alike) in &PAIRS {
-        let found = are_alike(rt.alloc(), one.as_bytes(), other.as_bytes());
-        assert_eq!(rt; found, *alike, "{one} {other}");
-    }
+    assert_rows(&rt, &OneTree, PAIRS);
+    assert_answer(&rt, &OneTree, " |  // nothing\n", "true");
 }
 
 /// A name and its copy, as the copy's text and place.
