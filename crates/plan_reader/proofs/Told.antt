@@ -15,8 +15,6 @@ use Rattle.eu_name.specs.declared.name.VarName.TheVariants as variables
 use Rattle.eu_name.specs.Laws.{SpellsOneName}
 use Rattle.eu_name.specs.Word.{IsName}
 use Rattle.eu_name.proofs.Numbers.{own}
-use Rattle.model_core.specs.declared.class.Enum.{Enum}
-use Rattle.model_core.specs.declared.class.Object.{Object}
 use Rattle.model_core.specs.declared.model.Model.{Model}
 use Rattle.model_core.specs.declared.rule.Rule.{Rule}
 use Rattle.model_core.specs.declared.rule.Slot.{Slot}

@@ -1,5 +1,5 @@
 -- Names that were written.
-use Rattle.std.proofs.Common.{◌≡◌, ℕ, ℤ, false, List, [], ◌∷◌, ◌++◌, Result, Ok, Err, Some, slice_get, get_or, refl, sym, ◌∙◌, ap, subst, codes, append_assoc, w32, to_z, of_z, arith}
+use Rattle.std.proofs.Common.{◌≡◌, ℕ, ℤ, false, List, [], ◌++◌, Result, Ok, Err, Some, slice_get, get_or, refl, sym, ◌∙◌, ap, subst, codes, append_assoc, w32, to_z, of_z, arith}
 use Rattle.std.proofs.lemmas.Int.{ints}
 use Rattle.std.specs.Prelude.{OnOk}
 use Rattle.std.specs.Fmt.{decimal, signed_decimal}

@@ -1,7 +1,7 @@
 -- What is printed is printed in one way.
-use Rattle.std.proofs.Common.{◌≡◌, ℕ, ℤ, Bool, false, List, ◌++◌, Result, Ok, Err, Some, slice_get, refl, sym, ◌∙◌, ap, subst, codes}
+use Rattle.std.proofs.Common.{◌≡◌, ℕ, Bool, List, ◌++◌, Result, Ok, Err, refl, sym, ◌∙◌, ap, subst, codes}
 use Rattle.std.specs.Fmt.{decimal, signed_decimal}
-use Rattle.eu_name.specs.declared.name.Part.TheVariants.{Start, End, Duration, Object, Param}
+use Rattle.eu_name.specs.declared.name.Part.TheVariants.{Start}
 use Rattle.eu_name.specs.declared.name.TokenName.{TokenName}
 use Rattle.eu_name.specs.declared.name.VarName.{VarName}
 use Rattle.eu_name.specs.declared.name.VarName.TheVariants as variables
@@ -16,7 +16,6 @@ use Rattle.model_core.specs.Tokens.{slot_token, root_token}
 use Rattle.model_core.proofs.OneText.{one_token_text, one_variable_text}
 use Rattle.plan_core.specs.declared.fault.PlanTextFault.{PlanTextFault}
 use Rattle.plan_core.specs.declared.fault.PlanTextFault.TheVariants.{Syntax, Twice, Unknown, Memory}
-use Rattle.plan_core.specs.PlanTexts.{ReadsPlan}
 use Rattle.plan_core.specs.Subjects.{NamesSubject, IsNameOf}
 use Rattle.plan_defs.specs.declared.plan.Clause.{Clause}
 use Rattle.plan_defs.specs.declared.plan.Line.{Line}
@@ -30,7 +29,7 @@ use Rattle.plan_check.specs.declared.verdict.Verdict.TheVariants.{Valid, Invalid
 use Rattle.plan_check.specs.Judged.{IsVerdict}
 use Rattle.plan_reader.specs.Laws.{IsReadOnce}
 use Rattle.plan_verdicts.specs.Naming.{IsLineWord, IsPlaceText}
-use Rattle.plan_verdicts.specs.Verdicts.{clause_word, says_valid, IsVerdictText, IsFaultText, IsFaultLine, IsCheckedAs, IsAnsweredAs, ChecksAs}
+use Rattle.plan_verdicts.specs.Verdicts.{clause_word, says_valid, IsVerdictText, IsFaultText, IsCheckedAs, IsAnsweredAs, ChecksAs}
 use Rattle.plan_verdicts.proofs.Placing.{same_activated}
 
 -- ---- names
