@@ -4,8 +4,9 @@ use Rattle.std.proofs.lemmas.List.{append-nil, append_assoc}
 use Rattle.nddl_ast.specs.declared.name.Name.{Name}
 use Rattle.nddl_paths.specs.declared.denoted.Denoted.{Denoted}
 use Rattle.nddl_paths.specs.Paths.{Surroundings}
+use Rattle.nddl_paths.specs.Seen.{seen_as}
 use Rattle.nddl_blocks.specs.declared.visible.SeenUntil.{SeenUntil}
-use Rattle.nddl_blocks.specs.Seeing.{SeesMore, seen_as, seen_until, until_of, seeing_label, seeing_local, seeing_turn}
+use Rattle.nddl_blocks.specs.Seeing.{SeesMore, seen_until, until_of, seeing_label, seeing_local, seeing_turn}
 
 -- nothing came
 pub sees_same : (around : Surroundings) → SeesMore around around
@@ -25,12 +26,12 @@ sees_same around = record {
 -- a variable of `foreach` came
 pub sees_turn : (around : Surroundings) (name : Name) (meant : Denoted) → SeesMore around (seeing_turn around name meant)
 sees_turn around name meant = record {
-  turns = seen_as name meant ∷ [];
+  turns = seen_as name.text meant ∷ [];
   locals = [];
   labels = [];
   is = λ i. record {
     formals = around.formals;
-    turns = around.turns ++ seen_as name meant ∷ [];
+    turns = around.turns ++ seen_as name.text meant ∷ [];
     locals = sym (append-nil around.locals) i;
     labels = sym (append-nil around.labels) i;
     token = around.token;
@@ -41,12 +42,12 @@ sees_turn around name meant = record {
 pub sees_local : (around : Surroundings) (name : Name) (meant : Denoted) → SeesMore around (seeing_local around name meant)
 sees_local around name meant = record {
   turns = [];
-  locals = seen_as name meant ∷ [];
+  locals = seen_as name.text meant ∷ [];
   labels = [];
   is = λ i. record {
     formals = around.formals;
     turns = sym (append-nil around.turns) i;
-    locals = around.locals ++ seen_as name meant ∷ [];
+    locals = around.locals ++ seen_as name.text meant ∷ [];
     labels = sym (append-nil around.labels) i;
     token = around.token;
   };
@@ -57,12 +58,12 @@ pub sees_label : (around : Surroundings) (name : Name) (meant : Denoted) → See
 sees_label around name meant = record {
   turns = [];
   locals = [];
-  labels = seen_as name meant ∷ [];
+  labels = seen_as name.text meant ∷ [];
   is = λ i. record {
     formals = around.formals;
     turns = sym (append-nil around.turns) i;
     locals = sym (append-nil around.locals) i;
-    labels = around.labels ++ seen_as name meant ∷ [];
+    labels = around.labels ++ seen_as name.text meant ∷ [];
     token = around.token;
   };
 }

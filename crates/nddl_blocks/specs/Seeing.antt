@@ -5,21 +5,18 @@ use Rattle.nddl_paths.specs.declared.denoted.Denoted.{Denoted}
 use Rattle.nddl_paths.specs.declared.denoted.Seen.{Seen}
 use Rattle.nddl_paths.specs.declared.denoted.TokenSort.{TokenSort}
 use Rattle.nddl_paths.specs.Paths.{Surroundings}
+use Rattle.nddl_paths.specs.Seen.{seen_as}
 use Rattle.nddl_blocks.specs.declared.visible.SeenUntil.{SeenUntil}
 
 -- the token of a rule alone
 abbrev pub token_alone : TokenSort → Surroundings
 token_alone token = record { formals = []; turns = []; locals = []; labels = []; token = Some token }
 
--- the name with what it means
-abbrev pub seen_as : Name → Denoted → Seen
-seen_as name meant = record { name = name.text; denoted = meant }
-
 -- a variable of `foreach` more
 abbrev pub seeing_turn : Surroundings → Name → Denoted → Surroundings
 seeing_turn around name meant = record {
   formals = around.formals;
-  turns = around.turns ++ seen_as name meant ∷ [];
+  turns = around.turns ++ seen_as name.text meant ∷ [];
   locals = around.locals;
   labels = around.labels;
   token = around.token;
@@ -30,7 +27,7 @@ abbrev pub seeing_local : Surroundings → Name → Denoted → Surroundings
 seeing_local around name meant = record {
   formals = around.formals;
   turns = around.turns;
-  locals = around.locals ++ seen_as name meant ∷ [];
+  locals = around.locals ++ seen_as name.text meant ∷ [];
   labels = around.labels;
   token = around.token;
 }
@@ -41,7 +38,7 @@ seeing_label around name meant = record {
   formals = around.formals;
   turns = around.turns;
   locals = around.locals;
-  labels = around.labels ++ seen_as name meant ∷ [];
+  labels = around.labels ++ seen_as name.text meant ∷ [];
   token = around.token;
 }
 

@@ -19,6 +19,8 @@ mod runs;
 #[cfg(test)]
 mod scripts;
 #[cfg(test)]
+mod search_scripts;
+#[cfg(test)]
 mod session_tests;
 #[cfg(test)]
 mod shelf_tests;
@@ -26,3 +28,5 @@ mod shelf_tests;
 mod shown;
 #[cfg(test)]
 mod texts;
+#[cfg(test)]
+mod token_scripts;
