@@ -1,25 +1,27 @@
 -- How the trail is kept.
-use Rattle.std.specs.Prelude.{◌≡◌, ℕ, ◌+◌, List, [], ◌∷◌, ◌++◌, length, Option, Some, None}
+use Rattle.std.specs.Prelude.{◌≡◌, ◌≢◌, ℕ, zero, suc, ◌+◌, ◌≤◌, ◌==◌, if◌then◌else◌, List, [], ◌∷◌, ◌++◌, Option, Some, None}
 use Rattle.cell_store.specs.declared.trail.Entry.{Entry}
 use Rattle.cell_store.specs.declared.trail.Entry.TheVariants.{Added, Narrowed}
 use Rattle.cell_store.specs.declared.steps.Former.{Former}
 
--- the entries of the steps, where each one that wrote a cell takes the next of what cells were
-abbrev pub entries_of : List (Option ℕ) → List Former → List Entry
-entries_of [] formers = []
-entries_of (None ∷ steps) formers = Added ∷ entries_of steps formers
-entries_of (Some cell ∷ steps) [] = []
-entries_of (Some cell ∷ steps) (former ∷ formers) = Narrowed cell former.domain former.saved ∷ entries_of steps formers
+-- what the step did that wrote the cell of this former
+abbrev pub narrowed : Former → Entry
+narrowed former = Narrowed former.cell former.domain former.saved
 
--- how many of the steps wrote a cell
-abbrev pub writes_of : List (Option ℕ) → ℕ
-writes_of [] = 0
-writes_of (None ∷ steps) = writes_of steps
-writes_of (Some cell ∷ steps) = writes_of steps + 1
+-- what a step did: it wrote the cell of its former, and where it has none it added a cell
+abbrev pub entry_at : List Former → ℕ → Entry
+entry_at [] step = Added
+entry_at (former ∷ formers) step = if former.step == step then narrowed former else entry_at formers step
 
--- it is known what each cell was that a step wrote
-abbrev pub HaveFormers : List (Option ℕ) → List Former → Type 0
-HaveFormers steps formers = length formers ≡ writes_of steps
+-- the entries of so many steps, the oldest one first
+abbrev pub entries_of : ℕ → List Former → List Entry
+entries_of zero formers = []
+entries_of (suc step) formers = entries_of step formers ++ entry_at formers step ∷ []
+
+-- the formers stand in the order of their steps, which are numbers from the one to the other
+abbrev pub AreSteps : ℕ → ℕ → List Former → Type 0
+AreSteps from count [] = from ≤ count
+AreSteps from count (former ∷ formers) = (from ≤ former.step) × AreSteps (former.step + 1) count formers
 
 -- the cell that the entry is about, if that wasn't added by it
 abbrev pub written_by : Entry → Option ℕ
@@ -29,8 +31,15 @@ written_by (Narrowed cell former saved) = Some cell
 abbrev pub IsWritten : Entry → Option ℕ → Type 0
 IsWritten entry written = written ≡ written_by entry
 
--- the last of what cells were is taken off, as that of this cell
-abbrev pub TakesFormer : ℕ → List Former → Option Entry → List Former → Type 0
-TakesFormer cell old None new = old ≡ []
-TakesFormer cell old (Some entry) new =
-    (former : Former) × ((old ≡ new ++ former ∷ []) × (entry ≡ Narrowed cell former.domain former.saved))
+-- the last of the formers is that of this step
+abbrev pub EndsWith : ℕ → List Former → Type 0
+EndsWith step formers = (front : List Former) × (last : Former) × ((formers ≡ front ++ last ∷ []) × (last.step ≡ step))
+
+-- it isn't, or there is none
+abbrev pub EndsOtherwise : ℕ → List Former → Type 0
+EndsOtherwise step formers = (front : List Former) (last : Former) → formers ≡ front ++ last ∷ [] → last.step ≢ step
+
+-- the last step is taken off, which did this
+pub record TakesEntry (step : ℕ) (old : List Former) (entry : Entry) (new : List Former) : Type 0 where
+  pub entries : entries_of (step + 1) old ≡ entries_of step new ++ entry ∷ []
+  pub steps : AreSteps 0 step new

@@ -9,6 +9,7 @@
 #![tactic(auto)]
 
 pub mod cells;
+pub mod numbers;
 mod steps;
 mod trail;
 

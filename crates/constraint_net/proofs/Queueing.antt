@@ -1,12 +1,12 @@
 -- Queues of numbers.
-use Rattle.std.proofs.Common.{◌≡◌, ◌≢◌, ℕ, zero, suc, ◌+◌, ◌<◌, ◌≤◌, Bool, true, false, if◌then◌else◌, List, [], ◌∷◌, ◌++◌, length, get_or, set, inl, inr, ⊎_elim, append_assoc, refl, sym, ap, ◌∙◌, subst, arith}
+use Rattle.std.proofs.Common.{◌≡◌, ◌≢◌, ℕ, zero, suc, ◌+◌, ◌^◌, ◌<◌, ◌≤◌, Bool, true, false, if◌then◌else◌, List, [], ◌∷◌, ◌++◌, length, get_or, set, inl, inr, ⊎_elim, append_assoc, refl, sym, ap, ◌∙◌, subst, arith}
 use Rattle.std.specs.Prelude.{Contains, count_by}
 use Rattle.std.proofs.lemmas.Bool.{cases_eq}
 use Rattle.std.proofs.lemmas.List.{append-nil, length_push, length-set, get_or-set_same, get_or-set_other, get_or_default}
 use Rattle.std.proofs.lemmas.List.Elements.{Contains-append_left, Contains-push, Contains-push_cases}
 use Rattle.std.proofs.lemmas.List.Quantifiers.{all_pairs_push}
 use Rattle.std.proofs.lemmas.List.Sums.{sum_by-append, sum_by-set, count_by-le-length}
-use Rattle.constraint_net.specs.Queues.{Queued, Lengthens, Takes, TakesAll, IsQueue}
+use Rattle.constraint_net.specs.Queues.{Queued, Lengthens, Takes, TakesAll, IsForemost, IsQueue}
 
 -- ---- marks
 
@@ -43,7 +43,7 @@ count_unset standing number below is =
 -- ---- what a queue keeps
 
 pub wider : (items : List ℕ) (standing : List Bool) (capacity more : ℕ) → capacity ≤ more → IsQueue items standing capacity → IsQueue items standing more
-wider items standing capacity more le is = record { once = is.once; marked = is.marked; stands = is.stands; count = is.count; memory = omega (arith, is.memory) }
+wider items standing capacity more le is = record { once = is.once; marked = is.marked; stands = is.stands; count = is.count; memory = omega (arith, is.memory); short = is.short }
 
 pub no_queue : (capacity : ℕ) → IsQueue [] [] capacity
 no_queue capacity = record {
@@ -52,16 +52,23 @@ no_queue capacity = record {
   stands = λ number is. absurd (cc);
   count = refl;
   memory = omega arith;
+  short = omega arith;
 }
 
-pub grown : (items : List ℕ) (standing : List Bool) (capacity more : ℕ) → length standing + 1 ≤ more → IsQueue items standing capacity → IsQueue items (standing ++ false ∷ []) more
-grown items standing capacity more room is = record {
+pub grown : (items : List ℕ) (standing : List Bool) (capacity more : ℕ) → length standing + 1 ≤ more → length standing + 1 ≤ 2 ^ 32 → IsQueue items standing capacity → IsQueue items (standing ++ false ∷ []) more
+grown items standing capacity more room fits is = record {
   once = is.once;
   marked = λ number member. push_unset standing number ∙ is.marked number member;
   stands = λ number set. is.stands number (sym (push_unset standing number) ∙ set);
   count = let value : Bool → ℕ = λ stands. if stands then 1 else 0 in let sum = sum_by-append value standing (false ∷ []) in omega (arith, sum, is.count);
   memory = omega (arith, room, length_push standing false);
+  short = omega (arith, fits, length_push standing false);
 }
+
+-- the first of some numbers
+pub foremost : (queue : Queued) (items : List ℕ) (room number : ℕ) → record { items = items; room = room } ≡ queue → 0 < length items → number ≡ get_or items 0 number → IsForemost number queue
+foremost queue [] room number view some read = absurd (omega (arith, some))
+foremost queue (first ∷ items) room number view some read = (items, sym (ap (λ (shown : Queued). shown.items) view) ∙ ap (λ n. n ∷ items) (sym read))
 
 -- how many numbers there are
 pub few : (items : List ℕ) (standing : List Bool) (capacity : ℕ) → IsQueue items standing capacity → length items ≤ length standing
@@ -90,6 +97,7 @@ added items standing capacity number below unset is = record {
   ];
   count = omega (arith, count_set standing number below unset, is.count, length_push items number);
   memory = omega (arith, is.memory, length-set standing number true);
+  short = omega (arith, is.short, length-set standing number true);
 }
   where
     at : (k d : ℕ) → k < length items → get_or items k (get_or items k d) ≡ get_or items k d
@@ -105,6 +113,7 @@ taken number rest standing capacity is = record {
   ];
   count = omega (arith, count_unset standing number below set_there, is.count);
   memory = omega (arith, is.memory, length-set standing number false);
+  short = omega (arith, is.short, length-set standing number false);
 }
   where
     set_there : get_or standing number false ≡ true
@@ -176,9 +185,9 @@ takes_new old items more standing capacity number view below unset is kept =
       added = λ below_too. subst (λ list. Contains list number) (sym is) (Contains-push items number);
     })
 
-pub grown_as : (items as_before : List ℕ) (standing more : List Bool) (capacity new : ℕ) → as_before ≡ items → more ≡ standing ++ false ∷ [] → length standing + 1 ≤ new → IsQueue items standing capacity → IsQueue as_before more new
-grown_as items as_before standing more capacity new same is room kept =
-    subst (λ list. IsQueue list more new) (sym same) (subst (λ marks. IsQueue items marks new) (sym is) (grown items standing capacity new room kept))
+pub grown_as : (items as_before : List ℕ) (standing more : List Bool) (capacity new : ℕ) → as_before ≡ items → more ≡ standing ++ false ∷ [] → length standing + 1 ≤ new → length standing + 1 ≤ 2 ^ 32 → IsQueue items standing capacity → IsQueue as_before more new
+grown_as items as_before standing more capacity new same is room fits kept =
+    subst (λ list. IsQueue list more new) (sym same) (subst (λ marks. IsQueue items marks new) (sym is) (grown items standing capacity new room fits kept))
 
 pub taken_as : (items rest : List ℕ) (standing : List Bool) (capacity new number : ℕ) → items ≡ number ∷ rest → new ≡ capacity → IsQueue items standing capacity → (number < length standing) × IsQueue rest (set standing number false) new
 taken_as items rest standing capacity new number is same kept =

@@ -1,5 +1,5 @@
 -- Queues of numbers.
-use Rattle.std.specs.Prelude.{◌≡◌, ◌≢◌, ℕ, ◌<◌, ◌≤◌, Bool, true, false, List, ◌∷◌, ◌++◌, length}
+use Rattle.std.specs.Prelude.{◌≡◌, ◌≢◌, ℕ, ◌^◌, ◌<◌, ◌≤◌, Bool, true, false, List, ◌∷◌, ◌++◌, length}
 use Rattle.std.specs.Prelude.{count_by, AllPairs, Contains, slice_index_or}
 
 -- numbers in the order in which they came, and the bound of those that may come
@@ -27,10 +27,12 @@ pub record TakesAll (numbers : List ℕ) (old new : Queued) : Type 0 where
   pub lengthens : Lengthens old new
   pub added : (number : ℕ) → Contains numbers number → number < old.room → Contains new.items number
 
--- each number stands there at most once, the marks tell which do, and there is memory for all that may come
+-- each number stands there at most once, the marks tell which do, and there is memory for all that may come, which fit into
+-- 32 bits
 pub record IsQueue (items : List ℕ) (standing : List Bool) (capacity : ℕ) : Type 0 where
   pub once : AllPairs (λ one later. one ≢ later) items
   pub marked : (number : ℕ) → Contains items number → slice_index_or standing number false ≡ true
   pub stands : (number : ℕ) → slice_index_or standing number false ≡ true → Contains items number
   pub count : count_by (λ stands. stands) standing ≡ length items
   pub memory : length standing ≤ capacity
+  pub short : length standing ≤ 2 ^ 32

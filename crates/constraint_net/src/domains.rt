@@ -198,7 +198,7 @@ fn keep_left(
     ensures told_of_loss { TellsOfLoss (present cells.old) (present cells.new) agenda.old agenda.new }
 {
     match arg {
-        NetArg::Var(variable) => return keep_common(cells, agenda, variable, left, since),
+        NetArg::Var(variable) => return keep_common(cells, agenda, variable as usize, left, since),
         NetArg::Lit(_) => return Ok(Change::Same),
     }
 }

@@ -1,10 +1,10 @@
 //! Variables with their domains and constraints on them: what is left of the domains where all constraints are to be
 //! consistent.
 //!
-//! `let x = net.add_var(domain)?` adds a variable, and `net.post(Kind::Leq, &[NetArg::Var(x), NetArg::Lit(5)])?` a
-//! constraint on it. After `net.settle_all()?` its domain is `net.get(x)`. With `let mark = net.mark()` before, the
-//! call `net.back_to(mark)` brings back what was there, `net.stamp(x)` tells how often the domain was written, and
-//! `net.next_changed()` which variables have changed.
+//! `let x = net.add_var(domain)?` adds a variable, and with `let args = [net.variable(x), NetArg::Lit(5)]` the call
+//! `net.post(Kind::Leq, &args)?` a constraint on it. After `net.settle_all()?` its domain is `net.get(x)`. With
+//! `let mark = net.mark()` before, the call `net.back_to(mark)` brings back what was there, `net.stamp(x)` tells how
+//! often the domain was written, and `net.next_changed()` which variables have changed.
 #![tactic(auto)]
 
 mod agenda;

@@ -12,6 +12,7 @@ ghost use Rattle.constraint_net.specs.Agendas.{Forgets};
 ghost use Rattle.constraint_net.specs.Waiting.{NameWithin};
 ghost use Rattle.constraint_net.specs.Marks.{IsMark, IsLatest, CanReturn, Returns, HaveChanged};
 ghost use Rattle.constraint_net.specs.declared.constraint.Constraint.{Constraint};
+ghost use Rattle.constraint_net.specs.declared.constraint.NetArg.TheVariants.{Var};
 
 use super::NetFault;
 use super::agenda::Agenda;
@@ -112,6 +113,15 @@ impl Net {
         ensures { IsTrue result → Contains self.now.constraints (record { kind = kind; args = args.now }) }
     {
         self.constraints.is_known(kind, args)
+    }
+
+    /// The variable, as an argument.
+    pub fn variable(&self, number: usize) -> NetArg
+        requires { number < length self.now.domains }
+        ensures { result ≡ Var number }
+    {
+        let _places = self.domains.agenda.changed.room();
+        NetArg::Var(number as u32)
     }
 
     /// Keeps the values of the variable that the other domain has too.

@@ -5,6 +5,7 @@ ghost use Rattle.model_core.specs.declared.item.Kind.TheVariants.{Leq};
 ghost use Rattle.constraint_net.specs.declared.constraint.NetArg.TheVariants.{Var};
 
 use super::constraint::{Arguments, Constraint, NetArg};
+use cell_store::numbers::short;
 use indexmap::IndexMap;
 use model_core::item::Kind;
 use slab::Slab;
@@ -16,10 +17,10 @@ use std::marker::Model;
 pub struct Posted {
     kept: Slab<Constraint>,
     // The key of each constraint, by number.
-    keys: Vec<usize>,
+    keys: Vec<u32>,
     // The number of a constraint that the one variable is at most the other, under the two. What stands there is looked up
     // before it is relied on.
-    places: IndexMap<(usize, usize), usize>,
+    places: IndexMap<(u32, u32), u32>,
 }
 
 impl Model for Posted {
@@ -72,18 +73,19 @@ impl Posted {
         if self.stands(pair) {
             return Ok(());
         }
-        self.places.insert(pair, self.keys.len())?;
+        let number = short(self.keys.len())?;
+        self.places.insert(pair, number)?;
         Ok(())
     }
 
     // Whether at the place that is noted for the two variables there is the constraint that the one is at most the other.
-    fn stands(&self, pair: (usize, usize)) -> bool
+    fn stands(&self, pair: (u32, u32)) -> bool
         ensures { IsTrue result → Contains self.now (record { kind = Leq; args = Var pair.0 ∷ Var pair.1 ∷ [] }) }
     {
         let Some(number) = self.places.get(&pair) else {
             return false;
         };
-        match self.get(*number) {
+        match self.get(*number as usize) {
             Some(constraint) => is_at_most(constraint, pair),
             None => false,
         }
@@ -106,7 +108,8 @@ impl Posted {
         ensures err { OnErr result (self.new ≡ self.old) }
     {
         self.keys.reserve(1)?;
-        let key = self.kept.insert(constraint)?;
+        let key = short(self.kept.vacant_key())?;
+        self.kept.insert(constraint)?;
         self.keys.push_reserved(key);
         Ok(())
     }
@@ -116,7 +119,7 @@ impl Posted {
         ensures { option_copied result ≡ slice_get self.now number }
     {
         match self.keys.get(number) {
-            Some(key) => self.kept.get(*key),
+            Some(key) => self.kept.get(*key as usize),
             None => None,
         }
     }
@@ -128,12 +131,12 @@ impl Posted {
     {
         let key = self.keys.pop()?;
         forget_last(&mut self.places, self.keys.len());
-        self.kept.try_remove(key)
+        self.kept.try_remove(key as usize)
     }
 }
 
 // The two variables, where the constraint is that the one is at most the other.
-fn at_most_pair(kind: Kind, args: &[NetArg]) -> Option<(usize, usize)>
+fn at_most_pair(kind: Kind, args: &[NetArg]) -> Option<(u32, u32)>
     ensures { IfSome result (λ pair. (kind ≡ Leq) × (args.now ≡ Var pair.0 ∷ Var pair.1 ∷ [])) }
 {
     match (kind, args) {
@@ -143,7 +146,7 @@ fn at_most_pair(kind: Kind, args: &[NetArg]) -> Option<(usize, usize)>
 }
 
 // Whether the constraint is that the one variable is at most the other.
-fn is_at_most(constraint: &Constraint, pair: (usize, usize)) -> bool
+fn is_at_most(constraint: &Constraint, pair: (u32, u32)) -> bool
     ensures { IsTrue result → constraint.now ≡ record { kind = Leq; args = Var pair.0 ∷ Var pair.1 ∷ [] } }
 {
     match at_most_pair(constraint.kind, constraint.args.as_slice()) {
@@ -153,9 +156,9 @@ fn is_at_most(constraint: &Constraint, pair: (usize, usize)) -> bool
 }
 
 // Takes the last place off, if it isn't below the count. Places are noted as they rise, so none stays behind.
-fn forget_last(places: &mut IndexMap<(usize, usize), usize>, count: usize) {
+fn forget_last(places: &mut IndexMap<(u32, u32), u32>, count: usize) {
     if let Some((_pair, number)) = places.last() {
-        if *number >= count {
+        if *number as usize >= count {
             let _last = places.pop();
         }
     }

@@ -1,8 +1,9 @@
 //! Queues of numbers, each of which stands there at most once.
 
-ghost use Rattle.std.specs.Prelude.{◌≡◌, ◌+◌, ◌≤◌, [], ◌∷◌, length, OnOk, MatchOption};
+ghost use Rattle.std.specs.Prelude.{◌≡◌, ◌+◌, ◌^◌, ◌≤◌, [], ◌∷◌, length, OnOk, MatchOption};
 ghost use Rattle.constraint_net.specs.Queues.{Takes, IsForemost};
 
+use cell_store::numbers::short;
 use std::alloc::{AllocError, Global};
 use std::collections::VecDeque;
 use std::marker::Model;
@@ -11,7 +12,7 @@ use std::marker::Model;
 /// one takes no memory.
 #[derive(Drop)]
 pub struct Queue {
-    items: VecDeque<usize>,
+    items: VecDeque<u32>,
     // Whether a number stands among the items.
     standing: Vec<bool>,
 }
@@ -41,18 +42,21 @@ impl Queue {
 
     /// The numbers below this one may be added.
     pub fn room(&self) -> usize
-        ensures { result ≡ self.now.room }
+        ensures room { result ≡ self.now.room }
+        ensures short { self.now.room ≤ 2 ^ 32 }
     {
         self.standing.len()
     }
 
-    /// Makes room for one number more.
+    /// Makes room for one number more, as long as all fit into 32 bits.
     pub fn grow(&mut self) -> Result<(), AllocError>
         ensures items { self.new.items ≡ self.old.items }
         ensures room { self.old.room ≤ self.new.room }
         ensures grown { OnOk result (self.old.room + 1 ≤ self.new.room) }
     {
-        let missing = self.standing.len() - self.items.len();
+        let room = self.standing.len();
+        short(room)?;
+        let missing = room - self.items.len();
         self.items.reserve(missing + 1)?;
         self.standing.push(false)?;
         Ok(())
@@ -69,7 +73,7 @@ impl Queue {
             return;
         }
         self.standing[number] = true;
-        self.items.push_back_reserved(number);
+        self.items.push_back_reserved(number as u32);
     }
 
     /// The first of the numbers.
@@ -77,7 +81,10 @@ impl Queue {
         ensures first { MatchOption result (self.now.items ≡ []) (λ number. IsForemost number self.now) }
         ensures few { length self.now.items ≤ self.now.room }
     {
-        self.items.front().copied()
+        match self.items.front() {
+            Some(number) => Some(*number as usize),
+            None => None,
+        }
     }
 
     /// Takes the first of the numbers off.
@@ -87,7 +94,7 @@ impl Queue {
         ensures room { self.new.room ≡ self.old.room }
     {
         let number = self.items.pop_front()?;
-        self.standing[number] = false;
-        Some(number)
+        self.standing[number as usize] = false;
+        Some(number as usize)
     }
 }

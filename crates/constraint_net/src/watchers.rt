@@ -1,9 +1,10 @@
 //! Which constraints name a variable.
 
 ghost use Rattle.std.specs.Prelude.{◌≡◌, ◌+◌, ◌<◌, [], ◌∷◌, ◌++◌, length, slice_index_or, slice_set};
-ghost use Rattle.std.specs.Prelude.{IfOk, OnErr, OnOk};
+ghost use Rattle.std.specs.Prelude.{OnErr, OnOk};
 ghost use Rattle.constraint_net.specs.Agendas.{KeepsBelow, Shortens};
 
+use cell_store::numbers::short;
 use smallvec::SmallVec;
 use std::alloc::{AllocError, Global};
 use std::marker::Model;
@@ -76,16 +77,6 @@ impl Watchers {
     {
         trim(&mut self.lists[variable], count);
     }
-}
-
-// The number in 32 bits. More constraints than that are answered as want of memory.
-fn short(number: usize) -> Result<u32, AllocError>
-    ensures { IfOk result (λ kept. kept ≡ number) }
-{
-    if number > u32::MAX as usize {
-        return Err(AllocError);
-    }
-    Ok(number as u32)
 }
 
 // Takes numbers off the end that aren't below the count.

@@ -6,7 +6,7 @@ ghost use Rattle.constraint_net.specs.Marks.{KeepMarks};
 
 use super::shapes::Written::{Ends, Members};
 use super::shapes::{Shape, Written, made, shape};
-use constraint_net::NetArg::{Lit, Var};
+use constraint_net::NetArg::Lit;
 use constraint_net::laws::marks_stay;
 use constraint_net::{Net, NetFault};
 use domain_core::domain::{GREATEST_VALUE, LEAST_VALUE};
@@ -60,21 +60,24 @@ fn post_eq(net: &mut Net, x: usize, y: usize) -> bool {
     if net.get(x).is_none() || net.get(y).is_none() {
         return false;
     }
-    net.post(Kind::Eq, &[Var(x), Var(y)]).is_ok()
+    let args = [net.variable(x), net.variable(y)];
+    net.post(Kind::Eq, &args).is_ok()
 }
 
 fn post_lt(net: &mut Net, x: usize, y: usize) -> bool {
     if net.get(x).is_none() || net.get(y).is_none() {
         return false;
     }
-    net.post(Kind::Lt, &[Var(x), Var(y)]).is_ok()
+    let args = [net.variable(x), net.variable(y)];
+    net.post(Kind::Lt, &args).is_ok()
 }
 
 fn post_leq(net: &mut Net, x: usize, y: usize) -> bool {
     if net.get(x).is_none() || net.get(y).is_none() {
         return false;
     }
-    net.post(Kind::Leq, &[Var(x), Var(y)]).is_ok()
+    let args = [net.variable(x), net.variable(y)];
+    net.post(Kind::Leq, &args).is_ok()
 }
 
 /// That z is three times x.
@@ -82,7 +85,8 @@ fn post_thrice(net: &mut Net, x: usize, z: usize) -> bool {
     if net.get(x).is_none() || net.get(z).is_none() {
         return false;
     }
-    net.post(Kind::MulEq, &[Var(x), Lit(3), Var(z)]).is_ok()
+    let args = [net.variable(x), Lit(3), net.variable(z)];
+    net.post(Kind::MulEq, &args).is_ok()
 }
 
 /// That b says whether x is at most 2.
@@ -90,7 +94,8 @@ fn post_at_most_two(net: &mut Net, b: usize, x: usize) -> bool {
     if net.get(b).is_none() || net.get(x).is_none() {
         return false;
     }
-    net.post(Kind::TestLeq, &[Var(b), Var(x), Lit(2)]).is_ok()
+    let args = [net.variable(b), net.variable(x), Lit(2)];
+    net.post(Kind::TestLeq, &args).is_ok()
 }
 
 /// A range and a set that are equal.
@@ -256,8 +261,8 @@ fn post_field(net: &mut Net, objects: Dom) -> bool
     let Ok(object) = net.add_var(objects) else {
         return false;
     };
-    net.post(Kind::Field(capacity), &[Var(object), Lit(5)])
-        .is_ok()
+    let args = [net.variable(object), Lit(5)];
+    net.post(Kind::Field(capacity), &args).is_ok()
 }
 
 /// What is left of the objects.

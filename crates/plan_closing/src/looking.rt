@@ -48,7 +48,7 @@ fn watcher_at(store: &Store, variable: usize, place: usize) -> usize
     ensures { slice_get (blocks_watching store.now.watches variable) place ≡ Some result }
 {
     let blocks = store.watchers_of(variable);
-    blocks[place]
+    blocks[place] as usize
 }
 
 // Looks at the branches of the blocks that watch the variable.

@@ -160,7 +160,7 @@ impl Seating {
     }
 
     /// The places that are noted under the object of this number; a token of the store may stand at any of them, or none.
-    pub fn on(&self, value: i32) -> &[usize]
+    pub fn on(&self, value: i32) -> &[u32]
         ensures { (object : ℕ) → value ≡ pos object → result.now ≡ blocks_watching self.now.seats object }
     {
         match number_of(value) {

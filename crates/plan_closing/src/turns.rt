@@ -173,7 +173,7 @@ fn take_turns_at(
     store: &mut Store,
     model: &Model,
     one: u32,
-    other: usize,
+    other: u32,
     timeline: i32,
 ) -> Result<(), AllocError>
     requires times { (place : ℕ) → place < length (tokens_now store.old.past) → HasTimesAt store.old place }
@@ -183,12 +183,10 @@ fn take_turns_at(
     ensures only { OnlyPosts store.old store.new }
     ensures marks { KeepStoreMarks store.old store.new }
 {
-    let count = store.tokens().count();
-    if other >= count as usize {
+    if other >= store.tokens().count() {
         return Ok(());
     }
-    let place = other as u32;
-    take_turns(store, model, one, place, timeline)
+    take_turns(store, model, one, other, timeline)
 }
 
 // Lets the token at the place take turns with those at the others, where it is active on this timeline.
@@ -196,7 +194,7 @@ fn take_turns_among(
     store: &mut Store,
     model: &Model,
     place: u32,
-    others: &[usize],
+    others: &[u32],
     timeline: i32,
 ) -> Result<(), AllocError>
     requires times { (other : ℕ) → other < length (tokens_now store.old.past) → HasTimesAt store.old other }

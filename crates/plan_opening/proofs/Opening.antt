@@ -10,7 +10,6 @@ use Rattle.eu_name.specs.declared.name.VarName.{VarName}
 use Rattle.eu_name.specs.declared.name.VarName.TheVariants as name
 use Rattle.model_core.specs.declared.decision.Decision.{Decision}
 use Rattle.model_core.specs.declared.model.Model.{Model}
-use Rattle.model_core.specs.declared.rule.Rule.{Rule}
 use Rattle.model_core.specs.declared.rule.Slot.{Slot}
 use Rattle.model_core.specs.declared.variable.Base.{Base}
 use Rattle.model_core.specs.declared.variable.Base.TheVariants.{Given, Void}
@@ -33,14 +32,14 @@ use Rattle.constraint_net.specs.declared.NetFault.TheVariants.{Collapsed, Memory
 use Rattle.narrow_core.specs.declared.field.Field.{Field}
 use Rattle.constraint_net.specs.declared.constraint.Constraint.{Constraint}
 use Rattle.plan_defs.proofs.Lower.{HasBlock-map}
-use Rattle.plan_defs.proofs.Members.{get_below, get_from_contains, contains_from_get, all_from_get, get_all}
+use Rattle.plan_defs.proofs.Members.{get_from_contains, contains_from_get, all_from_get, get_all}
 use Rattle.plan_defs.proofs.Ordered.{contains_head, contains_later, contains_cases, contains_none}
 use Rattle.plan_growth.specs.Content.{Content, shown, IsContent}
 use Rattle.plan_growth.specs.Growth.{LeaveNothing}
 use Rattle.plan_growth.proofs.Owing.{no_void, asked_is_owed}
 use Rattle.plan_progress.specs.Coming.{BlockComes}
 use Rattle.plan_progress.specs.Progress.{IsJustified, MissesNothing}
-use Rattle.plan_progress.proofs.Blocks.{block_once, rule_once}
+use Rattle.plan_progress.proofs.Blocks.{block_once}
 use Rattle.plan_progress.proofs.Coming.{local_once}
 use Rattle.plan_progress.proofs.Growing.{block_justified}
 use Rattle.plan_progress.proofs.Keeping.{block_misses}

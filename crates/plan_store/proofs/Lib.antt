@@ -1,4 +1,5 @@
 pub mod Equal
+pub mod Listing
 pub mod Lists
 pub mod Snapshots
 pub mod Naming

@@ -9,15 +9,23 @@ use indexmap::IndexSet;
 use std::alloc::AllocError;
 
 /// Notes the number of a variable that is a start, by the place of its token.
-pub fn note_start(starts: &mut Vec<usize>, key: VarKey, number: usize) -> Result<(), AllocError> {
+pub fn note_start(starts: &mut Vec<u32>, key: VarKey, number: usize) -> Result<(), AllocError> {
     match key {
-        VarKey::Part(place, Part::Start) => put_at(starts, place as usize, number),
+        VarKey::Part(place, Part::Start) => put_at(starts, place as usize, shortened(number)),
         _ => Ok(()),
     }
 }
 
+// The number in 32 bits. For one beyond them it is the greatest, where another key is found.
+fn shortened(number: usize) -> u32 {
+    if number > u32::MAX as usize {
+        return u32::MAX;
+    }
+    number as u32
+}
+
 // Puts the number at the place, unless that is past the end.
-fn put_at(numbers: &mut Vec<usize>, place: usize, number: usize) -> Result<(), AllocError> {
+fn put_at(numbers: &mut Vec<u32>, place: usize, number: u32) -> Result<(), AllocError> {
     if place < numbers.len() {
         numbers[place] = number;
     } else if place == numbers.len() {
@@ -38,9 +46,12 @@ fn parts_before(part: Part) -> usize {
 }
 
 // The number at which the variable of the key is expected.
-fn expected_at(starts: &[usize], key: VarKey) -> Option<usize> {
+fn expected_at(starts: &[u32], key: VarKey) -> Option<usize> {
     match key {
-        VarKey::Part(place, part) => starts.get(place as usize)?.checked_add(parts_before(part)),
+        VarKey::Part(place, part) => {
+            let start = *starts.get(place as usize)?;
+            (start as usize).checked_add(parts_before(part))
+        }
         _ => None,
     }
 }
@@ -57,7 +68,7 @@ fn has_key(variables: &IndexSet<VarKey>, number: usize, key: VarKey) -> bool
 }
 
 /// The number of the variable of the key, if that is where it is expected.
-pub fn expected(variables: &IndexSet<VarKey>, starts: &[usize], key: VarKey) -> Option<usize>
+pub fn expected(variables: &IndexSet<VarKey>, starts: &[u32], key: VarKey) -> Option<usize>
     requires told { DecidesEquality ⟦<VarKey as PartialEq>⟧.eq }
     ensures { IfSome result (λ number. slice_get variables.now.keys number ≡ Some key) }
 {

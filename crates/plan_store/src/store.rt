@@ -41,7 +41,7 @@ pub struct Store {
     variables: IndexSet<VarKey>,
     // By place, the number of each token's start, which spares most look-ups of its parts. What stands there is compared before it
     // is relied on.
-    starts: Vec<usize>,
+    starts: Vec<u32>,
     blocks: IndexSet<OpenBlock>,
     watchers: Watchers,
     net: Net,
@@ -241,7 +241,7 @@ impl Store {
     }
 
     /// The numbers of the blocks that watch the variable, in the order in which they came to watch it.
-    pub fn watchers_of(&self, variable: usize) -> &[usize]
+    pub fn watchers_of(&self, variable: usize) -> &[u32]
         ensures { result.now ≡ blocks_watching self.now.watches variable }
     {
         self.watchers.of(variable)

@@ -1,20 +1,19 @@
 //! Which blocks watch a variable.
 
-ghost use Rattle.std.specs.Prelude.{◌≡◌, ◌==◌, ◌≤◌, ◌-◌, ℕ, nat_eq, if◌then◌else◌, [], ◌∷◌, ◌++◌, length, take, vec_len};
-ghost use Rattle.std.specs.Prelude.{OnOk, OnErr, IsSome};
-ghost use Rattle.std.specs.Map.{lookup};
+ghost use Rattle.std.specs.Prelude.{◌≡◌, ◌≤◌, [], ◌∷◌, ◌++◌, length, take, vec_len, OnOk, OnErr};
 ghost use Rattle.plan_store.specs.Stores.{blocks_watching};
-ghost use Rattle.plan_store.specs.Watching.{listed_under, AreListedUnder};
+ghost use Rattle.plan_store.specs.Watching.{AreListedUnder};
 
-use indexmap::IndexMap;
+use cell_store::numbers::short;
 use std::alloc::{AllocError, Global};
 use std::marker::Model;
+use token_store::lists::Lists;
 
 /// A block watches a variable, each by its number.
 #[derive(Clone, Copy)]
 pub struct Watch {
-    pub variable: usize,
-    pub block: usize,
+    pub variable: u32,
+    pub block: u32,
 }
 
 /// What watches what, in the order in which it came.
@@ -22,7 +21,7 @@ pub struct Watch {
 pub struct Watchers {
     watches: Vec<Watch>,
     // The blocks that watch a variable, under its number.
-    lists: IndexMap<usize, Vec<usize>>,
+    lists: Lists,
 }
 
 impl Model for Watchers {
@@ -34,7 +33,7 @@ impl Model for Watchers {
 
     ghost view = { λ watchers. watchers.watches.items };
 
-    ghost invariant = { λ watchers. AreListedUnder watchers.watches.items watchers.lists.entries };
+    ghost invariant = { λ watchers. AreListedUnder watchers.watches.items watchers.lists };
 }
 
 impl Watchers {
@@ -44,7 +43,7 @@ impl Watchers {
     {
         Watchers {
             watches: Vec::new(alloc),
-            lists: IndexMap::new(alloc),
+            lists: Lists::new(alloc),
         }
     }
 
@@ -55,13 +54,10 @@ impl Watchers {
     }
 
     /// The blocks that watch the variable, in the order in which they came.
-    pub fn of(&self, variable: usize) -> &[usize]
+    pub fn of(&self, variable: usize) -> &[u32]
         ensures { result.now ≡ blocks_watching self.now variable }
     {
-        match self.lists.get(&variable) {
-            Some(list) => list.as_slice(),
-            None => &[],
-        }
+        self.lists.of(variable)
     }
 
     /// Lets the block watch the variable.
@@ -69,10 +65,13 @@ impl Watchers {
         ensures ok { OnOk result (self.new ≡ self.old ++ record { variable = variable; block = block } ∷ []) }
         ensures err { OnErr result (self.new ≡ self.old) }
     {
+        let watch = Watch {
+            variable: short(variable)?,
+            block: short(block)?,
+        };
         self.watches.reserve(1)?;
-        make_list(&mut self.lists, variable)?;
-        push_block(&mut self.lists, variable, block)?;
-        self.watches.push_reserved(Watch { variable, block });
+        self.lists.add(variable, watch.block)?;
+        self.watches.push_reserved(watch);
         Ok(())
     }
 
@@ -85,62 +84,16 @@ impl Watchers {
     }
 }
 
-// Sees to it that there is a list under the variable.
-fn make_list(lists: &mut IndexMap<usize, Vec<usize>>, variable: usize) -> Result<(), AllocError>
-    ensures same { (other : ℕ) → listed_under lists.new.entries other ≡ listed_under lists.old.entries other }
-    ensures there { OnOk result (IsSome (lookup (nat_eq variable) lists.new.entries)) }
-{
-    if lists.contains_key(&variable) {
-        return Ok(());
-    }
-    let none = Vec::new(*lists.allocator());
-    lists.insert(variable, none)?;
-    Ok(())
-}
-
-// Puts the block at the end of the variable's list.
-fn push_block(
-    lists: &mut IndexMap<usize, Vec<usize>>,
-    variable: usize,
-    block: usize,
-) -> Result<(), AllocError>
-    requires { IsSome (lookup (nat_eq variable) lists.old.entries) }
-    ensures ok { OnOk result ((other : ℕ) → listed_under lists.new.entries other
-        ≡ (let list = listed_under lists.old.entries other in
-        if variable == other then list ++ block ∷ [] else list)) }
-    ensures err { OnErr result ((other : ℕ)
-        → listed_under lists.new.entries other ≡ listed_under lists.old.entries other) }
-{
-    match lists.get_mut(&variable) {
-        Some(list) => {
-            list.push(block)?;
-            Ok(())
-        }
-        None => unreachable!(),
-    }
-}
-
-// Takes the last block off the variable's list.
-fn pop_block(lists: &mut IndexMap<usize, Vec<usize>>, variable: usize)
-    ensures { (other : ℕ) → listed_under lists.new.entries other
-        ≡ (let list = listed_under lists.old.entries other in
-        if variable == other then take (length list - 1) list else list) }
-{
-    if let Some(list) = lists.get_mut(&variable) {
-        let _last = list.pop();
-    }
-}
-
 // Goes back until there are so many.
-fn go_back(watches: &mut Vec<Watch>, lists: &mut IndexMap<usize, Vec<usize>>, count: usize)
-    requires listed { AreListedUnder watches.old.items lists.old.entries }
+fn go_back(watches: &mut Vec<Watch>, lists: &mut Lists, count: usize)
+    requires listed { AreListedUnder watches.old.items lists.old }
     requires long { count ≤ vec_len watches.old }
     ensures kept { watches.new.items ≡ take count watches.old.items }
-    ensures listed { AreListedUnder watches.new.items lists.new.entries }
+    ensures listed { AreListedUnder watches.new.items lists.new }
 {
     while watches.len() > count {
         if let Some(last) = watches.pop() {
-            pop_block(lists, last.variable);
+            lists.pop(last.variable as usize);
         }
     }
 }

@@ -2,5 +2,5 @@ pub mod Numbers
 pub mod Names
 pub mod Past
 pub mod Ranks
-pub mod Subgoals
+pub mod Children
 pub mod Keeping

@@ -1,6 +1,5 @@
 -- How the tokens, their trail and their orders are kept.
-use Rattle.std.specs.Prelude.{◌≡◌, ℕ, ◌-◌, ◌^◌, ◌<◌, List, [], ◌∷◌, length, map, take, Vec, slice_index_or}
-use Rattle.std.specs.Global.{Global}
+use Rattle.std.specs.Prelude.{◌≡◌, ℕ, ◌-◌, ◌^◌, ◌<◌, List, [], ◌∷◌, length, take}
 use Rattle.eu_name.specs.declared.name.TokenName.{TokenName}
 use Rattle.token_store.specs.declared.trail.Edit.{Edit}
 use Rattle.token_store.specs.declared.trail.Edit.TheVariants.{Added, Was}
@@ -27,17 +26,12 @@ abbrev pub IsTokenTrail : TokenList → List Edit → Type 0
 IsTokenTrail tokens [] = tokens ≡ []
 IsTokenTrail tokens (edit ∷ older) = CanLead edit tokens × IsTokenTrail (before edit tokens) older
 
--- the numbers in each vector
-abbrev pub numbers_of : List (Vec ℕ Global) → List (List ℕ)
-numbers_of lists = map (λ list. list.items) lists
-
--- for each name there is the list of its subgoals
-pub record HaveChildren (names : List TokenName) (children : List (List ℕ)) : Type 0 where
-  pub count : length children ≡ length names
-  pub each : (parent : ℕ) → parent < length names → AreChildren names parent (slice_index_or children parent [])
+-- each token has the list of its subgoals
+abbrev pub HaveChildren : List TokenName → (ℕ → List ℕ) → Type 0
+HaveChildren names children = (parent : ℕ) → AreChildren names parent (children parent)
 
 -- the trail led to the tokens, places are numbers of 32 bits, and the ranking and the subgoals are those of the tokens
-pub record AreKeptTokens (tokens : TokenList) (trail : List Edit) (by_rank : List ℕ) (children : List (List ℕ)) : Type 0 where
+pub record AreKeptTokens (tokens : TokenList) (trail : List Edit) (by_rank : List ℕ) (children : ℕ → List ℕ) : Type 0 where
   pub led : IsTokenTrail tokens trail
   pub few : length tokens < 2 ^ 32
   pub ranked : IsRanking (token_names tokens) by_rank

@@ -2,3 +2,4 @@ pub mod Tokens
 pub mod Orders
 pub mod Kept
 pub mod Pieces
+pub mod Listed

@@ -1,6 +1,6 @@
 -- What the pieces of the calls do. The public calls promise none of it.
 use Rattle.std.specs.Prelude.{◌≡◌, ◌↔◌, ℕ, ◌<◌, ◌≤◌, List, [], ◌∷◌, ◌++◌}
-use Rattle.std.specs.Prelude.{length, slice_index_or, slice_set, Option, Some, None, IfSome}
+use Rattle.std.specs.Prelude.{length, slice_index_or, Option, Some, IfSome}
 use Rattle.eu_name.specs.declared.name.TokenName.{TokenName}
 use Rattle.eu_name.specs.NameOrder.{IsTokenBefore}
 use Rattle.token_store.specs.declared.trail.Edit.{Edit}
@@ -25,8 +25,3 @@ pub record Parts (names : List TokenName) (ranking : List ℕ) (name : TokenName
 pub record FindsParent (names : List TokenName) (name : TokenName) (found : Option ℕ) : Type 0 where
   pub within : IfSome found (λ place. place < length names)
   pub parent : (place : ℕ) → place < length names → (IsChildOf (name_at names place) name ↔ (found ≡ Some place))
-
--- the lists of subgoals with one more token, which is a subgoal of this parent and has none itself
-abbrev pub with_child : List (List ℕ) → Option ℕ → ℕ → List (List ℕ)
-with_child children None place = children ++ [] ∷ []
-with_child children (Some parent) place = slice_set children parent (slice_index_or children parent [] ++ place ∷ []) ++ [] ∷ []

@@ -10,6 +10,7 @@
 #![tactic(auto)]
 
 pub mod laws;
+pub mod lists;
 mod orders;
 mod returning;
 pub mod tokens;

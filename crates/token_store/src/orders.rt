@@ -1,12 +1,13 @@
-//! The order of names among the tokens, and their subgoals.
+//! The order of names among the tokens, and their parents.
 
-ghost use Rattle.std.specs.Prelude.{◌≡◌, ◌<◌, ◌≤◌, ◌↔◌, IsTrue, length, insert, vec_len, vec_capacity, IfOk, OnOk, OnErr, IfSome};
+ghost use Rattle.std.specs.Prelude.{◌≡◌, ◌<◌, ◌≤◌, ◌↔◌, IsTrue, length, insert, vec_len, vec_capacity, IfOk, OnOk, OnErr};
 ghost use Rattle.eu_name.specs.NameOrder.{IsTokenBefore};
 ghost use Rattle.token_store.specs.Tokens.{token_names};
 ghost use Rattle.token_store.specs.Orders.{IsRanking, name_at};
-ghost use Rattle.token_store.specs.Kept.{numbers_of};
-ghost use Rattle.token_store.specs.Pieces.{Parts, FindsParent, with_child};
+ghost use Rattle.token_store.specs.Listed.{lists_of, with_child};
+ghost use Rattle.token_store.specs.Pieces.{Parts, FindsParent};
 
+use super::lists::Lists;
 use super::trail::{Token, find_place};
 use eu_name::laws::names_are_in_order;
 use eu_name::name::TokenName;
@@ -85,21 +86,13 @@ pub fn with_parent(
     }
 }
 
-/// Adds a token to the lists of subgoals, and to that of its parent.
-pub fn add_child(
-    children: &mut Vec<Vec<u32>>,
-    parent: Option<usize>,
-    place: u32,
-) -> Result<(), AllocError>
-    requires { IfSome parent (λ found. found < length children.old.items) }
-    ensures ok { OnOk result (numbers_of children.new.items ≡ with_child (numbers_of children.old.items) parent place) }
-    ensures err { OnErr result (numbers_of children.new.items ≡ numbers_of children.old.items) }
+/// Notes the token at the place as a subgoal of its parent, if it has one.
+pub fn add_child(children: &mut Lists, parent: Option<usize>, place: u32) -> Result<(), AllocError>
+    ensures ok { OnOk result (lists_of children.new ≡ with_child (lists_of children.old) parent place) }
+    ensures err { OnErr result (lists_of children.new ≡ lists_of children.old) }
 {
-    children.reserve(1)?;
-    if let Some(found) = parent {
-        children[found].push(place)?;
+    match parent {
+        Some(found) => children.add(found, place),
+        None => Ok(()),
     }
-    let none = Vec::new(*children.allocator());
-    children.push_reserved(none);
-    Ok(())
 }

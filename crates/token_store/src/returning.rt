@@ -3,9 +3,11 @@
 ghost use Rattle.std.specs.Prelude.{◌≡◌, ◌-◌, ◌<◌, ◌≤◌, ◌++◌, ◌∷◌, [], length, reverse, take, vec_len};
 ghost use Rattle.token_store.specs.Tokens.{token_names, LeavesPast};
 ghost use Rattle.token_store.specs.Orders.{IsRanking};
-ghost use Rattle.token_store.specs.Kept.{numbers_of, token_past, AreKeptTokens, HaveChildren};
+ghost use Rattle.token_store.specs.Kept.{token_past, AreKeptTokens, HaveChildren};
+ghost use Rattle.token_store.specs.Listed.{lists_of};
 ghost use Rattle.token_store.specs.Pieces.{FindsParent, TokensStepBack};
 
+use super::lists::Lists;
 use super::orders::rank_of;
 use super::trail::{Edit, Token, find_place, put_state};
 use eu_name::laws::names_are_in_order;
@@ -18,14 +20,14 @@ pub fn go_back(
     tokens: &mut IndexMap<TokenName, Token>,
     trail: &mut Vec<Edit>,
     by_rank: &mut Vec<u32>,
-    children: &mut Vec<Vec<u32>>,
+    children: &mut Lists,
     behind: usize,
 )
-    requires kept { AreKeptTokens tokens.old.entries (reverse trail.old.items) by_rank.old.items (numbers_of children.old.items) }
+    requires kept { AreKeptTokens tokens.old.entries (reverse trail.old.items) by_rank.old.items (lists_of children.old) }
     requires long { behind ≤ vec_len trail.old }
     ensures back { LeavesPast behind (token_past tokens.old.entries (reverse trail.old.items))
         (token_past tokens.new.entries (reverse trail.new.items)) }
-    ensures kept { AreKeptTokens tokens.new.entries (reverse trail.new.items) by_rank.new.items (numbers_of children.new.items) }
+    ensures kept { AreKeptTokens tokens.new.entries (reverse trail.new.items) by_rank.new.items (lists_of children.new) }
 {
     while trail.len() > behind {
         step_back(tokens, trail, by_rank, children);
@@ -37,32 +39,28 @@ fn step_back(
     tokens: &mut IndexMap<TokenName, Token>,
     trail: &mut Vec<Edit>,
     by_rank: &mut Vec<u32>,
-    children: &mut Vec<Vec<u32>>,
+    children: &mut Lists,
 )
-    requires kept { AreKeptTokens tokens.old.entries (reverse trail.old.items) by_rank.old.items (numbers_of children.old.items) }
+    requires kept { AreKeptTokens tokens.old.entries (reverse trail.old.items) by_rank.old.items (lists_of children.old) }
     requires some { 0 < length trail.old.items }
     ensures back { TokensStepBack (tokens.old.entries, trail.old.items) (tokens.new.entries, trail.new.items) }
-    ensures kept { AreKeptTokens tokens.new.entries (reverse trail.new.items) by_rank.new.items (numbers_of children.new.items) }
+    ensures kept { AreKeptTokens tokens.new.entries (reverse trail.new.items) by_rank.new.items (lists_of children.new) }
 {
     match trail.pop() {
         None => unreachable!(),
         Some(Edit::Added) => take_last(tokens, by_rank, children),
-        Some(Edit::Was { place, state }) => put_state(tokens, place, state),
+        Some(Edit::Was { place, state }) => put_state(tokens, place as usize, state),
     }
 }
 
 // Takes the last token off, with its rank and its place among the subgoals of its parent.
-fn take_last(
-    tokens: &mut IndexMap<TokenName, Token>,
-    by_rank: &mut Vec<u32>,
-    children: &mut Vec<Vec<u32>>,
-)
+fn take_last(tokens: &mut IndexMap<TokenName, Token>, by_rank: &mut Vec<u32>, children: &mut Lists)
     requires some { 0 < length tokens.old.entries }
     requires ranked { IsRanking (token_names tokens.old.entries) by_rank.old.items }
-    requires listed { HaveChildren (token_names tokens.old.entries) (numbers_of children.old.items) }
+    requires listed { HaveChildren (token_names tokens.old.entries) (lists_of children.old) }
     ensures tokens { tokens.new.entries ≡ take (length tokens.old.entries - 1) tokens.old.entries }
     ensures ranked { IsRanking (token_names tokens.new.entries) by_rank.new.items }
-    ensures listed { HaveChildren (token_names tokens.new.entries) (numbers_of children.new.items) }
+    ensures listed { HaveChildren (token_names tokens.new.entries) (lists_of children.new) }
 {
     take_rank(tokens, by_rank);
     match tokens.pop() {
@@ -87,14 +85,13 @@ fn take_rank(tokens: &IndexMap<TokenName, Token>, by_rank: &mut Vec<u32>)
     }
 }
 
-// Takes the list of a token that has gone off the lists of subgoals, and the token off that of its parent.
-fn take_child(tokens: &IndexMap<TokenName, Token>, children: &mut Vec<Vec<u32>>, name: TokenName)
-    requires { HaveChildren (token_names tokens.now.entries ++ name ∷ []) (numbers_of children.old.items) }
-    ensures { HaveChildren (token_names tokens.now.entries) (numbers_of children.new.items) }
+// Takes a token that has gone off the subgoals of its parent.
+fn take_child(tokens: &IndexMap<TokenName, Token>, children: &mut Lists, name: TokenName)
+    requires { HaveChildren (token_names tokens.now.entries ++ name ∷ []) (lists_of children.old) }
+    ensures { HaveChildren (token_names tokens.now.entries) (lists_of children.new) }
 {
-    let _none = children.pop();
     if let Some(parent) = parent_of(tokens, name) {
-        let _place = children[parent].pop();
+        children.pop(parent);
     }
 }
 

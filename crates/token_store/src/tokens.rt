@@ -1,13 +1,13 @@
 //! Tokens with a trail.
 
-ghost use Rattle.std.specs.Prelude.{◌≡◌, ◌+◌, ◌^◌, ◌<◌, ◌≤◌, [], ◌∷◌, length, option_copied, slice_get, MatchOption, IfOk, IfSome, OnOk, OnErr, vec_len, vec_capacity};
+ghost use Rattle.std.specs.Prelude.{◌≡◌, ◌+◌, ◌^◌, ◌<◌, ◌≤◌, [], ◌∷◌, length, option_copied, slice_get, MatchOption, IfOk, OnOk, OnErr, vec_len, vec_capacity};
 ghost use Rattle.indexmap.specs.IndexMap.{spare};
 ghost use Rattle.token_store.specs.Tokens.{tokens_now, token_names, token_preds, token_states, IsNewName, FindsToken, AddsToken, LeavesPast, NamesStay, with_state, with_token};
 ghost use Rattle.token_store.specs.Orders.{HasRank, AreChildren};
-ghost use Rattle.token_store.specs.Kept.{numbers_of};
-ghost use Rattle.token_store.specs.Pieces.{with_child};
+ghost use Rattle.token_store.specs.Listed.{lists_of, with_child};
 
 use super::AddFault;
+use super::lists::Lists;
 use super::orders::{add_child, insert_in_room, rank_of, with_parent};
 use super::returning::go_back;
 use super::trail::{Edit, Token, find_place, put_state, put_token};
@@ -25,8 +25,8 @@ pub struct Tokens {
     trail: Vec<Edit>,
     // The places in the order of names.
     by_rank: Vec<u32>,
-    // The places of each token's subgoals.
-    children: Vec<Vec<u32>>,
+    // The places of each token's subgoals, under its own.
+    children: Lists,
 }
 
 /// A point to which the tokens can go back, as long as they haven't gone back to one before it.
@@ -48,13 +48,15 @@ impl Model for Mark {
 impl Model for Tokens {
     ghost use Rattle.std.specs.Prelude.{reverse};
     ghost use Rattle.token_store.specs.Tokens.{TokenPast};
-    ghost use Rattle.token_store.specs.Kept.{token_past, numbers_of, AreKeptTokens};
+    ghost use Rattle.token_store.specs.Kept.{token_past, AreKeptTokens};
+    ghost use Rattle.token_store.specs.Listed.{lists_of};
 
     ghost Value = { TokenPast };
 
     ghost view = { λ store. token_past store.tokens.entries (reverse store.trail.items) };
 
-    ghost invariant = { λ store. AreKeptTokens store.tokens.entries (reverse store.trail.items) store.by_rank.items (numbers_of store.children.items) };
+    ghost invariant = { λ store.
+        AreKeptTokens store.tokens.entries (reverse store.trail.items) store.by_rank.items (lists_of store.children) };
 }
 
 impl Tokens {
@@ -66,7 +68,7 @@ impl Tokens {
             tokens: IndexMap::new(alloc),
             trail: Vec::new(alloc),
             by_rank: Vec::new(alloc),
-            children: Vec::new(alloc),
+            children: Lists::new(alloc),
         }
     }
 
@@ -170,13 +172,12 @@ impl Tokens {
         ensures ok { OnOk result (self.new ≡ with_state (tokens_now self.old) place state ∷ self.old) }
         ensures err { OnErr result (self.new ≡ self.old) }
     {
-        let place = place as usize;
-        let former = self.tokens[place].state;
+        let former = self.tokens[place as usize].state;
         self.trail.push(Edit::Was {
             place,
             state: former,
         })?;
-        put_state(&mut self.tokens, place, state);
+        put_state(&mut self.tokens, place as usize, state);
         Ok(())
     }
 
@@ -185,7 +186,7 @@ impl Tokens {
         requires { place < length (tokens_now self.now) }
         ensures { AreChildren (token_names (tokens_now self.now)) place result.now }
     {
-        self.children[place as usize].as_slice()
+        self.children.of(place as usize)
     }
 
     /// The place of the token of this rank in the order of names. None where there is no such rank.
@@ -255,10 +256,9 @@ fn make_place(
     tokens: &mut IndexMap<TokenName, Token>,
     trail: &mut Vec<Edit>,
     by_rank: &mut Vec<u32>,
-    children: &mut Vec<Vec<u32>>,
+    children: &mut Lists,
     parent: Option<usize>,
 ) -> Result<u32, AllocError>
-    requires { IfSome parent (λ found. found < length children.old.items) }
     ensures tokens { tokens.new.entries ≡ tokens.old.entries }
     ensures trail { trail.new.items ≡ trail.old.items }
     ensures by_rank { by_rank.new.items ≡ by_rank.old.items }
@@ -267,8 +267,8 @@ fn make_place(
     ensures rank_room { OnOk result (vec_len by_rank.new < vec_capacity by_rank.new) }
     ensures place { IfOk result (λ place. place ≡ length tokens.old.entries) }
     ensures few { IfOk result (λ place. place + 1 < 2 ^ 32) }
-    ensures noted { IfOk result (λ place. numbers_of children.new.items ≡ with_child (numbers_of children.old.items) parent place) }
-    ensures err { OnErr result (numbers_of children.new.items ≡ numbers_of children.old.items) }
+    ensures noted { IfOk result (λ place. lists_of children.new ≡ with_child (lists_of children.old) parent place) }
+    ensures err { OnErr result (lists_of children.new ≡ lists_of children.old) }
 {
     let place = next_place(tokens)?;
     make_room(tokens, trail, by_rank)?;

@@ -22,7 +22,7 @@ pub enum Edit {
     /// A token was added.
     Added,
     /// The token at the place had this state.
-    Was { place: usize, state: TokenState },
+    Was { place: u32, state: TokenState },
 }
 
 /// The place of the token of this name.

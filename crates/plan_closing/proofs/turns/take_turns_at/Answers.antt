@@ -7,7 +7,7 @@ use Rattle.plan_closing.proofs.turns.take_turns_at.Goals as goal
 pub returns-then-other-count-clause-turns : goal.returns-then-other-count-clause-turns
 returns-then-other-count-clause-turns c =
     turns_past c.args.model.now c.args.store.now c.args.one c.args.other
-    (omega (arith, c.if-other-count.true, c.count-count.ensures, ap (λ (past : TokenPast). length (tokens_now past)) c.tokens.ensures))
+    (omega (arith, c.if-other-count.true, c.count.ensures, ap (λ (past : TokenPast). length (tokens_now past)) c.tokens.ensures))
 
 pub take_turns-requires-clause-one : goal.take_turns-requires-clause-one
 take_turns-requires-clause-one c = c.requires.times c.args.one c.requires.one
@@ -15,9 +15,9 @@ take_turns-requires-clause-one c = c.requires.times c.args.one c.requires.one
 pub take_turns-requires-clause-other : goal.take_turns-requires-clause-other
 take_turns-requires-clause-other c =
     c.requires.times c.args.other
-    (omega (arith, c.if-other-count.false, c.count-count.ensures, ap (λ (past : TokenPast). length (tokens_now past)) c.tokens.ensures))
+    (omega (arith, c.if-other-count.false, c.count.ensures, ap (λ (past : TokenPast). length (tokens_now past)) c.tokens.ensures))
 
 pub returns-clause-turns : goal.returns-clause-turns
 returns-clause-turns c =
     ok_then c.take_turns.result (turns_one c.args.model.now c.args.store.now c.args.one c.args.other c.take_turns.new.store
-    (omega (arith, c.if-other-count.false, c.count-count.ensures, ap (λ (past : TokenPast). length (tokens_now past)) c.tokens.ensures))) c.take_turns.ensures.turns
+    (omega (arith, c.if-other-count.false, c.count.ensures, ap (λ (past : TokenPast). length (tokens_now past)) c.tokens.ensures))) c.take_turns.ensures.turns

@@ -1,5 +1,5 @@
 use Rattle.std.proofs.Common.{[], ◌∷◌, refl, subst}
-use Rattle.std.specs.Prelude.{Contains, IsTrue}
+use Rattle.std.specs.Prelude.{Contains}
 use Rattle.model_core.specs.declared.item.Kind.TheVariants.{Leq}
 use Rattle.constraint_net.specs.Networks.{Network}
 use Rattle.constraint_net.specs.declared.constraint.Constraint.{Constraint}

@@ -1,4 +1,4 @@
-use Rattle.std.proofs.Common.{ℕ, List, inl, inr, sym, subst, arith}
+use Rattle.std.proofs.Common.{ℕ, List, sym, subst, arith}
 use Rattle.std.specs.Prelude.{Contains}
 use Rattle.plan_store.proofs.Lists.{more_pushed, all_pushed}
 use Rattle.plan_store.proofs.store.put_numbers.Goals as goal

@@ -5,7 +5,7 @@ use Rattle.plan_store.proofs.watchers.go_back.Given as goal
 abbrev pub invariant-loop-watches : goal.invariant-loop-watches
 invariant-loop-watches l = record {
   kept : take l.count l.watches.items ≡ take l.count l.fn.watches.items;
-  listed : AreListedUnder l.watches.items l.lists.entries;
+  listed : AreListedUnder l.watches.items l.lists;
   long : l.count ≤ vec_len l.watches;
 }
 

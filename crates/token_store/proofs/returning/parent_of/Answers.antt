@@ -1,5 +1,5 @@
 use Rattle.std.proofs.Common.{◌≡◌, ◌++◌, ◌∷◌, [], sym, ap, ◌∙◌}
-use Rattle.token_store.proofs.Subgoals.{parent_found}
+use Rattle.token_store.proofs.Children.{parent_found}
 use Rattle.token_store.proofs.returning.parent_of.Goals as goal
 
 pub returns-in-Some : goal.returns-in-Some

@@ -1,8 +1,6 @@
-use Rattle.std.proofs.Common.{length, ap, arith}
+use Rattle.std.proofs.Common.{length, sym, ap, ◌∙◌}
 use Rattle.cell_store.proofs.Entries.{length-entries}
 use Rattle.cell_store.proofs.steps.Trail.len.Goals as goal
 
 pub returns : goal.returns
-returns c =
-    let trail = c.self.inside in
-    omega (arith, c.len.ensures, trail.steps.ok.0, length-entries trail.steps.items trail.formers.items c.self.invariant, ap length c.self.view_is)
+returns c = sym (length-entries c.self.inside.count c.self.inside.formers.items) ∙ ap length c.self.view_is

@@ -9,4 +9,4 @@ returns-in_err-push-clause-err c =
 pub returns-clause-ok : goal.returns-clause-ok
 returns-clause-ok c =
     list_more c.self.inside.lists.items c.args.self.now c.args.variable c.args.number c.index_mut.result.now c.push.new.self c.self.view_is c.requires c.index_mut.ensures.value
-    (c.in_ok-push.ensures.ok ∙ ap (λ number. c.index_mut.result.now.items ++ number ∷ []) c.in_ok-number.ensures)
+    (c.in_ok-push.ensures.ok ∙ ap (λ number. c.index_mut.result.now.items ++ number ∷ []) c.in_ok-number.ensures.kept)

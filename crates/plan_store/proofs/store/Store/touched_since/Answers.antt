@@ -1,4 +1,4 @@
-use Rattle.std.proofs.Common.{ap, subst, arith}
+use Rattle.std.proofs.Common.{arith}
 use Rattle.plan_store.specs.Holding.{stored_of}
 use Rattle.plan_store.proofs.Going.{can_return, touched}
 use Rattle.plan_store.proofs.store.Store.touched_since.Goals as goal

@@ -1,6 +1,6 @@
 use Rattle.std.proofs.Common.{length, sym, ap, ◌∙◌, subst, arith}
 use Rattle.token_store.specs.Tokens.{token_names, IsNewName}
-use Rattle.token_store.specs.Kept.{numbers_of}
+use Rattle.token_store.specs.Listed.{lists_of}
 use Rattle.token_store.specs.Pieces.{Parts}
 use Rattle.token_store.proofs.Past.{shown}
 use Rattle.token_store.proofs.Keeping.{added_kept, added_past}
@@ -16,7 +16,7 @@ invariant_of-self-2 c =
     let tokens = c.self.inside.tokens.entries in
     let trail = c.self.inside.trail.items in
     let by_rank = c.self.inside.by_rank.items in
-    let children = numbers_of c.self.inside.children.items in
+    let children = lists_of c.self.inside.children in
     let place = c.in_ok-place.ensures.place in
     let new : IsNewName tokens c.args.name = subst (λ list. IsNewName list c.args.name) (shown tokens _ c.args.self.now c.self.view_is) c.requires in
     let parts = subst (λ list. Parts (token_names tokens) list c.args.name c.rank_of-rank.result) (c.deref.ensures.value ∙ c.in_ok-place.ensures.by_rank)
