@@ -16,26 +16,12 @@ use nddl_ast::name::{Name, Path};
 use nddl_ast::statement::Ask;
 use nddl_lines::Basis;
 use nddl_paths::steps::{token_step, unknown_at};
-use nddl_paths::{
-    Around, Denoted, PathFault, Seen, SeenNames, asked_token, expr_denoted, path_denoted,
-};
+use nddl_paths::{Around, Denoted, PathFault, SeenNames, asked_token, expr_denoted, path_denoted};
 use nddl_scope::Fault;
 use nddl_scope::fault::note_at;
 use std::alloc::{AllocError, Global};
 
-// Whether one of these has the name.
-fn is_name_seen(name: &Text, some: &[Seen]) -> bool
-    ensures { result ≡ is_name_seen name.now some.now }
-{
-    for seen in some {
-        if name.as_str() == seen.name.as_str() {
-            return true;
-        }
-    }
-    false
-}
-
-// The same in a list, if there is one.
+// Whether one of these has the name, if there are any.
 #[tactic(auto, using(crate::proofs::Labels::found_is_seen))]
 fn is_name_in(name: &Text, some: Option<&SeenNames>) -> bool
     ensures { result ≡ is_name_seen name.now (seen_in some.entry) }
@@ -50,7 +36,7 @@ fn is_name_in(name: &Text, some: Option<&SeenNames>) -> bool
 fn is_label(around: &Around<'_>, name: &Text) -> bool
     ensures { result ≡ is_label (around_of around.now) name.now }
 {
-    let is_hidden = is_name_seen(name, around.formals)
+    let is_hidden = is_name_in(name, around.formals)
         || (is_name_in(name, around.turns) || is_name_in(name, around.locals));
     !is_hidden && is_name_in(name, around.labels)
 }

@@ -59,7 +59,7 @@ impl Visible {
         ensures { around_of result ≡ self.now }
     {
         Around {
-            formals: &[],
+            formals: None,
             turns: Some(&self.turns),
             locals: Some(&self.locals),
             labels: Some(&self.labels),

@@ -6,7 +6,6 @@ use Rattle.nddl_ast.specs.declared.declaration.Member.{Member}
 use Rattle.nddl_ast.specs.declared.declaration.Member.TheVariants as members
 use Rattle.nddl_ast.specs.declared.declaration.Set.{Set}
 use Rattle.nddl_ast.specs.declared.declaration.Set.TheVariants as sets
-use Rattle.nddl_ast.specs.declared.declaration.Typed.{Typed}
 use Rattle.nddl_ast.specs.declared.expression.Expr.{Expr}
 use Rattle.nddl_ast.specs.declared.kind.TextKind.TheVariants as faults
 use Rattle.nddl_scope.specs.declared.fault.Fault.{Fault}
@@ -18,22 +17,11 @@ use Rattle.nddl_lines.specs.Ancestors.{above}
 use Rattle.nddl_lines.specs.Facts.{Facts}
 use Rattle.nddl_paths.specs.declared.denoted.Denoted.{Denoted}
 use Rattle.nddl_paths.specs.declared.denoted.Denoted.TheVariants as denoted
-use Rattle.nddl_paths.specs.declared.denoted.Seen.{Seen}
-use Rattle.nddl_paths.specs.Fields.{class_field, type_value}
+use Rattle.nddl_paths.specs.Fields.{class_field}
 use Rattle.nddl_paths.specs.Paths.{Surroundings}
 use Rattle.nddl_constructors.specs.Constants.{constants_faults}
 use Rattle.nddl_constructors.specs.Creations.{set_to_faults, meaning_wants}
-
--- ---- what stands around
-
--- a formal is a constant of its type
-abbrev pub formal_seen : Facts → Typed → Seen
-formal_seen facts typed =
-    record { name = typed.name.text; denoted = type_value facts.names facts.known true typed.declared }
-
--- these formals stand around, and nothing else
-abbrev pub around_formals : List Seen → Surroundings
-around_formals formals = record { formals = formals; turns = []; locals = []; labels = []; token = None }
+use Rattle.nddl_constructors.specs.Formals.{around_formals, formal_seen}
 
 -- ---- fields
 

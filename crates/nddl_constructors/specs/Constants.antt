@@ -1,5 +1,5 @@
 -- What is wrong with values that have to be constants of some kind.
-use Rattle.std.specs.Prelude.{ℕ, ◌+◌, Bool, true, false, ◌||◌, not, List, [], ◌∷◌, ◌++◌, Option, Some, None}
+use Rattle.std.specs.Prelude.{ℕ, ◌+◌, Bool, false, ◌||◌, not, List, [], ◌∷◌, ◌++◌, Option, Some, None}
 use Rattle.std.specs.Prelude.{Ok, Err, is_none, slice_get}
 use Rattle.std.specs.Option.{option_and_then}
 use Rattle.nddl_ast.specs.declared.expression.Expr.{Expr}

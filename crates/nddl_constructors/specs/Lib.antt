@@ -1,5 +1,6 @@
 pub mod Bodies
 pub mod Constants
 pub mod Creations
+pub mod Formals
 pub mod Objects
 pub mod Wants

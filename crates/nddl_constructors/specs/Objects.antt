@@ -25,9 +25,10 @@ use Rattle.nddl_sorts.specs.Bases.{base_kind}
 use Rattle.nddl_lines.specs.Facts.{Facts}
 use Rattle.nddl_paths.specs.Paths.{Surroundings, expr_denoted}
 use Rattle.nddl_paths.specs.Steps.{Understood}
-use Rattle.nddl_constructors.specs.Bodies.{around_formals, named_bodies_faults}
+use Rattle.nddl_constructors.specs.Bodies.{named_bodies_faults}
 use Rattle.nddl_constructors.specs.Constants.{value_faults}
 use Rattle.nddl_constructors.specs.Creations.{class_alone, set_to_faults, is_of_class}
+use Rattle.nddl_constructors.specs.Formals.{around_formals}
 
 -- ---- `close();`
 

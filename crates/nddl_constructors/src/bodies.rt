@@ -5,10 +5,12 @@ ghost use Rattle.nddl_ast.specs.declared.declaration.Set.TheVariants.{Field};
 ghost use Rattle.nddl_scope.specs.Finding.{earliest_fault};
 ghost use Rattle.nddl_lines.specs.Facts.{facts_of};
 ghost use Rattle.nddl_paths.specs.Paths.{around_of};
-ghost use Rattle.nddl_constructors.specs.Bodies.{around_formals, bodies_faults, body_faults, field_in_line, field_kind, formal_seen, named_bodies_faults, set_faults_in, sets_faults, super_faults};
+ghost use Rattle.nddl_constructors.specs.Formals.{around_formals, formal_seen};
+ghost use Rattle.nddl_constructors.specs.Bodies.{bodies_faults, body_faults, field_in_line, field_kind, named_bodies_faults, set_faults_in, sets_faults, super_faults};
 
 use super::constants::note_arguments;
 use super::creations::{meaning_wants, note_init};
+use super::formals::{around_formals, formals_seen};
 use eu_name::text::Text;
 use nddl_ast::TextKind;
 use nddl_ast::declaration::{Member, Set, Typed};
@@ -16,50 +18,13 @@ use nddl_ast::expression::{Expr, Init};
 use nddl_ast::name::Name;
 use nddl_lines::Basis;
 use nddl_lines::lines::above;
-use nddl_paths::fields::{class_field, type_value};
-use nddl_paths::{Around, Denoted, Seen};
+use nddl_paths::fields::class_field;
+use nddl_paths::{Around, Denoted};
 use nddl_scope::fault::note_at;
 use nddl_scope::twice::kind_if;
 use nddl_scope::{Fault, Meaning};
 use nddl_sorts::TypeKind;
 use std::alloc::{AllocError, Global};
-
-/// These formals stand around, and nothing else.
-pub fn around_formals(formals: &[Seen]) -> Around<'_>
-    ensures { around_of result ≡ around_formals formals.now }
-{
-    Around {
-        formals,
-        turns: None,
-        locals: None,
-        labels: None,
-        token: None,
-    }
-}
-
-/// The formals with what they mean.
-pub fn formals_seen(
-    alloc: Global,
-    basis: &Basis<'_>,
-    formals: &[Typed],
-) -> Result<Vec<Seen>, AllocError>
-    ensures { IfOk result (λ seen. seen.items ≡ map (formal_seen (facts_of basis.now)) formals.now) }
-{
-    let mut seen = Vec::new(alloc);
-    for typed in formals {
-        seen.push(formal_seen(basis, typed)?)?;
-    }
-    Ok(seen)
-}
-
-fn formal_seen(basis: &Basis<'_>, typed: &Typed) -> Result<Seen, AllocError>
-    ensures { IfOk result (λ seen. seen ≡ formal_seen (facts_of basis.now) typed.now) }
-{
-    Ok(Seen {
-        name: typed.name.text.copy()?,
-        denoted: type_value(&basis.types, true, &typed.declared),
-    })
-}
 
 /// What the field of this name is, of the class of this number or of one that it extends.
 pub fn field_in_line(
@@ -134,13 +99,35 @@ fn note_body(
         (body_faults (facts_of basis.now) decl entry member.now)) }
 {
     match member {
-        Member::Constructor { formals, sets, .. } => {
-            let seen = formals_seen(alloc, basis, formals.as_slice())?;
-            let around = around_formals(seen.as_slice());
-            note_sets(alloc, basis, &around, decl, entry, sets.as_slice(), first)
-        }
+        Member::Constructor { formals, sets, .. } => note_body_of(
+            alloc,
+            basis,
+            decl,
+            entry,
+            formals.as_slice(),
+            sets.as_slice(),
+            first,
+        ),
         _ => Ok(()),
     }
+}
+
+// Notes all that is wrong with the body of a constructor that has these formals.
+fn note_body_of(
+    alloc: Global,
+    basis: &Basis<'_>,
+    decl: usize,
+    entry: usize,
+    formals: &[Typed],
+    sets: &[Set],
+    first: &mut Option<Fault>,
+) -> Result<(), AllocError>
+    ensures { OnOk result (first.new ≡ earliest_fault first.old (sets_faults (facts_of basis.now)
+        (around_formals (map (formal_seen (facts_of basis.now)) formals.now)) decl entry sets.now)) }
+{
+    let seen = formals_seen(alloc, basis, formals)?;
+    let around = around_formals(Some(&seen));
+    note_sets(alloc, basis, &around, decl, entry, sets, first)
 }
 
 // Notes all that is wrong with the parts of a body.

@@ -6,8 +6,10 @@
 pub mod bodies;
 pub mod constants;
 pub mod creations;
+pub mod formals;
 pub mod objects;
 pub mod wants;
 
+pub use formals::Formals;
 pub use objects::note_written;
 pub use wants::class_wants;

@@ -4,12 +4,13 @@ ghost use Rattle.std.specs.Prelude.{◌≡◌, IfOk, OnOk, map};
 ghost use Rattle.nddl_scope.specs.Finding.{earliest_fault};
 ghost use Rattle.nddl_lines.specs.Facts.{facts_of};
 ghost use Rattle.nddl_paths.specs.Paths.{around_of};
-ghost use Rattle.nddl_constructors.specs.Bodies.{around_formals};
+ghost use Rattle.nddl_constructors.specs.Formals.{around_formals};
 ghost use Rattle.nddl_constructors.specs.Objects.{creation_of_faults, first_close, foreign_fault, is_alone, is_close, is_closed, is_foreign_class, is_wrong_number, new_faults, object_faults, setting_faults, settings_faults, settings_faults_from, unfound_faults, variable_faults_by, writing_faults, writing_faults_from, written_faults};
 
-use super::bodies::{around_formals, note_bodies};
+use super::bodies::note_bodies;
 use super::constants::note_value;
 use super::creations::{class_alone, is_of_class, note_made};
+use super::formals::around_formals;
 use nddl_ast::TextKind;
 use nddl_ast::declaration::Decl;
 use nddl_ast::expression::{Creation, Expr, Init};
@@ -195,7 +196,7 @@ fn note_object(
     ensures { OnOk result (first.new ≡ earliest_fault first.old
         (object_faults (facts_of basis.now) number kind creation.now)) }
 {
-    let around = around_formals(&[]);
+    let around = around_formals(None);
     note_made(alloc, basis, &around, number, kind, creation, first)?;
     let fault = foreign_fault(alloc, basis, kind, creation)?;
     note_at(first, number, creation.class.at, fault);
@@ -255,7 +256,7 @@ fn note_settings(
         creation.class.at,
         kind_if(is_wrong, TextKind::WrongCount),
     );
-    let around = around_formals(&[]);
+    let around = around_formals(None);
     note_setting_values(alloc, basis, &around, number, arguments, first)
 }
 

@@ -1,7 +1,7 @@
 -- What values stand for, where these objects are made so far.
 use Rattle.std.specs.Prelude.{ℕ, ◌+◌, Bool, true, false, List, [], ◌∷◌, Option, Some, None, is_some, slice_get}
 use Rattle.std.specs.Prelude.{if◌then◌else◌}
-use Rattle.std.specs.List.{flat_map, position_from}
+use Rattle.std.specs.List.{flat_map}
 use Rattle.std.specs.Option.{option_and_then, option_map_or}
 use Rattle.std.specs.Str.{bytes_eq}
 use Rattle.nddl_ast.specs.declared.expression.Constant.{Constant}
@@ -20,10 +20,9 @@ use Rattle.nddl_scope.specs.declared.scope.Meaning.TheVariants as meanings
 use Rattle.nddl_scope.specs.Finding.{faults_here}
 use Rattle.nddl_scope.specs.Scope.{fault_if, meaning_of}
 use Rattle.nddl_sorts.specs.declared.kind.TypeKind.{TypeKind}
-use Rattle.nddl_paths.specs.declared.denoted.Seen.{Seen}
 use Rattle.nddl_paths.specs.Paths.{expr_denoted}
-use Rattle.nddl_constructors.specs.Bodies.{around_formals}
 use Rattle.nddl_constructors.specs.Constants.{is_understood, wanted_at}
+use Rattle.nddl_constructors.specs.Formals.{around_formals, formal_number}
 use Rattle.nddl_data.specs.declared.made.Datum.{Datum}
 use Rattle.nddl_data.specs.declared.made.Datum.TheVariants as datums
 use Rattle.nddl_data.specs.declared.made.FieldValue.{FieldValue}
@@ -53,10 +52,6 @@ entry_datum grounds entry =
 abbrev pub meaning_datum : Grounds → Option Meaning → Option Datum
 meaning_datum grounds (Some (meanings.Entry entry)) = entry_datum grounds entry
 meaning_datum grounds meaning = None
-
--- the number of the formal of this name
-abbrev pub formal_number : List Seen → List ℕ → Option ℕ
-formal_number formals name = position_from (λ formal. bytes_eq name formal.name) 0 formals
 
 -- the value of this number, if there is one
 abbrev pub datum_at : List (Option Datum) → ℕ → Option Datum

@@ -2,6 +2,7 @@
 use Rattle.std.specs.Prelude.{ℕ, List, Option}
 use Rattle.nddl_lines.specs.Facts.{Facts, facts_of}
 use Rattle.nddl_paths.specs.declared.denoted.Seen.{Seen}
+use Rattle.nddl_paths.specs.Seen.{seen_in}
 use Rattle.nddl_data.specs.declared.made.Datum.{Datum}
 use Rattle.nddl_data.specs.declared.made.Ground as ground_code
 use Rattle.nddl_data.specs.declared.made.Scene as scene_code
@@ -22,4 +23,4 @@ pub record Scenery : Type 0 where
   pub values : List (Option Datum)
 
 abbrev pub scenery_of : scene_code.Scene → Scenery
-scenery_of scene = record { decl = scene.decl; formals = scene.formals.now; values = scene.values.now }
+scenery_of scene = record { decl = scene.decl; formals = seen_in scene.formals; values = scene.values.now }

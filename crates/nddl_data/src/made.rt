@@ -1,9 +1,12 @@
 //! Values of fields, and the objects that are made so far.
 
+ghost use Rattle.std.specs.Prelude.{◌≡◌};
+ghost use Rattle.nddl_data.specs.Scene.{scenery_of};
+
 use eu_name::sequence::Sequence;
 use eu_name::text::Text;
+use nddl_constructors::Formals;
 use nddl_lines::Basis;
-use nddl_paths::Seen;
 use nddl_scope::Meaning;
 
 /// A value that is settled.
@@ -50,10 +53,24 @@ pub struct Ground<'a> {
     pub standing: &'a [Standing],
 }
 
-/// Where a value is written: the number of the declaration, the formals of the constructor, and their values.
+/// Where a value is written: the number of the declaration, the formals of the constructor, where it is in one, and their
+/// values.
 #[derive(Clone, Copy)]
 pub struct Scene<'a> {
     pub decl: usize,
-    pub formals: &'a [Seen],
+    pub formals: Option<&'a Formals>,
     pub values: &'a [Option<Datum>],
+}
+
+impl<'a> Scene<'a> {
+    /// The body of a constructor that has these formals, and is passed these values.
+    pub fn in_body(decl: usize, formals: &'a Formals, values: &'a [Option<Datum>]) -> Scene<'a>
+        ensures { scenery_of result ≡ record { decl = decl; formals = formals.now; values = values.now } }
+    {
+        Scene {
+            decl,
+            formals: Some(formals),
+            values,
+        }
+    }
 }

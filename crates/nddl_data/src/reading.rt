@@ -2,7 +2,9 @@
 
 ghost use Rattle.std.specs.Prelude.{◌≡◌, IfOk, slice_get};
 ghost use Rattle.nddl_scope.specs.Finding.{earliest_fault};
-ghost use Rattle.nddl_data.specs.Reading.{all_unmade_faults, data_behind, datum_at, datum_behind, entry_datum, expr_datum, field_datum, first_datum, formal_number, is_unmade, is_unmade_meaning, is_unmade_sort, is_unmade_standing, is_well_written, literal_datum, meaning_datum, path_datum, settled_data, settled_datum, sort_datum, standing_datum, unmade_faults};
+ghost use Rattle.nddl_paths.specs.Seen.{seen_in};
+ghost use Rattle.nddl_constructors.specs.Formals.{formal_number};
+ghost use Rattle.nddl_data.specs.Reading.{all_unmade_faults, data_behind, datum_at, datum_behind, entry_datum, expr_datum, field_datum, first_datum, is_unmade, is_unmade_meaning, is_unmade_sort, is_unmade_standing, is_well_written, literal_datum, meaning_datum, path_datum, settled_data, settled_datum, sort_datum, standing_datum, unmade_faults};
 ghost use Rattle.nddl_data.specs.Scene.{grounds_of, scenery_of};
 
 use super::made::{Datum, FieldValue, Ground, MadeObject, Scene, Standing};
@@ -10,9 +12,10 @@ use eu_name::text::Text;
 use nddl_ast::TextKind;
 use nddl_ast::expression::{Constant, Expr};
 use nddl_ast::name::{Name, Path};
-use nddl_constructors::bodies::around_formals;
+use nddl_constructors::Formals;
 use nddl_constructors::constants::{is_understood, wanted_at};
-use nddl_paths::{Seen, expr_denoted};
+use nddl_constructors::formals::around_formals;
+use nddl_paths::expr_denoted;
 use nddl_scope::fault::note_at;
 use nddl_scope::twice::kind_if;
 use nddl_scope::{Fault, Meaning, Sort};
@@ -65,15 +68,13 @@ fn meaning_datum(footing: &Ground<'_>, meaning: Option<Meaning>) -> Option<Datum
 }
 
 // The number of the formal of this name.
-fn formal_number(formals: &[Seen], name: &Text) -> Option<usize>
-    ensures { result ≡ formal_number formals.now name.now }
+fn formal_number(formals: Option<&Formals>, name: &Text) -> Option<usize>
+    ensures { result ≡ formal_number (seen_in formals.entry) name.now }
 {
-    for (number, formal) in formals.iter().enumerate() {
-        if name.as_str() == formal.name.as_str() {
-            return Some(number);
-        }
+    match formals {
+        Some(formals) => formals.number(name),
+        None => None,
     }
-    None
 }
 
 /// The value of this number, if there is one.

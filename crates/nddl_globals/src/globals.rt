@@ -31,7 +31,7 @@ fn bare_scene() -> Scene<'static>
 {
     Scene {
         decl: 0,
-        formals: &[],
+        formals: None,
         values: &[],
     }
 }

@@ -14,9 +14,8 @@ use Rattle.nddl_ast.specs.declared.declaration.Decl.{Decl}
 use Rattle.nddl_scope.specs.declared.declared.Declared.{Declared}
 use Rattle.nddl_scope.specs.Scope.{meaning_of}
 use Rattle.nddl_lines.specs.Ancestors.{line_from, parent_in}
-use Rattle.nddl_lines.specs.Decls.{class_parent, declaration_with_body}
+use Rattle.nddl_lines.specs.Decls.{class_parent, decl_members, declaration_with_body}
 use Rattle.nddl_lines.specs.Lines.{is_rooted}
-use Rattle.nddl_inherited.specs.Inherited.{decl_members}
 use Rattle.nddl_inherited.specs.Shorter.{AreShorter, adding_along, adds_body, adds_declared, adds_members, has_named, is_builtin_class, is_marked, passed_over}
 use Rattle.nddl_lines.proofs.Ways.{ancestry_is, line_of_none, no_parent_is, parent_is, short_way}
 

@@ -4,7 +4,6 @@ use Rattle.std.specs.List.{filter_map}
 use Rattle.std.specs.Option.{option_map_or, option_and_then}
 use Rattle.lineage.specs.Lines.{standing_in}
 use Rattle.nddl_ast.specs.declared.declaration.Decl.{Decl}
-use Rattle.nddl_ast.specs.declared.declaration.Decl.TheVariants as decls
 use Rattle.nddl_ast.specs.declared.declaration.Member.{Member}
 use Rattle.nddl_ast.specs.declared.declaration.Member.TheVariants as members
 use Rattle.nddl_ast.specs.declared.name.Name.{Name}
@@ -14,7 +13,7 @@ use Rattle.nddl_scope.specs.declared.scope.Meaning.TheVariants as meanings
 use Rattle.nddl_scope.specs.Index.{Noted, with_noted}
 use Rattle.nddl_scope.specs.Scope.{is_class_at, meaning_of}
 use Rattle.nddl_lines.specs.Ancestors.{above, ancestry}
-use Rattle.nddl_lines.specs.Decls.{declaration_with_body}
+use Rattle.nddl_lines.specs.Decls.{decl_members, declaration_with_body}
 use Rattle.nddl_lines.specs.Facts.{Facts}
 use Rattle.nddl_lines.specs.Lines.{is_rooted}
 
@@ -40,10 +39,6 @@ member_name (members.Constructor name formals sets) = None
 
 abbrev pub member_names : List Member → List Name
 member_names some = filter_map member_name some
-
-abbrev pub decl_members : Decl → List Member
-decl_members (decls.Class at name parent members) = members
-decl_members decl = []
 
 -- the members of the class of this number
 abbrev pub members_of : List Declared → List Decl → ℕ → List Member

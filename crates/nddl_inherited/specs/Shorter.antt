@@ -12,9 +12,9 @@ use Rattle.nddl_scope.specs.declared.scope.Meaning.{Meaning}
 use Rattle.nddl_scope.specs.declared.scope.Meaning.TheVariants as meanings
 use Rattle.nddl_scope.specs.Scope.{meaning_of}
 use Rattle.nddl_lines.specs.Ancestors.{above, ancestry, parent_in}
-use Rattle.nddl_lines.specs.Decls.{class_parent, declaration_with_body}
+use Rattle.nddl_lines.specs.Decls.{class_parent, decl_members, declaration_with_body}
 use Rattle.nddl_lines.specs.Lines.{is_rooted}
-use Rattle.nddl_inherited.specs.Inherited.{decl_members, members_of}
+use Rattle.nddl_inherited.specs.Inherited.{members_of}
 
 -- the member is a field or a predicate
 abbrev pub is_named : Member → Bool

@@ -2,11 +2,11 @@
 
 ghost use Rattle.std.specs.Prelude.{◌≡◌, map};
 ghost use Rattle.std.specs.Option.{option_copied};
-ghost use Rattle.nddl_inherited.specs.Inherited.{decl_members, member_name, members_of};
+ghost use Rattle.nddl_inherited.specs.Inherited.{member_name, members_of};
 
 use nddl_ast::declaration::{Decl, Member};
 use nddl_ast::name::Name;
-use nddl_lines::decls::declaration_with_body;
+use nddl_lines::decls::{decl_members, declaration_with_body};
 use nddl_scope::Scope;
 
 /// The name of a field or of a predicate.
@@ -30,15 +30,5 @@ pub fn members_of<'a>(scope: &Scope, decls: &[&'a Decl], entry: usize) -> &'a [M
             None => &[],
         },
         None => &[],
-    }
-}
-
-/// The members of a class that is declared so.
-pub fn decl_members(decl: &Decl) -> &[Member]
-    ensures { result.now ≡ decl_members decl.now }
-{
-    match decl {
-        Decl::Class { members, .. } => members.as_slice(),
-        _ => &[],
     }
 }

@@ -9,12 +9,11 @@ ghost use Rattle.nddl_lines.specs.Ancestors.{ancestry, parent_in};
 ghost use Rattle.nddl_lines.specs.Decls.{class_parent};
 ghost use Rattle.nddl_inherited.specs.Shorter.{AddTheSame, AreShorter, adds_body, adds_declared, has_named, is_builtin_class, is_marked, is_named, passed_over};
 
-use super::members::decl_members;
 use lineage::Lineage;
 use nddl_ast::declaration::{Decl, Member};
 use nddl_lines::Basis;
 use nddl_lines::circles::is_rooted;
-use nddl_lines::decls::{class_parent, declaration_with_body};
+use nddl_lines::decls::{class_parent, decl_members, declaration_with_body};
 use nddl_lines::lines::{ancestry, line_along};
 use nddl_lines::parents::parent_in;
 use nddl_scope::{Declared, Meaning, Scope};

@@ -14,7 +14,7 @@ use nddl_ast::declaration::Decl;
 use nddl_ast::expression::Type;
 use nddl_lines::circles::is_rooted;
 use nddl_lines::decls::{decl_at, typedef_type};
-use nddl_lines::{Basis, Parents};
+use nddl_lines::{Basis, FieldIndex, Parents};
 use nddl_scope::{Scope, Sort};
 use nddl_sorts::{Extent, TypeMeaning, Types};
 use std::alloc::{AllocError, Global};
@@ -24,10 +24,12 @@ pub fn known_meanings(
     alloc: Global,
     scope: &Scope,
     decls: &[&Decl],
+    fields: &FieldIndex<'_>,
     parents: &Parents,
     lineage: &Lineage,
     whole: &Extent,
 ) -> Result<Vec<Option<TypeMeaning>>, AllocError>
+    requires fields { fields.now ≡ map (λ decl. decl.now) decls.now }
     requires parents { parents.now ≡ parents_of scope.now (map (λ decl. decl.now) decls.now) }
     requires lineage { IsLineageOf parents.now lineage.now.marks.items lineage.now.order.items }
     requires whole { whole.now ≡ Whole }
@@ -47,6 +49,7 @@ pub fn known_meanings(
             alloc,
             &*scope,
             &*decls,
+            &*fields,
             &*parents,
             &*lineage,
             &*whole,
@@ -74,12 +77,14 @@ fn meaning_by<'a>(
     alloc: Global,
     scope: &'a Scope,
     decls: &'a [&'a Decl],
+    fields: &'a FieldIndex<'a>,
     parents: &'a Parents,
     lineage: &'a Lineage,
     whole: &'a Extent,
     known: &'a [Option<TypeMeaning>],
     entry: usize,
 ) -> Result<Option<TypeMeaning>, AllocError>
+    requires fields { fields.now ≡ map (λ decl. decl.now) decls.now }
     requires parents { parents.now ≡ parents_of scope.now (map (λ decl. decl.now) decls.now) }
     requires whole { whole.now ≡ Whole }
     ensures { IfOk result (λ meaning. meaning ≡ known_meaning
@@ -99,6 +104,7 @@ fn meaning_by<'a>(
     let basis = Basis {
         types,
         decls,
+        fields,
         parents,
         lineage,
     };

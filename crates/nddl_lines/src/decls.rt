@@ -2,9 +2,9 @@
 
 ghost use Rattle.std.specs.Prelude.{◌≡◌, map, slice_get};
 ghost use Rattle.std.specs.Option.{option_and_then, option_copied};
-ghost use Rattle.nddl_lines.specs.Decls.{declaration_with_body, class_parent, decl_of_name, typedef_type};
+ghost use Rattle.nddl_lines.specs.Decls.{class_parent, decl_members, declaration_with_body, number_with_body, typedef_type};
 
-use nddl_ast::declaration::Decl;
+use nddl_ast::declaration::{Decl, Member};
 use nddl_ast::expression::Type;
 use nddl_ast::name::Name;
 use nddl_scope::{Declared, Scope};
@@ -36,6 +36,16 @@ pub fn typedef_type(decl: &Decl) -> Option<&Type>
     }
 }
 
+/// The members of a class that is declared so.
+pub fn decl_members(decl: &Decl) -> &[Member]
+    ensures { result.now ≡ decl_members decl.now }
+{
+    match decl {
+        Decl::Class { members, .. } => members.as_slice(),
+        _ => &[],
+    }
+}
+
 /// The first declaration of this class with its members.
 pub fn declaration_with_body<'a>(
     scope: &Scope,
@@ -47,4 +57,13 @@ pub fn declaration_with_body<'a>(
     let number = scope.body(&declared.name)?;
     let body = scope.names().get(number)?;
     decl_at(decls, body.place.decl)
+}
+
+/// The number of that declaration.
+pub fn number_with_body(scope: &Scope, declared: &Declared) -> Option<usize>
+    ensures { result ≡ number_with_body scope.now declared.now }
+{
+    let number = scope.body(&declared.name)?;
+    let body = scope.names().get(number)?;
+    Some(body.place.decl)
 }

@@ -1,12 +1,14 @@
 //! What the classes and the typedefs of a program stand under: `parents_of(alloc, &scope, decls)?` has it by the numbers
 //! of their names in the scope, and `Parents::of(alloc, parents, order)?` keeps it with shortcuts along their lines. Over
 //! their lineage `note_circles` tells which of them are their own ancestors, `ancestry` what classes lead up to, `is_under`
-//! whether one class stands under another, and `note_objects` which objects in the set of a type aren't of its class.
+//! whether one class stands under another, and `note_objects` which objects in the set of a type aren't of its class. `FieldIndex`
+//! finds the fields of a class by their names.
 #![tactic(auto)]
 
 pub mod basis;
 pub mod circles;
 pub mod decls;
+pub mod fields;
 pub mod lines;
 pub mod objects;
 pub mod parents;
@@ -14,4 +16,5 @@ pub mod shortcuts;
 pub mod under;
 
 pub use basis::Basis;
+pub use fields::FieldIndex;
 pub use shortcuts::Parents;

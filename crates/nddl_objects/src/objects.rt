@@ -37,7 +37,7 @@ fn scene_of(decl: usize) -> Scene<'static>
 {
     Scene {
         decl,
-        formals: &[],
+        formals: None,
         values: &[],
     }
 }

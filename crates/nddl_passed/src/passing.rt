@@ -12,8 +12,8 @@ use eu_name::sequence::Sequence;
 use nddl_ast::TextKind;
 use nddl_ast::declaration::{Member, Set, Typed};
 use nddl_ast::expression::Expr;
-use nddl_constructors::bodies::formals_seen;
 use nddl_constructors::creations::meaning_wants;
+use nddl_constructors::formals::formals_seen;
 use nddl_data::reading::{datum_at, note_all_unmade, settled_data};
 use nddl_data::{Datum, Ground, MadeObject, Scene, is_foreign_datum};
 use nddl_joined::Place;
@@ -146,13 +146,9 @@ fn super_data(
         found ≡ super_data (grounds_of footing.now) objects.now entry values.now constructor.now) }
 {
     let basis = &footing.basis;
-    let formals = formals_seen(alloc, basis, constructor_formals(constructor))?;
     let wants = wants_above(alloc, basis, entry)?;
-    let scene = Scene {
-        decl: body_decl(basis.types.scope, entry),
-        formals: formals.as_slice(),
-        values,
-    };
+    let formals = formals_seen(alloc, basis, constructor_formals(constructor))?;
+    let scene = Scene::in_body(body_decl(basis.types.scope, entry), &formals, values);
     let body = constructor_sets(constructor);
     handed_data(alloc, footing, &scene, objects, wants.as_slice(), body)
 }

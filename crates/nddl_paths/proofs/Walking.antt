@@ -1,14 +1,11 @@
 -- Names that are dealt with one after another.
 use Rattle.std.proofs.Common.{◌≡◌, ℕ, ◌+◌, ◌<◌, List, [], ◌∷◌, ◌++◌, length, drop, get_or, refl, sym, ◌∙◌, ap}
-use Rattle.std.specs.Option.{option_or}
-use Rattle.std.specs.Prelude.{Option, Some, None, Result, Ok, Err, IfOk}
+use Rattle.std.specs.Prelude.{Result, Ok, Err, IfOk}
 use Rattle.std.proofs.lemmas.List.{drop_more}
 use Rattle.nddl_ast.specs.declared.name.Name.{Name}
 use Rattle.nddl_lines.specs.Facts.{Facts}
 use Rattle.nddl_paths.specs.declared.denoted.Denoted.{Denoted}
 use Rattle.nddl_paths.specs.declared.denoted.PathFault.{PathFault}
-use Rattle.nddl_paths.specs.declared.denoted.Seen.{Seen}
-use Rattle.nddl_paths.specs.Paths.{last_seen, named_seen}
 use Rattle.nddl_paths.specs.Steps.{Understood, asked_rest, found_next, path_step, path_steps, token_step}
 
 -- the item that is read, and those behind it
@@ -76,19 +73,3 @@ pub asks_fault : (facts : Facts) (first : ℕ) (owner : Denoted) (fault : PathFa
     → Err fault ≡ path_steps facts first owner names → Err fault ≡ asked_rest facts first owner (names ++ last ∷ [])
 asks_fault facts first owner fault names last means =
     ap (found_next (λ further. token_step facts first further last)) means ∙ sym (asks_last facts first owner names last)
-
--- ---- names that stand around
-
-or_behind : {X : Type 0} (a b c : Option X) → option_or a (option_or b c) ≡ option_or (option_or a b) c
-or_behind None b c = refl
-or_behind (Some x) b c = refl
-
--- one name more has been compared
-pub seen_step : (name : List ℕ) (some : List Seen) (i : ℕ) (seen : Seen) (old new whole : Option Denoted)
-    → i < length some → seen ≡ get_or some i seen → new ≡ option_or (named_seen name seen) old
-    → option_or (last_seen name (drop i some)) old ≡ whole → option_or (last_seen name (drop (i + 1) some)) new ≡ whole
-seen_step name some i seen old new whole within is compared so_far =
-    let behind = last_seen name (drop (i + 1) some) in
-    ap (option_or behind) compared
-    ∙ (or_behind behind (named_seen name seen) old
-    ∙ (ap (λ left. option_or (last_seen name left) old) (dropped some i seen within is) ∙ so_far))

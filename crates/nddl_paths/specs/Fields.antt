@@ -1,5 +1,5 @@
 -- The fields that a class has by their names.
-use Rattle.std.specs.Prelude.{ℕ, Bool, true, false, List, [], ◌∷◌, Option, Some, None, if◌then◌else◌}
+use Rattle.std.specs.Prelude.{ℕ, Bool, true, false, List, [], ◌∷◌, Option, Some, None}
 use Rattle.std.specs.List.{filter_map, list_any}
 use Rattle.std.specs.Option.{option_map_or, option_or}
 use Rattle.std.specs.Str.{bytes_eq}
@@ -14,8 +14,9 @@ use Rattle.nddl_sorts.specs.declared.kind.TypeMeaning.{TypeMeaning}
 use Rattle.nddl_sorts.specs.Bases.{base_kind}
 use Rattle.nddl_lines.specs.Ancestors.{above, ancestry}
 use Rattle.nddl_lines.specs.Facts.{Facts}
+use Rattle.nddl_lines.specs.Fields.{member_field, named_typed}
 use Rattle.nddl_inherited.specs.Inherited.{members_of}
-use Rattle.nddl_schema.specs.Classes.{builtin_fields, member_field}
+use Rattle.nddl_schema.specs.Classes.{builtin_fields}
 use Rattle.nddl_paths.specs.declared.denoted.Denoted.{Denoted}
 use Rattle.nddl_paths.specs.declared.denoted.Denoted.TheVariants as denoted
 
@@ -23,11 +24,6 @@ use Rattle.nddl_paths.specs.declared.denoted.Denoted.TheVariants as denoted
 abbrev pub type_value : List Declared → List (Option TypeMeaning) → Bool → types.Type → Denoted
 type_value names known constant type =
     option_map_or (λ kind. denoted.Value kind constant) (base_kind names known type.base) denoted.Unsettled
-
--- the first of these of this name
-abbrev pub named_typed : List ℕ → List Typed → Option Typed
-named_typed name [] = None
-named_typed name (typed ∷ more) = if bytes_eq name typed.name.text then Some typed else named_typed name more
 
 -- the field of this name that one of the classes of a line declares
 abbrev pub field_along : List Declared → List Decl → List ℕ → List ℕ → Option Typed

@@ -33,7 +33,7 @@ pub record Surroundings : Type 0 where
 -- those that the code keeps
 abbrev pub around_of : code.Around → Surroundings
 around_of around = record {
-  formals = around.formals.now;
+  formals = seen_in around.formals;
   turns = seen_in around.turns;
   locals = seen_in around.locals;
   labels = seen_in around.labels;

@@ -15,6 +15,7 @@ use Rattle.nddl_sorts.specs.declared.kind.TypeKind.{TypeKind}
 use Rattle.nddl_sorts.specs.declared.kind.TypeKind.TheVariants as kinds
 use Rattle.nddl_lines.specs.Ancestors.{above, ancestry}
 use Rattle.nddl_lines.specs.Facts.{Facts}
+use Rattle.nddl_lines.specs.Fields.{named_typed}
 use Rattle.nddl_inherited.specs.Inherited.{members_of}
 use Rattle.nddl_classes.specs.Members.{parameters_of}
 use Rattle.nddl_schema.specs.Predicates.{builtin_preds}
@@ -23,7 +24,7 @@ use Rattle.nddl_paths.specs.declared.denoted.Denoted.TheVariants as denoted
 use Rattle.nddl_paths.specs.declared.denoted.Predicate.{Predicate}
 use Rattle.nddl_paths.specs.declared.denoted.Predicate.TheVariants as predicates
 use Rattle.nddl_paths.specs.declared.denoted.TokenSort.{TokenSort}
-use Rattle.nddl_paths.specs.Fields.{named_typed, type_value}
+use Rattle.nddl_paths.specs.Fields.{type_value}
 
 -- the member is a predicate of this name
 abbrev pub is_predicate_named : List ℕ → Member → Bool

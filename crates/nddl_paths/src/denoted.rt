@@ -45,7 +45,7 @@ pub struct PathFault {
     pub at: u32,
 }
 
-/// A name with what it means.
+/// A name with what it means. Contracts see names as lists of these.
 #[derive(Drop)]
 pub struct Seen {
     pub name: Text,
@@ -55,8 +55,8 @@ pub struct Seen {
 /// What names mean where a path stands, beside those of the files. Of each sort the innermost come last.
 #[derive(Clone, Copy)]
 pub struct Around<'a> {
-    /// The formals of a constructor.
-    pub formals: &'a [Seen],
+    /// The formals of a constructor, where there may be any.
+    pub formals: Option<&'a SeenNames>,
     /// The variables of `foreach`, where there may be any.
     pub turns: Option<&'a SeenNames>,
     pub locals: Option<&'a SeenNames>,

@@ -2,19 +2,21 @@
 
 ghost use Rattle.std.specs.Prelude.{◌≡◌, IfOk, map, bytes_eq};
 ghost use Rattle.std.specs.List.{filter_map};
-ghost use Rattle.std.specs.Option.{option_copied};
+ghost use Rattle.std.specs.Option.{option_and_then, option_copied};
+ghost use Rattle.nddl_inherited.specs.Inherited.{members_of};
+ghost use Rattle.nddl_lines.specs.Decls.{number_with_body};
 ghost use Rattle.nddl_lines.specs.Facts.{facts_of};
-ghost use Rattle.nddl_schema.specs.Classes.{member_field};
-ghost use Rattle.nddl_paths.specs.Fields.{class_field, number_field, field_along, is_builtin_field, is_given_field, is_given_along, line_field, named_typed, type_value};
+ghost use Rattle.nddl_lines.specs.Fields.{field_declared, member_field, named_typed};
+ghost use Rattle.nddl_paths.specs.Fields.{class_field, number_field, field_along, is_builtin_field, is_given_field, is_given_along, line_field, type_value};
 
 use super::denoted::Denoted;
 use eu_name::text::Text;
-use nddl_ast::declaration::{Decl, Member, Typed};
+use nddl_ast::declaration::{Decl, Typed};
 use nddl_ast::expression::Type;
-use nddl_inherited::members_of;
 use nddl_lines::Basis;
+use nddl_lines::decls::number_with_body;
 use nddl_lines::lines::{above, ancestry};
-use nddl_scope::{Meaning, Scope};
+use nddl_scope::{Declared, Meaning, Scope};
 use nddl_sorts::base::base_kind;
 use nddl_sorts::{TypeKind, Types};
 use std::alloc::{AllocError, Global};
@@ -67,41 +69,47 @@ fn line_field(basis: &Basis<'_>, constant: bool, name: &Text, line: &[usize]) ->
     ensures { result ≡ line_field (facts_of basis.now) constant name.now line.now }
 {
     let scope = basis.types.scope;
-    match field_along(scope, basis.decls, name, line) {
+    match field_along(basis, name, line) {
         Some(typed) => Some(type_value(&basis.types, constant, &typed.declared)),
         None => number_field(constant, is_given_along(scope, basis.decls, name, line)),
     }
 }
 
 /// The field of this name that one of the classes declares.
-pub fn field_along<'a>(
-    scope: &Scope,
-    decls: &[&'a Decl],
-    name: &Text,
-    line: &[usize],
-) -> Option<&'a Typed>
-    ensures { option_copied result ≡ field_along scope.now (map (λ decl. decl.now) decls.now) name.now line.now }
+pub fn field_along<'a>(basis: &Basis<'a>, name: &Text, line: &[usize]) -> Option<&'a Typed>
+    ensures { option_copied result ≡ field_along basis.now.types.scope.now
+        (map (λ decl. decl.now) basis.now.decls.now) name.now line.now }
 {
     for entry in line {
-        if let Some(typed) = field_named(members_of(scope, decls, *entry), name) {
+        if let Some(typed) = own_field(basis, name, *entry) {
             return Some(typed);
         }
     }
     None
 }
 
-// The field of this name among the members.
-fn field_named<'a>(members: &'a [Member], name: &Text) -> Option<&'a Typed>
-    ensures { option_copied result ≡ named_typed name.now (filter_map member_field members.now) }
+// The field of this name that the class of this number declares.
+fn own_field<'a>(basis: &Basis<'a>, name: &Text, entry: usize) -> Option<&'a Typed>
+    ensures { option_copied result ≡ named_typed name.now (filter_map member_field
+        (members_of basis.now.types.scope.now (map (λ decl. decl.now) basis.now.decls.now) entry)) }
 {
-    for member in members {
-        if let Member::Field(typed) = member {
-            if has_name(typed, name) {
-                return Some(typed);
-            }
-        }
+    let scope = basis.types.scope;
+    match scope.names().get(entry) {
+        Some(declared) => declared_field(basis, name, declared),
+        None => None,
     }
-    None
+}
+
+// The field of this name that this class declares.
+fn declared_field<'a>(basis: &Basis<'a>, name: &Text, declared: &Declared) -> Option<&'a Typed>
+    ensures { option_copied result ≡ option_and_then
+        (λ number. field_declared (map (λ decl. decl.now) basis.now.decls.now) number name.now)
+        (number_with_body basis.now.types.scope.now declared.now) }
+{
+    match number_with_body(basis.types.scope, declared) {
+        Some(number) => basis.fields.find(number, name),
+        None => None,
+    }
 }
 
 /// Whether this is the name that is declared.

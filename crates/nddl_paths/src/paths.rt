@@ -1,12 +1,11 @@
 //! Paths, and what can be an argument.
 
 ghost use Rattle.std.specs.Prelude.{◌≡◌, IfOk};
-ghost use Rattle.std.specs.Option.{option_or};
 ghost use Rattle.nddl_lines.specs.Facts.{facts_of};
-ghost use Rattle.nddl_paths.specs.Paths.{around_of, asked_token, constant_of, expr_denoted, first_denoted, last_seen, literal_denoted, named_seen, near_denoted, own_denoted, path_denoted};
+ghost use Rattle.nddl_paths.specs.Paths.{around_of, asked_token, constant_of, expr_denoted, first_denoted, last_seen, literal_denoted, near_denoted, own_denoted, path_denoted};
 ghost use Rattle.nddl_paths.specs.Seen.{seen_in};
 
-use super::denoted::{Around, Denoted, PathFault, Seen};
+use super::denoted::{Around, Denoted, PathFault};
 use super::files::file_denoted;
 use super::predicates::token_part;
 use super::seen::SeenNames;
@@ -109,41 +108,19 @@ fn first_denoted(
 fn near_denoted(around: &Around<'_>, name: &Text) -> Option<Denoted>
     ensures { result ≡ near_denoted (around_of around.now) name.now }
 {
-    last_seen(around.formals, name)
+    last_in(around.formals, name)
         .or(last_in(around.turns, name))
         .or(last_in(around.locals, name))
         .or(last_in(around.labels, name))
 }
 
-// What the last of these of this name means.
-fn last_seen(seen: &[Seen], name: &Text) -> Option<Denoted>
-    ensures { result ≡ last_seen name.now seen.now }
-{
-    let mut found = None;
-    for other in seen {
-        found = seen_or(name, other, found);
-    }
-    found
-}
-
-// The same in a list, if there is one.
+// What the last of these of this name means, if there are any.
 fn last_in(seen: Option<&SeenNames>, name: &Text) -> Option<Denoted>
     ensures { result ≡ last_seen name.now (seen_in seen.entry) }
 {
     match seen {
         Some(seen) => seen.last(name),
         None => None,
-    }
-}
-
-// What it means, if this is its name, and else this.
-fn seen_or(name: &Text, seen: &Seen, found: Option<Denoted>) -> Option<Denoted>
-    ensures { result ≡ option_or (named_seen name.now seen.now) found }
-{
-    if name.as_str() == seen.name.as_str() {
-        Some(seen.denoted)
-    } else {
-        found
     }
 }
 

@@ -5,7 +5,7 @@ ghost use Rattle.std.specs.List.{position_from};
 ghost use Rattle.std.specs.Option.{option_copied};
 ghost use Rattle.nddl_classes.specs.Members.{parameters_of};
 ghost use Rattle.nddl_lines.specs.Facts.{facts_of};
-ghost use Rattle.nddl_paths.specs.Fields.{named_typed};
+ghost use Rattle.nddl_lines.specs.Fields.{named_typed};
 ghost use Rattle.nddl_paths.specs.Predicates.{builtin_if, class_predicate, changing_value, declared_parts, is_builtin_pred, is_given_pred, is_pred_given_along, is_predicate_named, is_time_word, line_predicate, member_parts, parameter_value, predicate_along, token_part};
 
 use super::denoted::{Denoted, Predicate, TokenSort};

@@ -27,8 +27,8 @@ use Rattle.nddl_paths.specs.Steps.{Understood, settled}
 use Rattle.nddl_arguments.specs.Calls.{no_act_faults}
 use Rattle.nddl_arguments.specs.Slots.{unwanted_faults}
 use Rattle.nddl_arguments.specs.Values.{kind_of_value}
-use Rattle.nddl_constructors.specs.Bodies.{around_formals}
 use Rattle.nddl_constructors.specs.Constants.{value_faults}
+use Rattle.nddl_constructors.specs.Formals.{around_formals}
 use Rattle.nddl_problem_texts.specs.declared.acts.Act.{Act}
 use Rattle.nddl_problem_texts.specs.declared.acts.Act.TheVariants as acts
 

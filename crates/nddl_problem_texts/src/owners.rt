@@ -7,7 +7,7 @@ ghost use Rattle.nddl_problem_texts.specs.Acts.{file_path_denoted, is_label_mean
 ghost use Rattle.nddl_problem_texts.specs.Posted.{is_owner, is_owner_sort};
 
 use nddl_ast::name::Name;
-use nddl_constructors::bodies::around_formals;
+use nddl_constructors::formals::around_formals;
 use nddl_lines::Basis;
 use nddl_paths::files::file_denoted;
 use nddl_paths::steps::{path_steps, unknown_at};
@@ -64,7 +64,7 @@ pub fn is_label_meaning(scope: &Scope, meaning: Option<Meaning>) -> bool
 pub fn nothing_around() -> Around<'static>
     ensures { around_of result ≡ nothing_around }
 {
-    around_formals(&[])
+    around_formals(None)
 }
 
 /// What the path of these names means outside of rules and constructors.

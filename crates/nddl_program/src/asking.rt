@@ -22,7 +22,7 @@ use nddl_joined::place::file_of;
 use nddl_joined::{Site, join};
 use nddl_known::known_meanings;
 use nddl_lines::parents::parents_of;
-use nddl_lines::{Basis, Parents};
+use nddl_lines::{Basis, FieldIndex, Parents};
 use nddl_scope::{Fault, Scope, declared_names};
 use nddl_sorts::{Extent, TypeMeaning, Types};
 use std::alloc::{AllocError, Global};
@@ -133,13 +133,44 @@ fn ask_over<Q: Question>(
     requires lineage { IsLineageOf parents.now lineage.now.marks.items lineage.now.order.items }
     ensures { IfOk result (Q.answers question.now program.now.files.now) }
 {
+    let fields = FieldIndex::of(alloc, program.decls)?;
+    ask_among(
+        alloc, &*program, &*scope, &fields, &*parents, &*lineage, question,
+    )
+}
+
+// The same, among the fields of classes.
+fn ask_among<'a, Q: Question>(
+    alloc: Global,
+    program: &'a Program<'a>,
+    scope: &'a Scope,
+    fields: &'a FieldIndex<'a>,
+    parents: &'a Parents,
+    lineage: &'a Lineage,
+    question: &Q,
+) -> Result<Q::Answer, AllocError>
+    requires names { scope.now ≡ scope_names (joined_decls program.now.files.now) }
+    requires fields { fields.now ≡ map (λ decl. decl.now) program.now.decls.now }
+    requires parents { parents.now ≡ parents_of scope.now (map (λ decl. decl.now) program.now.decls.now) }
+    requires lineage { IsLineageOf parents.now lineage.now.marks.items lineage.now.order.items }
+    ensures { IfOk result (Q.answers question.now program.now.files.now) }
+{
     let short = shortened(alloc, scope, program.decls, parents.as_slice(), lineage)?;
     let whole = Extent::Whole;
-    let known = known_meanings(alloc, scope, program.decls, parents, lineage, &whole)?;
+    let known = known_meanings(
+        alloc,
+        scope,
+        program.decls,
+        fields,
+        parents,
+        lineage,
+        &whole,
+    )?;
     ask_by(
         alloc,
         &*program,
         &*scope,
+        &*fields,
         &*parents,
         &*lineage,
         short.as_slice(),
@@ -154,6 +185,7 @@ fn ask_by<'a, Q: Question>(
     alloc: Global,
     program: &'a Program<'a>,
     scope: &'a Scope,
+    fields: &'a FieldIndex<'a>,
     parents: &'a Parents,
     lineage: &'a Lineage,
     short: &'a [Option<usize>],
@@ -161,6 +193,7 @@ fn ask_by<'a, Q: Question>(
     whole: &'a Extent,
     question: &Q,
 ) -> Result<Q::Answer, AllocError>
+    requires fields { fields.now ≡ map (λ decl. decl.now) program.now.decls.now }
     requires parents { parents.now ≡ parents_of scope.now (map (λ decl. decl.now) program.now.decls.now) }
     requires whole { whole.now ≡ Whole }
     requires short { AreShorter scope.now (map (λ decl. decl.now) program.now.decls.now) parents.now
@@ -183,6 +216,7 @@ fn ask_by<'a, Q: Question>(
     let basis = Basis {
         types,
         decls: program.decls,
+        fields,
         parents,
         lineage,
     };

@@ -15,8 +15,9 @@ use nddl_ast::TextKind;
 use nddl_ast::declaration::{Member, Set};
 use nddl_ast::expression::{Creation, Expr, Init};
 use nddl_ast::name::Name;
-use nddl_constructors::bodies::{field_in_line, field_kind, formals_seen};
+use nddl_constructors::bodies::{field_in_line, field_kind};
 use nddl_constructors::class_wants;
+use nddl_constructors::formals::formals_seen;
 use nddl_data::reading::{datum_at, note_all_unmade};
 use nddl_data::{
     Datum, FieldValue, Ground, MadeObject, Scene, is_outside_type, note_unmade, settled_data,
@@ -46,7 +47,7 @@ fn is_outside_field(
 {
     let basis = &footing.basis;
     let line = ancestry(alloc, basis.parents, entry)?;
-    match field_along(basis.types.scope, basis.decls, name, line.as_slice()) {
+    match field_along(basis, name, line.as_slice()) {
         Some(typed) => is_outside_type(alloc, footing, objects, &typed.declared, value),
         None => Ok(false),
     }
@@ -405,16 +406,41 @@ fn run_body(
 {
     let basis = &footing.basis;
     let formals = formals_seen(alloc, basis, constructor_formals(constructor))?;
-    let scene = Scene {
-        decl: body_decl(basis.types.scope, entry),
-        formals: formals.as_slice(),
-        values,
-    };
-    note_passed(alloc, footing, &scene, subject, entry, constructor, making)?;
-    run_parts(
+    let scene = Scene::in_body(body_decl(basis.types.scope, entry), &formals, values);
+    run_scene(
         alloc,
         footing,
         &scene,
+        subject,
+        entry,
+        constructor,
+        levels,
+        making,
+    )
+}
+
+// The same, where this is its scene.
+#[cycle(making)]
+fn run_scene(
+    alloc: Global,
+    footing: &Ground<'_>,
+    scene: &Scene<'_>,
+    subject: &Subject<'_>,
+    entry: usize,
+    constructor: &Member,
+    levels: usize,
+    making: &mut Making,
+) -> Result<(), AllocError>
+    requires { scenery_of scene.now ≡ constructor_scene (facts_of footing.now.basis) entry constructor.now scene.now.values.now }
+    ensures { OnOk result (construction_of making.new ≡ body_run (made_by levels (grounds_of footing.now)) levels
+        (grounds_of footing.now) (subject_of subject.now) entry scene.now.values.now constructor.now
+        (construction_of making.old)) }
+{
+    note_passed(alloc, footing, scene, subject, entry, constructor, making)?;
+    run_parts(
+        alloc,
+        footing,
+        scene,
         subject,
         entry,
         constructor_sets(constructor),

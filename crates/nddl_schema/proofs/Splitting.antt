@@ -10,9 +10,10 @@ use Rattle.nddl_ast.specs.declared.declaration.Member.{Member}
 use Rattle.nddl_ast.specs.declared.declaration.PredicatePart.{PredicatePart}
 use Rattle.nddl_ast.specs.declared.declaration.Typed.{Typed}
 use Rattle.nddl_lines.specs.Facts.{Facts}
+use Rattle.nddl_lines.specs.Fields.{member_field}
 use Rattle.nddl_classes.specs.Members.{parameter_of, parameters_of}
 use Rattle.nddl_variables.specs.Declares.{declared_variable, variables_of}
-use Rattle.nddl_schema.specs.Classes.{builtin_class, builtin_classes, declared_fields, member_field}
+use Rattle.nddl_schema.specs.Classes.{builtin_class, builtin_classes, declared_fields}
 
 -- one item more has been dealt with, where what is made of a list is what is made of its parts
 split_step : {X Y : Type 0} (f : List X → List Y) → ((x : X) (xs : List X) → f (x ∷ xs) ≡ f (x ∷ []) ++ f xs)

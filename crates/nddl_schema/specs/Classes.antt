@@ -9,8 +9,6 @@ use Rattle.model_core.specs.declared.variable.VarDecl.{VarDecl}
 use Rattle.nddl_ast.specs.declared.declaration.Decl.{Decl}
 use Rattle.nddl_ast.specs.declared.declaration.Decl.TheVariants as decls
 use Rattle.nddl_ast.specs.declared.declaration.Member.{Member}
-use Rattle.nddl_ast.specs.declared.declaration.Member.TheVariants as members
-use Rattle.nddl_ast.specs.declared.declaration.Typed.{Typed}
 use Rattle.nddl_scope.specs.declared.declared.Declared.{Declared}
 use Rattle.nddl_scope.specs.declared.scope.Meaning.{Meaning}
 use Rattle.nddl_scope.specs.declared.scope.Meaning.TheVariants as meanings
@@ -18,6 +16,7 @@ use Rattle.nddl_scope.specs.Names.{is_class_sort}
 use Rattle.nddl_scope.specs.Scope.{named_number}
 use Rattle.nddl_lines.specs.Ancestors.{above, ancestry}
 use Rattle.nddl_lines.specs.Facts.{Facts}
+use Rattle.nddl_lines.specs.Fields.{member_field}
 use Rattle.nddl_inherited.specs.Inherited.{members_of}
 use Rattle.nddl_variables.specs.Declares.{number_variable, variables_of}
 
@@ -81,11 +80,6 @@ builtin_fields number =
 abbrev pub given_fields : Option Meaning → List VarDecl
 given_fields (Some (meanings.BuiltIn number)) = builtin_fields number
 given_fields meaning = []
-
--- the field that a member is
-abbrev pub member_field : Member → Option Typed
-member_field (members.Field typed) = Some typed
-member_field member = None
 
 -- the fields that members declare
 abbrev pub declared_fields : Facts → List Enum → List Member → List VarDecl

@@ -2,10 +2,9 @@
 
 ghost use Rattle.std.specs.Prelude.{◌≡◌, ◌++◌, ◌∷◌, [], IfOk, OnOk, map};
 ghost use Rattle.std.specs.List.{flat_map};
-ghost use Rattle.std.specs.Option.{option_copied};
 ghost use Rattle.nddl_lines.specs.Facts.{facts_of};
 ghost use Rattle.nddl_inherited.specs.Shorter.{AddTheSame};
-ghost use Rattle.nddl_schema.specs.Classes.{class_fields, compiled_class, classes_of, declared_fields, member_field, fields_at, line_down, name_of_entry};
+ghost use Rattle.nddl_schema.specs.Classes.{class_fields, compiled_class, classes_of, declared_fields, fields_at, line_down, name_of_entry};
 
 use super::builtin::{builtin_classes, push_given_fields};
 use super::numbers::parent_number;
@@ -14,8 +13,9 @@ use eu_name::sequence::Sequence;
 use eu_name::text::Text;
 use model_core::class::Class;
 use model_core::variable::VarDecl;
-use nddl_ast::declaration::{Member, Typed};
+use nddl_ast::declaration::Member;
 use nddl_inherited::{Heritage, adding_line, members_of};
+use nddl_lines::fields::member_field;
 use nddl_lines::lines::above;
 use nddl_scope::Scope;
 use nddl_variables::push_variable;
@@ -165,15 +165,5 @@ fn push_declared_field(
     match member_field(member) {
         Some(typed) => push_variable(alloc, &sources.heritage.basis, sources.enums, typed, fields),
         None => Ok(()),
-    }
-}
-
-// The field that the member is.
-fn member_field(member: &Member) -> Option<&Typed>
-    ensures { option_copied result ≡ member_field member.now }
-{
-    match member {
-        Member::Field(typed) => Some(typed),
-        _ => None,
     }
 }

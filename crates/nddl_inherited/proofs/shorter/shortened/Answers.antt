@@ -1,4 +1,4 @@
-use Rattle.std.proofs.Common.{◌≡◌, ℕ, List, ◌+◌, get_or, map, sym, ◌∙◌, ap, subst}
+use Rattle.std.proofs.Common.{ℕ, List, ◌+◌, get_or, map, sym, ◌∙◌, ap, subst}
 use Rattle.std.specs.Prelude.{Option, slice_set}
 use Rattle.std.proofs.lemmas.Option.{slice_get-get_or}
 use Rattle.lineage.specs.Lines.{IsLineageOf}

@@ -6,37 +6,40 @@ use Rattle.nddl_running.specs.Made.{classes_run, made_by, parts_run}
 use Rattle.nddl_running.proofs.running.+making.Given as goal
 
 abbrev pub decreases-make_new : goal.decreases-make_new
-decreases-make_new l = 11 * l.levels + 2
+decreases-make_new l = 12 * l.levels + 2
 
 abbrev pub decreases-make_class : goal.decreases-make_class
-decreases-make_class l = 11 * l.levels + 1
+decreases-make_class l = 12 * l.levels + 1
 
 abbrev pub decreases-make : goal.decreases-make
-decreases-make l = 11 * l.levels
+decreases-make l = 12 * l.levels
 
 abbrev pub decreases-run_object : goal.decreases-run_object
-decreases-run_object l = 11 * l.levels + 10
+decreases-run_object l = 12 * l.levels + 11
 
 abbrev pub decreases-run_classes : goal.decreases-run_classes
-decreases-run_classes l = 11 * l.levels + 9
+decreases-run_classes l = 12 * l.levels + 10
 
 abbrev pub decreases-run_class : goal.decreases-run_class
-decreases-run_class l = 11 * l.levels + 8
+decreases-run_class l = 12 * l.levels + 9
 
 abbrev pub decreases-run_body : goal.decreases-run_body
-decreases-run_body l = 11 * l.levels + 7
+decreases-run_body l = 12 * l.levels + 8
+
+abbrev pub decreases-run_scene : goal.decreases-run_scene
+decreases-run_scene l = 12 * l.levels + 7
 
 abbrev pub decreases-run_parts : goal.decreases-run_parts
-decreases-run_parts l = 11 * l.levels + 6
+decreases-run_parts l = 12 * l.levels + 6
 
 abbrev pub decreases-run_part : goal.decreases-run_part
-decreases-run_part l = 11 * l.levels + 5
+decreases-run_part l = 12 * l.levels + 5
 
 abbrev pub decreases-set_init : goal.decreases-set_init
-decreases-set_init l = 11 * l.levels + 4
+decreases-set_init l = 12 * l.levels + 4
 
 abbrev pub decreases-set_new : goal.decreases-set_new
-decreases-set_new l = 11 * l.levels + 3
+decreases-set_new l = 12 * l.levels + 3
 
 -- what comes of the classes that are left from here comes of all from the start
 abbrev pub invariant-run_classes-loop-passed : goal.invariant-run_classes-loop-passed
