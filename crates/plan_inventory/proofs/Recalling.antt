@@ -4,7 +4,6 @@ use Rattle.eu_name.specs.declared.name.TokenName.{TokenName}
 use Rattle.model_core.specs.declared.model.Model.{Model}
 use Rattle.plan_defs.specs.declared.plan.Plan.{Plan}
 use Rattle.plan_defs.specs.Valid.{IsActivatedAt}
-use Rattle.plan_inventory.specs.declared.marks.Marks.{Marks}
 use Rattle.plan_inventory.specs.declared.recalled.Recalled.{Recalled}
 use Rattle.plan_inventory.specs.Marking.{MarksRule}
 use Rattle.plan_inventory.specs.Recalling.{Recalls}

@@ -1,6 +1,7 @@
 -- Going through the rules of a token, and through the lines of a plan.
-use Rattle.std.proofs.Common.{◌≡◌, ℕ, ◌+◌, ◌<◌, ◌≤◌, ℤ, Bool, true, false, List, length, Some, inl, inr, refl, sym, ap, ◌∙◌, subst, arith}
+use Rattle.std.proofs.Common.{◌≡◌, ℕ, zero, suc, ◌+◌, ◌<◌, ◌≤◌, ℤ, Bool, true, false, List, [], ◌∷◌, length, Some, inl, inr, refl, sym, ap, ◌∙◌, subst, arith}
 use Rattle.std.specs.Prelude.{slice_get, Contains, MatchBool, ⊤}
+use Rattle.std.specs.List.{AllZip}
 use Rattle.std.proofs.lemmas.Bool.{cases_lt}
 use Rattle.eu_name.specs.declared.name.TokenName.{TokenName}
 use Rattle.eu_name.specs.declared.name.VarName.TheVariants as variables
@@ -128,7 +129,33 @@ no_pred_rule model token pred number rule of_pred none is =
     let preds : is.slot.pred ≡ pred = ap (λ (s : Slot). s.pred) (token_once model token is.slot of_pred.0 is.has_token of_pred.1) ∙ of_pred.2 in
     none is.has_rule.predicate (subst (λ (n : ℕ). slice_get model.preds n ≡ Some is.has_rule.predicate) preds is.has_rule.is_predicate)
 
+listed_place : (model : Model) (places : List ℕ) (rules : List Rule) (number : ℕ) → AllZip (λ place rule. slice_get model.rules place ≡ Some rule) places rules
+    → number < length places → (place : ℕ) × (rule : Rule) × (slice_get places number ≡ Some place) × (slice_get model.rules place ≡ Some rule)
+listed_place model [] rules number are below = absurd (omega (arith, below))
+listed_place model (place ∷ places) [] number are below = absurd are
+listed_place model (place ∷ places) (rule ∷ rules) zero (here, later) below = (place, rule, refl, here)
+listed_place model (place ∷ places) (rule ∷ rules) (suc number) (here, later) below = listed_place model places rules number later (omega (arith, below))
+
 module _ (model : Model) (lawful : IsLawful model) (pred : ℕ) (found : Pred) (is_pred : slice_get model.preds pred ≡ Some found) where
+  -- a token of the predicate has each rule below their count
+  pub rule_there : (token : TokenName) → IsOfPred model token pred → (number : ℕ) → number < length found.rules → (rule : Rule) × HasRuleOf model token number rule
+  rule_there token (slot, has, is) number below =
+      let fine = lawful.preds pred found is_pred in
+      let (place, rule, listed, stands) = listed_place model found.rules fine.rules number fine.are_rules below in (
+        rule,
+        record {
+          slot = slot;
+          has_token = has;
+          has_rule = record {
+            predicate = found;
+            place = place;
+            is_predicate = subst (λ (n : ℕ). slice_get model.preds n ≡ Some found) (sym is) is_pred;
+            listed = listed;
+            is_rule = stands;
+          };
+        },
+      )
+
   pub few_rules : length found.rules < 65536
   few_rules =
       let is = lawful.preds pred found is_pred in

@@ -116,7 +116,8 @@ fn count_locals(model: &Model, token: &TokenName, rule: u16) -> u16
 /// How many rules the token has.
 pub fn count_rules(model: &Model, token: &TokenName) -> u16
     requires { IsLawful model.now }
-    ensures { (number : ℕ) (rule : Rule) → HasRuleOf model.now token.now number rule → number < result }
+    ensures below { (number : ℕ) (rule : Rule) → HasRuleOf model.now token.now number rule → number < result }
+    ensures there { (number : ℕ) → number < result → (rule : Rule) × HasRuleOf model.now token.now number rule }
 {
     match pred_of(model, token) {
         Some(pred) => match pred_in(model, pred) {

@@ -16,6 +16,6 @@ returns c = λ rule item placed entries is_open claim at says.
     let block = is_open.has_block in
     c.loop-rule.invariant rule item (omega (
       arith,
-      c.count_rules-rule-end.ensures rule block.rule (record { slot = block.slot; has_token = block.has_token; has_rule = block.has_rule }),
+      c.count_rules-rule-end.ensures.below rule block.rule (record { slot = block.slot; has_token = block.has_token; has_rule = block.has_rule }),
       c.loop-rule-test.false,
     )) placed entries is_open claim at says

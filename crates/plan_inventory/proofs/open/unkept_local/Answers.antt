@@ -13,6 +13,6 @@ pub returns : goal.returns
 returns c = λ rule number stands.
     c.loop-rule.invariant rule number (omega (
       arith,
-      c.count_rules-rule-end.ensures rule stands.rule (record { slot = stands.slot; has_token = stands.has_token; has_rule = stands.has_rule }),
+      c.count_rules-rule-end.ensures.below rule stands.rule (record { slot = stands.slot; has_token = stands.has_token; has_rule = stands.has_rule }),
       c.loop-rule-test.false,
     )) stands

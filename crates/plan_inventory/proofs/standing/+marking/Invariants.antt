@@ -1,4 +1,3 @@
-use Rattle.model_core.specs.declared.rule.Entry.{Entry}
 use Rattle.plan_values.specs.Meanings.{context_of}
 use Rattle.plan_values.specs.Openings.{Allows}
 use Rattle.plan_inventory.specs.Marking.{AddsMarks}
