@@ -1,34 +1,8 @@
 //! Shelves with files that include each other.
 
 use eu_io::calm::shelf::CalmShelf;
-use eu_io::shelf::FileEntry;
-use eu_name::bytes::Bytes;
-use eu_name::text::Text;
+use sample_files::shelf_of;
 use std::alloc::{AllocError, Global};
-
-fn entry(alloc: Global, name: &str, text: &str) -> Result<FileEntry, AllocError> {
-    Ok(FileEntry {
-        name: Text::from_str(alloc, name)?,
-        bytes: Bytes::from_slice(alloc, text.as_bytes())?,
-    })
-}
-
-fn add_files(files: &mut Vec<FileEntry>, named: &[(&str, &str)]) -> Result<(), AllocError> {
-    for (name, text) in named {
-        let file = entry(*files.allocator(), name, text)?;
-        files.push(file)?;
-    }
-    Ok(())
-}
-
-/// A shelf with these files.
-fn shelf_of(alloc: Global, named: &[(&str, &str)]) -> Result<CalmShelf, AllocError> {
-    let mut files = Vec::new(alloc);
-    match add_files(&mut files, named) {
-        Ok(()) => Ok(CalmShelf::new(files)),
-        Err(none) => Err(none),
-    }
-}
 
 /// A file `m` of the first text, and a file `q` of the second.
 pub fn pair(alloc: Global, text: &str, other: &str) -> Result<CalmShelf, AllocError> {

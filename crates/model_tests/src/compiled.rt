@@ -3,39 +3,13 @@
 ghost use Rattle.nddl_given.specs.Given.{AreGiven};
 
 use super::models::model_lines;
-use eu_io::calm::shelf::CalmShelf;
-use eu_io::shelf::FileEntry;
-use eu_name::bytes::Bytes;
-use eu_name::text::Text;
 use nddl_ast::TextFault;
 use nddl_ast::declaration::FileDecls;
 use nddl_files::read_all;
 use nddl_problem::compile;
+use sample_files::shelf_of;
 use std::alloc::{AllocError, Global};
 use std::process::Abort;
-
-fn entry(alloc: Global, name: &str, text: &str) -> Result<FileEntry, AllocError> {
-    Ok(FileEntry {
-        name: Text::from_str(alloc, name)?,
-        bytes: Bytes::from_slice(alloc, text.as_bytes())?,
-    })
-}
-
-fn add_files(files: &mut Vec<FileEntry>, named: &[(&str, &str)]) -> Result<(), AllocError> {
-    for (name, text) in named {
-        let file = entry(*files.allocator(), name, text)?;
-        files.push(file)?;
-    }
-    Ok(())
-}
-
-fn shelf_of(alloc: Global, named: &[(&str, &str)]) -> Result<CalmShelf, AllocError> {
-    let mut files = Vec::new(alloc);
-    match add_files(&mut files, named) {
-        Ok(()) => Ok(CalmShelf::new(files)),
-        Err(none) => Err(none),
-    }
-}
 
 fn fault_line(alloc: Global, fault: &TextFault) -> Result<String, AllocError> {
     match fault {

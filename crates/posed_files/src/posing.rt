@@ -19,6 +19,7 @@ use nddl_ast::declaration::FileDecls;
 use nddl_files::read_all;
 use nddl_problem::compile;
 use plan_db::Db;
+use plan_release::let_go;
 use std::alloc::Global;
 
 /// The database that the file of this name poses with those that it includes: that of their model, in which the decisions of
@@ -80,12 +81,15 @@ fn pose_new(db: Db) -> Result<Db, PoseFault>
     behind(done, db)
 }
 
-// The value, where what comes before it is done.
-fn behind<T: Drop>(done: Result<(), PoseFault>, value: T) -> Result<T, PoseFault>
-    ensures { MatchResult done (λ _. result ≡ Ok value) (λ fault. result ≡ Err fault) }
+// The database, where what comes before it is done.
+fn behind(done: Result<(), PoseFault>, db: Db) -> Result<Db, PoseFault>
+    ensures { MatchResult done (λ _. result ≡ Ok db) (λ fault. result ≡ Err fault) }
 {
     match done {
-        Ok(()) => Ok(value),
-        Err(fault) => Err(fault),
+        Ok(()) => Ok(db),
+        Err(fault) => {
+            let_go(db);
+            Err(fault)
+        }
     }
 }

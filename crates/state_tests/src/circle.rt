@@ -1,7 +1,9 @@
 //! Three tokens of one track in a circle: how often their starts were written, and the time edges of the circle.
 
 use super::asking::model_of;
-use super::names::{decision, variable};
+use super::deciding::take;
+use super::names::variable;
+use super::steps::is_taken;
 use super::trial::{Trial, told_on_rounds};
 use plan_db::{Db, NamedEdge, Point};
 use std::alloc::{AllocError, Global};
@@ -59,12 +61,10 @@ fn changes(before: Stamps, after: Stamps) -> [Change; 3] {
 // Takes the decision, and tells which starts were written.
 fn taken(alloc: Global, db: &mut Db, choice: &str) -> Option<[Change; 3]> {
     let before = stamps(alloc, db);
-    match decision(alloc, model_of(db), choice) {
-        Some(decision) => match db.apply(&decision) {
-            Ok(_outcome) => Some(changes(before, stamps(alloc, db))),
-            Err(_fault) => None,
-        },
-        None => None,
+    if is_taken(take(alloc, db, choice)) {
+        Some(changes(before, stamps(alloc, db)))
+    } else {
+        None
     }
 }
 

@@ -43,7 +43,8 @@ token here/0:1 Arm.uses start 2 end 4 duration 2 object arm quantity 1
 end
 ";
 
-fn said(answer: Result<Outcome, DbFault>) -> Said {
+/// The answer, in one value.
+pub fn said(answer: Result<Outcome, DbFault>) -> Said {
     match answer {
         Ok(Outcome::Consistent) => Said::Fits,
         Ok(Outcome::Inconsistent) => Said::Fails,
@@ -51,7 +52,8 @@ fn said(answer: Result<Outcome, DbFault>) -> Said {
     }
 }
 
-fn take(alloc: Global, db: &mut Db, choice: &str) -> Option<Said> {
+/// Takes the decision, if the model has what it names.
+pub fn take(alloc: Global, db: &mut Db, choice: &str) -> Option<Said> {
     match decision(alloc, model_of(db), choice) {
         Some(decision) => Some(said(db.apply(&decision))),
         None => None,

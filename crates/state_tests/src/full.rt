@@ -1,10 +1,12 @@
 //! As many active tokens as there may be.
 
+use super::deciding::said;
+use super::steps::Said;
 use super::trial::{Trial, told_on_rounds};
 use eu_name::name::{Step, TokenName};
 use eu_name::sequence::Sequence;
 use model_core::decision::Decision;
-use plan_db::{Db, DbFault, Outcome};
+use plan_db::{Db, DbFault};
 use std::alloc::{AllocError, Global};
 
 // The token to which so many steps lead from the link, each to one more of the same.
@@ -19,25 +21,21 @@ fn link_after(alloc: Global, steps: u32) -> Result<TokenName, AllocError> {
     })
 }
 
-// Whether the token of so many steps can be activated; why not, if it can't.
-fn activate(alloc: Global, db: &mut Db, steps: u32) -> Result<Option<DbFault>, AllocError> {
-    let decision = Decision::Activate(link_after(alloc, steps)?);
-    match db.apply(&decision) {
-        Ok(Outcome::Consistent) => Ok(None),
-        Ok(Outcome::Inconsistent) => Ok(Some(DbFault::InInconsistent)),
-        Err(fault) => Ok(Some(fault)),
-    }
+// Activates the token of so many steps.
+fn activate(alloc: Global, db: &mut Db, steps: u32) -> Result<Said, AllocError> {
+    let token = link_after(alloc, steps)?;
+    Ok(said(db.apply(&Decision::Activate(token))))
 }
 
 // How many links can be activated, and why no more.
-fn activate_links(alloc: Global, db: &mut Db) -> Result<(u32, Option<DbFault>), AllocError> {
+fn activate_links(alloc: Global, db: &mut Db) -> Result<(u32, Said), AllocError> {
     for steps in 0..600 {
-        let fault = activate(alloc, db, steps)?;
-        if fault.is_some() {
-            return Ok((steps, fault));
+        let said = activate(alloc, db, steps)?;
+        if said != Said::Fits {
+            return Ok((steps, said));
         }
     }
-    Ok((600, None))
+    Ok((600, Said::Fits))
 }
 
 /// How many links can be activated, and why no more.
@@ -45,9 +43,9 @@ fn activate_links(alloc: Global, db: &mut Db) -> Result<(u32, Option<DbFault>), 
 struct Links;
 
 impl Trial for Links {
-    type Told = Result<(u32, Option<DbFault>), AllocError>;
+    type Told = Result<(u32, Said), AllocError>;
 
-    fn tell(&self, alloc: Global, db: &mut Db) -> Result<(u32, Option<DbFault>), AllocError> {
+    fn tell(&self, alloc: Global, db: &mut Db) -> Result<(u32, Said), AllocError> {
         activate_links(alloc, db)
     }
 }
@@ -55,5 +53,5 @@ impl Trial for Links {
 #[test]
 fn no_more_are_active_than_may_be(rt: HostRuntime) {
     let told = told_on_rounds(rt.alloc(), &Links);
-    assert!(rt; told == Ok(Ok((512, Some(DbFault::ActiveFull)))));
+    assert!(rt; told == Ok(Ok((512, Said::Refused(DbFault::ActiveFull)))));
 }

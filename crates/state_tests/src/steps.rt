@@ -13,6 +13,15 @@ pub enum Said {
     Refused(DbFault),
 }
 
+/// Whether a decision was taken, whatever it leaves.
+pub fn is_taken(said: Option<Said>) -> bool {
+    match said {
+        Some(Said::Fits) => true,
+        Some(Said::Fails) => true,
+        _ => false,
+    }
+}
+
 /// What has become of a token; one that is merged is the token at this place in the order of names.
 #[derive(Clone, Copy, Debug, PartialEq, Eq)]
 pub enum Fate {

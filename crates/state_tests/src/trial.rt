@@ -4,11 +4,12 @@ ghost use Rattle.model_core.specs.Lawful.{IsLawful};
 
 use model_core::model::Model;
 use plan_db::Db;
+use plan_release::let_go;
 use sample_models::mission::mission;
 use sample_models::rounds::rounds;
 use std::alloc::{AllocError, Global};
 
-/// What is done with a database, and told of it in plain values. Only `told_of` owns one, since a proof goes through all that
+/// What is done with a database, and told of it in plain values. None of these owns one, since a proof goes through all that
 /// an owner may drop.
 pub trait Trial {
     type Told: Drop;
@@ -21,12 +22,17 @@ fn told_of<T: Trial>(alloc: Global, model: Model, trial: &T) -> Result<T::Told, 
     requires { IsLawful model }
 {
     match Db::new(alloc, model) {
-        Ok(db) => {
-            let mut db = db;
-            Ok(trial.tell(alloc, &mut db))
-        }
+        Ok(db) => Ok(told_at_last(alloc, db, trial)),
         Err(none) => Err(none),
     }
+}
+
+// What is told of the database, which is then let go.
+fn told_at_last<T: Trial>(alloc: Global, db: Db, trial: &T) -> T::Told {
+    let mut db = db;
+    let told = trial.tell(alloc, &mut db);
+    let_go(db);
+    told
 }
 
 /// What is told of the mission.

@@ -1,7 +1,7 @@
 //! How much is done for a decision, and for building anew.
 
-use super::asking::model_of;
-use super::names::decision;
+use super::deciding::take;
+use super::steps::is_taken;
 use super::trial::{Trial, told_on_rounds};
 use plan_db::Db;
 use std::alloc::Global;
@@ -10,12 +10,10 @@ use std::test::Fail;
 // The narrowings for taking the decision, which fits.
 fn work_of(alloc: Global, db: &mut Db, choice: &str) -> Option<u64> {
     let before = db.work();
-    match decision(alloc, model_of(db), choice) {
-        Some(decision) => match db.apply(&decision) {
-            Ok(_outcome) => Some(db.work().saturating_sub(before)),
-            Err(_fault) => None,
-        },
-        None => None,
+    if is_taken(take(alloc, db, choice)) {
+        Some(db.work().saturating_sub(before))
+    } else {
+        None
     }
 }
 
