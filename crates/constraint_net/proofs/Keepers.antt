@@ -1,5 +1,5 @@
 -- What a network keeps stays so, and what its calls say of it.
-use Rattle.std.proofs.Common.{◌≡◌, ℕ, ◌+◌, ◌-◌, ◌<◌, ◌≤◌, ℤ, List, [], ◌∷◌, ◌++◌, length, take, get_or, pos, length-append, refl, sym, ap, ◌∙◌, subst, arith}
+use Rattle.std.proofs.Common.{◌≡◌, ℕ, ◌+◌, ◌<◌, ◌≤◌, ℤ, List, [], ◌∷◌, ◌++◌, length, take, get_or, pos, length-append, refl, sym, ap, ◌∙◌, subst, arith}
 use Rattle.std.specs.Prelude.{All, Vec, Option, Some, None, MatchOption, OnOk, OnErr, IsErr, Result, Ok, Err}
 use Rattle.std.proofs.lemmas.List.{append-nil, length_push, length-take}
 use Rattle.std.proofs.lemmas.List.Elements.{All-append, All-cons, All-nil, All-push, All-set}
@@ -11,7 +11,7 @@ use Rattle.domain_core.specs.Narrowing.{Keeps}
 use Rattle.domain_core.specs.declared.Change.{Change}
 use Rattle.domain_core.specs.declared.Change.TheVariants.{Same, Smaller, Empty}
 use Rattle.domain_core.proofs.Words.{IsWithin-refl}
-use Rattle.cell_store.specs.Cells.{Celled, present, newest_of, domain_at, AddsCell, IsPlace, GoesBack}
+use Rattle.cell_store.specs.Cells.{Celled, present, newest_of, domain_at, AddsCell, IsPlace, GoesBack, KeepsPast}
 use Rattle.model_core.specs.declared.item.Kind.{Kind}
 use Rattle.narrow_core.specs.Laws.{LieWithin}
 use Rattle.narrow_core.specs.declared.field.Field.{Field}
@@ -19,7 +19,7 @@ use Rattle.constraint_net.specs.Agendas.{HasVariables, Grows, Enrols, AlertsAfte
 use Rattle.constraint_net.specs.Arguments.{IsArgument}
 use Rattle.constraint_net.specs.Calls.{AddsVar, Posts, Limits, GoesDown, Notes, TakesChanged}
 use Rattle.constraint_net.specs.Limits.{LimitsCell}
-use Rattle.constraint_net.specs.Marks.{IsMark, IsLatest, CanReturn, Returns}
+use Rattle.constraint_net.specs.Marks.{IsMark, IsLatest, CanReturn, KeepMarks, Returns}
 use Rattle.constraint_net.specs.Moves.{IsSound, Sinks}
 use Rattle.constraint_net.specs.Networks.{Network, CanPost, cells_of}
 use Rattle.constraint_net.specs.Waiting.{WerePosted, NameWithin, IsKeptAgenda}
@@ -45,14 +45,12 @@ pub past_is : (past : List (List Domain)) → 0 < length past → newest_of past
 past_is [] some = absurd (omega arith)
 past_is (domains ∷ past) some = refl
 
-pub celled_is : (domains : Domains) (tables : Vec Field Global) (constraints : List Constraint) → 0 < length domains.cells.past → cells_of (network_of domains tables constraints) ≡ domains.cells
-celled_is domains tables constraints some = λ i. record { past = past_is domains.cells.past some i; stamps = domains.cells.stamps }
+pub celled_is : (domains : Domains) (tables : Vec Field Global) (constraints : List Constraint) (marked : ℕ) → 0 < length domains.cells.past → cells_of (network_of domains tables constraints marked) ≡ domains.cells
+celled_is domains tables constraints marked some = λ i. record { past = past_is domains.cells.past some i; stamps = domains.cells.stamps }
 
-pub sound_at : (cells : Celled) → IsSound 0 cells → IsSound (length cells.past - 1) cells
-sound_at cells sound = record { place = omega (arith, sound.place); are = sound.are; stamps = sound.stamps }
-
-pub sound_first : (place : ℕ) (cells : Celled) → IsSound place cells → IsSound 0 cells
-sound_first place cells sound = record { place = omega (arith, sound.place); are = sound.are; stamps = sound.stamps }
+-- what can be gone back to has the present at least
+pub some_past : (marked : ℕ) (cells : Celled) → IsSound marked cells → 0 < length cells.past
+some_past marked cells sound = omega (arith, sound.place)
 
 -- ---- constraints
 
@@ -75,15 +73,15 @@ can_post domains tables constraint = CanPost tables.items (length (present domai
 abbrev with_agenda : Domains → Agenda → Domains
 with_agenda domains agenda = record domains { agenda = agenda }
 
-module _ (net : Network) (domains : Domains) (tables : Vec Field Global) (constraints : List Constraint) (agenda : Agenda) (view : network_of domains tables constraints ≡ net) (kept : IsKeptNet domains tables constraints) where
-  pub kept_with : IsKeptAgenda tables.items constraints (present domains.cells) agenda → IsKeptNet (with_agenda domains agenda) tables constraints
+module _ (net : Network) (domains : Domains) (tables : Vec Field Global) (constraints : List Constraint) (marked : ℕ) (agenda : Agenda) (view : network_of domains tables constraints marked ≡ net) (kept : IsKeptNet domains tables constraints marked) where
+  pub kept_with : IsKeptAgenda tables.items constraints (present domains.cells) agenda → IsKeptNet (with_agenda domains agenda) tables constraints marked
   kept_with agenda_kept = record { posted = kept.posted; sound = kept.sound; agenda = agenda_kept }
 
-  pub kept_enlarged : Grows domains.agenda agenda → IsKeptNet (with_agenda domains agenda) tables constraints
+  pub kept_enlarged : Grows domains.agenda agenda → IsKeptNet (with_agenda domains agenda) tables constraints marked
   kept_enlarged grows = kept_with (kept_grown tables.items constraints (present domains.cells) domains.agenda agenda grows kept.agenda)
 
   -- the list of what has changed is all that is seen of it
-  pub seen_with : (changed : List ℕ) → agenda.changed.items ≡ changed → network_of (with_agenda domains agenda) tables constraints ≡ record net { changed = changed }
+  pub seen_with : (changed : List ℕ) → agenda.changed.items ≡ changed → network_of (with_agenda domains agenda) tables constraints marked ≡ record net { changed = changed }
   seen_with changed is = (λ i. record {
     domains = present domains.cells;
     tables = tables.items;
@@ -91,47 +89,48 @@ module _ (net : Network) (domains : Domains) (tables : Vec Field Global) (constr
     work = domains.work;
     stamps = domains.cells.stamps;
     older = older_of domains.cells.past;
+    marked = marked;
     changed = is i;
   }) ∙ ap (λ (n : Network). record n { changed = changed }) view
 
-  pub seen_same : Grows domains.agenda agenda → network_of (with_agenda domains agenda) tables constraints ≡ net
+  pub seen_same : Grows domains.agenda agenda → network_of (with_agenda domains agenda) tables constraints marked ≡ net
   seen_same grows = seen_with domains.agenda.changed.items grows.changed ∙ (λ i. record net { changed = (view i).changed })
 
   pub kept_posted : (new : List Constraint) (kind : Kind) (args : List NetArg) → CanPost net.tables (length net.domains) kind args → Enrols (length constraints) args domains.agenda (Ok tt) agenda
-      → new ≡ constraints ++ record { kind = kind; args = args } ∷ [] → IsKeptNet (with_agenda domains agenda) tables new
+      → new ≡ constraints ++ record { kind = kind; args = args } ∷ [] → IsKeptNet (with_agenda domains agenda) tables new marked
   kept_posted new kind args can enrols more =
       let one : Constraint = record { kind = kind; args = args } in
       let here : can_post domains tables one = subst (λ (n : Network). CanPost n.tables (length n.domains) kind args) (sym view) can in
-      subst (IsKeptNet (with_agenda domains agenda) tables) (sym more) (record {
+      subst (λ list. IsKeptNet (with_agenda domains agenda) tables list marked) (sym more) (record {
         posted = All-append (can_post domains tables) constraints (one ∷ []) kept.posted (All-cons (can_post domains tables) one [] here (All-nil (can_post domains tables)));
         sound = kept.sound;
         agenda = kept_enrolled tables.items constraints (present domains.cells) kind args domains.agenda agenda enrols kept.agenda;
       })
 
   pub posts_seen : (new : List Constraint) (kind : Kind) (args : List NetArg) → Grows domains.agenda agenda → new ≡ constraints ++ record { kind = kind; args = args } ∷ []
-      → Posts net kind args (Ok tt) (network_of (with_agenda domains agenda) tables new)
+      → Posts net kind args (Ok tt) (network_of (with_agenda domains agenda) tables new marked)
   posts_seen new kind args grows more =
       let one : Constraint = record { kind = kind; args = args } in
-      (λ i. record (network_of (with_agenda domains agenda) tables constraints) { constraints = more i })
+      (λ i. record (network_of (with_agenda domains agenda) tables constraints marked) { constraints = more i })
       ∙ ap (λ (n : Network). record n { constraints = n.constraints ++ one ∷ [] }) (seen_same grows)
 
   -- the constraint was put behind the others, or there was no memory for it
   pub posts_net : (new : List Constraint) (kind : Kind) (args : List NetArg) (result : Result (Unit {0}) AllocError) (number : ℕ) → number ≡ length constraints → CanPost net.tables (length net.domains) kind args
       → Enrols number args domains.agenda (Ok tt) agenda → OnOk result (new ≡ constraints ++ record { kind = kind; args = args } ∷ []) → OnErr result (new ≡ constraints)
-      → IsKeptNet (with_agenda domains agenda) tables new × Posts net kind args result (network_of (with_agenda domains agenda) tables new)
+      → IsKeptNet (with_agenda domains agenda) tables new marked × Posts net kind args result (network_of (with_agenda domains agenda) tables new marked)
   posts_net new kind args (Ok done) number at can enrols ok err = (
     kept_posted new kind args can (subst (λ n. Enrols n args domains.agenda (Ok tt) agenda) at enrols) ok,
     posts_seen new kind args enrols.grows ok,
   )
   posts_net new kind args (Err none) number at can enrols ok err = (
-    subst (IsKeptNet (with_agenda domains agenda) tables) (sym err) (kept_enlarged enrols.grows),
-    ap (network_of (with_agenda domains agenda) tables) err ∙ seen_same enrols.grows,
+    subst (λ list. IsKeptNet (with_agenda domains agenda) tables list marked) (sym err) (kept_enlarged enrols.grows),
+    ap (λ list. network_of (with_agenda domains agenda) tables list marked) err ∙ seen_same enrols.grows,
   )
 
   -- the variable that had changed first was taken off
   pub asks_net : (result : Option ℕ) (left : Queued) → agenda ≡ record domains.agenda { changed = left }
       → MatchOption result ((domains.agenda.changed.items ≡ []) × (left ≡ domains.agenda.changed)) (λ variable. domains.agenda.changed.items ≡ variable ∷ left.items)
-      → TakesChanged net result (network_of (with_agenda domains agenda) tables constraints)
+      → TakesChanged net result (network_of (with_agenda domains agenda) tables constraints marked)
   asks_net (Some variable) left is took = (
     left.items,
     (ap (λ (n : Network). n.changed) (sym view) ∙ took, seen_with left.items (ap (λ (a : Agenda). a.changed.items) is)),
@@ -147,15 +146,15 @@ not_posted old new kind args (Ok done) failed same = absurd (cc failed)
 not_posted old new kind args (Err none) failed same = same
 
 -- the variables among the arguments have their lists
-pub args_within : (net : Network) (domains : Domains) (tables : Vec Field Global) (constraints : List Constraint) → network_of domains tables constraints ≡ net → IsKeptNet domains tables constraints
+pub args_within : (net : Network) (domains : Domains) (tables : Vec Field Global) (constraints : List Constraint) (marked : ℕ) → network_of domains tables constraints marked ≡ net → IsKeptNet domains tables constraints marked
     → (args : List NetArg) → All (IsArgument (length net.domains)) args → All (IsArgument (length domains.agenda.watchers)) args
-args_within net domains tables constraints view kept args are =
+args_within net domains tables constraints marked view kept args are =
     let long : length (present domains.cells) ≡ length net.domains = ap (λ (n : Network). length n.domains) view in
     (λ k d below. argument_along (length net.domains) (length domains.agenda.watchers) (get_or args k d) (omega (arith, long, kept.agenda.variables.watchers)) (are k d below))
 
 -- a table more
-pub kept_with_table : (domains : Domains) (old new : Vec Field Global) (constraints : List Constraint) (table : Field) → new.items ≡ old.items ++ table ∷ [] → IsKeptNet domains old constraints → IsKeptNet domains new constraints
-kept_with_table domains old new constraints table more kept = record {
+pub kept_with_table : (domains : Domains) (old new : Vec Field Global) (constraints : List Constraint) (marked : ℕ) (table : Field) → new.items ≡ old.items ++ table ∷ [] → IsKeptNet domains old constraints marked → IsKeptNet domains new constraints marked
+kept_with_table domains old new constraints marked table more kept = record {
   posted = subst (λ list. WerePosted list (length (present domains.cells)) constraints) (sym more) (posted_tables old.items (table ∷ []) (length (present domains.cells)) constraints kept.posted);
   sound = kept.sound;
   agenda = subst (λ list. IsKeptAgenda list constraints (present domains.cells) domains.agenda) (sym more)
@@ -164,15 +163,15 @@ kept_with_table domains old new constraints table more kept = record {
 
 -- ---- variables
 
-kept_added : (old new : Domains) (tables : Vec Field Global) (constraints : List Constraint) (domain : Domain) → IsDomain domain → IsKeptNet old tables constraints → Grows old.agenda new.agenda → HasVariables (length (present new.cells)) new.agenda
-    → new.cells.past ≡ (present old.cells ++ domain ∷ []) ∷ old.cells.past → new.cells.stamps ≡ old.cells.stamps ++ 0 ∷ [] → IsKeptNet new tables constraints
-kept_added old new tables constraints domain is kept grows ready past stamps =
+kept_added : (old new : Domains) (tables : Vec Field Global) (constraints : List Constraint) (marked : ℕ) (domain : Domain) → IsDomain domain → IsKeptNet old tables constraints marked → Grows old.agenda new.agenda → HasVariables (length (present new.cells)) new.agenda
+    → new.cells.past ≡ (present old.cells ++ domain ∷ []) ∷ old.cells.past → new.cells.stamps ≡ old.cells.stamps ++ 0 ∷ [] → IsKeptNet new tables constraints marked
+kept_added old new tables constraints marked domain is kept grows ready past stamps =
     let more : present new.cells ≡ present old.cells ++ domain ∷ [] = ap newest_of past in
     let long = ap length more ∙ length_push (present old.cells) domain in
     record {
       posted = posted_more tables.items (length (present old.cells)) (length (present new.cells)) constraints (omega (arith, long)) kept.posted;
       sound = record {
-        place = omega (arith, ap length past);
+        place = omega (arith, ap length past, kept.sound.place);
         are = subst (All IsDomain) (sym more) (All-push IsDomain (present old.cells) domain kept.sound.are is);
         stamps = omega (arith, ap length stamps, length_push old.cells.stamps 0, long, kept.sound.stamps);
       };
@@ -181,12 +180,12 @@ kept_added old new tables constraints domain is kept grows ready past stamps =
           (kept_grown tables.items constraints (present old.cells) old.agenda new.agenda grows kept.agenda));
     }
 
-pub added : (net : Network) (old new : Domains) (tables : Vec Field Global) (constraints : List Constraint) (domain : Domain) (result : Result ℕ AllocError) → network_of old tables constraints ≡ net
-    → IsDomain domain → IsKeptNet old tables constraints → Grows old.agenda new.agenda → HasVariables (length (present new.cells)) new.agenda → new.work ≡ old.work → AddsCell domain old.cells result new.cells
-    → IsKeptNet new tables constraints × AddsVar domain net result (network_of new tables constraints)
-added net old new tables constraints domain (Ok number) view is kept grows ready work adds = (
-  kept_added old new tables constraints domain is kept grows ready adds.1.0 adds.1.1,
-  subst (λ n. AddsVar domain n (Ok number) (network_of new tables constraints)) view (
+pub added : (net : Network) (old new : Domains) (tables : Vec Field Global) (constraints : List Constraint) (marked : ℕ) (domain : Domain) (result : Result ℕ AllocError) → network_of old tables constraints marked ≡ net
+    → IsDomain domain → IsKeptNet old tables constraints marked → Grows old.agenda new.agenda → HasVariables (length (present new.cells)) new.agenda → new.work ≡ old.work → AddsCell domain old.cells result new.cells
+    → IsKeptNet new tables constraints marked × AddsVar domain net result (network_of new tables constraints marked)
+added net old new tables constraints marked domain (Ok number) view is kept grows ready work adds = (
+  kept_added old new tables constraints marked domain is kept grows ready adds.1.0 adds.1.1,
+  subst (λ n. AddsVar domain n (Ok number) (network_of new tables constraints marked)) view (
     adds.0,
     λ i. record {
       domains = newest_of (adds.1.0 i);
@@ -194,54 +193,55 @@ added net old new tables constraints domain (Ok number) view is kept grows ready
       constraints = constraints;
       work = work i;
       stamps = adds.1.1 i;
-      older = (ap older_of adds.1.0 ∙ sym (past_is old.cells.past kept.sound.place)) i;
+      older = (ap older_of adds.1.0 ∙ sym (past_is old.cells.past (some_past marked old.cells kept.sound))) i;
+      marked = marked;
       changed = grows.changed i;
     },
   ),
 )
-added net old new tables constraints domain (Err none) view is kept grows ready work same = (
+added net old new tables constraints marked domain (Err none) view is kept grows ready work same = (
   record {
     posted = subst (λ (cells : Celled). WerePosted tables.items (length (present cells)) constraints) (sym same) kept.posted;
-    sound = subst (IsSound 0) (sym same) kept.sound;
+    sound = subst (IsSound marked) (sym same) kept.sound;
     agenda = subst (λ (cells : Celled). IsKeptAgenda tables.items constraints (present cells) new.agenda) (sym same)
         (kept_grown tables.items constraints (present old.cells) old.agenda new.agenda grows kept.agenda);
   },
-  unchanged old new tables constraints same work grows.changed ∙ view,
+  unchanged old new tables constraints marked same work grows.changed ∙ view,
 )
   where
-    unchanged : (old new : Domains) (tables : Vec Field Global) (constraints : List Constraint) → new.cells ≡ old.cells → new.work ≡ old.work → new.agenda.changed.items ≡ old.agenda.changed.items
-        → network_of new tables constraints ≡ network_of old tables constraints
-    unchanged old new tables constraints same work changed = λ i. record {
+    unchanged : (old new : Domains) (tables : Vec Field Global) (constraints : List Constraint) (marked : ℕ) → new.cells ≡ old.cells → new.work ≡ old.work → new.agenda.changed.items ≡ old.agenda.changed.items
+        → network_of new tables constraints marked ≡ network_of old tables constraints marked
+    unchanged old new tables constraints marked same work changed = λ i. record {
       domains = present (same i);
       tables = tables.items;
       constraints = constraints;
       work = work i;
       stamps = (same i).stamps;
       older = older_of (same i).past;
+      marked = marked;
       changed = changed i;
     }
 
 -- ---- domains that get smaller
 
-pub goes_down : (old new : Domains) (tables : Vec Field Global) (constraints : List Constraint) → IsSound 0 old.cells → 0 < length new.cells.past → Sinks (length old.cells.past - 1) old.cells new.cells
-    → Notes (present old.cells) (present new.cells) old.agenda.changed.items new.agenda.changed.items → GoesDown (network_of old tables constraints) (network_of new tables constraints)
-goes_down old new tables constraints sound some sinks notes =
-    let past = sinks.past in
-    let kept : old.cells.past ≡ past.2 = same_end [] past.0 old.cells.past past.2 past.3.0 (omega (arith, sound.place, past.3.1.1)) in
-    record {
-      tables = refl;
-      constraints = refl;
-      past = (past.1, past_is new.cells.past some ∙ past.3.1.0 ∙ ap (λ list. past.1 ++ list) (sym kept ∙ sym (past_is old.cells.past sound.place)));
-      stamps = sinks.stamps;
-      follow = λ cell below. follows (domain_at (present old.cells) cell) (domain_at (present new.cells) cell) (get_or old.cells.stamps cell 0) (get_or new.cells.stamps cell 0) (sinks.follow cell);
-      notes = notes;
-    }
+pub goes_down : (old new : Domains) (tables : Vec Field Global) (constraints : List Constraint) (marked : ℕ) → IsSound marked old.cells → 0 < length new.cells.past → Sinks marked old.cells new.cells
+    → Notes (present old.cells) (present new.cells) old.agenda.changed.items new.agenda.changed.items → GoesDown (network_of old tables constraints marked) (network_of new tables constraints marked)
+goes_down old new tables constraints marked sound some sinks notes = record {
+  tables = refl;
+  constraints = refl;
+  marked = refl;
+  past = subst (λ list. KeepsPast marked list (present new.cells ∷ older_of new.cells.past)) (sym (past_is old.cells.past (some_past marked old.cells sound)))
+      (subst (KeepsPast marked old.cells.past) (sym (past_is new.cells.past some)) sinks.past);
+  stamps = sinks.stamps;
+  follow = λ cell below. follows (domain_at (present old.cells) cell) (domain_at (present new.cells) cell) (get_or old.cells.stamps cell 0) (get_or new.cells.stamps cell 0) (sinks.follow cell);
+  notes = notes;
+}
 
-kept_down : (old new : Domains) (tables : Vec Field Global) (constraints : List Constraint) → IsKeptNet old tables constraints → LieWithin (present new.cells) (present old.cells) → All IsDomain (present new.cells)
-    → Sinks (length old.cells.past - 1) old.cells new.cells → IsKeptAgenda tables.items constraints (present new.cells) new.agenda → IsKeptNet new tables constraints
-kept_down old new tables constraints kept within are sinks agenda = record {
+kept_down : (old new : Domains) (tables : Vec Field Global) (constraints : List Constraint) (marked : ℕ) → IsKeptNet old tables constraints marked → LieWithin (present new.cells) (present old.cells) → All IsDomain (present new.cells)
+    → Sinks marked old.cells new.cells → IsKeptAgenda tables.items constraints (present new.cells) new.agenda → IsKeptNet new tables constraints marked
+kept_down old new tables constraints marked kept within are sinks agenda = record {
   posted = still_posted tables.items constraints (present old.cells) (present new.cells) within kept.posted;
-  sound = sound_first (length old.cells.past - 1) new.cells (sound_along (length old.cells.past - 1) old.cells new.cells (sound_at old.cells kept.sound) sinks within are);
+  sound = sound_along marked old.cells new.cells kept.sound sinks within are;
   agenda = agenda;
 }
 
@@ -251,16 +251,16 @@ went fits old new (Ok done) settles = settles.0
 went fits old new (Err Collapsed) settles = settles.0
 went fits old new (Err Memory) settles = settles
 
-pub kept_settled : (fits : List Domain → Type 0) (old new : Domains) (tables : Vec Field Global) (constraints : List Constraint) (result : Result (Unit {0}) NetFault)
-    → SettlesTo fits (present old.cells) result (present new.cells) → Sinks (length old.cells.past - 1) old.cells new.cells → IsKeptAgenda tables.items constraints (present new.cells) new.agenda → IsKeptNet old tables constraints → IsKeptNet new tables constraints
-kept_settled fits old new tables constraints result settles sinks agenda kept =
+pub kept_settled : (fits : List Domain → Type 0) (old new : Domains) (tables : Vec Field Global) (constraints : List Constraint) (marked : ℕ) (result : Result (Unit {0}) NetFault)
+    → SettlesTo fits (present old.cells) result (present new.cells) → Sinks marked old.cells new.cells → IsKeptAgenda tables.items constraints (present new.cells) new.agenda → IsKeptNet old tables constraints marked → IsKeptNet new tables constraints marked
+kept_settled fits old new tables constraints marked result settles sinks agenda kept =
     let down = went fits (present old.cells) (present new.cells) result settles in
-    kept_down old new tables constraints kept down.within down.are sinks agenda
+    kept_down old new tables constraints marked kept down.within down.are sinks agenda
 
-pub settled_down : (net : Network) (old new : Domains) (tables : Vec Field Global) (constraints : List Constraint) → network_of old tables constraints ≡ net → IsKeptNet old tables constraints → IsKeptNet new tables constraints
-    → Sinks (length old.cells.past - 1) old.cells new.cells → Notes (present old.cells) (present new.cells) old.agenda.changed.items new.agenda.changed.items → GoesDown net (network_of new tables constraints)
-settled_down net old new tables constraints view kept after sinks notes =
-    subst (λ n. GoesDown n (network_of new tables constraints)) view (goes_down old new tables constraints kept.sound after.sound.place sinks notes)
+pub settled_down : (net : Network) (old new : Domains) (tables : Vec Field Global) (constraints : List Constraint) (marked : ℕ) → network_of old tables constraints marked ≡ net → IsKeptNet old tables constraints marked → IsKeptNet new tables constraints marked
+    → Sinks marked old.cells new.cells → Notes (present old.cells) (present new.cells) old.agenda.changed.items new.agenda.changed.items → GoesDown net (network_of new tables constraints marked)
+settled_down net old new tables constraints marked view kept after sinks notes =
+    subst (λ n. GoesDown n (network_of new tables constraints marked)) view (goes_down old new tables constraints marked kept.sound (some_past marked new.cells after.sound) sinks notes)
 
 -- ---- one variable that is limited
 
@@ -269,12 +269,9 @@ keeps_within passes old new Same kept = subst (λ d. IsWithin d old) (sym kept.0
 keeps_within passes old new Smaller kept = kept.0.within
 keeps_within passes old new Empty kept = subst (λ d. IsWithin d old) (sym kept.0) (IsWithin-refl old)
 
-module _ (old new : Domains) (tables : Vec Field Global) (constraints : List Constraint) (variable : ℕ) (to : Domain) (kept : IsKeptNet old tables constraints) (exists : variable < length (present old.cells)) (work : new.work ≡ old.work)
+module _ (old new : Domains) (tables : Vec Field Global) (constraints : List Constraint) (marked : ℕ) (variable : ℕ) (to : Domain) (kept : IsKeptNet old tables constraints marked) (exists : variable < length (present old.cells)) (work : new.work ≡ old.work)
     (alerts : Alerts (present old.cells) (present new.cells) old.agenda new.agenda) where
-  abbrev since : ℕ
-  since = length old.cells.past - 1
-
-  unmoved : new.cells ≡ old.cells → new.agenda ≡ old.agenda → network_of new tables constraints ≡ network_of old tables constraints
+  unmoved : new.cells ≡ old.cells → new.agenda ≡ old.agenda → network_of new tables constraints marked ≡ network_of old tables constraints marked
   unmoved same agenda = λ i. record {
     domains = present (same i);
     tables = tables.items;
@@ -282,81 +279,103 @@ module _ (old new : Domains) (tables : Vec Field Global) (constraints : List Con
     work = work i;
     stamps = (same i).stamps;
     older = older_of (same i).past;
+    marked = marked;
     changed = (agenda i).changed.items;
   }
 
-  kept_same : new.cells ≡ old.cells → new.agenda ≡ old.agenda → IsKeptNet new tables constraints
+  kept_same : new.cells ≡ old.cells → new.agenda ≡ old.agenda → IsKeptNet new tables constraints marked
   kept_same same agenda = record {
     posted = subst (λ (cells : Celled). WerePosted tables.items (length (present cells)) constraints) (sym same) kept.posted;
-    sound = subst (IsSound 0) (sym same) kept.sound;
+    sound = subst (IsSound marked) (sym same) kept.sound;
     agenda = subst (λ (cells : Celled). IsKeptAgenda tables.items constraints (present cells) new.agenda) (sym same)
         (subst (IsKeptAgenda tables.items constraints (present old.cells)) (sym agenda) kept.agenda);
   }
 
-  stays_where : (change : Change) → change ≡ Empty → LimitsCell variable to since old.cells (Ok change) new.cells → AlertsAfter change variable old.agenda new.agenda → network_of new tables constraints ≡ network_of old tables constraints
+  stays_where : (change : Change) → change ≡ Empty → LimitsCell variable to marked old.cells (Ok change) new.cells → AlertsAfter change variable old.agenda new.agenda → network_of new tables constraints marked ≡ network_of old tables constraints marked
   stays_where Same empty limits agenda = absurd (cc)
   stays_where Smaller empty limits agenda = absurd (cc)
   stays_where Empty empty limits agenda = unmoved limits.narrows.0 agenda
 
-  pub limits_net : (result : Result Change AllocError) → LimitsCell variable to since old.cells result new.cells → LimitAlerts variable result old.agenda new.agenda
-      → IsKeptNet new tables constraints × Limits (network_of old tables constraints) variable to result (network_of new tables constraints)
+  pub limits_net : (result : Result Change AllocError) → LimitsCell variable to marked old.cells result new.cells → LimitAlerts variable result old.agenda new.agenda
+      → IsKeptNet new tables constraints marked × Limits (network_of old tables constraints marked) variable to result (network_of new tables constraints marked)
   limits_net (Err none) limits agenda = (kept_same limits.narrows agenda, unmoved limits.narrows agenda)
   limits_net (Ok change) limits agenda =
       let zero_alone = Range (pos 0) (pos 0) in
-      let one = limit_at variable to since old.cells new.cells change kept.sound.are exists limits in
-      let sinks = (sinks_cell variable to since old.cells new.cells (Ok change) (sound_at old.cells kept.sound) exists limits).sinks in
+      let one = limit_at variable to marked old.cells new.cells change kept.sound.are exists limits in
+      let sinks = (sinks_cell variable to marked old.cells new.cells (Ok change) kept.sound exists limits).sinks in
       let within = subst (λ list. LieWithin list (present old.cells)) (sym one.others)
       (set_within (present old.cells) variable one.left zero_alone exists (keeps_within _ (domain_at (present old.cells) variable) one.left change one.kept)) in
       let are = subst (All IsDomain) (sym one.others) (All-set IsDomain (present old.cells) variable one.left one.is kept.sound.are) in
       let same = within_length (present new.cells) (present old.cells) within in
       let there = subst (λ count. NameWithin count constraints) (sym same) (named tables.items (length (present old.cells)) constraints kept.posted) in
       let covered = kept_on tables.items constraints (present old.cells) (present new.cells) old.agenda new.agenda there (omega (arith, same)) alerts kept.agenda in
-      let after = kept_down old new tables constraints kept within are sinks covered in
+      let after = kept_down old new tables constraints marked kept within are sinks covered in
       let notes = notes_of (present old.cells) (present new.cells) old.agenda new.agenda (subst (λ count. HasVariables count old.agenda) (sym same) kept.agenda.variables) alerts in
-      (after, (one, goes_down old new tables constraints kept.sound after.sound.place sinks notes, work, λ empty. stays_where change empty limits agenda))
+      (after, (one, goes_down old new tables constraints marked kept.sound (some_past marked new.cells after.sound) sinks notes, work, λ empty. stays_where change empty limits agenda))
 
-pub limits_as : (net : Network) (old new : Domains) (tables : Vec Field Global) (constraints : List Constraint) (variable : ℕ) (to : Domain) (result : Result Change AllocError) → network_of old tables constraints ≡ net
-    → IsKeptNet old tables constraints → variable < length net.domains → new.work ≡ old.work → LimitsCell variable to (length old.cells.past - 1) old.cells result new.cells
+pub limits_as : (net : Network) (old new : Domains) (tables : Vec Field Global) (constraints : List Constraint) (marked : ℕ) (variable : ℕ) (to : Domain) (result : Result Change AllocError) → network_of old tables constraints marked ≡ net
+    → IsKeptNet old tables constraints marked → variable < length net.domains → new.work ≡ old.work → LimitsCell variable to marked old.cells result new.cells
     → Alerts (present old.cells) (present new.cells) old.agenda new.agenda → LimitAlerts variable result old.agenda new.agenda
-    → IsKeptNet new tables constraints × Limits net variable to result (network_of new tables constraints)
-limits_as net old new tables constraints variable to result view kept exists work limits alerts agenda =
-    let both = limits_net old new tables constraints variable to kept (subst (λ (n : Network). variable < length n.domains) (sym view) exists) work alerts result limits agenda in
-    (both.0, subst (λ n. Limits n variable to result (network_of new tables constraints)) view both.1)
+    → IsKeptNet new tables constraints marked × Limits net variable to result (network_of new tables constraints marked)
+limits_as net old new tables constraints marked variable to result view kept exists work limits alerts agenda =
+    let both = limits_net old new tables constraints marked variable to kept (subst (λ (n : Network). variable < length n.domains) (sym view) exists) work alerts result limits agenda in
+    (both.0, subst (λ n. Limits n variable to result (network_of new tables constraints marked)) view both.1)
 
 -- ---- marks
 
-pub mark_is : (net : Network) (domains : Domains) (tables : Vec Field Global) (constraints : List Constraint) (mark : Mark) → network_of domains tables constraints ≡ net → IsKeptNet domains tables constraints
-    → IsPlace domains.cells mark.cells (present domains.cells) → mark.constraints ≡ length constraints → IsMark net mark net.domains net.constraints
-mark_is net domains tables constraints mark view kept place count =
-    subst (λ (n : Network). IsMark n mark n.domains n.constraints) view (record {
-      place = subst (λ cells. IsPlace cells mark.cells (present domains.cells)) (sym (celled_is domains tables constraints kept.sound.place)) place;
-      first = ([], sym (append-nil constraints));
-      count = sym count;
-      are = kept.sound.are;
-      posted = kept.posted;
-    })
+module _ (net : Network) (domains : Domains) (tables : Vec Field Global) (constraints : List Constraint) (marked : ℕ) (mark : Mark) (view : network_of domains tables constraints marked ≡ net) (kept : IsKeptNet domains tables constraints marked)
+    (newest : length domains.cells.past ≡ mark.cells + 1) where
+  some : 0 < length domains.cells.past
+  some = some_past marked domains.cells kept.sound
 
-pub mark_latest : (net : Network) (domains : Domains) (tables : Vec Field Global) (constraints : List Constraint) (mark : Mark) → network_of domains tables constraints ≡ net → IsKeptNet domains tables constraints
-    → length domains.cells.past ≡ mark.cells + 1 → mark.constraints ≡ length constraints → IsLatest net mark
-mark_latest net domains tables constraints mark view kept newest count =
-    subst (λ (n : Network). IsLatest n mark) view (λ earlier can.
-    let place = can.2.place in
-    let whole = ap (λ (cells : Celled). length cells.past) (celled_is domains tables constraints kept.sound.place) in (
-      omega (arith, newest, whole, ap length place.2.0, length-append place.0 (can.0 ∷ place.1), place.2.1),
-      omega (arith, count, ap length can.2.first.1, length-append can.1 can.2.first.0, can.2.count),
-    ))
+  pub marked_kept : IsKeptNet domains tables constraints mark.cells
+  marked_kept = record {
+    posted = kept.posted;
+    sound = record { place = omega (arith, newest); are = kept.sound.are; stamps = kept.sound.stamps };
+    agenda = kept.agenda;
+  }
 
-pub place_in : (net : Network) (domains : Domains) (tables : Vec Field Global) (constraints : List Constraint) (mark : Mark) → network_of domains tables constraints ≡ net → IsKeptNet domains tables constraints
+  place_is : mark.cells ≡ length net.older
+  place_is = omega (arith, newest, ap length (past_is domains.cells.past some), ap (λ (n : Network). length n.older) view)
+
+  pub marked_seen : network_of domains tables constraints mark.cells ≡ record net { marked = length net.older }
+  marked_seen = λ i. record (view i) { marked = place_is i }
+
+  pub mark_is : IsPlace domains.cells mark.cells (present domains.cells) → mark.constraints ≡ length constraints → IsMark (network_of domains tables constraints mark.cells) mark net.domains net.constraints
+  mark_is place count = subst (λ (n : Network). IsMark (network_of domains tables constraints mark.cells) mark n.domains n.constraints) view (record {
+    place = subst (λ cells. IsPlace cells mark.cells (present domains.cells)) (sym (celled_is domains tables constraints mark.cells some)) place;
+    marked = omega arith;
+    first = ([], sym (append-nil constraints));
+    count = sym count;
+    are = kept.sound.are;
+    posted = kept.posted;
+  })
+
+  pub mark_latest : mark.constraints ≡ length constraints → IsLatest (network_of domains tables constraints mark.cells) mark
+  mark_latest count = λ earlier can. (can.2.marked, omega (arith, count, ap length can.2.first.1, length-append can.1 can.2.first.0, can.2.count))
+
+  -- earlier marks stay
+  pub marks_kept : KeepMarks net (network_of domains tables constraints mark.cells)
+  marks_kept = subst (λ n. KeepMarks n (network_of domains tables constraints mark.cells)) view (λ earlier there posted is. record {
+    place = is.place;
+    marked = omega (arith, is.marked, kept.sound.place, newest);
+    first = is.first;
+    count = is.count;
+    are = is.are;
+    posted = is.posted;
+  })
+
+pub place_in : (net : Network) (domains : Domains) (tables : Vec Field Global) (constraints : List Constraint) (marked : ℕ) (mark : Mark) → network_of domains tables constraints marked ≡ net → IsKeptNet domains tables constraints marked
     → (there : List Domain) (posted : List Constraint) → IsMark net mark there posted → IsPlace domains.cells mark.cells there
-place_in net domains tables constraints mark view kept there posted is =
-    subst (λ cells. IsPlace cells mark.cells there) (celled_is domains tables constraints kept.sound.place) (subst (λ n. IsMark n mark there posted) (sym view) is).place
+place_in net domains tables constraints marked mark view kept there posted is =
+    subst (λ cells. IsPlace cells mark.cells there) (celled_is domains tables constraints marked (some_past marked domains.cells kept.sound)) (subst (λ n. IsMark n mark there posted) (sym view) is).place
 
-module _ (net : Network) (old new : Domains) (tables : Vec Field Global) (constraints left : List Constraint) (mark : Mark) (view : network_of old tables constraints ≡ net) (kept : IsKeptNet old tables constraints) (can : CanReturn net mark) where
-  there : IsMark (network_of old tables constraints) mark can.0 can.1
+module _ (net : Network) (old new : Domains) (tables : Vec Field Global) (constraints left : List Constraint) (marked : ℕ) (mark : Mark) (view : network_of old tables constraints marked ≡ net) (kept : IsKeptNet old tables constraints marked) (can : CanReturn net mark) where
+  there : IsMark (network_of old tables constraints marked) mark can.0 can.1
   there = subst (λ n. IsMark n mark can.0 can.1) (sym view) can.2
 
   place : IsPlace old.cells mark.cells can.0
-  place = subst (λ cells. IsPlace cells mark.cells can.0) (celled_is old tables constraints kept.sound.place) there.place
+  place = subst (λ cells. IsPlace cells mark.cells can.0) (celled_is old tables constraints marked (some_past marked old.cells kept.sound)) there.place
 
   pub can_go : mark.cells < length old.cells.past
   can_go = omega (arith, ap length place.2.0, length-append place.0 (can.0 ∷ place.1), place.2.1)
@@ -369,7 +388,7 @@ module _ (net : Network) (old new : Domains) (tables : Vec Field Global) (constr
 
   pub returns_to : (between : Agenda) → GoesBack mark.cells old.cells new.cells → left ≡ take mark.constraints constraints → new.work ≡ old.work
       → AlertsSince mark.cells old.cells old.agenda between → Forgets mark.constraints between new.agenda
-      → IsKeptNet new tables left × Returns mark net (network_of new tables left)
+      → IsKeptNet new tables left mark.cells × Returns mark net (network_of new tables left mark.cells)
   returns_to between goes taken work alerts forgets =
       let past : new.cells.past ≡ can.0 ∷ place.1 = same_end goes.newer place.0 new.cells.past (can.0 ∷ place.1) (sym goes.past ∙ place.2.0) (omega (arith, goes.count, place.2.1)) in
       let domains : present new.cells ≡ can.0 = ap newest_of past in
@@ -385,15 +404,16 @@ module _ (net : Network) (old new : Domains) (tables : Vec Field Global) (constr
       let notes = notes_of (present old.cells) can.0 old.agenda between has back.alerts in (
         record {
           posted = subst (λ list. WerePosted tables.items (length list) left) (sym domains) posted;
-          sound = record { place = some; are = subst (All IsDomain) (sym domains) there.are; stamps = goes.stamps };
+          sound = record { place = omega (arith, goes.count); are = subst (All IsDomain) (sym domains) there.are; stamps = goes.stamps };
           agenda = subst (λ list. IsKeptAgenda tables.items left list new.agenda) (sym domains) agenda;
         },
-        subst (λ n. Returns mark n (network_of new tables left)) view (record {
-          cells = subst (λ cells. GoesBack mark.cells cells (cells_of (network_of new tables left))) (sym (celled_is old tables constraints kept.sound.place))
-              (subst (GoesBack mark.cells old.cells) (sym (celled_is new tables left some)) goes);
+        subst (λ n. Returns mark n (network_of new tables left mark.cells)) view (record {
+          cells = subst (λ cells. GoesBack mark.cells cells (cells_of (network_of new tables left mark.cells))) (sym (celled_is old tables constraints marked (some_past marked old.cells kept.sound)))
+              (subst (GoesBack mark.cells old.cells) (sym (celled_is new tables left mark.cells some)) goes);
           constraints = taken;
           tables = refl;
           work = work;
+          marked = refl;
           notes = subst (λ list. Notes (present old.cells) list old.agenda.changed.items new.agenda.changed.items) (sym domains)
               (subst (λ (q : Queued). Notes (present old.cells) can.0 old.agenda.changed.items q.items) (sym forgets.changed) notes);
         }),

@@ -27,6 +27,7 @@ module _ (mark : Mark) (domains : List Domain) (constraints : List Constraint) w
   pub stays_added : (old new : Network) (domain : Domain) (result : Result ℕ AllocError) → Is old → AddsVar domain old result new → Is new
   stays_added old new domain (Ok number) is adds = subst Is (sym adds.1) (record {
     place = ((old.domains ++ domain ∷ []) ∷ is.place.0, is.place.1, (ap (λ list. (old.domains ++ domain ∷ []) ∷ list) is.place.2.0, is.place.2.1));
+    marked = is.marked;
     first = is.first;
     count = is.count;
     are = is.are;
@@ -39,6 +40,7 @@ module _ (mark : Mark) (domains : List Domain) (constraints : List Constraint) w
       let one : Constraint = record { kind = kind; args = args } in
       subst Is (sym posts) (record {
         place = is.place;
+        marked = is.marked;
         first = (is.first.0 ++ one ∷ [], ap (λ list. list ++ one ∷ []) is.first.1 ∙ append_assoc constraints is.first.0 (one ∷ []));
         count = is.count;
         are = is.are;
@@ -47,20 +49,24 @@ module _ (mark : Mark) (domains : List Domain) (constraints : List Constraint) w
   stays_posted old new kind args (Err none) is same = subst Is (sym same) is
 
   pub stays_down : (old new : Network) → Is old → GoesDown old new → Is new
-  stays_down old new is down = record {
-    place = (
-      down.past.0 ++ is.place.0,
-      is.place.1,
-      (
-        down.past.1 ∙ ap (λ list. down.past.0 ++ list) is.place.2.0 ∙ sym (append_assoc down.past.0 is.place.0 (domains ∷ is.place.1)),
-        is.place.2.1,
-      ),
-    );
-    first = (is.first.0, down.constraints ∙ is.first.1);
-    count = is.count;
-    are = is.are;
-    posted = subst (λ tables. WerePosted tables (length domains) constraints) (sym down.tables) is.posted;
-  }
+  stays_down old new is down =
+      let past = down.past in
+      let tail = end_in_end past.0 past.2 is.place.0 (domains ∷ is.place.1) (sym past.3.0 ∙ is.place.2.0) (omega (arith, past.3.1.1, is.place.2.1, is.marked)) in
+      record {
+        place = (
+          past.1 ++ tail.0,
+          is.place.1,
+          (
+            past.3.1.0 ∙ ap (λ list. past.1 ++ list) tail.1 ∙ sym (append_assoc past.1 tail.0 (domains ∷ is.place.1)),
+            is.place.2.1,
+          ),
+        );
+        marked = omega (arith, is.marked, down.marked);
+        first = (is.first.0, down.constraints ∙ is.first.1);
+        count = is.count;
+        are = is.are;
+        posted = subst (λ tables. WerePosted tables (length domains) constraints) (sym down.tables) is.posted;
+      }
 
   pub stays_limited : (old new : Network) (variable : ℕ) (to : Domain) (result : Result Change AllocError) → Is old → Limits old variable to result new → Is new
   stays_limited old new variable to (Ok change) is limits = stays_down old new is limits.1
@@ -74,6 +80,7 @@ module _ (mark : Mark) (domains : List Domain) (constraints : List Constraint) w
       let long : later.constraints ≡ length constraints + more = omega (arith, count, is.count) in
       record {
         place = (tail.0, is.place.1, (tail.1, is.place.2.1));
+        marked = omega (arith, cells, back.marked);
         first = (take more is.first.0, back.constraints ∙ (λ i. take (long i) (is.first.1 i)) ∙ take-append-add constraints is.first.0 more);
         count = is.count;
         are = is.are;

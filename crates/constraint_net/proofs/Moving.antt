@@ -75,13 +75,6 @@ sinks_trans since old middle new p q = record {
       (get_or old.stamps cell 0) (get_or middle.stamps cell 0) (get_or new.stamps cell 0) (p.follow cell) (q.follow cell);
 }
 
--- the newest place is that of the last mark
-pub since_is : (place : ℕ) (cells : Celled) → length cells.past ≡ place + 1 → place ≡ length cells.past - 1
-since_is place cells newest = omega (arith, newest)
-
-pub on : (place : ℕ) (old middle new : Celled) → place ≡ length old.past - 1 → Sinks (length old.past - 1) old middle → Sinks place middle new → Sinks (length old.past - 1) old new
-on place old middle new is p q = sinks_trans (length old.past - 1) old middle new p (subst (λ since. Sinks since middle new) is q)
-
 pub at_refl : (args : List NetArg) (since : ℕ) (cells : Celled) → since < length cells.past → SinksAt args since cells cells
 at_refl args since cells below = record { sinks = sinks_refl since cells below; others = λ cell apart. refl }
 

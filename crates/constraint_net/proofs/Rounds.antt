@@ -1,5 +1,5 @@
 -- What each turn of settling carries on, whatever it answers.
-use Rattle.std.proofs.Common.{◌≡◌, ℕ, ◌+◌, ◌-◌, List, length}
+use Rattle.std.proofs.Common.{ℕ, List, length}
 use Rattle.std.specs.Prelude.{Result}
 use Rattle.std.specs.declared.alloc.AllocError.{AllocError}
 use Rattle.domain_core.specs.declared.Change.{Change}
@@ -15,23 +15,23 @@ use Rattle.constraint_net.specs.declared.agenda.Agenda.{Agenda}
 use Rattle.constraint_net.specs.declared.constraint.Constraint.{Constraint}
 use Rattle.constraint_net.proofs.Advancing.{steps_length}
 use Rattle.constraint_net.proofs.Alerting.{kept_step, notes_step}
-use Rattle.constraint_net.proofs.Moving.{since_is, on}
+use Rattle.constraint_net.proofs.Moving.{sinks_trans}
 use Rattle.constraint_net.proofs.Turns.{still_posted}
 
-pub record Carried (tables : List Field) (constraints : List Constraint) (start : Celled) (noted : List ℕ) (cells : Celled) (agenda : Agenda) : Type 0 where
-  pub sinks : Sinks (length start.past - 1) start cells
+pub record Carried (tables : List Field) (constraints : List Constraint) (since : ℕ) (start : Celled) (noted : List ℕ) (cells : Celled) (agenda : Agenda) : Type 0 where
+  pub sinks : Sinks since start cells
   pub kept : IsKeptAgenda tables constraints (present cells) agenda
   pub notes : Notes (present start) (present cells) noted agenda.changed.items
 
-pub carried_on : (tables : List Field) (constraints : List Constraint) (number place : ℕ) (start old new : Celled) (noted : List ℕ) (before after : Agenda) (result : Result Change AllocError)
-    → length start.past ≡ place + 1 → WerePosted tables (length (present start)) constraints → Advances (AllConsistent tables constraints) (present start) (present old)
-    → Carried tables constraints start noted old before
-    → StepsTo (IsConsistentAt tables constraints number) (present old) result (present new) → Sinks place old new → Alerts (present old) (present new) before after
-    → Carried tables constraints start noted new after
-carried_on tables constraints number place start old new noted before after result newest posted so_far carried step sinks alerts =
+pub carried_on : (tables : List Field) (constraints : List Constraint) (number since : ℕ) (start old new : Celled) (noted : List ℕ) (before after : Agenda) (result : Result Change AllocError)
+    → WerePosted tables (length (present start)) constraints → Advances (AllConsistent tables constraints) (present start) (present old)
+    → Carried tables constraints since start noted old before
+    → StepsTo (IsConsistentAt tables constraints number) (present old) result (present new) → Sinks since old new → Alerts (present old) (present new) before after
+    → Carried tables constraints since start noted new after
+carried_on tables constraints number since start old new noted before after result posted so_far carried step sinks alerts =
     let same = steps_length (IsConsistentAt tables constraints number) (present old) (present new) result so_far.are step in
     record {
-      sinks = on place start old new (since_is place start newest) carried.sinks sinks;
+      sinks = sinks_trans since start old new carried.sinks sinks;
       kept = kept_step tables constraints (present old) (present new) before after (still_posted tables constraints (present start) (present old) so_far.within posted) same alerts carried.kept;
       notes = notes_step (present start) (present old) (present new) noted before after same carried.kept.variables alerts carried.notes;
     }

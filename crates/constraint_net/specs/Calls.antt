@@ -5,7 +5,7 @@ use Rattle.std.specs.declared.alloc.AllocError.{AllocError}
 use Rattle.domain_core.specs.Domain.{Domain}
 use Rattle.domain_core.specs.declared.Change.{Change}
 use Rattle.domain_core.specs.declared.Change.TheVariants.{Empty}
-use Rattle.cell_store.specs.Cells.{domain_at, FollowsDomain}
+use Rattle.cell_store.specs.Cells.{domain_at, KeepsPast, FollowsDomain}
 use Rattle.model_core.specs.declared.item.Kind.{Kind}
 use Rattle.narrow_core.specs.declared.field.Field.{Field}
 use Rattle.narrow_core.specs.declared.field.FieldEntry.{FieldEntry}
@@ -54,11 +54,12 @@ TakesChanged old (Some variable) new =
 TakesChanged old None new = (old.changed ≡ []) × (new ≡ old)
 
 -- domains have got less: tables and constraints are as before, the stamps follow the domains, what has changed is
--- noted, and what could be gone back to still can
+-- noted, and what could be gone back to by a mark still can
 pub record GoesDown (old new : Network) : Type 0 where
   pub tables : new.tables ≡ old.tables
   pub constraints : new.constraints ≡ old.constraints
-  pub past : (newer : List (List Domain)) × (new.domains ∷ new.older ≡ newer ++ old.domains ∷ old.older)
+  pub marked : new.marked ≡ old.marked
+  pub past : KeepsPast old.marked (old.domains ∷ old.older) (new.domains ∷ new.older)
   pub stamps : length new.stamps ≡ length old.stamps
   pub follow : (variable : ℕ) → variable < length old.domains
       → FollowsDomain (domain_at old.domains variable) (slice_index_or old.stamps variable 0)

@@ -1,5 +1,5 @@
 -- How a network is kept.
-use Rattle.std.specs.Prelude.{List, [], ◌∷◌, Vec, length}
+use Rattle.std.specs.Prelude.{ℕ, List, [], ◌∷◌, Vec, length}
 use Rattle.std.specs.declared.alloc.Global.{Global}
 use Rattle.domain_core.specs.Domain.{Domain}
 use Rattle.cell_store.specs.Cells.{present}
@@ -16,8 +16,8 @@ older_of [] = []
 older_of (domains ∷ past) = past
 
 -- the network that is kept so
-abbrev pub network_of : Domains → Vec Field Global → List Constraint → Network
-network_of domains tables constraints =
+abbrev pub network_of : Domains → Vec Field Global → List Constraint → ℕ → Network
+network_of domains tables constraints marked =
     record {
       domains = present domains.cells;
       tables = tables.items;
@@ -25,11 +25,13 @@ network_of domains tables constraints =
       work = domains.work;
       stamps = domains.cells.stamps;
       older = older_of domains.cells.past;
+      marked = marked;
       changed = domains.agenda.changed.items;
     }
 
--- each constraint could be posted, each variable has a domain and a stamp, and who has to be looked at waits
-pub record IsKeptNet (domains : Domains) (tables : Vec Field Global) (constraints : List Constraint) : Type 0 where
+-- each constraint could be posted, each variable has a domain and a stamp, the latest mark can be gone back to, and who
+-- has to be looked at waits
+pub record IsKeptNet (domains : Domains) (tables : Vec Field Global) (constraints : List Constraint) (marked : ℕ) : Type 0 where
   pub posted : WerePosted tables.items (length (present domains.cells)) constraints
-  pub sound : IsSound 0 domains.cells
+  pub sound : IsSound marked domains.cells
   pub agenda : IsKeptAgenda tables.items constraints (present domains.cells) domains.agenda

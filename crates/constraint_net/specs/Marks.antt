@@ -8,9 +8,10 @@ use Rattle.constraint_net.specs.Waiting.{WerePosted}
 use Rattle.constraint_net.specs.declared.constraint.Constraint.{Constraint}
 use Rattle.constraint_net.specs.declared.network.Mark.{Mark}
 
--- at the mark the network had these domains and these constraints
+-- at the mark, which is no later than the latest one, the network had these domains and these constraints
 pub record IsMark (net : Network) (mark : Mark) (domains : List Domain) (constraints : List Constraint) : Type 0 where
   pub place : IsPlace (cells_of net) mark.cells domains
+  pub marked : mark.cells ≤ net.marked
   pub first : (later : List Constraint) × (net.constraints ≡ constraints ++ later)
   pub count : length constraints ≡ mark.constraints
   pub are : All IsDomain domains
@@ -32,13 +33,14 @@ KeepMarks old new =
     (mark : Mark) (domains : List Domain) (constraints : List Constraint)
     → IsMark old mark domains constraints → IsMark new mark domains constraints
 
--- the variables, their domains and the constraints at the mark are back, the stamps follow the domains, what has
--- changed is noted, and nothing of the work is taken back
+-- the variables, their domains and the constraints at the mark are back, which is the latest one then, the stamps
+-- follow the domains, what has changed is noted, and nothing of the work is taken back
 pub record Returns (mark : Mark) (old new : Network) : Type 0 where
   pub cells : GoesBack mark.cells (cells_of old) (cells_of new)
   pub constraints : new.constraints ≡ take mark.constraints old.constraints
   pub tables : new.tables ≡ old.tables
   pub work : new.work ≡ old.work
+  pub marked : new.marked ≡ mark.cells
   pub notes : Notes old.domains new.domains old.changed new.changed
 
 -- each variable that there was, and whose domain is another one now, is among the numbers

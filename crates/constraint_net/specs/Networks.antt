@@ -14,7 +14,8 @@ use Rattle.constraint_net.specs.declared.constraint.Constraint.{Constraint}
 
 -- a network: the domains of its variables, the tables of fields, the constraints in the order in which they were
 -- posted, how many narrowings it has made, how often each domain was written, the lists of domains before the present
--- one that can be gone back to, and the variables that have changed since they were taken off this list
+-- one that can be gone back to, the latest place to which a mark goes, and the variables that have changed since they
+-- were taken off this list
 pub record Network : Type 0 where
   pub domains : List Domain
   pub tables : List Field
@@ -22,6 +23,7 @@ pub record Network : Type 0 where
   pub work : ℕ
   pub stamps : List ℕ
   pub older : List (List Domain)
+  pub marked : ℕ
   pub changed : List ℕ
 
 -- its variables as cells

@@ -1,6 +1,6 @@
 //! The domains of the variables, and what one constraint takes from them.
 
-ghost use Rattle.std.specs.Prelude.{◌≡◌, ◌-◌, ◌<◌, ◌≤◌, [], ◌∷◌, All, length};
+ghost use Rattle.std.specs.Prelude.{◌≡◌, ◌<◌, ◌≤◌, [], ◌∷◌, All, length};
 ghost use Rattle.domain_core.specs.Domain.{IsDomain, IsSameKind};
 ghost use Rattle.cell_store.specs.Cells.{present, AddsCell};
 ghost use Rattle.constraint_net.specs.Agendas.{HasVariables, Grows, LimitAlerts, Alerts, AlertsSince, TellsOfLoss};
@@ -63,17 +63,15 @@ impl Domains {
     }
 
     /// Keeps of one variable what the other domain has too.
-    pub fn limit(&mut self, variable: usize, to: &Dom) -> Result<Change, AllocError>
+    pub fn limit(&mut self, variable: usize, to: &Dom, since: Mark) -> Result<Change, AllocError>
         requires exists { variable < length (present self.old.cells) }
-        requires past { 0 < length self.old.cells.past }
+        requires since { since < length self.old.cells.past }
         requires ready { HasVariables (length (present self.old.cells)) self.old.agenda }
-        ensures limited { LimitsCell variable to.now (length self.old.cells.past - 1)
-            self.old.cells result self.new.cells }
+        ensures limited { LimitsCell variable to.now since self.old.cells result self.new.cells }
         ensures alerts { Alerts (present self.old.cells) (present self.new.cells) self.old.agenda self.new.agenda }
         ensures told { LimitAlerts variable result self.old.agenda self.new.agenda }
         ensures work { self.new.work ≡ self.old.work }
     {
-        let since = self.cells.mark();
         limit_cell(&mut self.cells, &mut self.agenda, variable, to, since)
     }
 

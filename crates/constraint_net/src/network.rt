@@ -10,7 +10,7 @@ ghost use Rattle.constraint_net.specs.Calls.{IsAscending, given_by, table_of, Ad
 ghost use Rattle.constraint_net.specs.Calls.{GoesDown, TakesChanged};
 ghost use Rattle.constraint_net.specs.Agendas.{Forgets};
 ghost use Rattle.constraint_net.specs.Waiting.{NameWithin};
-ghost use Rattle.constraint_net.specs.Marks.{IsMark, IsLatest, CanReturn, Returns, HaveChanged};
+ghost use Rattle.constraint_net.specs.Marks.{IsMark, IsLatest, CanReturn, KeepMarks, Returns, HaveChanged};
 ghost use Rattle.constraint_net.specs.declared.constraint.Constraint.{Constraint};
 ghost use Rattle.constraint_net.specs.declared.constraint.NetArg.TheVariants.{Var};
 
@@ -36,6 +36,8 @@ pub struct Net {
     domains: Domains,
     tables: Vec<Field>,
     constraints: Posted,
+    // The latest mark that was handed out and not gone back behind. What came after it is written in place.
+    marked: CellMark,
 }
 
 /// A point to which a network can go back, as long as it hasn't gone back to one before it.
@@ -51,9 +53,9 @@ impl Model for Net {
 
     ghost Value = { Network };
 
-    ghost view = { λ net. network_of net.domains net.tables net.constraints };
+    ghost view = { λ net. network_of net.domains net.tables net.constraints net.marked };
 
-    ghost invariant = { λ net. IsKeptNet net.domains net.tables net.constraints };
+    ghost invariant = { λ net. IsKeptNet net.domains net.tables net.constraints net.marked };
 }
 
 impl Net {
@@ -66,11 +68,14 @@ impl Net {
           work = 0;
           stamps = [];
           older = [];
+          marked = 0;
           changed = [];
         } }
     {
+        let domains = Domains::new(alloc);
         Net {
-            domains: Domains::new(alloc),
+            marked: domains.cells.mark(),
+            domains,
             tables: Vec::new(alloc),
             constraints: Posted::new(alloc),
         }
@@ -129,7 +134,7 @@ impl Net {
         requires { variable < length self.old.domains }
         ensures { Limits self.old variable to.now result self.new }
     {
-        self.domains.limit(variable, to)
+        self.domains.limit(variable, to, self.marked)
     }
 
     /// The domain of the variable. None where there is no such variable.
@@ -159,16 +164,24 @@ impl Net {
         ensures others { GoesDown self.old self.new }
         ensures counted { self.old.work ≤ self.new.work }
     {
-        settle(&self.constraints, self.tables.as_slice(), &mut self.domains)
+        settle(
+            &self.constraints,
+            self.tables.as_slice(),
+            &mut self.domains,
+            self.marked,
+        )
     }
 
-    /// A mark at the network as it is.
-    pub fn mark(&self) -> Mark
-        ensures is { IsMark self.now result self.now.domains self.now.constraints }
-        ensures latest { IsLatest self.now result }
+    /// A mark at the network as it is. What changes between two marks takes memory once for each variable.
+    pub fn mark(&mut self) -> Mark
+        ensures marked { self.new ≡ record self.old { marked = length self.old.older } }
+        ensures is { IsMark self.new result self.old.domains self.old.constraints }
+        ensures latest { IsLatest self.new result }
+        ensures keeps { KeepMarks self.old self.new }
     {
+        self.marked = self.domains.cells.mark();
         Mark {
-            cells: self.domains.cells.mark(),
+            cells: self.marked,
             constraints: self.constraints.len(),
         }
     }
@@ -185,6 +198,7 @@ impl Net {
             mark.constraints,
         );
         self.domains.cells.back_to(mark.cells);
+        self.marked = mark.cells;
     }
 
     /// The variables that were written since the mark, by number, some of them perhaps twice.

@@ -20,19 +20,23 @@ use std::alloc::AllocError;
 
 /// Takes values away until all constraints are consistent. The first constraint that waits is narrowed until that takes
 /// nothing; whoever watches a variable that gets less on the way waits from then on.
-pub fn settle(constraints: &Posted, tables: &[Field], domains: &mut Domains) -> Result<(), NetFault>
+pub fn settle(
+    constraints: &Posted,
+    tables: &[Field],
+    domains: &mut Domains,
+    since: Mark,
+) -> Result<(), NetFault>
     requires posted { WerePosted tables.now (length (present domains.old.cells)) constraints.now }
-    requires sound { IsSound (length domains.old.cells.past - 1) domains.old.cells }
+    requires sound { IsSound since domains.old.cells }
     requires kept { IsKeptAgenda tables.now constraints.now (present domains.old.cells) domains.old.agenda }
     ensures settled { SettlesTo (AllConsistent tables.now constraints.now)
         (present domains.old.cells) result (present domains.new.cells) }
-    ensures sinks { Sinks (length domains.old.cells.past - 1) domains.old.cells domains.new.cells }
+    ensures sinks { Sinks since domains.old.cells domains.new.cells }
     ensures counted { domains.old.work ≤ domains.new.work }
     ensures kept { IsKeptAgenda tables.now constraints.now (present domains.new.cells) domains.new.agenda }
     ensures notes { Notes (present domains.old.cells) (present domains.new.cells)
         domains.old.agenda.changed.items domains.new.agenda.changed.items }
 {
-    let since = domains.cells.mark();
     while let Some(number) = domains.agenda.waiting.first() {
         match narrow_number(constraints, number, tables, domains, since)? {
             Change::Same => {

@@ -1,8 +1,7 @@
-use Rattle.std.proofs.Common.{◌≡◌, ◌-◌, length, refl, sym, ap, ◌∙◌, subst, arith}
+use Rattle.std.proofs.Common.{◌≡◌, length, refl, sym, ap, ◌∙◌, subst, arith}
 use Rattle.std.specs.Prelude.{sum_by}
 use Rattle.domain_core.specs.Domain.{slack}
 use Rattle.cell_store.specs.Cells.{present}
-use Rattle.constraint_net.specs.Moves.{IsSound}
 use Rattle.constraint_net.specs.Networks.{AllConsistent}
 use Rattle.constraint_net.specs.Steps.{Advances}
 use Rattle.constraint_net.specs.Queues.{Queued}
@@ -10,7 +9,7 @@ use Rattle.constraint_net.specs.Waiting.{IsConsistentAt}
 use Rattle.constraint_net.specs.declared.agenda.Agenda.{Agenda}
 use Rattle.constraint_net.proofs.Advancing.{advances_refl}
 use Rattle.constraint_net.proofs.Alerting.{notes_refl, no_loss}
-use Rattle.constraint_net.proofs.Moving.{sinks_refl, sound_along, since_is}
+use Rattle.constraint_net.proofs.Moving.{sinks_refl, sound_along}
 use Rattle.constraint_net.proofs.Turns.{still_posted, turned, was_consistent, turned_empty, turned_out, all_settled, taken_off, kept_taken, less_slack, fewer_wait}
 use Rattle.constraint_net.proofs.Rounds.{carried_on}
 use Rattle.constraint_net.proofs.settling.settle.Goals as goal
@@ -20,7 +19,7 @@ loop-number-init c =
     record {
       advances = advances_refl (AllConsistent c.args.tables.now c.args.constraints.now) (present c.args.domains.now.cells) c.requires.sound.are;
       carried = record {
-        sinks = sinks_refl (length c.args.domains.now.cells.past - 1) c.args.domains.now.cells c.requires.sound.place;
+        sinks = sinks_refl c.args.since c.args.domains.now.cells c.requires.sound.place;
         kept = c.requires.kept;
         notes = notes_refl (present c.args.domains.now.cells) c.args.domains.now.agenda.changed.items;
       };
@@ -35,8 +34,7 @@ narrow_number-requires-clause-posted c =
 pub narrow_number-requires-clause-sound : goal.narrow_number-requires-clause-sound
 narrow_number-requires-clause-sound c =
     let loop = c.loop-number in
-    subst (λ since. IsSound since loop.domains.cells) (sym (since_is c.mark-since.result c.args.domains.now.cells c.mark-since.ensures.newest))
-    (sound_along (length c.args.domains.now.cells.past - 1) c.args.domains.now.cells loop.domains.cells c.requires.sound loop.invariant.carried.sinks loop.invariant.advances.within loop.invariant.advances.are)
+    sound_along c.args.since c.args.domains.now.cells loop.domains.cells c.requires.sound loop.invariant.carried.sinks loop.invariant.advances.within loop.invariant.advances.are
 
 pub returns-in_err-narrow_number-clause-settled : goal.returns-in_err-narrow_number-clause-settled
 returns-in_err-narrow_number-clause-settled c =
@@ -55,8 +53,8 @@ returns-in_err-narrow_number-clause-sinks c =
     let loop = c.loop-number in
     let step = c.narrow_number in
     let carried =
-    carried_on tables constraints c.in-Some.number c.mark-since.result start.cells loop.domains.cells step.new.domains.cells start.agenda.changed.items loop.domains.agenda step.new.domains.agenda step.result
-    c.mark-since.ensures.newest c.requires.posted loop.invariant.advances loop.invariant.carried step.ensures.steps step.ensures.sinks step.ensures.alerts in
+    carried_on tables constraints c.in-Some.number c.args.since start.cells loop.domains.cells step.new.domains.cells start.agenda.changed.items loop.domains.agenda step.new.domains.agenda step.result
+    c.requires.posted loop.invariant.advances loop.invariant.carried step.ensures.steps step.ensures.sinks step.ensures.alerts in
     carried.sinks
 
 pub returns-in_err-narrow_number-clause-kept : goal.returns-in_err-narrow_number-clause-kept
@@ -67,8 +65,8 @@ returns-in_err-narrow_number-clause-kept c =
     let loop = c.loop-number in
     let step = c.narrow_number in
     let carried =
-    carried_on tables constraints c.in-Some.number c.mark-since.result start.cells loop.domains.cells step.new.domains.cells start.agenda.changed.items loop.domains.agenda step.new.domains.agenda step.result
-    c.mark-since.ensures.newest c.requires.posted loop.invariant.advances loop.invariant.carried step.ensures.steps step.ensures.sinks step.ensures.alerts in
+    carried_on tables constraints c.in-Some.number c.args.since start.cells loop.domains.cells step.new.domains.cells start.agenda.changed.items loop.domains.agenda step.new.domains.agenda step.result
+    c.requires.posted loop.invariant.advances loop.invariant.carried step.ensures.steps step.ensures.sinks step.ensures.alerts in
     carried.kept
 
 pub returns-in_err-narrow_number-clause-notes : goal.returns-in_err-narrow_number-clause-notes
@@ -79,8 +77,8 @@ returns-in_err-narrow_number-clause-notes c =
     let loop = c.loop-number in
     let step = c.narrow_number in
     let carried =
-    carried_on tables constraints c.in-Some.number c.mark-since.result start.cells loop.domains.cells step.new.domains.cells start.agenda.changed.items loop.domains.agenda step.new.domains.agenda step.result
-    c.mark-since.ensures.newest c.requires.posted loop.invariant.advances loop.invariant.carried step.ensures.steps step.ensures.sinks step.ensures.alerts in
+    carried_on tables constraints c.in-Some.number c.args.since start.cells loop.domains.cells step.new.domains.cells start.agenda.changed.items loop.domains.agenda step.new.domains.agenda step.result
+    c.requires.posted loop.invariant.advances loop.invariant.carried step.ensures.steps step.ensures.sinks step.ensures.alerts in
     carried.notes
 
 pub returns-in-Empty-clause-settled : goal.returns-in-Empty-clause-settled
@@ -100,8 +98,8 @@ returns-in-Empty-clause-sinks c =
     let loop = c.loop-number in
     let step = c.narrow_number in
     let carried =
-    carried_on tables constraints c.in-Some.number c.mark-since.result start.cells loop.domains.cells step.new.domains.cells start.agenda.changed.items loop.domains.agenda step.new.domains.agenda step.result
-    c.mark-since.ensures.newest c.requires.posted loop.invariant.advances loop.invariant.carried step.ensures.steps step.ensures.sinks step.ensures.alerts in
+    carried_on tables constraints c.in-Some.number c.args.since start.cells loop.domains.cells step.new.domains.cells start.agenda.changed.items loop.domains.agenda step.new.domains.agenda step.result
+    c.requires.posted loop.invariant.advances loop.invariant.carried step.ensures.steps step.ensures.sinks step.ensures.alerts in
     carried.sinks
 
 pub returns-in-Empty-clause-kept : goal.returns-in-Empty-clause-kept
@@ -112,8 +110,8 @@ returns-in-Empty-clause-kept c =
     let loop = c.loop-number in
     let step = c.narrow_number in
     let carried =
-    carried_on tables constraints c.in-Some.number c.mark-since.result start.cells loop.domains.cells step.new.domains.cells start.agenda.changed.items loop.domains.agenda step.new.domains.agenda step.result
-    c.mark-since.ensures.newest c.requires.posted loop.invariant.advances loop.invariant.carried step.ensures.steps step.ensures.sinks step.ensures.alerts in
+    carried_on tables constraints c.in-Some.number c.args.since start.cells loop.domains.cells step.new.domains.cells start.agenda.changed.items loop.domains.agenda step.new.domains.agenda step.result
+    c.requires.posted loop.invariant.advances loop.invariant.carried step.ensures.steps step.ensures.sinks step.ensures.alerts in
     carried.kept
 
 pub returns-in-Empty-clause-notes : goal.returns-in-Empty-clause-notes
@@ -124,8 +122,8 @@ returns-in-Empty-clause-notes c =
     let loop = c.loop-number in
     let step = c.narrow_number in
     let carried =
-    carried_on tables constraints c.in-Some.number c.mark-since.result start.cells loop.domains.cells step.new.domains.cells start.agenda.changed.items loop.domains.agenda step.new.domains.agenda step.result
-    c.mark-since.ensures.newest c.requires.posted loop.invariant.advances loop.invariant.carried step.ensures.steps step.ensures.sinks step.ensures.alerts in
+    carried_on tables constraints c.in-Some.number c.args.since start.cells loop.domains.cells step.new.domains.cells start.agenda.changed.items loop.domains.agenda step.new.domains.agenda step.result
+    c.requires.posted loop.invariant.advances loop.invariant.carried step.ensures.steps step.ensures.sinks step.ensures.alerts in
     carried.notes
 
 pub loop-number-smaller-in-Same : goal.loop-number-smaller-in-Same
@@ -154,8 +152,8 @@ loop-number-preserved-in-Same c =
     let waiting : step.new.domains.agenda.waiting ≡ loop.domains.agenda.waiting = ap (λ (a : Agenda). a.waiting) quiet in
     let off = taken_off c.in-Some.number loop.domains.agenda.waiting step.new.domains.agenda.waiting c.take-settled.new.self c.take-settled.result c.in-Some.ensures.first waiting c.take-settled.ensures.taken in
     let carried =
-    carried_on tables constraints c.in-Some.number c.mark-since.result start.cells loop.domains.cells step.new.domains.cells start.agenda.changed.items loop.domains.agenda step.new.domains.agenda step.result
-    c.mark-since.ensures.newest c.requires.posted loop.invariant.advances loop.invariant.carried step.ensures.steps step.ensures.sinks step.ensures.alerts in
+    carried_on tables constraints c.in-Some.number c.args.since start.cells loop.domains.cells step.new.domains.cells start.agenda.changed.items loop.domains.agenda step.new.domains.agenda step.result
+    c.requires.posted loop.invariant.advances loop.invariant.carried step.ensures.steps step.ensures.sinks step.ensures.alerts in
     record {
       advances = subst (λ s. Advances (AllConsistent tables constraints) (present start.cells) s) (sym was.0) loop.invariant.advances;
       carried = record {
@@ -177,8 +175,8 @@ loop-number-preserved c =
     let step = c.narrow_number in
     record {
       advances = (turned tables constraints c.in-Some.number (present start.cells) (present loop.domains.cells) (present step.new.domains.cells) loop.invariant.advances c.in_ok-narrow_number.field-0 c.in-Smaller.is c.in_ok-narrow_number.ensures.steps).0;
-      carried = carried_on tables constraints c.in-Some.number c.mark-since.result start.cells loop.domains.cells step.new.domains.cells start.agenda.changed.items loop.domains.agenda step.new.domains.agenda step.result
-          c.mark-since.ensures.newest c.requires.posted loop.invariant.advances loop.invariant.carried step.ensures.steps step.ensures.sinks step.ensures.alerts;
+      carried = carried_on tables constraints c.in-Some.number c.args.since start.cells loop.domains.cells step.new.domains.cells start.agenda.changed.items loop.domains.agenda step.new.domains.agenda step.result
+          c.requires.posted loop.invariant.advances loop.invariant.carried step.ensures.steps step.ensures.sinks step.ensures.alerts;
       counted = omega (arith, loop.invariant.counted, step.ensures.counted);
       room = step.ensures.alerts.stays.waiting.room ∙ loop.invariant.room;
     }

@@ -10,7 +10,7 @@ use Rattle.constraint_net.proofs.settling.settle.Given as goal
 abbrev pub invariant-loop-number : goal.invariant-loop-number
 invariant-loop-number l = record {
   advances : Advances (AllConsistent l.tables l.constraints) (present l.fn.domains.cells) (present l.domains.cells);
-  carried : Carried l.tables l.constraints l.fn.domains.cells l.fn.domains.agenda.changed.items l.domains.cells l.domains.agenda;
+  carried : Carried l.tables l.constraints l.since l.fn.domains.cells l.fn.domains.agenda.changed.items l.domains.cells l.domains.agenda;
   counted : l.fn.domains.work ≤ l.domains.work;
   room : l.domains.agenda.waiting.room ≡ l.fn.domains.agenda.waiting.room;
 }

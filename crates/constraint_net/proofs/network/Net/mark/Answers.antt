@@ -1,12 +1,27 @@
-use Rattle.constraint_net.proofs.Keepers.{mark_is, mark_latest}
+use Rattle.constraint_net.proofs.Keepers.{marked_kept, marked_seen, mark_is, mark_latest, marks_kept}
 use Rattle.constraint_net.proofs.network.Net.mark.Goals as goal
+
+pub invariant_of-self : goal.invariant_of-self
+invariant_of-self c =
+    let net = c.self.inside in
+    marked_kept c.args.self.now net.domains net.tables net.constraints net.marked (record { cells = c.mark-self-inside.result; constraints = c.len.result }) c.self.view_is c.self.invariant c.mark-self-inside.ensures.newest
+
+pub returns-clause-marked : goal.returns-clause-marked
+returns-clause-marked c =
+    let net = c.self.inside in
+    marked_seen c.args.self.now net.domains net.tables net.constraints net.marked (record { cells = c.mark-self-inside.result; constraints = c.len.result }) c.self.view_is c.self.invariant c.mark-self-inside.ensures.newest
 
 pub returns-clause-is : goal.returns-clause-is
 returns-clause-is c =
     let net = c.self.inside in
-    mark_is c.args.self.now net.domains net.tables net.constraints _ c.self.view_is c.self.invariant c.mark.ensures.place c.len.ensures
+    mark_is c.args.self.now net.domains net.tables net.constraints net.marked _ c.self.view_is c.self.invariant c.mark-self-inside.ensures.newest c.mark-self-inside.ensures.place c.len.ensures
 
 pub returns-clause-latest : goal.returns-clause-latest
 returns-clause-latest c =
     let net = c.self.inside in
-    mark_latest c.args.self.now net.domains net.tables net.constraints _ c.self.view_is c.self.invariant c.mark.ensures.newest c.len.ensures
+    mark_latest c.args.self.now net.domains net.tables net.constraints net.marked _ c.self.view_is c.self.invariant c.mark-self-inside.ensures.newest c.len.ensures
+
+pub returns-clause-keeps : goal.returns-clause-keeps
+returns-clause-keeps c =
+    let net = c.self.inside in
+    marks_kept c.args.self.now net.domains net.tables net.constraints net.marked (record { cells = c.mark-self-inside.result; constraints = c.len.result }) c.self.view_is c.self.invariant c.mark-self-inside.ensures.newest
