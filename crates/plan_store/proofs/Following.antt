@@ -176,6 +176,9 @@ pub net_taken : (result : Option ℕ) (old new : Network) → TakesChanged old r
 net_taken (Some variable) old new takes = subst (NetGoesOn old) (sym takes.1.1) (record { count = omega arith; each = λ number below. inl (refl, refl) })
 net_taken None old new takes = subst (NetGoesOn old) (sym takes.1) (net_same old)
 
+pub net_marked : (marked : ℕ) (old new : Network) → new ≡ record old { marked = marked } → NetGoesOn old new
+net_marked marked old new is = subst (NetGoesOn old) (sym is) (record { count = omega arith; each = λ number below. inl (refl, refl) })
+
 pub posted_tables : (kind : Kind) (args : List NetArg) (result : Result (Unit {0}) AllocError) (old new : Network) → Posts old kind args result new → new.tables ≡ old.tables
 posted_tables kind args (Ok done) old new posts = ap (λ (net : Network). net.tables) posts
 posted_tables kind args (Err none) old new posts = ap (λ (net : Network). net.tables) posts
@@ -186,7 +189,7 @@ taken_tables None old new takes = ap (λ (net : Network). net.tables) takes.1
 
 pub taken_marks : (result : Option ℕ) (old new : Network) → TakesChanged old result new → KeepMarks old new
 taken_marks (Some variable) old new takes = subst (KeepMarks old) (sym takes.1.1) (λ mark domains constraints is.
-    record { place = is.place; first = is.first; count = is.count; are = is.are; posted = is.posted })
+    record { place = is.place; marked = is.marked; first = is.first; count = is.count; are = is.are; posted = is.posted })
 taken_marks None old new takes = subst (KeepMarks old) (sym takes.1) (λ mark domains constraints is. is)
 
 -- ---- by name

@@ -17,8 +17,8 @@ use Rattle.plan_store.specs.declared.store.Mark.{Mark}
 use Rattle.plan_store.specs.declared.watchers.Watch.{Watch}
 use Rattle.plan_store.specs.Stamps.{FollowStamps, StampsGoOn}
 use Rattle.plan_store.specs.Stores.{Stored, Snapshot, snapshot_of, IsSnapshot}
-use Rattle.plan_store.specs.StoreMarks.{AreFirst, IsStoreMark, IsMarkBefore, CanGoBack, KeepStoreMarks, GoesBackTo, AreTouched}
-use Rattle.plan_store.proofs.Following.{NetGoesOn, net_same, goes_on_both, stamps_return, names_back}
+use Rattle.plan_store.specs.StoreMarks.{AreFirst, IsStoreMark, IsMarkBefore, CanGoBack, KeepStoreMarks, GoesBackTo, AreTouched, with_mark}
+use Rattle.plan_store.proofs.Following.{NetGoesOn, net_same, net_marked, goes_on_both, stamps_return, names_back}
 
 -- ---- going on
 
@@ -171,22 +171,31 @@ pub record Reaches (stored : Stored) (mark : Mark) : Type 0 where
   pub blocks : mark.blocks ≡ length stored.blocks
   pub watches : mark.watches ≡ length stored.watches
 
-pub mark_now : (stored seen : Stored) (mark : Mark) → stored ≡ seen → IsSnapshot (snapshot_of stored) → Reaches stored mark
-    → IsMark stored.net mark.net stored.net.domains stored.net.constraints → IsStoreMark seen mark (snapshot_of seen)
-mark_now stored seen mark same is reaches net = subst (λ s. IsStoreMark s mark (snapshot_of s)) same (record {
-  is = is;
-  tokens = front_of stored.past mark.tokens reaches.tokens;
-  keys = all_first mark.variables stored.keys reaches.variables;
-  blocks = all_first mark.blocks stored.blocks reaches.blocks;
-  watches = all_first mark.watches stored.watches reaches.watches;
-  net = net;
-  tables = refl;
-})
+module _ (view seen : Stored) (net : Network) (same : view ≡ seen) (told : net ≡ record view.net { marked = length view.net.older }) where
+  pub marked_seen : record view { net = net } ≡ with_mark seen
+  marked_seen = ap (λ (n : Network). record view { net = n }) told ∙ ap with_mark same
 
-pub mark_latest : (stored seen : Stored) (mark : Mark) → stored ≡ seen → Reaches stored mark → IsLatest stored.net mark.net
-    → (earlier : Mark) → CanGoBack seen earlier → IsMarkBefore earlier mark
-mark_latest stored seen mark same reaches latest earlier can_go =
-    let can = subst (λ s. CanGoBack s earlier) (sym same) can_go in
+  pub marked_sound : IsSnapshot (snapshot_of view) → IsSnapshot (snapshot_of (record view { net = net }))
+  marked_sound is = subst (λ (n : Network). IsSnapshot (snapshot_of (record view { net = n }))) (sym told) is
+
+  pub mark_now : (mark : Mark) → IsSnapshot (snapshot_of view) → Reaches view mark → IsMark net mark.net view.net.domains view.net.constraints
+      → IsStoreMark (record view { net = net }) mark (snapshot_of seen)
+  mark_now mark is reaches here = subst (λ s. IsStoreMark (record view { net = net }) mark (snapshot_of s)) same (record {
+    is = is;
+    tokens = front_of view.past mark.tokens reaches.tokens;
+    keys = all_first mark.variables view.keys reaches.variables;
+    blocks = all_first mark.blocks view.blocks reaches.blocks;
+    watches = all_first mark.watches view.watches reaches.watches;
+    net = here;
+    tables = sym (ap (λ (n : Network). n.tables) told);
+  })
+
+  pub marked_marks : KeepMarks view.net net → KeepStoreMarks seen (record view { net = net })
+  marked_marks keeps = net_marks view seen net same keeps (net_marked (length view.net.older) view.net net told) (ap (λ (n : Network). n.tables) told)
+
+pub mark_latest : (stored : Stored) (mark : Mark) → Reaches stored mark → IsLatest stored.net mark.net
+    → (earlier : Mark) → CanGoBack stored earlier → IsMarkBefore earlier mark
+mark_latest stored mark reaches latest earlier can =
     let there = can.0 in
     let is = can.1 in
     let net = latest earlier.net (there.domains, there.posted, is.net) in

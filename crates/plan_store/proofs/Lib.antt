@@ -7,3 +7,4 @@ pub mod Following
 pub mod Going
 pub mod Steps
 pub mod Watched
+pub mod Found

@@ -74,11 +74,6 @@ module _ {X : Type 0} (test : X → X → Bool) (tells : DecidesEquality test) (
       let any : list_any (test item) old ≡ true = is_true (list_any (test item) old) (λ none. let new_one : added ≡ true = told ∙ ap not none in cc) in
       (Contains-list_any test (λ x y. (tells x y).0) old item any, is ∙ ap (λ any. if any then old else (old ++ item ∷ [])) any)
 
--- and where it wasn't there
-pub puts_fresh : {X : Type 0} (test : X → X → Bool) → DecidesEquality test → (old new : List X) (item : X) → (Contains old item → ⊥) → new ≡ insert_key test old item → new ≡ old ++ item ∷ []
-puts_fresh test tells old new item fresh is =
-    is ∙ ap (λ any. if any then old else (old ++ item ∷ [])) (is_false (list_any (test item) old) (λ any. fresh (Contains-list_any test (λ x y. (tells x y).0) old item any)))
-
 -- what was found is there, and what wasn't isn't
 pub found_there : {X : Type 0} (items : List X) (item : X) (found : Option ℕ) → FindsItem items item found → true ≡ is_some found → Contains items item
 found_there items item None finds some = absurd (cc)

@@ -6,4 +6,5 @@ pub mod StoreMarks
 pub mod StoreLaws
 pub mod Watching
 pub mod Holding
+pub mod Findable
 pub mod Finding

@@ -21,6 +21,10 @@ pub record IsStoreMark (stored : Stored) (mark : Mark) (snapshot : Snapshot) : T
   pub net : IsMark stored.net mark.net snapshot.domains snapshot.posted
   pub tables : snapshot.tables ≡ stored.net.tables
 
+-- the store whose latest mark is at the present place
+abbrev pub with_mark : Stored → Stored
+with_mark stored = record stored { net = record stored.net { marked = length stored.net.older } }
+
 -- the mark is one of this store, which hasn't gone back behind it
 abbrev pub CanGoBack : Stored → Mark → Type 0
 CanGoBack stored mark = (snapshot : Snapshot) × IsStoreMark stored mark snapshot

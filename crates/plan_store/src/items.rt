@@ -1,7 +1,5 @@
 //! Items in the order in which they came, each of them once.
 
-ghost use Rattle.std.specs.Prelude.{◌≡◌, ◌<◌, ◌++◌, ◌∷◌, [], Contains};
-ghost use Rattle.indexmap.specs.IndexSet.{spare};
 ghost use Rattle.eu_name.specs.Laws.{DecidesEquality};
 ghost use Rattle.plan_store.specs.Puts.{FindsItem, PutsItem};
 
@@ -27,17 +25,4 @@ pub fn put<T: Eq + Hash + Drop>(
 {
     let (number, added) = items.insert_full(item)?;
     if added { Ok(Some(number)) } else { Ok(None) }
-}
-
-/// Puts an item that isn't there behind the others, where there is room.
-pub fn put_in_room<T: Eq + Hash + Drop>(items: &mut IndexSet<T>, item: T)
-    requires told { DecidesEquality T.eq }
-    requires fresh { Contains items.old.keys item → ⊥ }
-    requires room { 0 < spare items.old }
-    ensures { items.new.keys ≡ items.old.keys ++ item ∷ [] }
-{
-    match items.insert(item) {
-        Ok(_added) => {}
-        Err(_full) => unreachable!(),
-    }
 }

@@ -12,9 +12,9 @@
 //! ```
 #![tactic(auto)]
 
-mod expecting;
 mod items;
 pub mod key;
+mod keys;
 pub mod laws;
 pub mod store;
 pub mod watchers;

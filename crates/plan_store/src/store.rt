@@ -3,7 +3,6 @@
 ghost use Rattle.std.specs.Prelude.{◌≡◌, ℕ, ◌^◌, ◌<◌, ◌≤◌, [], ◌∷◌, ◌++◌, length, option_copied, slice_get};
 ghost use Rattle.std.specs.Prelude.{Contains, IfOk, OnOk, OnErr, MatchOption};
 ghost use Rattle.domain_core.specs.Domain.{Domain, IsDomain};
-ghost use Rattle.eu_name.specs.Laws.{DecidesEquality};
 ghost use Rattle.token_store.specs.Tokens.{tokens_now, with_state};
 ghost use Rattle.constraint_net.specs.Calls.{IsAscending, table_of, AddsVar, Limits, Posts, GoesDown, TakesChanged};
 ghost use Rattle.constraint_net.specs.Networks.{CanPost, AllConsistent};
@@ -12,12 +11,12 @@ ghost use Rattle.plan_store.specs.Keys.{IsKeyBelow};
 ghost use Rattle.plan_store.specs.Stores.{Snapshot, snapshot_of, IsSnapshot, blocks_watching, variable_names};
 ghost use Rattle.plan_store.specs.Puts.{FindsItem, PutsToken, PutsVariable, PutsBlock, ChangesNet};
 ghost use Rattle.plan_store.specs.Stamps.{HasStamp};
-ghost use Rattle.plan_store.specs.StoreMarks.{IsStoreMark, IsMarkBefore, CanGoBack, KeepStoreMarks, GoesBackTo, AreTouched};
+ghost use Rattle.plan_store.specs.StoreMarks.{IsStoreMark, IsMarkBefore, CanGoBack, KeepStoreMarks, GoesBackTo, AreTouched, with_mark};
 ghost use Rattle.plan_store.specs.Finding.{FindsKey, AddsKey};
 
-use super::expecting::{expected, note_start};
-use super::items::{find, put, put_in_room};
+use super::items::{find, put};
 use super::key::{OpenBlock, VarKey};
+use super::keys::Keys;
 use super::laws::keys_are_told_apart;
 use super::watchers::Watchers;
 use constraint_net::laws::marks_stay;
@@ -38,10 +37,7 @@ use token_store::{AddFault, Mark as TokenMark, Tokens};
 pub struct Store {
     tokens: Tokens,
     // The number of a key is that of its variable in the network.
-    variables: IndexSet<VarKey>,
-    // By place, the number of each token's start, which spares most look-ups of its parts. What stands there is compared before it
-    // is relied on.
-    starts: Vec<u32>,
+    variables: Keys,
     blocks: IndexSet<OpenBlock>,
     watchers: Watchers,
     net: Net,
@@ -63,10 +59,10 @@ impl Model for Store {
 
     ghost Value = { Stored };
 
-    ghost view = { λ store. stored_of store.tokens store.variables.keys store.blocks.keys store.watchers store.net };
+    ghost view = { λ store. stored_of store.tokens store.variables store.blocks.keys store.watchers store.net };
 
     ghost invariant = { λ store. IsSnapshot (snapshot_of
-        (stored_of store.tokens store.variables.keys store.blocks.keys store.watchers store.net)) };
+        (stored_of store.tokens store.variables store.blocks.keys store.watchers store.net)) };
 }
 
 impl Store {
@@ -84,14 +80,14 @@ impl Store {
             work = 0;
             stamps = [];
             older = [];
+            marked = 0;
             changed = [];
           };
         } }
     {
         Store {
             tokens: Tokens::new(alloc),
-            variables: IndexSet::new(alloc),
-            starts: Vec::new(alloc),
+            variables: Keys::new(alloc),
             blocks: IndexSet::new(alloc),
             watchers: Watchers::new(alloc),
             net: Net::new(alloc),
@@ -149,12 +145,10 @@ impl Store {
         ensures domain { IsDomain domain }
         ensures marks { KeepStoreMarks self.old self.new }
     {
-        keys_are_told_apart();
         marks_stay();
-        if find(&self.variables, &key).is_some() {
+        if self.variables.find(key).is_some() {
             return Ok(None);
         }
-        note_start(&mut self.starts, key, self.variables.len())?;
         let number = add_key(&mut self.variables, &mut self.net, key, domain)?;
         Ok(Some(number))
     }
@@ -163,11 +157,7 @@ impl Store {
     pub fn find_variable(&self, key: VarKey) -> Option<usize>
         ensures { FindsItem self.now.keys key result }
     {
-        keys_are_told_apart();
-        match expected(&self.variables, self.starts.as_slice(), key) {
-            Some(number) => Some(number),
-            None => find(&self.variables, &key),
-        }
+        self.variables.find(key)
     }
 
     /// The number of the variable of this name.
@@ -193,7 +183,7 @@ impl Store {
     pub fn key_at(&self, number: usize) -> Option<VarKey>
         ensures { result ≡ slice_get self.now.keys number }
     {
-        self.variables.get_index(number).copied()
+        self.variables.get(number)
     }
 
     /// Adds an open block, and answers its number; None where it is open already.
@@ -308,10 +298,12 @@ impl Store {
         self.net.next_changed()
     }
 
-    /// A mark at the store as it is.
-    pub fn mark(&self) -> Mark
-        ensures is { IsStoreMark self.now result (snapshot_of self.now) }
-        ensures latest { (earlier : Mark) → CanGoBack self.now earlier → IsMarkBefore earlier result }
+    /// A mark at the store as it is. The network is told of it, so that it keeps what variables are at the mark.
+    pub fn mark(&mut self) -> Mark
+        ensures marked { self.new ≡ with_mark self.old }
+        ensures is { IsStoreMark self.new result (snapshot_of self.old) }
+        ensures latest { (earlier : Mark) → CanGoBack self.new earlier → IsMarkBefore earlier result }
+        ensures marks { KeepStoreMarks self.old self.new }
     {
         Mark {
             tokens: self.tokens.mark(),
@@ -350,21 +342,23 @@ impl Store {
 
 // Adds a variable of a key that isn't there.
 fn add_key(
-    variables: &mut IndexSet<VarKey>,
+    variables: &mut Keys,
     net: &mut Net,
     key: VarKey,
     domain: Dom,
 ) -> Result<usize, AllocError>
-    requires told { DecidesEquality ⟦<VarKey as PartialEq>⟧.eq }
-    requires fresh { FindsItem variables.old.keys key None }
-    ensures added { AddsKey key variables.old.keys result variables.new.keys }
+    requires fresh { FindsItem variables.old key None }
+    ensures added { AddsKey key variables.old result variables.new }
     ensures net { AddsVar domain net.old result net.new }
     ensures domain { IsDomain domain }
 {
-    variables.reserve(1)?;
-    let number = net.add_var(domain)?;
-    put_in_room(variables, key);
-    Ok(number)
+    let count = variables.len();
+    variables.push(key)?;
+    let added = net.add_var(domain);
+    if added.is_err() {
+        variables.truncate(count);
+    }
+    added
 }
 
 // Puts the numbers from the one on that are below the other behind those that are there.

@@ -11,7 +11,7 @@ use Rattle.plan_store.proofs.store.Store.stamp.Goals as goal
 pub returns : goal.returns
 returns c =
     let inside = c.self.inside in
-    let view = stored_of inside.tokens inside.variables.keys inside.blocks.keys inside.watchers inside.net in
+    let view = stored_of inside.tokens inside.variables inside.blocks.keys inside.watchers inside.net in
     let small : IfSome c.stamp.result (λ stamp. stamp < 2 ^ 64) = search rules in
     subst (λ (stored : Stored). MatchOption c.stamp.result (Contains (variable_names (snapshot_of stored)) c.args.name.now → ⊥) (λ stamp. (domain : Domain) × HasStamp stored c.args.name.now domain stamp)) c.self.view_is
     (stamp_told view c.args.name.now c.in_ok-number.number c.stamp.result c.self.invariant
