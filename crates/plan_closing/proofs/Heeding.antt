@@ -48,7 +48,6 @@ use Rattle.plan_store.proofs.Lists.{unmapped}
 use Rattle.plan_store.proofs.Naming.{names_are_once, names_have_one_number}
 use Rattle.plan_store.proofs.Watched.{watchers_are_listed}
 use Rattle.plan_posting.specs.Origins.{content_now}
-use Rattle.plan_posting.specs.Posted.{OnlyPosts}
 use Rattle.plan_posting.specs.Terms.{HasTimesAt}
 use Rattle.plan_opening.specs.Underway.{IsStoreUnderway, OnlyAdds, GoesOnAs}
 use Rattle.plan_opening.proofs.Opening.{name_there}
@@ -58,7 +57,7 @@ use Rattle.plan_unfolding.proofs.Adding.{Adds, adds_nothing, adds_both, content_
 use Rattle.plan_unfolding.proofs.Looking.{KeepsUnderway}
 use Rattle.plan_unfolding.proofs.Naming.{unfolded_blocks_can_be_read}
 use Rattle.plan_closing.specs.Looking.{IsOnWay, HasWay, IsBlockFollowed, FollowsWatchers, TellsTurns, OwnerTakesTurns, KeepsWay, LooksAt}
-use Rattle.plan_closing.specs.Turns.{IsTurnOf, TakesTurns}
+use Rattle.plan_closing.specs.Turns.{PostsOrMarks, IsTurnOf, TakesTurns}
 use Rattle.plan_closing.proofs.Sharing.{same_content}
 use Rattle.plan_closing.proofs.Staying.{turns_underway, underway_more}
 use Rattle.plan_posting.proofs.Storing.{marks_same, marks_both}
@@ -208,7 +207,7 @@ pub owner_below : (stored : Stored) → IsSnapshot (snapshot_of stored) → (var
 owner_below stored sound variable place part at =
     All-contains (IsKeyBelow (length (tokens_now stored.past))) stored.keys (key.Part place part) sound.placed (contains_from_get stored.keys variable (key.Part place part) at)
 
-pub turns_keep : (model : Model) (place : ℕ) (old new : Stored) → OnlyPosts old new → TakesTurns model place old new → KeepsWay model old new
+pub turns_keep : (model : Model) (place : ℕ) (old new : Stored) → PostsOrMarks old new → TakesTurns model place old new → KeepsWay model old new
 turns_keep model place old new only turns decisions unfolded due way =
     record { once = way.once; underway = turns_underway model place old new only turns decisions decisions unfolded due way.once way.underway }
 
@@ -232,7 +231,7 @@ turn_said model decisions state owner one other (inr same) turn =
 
 module _ (model : Model) (lawful : IsLawful model) (unfolded variable : ℕ) (old mid new : Stored) (sound : IsSnapshot (snapshot_of old)) (middle : IsSnapshot (snapshot_of mid))
     (stays : StaysOnWay model old (Ok tt) mid) (watched : FollowsWatchers model unfolded variable (length (blocks_watching old.watches variable)) old mid) (adds : OnlyAdds old mid)
-    (keeps : KeepsWay model mid new) (owner : OwnerTakesTurns model variable mid new) (only : OnlyPosts mid new)
+    (keeps : KeepsWay model mid new) (owner : OwnerTakesTurns model variable mid new) (only : PostsOrMarks mid new)
     (decisions : List Decision) (due : List ℕ) (way : IsOnWay model decisions old unfolded (variable ∷ due)) where
   way_mid : IsOnWay model decisions mid unfolded (variable ∷ due)
   way_mid = record { once = way.once; underway = stays decisions decisions unfolded (variable ∷ due) way.underway tt }

@@ -25,6 +25,7 @@ use Rattle.plan_growth.specs.Growth.{ends_before}
 use Rattle.timeline_core.specs.Unordered.{IsActiveOn, TakesPlace}
 use Rattle.timeline_core.proofs.Telling.{is_active, not_active}
 use Rattle.plan_store.specs.Stores.{Stored, snapshot_of, IsSnapshot, blocks_watching}
+use Rattle.plan_store.specs.StoreMarks.{with_mark}
 use Rattle.plan_store.specs.declared.watchers.Watch.{Watch}
 use Rattle.plan_store.proofs.Watched.{watchers_are_listed}
 use Rattle.plan_store.proofs.Naming.{same_place, length_names}
@@ -32,7 +33,7 @@ use Rattle.plan_posting.specs.Origins.{content_now}
 use Rattle.plan_posting.specs.Posted.{OnlyPosts, PostsClaims}
 use Rattle.plan_posting.specs.Terms.{HasTimesAt}
 use Rattle.plan_closing.specs.Seating.{SeatsAll}
-use Rattle.plan_closing.specs.Turns.{HaveDecided, FindsTimeline, SeesToClaims, SaysTurn, IsTurnOf, TakeTheirTurns, TakesTurnsAmong, TakesTurns}
+use Rattle.plan_closing.specs.Turns.{OnlyMarks, PostsOrMarks, HaveDecided, FindsTimeline, SeesToClaims, SaysTurn, IsTurnOf, TakeTheirTurns, TakesTurnsAmong, TakesTurns}
 use Rattle.plan_closing.proofs.Claimed.{SaysOne, sees_none, sees_posted, sees_same, sees_both, ok_then}
 use Rattle.plan_closing.proofs.Domains.{gives_same, object_place}
 
@@ -98,21 +99,37 @@ turn_apart : (model : Model) (decisions : List Decision) (state : State) (one ot
 turn_apart model decisions state one other claim (inl turn) same = turn.0.share.apart same
 turn_apart model decisions state one other claim (inr turn) same = turn.0.share.apart (sym same)
 
+-- ---- a store in which something was posted, or that was marked
+
+pub posts_alone : (old new : Stored) → OnlyPosts old new → PostsOrMarks old new
+posts_alone old new only = only ∙ (λ i. record old { net = record old.net { constraints = new.net.constraints; marked = sym (ap (λ (stored : Stored). stored.net.marked) only) i } })
+
+pub marks_alone : (old new : Stored) → OnlyMarks old new → PostsOrMarks old new
+marks_alone old new only = only ∙ (λ i. record old { net = record old.net { constraints = sym (ap (λ (stored : Stored). stored.net.constraints) only) i; marked = new.net.marked } })
+
+pub only_marked : (old new : Stored) → new ≡ with_mark old → OnlyMarks old new
+only_marked old new is = is ∙ (λ i. record old { net = record old.net { marked = sym (ap (λ (stored : Stored). stored.net.marked) is) i } })
+
+pub posts_then : (old mid new : Stored) → OnlyMarks old mid → OnlyPosts mid new → PostsOrMarks old new
+posts_then old mid new marks posts =
+    posts_alone mid new posts
+    ∙ ap (λ (stored : Stored). record stored { net = record stored.net { constraints = new.net.constraints; marked = new.net.marked } }) marks
+
 -- what is posted is no part of what the states are made by
-pub decided_back : (model : Model) (decisions : List Decision) (old new : Stored) → OnlyPosts old new → HaveDecided model decisions new → HaveDecided model decisions old
+pub decided_back : (model : Model) (decisions : List Decision) (old new : Stored) → PostsOrMarks old new → HaveDecided model decisions new → HaveDecided model decisions old
 decided_back model decisions old new only decided =
     let d = subst (HaveDecided model decisions) only decided in
     record { states = record { states = d.states.states; rejected = d.states.rejected }; once = d.once }
 
-pub decided_on : (model : Model) (decisions : List Decision) (old new : Stored) → OnlyPosts old new → HaveDecided model decisions old → HaveDecided model decisions new
+pub decided_on : (model : Model) (decisions : List Decision) (old new : Stored) → PostsOrMarks old new → HaveDecided model decisions old → HaveDecided model decisions new
 decided_on model decisions old new only decided =
     subst (HaveDecided model decisions) (sym only)
     (record { states = record { states = decided.states.states; rejected = decided.states.rejected }; once = decided.once })
 
-pub same_content : (old new : Stored) → OnlyPosts old new → content_now new ≡ content_now old
+pub same_content : (old new : Stored) → PostsOrMarks old new → content_now new ≡ content_now old
 same_content old new only = ap content_now only
 
-pub finds_on : (model : Model) (old new : Stored) (place : ℕ) (found : Option ℤ) → OnlyPosts old new → FindsTimeline model old place found → FindsTimeline model new place found
+pub finds_on : (model : Model) (old new : Stored) (place : ℕ) (found : Option ℤ) → PostsOrMarks old new → FindsTimeline model old place found → FindsTimeline model new place found
 finds_on model old new place found only finds = λ decisions decided.
     subst (λ (content : Content). MatchOption found
     ((timeline : ℤ) → IsActiveOn model decisions (shown content) (name_at content.tokens place) timeline → ⊥)
@@ -226,17 +243,17 @@ module _ (model : Model) (old : Stored) (is : IsSnapshot (snapshot_of old)) (one
         let long = length_names (tokens_now old.past) in
         let apart : first ≢ second = λ same. differ (same_place content.tokens is.tokens_once one other (omega (arith, below, long)) (omega (arith, within, long)) same) in
         let second_posted = subst (λ (c : Content). SeesToClaims c.names (SaysTurn (shown c) (name_at c.tokens other) (name_at c.tokens one)) middle.net.constraints new.net.constraints)
-        (same_content old middle only) more in
+        (same_content old middle (posts_alone old middle only)) more in
         sees_same content.names (λ claim. SaysTurn (shown content) first second claim ⊎ SaysTurn (shown content) second first claim)
         (IsTurnOf model decisions (shown content) first second) old.net.constraints new.net.constraints
         (turns_said there apart decisions decided) (said_turns there apart decisions decided)
         (sees_both content.names (SaysTurn (shown content) first second) (SaysTurn (shown content) second first) old.net.constraints middle.net.constraints new.net.constraints posted second_posted)) back
 
-pub times_on : (old new : Stored) → OnlyPosts old new → ((place : ℕ) → place < length (tokens_now old.past) → HasTimesAt old place)
+pub times_on : (old new : Stored) → PostsOrMarks old new → ((place : ℕ) → place < length (tokens_now old.past) → HasTimesAt old place)
     → (place : ℕ) → place < length (tokens_now new.past) → HasTimesAt new place
 times_on old new only times = subst (λ (stored : Stored). (place : ℕ) → place < length (tokens_now stored.past) → HasTimesAt stored place) (sym only) times
 
-pub place_on : (old new : Stored) → OnlyPosts old new → (place : ℕ) → place < length (tokens_now old.past) → place < length (tokens_now new.past)
+pub place_on : (old new : Stored) → PostsOrMarks old new → (place : ℕ) → place < length (tokens_now old.past) → place < length (tokens_now new.past)
 place_on old new only place below = subst (λ (stored : Stored). place < length (tokens_now stored.past)) (sym only) below
 
 -- ---- with one token after another
@@ -283,7 +300,7 @@ module _ (model : Model) (old : Stored) (one : ℕ) where
       let content = content_now old in
       let step = subst (λ (stored : Stored). SeesToClaims (content_now stored).names (λ claim. (place : ℕ) × Contains (other ∷ []) place × (place < length (tokens_now stored.past))
       × IsTurnOf model decisions (shown (content_now stored)) (name_at (content_now stored).tokens one) (name_at (content_now stored).tokens place) claim) stored.net.constraints new.net.constraints)
-      only (next decisions (decided_on model decisions old middle only decided)) in
+      only (next decisions (decided_on model decisions old middle (posts_alone old middle only) decided)) in
       sees_same content.names (λ claim. WithOneOf decisions seen claim ⊎ WithOneOf decisions (other ∷ []) claim)
       (WithOneOf decisions (seen ++ other ∷ [])) old.net.constraints new.net.constraints
       (λ claim either. elim either [
@@ -343,3 +360,11 @@ module _ (model : Model) (old : Stored) (one : ℕ) where
         subst (λ other. IsTurnOf model decisions (shown content) token other claim) (sym place.5) turn.1,
       ))
       (turns decisions decided)) among
+
+-- marks make no difference to the turns that are taken
+pub turns_marked : (model : Model) (one : ℕ) (old mid new : Stored) (result : Result (Unit {0}) AllocError) → OnlyMarks old mid
+    → OnOk result (TakesTurns model one mid new) → OnOk result (TakesTurns model one old new)
+turns_marked model one old mid new result only turns = ok_then result (λ (takes : TakesTurns model one mid new) decisions decided.
+    subst (λ (stored : Stored). SeesToClaims (content_now stored).names
+    (λ claim. (other : TokenName) × IsTurnOf model decisions (shown (content_now stored)) (name_at (content_now stored).tokens one) other claim) stored.net.constraints new.net.constraints)
+    only (takes decisions (decided_on model decisions old mid (marks_alone old mid only) decided))) turns

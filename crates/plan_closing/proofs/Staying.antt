@@ -33,9 +33,8 @@ use Rattle.token_store.specs.Orders.{name_at}
 use Rattle.plan_store.specs.Puts.{ChangesNet}
 use Rattle.plan_store.specs.Stores.{Stored}
 use Rattle.plan_posting.specs.Origins.{content_now}
-use Rattle.plan_posting.specs.Posted.{OnlyPosts}
 use Rattle.plan_opening.specs.Underway.{IsStoreUnderway}
-use Rattle.plan_closing.specs.Turns.{IsTurnOf, TakesTurns}
+use Rattle.plan_closing.specs.Turns.{PostsOrMarks, IsTurnOf, TakesTurns}
 use Rattle.plan_closing.proofs.Claimed.{SaysOne}
 
 -- ---- turns
@@ -61,7 +60,7 @@ some_turn : (model : Model) (decisions : List Decision) (state : State) (one oth
 some_turn model decisions state one other claim (inl turn) = (one, other, turn.0, turn.1)
 some_turn model decisions state one other claim (inr turn) = (other, one, turn.0, turn.1)
 
-pub turns_underway : (model : Model) (place : ℕ) (old new : Stored) → OnlyPosts old new → TakesTurns model place old new
+pub turns_underway : (model : Model) (place : ℕ) (old new : Stored) → PostsOrMarks old new → TakesTurns model place old new
     → (followed decisions : List Decision) (unfolded : ℕ) (due : List ℕ) → AreDecidedOnce model decisions
     → IsStoreUnderway model followed decisions old unfolded due → IsStoreUnderway model followed decisions new unfolded due
 turns_underway model place old new only turns followed decisions unfolded due once under =

@@ -19,6 +19,15 @@ use Rattle.plan_store.specs.Stores.{Stored, snapshot_of}
 use Rattle.plan_posting.specs.Counting.{AreTokenStates}
 use Rattle.plan_posting.specs.Origins.{content_now}
 
+-- but for the latest mark nothing changes
+abbrev pub OnlyMarks : Stored → Stored → Type 0
+OnlyMarks old new = new ≡ record old { net = record old.net { marked = new.net.marked } }
+
+-- but for the constraints of the network and the latest mark nothing changes
+abbrev pub PostsOrMarks : Stored → Stored → Type 0
+PostsOrMarks old new =
+    new ≡ record old { net = record old.net { constraints = new.net.constraints; marked = new.net.marked } }
+
 -- the decisions have made the states of the tokens, and decide each token once
 pub record HaveDecided (model : Model) (decisions : List Decision) (stored : Stored) : Type 0 where
   pub states : AreTokenStates model decisions (snapshot_of stored)

@@ -4,10 +4,10 @@ ghost use Rattle.std.specs.Prelude.{◌≡◌, ◌↔◌, ◌<◌, length, slice
 ghost use Rattle.model_core.specs.Lawful.{IsLawful};
 ghost use Rattle.plan_store.specs.Stores.{blocks_watching};
 ghost use Rattle.plan_store.specs.StoreMarks.{KeepStoreMarks};
-ghost use Rattle.plan_posting.specs.Posted.{OnlyPosts};
 ghost use Rattle.plan_opening.specs.Underway.{OnlyAdds};
 ghost use Rattle.plan_unfolding.specs.Branches.{StaysOnWay, FollowsBranches};
 ghost use Rattle.plan_closing.specs.Seating.{IsSeatingOf, KeepsSeating};
+ghost use Rattle.plan_closing.specs.Turns.{PostsOrMarks};
 ghost use Rattle.plan_closing.specs.Looking.{HasWay, FollowsWatchers, TellsTurns, OwnerTakesTurns, KeepsWay, LooksAt};
 
 use super::seating::Seating;
@@ -101,7 +101,7 @@ fn look_at_owner(
     requires seated { IsSeatingOf store.old seating.old }
     ensures way { OnOk result (KeepsWay model.now store.old store.new) }
     ensures turns { OnOk result (OwnerTakesTurns model.now variable store.old store.new) }
-    ensures only { OnlyPosts store.old store.new }
+    ensures only { PostsOrMarks store.old store.new }
     ensures marks { KeepStoreMarks store.old store.new }
     ensures seated { KeepsSeating seating.old store.new seating.new }
 {

@@ -6,7 +6,8 @@ ghost use Rattle.eu_name.specs.declared.name.Part.TheVariants.{Object};
 ghost use Rattle.plan_store.specs.declared.key.VarKey.TheVariants as keys;
 ghost use Rattle.plan_store.specs.declared.watchers.Watch.{Watch};
 ghost use Rattle.plan_store.specs.Stores.{blocks_watching};
-ghost use Rattle.plan_store.specs.StoreMarks.{CanGoBack};
+ghost use Rattle.plan_store.specs.StoreMarks.{CanGoBack, KeepStoreMarks};
+ghost use Rattle.plan_closing.specs.Turns.{OnlyMarks};
 ghost use Rattle.plan_closing.specs.Seating.{SeatsNumber, SeatsAll, SeatsSince, IsSeatingOf, KeepsSeating};
 
 use eu_name::name::Part;
@@ -148,11 +149,13 @@ impl Seating {
         }
     }
 
-    /// Notes what has come to the store since its mark.
-    pub fn catch_up(&mut self, store: &Store) -> Result<(), AllocError>
-        requires { IsSeatingOf store.now self.old }
-        ensures kept { KeepsSeating self.old store.now self.new }
-        ensures all { OnOk result (SeatsAll store.now.keys store.now.net.domains self.new.seats) }
+    /// Notes what has come to the store since its mark, and marks the store.
+    pub fn catch_up(&mut self, store: &mut Store) -> Result<(), AllocError>
+        requires { IsSeatingOf store.old self.old }
+        ensures kept { KeepsSeating self.old store.new self.new }
+        ensures all { OnOk result (SeatsAll store.new.keys store.new.net.domains self.new.seats) }
+        ensures only { OnlyMarks store.old store.new }
+        ensures marks { KeepStoreMarks store.old store.new }
     {
         seat_since(&mut self.seats, store, self.mark)?;
         self.mark = Some(store.mark());

@@ -16,7 +16,7 @@ ghost use Rattle.plan_posting.specs.Origins.{content_now};
 ghost use Rattle.plan_posting.specs.Posted.{OnlyPosts};
 ghost use Rattle.plan_posting.specs.Terms.{HasTimesAt};
 ghost use Rattle.plan_closing.specs.Seating.{IsSeatingOf, KeepsSeating};
-ghost use Rattle.plan_closing.specs.Turns.{HaveDecided, FindsTimeline, SeesToClaims, SaysTurn, TakeTheirTurns, TakesTurnsAmong, TakesTurns};
+ghost use Rattle.plan_closing.specs.Turns.{PostsOrMarks, HaveDecided, FindsTimeline, SeesToClaims, SaysTurn, TakeTheirTurns, TakesTurnsAmong, TakesTurns};
 
 use super::seating::Seating;
 use domain_core::domain::Dom;
@@ -222,7 +222,7 @@ pub fn look_at_turns(
     requires place { place < length (tokens_now store.old.past) }
     requires seated { IsSeatingOf store.old seating.old }
     ensures turns { OnOk result (TakesTurns model.now place store.old store.new) }
-    ensures only { OnlyPosts store.old store.new }
+    ensures only { PostsOrMarks store.old store.new }
     ensures marks { KeepStoreMarks store.old store.new }
     ensures seated { KeepsSeating seating.old store.new seating.new }
 {

@@ -1,14 +1,19 @@
 -- A store that stands for a list, as marks are set and gone back to.
 use Rattle.std.proofs.Common.{◌≡◌, ℕ, zero, suc, ◌+◌, ◌-◌, ◌<◌, ◌≤◌, List, [], ◌∷◌, ◌++◌, ◌⊎◌, inl, inr, length, take, Some, refl, sym, ◌∙◌, ap, subst, arith}
-use Rattle.std.specs.Prelude.{slice_get}
+use Rattle.std.specs.Prelude.{slice_get, Result, Ok, Err, OnErr}
+use Rattle.std.specs.declared.alloc.AllocError.{AllocError}
 use Rattle.std.proofs.lemmas.List.{length-take-le, length_push}
 use Rattle.model_core.specs.declared.decision.Decision.{Decision}
 use Rattle.model_core.specs.declared.model.Model.{Model}
 use Rattle.plan_defs.proofs.Members.{get_below}
 use Rattle.plan_progress.proofs.Places.{get_cases}
+use Rattle.constraint_net.specs.Marks.{Returns}
+use Rattle.plan_closing.specs.Turns.{OnlyMarks}
+use Rattle.plan_closing.proofs.Sharing.{only_marked}
 use Rattle.plan_store.specs.declared.store.Mark.{Mark}
+use Rattle.plan_store.specs.Stamps.{FollowStamps}
 use Rattle.plan_store.specs.Stores.{Stored, snapshot_of}
-use Rattle.plan_store.specs.StoreMarks.{IsStoreMark, IsMarkBefore, CanGoBack, KeepStoreMarks, GoesBackTo}
+use Rattle.plan_store.specs.StoreMarks.{IsStoreMark, IsMarkBefore, CanGoBack, KeepStoreMarks, GoesBackTo, with_mark}
 use Rattle.plan_state.specs.declared.footing.Footing.{Footing}
 use Rattle.plan_state.specs.declared.footing.Footing.TheVariants.{Rest, Fallen, Void}
 use Rattle.plan_state.specs.Advancing.{IsLeastOf, but_last}
@@ -39,7 +44,46 @@ take_whole [] (suc n) long = refl
 take_whole (x ∷ xs) zero long = absurd (omega arith)
 take_whole (x ∷ xs) (suc n) long = let rest = take_whole xs n (omega arith) in ap (λ list. x ∷ list) rest
 
+pub on_err : {X : Type 0} (result : Result X AllocError) (P : Type 0) → P → OnErr result P
+on_err (Ok value) P p = tt
+on_err (Err none) P p = p
+
+-- ---- a store that is marked
+
+pub marked_here : (mark : Mark) (old new : Stored) → new ≡ with_mark old → IsStoreMark new mark (snapshot_of old) → IsStoreMark new mark (snapshot_of new)
+marked_here mark old new is marked = subst (IsStoreMark new mark) (sym (ap snapshot_of is)) marked
+
+-- a mark that is set where the store went back to leaves it there
+pub marked_there : (mark : Mark) (old mid new : Stored) → GoesBackTo mark old mid → KeepStoreMarks mid new → new ≡ with_mark mid → GoesBackTo mark old new
+marked_there mark old mid new back keep is = record {
+  again = λ there was. ap snapshot_of is ∙ back.again there was;
+  marks = λ earlier there before was. keep.marks earlier there (back.marks earlier there before was);
+  stamps = subst (FollowStamps old) (sym is) (λ name was now stamp next before after.
+      back.stamps name was now stamp next before (record { number = after.number; named = after.named; given = after.given; written = after.written; small = after.small }));
+  net = subst (λ (stored : Stored). Returns mark.net old.net stored.net) (sym is) (record {
+    cells = back.net.cells;
+    constraints = back.net.constraints;
+    tables = back.net.tables;
+    work = back.net.work;
+    marked = let count = back.net.cells.count in omega (arith, count);
+    notes = back.net.notes;
+  });
+}
+
 module _ (model : Model) (decisions : List Decision) (marks : List Mark) where
+  pub stands_marked : (old new : Stored) → OnlyMarks old new → KeepStoreMarks old new → StandsForList model decisions old marks → StandsForList model decisions new marks
+  stands_marked old new only keep stands = record {
+    here = subst (IsLeastOf model decisions) (sym (ap snapshot_of only)) stands.here;
+    count = stands.count;
+    marked = λ k mark at. let was = stands.marked k mark at in (was.0, keep.marks mark was.0 was.1, was.2);
+    order = stands.order;
+  }
+
+  -- as when its tokens were noted, and it was marked
+  pub stands_caught : (old caught new : Stored) → OnlyMarks old caught → KeepStoreMarks old caught → new ≡ with_mark caught → KeepStoreMarks caught new
+      → StandsForList model decisions old marks → StandsForList model decisions new marks
+  stands_caught old caught new only keep is on stands = stands_marked caught new (only_marked caught new is) on (stands_marked old caught only keep stands)
+
   -- ---- going back
 
   pub gone_back : (old new : Stored) (number : ℕ) (mark : Mark) → StandsForList model decisions old marks → slice_get marks number ≡ Some mark → GoesBackTo mark old new

@@ -6,12 +6,12 @@ use Rattle.plan_progress.proofs.Places.{get_cases}
 use Rattle.plan_store.specs.declared.store.Mark.{Mark}
 use Rattle.plan_store.specs.declared.watchers.Watch.{Watch}
 use Rattle.plan_store.specs.Stores.{Stored, Snapshot, snapshot_of}
-use Rattle.plan_store.specs.StoreMarks.{IsStoreMark, IsMarkBefore, CanGoBack, KeepStoreMarks, GoesBackTo}
+use Rattle.plan_store.specs.StoreMarks.{IsStoreMark, IsMarkBefore, CanGoBack, KeepStoreMarks, GoesBackTo, with_mark}
 use Rattle.plan_closing.specs.declared.seating.Seating.{Seating}
 use Rattle.plan_closing.specs.Seating.{SeatsAll, AreSeatsUpTo, KeepsSeating}
-use Rattle.plan_closing.proofs.Seated.{up_to_on}
+use Rattle.plan_closing.proofs.Seated.{up_to_on, kept_on}
 use Rattle.plan_state.specs.Seated.{AreSeatedAt}
-use Rattle.plan_state.proofs.Returning.{get_front}
+use Rattle.plan_state.proofs.Returning.{get_front, marked_here}
 
 none_at : {X : Type 0} (xs : List X) → xs ≡ [] → (k : ℕ) (x : X) → slice_get xs k ≡ Some x → ⊥
 none_at xs none k x at = let p : None ≡ Some x = sym (ap (λ list. slice_get list k) none) ∙ at in cc
@@ -115,6 +115,15 @@ seated_step stored marks mark seating later seated all is seats same steps = rec
     ordered one other less more before (inr a) (inl b) =
         let within = slice_get_within seating.steps.items other more b in absurd (omega (arith, before, a.0, within))
     ordered one other less more before (inr a) (inr b) = omega (arith, a.1, b.1)
+
+-- the store that all was noted of is marked then
+pub seated_begun : (old caught new : Stored) (marks : List Mark) (mark : Mark) (seating noted later : Seating) → KeepStoreMarks old caught → KeepsSeating seating caught noted
+    → SeatsAll caught.keys caught.net.domains noted.seats → AreSeatedAt old marks seating → new ≡ with_mark caught → KeepStoreMarks caught new → IsStoreMark new mark (snapshot_of caught)
+    → later.seats ≡ noted.seats → later.mark ≡ noted.mark → later.steps.items ≡ noted.steps.items ++ length noted.seats ∷ [] → AreSeatedAt new (marks ++ mark ∷ []) later
+seated_begun old caught new marks mark seating noted later keep kept all seated is on marked =
+    seated_step new marks mark noted later
+    (seated_on caught new marks noted noted on (kept_on caught new noted on kept.is) (seated_on old caught marks seating noted keep kept seated))
+    (subst (λ (stored : Stored). SeatsAll stored.keys stored.net.domains noted.seats) (sym is) all) (marked_here mark caught new is marked)
 
 -- the store goes back to one of its marks
 pub seated_back : (old new : Stored) (marks : List Mark) (number : ℕ) (mark : Mark) (seating later : Seating) → AreSeatedAt old marks seating → slice_get marks number ≡ Some mark

@@ -6,7 +6,8 @@ ghost use Rattle.model_core.specs.Lawful.{IsLawful};
 ghost use Rattle.plan_defs.specs.Settling.{IsSettled};
 ghost use Rattle.plan_posting.specs.Tables.{HaveTables};
 ghost use Rattle.plan_store.specs.Stores.{snapshot_of};
-ghost use Rattle.plan_store.specs.StoreMarks.{KeepStoreMarks};
+ghost use Rattle.plan_store.specs.declared.store.Mark.{Mark as Marked};
+ghost use Rattle.plan_store.specs.StoreMarks.{IsStoreMark, KeepStoreMarks};
 ghost use Rattle.plan_closing.specs.Seating.{IsSeatingOf, KeepsSeating};
 ghost use Rattle.plan_beginning.specs.Beginning.{IsBeginning};
 ghost use Rattle.plan_state.specs.Advancing.{but_last, EndsAdmissibly};
@@ -18,7 +19,7 @@ use model_core::model::Model;
 use plan_closing::{Seating, close};
 use plan_deciding::take_up;
 use plan_fitting::{resources_fit, resources_fit_since};
-use plan_store::Store;
+use plan_store::{Mark, Store};
 use std::alloc::{AllocError, Global};
 
 // The numbers of all variables. Memory stands for more than can be counted.
@@ -77,13 +78,12 @@ fn advance(
     requires lawful { IsLawful model.now }
     requires follows { (decisions : List Taken) × CanFollow model.now decisions store.old decision.now }
     requires tables { HaveTables model.now store.old.net.tables }
+    requires marked { (mark : Marked) × IsStoreMark store.old mark (snapshot_of store.old) }
     requires seated { IsSeatingOf store.old seating.old }
     ensures advances { AdvancesBy model.now decision.now store.old result store.new }
     ensures marks { KeepStoreMarks store.old store.new }
     ensures seated { KeepsSeating seating.old store.new seating.new }
 {
-    // The mark tells that the tables stay.
-    let _mark = store.mark();
     let unfolded = store.block_count();
     let due = take_up(alloc, store, model, decision)?;
     close(alloc, store, seating, model, unfolded, due.as_slice())
@@ -122,30 +122,31 @@ fn beside<T: Drop>(value: T, told: Result<bool, AllocError>) -> Result<(T, bool)
     }
 }
 
-/// Brings the store, which is at rest for all but the last of the decisions, to rest for all of them, and answers whether they
-/// leave a least state.
+/// Brings the store, which is at rest for all but the last of the decisions and marked, to rest for all of them, and answers
+/// whether they leave a least state.
 pub fn take(
     alloc: Global,
     store: &mut Store,
     seating: &mut Seating,
     model: &Model,
     decisions: &[Decision],
+    mark: &Mark,
 ) -> Result<bool, AllocError>
     requires lawful { IsLawful model.now }
     requires settled { IsSettled model.now decisions.now }
     requires admissible { EndsAdmissibly model.now decisions.now }
     requires least { IsLeastOf model.now (but_last decisions.now) (snapshot_of store.old) }
+    requires marked { IsStoreMark store.old mark.now (snapshot_of store.old) }
     requires seated { IsSeatingOf store.old seating.old }
     ensures taken { IfOk result (λ fit. LeavesLeast model.now decisions.now fit store.new) }
     ensures marks { KeepStoreMarks store.old store.new }
     ensures seated { KeepsSeating seating.old store.new seating.new }
 {
     store.is_sound();
-    let mark = store.mark();
     let opened = store.block_count();
     let decision = &decisions[decisions.len() - 1];
     match advance(alloc, store, seating, model, decision) {
-        Ok(()) => resources_fit_since(alloc, model, store, decisions, decision, mark, opened),
+        Ok(()) => resources_fit_since(alloc, model, store, decisions, decision, *mark, opened),
         Err(NetFault::Collapsed) => Ok(false),
         Err(NetFault::Memory) => Err(AllocError),
     }

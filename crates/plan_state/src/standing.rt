@@ -160,7 +160,7 @@ fn push(
     seating.catch_up(store)?;
     seating.begin_step()?;
     let mark = store.mark();
-    match take(alloc, store, seating, model, decisions) {
+    match take(alloc, store, seating, model, decisions, &mark) {
         Ok(true) => {
             store.is_sound();
             marks.push_reserved(mark);

@@ -2,7 +2,7 @@ use Rattle.std.proofs.Common.{Some, refl, sym, subst, w32}
 use Rattle.std.proofs.lemmas.Int.{to_z-of_z}
 use Rattle.plan_posting.proofs.Storing.{only_both, marks_same, marks_both}
 use Rattle.plan_closing.specs.Turns.{FindsTimeline}
-use Rattle.plan_closing.proofs.Sharing.{finds_on, times_on, place_on, turns_begin, turns_next, turns_end}
+use Rattle.plan_closing.proofs.Sharing.{posts_alone, finds_on, times_on, place_on, turns_begin, turns_next, turns_end}
 use Rattle.plan_closing.proofs.turns.take_turns_among.Goals as goal
 
 pub loop-other-init : goal.loop-other-init
@@ -13,16 +13,16 @@ loop-other-init c = record {
 }
 
 pub take_turns_at-requires-clause-times : goal.take_turns_at-requires-clause-times
-take_turns_at-requires-clause-times c = times_on c.args.store.now c.loop-other.store c.loop-other.invariant.only c.requires.times
+take_turns_at-requires-clause-times c = times_on c.args.store.now c.loop-other.store (posts_alone c.args.store.now c.loop-other.store c.loop-other.invariant.only) c.requires.times
 
 pub take_turns_at-requires-clause-one : goal.take_turns_at-requires-clause-one
-take_turns_at-requires-clause-one c = place_on c.args.store.now c.loop-other.store c.loop-other.invariant.only c.args.place c.requires.place
+take_turns_at-requires-clause-one c = place_on c.args.store.now c.loop-other.store (posts_alone c.args.store.now c.loop-other.store c.loop-other.invariant.only) c.args.place c.requires.place
 
 pub take_turns_at-requires-clause-on : goal.take_turns_at-requires-clause-on
 take_turns_at-requires-clause-on c =
     let cast = to_z-of_z w32 c.args.timeline c.ranges.timeline in
     subst (λ timeline. FindsTimeline c.args.model.now c.loop-other.store c.args.place (Some timeline)) (sym cast)
-    (finds_on c.args.model.now c.args.store.now c.loop-other.store c.args.place (Some c.args.timeline) c.loop-other.invariant.only c.requires.on)
+    (finds_on c.args.model.now c.args.store.now c.loop-other.store c.args.place (Some c.args.timeline) (posts_alone c.args.store.now c.loop-other.store c.loop-other.invariant.only) c.requires.on)
 
 pub loop-other-preserved : goal.loop-other-preserved
 loop-other-preserved c =

@@ -20,7 +20,7 @@ returns-in_err-due-clause-advances c =
 
 pub close-requires-clause-tables : goal.close-requires-clause-tables
 close-requires-clause-tables c =
-    subst (HaveTables c.args.model.now) (c.take_up.ensures.marks.marks c.mark-mark.result (snapshot_of c.args.store.now) c.mark-mark.ensures.is).tables c.requires.tables
+    subst (HaveTables c.args.model.now) (c.take_up.ensures.marks.marks c.requires.marked.0 (snapshot_of c.args.store.now) c.requires.marked.1).tables c.requires.tables
 
 pub close-requires-clause-way : goal.close-requires-clause-way
 close-requires-clause-way c =
@@ -32,7 +32,7 @@ returns-clause-advances c =
     advances c.args.model.now c.args.decision.now c.args.store.now c.take_up.new.store c.in_ok-due.due.items c.in_ok-due.ensures.ok c.close.new.store c.close.result
     (subst (λ due. BringsToRest c.args.model.now (length c.args.store.now.blocks) due c.take_up.new.store c.close.result c.close.new.store) c.as_slice.ensures.value
     (subst (λ unfolded. BringsToRest c.args.model.now unfolded c.as_slice.result.now c.take_up.new.store c.close.result c.close.new.store) c.block_count-unfolded.ensures c.close.ensures.closes))
-    c.close.ensures.tables (sym (c.take_up.ensures.marks.marks c.mark-mark.result (snapshot_of c.args.store.now) c.mark-mark.ensures.is).tables)
+    c.close.ensures.tables (sym (c.take_up.ensures.marks.marks c.requires.marked.0 (snapshot_of c.args.store.now) c.requires.marked.1).tables)
 
 pub returns-clause-marks : goal.returns-clause-marks
 returns-clause-marks c =

@@ -32,7 +32,7 @@ resources_fit_since-requires-clause-fitted c =
     let at = read_item decisions (length decisions - 1) decision (last_within c.args.model.now decisions c.requires.admissible) c.index-decisions-decisions.is in
     record {
       former = c.args.store.now;
-      marked = c.in-Ok.ensures.marks.marks c.mark-mark.result (snapshot_of c.args.store.now) c.mark-mark.ensures.is;
+      marked = c.in-Ok.ensures.marks.marks c.args.mark.now (snapshot_of c.args.store.now) c.requires.marked;
       goes_on = c.in-Ok.ensures.marks.stamps c.args.store.now (goes_on_same c.args.store.now);
       blocks = c.block_count-opened.ensures;
       earlier = but_last decisions;
@@ -61,3 +61,6 @@ returns-in-Err-Collapsed-clause-taken c =
     let at = read_item decisions (length decisions - 1) decision (last_within model decisions c.requires.admissible) c.index-decisions-decisions.is in
     nothing_for_all model decisions c.requires.admissible decision at c.args.store.now c.is_sound.ensures c.requires.least c.requires.settled c.advance.new.store
     (subst (λ (fault : NetFault). AdvancesBy model decision c.args.store.now (Err fault) c.advance.new.store) c.in-Err-Collapsed.field-0-is c.in-Err-Collapsed.ensures.advances)
+
+pub advance-requires-clause-marked : goal.advance-requires-clause-marked
+advance-requires-clause-marked c = (c.args.mark.now, c.requires.marked)

@@ -1,5 +1,7 @@
-use Rattle.std.proofs.Common.{refl}
-use Rattle.plan_store.specs.Stores.{snapshot_of}
+use Rattle.std.proofs.Common.{refl, sym, subst}
+use Rattle.plan_store.specs.Stores.{Stored, snapshot_of}
+use Rattle.plan_closing.specs.Seating.{SeatsAll}
+use Rattle.plan_closing.proofs.Sharing.{only_marked}
 use Rattle.plan_closing.proofs.Seated.{can_go, seats_all, up_to_more}
 use Rattle.plan_closing.proofs.seating.Seating.catch_up.Goals as goal
 
@@ -26,4 +28,8 @@ returns-clause-kept c = record {
 
 pub returns-clause-all : goal.returns-clause-all
 returns-clause-all c =
-    seats_all c.args.store.now c.args.self.now.mark c.args.self.now.seats c.seat_since.new.seats c.in_ok-seat_since.ensures.grown c.requires c.in_ok-seat_since.ensures.ok
+    subst (λ (stored : Stored). SeatsAll stored.keys stored.net.domains c.seat_since.new.seats) (sym c.mark.ensures.marked)
+    (seats_all c.args.store.now c.args.self.now.mark c.args.self.now.seats c.seat_since.new.seats c.in_ok-seat_since.ensures.grown c.requires c.in_ok-seat_since.ensures.ok)
+
+pub returns-clause-only : goal.returns-clause-only
+returns-clause-only c = only_marked c.args.store.now c.mark.new.self c.mark.ensures.marked
