@@ -1,16 +1,15 @@
 -- Names by their first places.
-use Rattle.std.proofs.Common.{◌≡◌, ℕ, ◌+◌, ◌<◌, Bool, true, false, cond, if◌then◌else◌, List, [], ◌∷◌, ◌++◌, length, drop, get_or, ◌≤◌, Option, Some, None, refl, sym, ap, ◌∙◌, arith, ◌&&◌, ◌||◌, not}
+use Rattle.std.proofs.Common.{◌≡◌, ℕ, ◌+◌, ◌<◌, Bool, true, false, cond, if◌then◌else◌, List, [], ◌∷◌, ◌++◌, length, Option, Some, None, refl, sym, ap, ◌∙◌, arith, ◌&&◌, ◌||◌, not}
 use Rattle.std.specs.Option.{option_or}
 use Rattle.std.specs.List.{position_from}
 use Rattle.std.proofs.lemmas.Option.{same_Some}
 use Rattle.std.proofs.lemmas.Slice.Eq.{bytes_eq-Decides}
 use Rattle.std.specs.Str.{bytes_eq}
 use Rattle.indexmap.specs.IndexMap.{insert_entry}
-use Rattle.std.proofs.lemmas.List.{drop_more, drop_all}
 use Rattle.nddl_scope.specs.declared.declared.Declared.{Declared}
 use Rattle.std.specs.Prelude.{IfSome}
 use Rattle.nddl_scope.specs.Names.{is_body_sort}
-use Rattle.nddl_scope.specs.Scope.{is_named, named_number, IsIndexed, NotesListed}
+use Rattle.nddl_scope.specs.Scope.{is_named, named_number, NotesListed}
 use Rattle.nddl_scope.specs.Index.{Noted, noted_number, with_noted}
 
 -- a new name goes behind the others
@@ -68,11 +67,6 @@ noted_with noted name other number = by (noted_number noted name) refl
     by None is = rw is (lookup_behind noted name other number)
     by (Some found) is = rw is (already found (bytes_eq other name) is refl)
 
--- the declaration that is read, and those behind it
-dropped : (names : List Declared) (number : ℕ) (declared : Declared) → number < length names → declared ≡ get_or names number declared
-    → declared ∷ drop (number + 1) names ≡ drop number names
-dropped names number declared within is = ap (λ d. d ∷ drop (number + 1) names) is ∙ sym (drop_more names number declared within)
-
 -- where a name stands that is found from a number on
 position_here : {X : Type 0} (x : X) (xs : List X) (start found : ℕ) (b : Bool) (rest : Option ℕ)
     → (rest ≡ Some found → found < (start + 1) + length xs) → cond b (Some start) rest ≡ Some found → found < start + length (x ∷ xs)
@@ -84,35 +78,6 @@ pub position_within : {X : Type 0} (test : X → Bool) (xs : List X) (start foun
 position_within test [] start found is = absurd (let e : None ≡ Some found = is in cc)
 position_within test (x ∷ xs) start found is =
     position_here x xs start found (test x) (position_from test (start + 1) xs) (position_within test xs (start + 1) found) is
-
-or_here : (o rest : Option ℕ) (b : Bool) (number : ℕ)
-    → option_or (option_or o (cond b (Some number) None)) rest ≡ option_or o (cond b (Some number) rest)
-or_here None rest true number = refl
-or_here None rest false number = refl
-or_here (Some found) rest b number = refl
-
--- one name more is noted
-pub index_step : (only_bodies : Bool) (names : List Declared) (number : ℕ) (declared : Declared) (old new : Noted)
-    → number < length names → declared ≡ get_or names number declared → NotesListed only_bodies number declared old new
-    → (name : List ℕ)
-    → option_or (noted_number old name) (position_from (is_named only_bodies name) number (drop number names)) ≡ named_number only_bodies names name
-    → option_or (noted_number new name) (position_from (is_named only_bodies name) (number + 1) (drop (number + 1) names)) ≡ named_number only_bodies names name
-index_step only_bodies names number declared old new within is notes name so_far =
-    let here = is_named only_bodies name declared in
-    let rest = position_from (is_named only_bodies name) (number + 1) (drop (number + 1) names) in
-    ap (λ o. option_or o rest) (notes name)
-    ∙ (or_here (noted_number old name) rest here number
-    ∙ (ap (λ some. option_or (noted_number old name) (position_from (is_named only_bodies name) number some)) (dropped names number declared within is)
-    ∙ so_far))
-
--- all names are noted
-pub index_whole : (only_bodies : Bool) (names : List Declared) (number : ℕ) (noted : Noted) → length names ≤ number
-    → ((name : List ℕ) → option_or (noted_number noted name) (position_from (is_named only_bodies name) number (drop number names)) ≡ named_number only_bodies names name)
-    → IsIndexed only_bodies names noted
-index_whole only_bodies names number noted past so_far = λ name.
-    or_none (noted_number noted name)
-    ∙ (ap (λ some. option_or (noted_number noted name) (position_from (is_named only_bodies name) number some)) (sym (drop_all number names past))
-    ∙ so_far name)
 
 -- a name that counts is noted
 pub listed_noted : (only_bodies : Bool) (number : ℕ) (declared : Declared) (listed : Bool) (old new : Noted)

@@ -1,6 +1,6 @@
 -- What names mean in the scope of a program's files.
-use Rattle.std.specs.Prelude.{◌≡◌, ℕ, ◌+◌, ◌==◌, Bool, true, false, ◌||◌, ◌&&◌, not, List, [], ◌∷◌}
-use Rattle.std.specs.Prelude.{◌++◌, Option, Some, None, if◌then◌else◌}
+use Rattle.std.specs.Prelude.{ℕ, ◌+◌, ◌==◌, Bool, true, false, ◌||◌, ◌&&◌, not, List, [], ◌∷◌}
+use Rattle.std.specs.Prelude.{◌++◌, Option, Some, None}
 use Rattle.std.specs.List.{slice_get, position_from}
 use Rattle.std.specs.Option.{option_map, option_map_or, option_or}
 use Rattle.std.specs.Str.{bytes_eq}
@@ -12,7 +12,7 @@ use Rattle.nddl_scope.specs.declared.scope.Meaning.{Meaning}
 use Rattle.nddl_scope.specs.declared.scope.Meaning.TheVariants as meanings
 use Rattle.nddl_scope.specs.Builtin.{builtin_class_names, is_builtin_name}
 use Rattle.nddl_scope.specs.Finding.{faults_here}
-use Rattle.nddl_scope.specs.Index.{Noted, noted_number}
+use Rattle.nddl_scope.specs.Index.{HasFirsts, Noted, NotesFirst}
 use Rattle.nddl_scope.specs.Names.{is_class_sort, is_body_sort, is_config_sort}
 
 -- the name is this one and, if bodies alone count, that of a class with its members
@@ -35,13 +35,11 @@ meaning_of names name =
 
 -- the index has of each name the number of the first that has it, among those that count
 abbrev pub IsIndexed : Bool → List Declared → Noted → Type 0
-IsIndexed only_bodies names noted = (name : List ℕ) → noted_number noted name ≡ named_number only_bodies names name
+IsIndexed only_bodies = HasFirsts (is_named only_bodies)
 
 -- what the index has of each name is what it had, or else the number of this one, if it counts and has the name
 abbrev pub NotesListed : Bool → ℕ → Declared → Noted → Noted → Type 0
-NotesListed only_bodies number declared old new = (name : List ℕ)
-    → noted_number new name
-    ≡ option_or (noted_number old name) (if is_named only_bodies name declared then Some number else None)
+NotesListed only_bodies = NotesFirst (is_named only_bodies)
 
 -- ---- names that are declared a second time
 
