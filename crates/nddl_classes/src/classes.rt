@@ -12,7 +12,8 @@ use super::members::note_members;
 use nddl_ast::TextKind;
 use nddl_ast::declaration::Member;
 use nddl_ast::name::Name;
-use nddl_inherited::{Heritage, inherited, member_name};
+use nddl_inherited::{inherited, member_name};
+use nddl_lines::Basis;
 use nddl_scope::fault::note_at;
 use nddl_scope::index::NameIndex;
 use nddl_scope::repeats::note_repeated;
@@ -23,7 +24,7 @@ use std::alloc::{AllocError, Global};
 #[tactic(auto, using(nddl_scope::proofs::Earliest::earliest_append))]
 pub fn note_class(
     alloc: Global,
-    heritage: &Heritage<'_>,
+    basis: &Basis<'_>,
     decl: usize,
     class: &Name,
     parent: &Option<Name>,
@@ -31,11 +32,10 @@ pub fn note_class(
     first: &mut Option<Fault>,
 ) -> Result<(), AllocError>
     ensures { OnOk result (first.new ≡ earliest_fault first.old
-        (class_faults (facts_of heritage.now.basis) decl class.now parent.now members.now)) }
+        (class_faults (facts_of basis.now) decl class.now parent.now members.now)) }
 {
-    let basis = &heritage.basis;
     note_parent(basis.types.scope, decl, parent, first);
-    let mut noted = inherited(alloc, heritage, parent)?;
+    let mut noted = inherited(alloc, basis, parent)?;
     note_names(decl, members, &mut noted, first)?;
     note_members(alloc, basis, decl, members, first)?;
     note_constructors(decl, class, members, first);

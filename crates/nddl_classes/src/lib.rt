@@ -1,4 +1,4 @@
-//! What is wrong with the classes of a program: `note_class(alloc, heritage, decl, ..)?` notes it for one declaration.
+//! What is wrong with the classes of a program: `note_class(alloc, basis, decl, ..)?` notes it for one declaration.
 #![tactic(auto)]
 
 pub mod classes;

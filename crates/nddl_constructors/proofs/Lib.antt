@@ -1,3 +1,4 @@
+pub mod Adding
 pub mod Noting
 pub mod Numbering
 mod Seeking

@@ -1,9 +1,9 @@
 -- The formals of constructors, and what stands around in their bodies.
-use Rattle.std.specs.Prelude.{◌≡◌, ℕ, true, List, [], Option, None}
+use Rattle.std.specs.Prelude.{ℕ, Bool, true, List, [], Option, None}
 use Rattle.std.specs.List.{position_from}
 use Rattle.std.specs.Str.{bytes_eq}
 use Rattle.nddl_ast.specs.declared.declaration.Typed.{Typed}
-use Rattle.nddl_scope.specs.Index.{Noted, noted_number}
+use Rattle.nddl_scope.specs.Index.{HasFirsts, Noted}
 use Rattle.nddl_lines.specs.Facts.{Facts}
 use Rattle.nddl_paths.specs.declared.denoted.Seen.{Seen}
 use Rattle.nddl_paths.specs.Fields.{type_value}
@@ -28,6 +28,9 @@ formal_number formals name = position_from (λ formal. bytes_eq name formal.name
 abbrev pub typed_number : List Typed → List ℕ → Option ℕ
 typed_number formals name = position_from (λ typed. bytes_eq name typed.name.text) 0 formals
 
+abbrev pub is_formal_named : List ℕ → Seen → Bool
+is_formal_named name formal = bytes_eq name formal.name
+
 -- the index has the number of each formal
 abbrev pub AreNumbered : List Seen → Noted → Type 0
-AreNumbered formals numbers = (name : List ℕ) → noted_number numbers name ≡ formal_number formals name
+AreNumbered = HasFirsts is_formal_named

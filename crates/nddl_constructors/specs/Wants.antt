@@ -13,7 +13,7 @@ use Rattle.nddl_sorts.specs.declared.kind.TypeKind.TheVariants as kinds
 use Rattle.nddl_sorts.specs.Bases.{base_kind}
 use Rattle.nddl_lines.specs.Ancestors.{above, ancestry}
 use Rattle.nddl_lines.specs.Facts.{Facts}
-use Rattle.nddl_inherited.specs.Inherited.{members_of}
+use Rattle.nddl_lines.specs.Decls.{members_of}
 
 -- ---- formals
 

@@ -5,15 +5,15 @@ ghost use Rattle.nddl_sorts.specs.declared.kind.TypeKind.TheVariants.{Int};
 ghost use Rattle.std.specs.Option.{option_copied};
 ghost use Rattle.nddl_lines.specs.Ancestors.{ancestry};
 ghost use Rattle.nddl_lines.specs.Facts.{facts_of};
-ghost use Rattle.nddl_inherited.specs.Inherited.{members_of};
+ghost use Rattle.nddl_lines.specs.Decls.{members_of};
 ghost use Rattle.nddl_constructors.specs.Wants.{builtin_along, builtin_wants, class_wants, formal_kind, line_formals, member_formals, own_formals};
 
 use eu_name::sequence::Sequence;
 use nddl_ast::declaration::{Decl, Member, Typed};
-use nddl_inherited::members_of;
-use nddl_lines::Basis;
-use nddl_lines::lines::{above, ancestry};
+use nddl_lines::decls::members_of;
+use nddl_lines::lines::above;
 use nddl_lines::parents::parent_in;
+use nddl_lines::{Basis, adding_line};
 use nddl_scope::{Meaning, Scope};
 use nddl_sorts::TypeKind;
 use nddl_sorts::base::base_kind;
@@ -46,8 +46,7 @@ fn builtin_wants_above(
     ensures { IfOk result (λ wants. wants.items ≡ builtin_wants (builtin_along (facts_of basis.now).names
         (facts_of basis.now).program (ancestry (facts_of basis.now).parents entry))) }
 {
-    let line = ancestry(alloc, basis.parents, entry)?;
-    let number = builtin_along(basis.types.scope, basis.decls, line.as_slice());
+    let number = builtin_above(alloc, basis, entry)?;
     builtin_wants(alloc, number)
 }
 
@@ -151,6 +150,15 @@ fn member_formals(member: &Member) -> Option<&Sequence<Typed>>
         Member::Constructor { formals, .. } => Some(formals),
         _ => None,
     }
+}
+
+/// The built-in class that the class of this number leads up to.
+pub fn builtin_above(alloc: Global, basis: &Basis<'_>, entry: usize) -> Result<u32, AllocError>
+    ensures { IfOk result (λ number. number ≡ builtin_along (facts_of basis.now).names (facts_of basis.now).program
+        (ancestry (facts_of basis.now).parents entry)) }
+{
+    let line = adding_line(alloc, basis, entry)?;
+    Ok(builtin_along(basis.types.scope, basis.decls, line.as_slice()))
 }
 
 /// The built-in class that a class of the line extends.

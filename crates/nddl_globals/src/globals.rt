@@ -41,7 +41,7 @@ fn world_grounds<'a>(premises: &Premises<'a>) -> Ground<'a>
     ensures { grounds_of result ≡ world_grounds (world_of premises.now) }
 {
     Ground {
-        basis: premises.sources.heritage.basis,
+        basis: premises.sources.basis,
         standing: premises.standing,
     }
 }
@@ -64,7 +64,7 @@ fn begun_value(
         Some(kind),
         expr,
     )?;
-    datum_value(premises.sources.heritage.basis.types.scope, datum)
+    datum_value(premises.sources.basis.types.scope, datum)
 }
 
 // A domain of one value, as a type of this kind has it.
@@ -139,7 +139,7 @@ fn typed_global(
 ) -> Result<Option<VarDecl>, AllocError>
     ensures { IfOk result (λ global. global ≡ typed_global (world_of premises.now) variable.now) }
 {
-    let meaning = fine_meaning(alloc, &premises.sources.heritage.basis, &variable.declared)?;
+    let meaning = fine_meaning(alloc, &premises.sources.basis, &variable.declared)?;
     match meaning {
         Some(meaning) => Ok(Some(global_with(alloc, premises, variable, &meaning)?)),
         None => Ok(None),

@@ -1,7 +1,6 @@
 -- The names that a class has from those that it extends.
-use Rattle.std.specs.Prelude.{ℕ, ◌==◌, ◌&&◌, List, [], ◌∷◌, Option, Some, None, slice_get, codes, if◌then◌else◌}
+use Rattle.std.specs.Prelude.{ℕ, ◌==◌, ◌&&◌, List, [], ◌∷◌, Option, Some, None, codes, if◌then◌else◌}
 use Rattle.std.specs.List.{filter_map}
-use Rattle.std.specs.Option.{option_map_or, option_and_then}
 use Rattle.lineage.specs.Lines.{standing_in}
 use Rattle.nddl_ast.specs.declared.declaration.Decl.{Decl}
 use Rattle.nddl_ast.specs.declared.declaration.Member.{Member}
@@ -13,7 +12,7 @@ use Rattle.nddl_scope.specs.declared.scope.Meaning.TheVariants as meanings
 use Rattle.nddl_scope.specs.Index.{Noted, with_noted}
 use Rattle.nddl_scope.specs.Scope.{is_class_at, meaning_of}
 use Rattle.nddl_lines.specs.Ancestors.{above, ancestry}
-use Rattle.nddl_lines.specs.Decls.{decl_members, declaration_with_body}
+use Rattle.nddl_lines.specs.Decls.{members_of}
 use Rattle.nddl_lines.specs.Facts.{Facts}
 use Rattle.nddl_lines.specs.Lines.{is_rooted}
 
@@ -39,11 +38,6 @@ member_name (members.Constructor name formals sets) = None
 
 abbrev pub member_names : List Member → List Name
 member_names some = filter_map member_name some
-
--- the members of the class of this number
-abbrev pub members_of : List Declared → List Decl → ℕ → List Member
-members_of names program entry =
-    option_map_or decl_members (option_and_then (declaration_with_body names program) (slice_get names entry)) []
 
 -- the fields and predicates of a reservoir
 abbrev pub reservoir_members : List (List ℕ)

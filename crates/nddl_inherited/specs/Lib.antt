@@ -1,2 +1,1 @@
 pub mod Inherited
-pub mod Shorter

@@ -6,13 +6,15 @@ ghost use Rattle.nddl_scope.specs.Index.{with_noted};
 ghost use Rattle.nddl_lines.specs.Facts.{facts_of};
 ghost use Rattle.nddl_inherited.specs.Inherited.{builtin_members, class_noted, inherited_noted, line_noted, meaning_noted, member_names, names_noted, reservoir_members, words_noted};
 
-use super::members::{member_name, members_of};
-use super::shorter::{Heritage, adding_line};
+use super::members::member_name;
 use eu_name::text::Text;
 use nddl_ast::declaration::{Decl, Member};
 use nddl_ast::name::Name;
+use nddl_lines::Basis;
 use nddl_lines::circles::is_rooted;
+use nddl_lines::decls::members_of;
 use nddl_lines::lines::above;
+use nddl_lines::shorter::adding_line;
 use nddl_scope::index::NameIndex;
 use nddl_scope::{Meaning, Scope};
 use std::alloc::{AllocError, Global};
@@ -20,17 +22,13 @@ use std::alloc::{AllocError, Global};
 /// The names that a class has from what it extends by this name.
 pub fn inherited(
     alloc: Global,
-    heritage: &Heritage<'_>,
+    basis: &Basis<'_>,
     parent: &Option<Name>,
 ) -> Result<NameIndex, AllocError>
-    ensures { IfOk result (λ noted. noted ≡ inherited_noted (facts_of heritage.now.basis) parent.now) }
+    ensures { IfOk result (λ noted. noted ≡ inherited_noted (facts_of basis.now) parent.now) }
 {
     match parent {
-        Some(name) => by_meaning(
-            alloc,
-            heritage,
-            heritage.basis.types.scope.meaning(&name.text),
-        ),
+        Some(name) => by_meaning(alloc, basis, basis.types.scope.meaning(&name.text)),
         None => Ok(NameIndex::new(alloc)),
     }
 }
@@ -38,15 +36,15 @@ pub fn inherited(
 // The names that a class has from what it extends that means this.
 fn by_meaning(
     alloc: Global,
-    heritage: &Heritage<'_>,
+    basis: &Basis<'_>,
     meaning: Option<Meaning>,
 ) -> Result<NameIndex, AllocError>
-    ensures { IfOk result (λ noted. noted ≡ meaning_noted (facts_of heritage.now.basis) meaning) }
+    ensures { IfOk result (λ noted. noted ≡ meaning_noted (facts_of basis.now) meaning) }
 {
     match meaning {
         None => Ok(NameIndex::new(alloc)),
         Some(Meaning::BuiltIn(number)) => builtin_index(alloc, number),
-        Some(Meaning::Entry(entry)) => by_entry(alloc, heritage, entry),
+        Some(Meaning::Entry(entry)) => by_entry(alloc, basis, entry),
     }
 }
 
@@ -58,13 +56,12 @@ fn builtin_index(alloc: Global, number: u32) -> Result<NameIndex, AllocError>
     Ok(noted)
 }
 
-fn by_entry(alloc: Global, heritage: &Heritage<'_>, entry: usize) -> Result<NameIndex, AllocError>
-    ensures { IfOk result (λ noted. noted ≡ meaning_noted (facts_of heritage.now.basis) (Some (Entry entry))) }
+fn by_entry(alloc: Global, basis: &Basis<'_>, entry: usize) -> Result<NameIndex, AllocError>
+    ensures { IfOk result (λ noted. noted ≡ meaning_noted (facts_of basis.now) (Some (Entry entry))) }
 {
-    let basis = &heritage.basis;
     let scope = basis.types.scope;
     if scope.is_class(entry) && is_rooted(basis.lineage.standing(entry)) {
-        let line = adding_line(alloc, heritage, entry)?;
+        let line = adding_line(alloc, basis, entry)?;
         line_index(alloc, scope, basis.decls, line.as_slice())
     } else {
         Ok(NameIndex::new(alloc))

@@ -5,6 +5,7 @@ ghost use Rattle.std.specs.Option.{option_copied};
 ghost use Rattle.lineage.specs.Lines.{IsLineageOf};
 ghost use Rattle.nddl_lines.specs.Facts.{facts_of};
 ghost use Rattle.nddl_lines.specs.Lines.{parents_of};
+ghost use Rattle.nddl_lines.specs.Shorter.{AreShorter};
 ghost use Rattle.nddl_sorts.specs.declared.kind.Extent.TheVariants.{Whole};
 ghost use Rattle.nddl_known.specs.Known.{AreFacts, declared_type, known_meaning, with_meaning};
 
@@ -14,24 +15,27 @@ use nddl_ast::declaration::Decl;
 use nddl_ast::expression::Type;
 use nddl_lines::circles::is_rooted;
 use nddl_lines::decls::{decl_at, typedef_type};
-use nddl_lines::{Basis, FieldIndex, Parents};
+use nddl_lines::{Basis, MemberIndex, Parents};
 use nddl_scope::{Scope, Sort};
 use nddl_sorts::{Extent, TypeMeaning, Types};
 use std::alloc::{AllocError, Global};
 
-/// What each name of the scope means as a typedef. The lineage is that of what the names stand under.
+/// What each name of the scope means as a typedef. The lineage is that of what the names stand under, and `short` passes over
+/// classes that add no members.
 pub fn known_meanings(
     alloc: Global,
     scope: &Scope,
     decls: &[&Decl],
-    fields: &FieldIndex<'_>,
+    members: &MemberIndex<'_>,
     parents: &Parents,
     lineage: &Lineage,
+    short: &[Option<usize>],
     whole: &Extent,
 ) -> Result<Vec<Option<TypeMeaning>>, AllocError>
-    requires fields { fields.now ≡ map (λ decl. decl.now) decls.now }
+    requires members { members.now ≡ map (λ decl. decl.now) decls.now }
     requires parents { parents.now ≡ parents_of scope.now (map (λ decl. decl.now) decls.now) }
     requires lineage { IsLineageOf parents.now lineage.now.marks.items lineage.now.order.items }
+    requires short { AreShorter scope.now (map (λ decl. decl.now) decls.now) parents.now lineage.now.marks.items short.now }
     requires whole { whole.now ≡ Whole }
     ensures { IfOk result (λ known. AreFacts scope.now (map (λ decl. decl.now) decls.now)
         (record {
@@ -49,9 +53,10 @@ pub fn known_meanings(
             alloc,
             &*scope,
             &*decls,
-            &*fields,
+            &*members,
             &*parents,
             &*lineage,
+            &*short,
             &*whole,
             known.as_slice(),
             *entry,
@@ -77,15 +82,17 @@ fn meaning_by<'a>(
     alloc: Global,
     scope: &'a Scope,
     decls: &'a [&'a Decl],
-    fields: &'a FieldIndex<'a>,
+    members: &'a MemberIndex<'a>,
     parents: &'a Parents,
     lineage: &'a Lineage,
+    short: &'a [Option<usize>],
     whole: &'a Extent,
     known: &'a [Option<TypeMeaning>],
     entry: usize,
 ) -> Result<Option<TypeMeaning>, AllocError>
-    requires fields { fields.now ≡ map (λ decl. decl.now) decls.now }
+    requires members { members.now ≡ map (λ decl. decl.now) decls.now }
     requires parents { parents.now ≡ parents_of scope.now (map (λ decl. decl.now) decls.now) }
+    requires short { AreShorter scope.now (map (λ decl. decl.now) decls.now) parents.now lineage.now.marks.items short.now }
     requires whole { whole.now ≡ Whole }
     ensures { IfOk result (λ meaning. meaning ≡ known_meaning
         (record {
@@ -104,9 +111,10 @@ fn meaning_by<'a>(
     let basis = Basis {
         types,
         decls,
-        fields,
+        members,
         parents,
         lineage,
+        short,
     };
     entry_meaning(alloc, &basis, entry)
 }

@@ -1,7 +1,9 @@
 pub mod Above
+pub mod Adding
 pub mod Climbing
 pub mod Extending
 pub mod Fewer
 pub mod Jumping
+pub mod Passing
 pub mod Placing
 pub mod Ways

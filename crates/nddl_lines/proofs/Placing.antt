@@ -1,19 +1,21 @@
--- Fields by the places where they stand first.
-use Rattle.std.proofs.Common.{◌≡◌, ℕ, zero, suc, ◌+◌, ◌<◌, ◌≤◌, Bool, true, false, cond, if◌then◌else◌, List, [], ◌∷◌, ◌++◌, length, drop, get_or, Option, Some, None, refl, sym, ap, ◌∙◌, arith}
+-- Members by the places where they stand first.
+use Rattle.std.proofs.Common.{◌≡◌, ℕ, zero, suc, Bool, true, false, cond, if◌then◌else◌, List, [], ◌∷◌, ◌++◌, Option, Some, None, refl, sym, ap, ◌∙◌}
 use Rattle.std.specs.Prelude.{slice_get}
 use Rattle.std.specs.List.{filter_map, position_from}
 use Rattle.std.specs.Option.{option_and_then, option_map, option_or}
 use Rattle.std.specs.Str.{bytes_eq}
-use Rattle.std.proofs.lemmas.List.{drop_more, drop_all}
-use Rattle.std.proofs.lemmas.Option.{same_Some}
 use Rattle.nddl_ast.specs.declared.declaration.Decl.{Decl}
 use Rattle.nddl_ast.specs.declared.declaration.Member.{Member}
 use Rattle.nddl_ast.specs.declared.declaration.Member.TheVariants as members
+use Rattle.nddl_ast.specs.declared.declaration.PredicatePart.{PredicatePart}
 use Rattle.nddl_ast.specs.declared.declaration.Typed.{Typed}
-use Rattle.nddl_scope.specs.Index.{Noted, noted_number, with_noted}
+use Rattle.nddl_ast.specs.declared.name.Name.{Name}
+use Rattle.nddl_scope.specs.Index.{Noted, NotesFirst, noted_number, with_noted}
+use Rattle.nddl_scope.proofs.Firsts.{position_later}
 use Rattle.nddl_scope.proofs.Indexes.{noted_with}
 use Rattle.nddl_lines.specs.Decls.{decl_members}
-use Rattle.nddl_lines.specs.Fields.{ArePlaces, HasPlaces, NotesField, field_at, field_declared, is_field_named, member_field, named_typed, place_in}
+use Rattle.nddl_lines.specs.declared.members.Places.{Places}
+use Rattle.nddl_lines.specs.Members.{ArePlaces, HasMembers, field_at, field_declared, field_place, is_field_named, is_predicate_named, member_field, named_typed, predicate_declared, predicate_place}
 
 -- ---- making an index
 
@@ -21,72 +23,46 @@ or_none : (o : Option ℕ) → o ≡ option_or o None
 or_none None = refl
 or_none (Some place) = refl
 
-or_here : (o rest : Option ℕ) (b : Bool) (place : ℕ)
-    → option_or (option_or o (cond b (Some place) None)) rest ≡ option_or o (cond b (Some place) rest)
-or_here None rest true place = refl
-or_here None rest false place = refl
-or_here (Some found) rest b place = refl
+-- the name is noted, if it is that of the member
+noted_here : (named : List ℕ → Member → Bool) (place : ℕ) (member : Member) (word : List ℕ) (old new : Noted)
+    → ((name : List ℕ) → named name member ≡ bytes_eq name word) → new ≡ with_noted old word place → NotesFirst named place member old new
+noted_here named place member word old new is noted = λ name.
+    ap (λ n. noted_number n name) noted
+    ∙ (noted_with old word name place
+    ∙ ap (λ b. option_or (noted_number old name) (if b then Some place else None)) (sym (is name)))
+
+-- and else none
+noted_not : (named : List ℕ → Member → Bool) (place : ℕ) (member : Member) (noted : Noted) → ((name : List ℕ) → named name member ≡ false)
+    → NotesFirst named place member noted noted
+noted_not named place member noted is = λ name.
+    or_none (noted_number noted name) ∙ ap (λ b. option_or (noted_number noted name) (if b then Some place else None)) (sym (is name))
 
 -- a field is noted
-pub field_noted : (place : ℕ) (member : Member) (typed : Typed) (old new : Noted) → member_field member ≡ Some typed
-    → new ≡ with_noted old typed.name.text place → NotesField place member old new
-field_noted place (members.Field field) typed old new is noted = λ name.
-    let same : field ≡ typed = same_Some field typed is in
-    ap (λ n. noted_number n name) noted
-    ∙ (noted_with old typed.name.text name place
-    ∙ ap (λ (t : Typed). option_or (noted_number old name) (if bytes_eq name t.name.text then Some place else None)) (sym same))
-field_noted place (members.Predicate at name parts) typed old new is noted = absurd (let e : ◌≡◌ {A = Option Typed} None (Some typed) = is in cc)
-field_noted place (members.Constructor name formals sets) typed old new is noted = absurd (let e : ◌≡◌ {A = Option Typed} None (Some typed) = is in cc)
+pub field_noted : (place : ℕ) (member : Member) (typed : Typed) (old new other : Noted) → member ≡ members.Field typed
+    → new ≡ with_noted old typed.name.text place → NotesFirst is_field_named place member old new × NotesFirst is_predicate_named place member other other
+field_noted place member typed old new other is noted = (
+  noted_here is_field_named place member typed.name.text old new (λ name. ap (is_field_named name) is) noted,
+  noted_not is_predicate_named place member other (λ name. ap (is_predicate_named name) is),
+)
 
--- the member that is read, and those behind it
-dropped : (some : List Member) (place : ℕ) (member : Member) → place < length some → member ≡ get_or some place member
-    → member ∷ drop (place + 1) some ≡ drop place some
-dropped some place member within is = ap (λ m. m ∷ drop (place + 1) some) is ∙ sym (drop_more some place member within)
+-- a predicate is
+pub predicate_noted : (place : ℕ) (member : Member) (at : ℕ) (word : Name) (parts : List PredicatePart) (old new other : Noted)
+    → member ≡ members.Predicate at word parts → new ≡ with_noted old word.text place
+    → NotesFirst is_field_named place member other other × NotesFirst is_predicate_named place member old new
+predicate_noted place member at word parts old new other is noted = (
+  noted_not is_field_named place member other (λ name. ap (is_field_named name) is),
+  noted_here is_predicate_named place member word.text old new (λ name. ap (is_predicate_named name) is) noted,
+)
 
--- one member more is dealt with
-pub place_step : (some : List Member) (place : ℕ) (member : Member) (old new : Noted) → place < length some
-    → member ≡ get_or some place member → NotesField place member old new → (name : List ℕ)
-    → option_or (noted_number old name) (position_from (is_field_named name) place (drop place some)) ≡ position_from (is_field_named name) 0 some
-    → option_or (noted_number new name) (position_from (is_field_named name) (place + 1) (drop (place + 1) some)) ≡ position_from (is_field_named name) 0 some
-place_step some place member old new within is notes name so_far =
-    let rest = position_from (is_field_named name) (place + 1) (drop (place + 1) some) in
-    ap (λ o. option_or o rest) (notes name)
-    ∙ (or_here (noted_number old name) rest (is_field_named name member) place
-    ∙ (ap (λ more. option_or (noted_number old name) (position_from (is_field_named name) place more)) (dropped some place member within is)
-    ∙ so_far))
-
--- all members are
-pub all_placed : (some : List Member) (place : ℕ) (noted : Noted) → length some ≤ place
-    → ((name : List ℕ) → option_or (noted_number noted name) (position_from (is_field_named name) place (drop place some)) ≡ position_from (is_field_named name) 0 some)
-    → HasPlaces some noted
-all_placed some place noted past so_far = λ name.
-    or_none (noted_number noted name)
-    ∙ (ap (λ more. option_or (noted_number noted name) (position_from (is_field_named name) place more)) (sym (drop_all place some past))
-    ∙ so_far name)
-
--- one declaration more has an index
-pub places_more : (program : List Decl) (places : List Noted) (decl : Decl) (noted : Noted) → ArePlaces program places
-    → HasPlaces (decl_members decl) noted → ArePlaces (program ++ decl ∷ []) (places ++ noted ∷ [])
-places_more [] [] decl noted are has = (has, tt)
-places_more [] (other ∷ places) decl noted are has = absurd are
-places_more (first ∷ program) [] decl noted are has = absurd are
-places_more (first ∷ program) (other ∷ places) decl noted are has = (are.0, places_more program places decl noted are.1 has)
+-- one declaration more has its places
+pub places_more : (program : List Decl) (places : List (Option Places)) (decl : Decl) (found : Option Places) → ArePlaces program places
+    → HasMembers (decl_members decl) found → ArePlaces (program ++ decl ∷ []) (places ++ found ∷ [])
+places_more [] [] decl found are has = (has, tt)
+places_more [] (other ∷ places) decl found are has = absurd are
+places_more (first ∷ program) [] decl found are has = absurd are
+places_more (first ∷ program) (other ∷ places) decl found are has = (are.0, places_more program places decl found are.1 has)
 
 -- ---- finding a field
-
--- where the first one stands that passes, counted from the next number on
-later : {X : Type 0} (test : X → Bool) (start : ℕ) (xs : List X)
-    → position_from test (start + 1) xs ≡ option_map suc (position_from test start xs)
-later test start [] = refl
-later test start (x ∷ xs) = by (test x) (later test (start + 1) xs)
-  where
-    next : start + 1 ≡ suc start
-    next = omega arith
-
-    by : (b : Bool) → position_from test (start + 1 + 1) xs ≡ option_map suc (position_from test (start + 1) xs)
-        → cond b (Some (start + 1)) (position_from test (start + 1 + 1) xs) ≡ option_map suc (cond b (Some start) (position_from test (start + 1) xs))
-    by true rest = ap Some next
-    by false rest = rest
 
 -- the field at this place
 abbrev at : List Member → ℕ → Option Typed
@@ -101,7 +77,7 @@ passed : (name : List ℕ) (member : Member) (more : List Member)
     → option_and_then (at more) (position_from (is_field_named name) 0 more) ≡ named_typed name (filter_map member_field more)
     → option_and_then (at (member ∷ more)) (position_from (is_field_named name) 1 more) ≡ named_typed name (filter_map member_field more)
 passed name member more rest =
-    ap (option_and_then (at (member ∷ more))) (later (is_field_named name) 0 more)
+    ap (option_and_then (at (member ∷ more))) (position_later (is_field_named name) 0 more)
     ∙ (behind member more (position_from (is_field_named name) 0 more) ∙ rest)
 
 -- the member at the first place of a field of this name is the first such field
@@ -123,19 +99,30 @@ first_named name (members.Constructor word formals sets ∷ more) =
     passed name (members.Constructor word formals sets) more (first_named name more)
 
 -- the field at the place that the index has of the name is the one of this name
-found : (program : List Decl) (places : List Noted) (number : ℕ) (name : List ℕ) → ArePlaces program places
-    → option_and_then (field_at program number) (place_in places number name) ≡ field_declared program number name
+found : (program : List Decl) (places : List (Option Places)) (number : ℕ) (name : List ℕ) → ArePlaces program places
+    → option_and_then (field_at program number) (field_place places number name) ≡ field_declared program number name
 found [] [] number name are = refl
-found [] (noted ∷ places) number name are = absurd are
+found [] (slot ∷ places) number name are = absurd are
 found (decl ∷ program) [] number name are = absurd are
-found (decl ∷ program) (noted ∷ places) zero name are =
-    ap (option_and_then (at (decl_members decl))) (are.0 name) ∙ first_named name (decl_members decl)
-found (decl ∷ program) (noted ∷ places) (suc number) name are = found program places number name are.1
+found (decl ∷ program) (None ∷ places) zero name are = sym (ap (λ some. named_typed name (filter_map member_field some)) are.0)
+found (decl ∷ program) (Some here ∷ places) zero name are =
+    ap (option_and_then (at (decl_members decl))) (are.0.0 name) ∙ first_named name (decl_members decl)
+found (decl ∷ program) (slot ∷ places) (suc number) name are = found program places number name are.1
 
-pub found_at : (program : List Decl) (places : List Noted) (number place : ℕ) (name : List ℕ) → ArePlaces program places
-    → Some place ≡ place_in places number name → field_at program number place ≡ field_declared program number name
+pub found_at : (program : List Decl) (places : List (Option Places)) (number place : ℕ) (name : List ℕ) → ArePlaces program places
+    → Some place ≡ field_place places number name → field_at program number place ≡ field_declared program number name
 found_at program places number place name are is = ap (option_and_then (field_at program number)) is ∙ found program places number name are
 
-pub found_nowhere : (program : List Decl) (places : List Noted) (number : ℕ) (name : List ℕ) → ArePlaces program places
-    → None ≡ place_in places number name → None ≡ field_declared program number name
+pub found_nowhere : (program : List Decl) (places : List (Option Places)) (number : ℕ) (name : List ℕ) → ArePlaces program places
+    → None ≡ field_place places number name → None ≡ field_declared program number name
 found_nowhere program places number name are is = ap (option_and_then (field_at program number)) is ∙ found program places number name are
+
+-- and so is the place that it has of a predicate
+pub predicate_found : (program : List Decl) (places : List (Option Places)) (number : ℕ) (name : List ℕ) → ArePlaces program places
+    → predicate_place places number name ≡ predicate_declared program number name
+predicate_found [] [] number name are = refl
+predicate_found [] (slot ∷ places) number name are = absurd are
+predicate_found (decl ∷ program) [] number name are = absurd are
+predicate_found (decl ∷ program) (None ∷ places) zero name are = sym (ap (position_from (is_predicate_named name) 0) are.0)
+predicate_found (decl ∷ program) (Some here ∷ places) zero name are = are.0.1 name
+predicate_found (decl ∷ program) (slot ∷ places) (suc number) name are = predicate_found program places number name are.1

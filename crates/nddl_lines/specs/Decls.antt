@@ -1,6 +1,6 @@
 -- What declarations say of what they stand under.
 use Rattle.std.specs.Prelude.{ℕ, true, List, [], Option, Some, None, slice_get}
-use Rattle.std.specs.Option.{option_and_then, option_map}
+use Rattle.std.specs.Option.{option_and_then, option_map, option_map_or}
 use Rattle.nddl_ast.specs.declared.declaration.Decl.{Decl}
 use Rattle.nddl_ast.specs.declared.declaration.Decl.TheVariants as decls
 use Rattle.nddl_ast.specs.declared.declaration.Member.{Member}
@@ -39,3 +39,8 @@ abbrev pub number_with_body : List Declared → Declared → Option ℕ
 number_with_body names declared =
     option_and_then (λ number. option_map (λ (body : Declared). body.place.decl) (slice_get names number))
     (named_number true names declared.name)
+
+-- the members of the class of this number
+abbrev pub members_of : List Declared → List Decl → ℕ → List Member
+members_of names program entry =
+    option_map_or decl_members (option_and_then (declaration_with_body names program) (slice_get names entry)) []

@@ -1,6 +1,7 @@
 pub mod Ancestors
 pub mod Decls
 pub mod Facts
-pub mod Fields
 pub mod Lines
+pub mod Members
+pub mod Shorter
 pub mod Shortcuts

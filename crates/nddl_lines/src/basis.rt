@@ -2,21 +2,26 @@
 
 ghost use Rattle.std.specs.Prelude.{◌≡◌, map};
 ghost use Rattle.nddl_lines.specs.Lines.{parents_of};
+ghost use Rattle.nddl_lines.specs.Shorter.{AreShorter};
 
-use super::fields::FieldIndex;
+use super::members::MemberIndex;
 use super::shortcuts::Parents;
 use lineage::Lineage;
 use nddl_ast::declaration::Decl;
 use nddl_sorts::Types;
 
-/// What types stand on, the declarations with the fields of their classes, what the names stand under, and how.
+/// What types stand on, the declarations with the members of their classes, what the names stand under, and how, and what
+/// classes stand under where those are passed over that add no members.
 #[derive(Clone, Copy)]
 pub struct Basis<'a> {
     pub types: Types<'a>,
     pub decls: &'a [&'a Decl],
-    pub fields: &'a FieldIndex<'a>,
+    pub members: &'a MemberIndex<'a>,
     pub parents: &'a Parents,
     pub lineage: &'a Lineage,
+    pub short: &'a [Option<usize>],
     ghost are_parents: { parents.now ≡ parents_of types.scope.now (map (λ decl. decl.now) decls.now) },
-    ghost are_fields: { fields.now ≡ map (λ decl. decl.now) decls.now },
+    ghost are_members: { members.now ≡ map (λ decl. decl.now) decls.now },
+    ghost are_shorter: { AreShorter types.scope.now (map (λ decl. decl.now) decls.now) parents.now
+        lineage.now.marks.items short.now },
 }

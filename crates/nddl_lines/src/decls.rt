@@ -2,7 +2,7 @@
 
 ghost use Rattle.std.specs.Prelude.{◌≡◌, map, slice_get};
 ghost use Rattle.std.specs.Option.{option_and_then, option_copied};
-ghost use Rattle.nddl_lines.specs.Decls.{class_parent, decl_members, declaration_with_body, number_with_body, typedef_type};
+ghost use Rattle.nddl_lines.specs.Decls.{class_parent, decl_members, declaration_with_body, members_of, number_with_body, typedef_type};
 
 use nddl_ast::declaration::{Decl, Member};
 use nddl_ast::expression::Type;
@@ -43,6 +43,19 @@ pub fn decl_members(decl: &Decl) -> &[Member]
     match decl {
         Decl::Class { members, .. } => members.as_slice(),
         _ => &[],
+    }
+}
+
+/// The members of the class of this number.
+pub fn members_of<'a>(scope: &Scope, decls: &[&'a Decl], entry: usize) -> &'a [Member]
+    ensures { result.now ≡ members_of scope.now (map (λ decl. decl.now) decls.now) entry }
+{
+    match scope.names().get(entry) {
+        Some(declared) => match declaration_with_body(scope, decls, declared) {
+            Some(decl) => decl_members(decl),
+            None => &[],
+        },
+        None => &[],
     }
 }
 

@@ -14,7 +14,7 @@ use Rattle.nddl_scope.specs.declared.scope.Meaning.TheVariants as meanings
 use Rattle.nddl_scope.specs.Scope.{meaning_of, named_number}
 use Rattle.nddl_lines.specs.Ancestors.{ancestry}
 use Rattle.nddl_lines.specs.Facts.{Facts}
-use Rattle.nddl_inherited.specs.Inherited.{members_of}
+use Rattle.nddl_lines.specs.Decls.{members_of}
 use Rattle.nddl_classes.specs.Members.{is_constructor}
 use Rattle.nddl_constructors.specs.Creations.{class_alone, is_wrong_count}
 use Rattle.nddl_constructors.specs.Wants.{builtin_along, class_wants}

@@ -14,8 +14,8 @@ use Rattle.nddl_sorts.specs.declared.kind.TypeMeaning.{TypeMeaning}
 use Rattle.nddl_sorts.specs.Bases.{base_kind}
 use Rattle.nddl_lines.specs.Ancestors.{above, ancestry}
 use Rattle.nddl_lines.specs.Facts.{Facts}
-use Rattle.nddl_lines.specs.Fields.{member_field, named_typed}
-use Rattle.nddl_inherited.specs.Inherited.{members_of}
+use Rattle.nddl_lines.specs.Members.{member_field, named_typed}
+use Rattle.nddl_lines.specs.Decls.{members_of}
 use Rattle.nddl_schema.specs.Classes.{builtin_fields}
 use Rattle.nddl_paths.specs.declared.denoted.Denoted.{Denoted}
 use Rattle.nddl_paths.specs.declared.denoted.Denoted.TheVariants as denoted

@@ -15,8 +15,8 @@ use Rattle.nddl_sorts.specs.declared.kind.TypeKind.{TypeKind}
 use Rattle.nddl_sorts.specs.declared.kind.TypeKind.TheVariants as kinds
 use Rattle.nddl_lines.specs.Ancestors.{above, ancestry}
 use Rattle.nddl_lines.specs.Facts.{Facts}
-use Rattle.nddl_lines.specs.Fields.{named_typed}
-use Rattle.nddl_inherited.specs.Inherited.{members_of}
+use Rattle.nddl_lines.specs.Members.{is_predicate_named, named_typed}
+use Rattle.nddl_lines.specs.Decls.{members_of}
 use Rattle.nddl_classes.specs.Members.{parameters_of}
 use Rattle.nddl_schema.specs.Predicates.{builtin_preds}
 use Rattle.nddl_paths.specs.declared.denoted.Denoted.{Denoted}
@@ -25,11 +25,6 @@ use Rattle.nddl_paths.specs.declared.denoted.Predicate.{Predicate}
 use Rattle.nddl_paths.specs.declared.denoted.Predicate.TheVariants as predicates
 use Rattle.nddl_paths.specs.declared.denoted.TokenSort.{TokenSort}
 use Rattle.nddl_paths.specs.Fields.{type_value}
-
--- the member is a predicate of this name
-abbrev pub is_predicate_named : List ℕ → Member → Bool
-is_predicate_named name (members.Predicate at other parts) = bytes_eq name other.text
-is_predicate_named name member = false
 
 -- the predicate of this name that one of the classes of a line declares
 abbrev pub predicate_along : List Declared → List Decl → List ℕ → List ℕ → Option Predicate

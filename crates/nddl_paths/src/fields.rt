@@ -3,19 +3,19 @@
 ghost use Rattle.std.specs.Prelude.{◌≡◌, IfOk, map, bytes_eq};
 ghost use Rattle.std.specs.List.{filter_map};
 ghost use Rattle.std.specs.Option.{option_and_then, option_copied};
-ghost use Rattle.nddl_inherited.specs.Inherited.{members_of};
-ghost use Rattle.nddl_lines.specs.Decls.{number_with_body};
+ghost use Rattle.nddl_lines.specs.Ancestors.{ancestry};
+ghost use Rattle.nddl_lines.specs.Decls.{members_of, number_with_body};
 ghost use Rattle.nddl_lines.specs.Facts.{facts_of};
-ghost use Rattle.nddl_lines.specs.Fields.{field_declared, member_field, named_typed};
+ghost use Rattle.nddl_lines.specs.Members.{field_declared, member_field, named_typed};
 ghost use Rattle.nddl_paths.specs.Fields.{class_field, number_field, field_along, is_builtin_field, is_given_field, is_given_along, line_field, type_value};
 
 use super::denoted::Denoted;
 use eu_name::text::Text;
 use nddl_ast::declaration::{Decl, Typed};
 use nddl_ast::expression::Type;
-use nddl_lines::Basis;
 use nddl_lines::decls::number_with_body;
-use nddl_lines::lines::{above, ancestry};
+use nddl_lines::lines::above;
+use nddl_lines::{Basis, adding_line};
 use nddl_scope::{Declared, Meaning, Scope};
 use nddl_sorts::base::base_kind;
 use nddl_sorts::{TypeKind, Types};
@@ -44,7 +44,7 @@ pub fn class_field(
     match class {
         Meaning::BuiltIn(number) => Ok(number_field(constant, is_builtin_field(name, number))),
         Meaning::Entry(entry) => {
-            let line = ancestry(alloc, basis.parents, entry)?;
+            let line = adding_line(alloc, basis, entry)?;
             Ok(line_field(basis, constant, name, line.as_slice()))
         }
     }
@@ -75,8 +75,22 @@ fn line_field(basis: &Basis<'_>, constant: bool, name: &Text, line: &[usize]) ->
     }
 }
 
-/// The field of this name that one of the classes declares.
-pub fn field_along<'a>(basis: &Basis<'a>, name: &Text, line: &[usize]) -> Option<&'a Typed>
+/// The field of this name that the class of this number declares, or one that it extends.
+pub fn field_of_class<'a>(
+    alloc: Global,
+    basis: &Basis<'a>,
+    name: &Text,
+    entry: usize,
+) -> Result<Option<&'a Typed>, AllocError>
+    ensures { IfOk result (λ field. option_copied field ≡ field_along (facts_of basis.now).names (facts_of basis.now).program
+        name.now (ancestry (facts_of basis.now).parents entry)) }
+{
+    let line = adding_line(alloc, basis, entry)?;
+    Ok(field_along(basis, name, line.as_slice()))
+}
+
+// The field of this name that one of the classes declares.
+fn field_along<'a>(basis: &Basis<'a>, name: &Text, line: &[usize]) -> Option<&'a Typed>
     ensures { option_copied result ≡ field_along basis.now.types.scope.now
         (map (λ decl. decl.now) basis.now.decls.now) name.now line.now }
 {
@@ -107,7 +121,7 @@ fn declared_field<'a>(basis: &Basis<'a>, name: &Text, declared: &Declared) -> Op
         (number_with_body basis.now.types.scope.now declared.now) }
 {
     match number_with_body(basis.types.scope, declared) {
-        Some(number) => basis.fields.find(number, name),
+        Some(number) => basis.members.field(number, name),
         None => None,
     }
 }

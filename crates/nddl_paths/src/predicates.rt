@@ -2,20 +2,21 @@
 
 ghost use Rattle.std.specs.Prelude.{◌≡◌, IfOk, map};
 ghost use Rattle.std.specs.List.{position_from};
-ghost use Rattle.std.specs.Option.{option_copied};
+ghost use Rattle.std.specs.Option.{option_and_then, option_copied};
 ghost use Rattle.nddl_classes.specs.Members.{parameters_of};
+ghost use Rattle.nddl_lines.specs.Decls.{members_of, number_with_body};
 ghost use Rattle.nddl_lines.specs.Facts.{facts_of};
-ghost use Rattle.nddl_lines.specs.Fields.{named_typed};
-ghost use Rattle.nddl_paths.specs.Predicates.{builtin_if, class_predicate, changing_value, declared_parts, is_builtin_pred, is_given_pred, is_pred_given_along, is_predicate_named, is_time_word, line_predicate, member_parts, parameter_value, predicate_along, token_part};
+ghost use Rattle.nddl_lines.specs.Members.{is_predicate_named, named_typed, predicate_declared};
+ghost use Rattle.nddl_paths.specs.Predicates.{builtin_if, class_predicate, changing_value, declared_parts, is_builtin_pred, is_given_pred, is_pred_given_along, is_time_word, line_predicate, member_parts, parameter_value, predicate_along, token_part};
 
 use super::denoted::{Denoted, Predicate, TokenSort};
 use super::fields::{has_name, type_value};
 use eu_name::text::Text;
 use nddl_ast::declaration::{Decl, Member, PredicatePart, Typed};
-use nddl_inherited::members_of;
-use nddl_lines::Basis;
-use nddl_lines::lines::{above, ancestry};
-use nddl_scope::{Meaning, Scope};
+use nddl_lines::decls::{members_of, number_with_body};
+use nddl_lines::lines::above;
+use nddl_lines::{Basis, adding_line};
+use nddl_scope::{Declared, Meaning, Scope};
 use nddl_sorts::TypeKind;
 use std::alloc::{AllocError, Global};
 
@@ -31,8 +32,8 @@ pub fn class_predicate(
     match class {
         Meaning::BuiltIn(number) => Ok(builtin_if(is_builtin_pred(name, number))),
         Meaning::Entry(entry) => {
-            let line = ancestry(alloc, basis.parents, entry)?;
-            Ok(line_predicate(basis.types.scope, basis.decls, name, line.as_slice()))
+            let line = adding_line(alloc, basis, entry)?;
+            Ok(line_predicate(basis, name, line.as_slice()))
         }
     }
 }
@@ -49,21 +50,21 @@ fn builtin_if(is_there: bool) -> Option<Predicate>
 }
 
 // The predicate of this name of a class with this line.
-fn line_predicate(scope: &Scope, decls: &[&Decl], name: &Text, line: &[usize]) -> Option<Predicate>
-    ensures { result ≡ line_predicate scope.now (map (λ decl. decl.now) decls.now) name.now line.now }
+fn line_predicate(basis: &Basis<'_>, name: &Text, line: &[usize]) -> Option<Predicate>
+    ensures { result ≡ line_predicate (facts_of basis.now).names (facts_of basis.now).program name.now line.now }
 {
-    match predicate_along(scope, decls, name, line) {
+    match predicate_along(basis, name, line) {
         Some(predicate) => Some(predicate),
-        None => builtin_if(is_pred_given_along(scope, decls, name, line)),
+        None => builtin_if(is_pred_given_along(basis.types.scope, basis.decls, name, line)),
     }
 }
 
 // The predicate of this name that one of the classes declares.
-fn predicate_along(scope: &Scope, decls: &[&Decl], name: &Text, line: &[usize]) -> Option<Predicate>
-    ensures { result ≡ predicate_along scope.now (map (λ decl. decl.now) decls.now) name.now line.now }
+fn predicate_along(basis: &Basis<'_>, name: &Text, line: &[usize]) -> Option<Predicate>
+    ensures { result ≡ predicate_along (facts_of basis.now).names (facts_of basis.now).program name.now line.now }
 {
     for entry in line {
-        if let Some(member) = predicate_named(members_of(scope, decls, *entry), name) {
+        if let Some(member) = own_predicate(basis, name, *entry) {
             return Some(Predicate::Declared {
                 entry: *entry,
                 member,
@@ -73,24 +74,26 @@ fn predicate_along(scope: &Scope, decls: &[&Decl], name: &Text, line: &[usize]) 
     None
 }
 
-// The place of the predicate of this name among the members.
-fn predicate_named(members: &[Member], name: &Text) -> Option<usize>
-    ensures { result ≡ position_from (is_predicate_named name.now) 0 members.now }
+// The place of the predicate of this name among the members of the class of this number.
+fn own_predicate(basis: &Basis<'_>, name: &Text, entry: usize) -> Option<usize>
+    ensures { result ≡ position_from (is_predicate_named name.now) 0
+        (members_of (facts_of basis.now).names (facts_of basis.now).program entry) }
 {
-    for (number, member) in members.iter().enumerate() {
-        if is_predicate_named(member, name) {
-            return Some(number);
-        }
+    match basis.types.scope.names().get(entry) {
+        Some(declared) => declared_predicate(basis, name, declared),
+        None => None,
     }
-    None
 }
 
-fn is_predicate_named(member: &Member, name: &Text) -> bool
-    ensures { result ≡ is_predicate_named name.now member.now }
+// The same, of this class.
+fn declared_predicate(basis: &Basis<'_>, name: &Text, declared: &Declared) -> Option<usize>
+    ensures { result ≡ option_and_then
+        (λ number. predicate_declared (facts_of basis.now).program number name.now)
+        (number_with_body (facts_of basis.now).names declared.now) }
 {
-    match member {
-        Member::Predicate { name: other, .. } => name.as_str() == other.text.as_str(),
-        _ => false,
+    match number_with_body(basis.types.scope, declared) {
+        Some(number) => basis.members.predicate(number, name),
+        None => None,
     }
 }
 

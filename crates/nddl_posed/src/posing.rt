@@ -94,7 +94,7 @@ fn assertions_beside(
         sites: posing.sites,
         globals: count,
     };
-    assertions_of(alloc, &text, posing.premises.sources.heritage.basis.decls)
+    assertions_of(alloc, &text, posing.premises.sources.basis.decls)
 }
 
 // What is stated with these globals and assertions.
@@ -142,11 +142,7 @@ fn stated_of(
     requires { outsides_of outside.now ≡ outside_rules (posing_of posing.now) }
     ensures { IfOk result (λ stated. stated ≡ stated_of (posing_of posing.now)) }
 {
-    let globals = declared_globals(
-        alloc,
-        &posing.premises,
-        posing.premises.sources.heritage.basis.decls,
-    )?;
+    let globals = declared_globals(alloc, &posing.premises, posing.premises.sources.basis.decls)?;
     stated_beside(alloc, posing, outside, globals)
 }
 
@@ -179,7 +175,7 @@ fn problem_outside(
     requires { outsides_of outside.now ≡ outside_rules (posing_of posing.now) }
     ensures { IfOk result (λ problem. problem ≡ posed_problem (posing_of posing.now)) }
 {
-    let roots = posted_roots(alloc, outside, posing.premises.sources.heritage.basis.decls)?;
+    let roots = posted_roots(alloc, outside, posing.premises.sources.basis.decls)?;
     let stated = stated_of(alloc, posing, outside)?;
     Ok(problem_stating(posing.settings, roots, stated))
 }

@@ -25,8 +25,8 @@ use eu_name::sequence::Sequence;
 use model_core::model::Model;
 use nddl_ast::TextFault;
 use nddl_ast::declaration::FileDecls;
-use nddl_inherited::Heritage;
 use nddl_lexicon::{Premises, lexicon, objects_by_class};
+use nddl_lines::Basis;
 use nddl_objects::make_objects;
 use nddl_objects::objects::Program as Made;
 use nddl_program::{Program, Question, ask, told};
@@ -100,10 +100,10 @@ impl Question for OfProblem<'_> {
         &self,
         alloc: Global,
         program: &Program<'_>,
-        heritage: &Heritage<'_>,
+        basis: &Basis<'_>,
     ) -> Result<Result<Model, TextFault>, AllocError> {
-        let made = make_objects(alloc, &heritage.basis)?;
-        answer_made(alloc, self, program, heritage, &made)
+        let made = make_objects(alloc, basis)?;
+        answer_made(alloc, self, program, basis, &made)
     }
 }
 
@@ -112,15 +112,14 @@ fn answer_made(
     alloc: Global,
     question: &OfProblem<'_>,
     program: &Program<'_>,
-    heritage: &Heritage<'_>,
+    basis: &Basis<'_>,
     made: &Made,
 ) -> Result<Result<Model, TextFault>, AllocError>
     requires facts { AreFacts (scope_names (joined_decls program.now.files.now)) (joined_decls program.now.files.now)
-        (facts_of heritage.now.basis) }
-    requires made { progress_of made.now ≡ last_progress (facts_of heritage.now.basis) }
+        (facts_of basis.now) }
+    requires made { progress_of made.now ≡ last_progress (facts_of basis.now) }
     ensures { IfOk result (TellsProblem program.now.files.now question.now.table.now question.now.trees.now) }
 {
-    let basis = &heritage.basis;
     let entries = class_entries(alloc, basis.types.scope)?;
     let numbers = class_numbers(alloc, basis.types.scope)?;
     let by_class = objects_by_class(alloc, basis, made.making.objects.as_slice())?;
@@ -128,7 +127,7 @@ fn answer_made(
         alloc,
         &*question,
         &*program,
-        &*heritage,
+        &*basis,
         &*made,
         entries.as_slice(),
         numbers.as_slice(),
@@ -141,22 +140,22 @@ fn answer_listed<'a>(
     alloc: Global,
     question: &'a OfProblem<'a>,
     program: &'a Program<'a>,
-    heritage: &'a Heritage<'a>,
+    basis: &'a Basis<'a>,
     made: &'a Made,
     entries: &'a [usize],
     numbers: &'a [u32],
     by_class: &'a [Sequence<usize>],
 ) -> Result<Result<Model, TextFault>, AllocError>
     requires facts { AreFacts (scope_names (joined_decls program.now.files.now)) (joined_decls program.now.files.now)
-        (facts_of heritage.now.basis) }
-    requires made { progress_of made.now ≡ last_progress (facts_of heritage.now.basis) }
-    requires entries { entries.now ≡ class_entries heritage.now.basis.types.scope.now 0 heritage.now.basis.types.scope.now }
-    requires numbers { numbers.now ≡ class_numbers heritage.now.basis.types.scope.now 4 0 heritage.now.basis.types.scope.now }
-    requires listed { AreObjectLists (facts_of heritage.now.basis) made.now.making.objects.items by_class.now }
+        (facts_of basis.now) }
+    requires made { progress_of made.now ≡ last_progress (facts_of basis.now) }
+    requires entries { entries.now ≡ class_entries basis.now.types.scope.now 0 basis.now.types.scope.now }
+    requires numbers { numbers.now ≡ class_numbers basis.now.types.scope.now 4 0 basis.now.types.scope.now }
+    requires listed { AreObjectLists (facts_of basis.now) made.now.making.objects.items by_class.now }
     ensures { IfOk result (TellsProblem program.now.files.now question.now.table.now question.now.trees.now) }
 {
     let sources = Sources {
-        heritage: *heritage,
+        basis: *basis,
         enums: question.table.enums.as_slice(),
         entries,
         numbers,
@@ -179,10 +178,10 @@ fn answer_by(
     premises: &Premises<'_>,
 ) -> Result<Result<Model, TextFault>, AllocError>
     requires facts { AreFacts (scope_names (joined_decls program.now.files.now)) (joined_decls program.now.files.now)
-        (facts_of premises.now.sources.heritage.basis) }
-    requires made { progress_of made.now ≡ last_progress (facts_of premises.now.sources.heritage.basis) }
+        (facts_of premises.now.sources.basis) }
+    requires made { progress_of made.now ≡ last_progress (facts_of premises.now.sources.basis) }
     requires world { world_of premises.now ≡ world_known (known_by program.now.files.now
-        (facts_of premises.now.sources.heritage.basis) question.now.table.now question.now.trees.now) }
+        (facts_of premises.now.sources.basis) question.now.table.now question.now.trees.now) }
     ensures { IfOk result (TellsProblem program.now.files.now question.now.table.now question.now.trees.now) }
 {
     let words = lexicon(alloc, premises)?;
@@ -203,10 +202,10 @@ fn answer_in<'a>(
     scope: &'a NameIndex,
 ) -> Result<Result<Model, TextFault>, AllocError>
     requires facts { AreFacts (scope_names (joined_decls program.now.files.now)) (joined_decls program.now.files.now)
-        (facts_of premises.now.sources.heritage.basis) }
-    requires made { progress_of made.now ≡ last_progress (facts_of premises.now.sources.heritage.basis) }
+        (facts_of premises.now.sources.basis) }
+    requires made { progress_of made.now ≡ last_progress (facts_of premises.now.sources.basis) }
     requires world { world_of premises.now ≡ world_known (known_by program.now.files.now
-        (facts_of premises.now.sources.heritage.basis) question.now.table.now question.now.trees.now) }
+        (facts_of premises.now.sources.basis) question.now.table.now question.now.trees.now) }
     requires words { lexicon.now ≡ lexicon_of (world_of premises.now) }
     requires places { scope.now ≡ scope_places [] 0 question.now.table.now.scope }
     ensures { IfOk result (TellsProblem program.now.files.now question.now.table.now question.now.trees.now) }
@@ -227,7 +226,7 @@ fn answer_in<'a>(
 #[tactic(auto, using(crate::proofs::Telling::tells_fault))]
 fn answer_of(alloc: Global, outline: &Outline<'_>) -> Result<Result<Model, TextFault>, AllocError>
     requires facts { AreFacts (scope_names (joined_decls outline.now.program.now.files.now))
-        (joined_decls outline.now.program.now.files.now) (facts_of outline.now.premises.sources.heritage.basis) }
+        (joined_decls outline.now.program.now.files.now) (facts_of outline.now.premises.sources.basis) }
     requires outlined { IsOutlined outline.now }
     ensures { IfOk result (TellsProblem outline.now.program.now.files.now outline.now.table.now outline.now.trees.now) }
 {

@@ -22,7 +22,7 @@ fn note_problem(
     requires { IsOutlined outline.now }
     ensures { OnOk result (first.new ≡ earliest_fault first.old (problem_faults (known_of outline.now))) }
 {
-    let basis = &outline.premises.sources.heritage.basis;
+    let basis = &outline.premises.sources.basis;
     note_problem_texts(alloc, basis, first)?;
     note_problem_limits(
         alloc,

@@ -47,7 +47,7 @@ fn objects_of(alloc: Global, outline: &Outline<'_>) -> Result<Sequence<Object>, 
     let sources = &outline.premises.sources;
     modelled_objects(
         alloc,
-        &sources.heritage.basis,
+        &sources.basis,
         sources.numbers,
         outline.table.classes.as_slice(),
         outline.premises.objects,
@@ -89,7 +89,7 @@ fn fill(alloc: Global, outline: &Outline<'_>, model: &mut Model) -> Result<(), A
     requires { IsOutlined outline.now }
     ensures { OnOk result (model.new ≡ compiled_model (known_of outline.now)) }
 {
-    let basis = &outline.premises.sources.heritage.basis;
+    let basis = &outline.premises.sources.basis;
     model.enums = enums_of(alloc, basis.decls)?;
     model.classes = modelled_classes(alloc, outline.lexicon, outline.table.classes.as_slice())?;
     model.preds = modelled_preds(

@@ -8,7 +8,7 @@ ghost use Rattle.nddl_scope.specs.Names.{scope_names};
 ghost use Rattle.nddl_sorts.specs.declared.kind.Extent.TheVariants.{Whole};
 ghost use Rattle.nddl_lines.specs.Lines.{parents_of};
 ghost use Rattle.nddl_known.specs.Known.{AreFacts};
-ghost use Rattle.nddl_inherited.specs.Shorter.{AreShorter};
+ghost use Rattle.nddl_lines.specs.Shorter.{AreShorter};
 ghost use Rattle.nddl_types.specs.Faults.{told_fault};
 
 use super::files::Program;
@@ -16,13 +16,12 @@ use super::question::Question;
 use lineage::Lineage;
 use nddl_ast::TextFault;
 use nddl_ast::declaration::{Decl, FileDecls};
-use nddl_inherited::{Heritage, shortened};
 use nddl_joined::joining::decl_at;
 use nddl_joined::place::file_of;
 use nddl_joined::{Site, join};
 use nddl_known::known_meanings;
 use nddl_lines::parents::parents_of;
-use nddl_lines::{Basis, FieldIndex, Parents};
+use nddl_lines::{Basis, MemberIndex, Parents, shortened};
 use nddl_scope::{Fault, Scope, declared_names};
 use nddl_sorts::{Extent, TypeMeaning, Types};
 use std::alloc::{AllocError, Global};
@@ -133,24 +132,24 @@ fn ask_over<Q: Question>(
     requires lineage { IsLineageOf parents.now lineage.now.marks.items lineage.now.order.items }
     ensures { IfOk result (Q.answers question.now program.now.files.now) }
 {
-    let fields = FieldIndex::of(alloc, program.decls)?;
+    let members = MemberIndex::of(alloc, program.decls)?;
     ask_among(
-        alloc, &*program, &*scope, &fields, &*parents, &*lineage, question,
+        alloc, &*program, &*scope, &members, &*parents, &*lineage, question,
     )
 }
 
-// The same, among the fields of classes.
+// The same, among the members of classes.
 fn ask_among<'a, Q: Question>(
     alloc: Global,
     program: &'a Program<'a>,
     scope: &'a Scope,
-    fields: &'a FieldIndex<'a>,
+    members: &'a MemberIndex<'a>,
     parents: &'a Parents,
     lineage: &'a Lineage,
     question: &Q,
 ) -> Result<Q::Answer, AllocError>
     requires names { scope.now ≡ scope_names (joined_decls program.now.files.now) }
-    requires fields { fields.now ≡ map (λ decl. decl.now) program.now.decls.now }
+    requires members { members.now ≡ map (λ decl. decl.now) program.now.decls.now }
     requires parents { parents.now ≡ parents_of scope.now (map (λ decl. decl.now) program.now.decls.now) }
     requires lineage { IsLineageOf parents.now lineage.now.marks.items lineage.now.order.items }
     ensures { IfOk result (Q.answers question.now program.now.files.now) }
@@ -161,16 +160,17 @@ fn ask_among<'a, Q: Question>(
         alloc,
         scope,
         program.decls,
-        fields,
+        members,
         parents,
         lineage,
+        short.as_slice(),
         &whole,
     )?;
     ask_by(
         alloc,
         &*program,
         &*scope,
-        &*fields,
+        &*members,
         &*parents,
         &*lineage,
         short.as_slice(),
@@ -185,7 +185,7 @@ fn ask_by<'a, Q: Question>(
     alloc: Global,
     program: &'a Program<'a>,
     scope: &'a Scope,
-    fields: &'a FieldIndex<'a>,
+    members: &'a MemberIndex<'a>,
     parents: &'a Parents,
     lineage: &'a Lineage,
     short: &'a [Option<usize>],
@@ -193,7 +193,7 @@ fn ask_by<'a, Q: Question>(
     whole: &'a Extent,
     question: &Q,
 ) -> Result<Q::Answer, AllocError>
-    requires fields { fields.now ≡ map (λ decl. decl.now) program.now.decls.now }
+    requires members { members.now ≡ map (λ decl. decl.now) program.now.decls.now }
     requires parents { parents.now ≡ parents_of scope.now (map (λ decl. decl.now) program.now.decls.now) }
     requires whole { whole.now ≡ Whole }
     requires short { AreShorter scope.now (map (λ decl. decl.now) program.now.decls.now) parents.now
@@ -216,12 +216,12 @@ fn ask_by<'a, Q: Question>(
     let basis = Basis {
         types,
         decls: program.decls,
-        fields,
+        members,
         parents,
         lineage,
+        short,
     };
-    let heritage = Heritage { basis, short };
-    question.answer(alloc, program, &heritage)
+    question.answer(alloc, program, &basis)
 }
 
 /// The fault as it is answered. It stands in one of the files.

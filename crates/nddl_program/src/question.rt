@@ -1,7 +1,7 @@
 //! What is asked of a program.
 
 use super::files::Program;
-use nddl_inherited::Heritage;
+use nddl_lines::Basis;
 use std::alloc::{AllocError, Global};
 
 /// What is asked of a program, once all that names and types rest on is known of it. `asking::ask` finds that out.
@@ -23,9 +23,9 @@ pub trait Question {
         &self,
         alloc: Global,
         program: &Program<'_>,
-        heritage: &Heritage<'_>,
+        basis: &Basis<'_>,
     ) -> Result<Self::Answer, AllocError>
         requires { AreFacts (scope_names (joined_decls program.now.files.now)) (joined_decls program.now.files.now)
-            (facts_of heritage.now.basis) }
+            (facts_of basis.now) }
         ensures { IfOk result (answers self.now program.now.files.now) };
 }

@@ -8,7 +8,7 @@ use nddl_ast::TextFault;
 use nddl_ast::declaration::FileDecls;
 use nddl_blocks::first_rule_wrong;
 use nddl_collected::{RuleTexts, all_trees};
-use nddl_inherited::Heritage;
+use nddl_lines::Basis;
 use nddl_program::{Program, Question, ask, told};
 use nddl_scope::index::NameIndex;
 use nddl_table::TypeTable;
@@ -47,9 +47,9 @@ impl Question for OfRules<'_> {
         &self,
         alloc: Global,
         program: &Program<'_>,
-        heritage: &Heritage<'_>,
+        basis: &Basis<'_>,
     ) -> Result<Result<Vec<RuleTree>, TextFault>, AllocError> {
-        match first_rule_wrong(alloc, &heritage.basis)? {
+        match first_rule_wrong(alloc, basis)? {
             Some(fault) => Ok(Err(told(program, fault)?)),
             None => Ok(Ok(trees(alloc, self.table, program)?)),
         }

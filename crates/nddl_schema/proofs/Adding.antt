@@ -9,11 +9,11 @@ use Rattle.nddl_scope.specs.declared.scope.Meaning.{Meaning}
 use Rattle.nddl_scope.specs.declared.scope.Meaning.TheVariants as meanings
 use Rattle.nddl_lines.specs.Ancestors.{above}
 use Rattle.nddl_lines.specs.Facts.{Facts}
-use Rattle.nddl_lines.specs.Fields.{member_field}
+use Rattle.nddl_lines.specs.Members.{member_field}
 use Rattle.nddl_variables.specs.Declares.{variables_of}
-use Rattle.nddl_inherited.specs.Inherited.{members_of}
-use Rattle.nddl_inherited.specs.Shorter.{AddTheSame, adds_members, is_builtin_class}
-use Rattle.nddl_inherited.proofs.Adding.{adds_none, flat_same, none_named}
+use Rattle.nddl_lines.specs.Decls.{members_of}
+use Rattle.nddl_lines.specs.Shorter.{AddTheSame, adds_members, is_builtin_class}
+use Rattle.nddl_lines.proofs.Adding.{adds_none, flat_same, none_named}
 use Rattle.nddl_schema.specs.Classes.{class_fields, class_number, fields_at, given_fields, line_down}
 use Rattle.nddl_schema.specs.Predicates.{class_preds, given_preds, pred_of, preds_at}
 

@@ -10,7 +10,7 @@ use Rattle.nddl_ast.specs.declared.declaration.Member.{Member}
 use Rattle.nddl_ast.specs.declared.declaration.PredicatePart.{PredicatePart}
 use Rattle.nddl_ast.specs.declared.declaration.Typed.{Typed}
 use Rattle.nddl_lines.specs.Facts.{Facts}
-use Rattle.nddl_lines.specs.Fields.{member_field}
+use Rattle.nddl_lines.specs.Members.{member_field}
 use Rattle.nddl_classes.specs.Members.{parameter_of, parameters_of}
 use Rattle.nddl_variables.specs.Declares.{declared_variable, variables_of}
 use Rattle.nddl_schema.specs.Classes.{builtin_class, builtin_classes, declared_fields}

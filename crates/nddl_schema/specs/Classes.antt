@@ -16,8 +16,8 @@ use Rattle.nddl_scope.specs.Names.{is_class_sort}
 use Rattle.nddl_scope.specs.Scope.{named_number}
 use Rattle.nddl_lines.specs.Ancestors.{above, ancestry}
 use Rattle.nddl_lines.specs.Facts.{Facts}
-use Rattle.nddl_lines.specs.Fields.{member_field}
-use Rattle.nddl_inherited.specs.Inherited.{members_of}
+use Rattle.nddl_lines.specs.Members.{member_field}
+use Rattle.nddl_lines.specs.Decls.{members_of}
 use Rattle.nddl_variables.specs.Declares.{number_variable, variables_of}
 
 -- the enum that a declaration is

@@ -12,7 +12,7 @@ use Rattle.nddl_scope.specs.declared.scope.Meaning.{Meaning}
 use Rattle.nddl_scope.specs.declared.scope.Meaning.TheVariants as meanings
 use Rattle.nddl_lines.specs.Ancestors.{above}
 use Rattle.nddl_lines.specs.Facts.{Facts}
-use Rattle.nddl_inherited.specs.Inherited.{members_of}
+use Rattle.nddl_lines.specs.Decls.{members_of}
 use Rattle.nddl_classes.specs.Members.{parameters_of}
 use Rattle.nddl_variables.specs.Declares.{number_variable, variables_of}
 use Rattle.nddl_schema.specs.Classes.{class_entries, class_number, line_down}

@@ -3,7 +3,7 @@
 ghost use Rattle.std.specs.Prelude.{◌≡◌, ◌++◌, ◌∷◌, [], IfOk, OnOk, map};
 ghost use Rattle.std.specs.List.{flat_map};
 ghost use Rattle.nddl_lines.specs.Facts.{facts_of};
-ghost use Rattle.nddl_inherited.specs.Shorter.{AddTheSame};
+ghost use Rattle.nddl_lines.specs.Shorter.{AddTheSame};
 ghost use Rattle.nddl_schema.specs.Classes.{class_fields, compiled_class, classes_of, declared_fields, fields_at, line_down, name_of_entry};
 
 use super::builtin::{builtin_classes, push_given_fields};
@@ -14,16 +14,18 @@ use eu_name::text::Text;
 use model_core::class::Class;
 use model_core::variable::VarDecl;
 use nddl_ast::declaration::Member;
-use nddl_inherited::{Heritage, adding_line, members_of};
-use nddl_lines::fields::member_field;
+use nddl_lines::Basis;
+use nddl_lines::decls::members_of;
 use nddl_lines::lines::above;
+use nddl_lines::members::member_field;
+use nddl_lines::shorter::adding_line;
 use nddl_scope::Scope;
 use nddl_variables::push_variable;
 use std::alloc::{AllocError, Global};
 
 /// The classes: the built-in ones, and one for each name, in the order in which they are declared first.
 pub fn classes_of(alloc: Global, sources: &Sources<'_>) -> Result<Sequence<Class>, AllocError>
-    ensures { IfOk result (λ classes. classes ≡ classes_of (facts_of sources.now.heritage.basis) sources.now.enums.now) }
+    ensures { IfOk result (λ classes. classes ≡ classes_of (facts_of sources.now.basis) sources.now.enums.now) }
 {
     let mut classes = builtin_classes(alloc)?;
     let entries = sources.entries;
@@ -41,7 +43,7 @@ fn push_class(
     classes: &mut Sequence<Class>,
 ) -> Result<(), AllocError>
     ensures { OnOk result (classes.new
-        ≡ classes.old ++ compiled_class (facts_of sources.now.heritage.basis) sources.now.enums.now entry ∷ []) }
+        ≡ classes.old ++ compiled_class (facts_of sources.now.basis) sources.now.enums.now entry ∷ []) }
 {
     let class = compiled_class(alloc, sources, entry)?;
     classes.push(class)
@@ -50,9 +52,9 @@ fn push_class(
 // The class whose name has this number.
 fn compiled_class(alloc: Global, sources: &Sources<'_>, entry: usize) -> Result<Class, AllocError>
     ensures { IfOk result (λ class. class
-        ≡ compiled_class (facts_of sources.now.heritage.basis) sources.now.enums.now entry) }
+        ≡ compiled_class (facts_of sources.now.basis) sources.now.enums.now entry) }
 {
-    let basis = &sources.heritage.basis;
+    let basis = &sources.basis;
     let name = name_of_entry(alloc, basis.types.scope, entry)?;
     let meaning = above(basis.types.scope, basis.decls, entry);
     let parent = Some(parent_number(basis.types.scope, sources.numbers, meaning));
@@ -71,24 +73,20 @@ fn class_fields(
     entry: usize,
 ) -> Result<Sequence<VarDecl>, AllocError>
     ensures { IfOk result (λ fields. fields
-        ≡ class_fields (facts_of sources.now.heritage.basis) sources.now.enums.now entry) }
+        ≡ class_fields (facts_of sources.now.basis) sources.now.enums.now entry) }
 {
-    let line = line_down(alloc, &sources.heritage, entry)?;
+    let line = line_down(alloc, &sources.basis, entry)?;
     fields_along(alloc, sources, line.as_slice())
 }
 
 /// The class of this number and those that it extends, the topmost first, which may lack some that add no members.
-#[tactic(auto, using(nddl_inherited::proofs::Adding::same_reversed))]
-pub fn line_down(
-    alloc: Global,
-    heritage: &Heritage<'_>,
-    entry: usize,
-) -> Result<Vec<usize>, AllocError>
-    ensures { IfOk result (λ line. AddTheSame heritage.now.basis.types.scope.now
-        (map (λ decl. decl.now) heritage.now.basis.decls.now) line.items
-        (line_down (facts_of heritage.now.basis) entry)) }
+#[tactic(auto, using(nddl_lines::proofs::Adding::same_reversed))]
+pub fn line_down(alloc: Global, basis: &Basis<'_>, entry: usize) -> Result<Vec<usize>, AllocError>
+    ensures { IfOk result (λ line. AddTheSame basis.now.types.scope.now
+        (map (λ decl. decl.now) basis.now.decls.now) line.items
+        (line_down (facts_of basis.now) entry)) }
 {
-    let mut line = adding_line(alloc, heritage, entry)?;
+    let mut line = adding_line(alloc, basis, entry)?;
     line.reverse();
     Ok(line)
 }
@@ -110,7 +108,7 @@ fn fields_along(
     line: &[usize],
 ) -> Result<Sequence<VarDecl>, AllocError>
     ensures { IfOk result (λ fields. fields
-        ≡ flat_map (fields_at (facts_of sources.now.heritage.basis) sources.now.enums.now) line.now) }
+        ≡ flat_map (fields_at (facts_of sources.now.basis) sources.now.enums.now) line.now) }
 {
     let mut fields = Sequence::new(alloc);
     for entry in line {
@@ -127,9 +125,9 @@ fn push_fields_at(
     fields: &mut Sequence<VarDecl>,
 ) -> Result<(), AllocError>
     ensures { OnOk result (fields.new
-        ≡ fields.old ++ fields_at (facts_of sources.now.heritage.basis) sources.now.enums.now entry) }
+        ≡ fields.old ++ fields_at (facts_of sources.now.basis) sources.now.enums.now entry) }
 {
-    let basis = &sources.heritage.basis;
+    let basis = &sources.basis;
     let meaning = above(basis.types.scope, basis.decls, entry);
     push_given_fields(alloc, meaning, fields)?;
     let members = members_of(basis.types.scope, basis.decls, entry);
@@ -144,7 +142,7 @@ fn push_declared_fields(
     fields: &mut Sequence<VarDecl>,
 ) -> Result<(), AllocError>
     ensures { OnOk result (fields.new
-        ≡ fields.old ++ declared_fields (facts_of sources.now.heritage.basis) sources.now.enums.now members.now) }
+        ≡ fields.old ++ declared_fields (facts_of sources.now.basis) sources.now.enums.now members.now) }
 {
     for member in members {
         push_declared_field(alloc, sources, member, fields)?;
@@ -160,10 +158,10 @@ fn push_declared_field(
     fields: &mut Sequence<VarDecl>,
 ) -> Result<(), AllocError>
     ensures { OnOk result (fields.new
-        ≡ fields.old ++ declared_fields (facts_of sources.now.heritage.basis) sources.now.enums.now (member.now ∷ [])) }
+        ≡ fields.old ++ declared_fields (facts_of sources.now.basis) sources.now.enums.now (member.now ∷ [])) }
 {
     match member_field(member) {
-        Some(typed) => push_variable(alloc, &sources.heritage.basis, sources.enums, typed, fields),
+        Some(typed) => push_variable(alloc, &sources.basis, sources.enums, typed, fields),
         None => Ok(()),
     }
 }

@@ -16,7 +16,7 @@ use model_core::class::{Pred, PredKind};
 use model_core::variable::VarDecl;
 use nddl_ast::declaration::{Member, PredicatePart};
 use nddl_ast::name::Name;
-use nddl_inherited::members_of;
+use nddl_lines::decls::members_of;
 use nddl_lines::lines::above;
 use nddl_scope::Meaning;
 use nddl_variables::push_variable;
@@ -24,7 +24,7 @@ use std::alloc::{AllocError, Global};
 
 /// The predicates by class, in the order of the classes.
 pub fn preds_of(alloc: Global, sources: &Sources<'_>) -> Result<Sequence<Pred>, AllocError>
-    ensures { IfOk result (λ preds. preds ≡ preds_of (facts_of sources.now.heritage.basis) sources.now.enums.now) }
+    ensures { IfOk result (λ preds. preds ≡ preds_of (facts_of sources.now.basis) sources.now.enums.now) }
 {
     let mut preds = Sequence::new(alloc);
     push_builtin_preds(alloc, 2, 2, &mut preds)?;
@@ -40,7 +40,7 @@ fn push_all_preds(
     preds: &mut Sequence<Pred>,
 ) -> Result<(), AllocError>
     ensures { OnOk result (preds.new ≡ preds.old
-        ++ flat_map (class_preds (facts_of sources.now.heritage.basis) sources.now.enums.now) sources.now.entries.now) }
+        ++ flat_map (class_preds (facts_of sources.now.basis) sources.now.enums.now) sources.now.entries.now) }
 {
     let entries = sources.entries;
     for entry in entries {
@@ -57,10 +57,10 @@ fn push_class_preds(
     preds: &mut Sequence<Pred>,
 ) -> Result<(), AllocError>
     ensures { OnOk result (preds.new
-        ≡ preds.old ++ class_preds (facts_of sources.now.heritage.basis) sources.now.enums.now entry) }
+        ≡ preds.old ++ class_preds (facts_of sources.now.basis) sources.now.enums.now entry) }
 {
-    let line = line_down(alloc, &sources.heritage, entry)?;
-    let scope = sources.heritage.basis.types.scope;
+    let line = line_down(alloc, &sources.basis, entry)?;
+    let scope = sources.basis.types.scope;
     let class = class_number(scope, sources.numbers, Meaning::Entry(entry));
     push_preds_along(alloc, sources, class, line.as_slice(), preds)
 }
@@ -74,7 +74,7 @@ fn push_preds_along(
     preds: &mut Sequence<Pred>,
 ) -> Result<(), AllocError>
     ensures { OnOk result (preds.new ≡ preds.old
-        ++ flat_map (preds_at (facts_of sources.now.heritage.basis) sources.now.enums.now class) line.now) }
+        ++ flat_map (preds_at (facts_of sources.now.basis) sources.now.enums.now class) line.now) }
 {
     for entry in line {
         push_preds_at(alloc, sources, class, *entry, preds)?;
@@ -91,9 +91,9 @@ fn push_preds_at(
     preds: &mut Sequence<Pred>,
 ) -> Result<(), AllocError>
     ensures { OnOk result (preds.new ≡ preds.old
-        ++ preds_at (facts_of sources.now.heritage.basis) sources.now.enums.now class entry) }
+        ++ preds_at (facts_of sources.now.basis) sources.now.enums.now class entry) }
 {
-    let basis = &sources.heritage.basis;
+    let basis = &sources.basis;
     let meaning = above(basis.types.scope, basis.decls, entry);
     push_given_preds(alloc, class, meaning, preds)?;
     let members = members_of(basis.types.scope, basis.decls, entry);
@@ -109,7 +109,7 @@ fn push_declared_preds(
     preds: &mut Sequence<Pred>,
 ) -> Result<(), AllocError>
     ensures { OnOk result (preds.new ≡ preds.old
-        ++ filter_map (pred_of (facts_of sources.now.heritage.basis) sources.now.enums.now class) members.now) }
+        ++ filter_map (pred_of (facts_of sources.now.basis) sources.now.enums.now class) members.now) }
 {
     for member in members {
         push_declared_pred(alloc, sources, class, member, preds)?;
@@ -126,7 +126,7 @@ fn push_declared_pred(
     preds: &mut Sequence<Pred>,
 ) -> Result<(), AllocError>
     ensures { OnOk result (preds.new ≡ preds.old
-        ++ filter_map (pred_of (facts_of sources.now.heritage.basis) sources.now.enums.now class) (member.now ∷ [])) }
+        ++ filter_map (pred_of (facts_of sources.now.basis) sources.now.enums.now class) (member.now ∷ [])) }
 {
     match member {
         Member::Predicate { name, parts, .. } => {
@@ -148,7 +148,7 @@ fn pred_with(
     ensures { IfOk result (λ pred. pred ≡ record {
       class = class;
       name = name.now.text;
-      params = variables_of (facts_of sources.now.heritage.basis) sources.now.enums.now (parameters_of parts.now);
+      params = variables_of (facts_of sources.now.basis) sources.now.enums.now (parameters_of parts.now);
       kind = PredKind.Plain;
       rules = [];
     }) }
@@ -171,7 +171,7 @@ fn params_of(
     parts: &[PredicatePart],
 ) -> Result<Sequence<VarDecl>, AllocError>
     ensures { IfOk result (λ params. params
-        ≡ variables_of (facts_of sources.now.heritage.basis) sources.now.enums.now (parameters_of parts.now)) }
+        ≡ variables_of (facts_of sources.now.basis) sources.now.enums.now (parameters_of parts.now)) }
 {
     let mut params = Sequence::new(alloc);
     for part in parts {
@@ -188,11 +188,11 @@ fn push_param(
     params: &mut Sequence<VarDecl>,
 ) -> Result<(), AllocError>
     ensures { OnOk result (params.new ≡ params.old
-        ++ variables_of (facts_of sources.now.heritage.basis) sources.now.enums.now (parameters_of (part.now ∷ []))) }
+        ++ variables_of (facts_of sources.now.basis) sources.now.enums.now (parameters_of (part.now ∷ []))) }
 {
     match part {
         PredicatePart::Parameter(typed) => {
-            push_variable(alloc, &sources.heritage.basis, sources.enums, typed, params)
+            push_variable(alloc, &sources.basis, sources.enums, typed, params)
         }
         PredicatePart::Constraint(_) => Ok(()),
     }

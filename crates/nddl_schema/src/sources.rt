@@ -4,16 +4,16 @@ ghost use Rattle.std.specs.Prelude.{◌≡◌};
 ghost use Rattle.nddl_schema.specs.Classes.{class_entries, class_numbers};
 
 use model_core::class::Enum;
-use nddl_inherited::Heritage;
+use nddl_lines::Basis;
 
 /// What is known of the program, the enums, the numbers of the names that are classes, and which class each name would
 /// be.
 #[derive(Clone, Copy)]
 pub struct Sources<'a> {
-    pub heritage: Heritage<'a>,
+    pub basis: Basis<'a>,
     pub enums: &'a [Enum],
     pub entries: &'a [usize],
     pub numbers: &'a [u32],
-    ghost are_entries: { entries.now ≡ class_entries heritage.basis.types.scope.now 0 heritage.basis.types.scope.now },
-    ghost are_numbers: { numbers.now ≡ class_numbers heritage.basis.types.scope.now 4 0 heritage.basis.types.scope.now },
+    ghost are_entries: { entries.now ≡ class_entries basis.types.scope.now 0 basis.types.scope.now },
+    ghost are_numbers: { numbers.now ≡ class_numbers basis.types.scope.now 4 0 basis.types.scope.now },
 }

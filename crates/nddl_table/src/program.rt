@@ -6,7 +6,7 @@ use super::table::TypeTable;
 use super::tabling::table_of;
 use nddl_ast::TextFault;
 use nddl_ast::declaration::FileDecls;
-use nddl_inherited::Heritage;
+use nddl_lines::Basis;
 use nddl_program::{Program, Question, ask, told};
 use nddl_types::first_wrong;
 use std::alloc::{AllocError, Global};
@@ -34,11 +34,11 @@ impl Question for OfTypes {
         &self,
         alloc: Global,
         program: &Program<'_>,
-        heritage: &Heritage<'_>,
+        basis: &Basis<'_>,
     ) -> Result<Result<TypeTable, TextFault>, AllocError> {
-        match first_wrong(alloc, heritage)? {
+        match first_wrong(alloc, basis)? {
             Some(fault) => Ok(Err(told(program, fault)?)),
-            None => Ok(Ok(table_of(alloc, program, heritage)?)),
+            None => Ok(Ok(table_of(alloc, program, basis)?)),
         }
     }
 }

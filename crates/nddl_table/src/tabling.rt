@@ -9,7 +9,7 @@ use super::scoped::named_of;
 use super::table::{Named, TypeTable};
 use eu_name::sequence::Sequence;
 use model_core::class::{Class, Enum, Pred};
-use nddl_inherited::Heritage;
+use nddl_lines::Basis;
 use nddl_program::Program;
 use nddl_schema::{Sources, class_entries, class_numbers, classes_of, enums_of, preds_of};
 use std::alloc::{AllocError, Global};
@@ -26,12 +26,12 @@ struct Parts {
 pub fn table_of(
     alloc: Global,
     program: &Program<'_>,
-    heritage: &Heritage<'_>,
+    basis: &Basis<'_>,
 ) -> Result<TypeTable, AllocError>
-    ensures { IfOk result (HasEntries program.now.files.now (facts_of heritage.now.basis)) }
+    ensures { IfOk result (HasEntries program.now.files.now (facts_of basis.now)) }
 {
-    let enums = enums_of(alloc, heritage.basis.decls)?;
-    let parts = parts_of(alloc, program, heritage, enums.as_slice());
+    let enums = enums_of(alloc, basis.decls)?;
+    let parts = parts_of(alloc, program, basis, enums.as_slice());
     with_enums(enums, parts)
 }
 
@@ -70,18 +70,18 @@ fn with_enums(
 fn parts_of(
     alloc: Global,
     program: &Program<'_>,
-    heritage: &Heritage<'_>,
+    basis: &Basis<'_>,
     enums: &[Enum],
 ) -> Result<Parts, AllocError>
-    ensures { IfOk result (λ parts. AreEntries program.now.files.now (facts_of heritage.now.basis) enums.now
+    ensures { IfOk result (λ parts. AreEntries program.now.files.now (facts_of basis.now) enums.now
         parts.classes parts.preds parts.scope) }
 {
-    let entries = class_entries(alloc, heritage.basis.types.scope)?;
-    let numbers = class_numbers(alloc, heritage.basis.types.scope)?;
+    let entries = class_entries(alloc, basis.types.scope)?;
+    let numbers = class_numbers(alloc, basis.types.scope)?;
     parts_by(
         alloc,
         program,
-        heritage,
+        basis,
         enums,
         entries.as_slice(),
         numbers.as_slice(),
@@ -92,18 +92,18 @@ fn parts_of(
 fn parts_by(
     alloc: Global,
     program: &Program<'_>,
-    heritage: &Heritage<'_>,
+    basis: &Basis<'_>,
     enums: &[Enum],
     entries: &[usize],
     numbers: &[u32],
 ) -> Result<Parts, AllocError>
-    requires entries { entries.now ≡ class_entries heritage.now.basis.types.scope.now 0 heritage.now.basis.types.scope.now }
-    requires numbers { numbers.now ≡ class_numbers heritage.now.basis.types.scope.now 4 0 heritage.now.basis.types.scope.now }
-    ensures { IfOk result (λ parts. AreEntries program.now.files.now (facts_of heritage.now.basis) enums.now
+    requires entries { entries.now ≡ class_entries basis.now.types.scope.now 0 basis.now.types.scope.now }
+    requires numbers { numbers.now ≡ class_numbers basis.now.types.scope.now 4 0 basis.now.types.scope.now }
+    ensures { IfOk result (λ parts. AreEntries program.now.files.now (facts_of basis.now) enums.now
         parts.classes parts.preds parts.scope) }
 {
     let sources = Sources {
-        heritage: *heritage,
+        basis: *basis,
         enums,
         entries,
         numbers,
@@ -116,12 +116,12 @@ fn parts_from(
     program: &Program<'_>,
     sources: &Sources<'_>,
 ) -> Result<Parts, AllocError>
-    ensures { IfOk result (λ parts. AreEntries program.now.files.now (facts_of sources.now.heritage.basis) sources.now.enums.now
+    ensures { IfOk result (λ parts. AreEntries program.now.files.now (facts_of sources.now.basis) sources.now.enums.now
         parts.classes parts.preds parts.scope) }
 {
     let classes = classes_of(alloc, sources)?;
     let preds = preds_of(alloc, sources)?;
-    let scope = named_of(alloc, program, sources.heritage.basis.types.scope)?;
+    let scope = named_of(alloc, program, sources.basis.types.scope)?;
     if classes.len() >= 4_294_967_296 || preds.len() >= 4_294_967_296 {
         return Err(AllocError);
     }

@@ -10,7 +10,6 @@ use nddl_ast::TextKind;
 use nddl_ast::declaration::Decl;
 use nddl_ast::statement::Variable;
 use nddl_classes::note_class;
-use nddl_inherited::Heritage;
 use nddl_known::note_all_type_faults;
 use nddl_lines::Basis;
 use nddl_scope::Fault;
@@ -23,15 +22,15 @@ use std::alloc::{AllocError, Global};
 #[tactic(auto, using(nddl_scope::proofs::Earliest::earliest_append))]
 pub fn note_decls(
     alloc: Global,
-    heritage: &Heritage<'_>,
+    basis: &Basis<'_>,
     decls: &[&Decl],
     first: &mut Option<Fault>,
 ) -> Result<(), AllocError>
     ensures { OnOk result (first.new ≡ earliest_fault first.old
-        (decls_faults (facts_of heritage.now.basis) 0 (map (λ decl. decl.now) decls.now))) }
+        (decls_faults (facts_of basis.now) 0 (map (λ decl. decl.now) decls.now))) }
 {
     for (number, decl) in decls.iter().enumerate() {
-        note_decl(alloc, heritage, number, *decl, first)?;
+        note_decl(alloc, basis, number, *decl, first)?;
     }
     Ok(())
 }
@@ -39,12 +38,12 @@ pub fn note_decls(
 // Notes what is wrong with the declaration of this number.
 fn note_decl(
     alloc: Global,
-    heritage: &Heritage<'_>,
+    basis: &Basis<'_>,
     number: usize,
     decl: &Decl,
     first: &mut Option<Fault>,
 ) -> Result<(), AllocError>
-    ensures { OnOk result (first.new ≡ earliest_fault first.old (decl_faults (facts_of heritage.now.basis) number decl.now)) }
+    ensures { OnOk result (first.new ≡ earliest_fault first.old (decl_faults (facts_of basis.now) number decl.now)) }
 {
     match decl {
         Decl::Enum {
@@ -62,11 +61,7 @@ fn note_decl(
             Ok(())
         }
         Decl::Typedef { declared, .. } => note_all_type_faults(
-            alloc,
-            &heritage.basis,
-            number,
-            declared,
-            first,
+            alloc, basis, number, declared, first,
         ),
         Decl::Class {
             name,
@@ -75,14 +70,14 @@ fn note_decl(
             ..
         } => note_class(
             alloc,
-            heritage,
+            basis,
             number,
             name,
             parent,
             members.as_slice(),
             first,
         ),
-        Decl::Variable(variable) => note_variable(alloc, &heritage.basis, number, variable, first),
+        Decl::Variable(variable) => note_variable(alloc, basis, number, variable, first),
         _ => Ok(()),
     }
 }

@@ -6,20 +6,19 @@ ghost use Rattle.nddl_lines.specs.Facts.{facts_of};
 ghost use Rattle.nddl_types.specs.Faults.{all_faults};
 
 use super::decls::note_decls;
-use nddl_inherited::Heritage;
+use nddl_lines::Basis;
 use nddl_lines::circles::note_circles;
 use nddl_scope::Fault;
 use nddl_scope::twice::note_second_names;
 use std::alloc::{AllocError, Global};
 
 /// The first of all that is wrong with the names and types of a program of which this is known.
-pub fn first_wrong(alloc: Global, heritage: &Heritage<'_>) -> Result<Option<Fault>, AllocError>
-    ensures { IfOk result (λ fault. fault ≡ earliest_fault None (all_faults (facts_of heritage.now.basis))) }
+pub fn first_wrong(alloc: Global, basis: &Basis<'_>) -> Result<Option<Fault>, AllocError>
+    ensures { IfOk result (λ fault. fault ≡ earliest_fault None (all_faults (facts_of basis.now))) }
 {
-    let basis = &heritage.basis;
     let mut first = None;
     note_second_names(basis.types.scope, &mut first);
     note_circles(basis.types.scope, basis.lineage, &mut first);
-    note_decls(alloc, heritage, basis.decls, &mut first)?;
+    note_decls(alloc, basis, basis.decls, &mut first)?;
     Ok(first)
 }

@@ -1,4 +1,4 @@
-//! What is wrong first with the names and types of a program: `first_wrong(alloc, &heritage)?`.
+//! What is wrong first with the names and types of a program: `first_wrong(alloc, &basis)?`.
 #![tactic(auto)]
 
 pub mod decls;

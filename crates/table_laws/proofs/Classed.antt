@@ -28,10 +28,10 @@ use Rattle.nddl_scope.specs.Names.{scope_names}
 use Rattle.nddl_sorts.specs.declared.kind.TypeMeaning.{TypeMeaning}
 use Rattle.nddl_lines.specs.Ancestors.{above}
 use Rattle.nddl_lines.specs.Facts.{Facts}
-use Rattle.nddl_lines.specs.Fields.{member_field}
+use Rattle.nddl_lines.specs.Members.{member_field}
 use Rattle.nddl_lines.specs.Lines.{parents_of}
 use Rattle.nddl_known.specs.Known.{AreFacts, fine_meaning}
-use Rattle.nddl_inherited.specs.Inherited.{members_of}
+use Rattle.nddl_lines.specs.Decls.{members_of}
 use Rattle.nddl_variables.specs.Declares.{declared_variable, variable_with, variables_of}
 use Rattle.nddl_types.specs.Faults.{all_faults}
 use Rattle.nddl_schema.specs.Classes.{builtin_class, builtin_fields, class_entries, class_fields, class_number, class_numbers, classes_of, compiled_class, declared_fields, enums_of, fields_at, given_fields, line_down, name_of_entry, parent_number, whole_field}

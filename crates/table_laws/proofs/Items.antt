@@ -23,11 +23,11 @@ use Rattle.nddl_scope.specs.Index.{Noted, noted_number}
 use Rattle.nddl_scope.specs.Names.{is_class_sort, scope_names}
 use Rattle.nddl_scope.specs.Scope.{is_class_at, meaning_of}
 use Rattle.nddl_lines.specs.Ancestors.{above, ancestry}
-use Rattle.nddl_lines.specs.Decls.{class_parent, decl_members, declaration_with_body}
+use Rattle.nddl_lines.specs.Decls.{class_parent, decl_members, declaration_with_body, members_of}
 use Rattle.nddl_lines.specs.Facts.{Facts}
 use Rattle.nddl_lines.specs.Lines.{is_rooted}
 use Rattle.nddl_known.specs.Known.{AreFacts}
-use Rattle.nddl_inherited.specs.Inherited.{builtin_members, builtin_noted, class_noted, inherited_noted, line_noted, meaning_noted, member_names, members_of, names_noted, words_noted}
+use Rattle.nddl_inherited.specs.Inherited.{builtin_members, builtin_noted, class_noted, inherited_noted, line_noted, meaning_noted, member_names, names_noted, words_noted}
 use Rattle.nddl_types.specs.Faults.{all_faults}
 use Rattle.nddl_schema.specs.Classes.{line_down}
 use Rattle.table_laws.proofs.Apart.{AreApart, AreOnce, Item, all_append, all_mapped, all_reverse, all_weaker, apart_append, once_apart, pairs_once}

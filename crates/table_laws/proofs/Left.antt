@@ -28,10 +28,10 @@ use Rattle.nddl_scope.specs.Names.{declared_as, is_class_sort, scope_names}
 use Rattle.nddl_scope.specs.Repeats.{repeated_faults}
 use Rattle.nddl_scope.specs.Scope.{fault_if, named_number}
 use Rattle.nddl_lines.specs.Ancestors.{above}
-use Rattle.nddl_lines.specs.Decls.{decl_members, decl_of_name, declaration_with_body}
+use Rattle.nddl_lines.specs.Decls.{decl_members, decl_of_name, declaration_with_body, members_of}
 use Rattle.nddl_lines.specs.Facts.{Facts}
 use Rattle.nddl_known.specs.Known.{AreFacts, all_type_faults}
-use Rattle.nddl_inherited.specs.Inherited.{members_of, words_noted}
+use Rattle.nddl_inherited.specs.Inherited.{words_noted}
 use Rattle.nddl_classes.specs.Members.{parameters_of, typed_faults, typed_names}
 use Rattle.nddl_variables.specs.Declares.{variables_of}
 use Rattle.nddl_types.specs.Faults.{all_faults}

@@ -22,11 +22,10 @@ use Rattle.nddl_scope.specs.declared.scope.Meaning.{Meaning}
 use Rattle.nddl_scope.specs.declared.scope.Meaning.TheVariants as meanings
 use Rattle.nddl_scope.specs.Names.{scope_names}
 use Rattle.nddl_lines.specs.Ancestors.{above}
-use Rattle.nddl_lines.specs.Decls.{decl_members, declaration_with_body}
+use Rattle.nddl_lines.specs.Decls.{decl_members, declaration_with_body, members_of}
 use Rattle.nddl_lines.specs.Facts.{Facts}
-use Rattle.nddl_lines.specs.Fields.{member_field}
+use Rattle.nddl_lines.specs.Members.{member_field}
 use Rattle.nddl_known.specs.Known.{AreFacts, all_type_faults}
-use Rattle.nddl_inherited.specs.Inherited.{members_of}
 use Rattle.nddl_classes.specs.Members.{member_faults}
 use Rattle.nddl_types.specs.Faults.{all_faults}
 use Rattle.nddl_schema.specs.Classes.{builtin_fields, class_fields, declared_fields, fields_at, given_fields, line_down, whole_field}

@@ -32,7 +32,8 @@ use Rattle.nddl_scope.specs.Scope.{fault_if}
 use Rattle.nddl_lines.specs.Ancestors.{above}
 use Rattle.nddl_lines.specs.Facts.{Facts}
 use Rattle.nddl_known.specs.Known.{AreFacts, all_type_faults}
-use Rattle.nddl_inherited.specs.Inherited.{members_of, words_noted}
+use Rattle.nddl_lines.specs.Decls.{members_of}
+use Rattle.nddl_inherited.specs.Inherited.{words_noted}
 use Rattle.nddl_classes.specs.Members.{parameters_of, typed_faults, typed_names}
 use Rattle.nddl_variables.specs.Declares.{variables_of}
 use Rattle.nddl_types.specs.Faults.{all_faults}

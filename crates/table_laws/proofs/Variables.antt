@@ -26,12 +26,11 @@ use Rattle.nddl_scope.specs.declared.scope.Meaning.TheVariants as meanings
 use Rattle.nddl_scope.specs.Names.{scope_names}
 use Rattle.nddl_sorts.specs.declared.kind.TypeMeaning.{TypeMeaning}
 use Rattle.nddl_lines.specs.Ancestors.{above}
-use Rattle.nddl_lines.specs.Decls.{decl_members, decl_of_name, declaration_with_body, typedef_type}
+use Rattle.nddl_lines.specs.Decls.{decl_members, decl_of_name, declaration_with_body, members_of, typedef_type}
 use Rattle.nddl_lines.specs.Facts.{Facts}
-use Rattle.nddl_lines.specs.Fields.{member_field}
+use Rattle.nddl_lines.specs.Members.{member_field}
 use Rattle.nddl_lines.specs.Lines.{is_typedef_sort}
 use Rattle.nddl_known.specs.Known.{AreFacts, fine_meaning}
-use Rattle.nddl_inherited.specs.Inherited.{members_of}
 use Rattle.nddl_classes.specs.Members.{parameter_of, parameters_of}
 use Rattle.nddl_variables.specs.Declares.{declared_variable, number_variable, variable_with, variables_of}
 use Rattle.nddl_schema.specs.Classes.{builtin_fields, class_fields, declared_fields, enums_of, fields_at, given_fields, line_down}

@@ -1,6 +1,6 @@
 use Rattle.std.proofs.Common.{◌≡◌, drop}
 use Rattle.nddl_classes.specs.Members.{parameters_of}
-use Rattle.nddl_lines.specs.Fields.{named_typed}
+use Rattle.nddl_lines.specs.Members.{named_typed}
 use Rattle.nddl_paths.proofs.predicates.parameter_named.Given as goal
 
 -- what is found among those that are left is found among all

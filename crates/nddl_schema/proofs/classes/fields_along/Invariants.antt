@@ -7,5 +7,5 @@ use Rattle.nddl_schema.proofs.classes.fields_along.Given as goal
 -- the fields so far and those of the classes that are left are all
 abbrev pub invariant-loop-entry : goal.invariant-loop-entry
 invariant-loop-entry l =
-    l.fields ++ flat_map (fields_at (facts_of l.sources.heritage.basis) l.sources.enums.now) (drop l.entry-index l.line)
-    ≡ flat_map (fields_at (facts_of l.sources.heritage.basis) l.sources.enums.now) l.line
+    l.fields ++ flat_map (fields_at (facts_of l.sources.basis) l.sources.enums.now) (drop l.entry-index l.line)
+    ≡ flat_map (fields_at (facts_of l.sources.basis) l.sources.enums.now) l.line

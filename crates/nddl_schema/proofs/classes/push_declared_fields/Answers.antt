@@ -6,7 +6,7 @@ use Rattle.nddl_schema.proofs.classes.push_declared_fields.Goals as goal
 
 pub loop-member-preserved : goal.loop-member-preserved
 loop-member-preserved c =
-    let facts = facts_of c.args.sources.now.heritage.basis in
+    let facts = facts_of c.args.sources.now.basis in
     let enums = c.args.sources.now.enums.now in
     fields_step facts enums c.args.members.now c.loop-member.member-index c.member-item.result c.loop-member.fields
     c.push_declared_field.new.fields (c.args.fields.now ++ declared_fields facts enums c.args.members.now)

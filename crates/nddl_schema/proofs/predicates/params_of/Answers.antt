@@ -6,7 +6,7 @@ use Rattle.nddl_variables.specs.Declares.{variables_of}
 
 pub loop-part-preserved : goal.loop-part-preserved
 loop-part-preserved c =
-    let facts = facts_of c.args.sources.now.heritage.basis in
+    let facts = facts_of c.args.sources.now.basis in
     let enums = c.args.sources.now.enums.now in
     params_step facts enums c.args.parts.now c.loop-part.part-index c.part-item.result c.loop-part.params
     c.push_param.new.params (variables_of facts enums (parameters_of c.args.parts.now))

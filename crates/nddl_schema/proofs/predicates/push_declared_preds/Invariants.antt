@@ -7,5 +7,5 @@ use Rattle.nddl_schema.proofs.predicates.push_declared_preds.Given as goal
 -- the predicates so far and those of the members that are left are all
 abbrev pub invariant-loop-member : goal.invariant-loop-member
 invariant-loop-member l =
-    l.preds ++ filter_map (pred_of (facts_of l.sources.heritage.basis) l.sources.enums.now l.class) (drop l.member-index l.members)
-    ≡ l.initial.preds ++ filter_map (pred_of (facts_of l.sources.heritage.basis) l.sources.enums.now l.class) l.members
+    l.preds ++ filter_map (pred_of (facts_of l.sources.basis) l.sources.enums.now l.class) (drop l.member-index l.members)
+    ≡ l.initial.preds ++ filter_map (pred_of (facts_of l.sources.basis) l.sources.enums.now l.class) l.members

@@ -7,5 +7,5 @@ use Rattle.nddl_schema.proofs.predicates.push_preds_along.Given as goal
 -- the predicates so far and those of the classes that are left are all
 abbrev pub invariant-loop-entry : goal.invariant-loop-entry
 invariant-loop-entry l =
-    l.preds ++ flat_map (preds_at (facts_of l.sources.heritage.basis) l.sources.enums.now l.class) (drop l.entry-index l.line)
-    ≡ l.initial.preds ++ flat_map (preds_at (facts_of l.sources.heritage.basis) l.sources.enums.now l.class) l.line
+    l.preds ++ flat_map (preds_at (facts_of l.sources.basis) l.sources.enums.now l.class) (drop l.entry-index l.line)
+    ≡ l.initial.preds ++ flat_map (preds_at (facts_of l.sources.basis) l.sources.enums.now l.class) l.line

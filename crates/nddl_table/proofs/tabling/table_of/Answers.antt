@@ -4,5 +4,5 @@ use Rattle.nddl_table.proofs.tabling.table_of.Goals as goal
 
 pub returns : goal.returns
 returns c =
-    has_entries c.args.program.now.files.now (facts_of c.args.heritage.now.basis) c.in_ok-enums.enums c.as_slice.result.now c.parts_of-parts.result
+    has_entries c.args.program.now.files.now (facts_of c.args.basis.now) c.in_ok-enums.enums c.as_slice.result.now c.parts_of-parts.result
     c.with_enums.result c.in_ok-enums.ensures c.as_slice.ensures c.parts_of-parts.ensures c.with_enums.ensures

@@ -7,7 +7,7 @@ use Rattle.nddl_types.proofs.decls.note_decls.Goals as goal
 
 pub loop-number-preserved : goal.loop-number-preserved
 loop-number-preserved c =
-    decls_step (facts_of c.args.heritage.now.basis) c.args.decls.now c.loop-number.number c.index-decls-number.result c.loop-number.first
+    decls_step (facts_of c.args.basis.now) c.args.decls.now c.loop-number.number c.index-decls-number.result c.loop-number.first
     c.note_decl.new.first
-    (earliest_fault c.args.first.now (decls_faults (facts_of c.args.heritage.now.basis) 0 (map (λ decl. decl.now) c.args.decls.now)))
+    (earliest_fault c.args.first.now (decls_faults (facts_of c.args.basis.now) 0 (map (λ decl. decl.now) c.args.decls.now)))
     c.loop-number-test.true c.index-decls-number.is c.in_ok-note_decl.ensures c.loop-number.invariant

@@ -7,5 +7,5 @@ use Rattle.nddl_types.proofs.decls.note_decls.Given as goal
 -- the earliest so far and of those of the declarations that are left is the earliest of all
 abbrev pub invariant-loop-number : goal.invariant-loop-number
 invariant-loop-number l =
-    earliest_fault l.first (decls_faults (facts_of l.heritage.basis) l.number (map (λ decl. decl.now) (drop l.number l.decls)))
-    ≡ earliest_fault l.initial.first (decls_faults (facts_of l.heritage.basis) 0 (map (λ decl. decl.now) l.decls))
+    earliest_fault l.first (decls_faults (facts_of l.basis) l.number (map (λ decl. decl.now) (drop l.number l.decls)))
+    ≡ earliest_fault l.initial.first (decls_faults (facts_of l.basis) 0 (map (λ decl. decl.now) l.decls))

@@ -4,5 +4,5 @@ use Rattle.nddl_types.proofs.faults.first_wrong.Goals as goal
 
 pub returns : goal.returns
 returns c =
-    all_step (facts_of c.args.heritage.now.basis) c.note_second_names.new.first c.note_circles.new.first c.note_decls.new.first
+    all_step (facts_of c.args.basis.now) c.note_second_names.new.first c.note_circles.new.first c.note_decls.new.first
     c.note_second_names.ensures c.note_circles.ensures c.in_ok-note_decls.ensures

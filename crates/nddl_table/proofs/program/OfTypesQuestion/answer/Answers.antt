@@ -5,5 +5,5 @@ use Rattle.nddl_table.proofs.program.OfTypesQuestion.answer.Goals as goal
 
 pub returns-in_ok-table_of-in-None : goal.returns-in_ok-table_of-in-None
 returns-in_ok-table_of-in-None c =
-    tells_table c.args.program.now.files.now (facts_of c.args.heritage.now.basis) c.in_ok-table_of-in-None.field-0 c.requires
+    tells_table c.args.program.now.files.now (facts_of c.args.basis.now) c.in_ok-table_of-in-None.field-0 c.requires
     (sym c.in-None.is ∙ c.in_ok-fault.ensures) c.in_ok-table_of-in-None.ensures

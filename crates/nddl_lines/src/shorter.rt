@@ -1,0 +1,165 @@
+//! Lines of classes in which those are passed over that add no members to them. So what a class has in all is gathered in
+//! the time that it takes to write it down, however many classes without members stand above it.
+
+ghost use Rattle.std.specs.Prelude.{◌≡◌, IfOk, map, slice_set};
+ghost use Rattle.std.specs.Option.{option_and_then};
+ghost use Rattle.lineage.specs.Lines.{IsLineageOf};
+ghost use Rattle.nddl_scope.specs.Scope.{meaning_of};
+ghost use Rattle.nddl_lines.specs.Ancestors.{ancestry, parent_in};
+ghost use Rattle.nddl_lines.specs.Decls.{class_parent};
+ghost use Rattle.nddl_lines.specs.Shorter.{AddTheSame, AreShorter, adds_body, adds_declared, has_named, is_builtin_class, is_marked, is_named, passed_over};
+
+use super::basis::Basis;
+use super::circles::is_rooted;
+use super::decls::{class_parent, decl_members, declaration_with_body};
+use super::lines::{ancestry, line_along};
+use super::parents::parent_in;
+use lineage::Lineage;
+use nddl_ast::declaration::{Decl, Member};
+use nddl_scope::{Declared, Meaning, Scope};
+use std::alloc::{AllocError, Global};
+
+/// What the things stand under, where those are passed over that add no members. The lineage is that of what they stand
+/// under else.
+pub fn shortened(
+    alloc: Global,
+    scope: &Scope,
+    decls: &[&Decl],
+    parents: &[Option<usize>],
+    lineage: &Lineage,
+) -> Result<Vec<Option<usize>>, AllocError>
+    requires { IsLineageOf parents.now lineage.now.marks.items lineage.now.order.items }
+    ensures { IfOk result (λ short. AreShorter scope.now (map (λ decl. decl.now) decls.now) parents.now
+        lineage.now.marks.items short.items) }
+{
+    let adds = adding(alloc, scope, decls)?;
+    let mut short = copied(alloc, parents)?;
+    let order = lineage.order();
+    for entry in order {
+        let next = parent_in(parents, *entry);
+        let passed = passed_over(adds.as_slice(), short.as_slice(), next);
+        put(&mut short, *entry, passed);
+    }
+    Ok(short)
+}
+
+// Whether each class adds members to a line. It is told of each once, as many may extend a class with many constructors.
+fn adding(alloc: Global, scope: &Scope, decls: &[&Decl]) -> Result<Vec<bool>, AllocError>
+    ensures { IfOk result (λ adds. adds.items ≡ map (adds_declared scope.now (map (λ decl. decl.now) decls.now)) scope.now) }
+{
+    let mut adds = Vec::new(alloc);
+    let names = scope.names();
+    for declared in names {
+        adds.push(adds_declared(scope, decls, declared))?;
+    }
+    Ok(adds)
+}
+
+fn copied(alloc: Global, some: &[Option<usize>]) -> Result<Vec<Option<usize>>, AllocError>
+    ensures { IfOk result (λ copy. copy.items ≡ some.now) }
+{
+    let mut copy = Vec::new(alloc);
+    for one in some {
+        copy.push(*one)?;
+    }
+    Ok(copy)
+}
+
+// What stands next on a line, where only those stay that are marked.
+fn passed_over(marks: &[bool], short: &[Option<usize>], next: Option<usize>) -> Option<usize>
+    ensures { result ≡ passed_over (is_marked marks.now) short.now next }
+{
+    let number = next?;
+    if is_marked(marks, number) {
+        Some(number)
+    } else {
+        parent_in(short, number)
+    }
+}
+
+fn is_marked(marks: &[bool], entry: usize) -> bool
+    ensures { result ≡ is_marked marks.now entry }
+{
+    match marks.get(entry) {
+        Some(mark) => *mark,
+        None => false,
+    }
+}
+
+// Writes down what the thing of this number stands under.
+fn put(short: &mut Vec<Option<usize>>, entry: usize, next: Option<usize>)
+    ensures { short.new.items ≡ slice_set short.old.items entry next }
+{
+    if entry < short.len() {
+        short[entry] = next;
+    }
+}
+
+// Whether a class adds members to a line.
+fn adds_declared(scope: &Scope, decls: &[&Decl], declared: &Declared) -> bool
+    ensures { result ≡ adds_declared scope.now (map (λ decl. decl.now) decls.now) declared.now }
+{
+    match declaration_with_body(scope, decls, declared) {
+        Some(body) => adds_body(scope, body),
+        None => false,
+    }
+}
+
+// The same, where it is declared so.
+fn adds_body(scope: &Scope, body: &Decl) -> bool
+    ensures { result ≡ adds_body scope.now body.now }
+{
+    has_named(decl_members(body)) || is_builtin_class(extended(scope, body))
+}
+
+// What the class extends that is declared so.
+fn extended(scope: &Scope, body: &Decl) -> Option<Meaning>
+    ensures { result ≡ option_and_then (λ name. meaning_of scope.now name.text) (class_parent body.now) }
+{
+    let name = class_parent(body)?;
+    scope.meaning(&name.text)
+}
+
+fn has_named(members: &[Member]) -> bool
+    ensures { result ≡ has_named members.now }
+{
+    for member in members {
+        if is_named(member) {
+            return true;
+        }
+    }
+    false
+}
+
+// Whether the member is a field or a predicate.
+fn is_named(member: &Member) -> bool
+    ensures { result ≡ is_named member.now }
+{
+    match member {
+        Member::Field(_) => true,
+        Member::Predicate { .. } => true,
+        Member::Constructor { .. } => false,
+    }
+}
+
+fn is_builtin_class(meaning: Option<Meaning>) -> bool
+    ensures { result ≡ is_builtin_class meaning }
+{
+    match meaning {
+        Some(Meaning::BuiltIn(_)) => true,
+        Some(Meaning::Entry(_)) => false,
+        None => false,
+    }
+}
+
+/// A line of the class of this number, from itself up, which may lack some that add no members.
+pub fn adding_line(alloc: Global, basis: &Basis<'_>, entry: usize) -> Result<Vec<usize>, AllocError>
+    ensures { IfOk result (λ line. AddTheSame basis.now.types.scope.now
+        (map (λ decl. decl.now) basis.now.decls.now) line.items (ancestry basis.now.parents.now entry)) }
+{
+    if is_rooted(basis.lineage.standing(entry)) {
+        line_along(alloc, basis.short, entry)
+    } else {
+        ancestry(alloc, basis.parents, entry)
+    }
+}
