@@ -3,7 +3,6 @@ use Rattle.std.specs.Prelude.{ℕ, ◌+◌, Bool, true, false, List, [], ◌∷�
 use Rattle.std.specs.Prelude.{if◌then◌else◌}
 use Rattle.std.specs.List.{flat_map}
 use Rattle.std.specs.Option.{option_and_then, option_map_or}
-use Rattle.std.specs.Str.{bytes_eq}
 use Rattle.nddl_ast.specs.declared.expression.Constant.{Constant}
 use Rattle.nddl_ast.specs.declared.expression.Constant.TheVariants as constants
 use Rattle.nddl_ast.specs.declared.expression.Expr.{Expr}
@@ -25,10 +24,10 @@ use Rattle.nddl_constructors.specs.Constants.{is_understood, wanted_at}
 use Rattle.nddl_constructors.specs.Formals.{around_formals, formal_number}
 use Rattle.nddl_data.specs.declared.made.Datum.{Datum}
 use Rattle.nddl_data.specs.declared.made.Datum.TheVariants as datums
-use Rattle.nddl_data.specs.declared.made.FieldValue.{FieldValue}
 use Rattle.nddl_data.specs.declared.made.MadeObject.{MadeObject}
 use Rattle.nddl_data.specs.declared.made.Standing.{Standing}
 use Rattle.nddl_data.specs.declared.made.Standing.TheVariants as standings
+use Rattle.nddl_data.specs.Fields.{field_datum}
 use Rattle.nddl_data.specs.Scene.{Grounds, Scenery}
 
 -- ---- names
@@ -64,11 +63,6 @@ first_datum grounds scene name =
     (meaning_datum grounds (meaning_of grounds.facts.names name))
 
 -- ---- paths
-
--- the value to which the field of this name is set
-abbrev pub field_datum : List ℕ → List FieldValue → Option Datum
-field_datum name [] = None
-field_datum name (field ∷ more) = if bytes_eq name field.name then field.value else field_datum name more
 
 -- the value of the field of this name of an object
 abbrev pub datum_behind : List MadeObject → Option Datum → Name → Option Datum

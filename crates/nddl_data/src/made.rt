@@ -3,7 +3,7 @@
 ghost use Rattle.std.specs.Prelude.{◌≡◌};
 ghost use Rattle.nddl_data.specs.Scene.{scenery_of};
 
-use eu_name::sequence::Sequence;
+use super::fields::SetFields;
 use eu_name::text::Text;
 use nddl_constructors::Formals;
 use nddl_lines::Basis;
@@ -27,14 +27,14 @@ pub struct FieldValue {
     pub value: Option<Datum>,
 }
 
-/// An object that is made, with its fields in the order in which they were set.
+/// An object that is made, with its fields that are set.
 #[derive(Drop)]
 pub struct MadeObject {
     pub name: Text,
     /// The number of its name in the scope, if it is declared there.
     pub entry: Option<usize>,
     pub class: Meaning,
-    pub fields: Sequence<FieldValue>,
+    pub fields: SetFields,
 }
 
 /// What a name of the files stands for where objects are made one after another.

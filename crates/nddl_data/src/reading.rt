@@ -4,10 +4,10 @@ ghost use Rattle.std.specs.Prelude.{◌≡◌, IfOk, slice_get};
 ghost use Rattle.nddl_scope.specs.Finding.{earliest_fault};
 ghost use Rattle.nddl_paths.specs.Seen.{seen_in};
 ghost use Rattle.nddl_constructors.specs.Formals.{formal_number};
-ghost use Rattle.nddl_data.specs.Reading.{all_unmade_faults, data_behind, datum_at, datum_behind, entry_datum, expr_datum, field_datum, first_datum, is_unmade, is_unmade_meaning, is_unmade_sort, is_unmade_standing, is_well_written, literal_datum, meaning_datum, path_datum, settled_data, settled_datum, sort_datum, standing_datum, unmade_faults};
+ghost use Rattle.nddl_data.specs.Reading.{all_unmade_faults, data_behind, datum_at, datum_behind, entry_datum, expr_datum, first_datum, is_unmade, is_unmade_meaning, is_unmade_sort, is_unmade_standing, is_well_written, literal_datum, meaning_datum, path_datum, settled_data, settled_datum, sort_datum, standing_datum, unmade_faults};
 ghost use Rattle.nddl_data.specs.Scene.{grounds_of, scenery_of};
 
-use super::made::{Datum, FieldValue, Ground, MadeObject, Scene, Standing};
+use super::made::{Datum, Ground, MadeObject, Scene, Standing};
 use eu_name::text::Text;
 use nddl_ast::TextKind;
 use nddl_ast::expression::{Constant, Expr};
@@ -94,25 +94,13 @@ fn first_datum(footing: &Ground<'_>, scene: &Scene<'_>, name: &Text) -> Option<D
     }
 }
 
-/// The value to which the field of this name is set.
-pub fn field_datum(name: &Text, fields: &[FieldValue]) -> Option<Datum>
-    ensures { result ≡ field_datum name.now fields.now }
-{
-    for field in fields {
-        if name.as_str() == field.name.as_str() {
-            return field.value;
-        }
-    }
-    None
-}
-
 // The value of the field of this name of an object.
 fn datum_behind(objects: &[MadeObject], datum: Option<Datum>, name: &Name) -> Option<Datum>
     ensures { result ≡ datum_behind objects.now datum name.now }
 {
     match datum {
         Some(Datum::Object(number)) => match objects.get(number) {
-            Some(object) => field_datum(&name.text, object.fields.as_slice()),
+            Some(object) => object.fields.datum(&name.text),
             None => None,
         },
         _ => None,

@@ -19,7 +19,7 @@ use Rattle.nddl_data.specs.declared.made.Datum.{Datum}
 use Rattle.nddl_data.specs.declared.made.Datum.TheVariants as datums
 use Rattle.nddl_data.specs.declared.made.FieldValue.{FieldValue}
 use Rattle.nddl_data.specs.declared.made.MadeObject.{MadeObject}
-use Rattle.nddl_data.specs.Reading.{field_datum}
+use Rattle.nddl_data.specs.Fields.{field_datum}
 
 -- ---- values
 

@@ -11,11 +11,9 @@ use eu_name::sequence::Sequence;
 use eu_name::text::Text;
 use model_core::class::{Class, Object, ObjectKind};
 use model_core::variable::VarDecl;
-use nddl_constructors::wants::builtin_along;
-use nddl_data::reading::field_datum;
-use nddl_data::{Datum, FieldValue, MadeObject};
+use nddl_constructors::wants::builtin_above;
+use nddl_data::{Datum, MadeObject, SetFields};
 use nddl_lines::Basis;
-use nddl_lines::lines::ancestry;
 use nddl_schema::numbers::class_number;
 use nddl_scope::{Meaning, Scope, Sort};
 use nddl_variables::values::value_at;
@@ -55,17 +53,17 @@ pub fn datum_value(scope: &Scope, datum: Option<Datum>) -> Result<i32, AllocErro
 }
 
 // That of the value to which the field of this name is set.
-fn field_value(scope: &Scope, fields: &[FieldValue], name: &Text) -> Result<i32, AllocError>
+fn field_value(scope: &Scope, fields: &SetFields, name: &Text) -> Result<i32, AllocError>
     ensures { IfOk result (λ value. value ≡ field_value scope.now fields.now name.now) }
 {
-    datum_value(scope, field_datum(name, fields))
+    datum_value(scope, fields.datum(name))
 }
 
 // The same, of a field of a built-in class.
 fn word_value(
     alloc: Global,
     scope: &Scope,
-    fields: &[FieldValue],
+    fields: &SetFields,
     name: &str,
 ) -> Result<i32, AllocError>
     ensures { IfOk result (λ value. value ≡ field_value scope.now fields.now name.now) }
@@ -78,7 +76,7 @@ fn word_value(
 fn field_values(
     alloc: Global,
     scope: &Scope,
-    fields: &[FieldValue],
+    fields: &SetFields,
     variables: &[VarDecl],
 ) -> Result<Sequence<i32>, AllocError>
     ensures { IfOk result (λ values. values ≡ field_values scope.now fields.now variables.now) }
@@ -96,15 +94,12 @@ fn builtin_of(alloc: Global, basis: &Basis<'_>, class: Meaning) -> Result<u32, A
 {
     match class {
         Meaning::BuiltIn(number) => Ok(number),
-        Meaning::Entry(entry) => {
-            let line = ancestry(alloc, basis.parents, entry)?;
-            Ok(builtin_along(basis.types.scope, basis.decls, line.as_slice()))
-        }
+        Meaning::Entry(entry) => builtin_above(alloc, basis, entry),
     }
 }
 
 // What a reservoir means for the tokens on it.
-fn reservoir(alloc: Global, scope: &Scope, fields: &[FieldValue]) -> Result<ObjectKind, AllocError>
+fn reservoir(alloc: Global, scope: &Scope, fields: &SetFields) -> Result<ObjectKind, AllocError>
     ensures { IfOk result (λ kind. kind ≡ object_kind scope.now fields.now 3) }
 {
     let initial = word_value(alloc, scope, fields, "initial")?;
@@ -117,7 +112,7 @@ fn reservoir(alloc: Global, scope: &Scope, fields: &[FieldValue]) -> Result<Obje
 fn object_kind(
     alloc: Global,
     scope: &Scope,
-    fields: &[FieldValue],
+    fields: &SetFields,
     number: u32,
 ) -> Result<ObjectKind, AllocError>
     ensures { IfOk result (λ kind. kind ≡ object_kind scope.now fields.now number) }
@@ -157,7 +152,7 @@ fn modelled_object(
 {
     let scope = basis.types.scope;
     let class = class_number(scope, numbers, object.class);
-    let made = object.fields.as_slice();
+    let made = &object.fields;
     let builtin = builtin_of(alloc, basis, object.class)?;
     let kind = object_kind(alloc, scope, made, builtin)?;
     let name = object.name.copy()?;

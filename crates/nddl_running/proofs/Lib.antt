@@ -1,2 +1,1 @@
 pub mod Deeper
-pub mod SetOnce

@@ -1,8 +1,7 @@
 -- What is wrong with an object whose constructors have run.
-use Rattle.std.specs.Prelude.{ℕ, ◌==◌, Bool, true, false, ◌||◌, ◌&&◌, not, pos, int_lt, List, [], ◌∷◌, ◌++◌}
+use Rattle.std.specs.Prelude.{ℕ, ◌==◌, Bool, true, false, ◌||◌, ◌&&◌, not, pos, int_lt, List, ◌++◌}
 use Rattle.std.specs.Prelude.{Option, Some, codes, if◌then◌else◌}
 use Rattle.std.specs.List.{list_all, list_any}
-use Rattle.std.specs.Str.{bytes_eq}
 use Rattle.nddl_ast.specs.declared.declaration.Member.{Member}
 use Rattle.nddl_ast.specs.declared.declaration.Member.TheVariants as members
 use Rattle.nddl_ast.specs.declared.kind.TextKind.TheVariants as faults
@@ -13,21 +12,13 @@ use Rattle.nddl_scope.specs.declared.scope.Meaning.TheVariants as meanings
 use Rattle.nddl_scope.specs.Finding.{faults_here}
 use Rattle.nddl_scope.specs.Scope.{fault_if}
 use Rattle.nddl_lines.specs.Facts.{Facts}
-use Rattle.nddl_inherited.specs.Inherited.{members_of}
+use Rattle.nddl_lines.specs.Decls.{members_of}
 use Rattle.nddl_data.specs.declared.made.Datum.{Datum}
 use Rattle.nddl_data.specs.declared.made.Datum.TheVariants as datums
 use Rattle.nddl_data.specs.declared.made.FieldValue.{FieldValue}
-use Rattle.nddl_data.specs.Reading.{field_datum}
+use Rattle.nddl_data.specs.Fields.{field_datum, is_set_once}
 
 -- ---- fields that are set
-
-abbrev pub is_set : List ℕ → List FieldValue → Bool
-is_set name fields = list_any (λ field. bytes_eq name field.name) fields
-
--- the field of this name is set, and only once
-abbrev pub is_set_once : List ℕ → List FieldValue → Bool
-is_set_once name [] = false
-is_set_once name (field ∷ more) = if bytes_eq name field.name then not (is_set name more) else is_set_once name more
 
 -- the member is no field, or one that is set once
 abbrev pub is_member_set : List FieldValue → Member → Bool

@@ -1,4 +1,3 @@
 pub mod Construction
 pub mod Finished
 pub mod Made
-pub mod Settings

@@ -4,120 +4,106 @@ ghost use Rattle.std.specs.Prelude.{◌≡◌, IfOk, OnOk};
 ghost use Rattle.std.specs.List.{list_all, list_any};
 ghost use Rattle.nddl_scope.specs.Finding.{earliest_fault};
 ghost use Rattle.nddl_lines.specs.Facts.{facts_of};
-ghost use Rattle.nddl_data.specs.Reading.{field_datum};
-ghost use Rattle.nddl_running.specs.Finished.{are_all_set, are_builtin_set, datum_below, finished_faults, is_class_out, is_class_set, is_member_set, is_out_of_bounds, is_set, is_set_once};
+ghost use Rattle.nddl_data.specs.Fields.{field_datum, is_set_once};
+ghost use Rattle.nddl_running.specs.Finished.{are_all_set, are_builtin_set, datum_below, finished_faults, is_class_out, is_class_set, is_member_set, is_out_of_bounds};
 
-use super::settings::{Settings, is_told_once, set_names};
 use eu_name::text::Text;
 use nddl_ast::TextKind;
 use nddl_ast::declaration::Member;
-use nddl_data::reading::field_datum;
-use nddl_data::{Datum, FieldValue};
-use nddl_inherited::members_of;
+use nddl_data::{Datum, SetFields};
 use nddl_joined::Place;
 use nddl_lines::Basis;
+use nddl_lines::decls::members_of;
 use nddl_scope::fault::note_at;
 use nddl_scope::twice::kind_if;
 use nddl_scope::{Fault, Meaning};
 use std::alloc::{AllocError, Global};
 
-fn is_set(name: &str, fields: &[FieldValue]) -> bool
-    ensures { result ≡ is_set name.now fields.now }
-{
-    for field in fields {
-        if name == field.name.as_str() {
-            return true;
-        }
-    }
-    false
-}
-
-// Whether the field of this name is set, and only once.
-fn is_set_once(name: &str, fields: &[FieldValue]) -> bool
-    ensures { result ≡ is_set_once name.now fields.now }
-{
-    for (number, field) in fields.iter().enumerate() {
-        if name == field.name.as_str() {
-            return !is_set(name, fields.split_at(number + 1).1);
-        }
-    }
-    false
-}
-
 // Whether the member is no field, or one that is set once.
-fn is_member_set(settings: &Settings<'_>, member: &Member) -> bool
-    ensures { result ≡ is_member_set settings.now.fields.now member.now }
+fn is_member_set(fields: &SetFields, member: &Member) -> bool
+    ensures { result ≡ is_member_set fields.now member.now }
 {
     match member {
-        Member::Field(typed) => is_told_once(settings, &typed.name.text),
+        Member::Field(typed) => fields.is_set_once(&typed.name.text),
         _ => true,
     }
 }
 
-fn are_members_set(settings: &Settings<'_>, members: &[Member]) -> bool
-    ensures { result ≡ list_all (is_member_set settings.now.fields.now) members.now }
+fn are_members_set(fields: &SetFields, members: &[Member]) -> bool
+    ensures { result ≡ list_all (is_member_set fields.now) members.now }
 {
     for member in members {
-        if !is_member_set(settings, member) {
+        if !is_member_set(fields, member) {
             return false;
         }
     }
     true
 }
 
-// Whether each field of the built-in class of this number is set once.
-fn are_builtin_set(fields: &[FieldValue], number: u32) -> bool
-    ensures { result ≡ are_builtin_set fields.now number }
+// Whether the field of this name is set, and only once.
+fn is_word_set(alloc: Global, fields: &SetFields, name: &str) -> Result<bool, AllocError>
+    ensures { IfOk result (λ once. once ≡ is_set_once name.now fields.now) }
+{
+    let name = Text::from_str(alloc, name)?;
+    Ok(fields.is_set_once(&name))
+}
+
+// Whether each field of a reservoir is set once.
+fn is_reservoir_set(alloc: Global, fields: &SetFields) -> Result<bool, AllocError>
+    ensures { IfOk result (λ all. all ≡ are_builtin_set fields.now 3) }
+{
+    let initial = is_word_set(alloc, fields, "initial")?;
+    let low = is_word_set(alloc, fields, "low")?;
+    let high = is_word_set(alloc, fields, "high")?;
+    Ok(initial && (low && high))
+}
+
+// The same of each field of the built-in class of this number.
+fn are_builtin_set(alloc: Global, fields: &SetFields, number: u32) -> Result<bool, AllocError>
+    ensures { IfOk result (λ all. all ≡ are_builtin_set fields.now number) }
 {
     if number == 2 {
-        is_set_once("capacity", fields)
+        is_word_set(alloc, fields, "capacity")
     } else if number == 3 {
-        is_set_once("initial", fields)
-            && (is_set_once("low", fields) && is_set_once("high", fields))
+        is_reservoir_set(alloc, fields)
     } else {
-        true
+        Ok(true)
     }
 }
 
 // Whether each field is that the class adds.
-fn is_class_set(basis: &Basis<'_>, settings: &Settings<'_>, class: Meaning) -> bool
-    ensures { result ≡ is_class_set (facts_of basis.now) settings.now.fields.now class }
+fn is_class_set(
+    alloc: Global,
+    basis: &Basis<'_>,
+    fields: &SetFields,
+    class: Meaning,
+) -> Result<bool, AllocError>
+    ensures { IfOk result (λ all. all ≡ is_class_set (facts_of basis.now) fields.now class) }
 {
     match class {
-        Meaning::BuiltIn(number) => are_builtin_set(settings.fields, number),
+        Meaning::BuiltIn(number) => are_builtin_set(alloc, fields, number),
         Meaning::Entry(entry) => {
-            are_members_set(settings, members_of(basis.types.scope, basis.decls, entry))
+            let members = members_of(basis.types.scope, basis.decls, entry);
+            Ok(are_members_set(fields, members))
         }
     }
 }
 
 // Whether each field is of an object with this line.
-fn are_classes_set(basis: &Basis<'_>, settings: &Settings<'_>, line: &[Meaning]) -> bool
-    ensures { result ≡ are_all_set (facts_of basis.now) settings.now.fields.now line.now }
-{
-    for class in line {
-        if !is_class_set(basis, settings, *class) {
-            return false;
-        }
-    }
-    true
-}
-
-// The same, where the names are yet to be gathered.
 fn are_all_set(
     alloc: Global,
     basis: &Basis<'_>,
-    fields: &[FieldValue],
+    fields: &SetFields,
     line: &[Meaning],
 ) -> Result<bool, AllocError>
     ensures { IfOk result (λ all. all ≡ are_all_set (facts_of basis.now) fields.now line.now) }
 {
-    let names = set_names(alloc, fields)?;
-    let settings = Settings {
-        fields,
-        names: &names,
-    };
-    Ok(are_classes_set(basis, &settings, line))
+    for class in line {
+        if !is_class_set(alloc, basis, fields, *class)? {
+            return Ok(false);
+        }
+    }
+    Ok(true)
 }
 
 // Whether the one number is less than the other, where both are known.
@@ -131,15 +117,15 @@ fn datum_below(one: Option<Datum>, other: Option<Datum>) -> bool
 }
 
 // The value to which the field of this name is set.
-fn datum_of(alloc: Global, name: &str, fields: &[FieldValue]) -> Result<Option<Datum>, AllocError>
+fn datum_of(alloc: Global, name: &str, fields: &SetFields) -> Result<Option<Datum>, AllocError>
     ensures { IfOk result (λ datum. datum ≡ field_datum name.now fields.now) }
 {
     let name = Text::from_str(alloc, name)?;
-    Ok(field_datum(&name, fields))
+    Ok(fields.datum(&name))
 }
 
 // Whether the level of a reservoir begins outside of its limits.
-fn is_level_out(alloc: Global, fields: &[FieldValue]) -> Result<bool, AllocError>
+fn is_level_out(alloc: Global, fields: &SetFields) -> Result<bool, AllocError>
     ensures { IfOk result (λ out. out ≡ is_out_of_bounds fields.now 3) }
 {
     let initial = datum_of(alloc, "initial", fields)?;
@@ -149,7 +135,7 @@ fn is_level_out(alloc: Global, fields: &[FieldValue]) -> Result<bool, AllocError
 }
 
 // Whether a capacity is negative, or a level begins outside of its limits.
-fn is_out_of_bounds(alloc: Global, fields: &[FieldValue], number: u32) -> Result<bool, AllocError>
+fn is_out_of_bounds(alloc: Global, fields: &SetFields, number: u32) -> Result<bool, AllocError>
     ensures { IfOk result (λ out. out ≡ is_out_of_bounds fields.now number) }
 {
     if number == 2 {
@@ -162,7 +148,7 @@ fn is_out_of_bounds(alloc: Global, fields: &[FieldValue], number: u32) -> Result
     }
 }
 
-fn is_class_out(alloc: Global, fields: &[FieldValue], class: Meaning) -> Result<bool, AllocError>
+fn is_class_out(alloc: Global, fields: &SetFields, class: Meaning) -> Result<bool, AllocError>
     ensures { IfOk result (λ out. out ≡ is_class_out fields.now class) }
 {
     match class {
@@ -172,7 +158,7 @@ fn is_class_out(alloc: Global, fields: &[FieldValue], class: Meaning) -> Result<
 }
 
 // Whether one of the classes of the line is a built-in one whose numbers are wrong.
-fn is_line_out(alloc: Global, fields: &[FieldValue], line: &[Meaning]) -> Result<bool, AllocError>
+fn is_line_out(alloc: Global, fields: &SetFields, line: &[Meaning]) -> Result<bool, AllocError>
     ensures { IfOk result (λ out. out ≡ list_any (is_class_out fields.now) line.now) }
 {
     for class in line {
@@ -190,7 +176,7 @@ pub fn note_finished(
     basis: &Basis<'_>,
     place: Place,
     line: &[Meaning],
-    fields: &[FieldValue],
+    fields: &SetFields,
     first: &mut Option<Fault>,
 ) -> Result<(), AllocError>
     ensures { OnOk result (first.new ≡ earliest_fault first.old

@@ -5,7 +5,6 @@
 pub mod finished;
 pub mod making;
 pub mod running;
-pub mod settings;
 
 pub use making::{Making, Request};
 pub use running::make_new;

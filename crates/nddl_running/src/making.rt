@@ -3,10 +3,9 @@
 ghost use Rattle.std.specs.Prelude.{◌≡◌, [], false, length, OnOk};
 ghost use Rattle.nddl_running.specs.Construction.{asked_of, object_begun, construction_of, field_added, has_room, subject_of, too_nested, too_many, with_field, with_set};
 
-use eu_name::sequence::Sequence;
 use eu_name::text::Text;
 use nddl_ast::TextKind;
-use nddl_data::{Datum, FieldValue, MadeObject};
+use nddl_data::{Datum, FieldValue, MadeObject, SetFields};
 use nddl_joined::Place;
 use nddl_scope::fault::note_at;
 use nddl_scope::twice::kind_if;
@@ -113,7 +112,7 @@ impl Making {
             name: request.name.copy()?,
             entry: request.entry,
             class: request.class,
-            fields: Sequence::new(alloc),
+            fields: SetFields::new(alloc),
         };
         self.objects.push(object)?;
         Ok(())

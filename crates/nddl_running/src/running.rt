@@ -1,6 +1,6 @@
 //! What a `new` makes: the object, and those that its constructors make in turn.
 
-ghost use Rattle.std.specs.Prelude.{◌≡◌, None, IfOk, OnOk};
+ghost use Rattle.std.specs.Prelude.{◌≡◌, [], None, IfOk, OnOk};
 ghost use Rattle.std.specs.Option.{option_map_or};
 ghost use Rattle.nddl_lines.specs.Facts.{facts_of};
 ghost use Rattle.nddl_data.specs.Scene.{grounds_of, scenery_of};
@@ -20,14 +20,13 @@ use nddl_constructors::class_wants;
 use nddl_constructors::formals::formals_seen;
 use nddl_data::reading::{datum_at, note_all_unmade};
 use nddl_data::{
-    Datum, FieldValue, Ground, MadeObject, Scene, is_outside_type, note_unmade, settled_data,
+    Datum, Ground, MadeObject, Scene, SetFields, is_outside_type, note_unmade, settled_data,
     settled_datum,
 };
 use nddl_joined::Place;
-use nddl_lines::lines::ancestry;
 use nddl_passed::classes::{body_decl, constructor_formals, constructor_sets};
 use nddl_passed::{Passed, constructor_at, line_up, made_class, note_passing, passed_down};
-use nddl_paths::fields::field_along;
+use nddl_paths::fields::field_of_class;
 use nddl_scope::Meaning;
 use nddl_scope::fault::note_at;
 use nddl_scope::twice::kind_if;
@@ -45,9 +44,8 @@ fn is_outside_field(
     ensures { IfOk result (λ outside.
         outside ≡ is_outside_field (grounds_of footing.now) objects.now entry name.now value) }
 {
-    let basis = &footing.basis;
-    let line = ancestry(alloc, basis.parents, entry)?;
-    match field_along(basis, name, line.as_slice()) {
+    let field = field_of_class(alloc, &footing.basis, name, entry)?;
+    match field {
         Some(typed) => is_outside_type(alloc, footing, objects, &typed.declared, value),
         None => Ok(false),
     }
@@ -144,13 +142,14 @@ fn run_builtin(
     }
 }
 
-// The fields to which the object of this number is set.
-fn fields_of(objects: &[MadeObject], number: usize) -> &[FieldValue]
+// The fields to which the object of this number is set; these, where there is none.
+fn fields_of<'a>(objects: &'a [MadeObject], number: usize, none: &'a SetFields) -> &'a SetFields
+    requires { none.now ≡ [] }
     ensures { result.now ≡ fields_of objects.now number }
 {
     match objects.get(number) {
-        Some(object) => object.fields.as_slice(),
-        None => &[],
+        Some(object) => &object.fields,
+        None => none,
     }
 }
 
@@ -166,12 +165,13 @@ fn finish(
         ≡ finished (facts_of footing.now.basis) (subject_of subject.now) class (construction_of making.old)) }
 {
     let line = line_up(alloc, &footing.basis, class)?;
+    let none = SetFields::new(alloc);
     note_finished(
         alloc,
         &footing.basis,
         subject.place,
         line.as_slice(),
-        fields_of(making.objects.as_slice(), subject.number),
+        fields_of(making.objects.as_slice(), subject.number, &none),
         &mut making.first,
     )
 }

@@ -6,5 +6,4 @@ use Rattle.nddl_running.proofs.finished.are_members_set.Given as goal
 -- what is so of those that are left is so of all
 abbrev pub invariant-loop-member : goal.invariant-loop-member
 invariant-loop-member l =
-    list_all (is_member_set l.settings.fields.now) (drop l.member-index l.members)
-    ≡ list_all (is_member_set l.settings.fields.now) l.members
+    list_all (is_member_set l.fields) (drop l.member-index l.members) ≡ list_all (is_member_set l.fields) l.members
