@@ -5,9 +5,9 @@ use Rattle.std.specs.List.{flat_map}
 use Rattle.nddl_scope.specs.declared.scope.Meaning.{Meaning}
 use Rattle.nddl_scope.specs.declared.scope.Meaning.TheVariants as meanings
 use Rattle.nddl_lines.specs.Ancestors.{above}
-use Rattle.nddl_inherited.specs.Inherited.{members_of}
-use Rattle.nddl_inherited.specs.Shorter.{AddTheSame, adds_members, is_builtin_class}
-use Rattle.nddl_inherited.proofs.Adding.{adds_none, flat_same, none_named}
+use Rattle.nddl_lines.specs.Decls.{members_of}
+use Rattle.nddl_lines.specs.Shorter.{AddTheSame, adds_members, is_builtin_class}
+use Rattle.nddl_lines.proofs.Adding.{adds_none, flat_same, none_named}
 use Rattle.nddl_schema.specs.Classes.{class_number, given_fields, line_down}
 use Rattle.nddl_schema.specs.Predicates.{given_preds}
 use Rattle.nddl_terms.specs.declared.lexicon.Attribute.{Attribute}

@@ -20,8 +20,7 @@ use Rattle.nddl_sorts.specs.declared.kind.Extent.TheVariants as extents
 use Rattle.nddl_sorts.specs.declared.kind.TypeKind.TheVariants as kinds
 use Rattle.nddl_sorts.specs.Bases.{typedef_meaning}
 use Rattle.nddl_lines.specs.Ancestors.{above}
-use Rattle.nddl_lines.specs.Decls.{decl_of_name}
-use Rattle.nddl_inherited.specs.Inherited.{members_of}
+use Rattle.nddl_lines.specs.Decls.{decl_of_name, members_of}
 use Rattle.nddl_schema.specs.Classes.{builtin_fields, class_entries, class_number, is_first, line_down}
 use Rattle.nddl_schema.specs.Predicates.{builtin_preds, given_preds}
 use Rattle.nddl_paths.specs.declared.denoted.Denoted.{Denoted}

@@ -18,7 +18,7 @@ use Rattle.nddl_sorts.specs.declared.kind.TypeMeaning.{TypeMeaning}
 use Rattle.nddl_lines.specs.Ancestors.{above}
 use Rattle.nddl_lines.specs.Facts.{Facts, facts_of}
 use Rattle.nddl_known.specs.Known.{fine_meaning}
-use Rattle.nddl_inherited.specs.Inherited.{members_of}
+use Rattle.nddl_lines.specs.Decls.{members_of}
 use Rattle.nddl_variables.specs.Domains.{base_of, value_kind}
 use Rattle.nddl_schema.specs.Classes.{class_number, given_fields, line_down}
 use Rattle.nddl_data.specs.declared.made.MadeObject.{MadeObject}
@@ -38,7 +38,7 @@ pub record World : Type 0 where
 -- that which the code keeps
 abbrev pub world_of : code.Premises → World
 world_of premises = record {
-  facts = facts_of premises.sources.heritage.basis;
+  facts = facts_of premises.sources.basis;
   enums = premises.sources.enums.now;
   standing = premises.standing.now;
   objects = premises.objects.now;

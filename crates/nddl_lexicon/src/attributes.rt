@@ -10,8 +10,8 @@ use super::shapes::shape_with;
 use eu_name::sequence::Sequence;
 use model_core::variable::VarDecl;
 use nddl_ast::declaration::{Member, PredicatePart, Typed};
-use nddl_inherited::members_of;
 use nddl_known::fine_meaning;
+use nddl_lines::decls::members_of;
 use nddl_lines::lines::above;
 use nddl_schema::builtin::push_given_fields;
 use nddl_schema::classes::line_down;
@@ -44,7 +44,7 @@ fn typed_attribute(
 ) -> Result<Option<Attribute>, AllocError>
     ensures { IfOk result (λ attribute. attribute ≡ typed_attribute (world_of premises.now) typed.now) }
 {
-    match fine_meaning(alloc, &premises.sources.heritage.basis, &typed.declared)? {
+    match fine_meaning(alloc, &premises.sources.basis, &typed.declared)? {
         Some(meaning) => Ok(Some(attribute_with(alloc, premises, typed, &meaning)?)),
         None => Ok(None),
     }
@@ -175,7 +175,7 @@ fn push_attributes_at(
 ) -> Result<(), AllocError>
     ensures { OnOk result (fields.new ≡ fields.old ++ attributes_at (world_of premises.now) entry) }
 {
-    let basis = &premises.sources.heritage.basis;
+    let basis = &premises.sources.basis;
     let meaning = above(basis.types.scope, basis.decls, entry);
     push_given_attributes(alloc, meaning, fields)?;
     let members = members_of(basis.types.scope, basis.decls, entry);
@@ -205,6 +205,6 @@ pub fn entry_attributes(
 ) -> Result<Sequence<Attribute>, AllocError>
     ensures { IfOk result (λ fields. fields ≡ entry_attributes (world_of premises.now) entry) }
 {
-    let line = line_down(alloc, &premises.sources.heritage, entry)?;
+    let line = line_down(alloc, &premises.sources.basis, entry)?;
     attributes_along(alloc, premises, line.as_slice())
 }

@@ -11,6 +11,7 @@ use super::premises::Premises;
 use eu_name::sequence::Sequence;
 use nddl_schema::numbers::class_number;
 use nddl_scope::Meaning;
+use nddl_terms::attributes::Attributes;
 use nddl_terms::lexicon::{Attribute, ClassShape};
 use std::alloc::{AllocError, Global};
 
@@ -40,7 +41,7 @@ fn builtin_attributes(alloc: Global, class: Meaning) -> Result<Sequence<Attribut
 // What is known of the class, of which these are the objects.
 fn shape_of(
     alloc: Global,
-    fields: Sequence<Attribute>,
+    fields: Attributes,
     number: u32,
     objects: &[usize],
 ) -> Result<ClassShape, AllocError>
@@ -63,10 +64,10 @@ fn class_shape(
 ) -> Result<ClassShape, AllocError>
     ensures { IfOk result (λ shape. shape ≡ class_shape_of (world_of premises.now) class) }
 {
-    let basis = &premises.sources.heritage.basis;
+    let basis = &premises.sources.basis;
     let number = class_number(basis.types.scope, premises.sources.numbers, class);
     let objects = class_objects(alloc, premises, class)?;
-    let fields = fields_of(alloc, premises, class)?;
+    let fields = Attributes::of(alloc, fields_of(alloc, premises, class)?)?;
     shape_of(alloc, fields, number, objects.as_slice())
 }
 

@@ -70,7 +70,7 @@ fn root_of_class(
     ensures { IfOk result (λ stand. stand ≡ root_of_class (world_of premises.now) number name.now.text class) }
 {
     let class = class_number(
-        premises.sources.heritage.basis.types.scope,
+        premises.sources.basis.types.scope,
         premises.sources.numbers,
         class,
     );
@@ -91,7 +91,7 @@ fn root_stand(
     requires { lexicon.now.preds ≡ pred_shapes (world_of premises.now) }
     ensures { IfOk result (λ stand. stand ≡ root_stand (world_of premises.now) number declared.now meant) }
 {
-    match decl_at(premises.sources.heritage.basis.decls, declared.place.decl) {
+    match decl_at(premises.sources.basis.decls, declared.place.decl) {
         Some(decl) => match (asked_name(decl), token_class(meant)) {
             (Some(name), Some(class)) => root_of_class(premises, lexicon, number, name, class),
             _ => Ok(Stand::Nothing),
@@ -125,10 +125,10 @@ fn member_stand(place: u32) -> Result<Stand, AllocError>
 
 // What the class of this name stands for.
 fn class_stand(premises: &Premises<'_>, entry: usize) -> Stand
-    ensures { result ≡ stands.Class (class_number premises.now.sources.heritage.basis.types.scope.now (meanings.Entry entry)) }
+    ensures { result ≡ stands.Class (class_number premises.now.sources.basis.types.scope.now (meanings.Entry entry)) }
 {
     Stand::Class(class_number(
-        premises.sources.heritage.basis.types.scope,
+        premises.sources.basis.types.scope,
         premises.sources.numbers,
         Meaning::Entry(entry),
     ))
@@ -174,7 +174,7 @@ fn name_stand(
     requires { lexicon.now.preds ≡ pred_shapes (world_of premises.now) }
     ensures { IfOk result (λ stand. stand ≡ name_stand (world_of premises.now) entry globals roots declared.now) }
 {
-    let meant = file_denoted(alloc, &premises.sources.heritage.basis, &declared.name)?;
+    let meant = file_denoted(alloc, &premises.sources.basis, &declared.name)?;
     sort_stand(premises, lexicon, entry, globals, roots, declared, meant)
 }
 
@@ -193,7 +193,7 @@ fn push_stand(
     ensures { OnOk result (stands.new
         ≡ stands.old ++ stand_if_first (world_of premises.now) entry globals roots declared.now) }
 {
-    if is_first(premises.sources.heritage.basis.types.scope, entry, declared) {
+    if is_first(premises.sources.basis.types.scope, entry, declared) {
         stands.push(name_stand(alloc, premises, lexicon, entry, globals, roots, declared)?)
     } else {
         Ok(())
@@ -237,12 +237,12 @@ pub fn scope_stands(
 ) -> Result<Sequence<Stand>, AllocError>
     requires { lexicon.now.preds ≡ pred_shapes (world_of premises.now) }
     ensures { IfOk result (λ stands. stands
-        ≡ scope_stands (world_of premises.now) 0 0 0 premises.now.sources.heritage.basis.types.scope.now) }
+        ≡ scope_stands (world_of premises.now) 0 0 0 premises.now.sources.basis.types.scope.now) }
 {
     let mut stands = Sequence::new(alloc);
     let mut globals: u32 = 0;
     let mut roots: u32 = 0;
-    let names = premises.sources.heritage.basis.types.scope.names();
+    let names = premises.sources.basis.types.scope.names();
     for (entry, declared) in names.iter().enumerate() {
         push_stand(
             alloc,

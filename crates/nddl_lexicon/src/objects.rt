@@ -122,23 +122,18 @@ pub fn class_objects(
     class: Meaning,
 ) -> Result<Vec<usize>, AllocError>
     ensures { IfOk result (λ numbers. numbers.items
-        ≡ objects_of (facts_of premises.now.sources.heritage.basis) class 0 premises.now.objects.now) }
+        ≡ objects_of (facts_of premises.now.sources.basis) class 0 premises.now.objects.now) }
 {
     match listed_objects(premises.by_class, class) {
         Some(list) => list.as_slice().to_vec(alloc),
-        None => objects_of(
-            alloc,
-            &premises.sources.heritage.basis,
-            class,
-            premises.objects,
-        ),
+        None => objects_of(alloc, &premises.sources.basis, class, premises.objects),
     }
 }
 
 // What a variable of the class may be: all of its objects.
 fn class_base(alloc: Global, premises: &Premises<'_>, class: Meaning) -> Result<Base, AllocError>
     ensures { IfOk result (λ base. base ≡ numbers_base (map pos
-        (objects_of (facts_of premises.now.sources.heritage.basis) class 0 premises.now.objects.now))) }
+        (objects_of (facts_of premises.now.sources.basis) class 0 premises.now.objects.now))) }
 {
     let numbers = class_objects(alloc, premises, class)?;
     numbers_base(alloc, numbers.as_slice())
@@ -151,7 +146,7 @@ pub fn objects_base(
     class: Meaning,
     extent: &Extent,
 ) -> Result<Base, AllocError>
-    ensures { IfOk result (λ base. base ≡ objects_base (facts_of premises.now.sources.heritage.basis)
+    ensures { IfOk result (λ base. base ≡ objects_base (facts_of premises.now.sources.basis)
         premises.now.standing.now premises.now.objects.now class extent.now) }
 {
     match extent {

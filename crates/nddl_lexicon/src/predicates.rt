@@ -12,7 +12,7 @@ use eu_name::sequence::Sequence;
 use model_core::class::Pred;
 use nddl_ast::declaration::{Member, PredicatePart};
 use nddl_ast::name::Name;
-use nddl_inherited::members_of;
+use nddl_lines::decls::members_of;
 use nddl_lines::lines::above;
 use nddl_schema::builtin::{push_builtin_preds, push_given_preds};
 use nddl_schema::classes::line_down;
@@ -144,7 +144,7 @@ fn push_shapes_at(
 ) -> Result<(), AllocError>
     ensures { OnOk result (shapes.new ≡ shapes.old ++ pred_shapes_at (world_of premises.now) class entry) }
 {
-    let basis = &premises.sources.heritage.basis;
+    let basis = &premises.sources.basis;
     let meaning = above(basis.types.scope, basis.decls, entry);
     push_extended_shapes(alloc, class, meaning, shapes)?;
     let members = members_of(basis.types.scope, basis.decls, entry);
@@ -176,8 +176,8 @@ fn push_entry_shapes(
 ) -> Result<(), AllocError>
     ensures { OnOk result (shapes.new ≡ shapes.old ++ entry_pred_shapes (world_of premises.now) entry) }
 {
-    let line = line_down(alloc, &premises.sources.heritage, entry)?;
-    let scope = premises.sources.heritage.basis.types.scope;
+    let line = line_down(alloc, &premises.sources.basis, entry)?;
+    let scope = premises.sources.basis.types.scope;
     let class = class_number(scope, premises.sources.numbers, Meaning::Entry(entry));
     push_shapes_along(alloc, premises, class, line.as_slice(), shapes)
 }

@@ -15,5 +15,5 @@ pub struct Premises<'a> {
     pub standing: &'a [Standing],
     pub objects: &'a [MadeObject],
     pub by_class: &'a [Sequence<usize>],
-    ghost are_listed: { AreObjectLists (facts_of sources.heritage.basis) objects.now by_class.now },
+    ghost are_listed: { AreObjectLists (facts_of sources.basis) objects.now by_class.now },
 }

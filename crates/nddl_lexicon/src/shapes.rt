@@ -25,7 +25,7 @@ fn kind_base(
         TypeKind::Object(class) => objects_base(alloc, premises, class, extent),
         _ => base_of(
             alloc,
-            premises.sources.heritage.basis.types.scope,
+            premises.sources.basis.types.scope,
             premises.sources.enums,
             kind,
             extent,
@@ -35,11 +35,11 @@ fn kind_base(
 
 /// The class of what is of this kind, if it is one of objects.
 pub fn kind_class(premises: &Premises<'_>, kind: TypeKind) -> u32
-    ensures { result ≡ kind_class premises.now.sources.heritage.basis.types.scope.now kind }
+    ensures { result ≡ kind_class premises.now.sources.basis.types.scope.now kind }
 {
     match kind {
         TypeKind::Object(class) => class_number(
-            premises.sources.heritage.basis.types.scope,
+            premises.sources.basis.types.scope,
             premises.sources.numbers,
             class,
         ),

@@ -37,7 +37,7 @@ fn typedef_shape(
 ) -> Result<Option<Shape>, AllocError>
     ensures { IfOk result (λ shape. shape ≡ sort_shape (world_of premises.now) entry sorts.Typedef) }
 {
-    match premises.sources.heritage.basis.types.known.get(entry) {
+    match premises.sources.basis.types.known.get(entry) {
         Some(Some(meaning)) => Ok(Some(shape_with(alloc, premises, meaning)?)),
         _ => Ok(None),
     }
@@ -69,7 +69,7 @@ fn push_type(
 ) -> Result<(), AllocError>
     ensures { OnOk result (types.new ≡ types.old ++ type_if_first (world_of premises.now) entry declared.now) }
 {
-    if is_first(premises.sources.heritage.basis.types.scope, entry, declared) {
+    if is_first(premises.sources.basis.types.scope, entry, declared) {
         types.push(sort_shape(alloc, premises, entry, declared.sort)?)
     } else {
         Ok(())
@@ -82,10 +82,10 @@ pub fn scope_types(
     premises: &Premises<'_>,
 ) -> Result<Sequence<Option<Shape>>, AllocError>
     ensures { IfOk result (λ types. types
-        ≡ scope_types (world_of premises.now) 0 premises.now.sources.heritage.basis.types.scope.now) }
+        ≡ scope_types (world_of premises.now) 0 premises.now.sources.basis.types.scope.now) }
 {
     let mut types = Sequence::new(alloc);
-    let names = premises.sources.heritage.basis.types.scope.names();
+    let names = premises.sources.basis.types.scope.names();
     for (entry, declared) in names.iter().enumerate() {
         push_type(alloc, premises, entry, declared, &mut types)?;
     }

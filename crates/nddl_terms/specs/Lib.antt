@@ -1,3 +1,4 @@
+pub mod Attributes
 pub mod Growth
 pub mod Lexicon
 pub mod Names

@@ -3,6 +3,7 @@
 ghost use Rattle.std.specs.Prelude.{◌≡◌, IfOk, slice_get};
 ghost use Rattle.nddl_terms.specs.Lexicon.{attribute_class, attribute_number, shape_fields, part_class, part_called, place_of_value, pred_class, pred_named, pred_params};
 
+use super::attributes::Attributes;
 use super::preds::PredShapes;
 use super::stands::Stand;
 use eu_name::name::Part;
@@ -31,7 +32,7 @@ pub struct Attribute {
 #[derive(Drop)]
 pub struct ClassShape {
     /// Its fields, those of its ancestors first.
-    pub fields: Sequence<Attribute>,
+    pub fields: Attributes,
     /// Its objects and those of the classes under it, in the order in which they were made: what the variable of a `foreach`
     /// over the class stands for.
     pub objects: Sequence<Stand>,
@@ -57,7 +58,7 @@ pub struct Lexicon {
     pub types: Sequence<Option<Shape>>,
 }
 
-/// The number of the field or parameter of this name.
+/// The number of the one of this name, which is looked for one after another: for a few, as the parameters of a predicate.
 pub fn attribute_number(name: &Text, attributes: &[Attribute]) -> Option<usize>
     ensures { result ≡ attribute_number name.now attributes.now }
 {
@@ -87,6 +88,16 @@ impl Lexicon {
         match self.classes.as_slice().get(class as usize) {
             Some(shape) => shape.fields.as_slice(),
             None => &[],
+        }
+    }
+
+    /// The number of the field of this name of a class.
+    pub fn field_number(&self, class: u32, name: &Text) -> Option<usize>
+        ensures { result ≡ attribute_number name.now (shape_fields self.now class) }
+    {
+        match self.classes.as_slice().get(class as usize) {
+            Some(shape) => shape.fields.number(name),
+            None => None,
         }
     }
 

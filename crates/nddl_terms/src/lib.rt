@@ -3,6 +3,7 @@
 //! object, the rule grows by a local for it.
 #![tactic(auto)]
 
+pub mod attributes;
 pub mod growth;
 pub mod lexicon;
 pub mod names;
@@ -10,6 +11,7 @@ pub mod paths;
 pub mod preds;
 pub mod stands;
 
+pub use attributes::Attributes;
 pub use growth::Growth;
 pub use lexicon::{Attribute, ClassShape, Lexicon, PredShape, Shape};
 pub use names::ReadNames;

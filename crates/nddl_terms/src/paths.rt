@@ -5,7 +5,7 @@ ghost use Rattle.nddl_terms.specs.Paths.{field_step, known_value, known_stand, p
 ghost use Rattle.nddl_terms.specs.Readings.{readings_of};
 
 use super::growth::Growth;
-use super::lexicon::{Attribute, as_number, attribute_class, attribute_number, value_place};
+use super::lexicon::{Attribute, as_number, attribute_class, value_place};
 use super::stands::{Made, Reading, Stand, first_stand};
 use eu_name::name::Part;
 use eu_name::text::Text;
@@ -75,7 +75,7 @@ fn field_step(
         ≡ (field_step (readings_of reading.now) object class name.now growth.old).stand) }
 {
     let fields = reading.lexicon.fields(class);
-    match attribute_number(name, fields) {
+    match reading.lexicon.field_number(class, name) {
         Some(number) => match object {
             Term::Lit(value) => Ok(known_stand(reading.objects, value, fields, number)),
             _ => read_step(alloc, object, fields, number, growth),

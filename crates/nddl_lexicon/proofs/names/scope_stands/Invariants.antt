@@ -7,4 +7,4 @@ use Rattle.nddl_lexicon.proofs.names.scope_stands.Given as goal
 abbrev pub invariant-loop-entry : goal.invariant-loop-entry
 invariant-loop-entry l =
     l.stands ++ scope_stands (world_of l.premises) l.entry l.globals l.roots (drop l.entry l.names)
-    ≡ scope_stands (world_of l.premises) 0 0 0 l.premises.sources.heritage.basis.types.scope.now
+    ≡ scope_stands (world_of l.premises) 0 0 0 l.premises.sources.basis.types.scope.now

@@ -7,4 +7,4 @@ use Rattle.nddl_lexicon.proofs.types.scope_types.Given as goal
 abbrev pub invariant-loop-entry : goal.invariant-loop-entry
 invariant-loop-entry l =
     l.types ++ scope_types (world_of l.premises) l.entry (drop l.entry l.names)
-    ≡ scope_types (world_of l.premises) 0 l.premises.sources.heritage.basis.types.scope.now
+    ≡ scope_types (world_of l.premises) 0 l.premises.sources.basis.types.scope.now
