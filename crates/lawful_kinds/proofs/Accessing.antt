@@ -2,8 +2,8 @@
 use Rattle.std.proofs.Common.{◌≡◌, ℕ, refl, sym, subst}
 use Rattle.model_core.specs.declared.item.Term.{Term}
 use Rattle.model_core.specs.declared.model.Model.{Model}
-use Rattle.model_core.specs.Kinds.{Scope, IsParentClass, AccessesField}
-use Rattle.lawful_kinds.specs.Terms.{AccessesIn, AccessesAbove, AccessesAny}
+use Rattle.model_core.specs.Kinds.{Scope, IsParentClass}
+use Rattle.lawful_kinds.specs.Terms.{AccessesIn, AccessesAbove}
 use Rattle.lawful_kinds.proofs.Under.{self_under, under_more, under_less, under_none}
 
 module _ (model : Model) (scope : Scope) (field : ℕ) (object value : Term) where

@@ -1,5 +1,7 @@
 pub mod Accessing
 pub mod Comparing
 pub mod Each
+mod Rising
 pub mod Telling
 pub mod Under
+pub mod Upward

@@ -1,7 +1,7 @@
 -- Answers that say exactly whether something is so.
-use Rattle.std.proofs.Common.{◌≡◌, ℕ, ◌<◌, Bool, true, false, Option, Some, None, Result, Ok, Err, List, length, ◌↔◌, IsTrue, refl, sym, ◌∙◌, subst, arith}
+use Rattle.std.proofs.Common.{◌≡◌, ℕ, ◌<◌, Bool, true, false, Option, Some, None, Result, Ok, Err, List, length, ◌↔◌, IsTrue, refl, subst, arith}
 use Rattle.std.proofs.Common.{nat_lt}
-use Rattle.std.specs.Prelude.{IfOk, MatchOption, slice_get}
+use Rattle.std.specs.Prelude.{IfOk, slice_get}
 use Rattle.std.proofs.lemmas.Bool.Decides.{Decides-ltb}
 use Rattle.eu_name.proofs.Members.{get_below, get_within}
 use Rattle.model_core.specs.declared.model.Model.{Model}

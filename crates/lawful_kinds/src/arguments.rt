@@ -11,6 +11,7 @@ use super::accesses::{Access, accesses_field};
 use super::kinds::is_of_kind;
 use super::scope::Place;
 use super::terms::{are_comparable, are_of_kind};
+use lineage::Parents;
 use model_core::item::{Kind, Term};
 use model_core::model::Model;
 use model_core::variable::ValueKind;
@@ -51,14 +52,14 @@ fn are_product(model: &Model, place: Place<'_>, terms: &[Term]) -> bool
 }
 
 // Whether the terms may be a truth and what is compared with another.
-fn are_equality(model: &Model, ranks: &[usize], place: Place<'_>, terms: &[Term]) -> bool
-    requires { IsGround model.now ranks.now }
+fn are_equality(model: &Model, parents: &Parents, place: Place<'_>, terms: &[Term]) -> bool
+    requires { IsGround model.now parents.now }
     ensures { IsTrue result ↔ AreArguments model.now (scope_of place.entry) constraints.TestEq terms.now }
 {
     match terms {
         [truth, compared @ ..] => {
             is_of_kind(model, place, ValueKind::Bool, *truth)
-                && are_comparable(model, ranks, place, compared)
+                && are_comparable(model, parents, place, compared)
         }
         [] => false,
     }
@@ -78,8 +79,14 @@ fn are_ordering(model: &Model, place: Place<'_>, terms: &[Term]) -> bool
 }
 
 // Whether the terms may be an object and what is in its field.
-fn are_access(model: &Model, ranks: &[usize], place: Place<'_>, field: u32, terms: &[Term]) -> bool
-    requires { IsGround model.now ranks.now }
+fn are_access(
+    model: &Model,
+    parents: &Parents,
+    place: Place<'_>,
+    field: u32,
+    terms: &[Term],
+) -> bool
+    requires { IsGround model.now parents.now }
     ensures { IsTrue result ↔ AreArguments model.now (scope_of place.entry) (constraints.Field field) terms.now }
 {
     match terms {
@@ -89,7 +96,7 @@ fn are_access(model: &Model, ranks: &[usize], place: Place<'_>, field: u32, term
                 object: *object,
                 value: *value,
             };
-            accesses_field(model, ranks, place, access)
+            accesses_field(model, parents, place, access)
         }
         _ => false,
     }
@@ -98,24 +105,24 @@ fn are_access(model: &Model, ranks: &[usize], place: Place<'_>, field: u32, term
 /// Whether the terms may be the arguments of the constraint.
 pub fn are_arguments(
     model: &Model,
-    ranks: &[usize],
+    parents: &Parents,
     place: Place<'_>,
     kind: Kind,
     terms: &[Term],
 ) -> bool
-    requires { IsGround model.now ranks.now }
+    requires { IsGround model.now parents.now }
     ensures { IsTrue result ↔ AreArguments model.now (scope_of place.entry) kind terms.now }
 {
     match kind {
-        Kind::Eq => are_comparable(model, ranks, place, terms),
-        Kind::Neq => are_comparable(model, ranks, place, terms),
+        Kind::Eq => are_comparable(model, parents, place, terms),
+        Kind::Neq => are_comparable(model, parents, place, terms),
         Kind::Lt => are_of_kind(model, place, ValueKind::Int, terms),
         Kind::Leq => are_of_kind(model, place, ValueKind::Int, terms),
         Kind::AddEq => are_of_kind(model, place, ValueKind::Int, terms),
         Kind::MulEq => are_product(model, place, terms),
-        Kind::TestEq => are_equality(model, ranks, place, terms),
+        Kind::TestEq => are_equality(model, parents, place, terms),
         Kind::TestLeq => are_ordering(model, place, terms),
-        Kind::Field(field) => are_access(model, ranks, place, field, terms),
+        Kind::Field(field) => are_access(model, parents, place, field, terms),
         Kind::AllDiff => false,
     }
 }

@@ -4,9 +4,10 @@ ghost use Rattle.std.specs.Prelude.{◌≡◌, ◌↔◌, ℕ, ℤ, IsTrue, Matc
 ghost use Rattle.domain_core.specs.Domain.{Has, IsDomain};
 ghost use Rattle.model_core.specs.declared.class.Object.{Object};
 ghost use Rattle.model_core.specs.Kinds.{AreObjectsOf, IsObject, IsObjectOf, IsParentClass, IsUnder};
-ghost use Rattle.lawful_kinds.specs.Ground.{AreRanks};
+ghost use Rattle.lawful_kinds.specs.Ground.{AreClassParents};
 
 use domain_core::domain::Dom;
+use lineage::Parents;
 use model_core::class::Object;
 use model_core::model::Model;
 use model_core::variable::Base;
@@ -24,8 +25,19 @@ pub fn parent_of(model: &Model, class: u32) -> Option<u32>
 }
 
 /// Whether the class is the other one, or extends it at once or over others.
-pub fn is_under(model: &Model, ranks: &[usize], class: u32, ancestor: u32) -> bool
-    requires { AreRanks model.now ranks.now }
+pub fn is_under(model: &Model, parents: &Parents, class: u32, ancestor: u32) -> bool
+    requires { AreClassParents model.now parents.now }
+    ensures { IsTrue result ↔ IsUnder model.now class ancestor }
+{
+    match parents.is_on_line(class as usize, ancestor as usize) {
+        Some(under) => under,
+        None => leads_to(model, parents, class, ancestor),
+    }
+}
+
+// The same, where it isn't known that the line of the class ends.
+fn leads_to(model: &Model, parents: &Parents, class: u32, ancestor: u32) -> bool
+    requires { AreClassParents model.now parents.now }
     ensures { IsTrue result ↔ IsUnder model.now class ancestor }
 {
     let mut next = class;
@@ -51,25 +63,25 @@ pub fn object_at(model: &Model, value: i32) -> Option<&Object>
 }
 
 /// Whether the value is an object of the class, or of one under it.
-pub fn is_object_of(model: &Model, ranks: &[usize], class: u32, value: i32) -> bool
-    requires { AreRanks model.now ranks.now }
+pub fn is_object_of(model: &Model, parents: &Parents, class: u32, value: i32) -> bool
+    requires { AreClassParents model.now parents.now }
     ensures { IsTrue result ↔ IsObjectOf model.now class value }
 {
     match object_at(model, value) {
-        Some(object) => is_under(model, ranks, object.class, class),
+        Some(object) => is_under(model, parents, object.class, class),
         None => false,
     }
 }
 
 /// Whether all that the domain has are objects of the class.
-pub fn are_objects_in(model: &Model, ranks: &[usize], class: u32, domain: &Dom) -> bool
-    requires { AreRanks model.now ranks.now }
+pub fn are_objects_in(model: &Model, parents: &Parents, class: u32, domain: &Dom) -> bool
+    requires { AreClassParents model.now parents.now }
     ensures told { IsTrue result ↔ ((value : ℤ) → Has domain.now value → IsObjectOf model.now class value) }
     ensures domain { IsDomain domain.now }
 {
     for place in 0..domain.count() {
         if let Some(value) = domain.nth(place) {
-            if !is_object_of(model, ranks, class, value) {
+            if !is_object_of(model, parents, class, value) {
                 return false;
             }
         }
@@ -78,12 +90,12 @@ pub fn are_objects_in(model: &Model, ranks: &[usize], class: u32, domain: &Dom) 
 }
 
 /// Whether all that the base has are objects of the class.
-pub fn are_objects_of(model: &Model, ranks: &[usize], class: u32, base: &Base) -> bool
-    requires { AreRanks model.now ranks.now }
+pub fn are_objects_of(model: &Model, parents: &Parents, class: u32, base: &Base) -> bool
+    requires { AreClassParents model.now parents.now }
     ensures { IsTrue result ↔ AreObjectsOf model.now class base.now }
 {
     match base {
-        Base::Given(domain) => are_objects_in(model, ranks, class, domain),
+        Base::Given(domain) => are_objects_in(model, parents, class, domain),
         Base::Void => true,
     }
 }

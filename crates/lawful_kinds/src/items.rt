@@ -8,21 +8,22 @@ ghost use Rattle.lawful_kinds.specs.Terms.{HasSlot, scope_of};
 
 use super::arguments::{are_arguments, arity};
 use super::scope::Place;
+use lineage::Parents;
 use model_core::item::{Item, Kind, Term};
 use model_core::model::Model;
 
 // Whether the constraint has as many arguments as it takes, and of the kinds that it takes.
 fn is_lawful_constraint(
     model: &Model,
-    ranks: &[usize],
+    parents: &Parents,
     place: Place<'_>,
     kind: Kind,
     terms: &[Term],
 ) -> bool
-    requires { IsGround model.now ranks.now }
+    requires { IsGround model.now parents.now }
     ensures { IsTrue result ↔ IsLawfulItem model.now (scope_of place.entry) (items.Constraint kind terms.now) }
 {
-    terms.len() == arity(kind) && are_arguments(model, ranks, place, kind, terms)
+    terms.len() == arity(kind) && are_arguments(model, parents, place, kind, terms)
 }
 
 // Whether the place is in a rule that has the slot.
@@ -36,13 +37,13 @@ fn has_slot(place: Place<'_>, number: u32) -> bool
 }
 
 /// Whether the item may stand at the place, as far as it doesn't matter in which block of a rule.
-pub fn is_lawful_item(model: &Model, ranks: &[usize], place: Place<'_>, item: &Item) -> bool
-    requires { IsGround model.now ranks.now }
+pub fn is_lawful_item(model: &Model, parents: &Parents, place: Place<'_>, item: &Item) -> bool
+    requires { IsGround model.now parents.now }
     ensures { IsTrue result ↔ IsLawfulItem model.now (scope_of place.entry) item.now }
 {
     match item {
         Item::Constraint(kind, terms) => {
-            is_lawful_constraint(model, ranks, place, *kind, terms.as_slice())
+            is_lawful_constraint(model, parents, place, *kind, terms.as_slice())
         }
         Item::Relation(_, number) => has_slot(place, *number),
     }

@@ -1,7 +1,7 @@
 //! Of which kind values, variables and terms are, and whether the arguments of constraints are of the kinds that these take.
 //!
-//! `items::is_lawful_item(&model, &ranks, place, &item)` tells whether a constraint may stand at the place. The ranks of classes say which
-//! extends which without a circle.
+//! `items::is_lawful_item(&model, &parents, place, &item)` tells whether a constraint may stand at the place. The parents are what the classes
+//! extend, without a circle, and by them it is found in few steps whether one class is under another.
 #![tactic(auto)]
 
 pub mod accesses;
@@ -13,5 +13,6 @@ pub mod kinds;
 pub mod lines;
 pub mod memberships;
 pub mod scope;
+pub mod skipping;
 pub mod terms;
 pub mod values;

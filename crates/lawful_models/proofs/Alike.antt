@@ -1,5 +1,5 @@
 -- When domains are one.
-use Rattle.std.proofs.Common.{◌≡◌, ℤ, Bool, ◌↔◌, IsTrue, inl, inr, refl, sym, subst, arith}
+use Rattle.std.proofs.Common.{◌≡◌, ℤ, inl, inr, refl, subst, arith}
 use Rattle.std.proofs.lemmas.Int.{ints}
 use Rattle.domain_core.specs.Domain.{Domain, Range, Set, IsDomain, IsRange, IsSameKind, IsTested, IsWithin, Has}
 use Rattle.domain_core.proofs.Words.{IsSameKind-refl, IsSameKind-sym, IsWithin-antisym, has_tested}

@@ -1,18 +1,16 @@
 -- A model is lawful if all that is told of it is so, and only then.
-use Rattle.std.proofs.Common.{◌≡◌, ℕ, zero, suc, ◌+◌, ◌<◌, List, [], ◌∷◌, ◌++◌, length, get_or, slice_get, map, Option, Some, None, All, Contains, refl, sym, ap, ◌∙◌, subst, arith}
+use Rattle.std.proofs.Common.{◌≡◌, ℕ, zero, suc, List, [], ◌∷◌, get_or, slice_get, Option, Some, All, Contains, sym, subst, arith}
 use Rattle.eu_name.proofs.Members.{get_same, get_below, get_all, get_within}
 use Rattle.model_core.specs.declared.class.Class.{Class}
 use Rattle.model_core.specs.declared.class.Pred.{Pred}
 use Rattle.model_core.specs.declared.model.Model.{Model}
-use Rattle.model_core.specs.declared.variable.VarDecl.{VarDecl}
-use Rattle.model_core.specs.Kinds.{IsParentClass, IsUnder}
 use Rattle.model_core.specs.Naming.{names_of}
-use Rattle.model_core.specs.Lawful.{IsLawful, IsLawfulClass, IsLawfulPred, ExtendsFields}
-use Rattle.lawful_kinds.specs.Ground.{AreRanks, IsGround}
-use Rattle.lawful_models.specs.Classes.{AreInLine, HasLawfulMembers, parents_of}
+use Rattle.model_core.specs.Lawful.{IsLawful, IsLawfulClass, IsLawfulPred}
+use Rattle.lawful_kinds.specs.Ground.{AreClassParents, IsGround}
+use Rattle.lawful_models.specs.Classes.{AreInLine, HasLawfulMembers}
 use Rattle.lawful_names.specs.Distinct.{AreFree, HasFieldNamed}
-use Rattle.lawful_models.specs.Preds.{AreLawfulPreds, HasAllLawful}
-use Rattle.lawful_models.specs.Wholes.{AreNamed, HasLawfulBasis, HasLawfulProblem, HasLawfulTypes, IsLawfulAbove, IsSmallModel}
+use Rattle.lawful_models.specs.Preds.{AreLawfulPreds}
+use Rattle.lawful_models.specs.Wholes.{HasLawfulBasis, HasLawfulTypes, IsLawfulAbove, IsSmallModel}
 use Rattle.lawful_models.proofs.Lining.{count_same, extends_under, under_extends}
 
 all-get : {X : Type 0} (P : X → Type 0) (list : List X) → ((place : ℕ) (x : X) → slice_get list place ≡ Some x → P x) → All P list
@@ -143,5 +141,5 @@ module _ (model : Model) where
       problem = record { preds = lawful_all; roots = lawful.roots; items = lawful.items };
     }
 
-  pub ground_is : (ranks : List ℕ) → IsSmallModel model → HasLawfulBasis model → AreRanks model ranks → IsGround model ranks
-  ground_is ranks small basis are = record { enums = basis.enums; few_objects = small.few_objects; few_classes = small.few_classes; ranks_are = are }
+  pub ground_is : (parents : List (Option ℕ)) → IsSmallModel model → HasLawfulBasis model → AreClassParents model parents → IsGround model parents
+  ground_is parents small basis are = record { enums = basis.enums; few_objects = small.few_objects; few_classes = small.few_classes; parents_are = are }

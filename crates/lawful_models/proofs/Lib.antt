@@ -1,7 +1,6 @@
 pub mod Alike
 pub mod Joining
 pub mod Lining
-pub mod Ranking
 pub mod Scoping
 pub mod Tokening
 pub mod Fronts

@@ -1,6 +1,5 @@
 -- The rules that predicates list, and quantities.
-use Rattle.std.proofs.Common.{◌≡◌, ℕ, zero, suc, ◌+◌, ◌<◌, ◌≤◌, ℤ, pos, List, [], ◌∷◌, ◌++◌, length, get_or, take, drop, map, slice_get, Some, None, refl, sym, ap, ◌∙◌, subst, arith}
-use Rattle.std.specs.List.{AllZip}
+use Rattle.std.proofs.Common.{◌≡◌, ℕ, zero, suc, ◌+◌, ◌<◌, pos, List, [], ◌∷◌, ◌++◌, length, get_or, take, map, slice_get, Some, refl, sym, ap, ◌∙◌, subst, arith}
 use Rattle.eu_name.proofs.Members.{get_same}
 use Rattle.domain_core.specs.Domain.{Domain, Range, Set}
 use Rattle.model_core.specs.declared.model.Model.{Model}

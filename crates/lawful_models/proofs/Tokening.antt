@@ -1,6 +1,6 @@
 -- Tokens and their variables, by predicates.
 use Rattle.std.proofs.Common.{◌≡◌, ℕ, List, Option, Some, None, pos, refl, sym, ap, ◌∙◌, subst}
-use Rattle.std.specs.Prelude.{MatchOption, slice_get, ◌-ℤ◌}
+use Rattle.std.specs.Prelude.{MatchOption, ◌-ℤ◌}
 use Rattle.domain_core.specs.Domain.{Range}
 use Rattle.eu_name.specs.declared.name.Part.{Part}
 use Rattle.eu_name.specs.declared.name.Part.TheVariants.{Start, End, Duration, Object, Param}
@@ -12,7 +12,6 @@ use Rattle.model_core.specs.declared.model.Model.{Model}
 use Rattle.model_core.specs.declared.model.Root.{Root}
 use Rattle.model_core.specs.declared.rule.Slot.{Slot}
 use Rattle.model_core.specs.declared.variable.Base.TheVariants.{Given}
-use Rattle.model_core.specs.declared.variable.VarDecl.{VarDecl}
 use Rattle.model_core.specs.Lookup.{LeadsOn}
 use Rattle.model_core.specs.Tokens.{HasRule, HasToken, IsRoot, slot_of}
 use Rattle.model_core.specs.Variables.{HasParameter}

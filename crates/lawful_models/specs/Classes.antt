@@ -1,5 +1,5 @@
 -- Classes, without the lines that they stand in.
-use Rattle.std.specs.Prelude.{◌≡◌, ◌≢◌, ℕ, ◌<◌, ◌≤◌, List, ◌++◌, Option, Some, length, slice_get, map, All, AllPairs}
+use Rattle.std.specs.Prelude.{◌≡◌, ◌≢◌, ℕ, List, ◌++◌, Option, Some, slice_get, map, All, AllPairs}
 use Rattle.eu_name.specs.Word.{IsName}
 use Rattle.lineage.specs.Lines.{AreParents}
 use Rattle.model_core.specs.declared.class.Class.{Class}
@@ -39,15 +39,3 @@ parents_of model = map (λ class. class.parent) model.classes
 pub record AreInLine (model : Model) : Type 0 where
   pub there : AreParents (parents_of model)
   pub no_circle : (number parent : ℕ) → slice_get (parents_of model) number ≡ Some (Some parent) → IsUnder model parent number → ⊥
-
--- the number has the first of its places in the order, of those from here on
-pub record RanksFirst (order : List ℕ) (from : ℕ) (ranks : List ℕ) (number : ℕ) : Type 0 where
-  pub rank : ℕ
-  pub is_rank : slice_get ranks number ≡ Some rank
-  pub behind : from ≤ rank
-  pub stands : slice_get order rank ≡ Some number
-  pub first : (place : ℕ) → from ≤ place → slice_get order place ≡ Some number → rank ≤ place
-
--- each number of the order from here on has its first place there as its rank
-abbrev pub AreFirstPlaces : List ℕ → ℕ → List ℕ → Type 0
-AreFirstPlaces order from ranks = (place number : ℕ) → from ≤ place → slice_get order place ≡ Some number → RanksFirst order from ranks number

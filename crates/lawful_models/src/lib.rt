@@ -7,9 +7,9 @@ mod enums;
 mod equal;
 mod naming;
 mod objects;
+mod parents;
 mod preds;
 mod problem;
-mod ranks;
 mod whole;
 
 pub use whole::is_lawful;

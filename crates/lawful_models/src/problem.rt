@@ -15,6 +15,7 @@ use lawful_kinds::finding::pred_at;
 use lawful_kinds::items::is_lawful_item;
 use lawful_kinds::scope::Place;
 use lawful_kinds::values::is_in_kind;
+use lineage::Parents;
 use model_core::class::Pred;
 use model_core::item::Item;
 use model_core::model::{Model, Problem, Root, RootKind};
@@ -91,8 +92,8 @@ fn has_given_params(pred: &Pred) -> bool
 }
 
 // Whether the root is lawful as one of the predicate.
-fn is_root_of(model: &Model, ranks: &[usize], pred: &Pred, root: &Root) -> bool
-    requires { IsGround model.now ranks.now }
+fn is_root_of(model: &Model, parents: &Parents, pred: &Pred, root: &Root) -> bool
+    requires { IsGround model.now parents.now }
     ensures { IsTrue result ↔ IsRootOf model.now pred.now root.now }
 {
     if !is_labelled(root) {
@@ -104,32 +105,34 @@ fn is_root_of(model: &Model, ranks: &[usize], pred: &Pred, root: &Root) -> bool
     if !is_in_kind(model, ValueKind::Object, &root.object) {
         return false;
     }
-    are_objects_in(model, ranks, pred.class, &root.object)
+    are_objects_in(model, parents, pred.class, &root.object)
 }
 
 // Whether the root is of a predicate that there is, none of whose parameters is void, on objects of its class.
-fn is_lawful_root(model: &Model, ranks: &[usize], root: &Root) -> bool
-    requires { IsGround model.now ranks.now }
+fn is_lawful_root(model: &Model, parents: &Parents, root: &Root) -> bool
+    requires { IsGround model.now parents.now }
     ensures { IsTrue result ↔ IsLawfulRoot model.now root.now }
 {
     match pred_at(model, root.pred) {
-        Some(pred) => is_root_of(model, ranks, pred, root),
+        Some(pred) => is_root_of(model, parents, pred, root),
         None => false,
     }
 }
 
 /// Whether the roots are all lawful.
-pub fn are_lawful_roots(model: &Model, ranks: &[usize], roots: &[Root]) -> bool
-    requires { IsGround model.now ranks.now }
+pub fn are_lawful_roots(model: &Model, parents: &Parents, roots: &[Root]) -> bool
+    requires { IsGround model.now parents.now }
     ensures { IsTrue result ↔ All (IsLawfulRoot model.now) roots.now }
 {
-    roots.iter().all(|root| is_lawful_root(model, ranks, root))
+    roots
+        .iter()
+        .all(|root| is_lawful_root(model, parents, root))
 }
 
 /// Whether the items of the problem are all lawful.
-pub fn are_lawful_items(model: &Model, ranks: &[usize], items: &[Item]) -> bool
-    requires { IsGround model.now ranks.now }
+pub fn are_lawful_items(model: &Model, parents: &Parents, items: &[Item]) -> bool
+    requires { IsGround model.now parents.now }
     ensures { IsTrue result ↔ All (IsLawfulItem model.now OfProblem) items.now }
 {
-    items.iter().all(|item| is_lawful_item(model, ranks, Place::InProblem, item))
+    items.iter().all(|item| is_lawful_item(model, parents, Place::InProblem, item))
 }

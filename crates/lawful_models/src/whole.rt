@@ -5,7 +5,7 @@ ghost use Rattle.model_core.specs.Kinds.{OfProblem};
 ghost use Rattle.model_core.specs.Lawful.{IsLawful, IsLawfulItem, IsLawfulRoot};
 ghost use Rattle.lawful_names.specs.Distinct.{AreApart, AreFree};
 ghost use Rattle.lawful_models.specs.Naming.{HaveGlobalNames};
-ghost use Rattle.lawful_kinds.specs.Ground.{AreRanks, IsGround};
+ghost use Rattle.lawful_kinds.specs.Ground.{AreClassParents, IsGround};
 ghost use Rattle.lawful_models.specs.Classes.{AreInLine};
 ghost use Rattle.lawful_models.specs.Wholes.{AreNamed, HasLawfulBasis, HasLawfulProblem, HasLawfulTypes, IsLawfulAbove, IsSmallModel};
 
@@ -14,11 +14,12 @@ use super::decisions::are_lawful_decisions;
 use super::enums::are_lawful_enums;
 use super::naming::{are_apart, have_global_names, have_own_names};
 use super::objects::are_lawful_objects;
+use super::parents::class_parents;
 use super::preds::are_lawful_preds;
 use super::problem::{are_lawful_items, are_lawful_roots, has_few_facts, is_horizon};
-use super::ranks::ranks_of;
 use lawful_kinds::values::are_lawful_variables;
 use lawful_names::distinct::are_apart as are_preds_apart;
+use lineage::Parents;
 use model_core::model::Model;
 use std::alloc::{AllocError, Global};
 
@@ -90,35 +91,35 @@ fn are_named(alloc: Global, model: &Model) -> Result<bool, AllocError>
 }
 
 // Whether the roots are lawful.
-fn has_lawful_roots(model: &Model, ranks: &[usize]) -> bool
-    requires { IsGround model.now ranks.now }
+fn has_lawful_roots(model: &Model, parents: &Parents) -> bool
+    requires { IsGround model.now parents.now }
     ensures { IsTrue result ↔ All (IsLawfulRoot model.now) model.now.problem.roots }
 {
-    are_lawful_roots(model, ranks, model.problem.roots.as_slice())
+    are_lawful_roots(model, parents, model.problem.roots.as_slice())
 }
 
 // Whether the items of the problem are lawful.
-fn has_lawful_items(model: &Model, ranks: &[usize]) -> bool
-    requires { IsGround model.now ranks.now }
+fn has_lawful_items(model: &Model, parents: &Parents) -> bool
+    requires { IsGround model.now parents.now }
     ensures { IsTrue result ↔ All (IsLawfulItem model.now OfProblem) model.now.problem.items }
 {
-    are_lawful_items(model, ranks, model.problem.items.as_slice())
+    are_lawful_items(model, parents, model.problem.items.as_slice())
 }
 
-// Whether the roots, the items and the predicates are lawful of a model whose classes have these ranks.
-fn has_lawful_problem(alloc: Global, model: &Model, ranks: &[usize]) -> Result<bool, AllocError>
-    requires ground { IsGround model.now ranks.now }
+// Whether the roots, the items and the predicates are lawful of a model whose classes extend these.
+fn has_lawful_problem(alloc: Global, model: &Model, parents: &Parents) -> Result<bool, AllocError>
+    requires ground { IsGround model.now parents.now }
     requires small { IsSmallModel model.now }
     ensures { IfOk result (λ answer. IsTrue answer ↔ HasLawfulProblem model.now) }
 {
-    let preds = are_lawful_preds(alloc, model, ranks)?;
+    let preds = are_lawful_preds(alloc, model, parents)?;
     if !preds {
         return Ok(false);
     }
-    if !has_lawful_roots(model, ranks) {
+    if !has_lawful_roots(model, parents) {
         return Ok(false);
     }
-    Ok(has_lawful_items(model, ranks))
+    Ok(has_lawful_items(model, parents))
 }
 
 // Whether the classes are in line, and what stands on them is lawful.
@@ -127,9 +128,9 @@ fn is_lawful_above(alloc: Global, model: &Model) -> Result<bool, AllocError>
     requires basis { HasLawfulBasis model.now }
     ensures { IfOk result (λ answer. IsTrue answer ↔ IsLawfulAbove model.now) }
 {
-    let found = ranks_of(alloc, model)?;
+    let found = class_parents(alloc, model)?;
     match found {
-        Some(ranks) => has_lawful_problem(alloc, model, ranks.as_slice()),
+        Some(parents) => has_lawful_problem(alloc, model, &parents),
         None => Ok(false),
     }
 }

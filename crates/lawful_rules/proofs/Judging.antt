@@ -1,17 +1,14 @@
 -- That a rule is lawful if what is told of it is so, and only then.
-use Rattle.std.proofs.Common.{◌≡◌, ℕ, ◌+◌, ◌<◌, ◌^◌, List, [], ◌∷◌, ◌++◌, length, slice_get, Some, refl, sym, ap, subst, arith}
+use Rattle.std.proofs.Common.{ℕ, length}
 use Rattle.eu_name.proofs.Members.{get_below}
 use Rattle.model_core.specs.declared.model.Model.{Model}
 use Rattle.model_core.specs.declared.rule.Rule.{Rule}
-use Rattle.model_core.specs.declared.rule.Turn.{Turn}
-use Rattle.model_core.specs.Blocks.{Direct, OfSlot, OfLocal}
-use Rattle.model_core.specs.Entries.{Entries}
+use Rattle.model_core.specs.Blocks.{OfSlot, OfLocal}
 use Rattle.model_core.specs.Lawful.{IsLawfulRule}
-use Rattle.model_core.specs.Standing.{LeadsToBlock, StandsAt}
 use Rattle.lawful_rules.specs.declared.numbers.Sort.TheVariants.{Slots, Locals}
 use Rattle.lawful_rules.specs.Rules.{HasLawfulParts, StandsNested}
 use Rattle.lawful_rules.proofs.Listing.{once_stands, stands_once}
-use Rattle.lawful_rules.proofs.Nesting.{IsFine, block_fine, fine_block}
+use Rattle.lawful_rules.proofs.Nesting.{block_fine, fine_block}
 
 module _ (model : Model) (pred : ℕ) (rule : Rule) where
   pub rule_lawful : HasLawfulParts model rule → StandsNested model pred rule → IsLawfulRule model pred rule

@@ -13,7 +13,7 @@ use Rattle.model_core.proofs.Distinct.{pairs_front, pairs_back}
 use Rattle.lawful_rules.specs.declared.numbers.Sort.{Sort}
 use Rattle.lawful_rules.specs.declared.numbers.Sort.TheVariants.{Slots, Locals}
 use Rattle.lawful_rules.specs.Numbered.{numbered, numbers_of, AreOnce}
-use Rattle.lawful_rules.proofs.Spots.{Spot, StandsSpot, first_spot, later, inside, spot_same, later_once, inside_once, first_not_later, first_not_inside, inside_not_later, sides_apart, Found, at_first, in_later, in_side, first_stands, later_stands, side_stands, found}
+use Rattle.lawful_rules.proofs.Spots.{Spot, StandsSpot, first_spot, later, inside, spot_same, later_once, inside_once, first_not_later, inside_not_later, sides_apart, Found, at_first, in_later, in_side, first_stands, later_stands, side_stands, found}
 
 -- ---- lists
 

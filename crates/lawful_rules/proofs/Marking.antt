@@ -1,11 +1,9 @@
 -- Numbers that get marks one after another.
-use Rattle.std.proofs.Common.{◌≡◌, ℕ, zero, suc, ◌+◌, ◌<◌, ◌≤◌, Bool, true, false, List, [], ◌∷◌, ◌++◌, length, get_or, take, drop, slice_get, slice_set, Option, Some, None, ◌↔◌, IsTrue, All, Contains, ◌⊎◌, inl, inr, refl, sym, ap, ◌∙◌, subst, arith, length-set}
+use Rattle.std.proofs.Common.{◌≡◌, ℕ, zero, suc, ◌+◌, ◌<◌, Bool, true, false, List, [], ◌∷◌, ◌++◌, length, get_or, take, slice_get, slice_set, Some, ◌↔◌, IsTrue, All, Contains, ◌⊎◌, inl, inr, refl, sym, ap, ◌∙◌, subst, arith, length-set}
 use Rattle.std.specs.Prelude.{◌≢◌, AllPairs}
-use Rattle.std.proofs.lemmas.List.{take_all}
-use Rattle.std.proofs.lemmas.List.Elements.{All-get_or, All-append, All-head, All-tail, Contains-push, Contains-push_cases, Contains-append_left}
+use Rattle.std.proofs.lemmas.List.Elements.{All-append, Contains-push, Contains-push_cases, Contains-append_left}
 use Rattle.eu_name.proofs.Members.{get_below, get_within, get_all}
-use Rattle.model_core.proofs.Distinct.{pairs_front}
-use Rattle.lawful_kinds.proofs.Telling.{told_as, told_not}
+use Rattle.lawful_kinds.proofs.Telling.{told_as}
 use Rattle.lawful_rules.specs.Numbered.{AreMarked, MarksNew, MarksAllNew, AreOnce}
 use Rattle.lawful_rules.proofs.Listing.{apart_more, apart_twice}
 

@@ -1,5 +1,5 @@
 -- That what stands in nested blocks is lawful, told block by block and of all ways.
-use Rattle.std.proofs.Common.{◌≡◌, ℕ, zero, suc, ◌+◌, ◌<◌, ◌≤◌, ◌^◌, List, [], ◌∷◌, ◌++◌, length, slice_get, Option, Some, All, ◌⊎◌, inl, inr, refl, sym, ap, ◌∙◌, subst, arith}
+use Rattle.std.proofs.Common.{◌≡◌, ℕ, zero, suc, ◌+◌, ◌<◌, ◌^◌, List, [], ◌∷◌, ◌++◌, length, slice_get, Some, inl, inr, refl, sym, subst, arith}
 use Rattle.std.proofs.lemmas.Bool.{cases_lt}
 use Rattle.eu_name.proofs.Members.{get_within, get_below}
 use Rattle.model_core.specs.declared.model.Model.{Model}
@@ -12,11 +12,11 @@ use Rattle.model_core.specs.declared.rule.Turn.{Turn}
 use Rattle.model_core.specs.Blocks.{Direct, OfSlot, OfLocal, OfItem, OfBranch, chosen, direct}
 use Rattle.model_core.specs.Entries.{Entries, NoEntry, WithSlot, WithLocal, WithItem, WithBranch}
 use Rattle.model_core.specs.Lawful.{IsLawfulEntry, IsLawfulGuard}
-use Rattle.model_core.specs.Standing.{LeadsToBlock, StandsAt}
+use Rattle.model_core.specs.Standing.{LeadsToBlock}
 use Rattle.lawful_rules.specs.declared.names.Name.{Name}
 use Rattle.lawful_rules.specs.Nested.{names_of, IsGuardAmong, IsSmall, AreLawfulEntries, IsLawfulBlock}
 use Rattle.lawful_rules.proofs.Ways.{some_same, turn_more, append_assoc_turns, append_nil_turns, length_more}
-use Rattle.lawful_rules.proofs.Seeing.{Sees, top_sees, sees_more, term_seen, seen_term, terms_seen, seen_terms, item_seen, seen_item}
+use Rattle.lawful_rules.proofs.Seeing.{Sees, top_sees, sees_more, terms_seen, seen_terms, item_seen, seen_item}
 
 module _ (model : Model) (pred : ℕ) (rule : Rule) where
   -- what the law asks of one block

@@ -1,19 +1,18 @@
 -- What is seen from a block, as a list of names.
-use Rattle.std.proofs.Common.{◌≡◌, ℕ, zero, suc, ◌+◌, ◌<◌, ◌↔◌, List, [], ◌∷◌, ◌++◌, length, slice_get, Option, Some, All, Contains, ◌⊎◌, inl, inr, refl, sym, ap, ◌∙◌, subst, arith}
+use Rattle.std.proofs.Common.{◌≡◌, ℕ, zero, suc, ◌↔◌, List, [], ◌∷◌, ◌++◌, slice_get, Some, All, Contains, ◌⊎◌, inl, inr, refl, ap, ◌∙◌, subst, arith}
 use Rattle.std.proofs.lemmas.List.Elements.{All-weaker, Contains-append_left, Contains-append_right, Contains-append_cases}
 use Rattle.model_core.specs.declared.item.Item.{Item}
 use Rattle.model_core.specs.declared.item.Item.TheVariants.{Constraint, Relation}
 use Rattle.model_core.specs.declared.item.Term.{Term}
 use Rattle.model_core.specs.declared.item.Term.TheVariants as terms
-use Rattle.model_core.specs.declared.rule.Guard.{Guard}
 use Rattle.model_core.specs.declared.rule.Turn.{Turn}
-use Rattle.model_core.specs.Blocks.{Direct, OfSlot, OfLocal, OfBranch, chosen, direct}
+use Rattle.model_core.specs.Blocks.{Direct, OfSlot, OfLocal, direct}
 use Rattle.model_core.specs.Entries.{Entries, NoEntry, WithSlot, WithLocal, WithItem, WithBranch}
-use Rattle.model_core.specs.Standing.{LeadsToBlock, StandsAt, IsSeen, IsTermSeen, IsItemSeen}
+use Rattle.model_core.specs.Standing.{LeadsToBlock, IsSeen, IsTermSeen, IsItemSeen}
 use Rattle.lawful_rules.specs.declared.names.Name.{Name}
 use Rattle.lawful_rules.specs.declared.names.Name.TheVariants as names
 use Rattle.lawful_rules.specs.Nested.{names_of, IsTermAmong, IsItemAmong}
-use Rattle.lawful_rules.proofs.Ways.{some_same, follows_once, two_parts, none_before}
+use Rattle.lawful_rules.proofs.Ways.{follows_once, two_parts, none_before}
 
 -- what stands by the name
 abbrev pub meant : Name → Direct

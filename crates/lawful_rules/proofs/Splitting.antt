@@ -11,7 +11,7 @@ use Rattle.model_core.specs.declared.rule.Rule.{Rule}
 use Rattle.model_core.specs.Block.{plain_entries, with_entry}
 use Rattle.model_core.specs.Blocks.{direct}
 use Rattle.model_core.specs.Entries.{Entries, NoEntry, WithBranch}
-use Rattle.lawful_rules.specs.Amounts.{amount_of, amount_in, guard_amount, item_amount, Leaves}
+use Rattle.lawful_rules.specs.Amounts.{amount_of, amount_in, guard_amount, item_amount}
 use Rattle.lawful_rules.specs.declared.amounts.Amount.{Amount}
 use Rattle.lawful_rules.specs.declared.amounts.Amount.TheVariants.{Items, Guards}
 use Rattle.lawful_rules.specs.declared.names.Name.{Name}

@@ -1,12 +1,12 @@
 -- Where things stand in blocks: as the first entry, inside of it, or among the later ones.
-use Rattle.std.proofs.Common.{◌≡◌, ℕ, zero, suc, ◌+◌, ◌<◌, List, [], ◌∷◌, ◌++◌, length, slice_get, Option, Some, ◌⊎◌, inl, inr, refl, sym, ap, ◌∙◌, subst, arith}
+use Rattle.std.proofs.Common.{◌≡◌, ℕ, zero, suc, List, [], ◌∷◌, slice_get, Some, refl, sym, ap, ◌∙◌, subst, arith}
 use Rattle.model_core.specs.declared.rule.Guard.{Guard}
 use Rattle.model_core.specs.declared.rule.Side.{Side}
 use Rattle.model_core.specs.declared.rule.Side.TheVariants.{Then, Otherwise}
 use Rattle.model_core.specs.declared.rule.Turn.{Turn}
 use Rattle.model_core.specs.Blocks.{Direct, OfBranch, chosen, direct}
 use Rattle.model_core.specs.Entries.{Entries}
-use Rattle.model_core.specs.Standing.{LeadsToBlock, StandsAt}
+use Rattle.model_core.specs.Standing.{StandsAt}
 use Rattle.lawful_rules.proofs.Ways.{some_same}
 
 -- a path and a place

@@ -1,8 +1,8 @@
 -- Ways to blocks.
-use Rattle.std.proofs.Common.{◌≡◌, ℕ, zero, suc, ◌+◌, ◌<◌, List, [], ◌∷◌, ◌++◌, length, slice_get, Option, Some, ◌⊎◌, inl, inr, refl, sym, ap, ◌∙◌, subst, arith}
+use Rattle.std.proofs.Common.{◌≡◌, ◌+◌, List, [], ◌∷◌, ◌++◌, length, slice_get, Some, ◌⊎◌, inl, inr, refl, sym, ap, ◌∙◌, subst, arith}
 use Rattle.model_core.specs.declared.rule.Guard.{Guard}
 use Rattle.model_core.specs.declared.rule.Turn.{Turn}
-use Rattle.model_core.specs.Blocks.{Direct, OfBranch, chosen, direct}
+use Rattle.model_core.specs.Blocks.{OfBranch, chosen, direct}
 use Rattle.model_core.specs.Entries.{Entries}
 use Rattle.model_core.specs.Standing.{LeadsToBlock}
 

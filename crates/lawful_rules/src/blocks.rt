@@ -29,16 +29,17 @@ pub fn contents(block: &Block) -> &[Entry]
 
 // Whether the two sides are of one kind, and name no slot or local but these.
 fn are_sides(judge: Judge<'_>, seen: &[Name], left: Term, right: Term) -> bool
-    requires { IsGround judge.model.now judge.ranks.now }
+    requires { IsGround judge.model.now judge.parents.now }
     ensures { IsTrue result ↔ AreSides judge.entry.model.now judge.entry.pred judge.entry.rule.now seen.now (left ∷ right ∷ []) }
 {
     let sides = [left, right];
-    are_comparable(judge.model, judge.ranks, judge.place(), &sides) && are_terms_among(seen, &sides)
+    are_comparable(judge.model, judge.parents, judge.place(), &sides)
+        && are_terms_among(seen, &sides)
 }
 
 // Whether the guard has such sides.
 fn is_guard_among(judge: Judge<'_>, seen: &[Name], guard: Guard) -> bool
-    requires { IsGround judge.model.now judge.ranks.now }
+    requires { IsGround judge.model.now judge.parents.now }
     ensures { IsTrue result ↔ IsGuardAmong judge.entry.model.now judge.entry.pred judge.entry.rule.now seen.now guard }
 {
     match guard {
@@ -79,10 +80,10 @@ fn has_local(judge: Judge<'_>, number: u32) -> bool
 
 // Whether the item is lawful, and names no slot or local but these.
 fn is_lawful_among(judge: Judge<'_>, seen: &[Name], item: &Item) -> bool
-    requires { IsGround judge.model.now judge.ranks.now }
+    requires { IsGround judge.model.now judge.parents.now }
     ensures { IsTrue result ↔ IsLawfulAmong judge.entry.model.now judge.entry.pred judge.entry.rule.now seen.now item.now }
 {
-    is_lawful_item(judge.model, judge.ranks, judge.place(), item) && is_item_among(seen, item)
+    is_lawful_item(judge.model, judge.parents, judge.place(), item) && is_item_among(seen, item)
 }
 
 // Whether all three are so.
@@ -101,7 +102,7 @@ pub fn is_lawful_block(
     outer: &[Name],
     entries: &[Entry],
 ) -> Result<bool, AllocError>
-    requires { IsGround judge.model.now judge.ranks.now }
+    requires { IsGround judge.model.now judge.parents.now }
     ensures { IfOk result (λ answer. IsTrue answer ↔ IsLawfulBlock judge.entry.model.now judge.entry.pred judge.entry.rule.now
         depth outer.now (plain_entries entries.now)) }
 {
@@ -126,7 +127,7 @@ fn is_lawful_entry(
     seen: &[Name],
     entry: &Entry,
 ) -> Result<bool, AllocError>
-    requires ground { IsGround judge.model.now judge.ranks.now }
+    requires ground { IsGround judge.model.now judge.parents.now }
     requires deep { depth < 16 }
     ensures { IfOk result (λ answer. IsTrue answer ↔ AreLawfulEntries judge.entry.model.now judge.entry.pred judge.entry.rule.now
         depth seen.now (with_entry entry.now NoEntry)) }

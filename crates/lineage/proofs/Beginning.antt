@@ -1,10 +1,9 @@
 -- What is known before any walk.
-use Rattle.std.proofs.Common.{◌≡◌, ℕ, zero, suc, ◌+◌, ◌<◌, ◌≤◌, List, [], ◌∷◌, ◌++◌, length, take, slice_get, Option, Some, None, ◌⊎◌, inl, inr, refl, sym, ap, ◌∙◌, subst, arith, length-append}
-use Rattle.std.proofs.lemmas.Option.{slice_get_within}
+use Rattle.std.proofs.Common.{◌≡◌, ℕ, zero, suc, ◌+◌, List, [], ◌∷◌, ◌++◌, length, take, slice_get, Option, Some, None, inl, inr, refl, sym, ap, ◌∙◌, subst, arith, length-append}
 use Rattle.lineage.specs.declared.lineage.Standing.TheVariants.{Rooted}
 use Rattle.lineage.specs.declared.walk.Mark.{Mark}
 use Rattle.lineage.specs.declared.walk.Mark.TheVariants as marks
-use Rattle.lineage.specs.Walks.{AreBegun, StandsIn}
+use Rattle.lineage.specs.Walks.{AreBegun}
 use Rattle.lineage.proofs.Lists.{some_is, get-append_left, get-append_last, get-append_cases}
 use Rattle.lineage.proofs.Marking.{take_all}
 

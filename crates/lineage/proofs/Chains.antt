@@ -1,6 +1,6 @@
 -- Chains of things that stand under one another.
-use Rattle.std.proofs.Common.{◌≡◌, ℕ, zero, suc, ◌+◌, ◌<◌, ◌≤◌, List, [], ◌∷◌, ◌++◌, length, take, drop, slice_get, Option, Some, None, ◌⊎◌, inl, inr, refl, sym, ap, ◌∙◌, subst, arith}
-use Rattle.lineage.specs.Lines.{AreParents, StandsUnder, LeadsUp, IsRooted, IsOnCircle, IsLeading}
+use Rattle.std.proofs.Common.{◌≡◌, ℕ, zero, suc, List, [], ◌∷◌, ◌++◌, take, drop, slice_get, Option, Some, ◌⊎◌, inl, inr, refl, sym, ap, subst}
+use Rattle.lineage.specs.Lines.{StandsUnder, LeadsUp, IsOnCircle}
 use Rattle.lineage.specs.Walks.{first_or, IsChain}
 use Rattle.lineage.proofs.Lists.{some_is}
 

@@ -1,15 +1,14 @@
 -- A walk that goes up.
-use Rattle.std.proofs.Common.{◌≡◌, ℕ, zero, suc, ◌+◌, ◌<◌, ◌≤◌, List, [], ◌∷◌, ◌++◌, length, sum_by, slice_set, slice_get, get_or, Option, Some, None, ◌⊎◌, inl, inr, refl, sym, ap, ◌∙◌, subst, arith, length-set}
+use Rattle.std.proofs.Common.{◌≡◌, ℕ, ◌<◌, List, [], ◌∷◌, ◌++◌, length, sum_by, slice_set, slice_get, Option, Some, None, inl, inr, refl, sym, ap, ◌∙◌, subst, arith, length-set}
 use Rattle.std.proofs.lemmas.List.Sums.{sum_by-set}
 use Rattle.std.proofs.lemmas.Option.{slice_get_within, get_or_from_slice_get}
-use Rattle.lineage.specs.declared.lineage.Standing.{Standing}
 use Rattle.lineage.specs.declared.lineage.Standing.TheVariants.{Rooted}
 use Rattle.lineage.specs.declared.walk.Mark.{Mark}
 use Rattle.lineage.specs.declared.walk.Mark.TheVariants as marks
 use Rattle.lineage.specs.Lines.{AreParents, StandsUnder}
 use Rattle.lineage.specs.Walks.{IsKnownAs, IsMarked, AreWalked, KnowsTheSame, HasClimbed}
 use Rattle.lineage.proofs.Chains.{chain-snoc, first_or-snoc}
-use Rattle.lineage.proofs.Lists.{some_is, get-set_same, get-set_other, get-append_left, get-append_last, get-append_cases}
+use Rattle.lineage.proofs.Lists.{get-set_same, get-set_other, get-append_left, get-append_last, get-append_cases}
 use Rattle.lineage.proofs.Marking.{equal_or_not}
 use Rattle.lineage.proofs.Unseen.{unseen_weight}
 

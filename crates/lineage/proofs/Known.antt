@@ -1,5 +1,5 @@
 -- Things that are known one after another.
-use Rattle.std.proofs.Common.{◌≡◌, ℕ, ◌+◌, ◌<◌, List, Option, length, ◌⊎◌, inl, inr, sym, subst, arith}
+use Rattle.std.proofs.Common.{ℕ, ◌+◌, ◌<◌, List, Option, length, inl, inr, sym, subst, arith}
 use Rattle.lineage.specs.declared.lineage.Standing.{Standing}
 use Rattle.lineage.specs.declared.walk.Mark.{Mark}
 use Rattle.lineage.specs.Lines.{IsLineageOf}

@@ -1,8 +1,11 @@
 pub mod Beginning
 pub mod Chains
 pub mod Climbing
+pub mod Fewer
+pub mod Jumping
 pub mod Known
 pub mod Lists
 pub mod Marking
 pub mod Settling
 pub mod Unseen
+pub mod Ways

@@ -1,5 +1,5 @@
 -- Things that get a mark one after another.
-use Rattle.std.proofs.Common.{◌≡◌, ℕ, zero, suc, ◌+◌, ◌<◌, ◌≤◌, List, [], ◌∷◌, length, take, slice_set, slice_get, Option, Some, None, ◌⊎◌, inl, inr, refl, sym, ap, ◌∙◌, subst, arith, length-set}
+use Rattle.std.proofs.Common.{◌≡◌, ℕ, zero, suc, ◌+◌, ◌<◌, List, [], ◌∷◌, length, take, slice_set, slice_get, Some, ◌⊎◌, inl, inr, refl, sym, ap, ◌∙◌, subst, arith, length-set}
 use Rattle.lineage.specs.declared.walk.Mark.{Mark}
 use Rattle.lineage.specs.Walks.{MarksAll}
 use Rattle.lineage.proofs.Lists.{some_is, get-set_same, get-set_other, get-take, take-get, get-take_below}

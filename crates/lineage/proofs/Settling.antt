@@ -1,6 +1,6 @@
 -- What is known after a walk.
-use Rattle.std.proofs.Common.{◌≡◌, ℕ, zero, suc, ◌+◌, ◌<◌, ◌≤◌, List, [], ◌∷◌, ◌++◌, length, take, drop, reverse, slice_set, slice_get, Option, Some, None, ◌⊎◌, inl, inr, refl, sym, ap, ◌∙◌, subst, All, arith, append_assoc, append-nil}
-use Rattle.std.proofs.lemmas.Option.{slice_get_within, slice_get-get_or, slice_get_past}
+use Rattle.std.proofs.Common.{◌≡◌, ℕ, zero, suc, ◌+◌, ◌<◌, ◌≤◌, List, [], ◌∷◌, ◌++◌, length, take, drop, reverse, slice_get, Option, Some, None, ◌⊎◌, inl, inr, refl, sym, ap, ◌∙◌, subst, All, arith, append_assoc, append-nil}
+use Rattle.std.proofs.lemmas.Option.{slice_get_within, slice_get-get_or}
 use Rattle.std.specs.Option.{option_and_then}
 use Rattle.lineage.specs.declared.lineage.Standing.{Standing}
 use Rattle.lineage.specs.declared.lineage.Standing.TheVariants.{Rooted, OnCircle, Leading}
@@ -8,9 +8,9 @@ use Rattle.lineage.specs.declared.walk.Mark.{Mark}
 use Rattle.lineage.specs.declared.walk.Mark.TheVariants as marks
 use Rattle.lineage.specs.declared.walk.End.{End}
 use Rattle.lineage.specs.declared.walk.End.TheVariants as ends
-use Rattle.lineage.specs.Lines.{AreParents, StandsUnder, LeadsUp, IsRooted, IsOnCircle, IsLeading, StandsSo, ParentsComeFirst, IsLineageOf, standing_in, standing_of_mark}
-use Rattle.lineage.specs.Walks.{IsKnownAs, StandsIn, AreSettled, AreWalked, RootsAreKnown, IsMarked, AreWalkable, AreBegun, first_or, IsChain, IsEnd, KnowsTheSame, HasClimbed, Climbs, IsKnownFrom, MarksAll, below_of, ordered_more, IsEndAlong, Finishes}
-use Rattle.lineage.proofs.Chains.{one_parent, joined, circle_goes_on, circle_returns, first_leads, each_leads, chain_next, chain-drop, chain-take, first_or-drop, first_or-take, chain_circle, LeadsOver}
+use Rattle.lineage.specs.Lines.{StandsUnder, LeadsUp, IsOnCircle, StandsSo, ParentsComeFirst, IsLineageOf, standing_in, standing_of_mark}
+use Rattle.lineage.specs.Walks.{IsKnownAs, StandsIn, AreSettled, AreWalked, IsMarked, AreWalkable, AreBegun, first_or, IsChain, KnowsTheSame, Climbs, IsKnownFrom, MarksAll, below_of, ordered_more, IsEndAlong, Finishes}
+use Rattle.lineage.proofs.Chains.{one_parent, joined, circle_returns, each_leads, chain_next, chain-drop, chain-take, first_or-drop, first_or-take, chain_circle, LeadsOver}
 use Rattle.lineage.proofs.Lists.{all-get, some_is, get-append_left, get-append_last, get-append_cases, get-take, take-get, get-take_below, get-drop, drop-get, reverse-cons}
 
 -- the standing of a thing that is known leads on to known things only

@@ -1,2 +1,4 @@
+pub mod Ancestors
 pub mod Lines
+pub mod Shortcuts
 pub mod Walks

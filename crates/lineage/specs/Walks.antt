@@ -7,7 +7,7 @@ use Rattle.lineage.specs.declared.walk.Mark.{Mark}
 use Rattle.lineage.specs.declared.walk.Mark.TheVariants as marks
 use Rattle.lineage.specs.declared.walk.End.{End}
 use Rattle.lineage.specs.declared.walk.End.TheVariants as ends
-use Rattle.lineage.specs.Lines.{StandsUnder, LeadsUp, StandsSo, ParentsComeFirst}
+use Rattle.lineage.specs.Lines.{StandsUnder, StandsSo, ParentsComeFirst}
 
 -- the standing of the thing is known
 abbrev pub IsKnownAs : List Mark → ℕ → Standing → Type 0

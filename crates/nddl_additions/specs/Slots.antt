@@ -10,7 +10,6 @@ use Rattle.model_core.specs.declared.item.Term.{Term}
 use Rattle.model_core.specs.declared.item.Term.TheVariants as terms
 use Rattle.model_core.specs.declared.rule.Slot as slots
 use Rattle.model_core.specs.declared.variable.Base.{Base}
-use Rattle.model_core.specs.declared.variable.Base.TheVariants as bases
 use Rattle.nddl_ast.specs.declared.name.Name.{Name}
 use Rattle.nddl_ast.specs.declared.name.Path.{Path}
 use Rattle.nddl_terms.specs.declared.growth.Growth.{Growth}
@@ -19,10 +18,11 @@ use Rattle.nddl_terms.specs.declared.stands.Made.{Made}
 use Rattle.nddl_terms.specs.declared.stands.Stand.{Stand}
 use Rattle.nddl_terms.specs.declared.stands.Stand.TheVariants.{Value, Slot, Class}
 use Rattle.nddl_terms.specs.Growth.{with_item, with_slot}
-use Rattle.nddl_terms.specs.Lexicon.{pred_class, pred_named}
+use Rattle.nddl_terms.specs.Lexicon.{class_objects, pred_class, pred_named}
 use Rattle.nddl_terms.specs.Paths.{Reached, stand_steps}
 use Rattle.nddl_terms.specs.Readings.{Readings}
 use Rattle.nddl_terms.specs.Stands.{first_stand}
+use Rattle.nddl_variables.specs.Domains.{numbers_base}
 use Rattle.nddl_additions.specs.declared.slots.Wanted.{Wanted}
 use Rattle.nddl_additions.specs.Arguments.{with_items}
 
@@ -70,7 +70,7 @@ asked_labelled reading turns path (name ∷ more) growth = asked_path reading tu
 
 -- the objects of a class, as what a variable may be
 abbrev pub class_base : Lexicon → ℕ → Base
-class_base lexicon class = option_map_or (λ shape. shape.base) (slice_get lexicon.classes class) bases.Void
+class_base lexicon class = numbers_base (class_objects lexicon class)
 
 -- a slot for a token of the predicate, on any object of its class
 abbrev pub pred_slot : Lexicon → ℕ → slots.Slot

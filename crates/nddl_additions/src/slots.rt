@@ -12,10 +12,10 @@ use model_core::rule::Slot;
 use model_core::variable::Base;
 use nddl_ast::name::{Name, Path};
 use nddl_terms::growth::term_pair;
-use nddl_terms::lexicon::copy_base;
 use nddl_terms::paths::path_steps;
 use nddl_terms::stands::first_stand;
 use nddl_terms::{Growth, Lexicon, Made, Reading, Stand};
+use nddl_variables::domains::numbers_base;
 use std::alloc::{AllocError, Global};
 
 /// A token that is wanted.
@@ -120,20 +120,17 @@ pub fn asked_labelled(
 }
 
 /// The objects of a class, as what a variable may be.
-pub fn class_base(lexicon: &Lexicon, class: u32) -> Result<Base, AllocError>
+pub fn class_base(alloc: Global, lexicon: &Lexicon, class: u32) -> Result<Base, AllocError>
     ensures { IfOk result (λ base. base ≡ class_base lexicon.now class) }
 {
-    match lexicon.classes.as_slice().get(class as usize) {
-        Some(shape) => copy_base(&shape.base),
-        None => Ok(Base::Void),
-    }
+    numbers_base(alloc, lexicon.objects(class))
 }
 
 // A slot for a token of the predicate.
-fn pred_slot(lexicon: &Lexicon, pred: u32) -> Result<Slot, AllocError>
+fn pred_slot(alloc: Global, lexicon: &Lexicon, pred: u32) -> Result<Slot, AllocError>
     ensures { IfOk result (λ slot. slot ≡ pred_slot lexicon.now pred) }
 {
-    let object = class_base(lexicon, lexicon.pred_class(pred))?;
+    let object = class_base(alloc, lexicon, lexicon.pred_class(pred))?;
     Ok(Slot { pred, object })
 }
 
@@ -174,7 +171,7 @@ fn add_token(
 ) -> Result<(), AllocError>
     ensures { OnOk result (growth.new ≡ with_wanted_token lexicon.now at relation pred object growth.old) }
 {
-    let slot = pred_slot(lexicon, pred)?;
+    let slot = pred_slot(alloc, lexicon, pred)?;
     let number = growth.add_slot(slot)?;
     note_asked_at(at, Stand::Slot { number, pred }, growth)?;
     add_object(alloc, number, object, growth)?;

@@ -18,10 +18,10 @@ use nddl_variables::domains::{range, set_of_values};
 use std::alloc::{AllocError, Global};
 
 // An object of the class.
-fn class_shape(lexicon: &Lexicon, class: u32) -> Result<Shape, AllocError>
+fn class_shape(alloc: Global, lexicon: &Lexicon, class: u32) -> Result<Shape, AllocError>
     ensures { IfOk result (λ shape. shape ≡ class_shape lexicon.now class) }
 {
-    let base = class_base(lexicon, class)?;
+    let base = class_base(alloc, lexicon, class)?;
     Ok(Shape {
         kind: ValueKind::Object,
         base,
@@ -53,11 +53,11 @@ fn truth_shape(alloc: Global) -> Result<Shape, AllocError>
 }
 
 // An object of the class that a name stands for.
-fn stand_shape(lexicon: &Lexicon, stand: Option<Stand>) -> Result<Shape, AllocError>
+fn stand_shape(alloc: Global, lexicon: &Lexicon, stand: Option<Stand>) -> Result<Shape, AllocError>
     ensures { IfOk result (λ shape. shape ≡ stand_shape lexicon.now stand) }
 {
     match stand {
-        Some(Stand::Class(class)) => class_shape(lexicon, class),
+        Some(Stand::Class(class)) => class_shape(alloc, lexicon, class),
         _ => whole_shape(),
     }
 }
@@ -75,21 +75,25 @@ fn copy_shape(shape: &Shape) -> Result<Shape, AllocError>
 }
 
 // What the name of this place in the scope is as a type.
-fn file_shape(lexicon: &Lexicon, place: u32) -> Result<Shape, AllocError>
+fn file_shape(alloc: Global, lexicon: &Lexicon, place: u32) -> Result<Shape, AllocError>
     ensures { IfOk result (λ shape. shape ≡ file_shape lexicon.now place) }
 {
     match lexicon.types.as_slice().get(place as usize) {
         Some(Some(shape)) => copy_shape(shape),
-        _ => stand_shape(lexicon, file_stand(lexicon, place)),
+        _ => stand_shape(alloc, lexicon, file_stand(lexicon, place)),
     }
 }
 
-fn meaning_shape(lexicon: &Lexicon, meaning: Option<Meaning>) -> Result<Shape, AllocError>
+fn meaning_shape(
+    alloc: Global,
+    lexicon: &Lexicon,
+    meaning: Option<Meaning>,
+) -> Result<Shape, AllocError>
     ensures { IfOk result (λ shape. shape ≡ meaning_shape lexicon.now meaning) }
 {
     match meaning {
-        Some(Meaning::Scope(place)) => file_shape(lexicon, place),
-        Some(Meaning::BuiltIn(class)) => class_shape(lexicon, class),
+        Some(Meaning::Scope(place)) => file_shape(alloc, lexicon, place),
+        Some(Meaning::BuiltIn(class)) => class_shape(alloc, lexicon, class),
         _ => whole_shape(),
     }
 }
@@ -100,7 +104,10 @@ fn base_shape(alloc: Global, reading: &Reading<'_>, base: &BaseType) -> Result<S
 {
     match base {
         BaseType::Bool => truth_shape(alloc),
-        BaseType::Named(name) => meaning_shape(reading.lexicon, reading.names.meaning(name.at)),
+        BaseType::Named(name) => {
+            let meaning = reading.names.meaning(name.at);
+            meaning_shape(alloc, reading.lexicon, meaning)
+        }
         _ => whole_shape(),
     }
 }

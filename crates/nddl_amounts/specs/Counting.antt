@@ -1,5 +1,5 @@
 -- How much the text of a rule unrolls into.
-use Rattle.std.specs.Prelude.{ℕ, ◌-◌, List, [], ◌∷◌, Option, Some, length, slice_get, if◌then◌else◌}
+use Rattle.std.specs.Prelude.{ℕ, ◌-◌, List, [], ◌∷◌, Option, Some, length, if◌then◌else◌}
 use Rattle.std.specs.Option.{option_map_or}
 use Rattle.model_core.specs.declared.item.Kind.{Kind}
 use Rattle.model_core.specs.declared.item.Kind.TheVariants.{AllDiff}
@@ -22,6 +22,7 @@ use Rattle.nddl_trees.specs.PlainTree.{PlainTree}
 use Rattle.nddl_terms.specs.declared.lexicon.Lexicon.{Lexicon}
 use Rattle.nddl_terms.specs.declared.stands.Stand.{Stand}
 use Rattle.nddl_terms.specs.declared.stands.Stand.TheVariants as stands
+use Rattle.nddl_terms.specs.Lexicon.{class_objects}
 use Rattle.nddl_terms.specs.Names.{name_read_at}
 use Rattle.nddl_terms.specs.Stands.{file_stand}
 use Rattle.nddl_amounts.specs.declared.amounts.Amounts.{Amounts}
@@ -106,7 +107,7 @@ guard_amounts lexicon names condition = amounts_and (some_reads (condition_reads
 -- ---- turns
 
 abbrev pub class_turns : Lexicon → ℕ → ℕ
-class_turns lexicon class = option_map_or (λ shape. length shape.objects) (slice_get lexicon.classes class) 0
+class_turns lexicon class = length (class_objects lexicon class)
 
 abbrev pub stand_count : Lexicon → Option Stand → ℕ
 stand_count lexicon (Some (stands.Class class)) = class_turns lexicon class

@@ -165,10 +165,7 @@ fn guard_amounts(lexicon: &Lexicon, names: &ReadNames<'_>, condition: &Condition
 fn class_turns(lexicon: &Lexicon, class: u32) -> u64
     ensures { result ≡ class_turns lexicon.now class }
 {
-    match lexicon.classes.as_slice().get(class as usize) {
-        Some(shape) => shape.objects.len() as u64,
-        None => 0,
-    }
+    lexicon.objects(class).len() as u64
 }
 
 fn stand_count(lexicon: &Lexicon, stand: Option<Stand>) -> u64

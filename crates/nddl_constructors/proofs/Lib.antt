@@ -1,4 +1,5 @@
-pub mod Adding
+mod Building
 pub mod Noting
 pub mod Numbering
+mod Rooted
 mod Seeking

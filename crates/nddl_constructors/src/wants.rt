@@ -1,19 +1,21 @@
 //! Which arguments a class wants where an object of it is made.
 
-ghost use Rattle.std.specs.Prelude.{◌≡◌, ◌++◌, ◌∷◌, [], Some, IfOk, OnOk, map};
+ghost use Rattle.std.specs.Prelude.{◌≡◌, ◌++◌, ◌∷◌, [], Some, IfOk, IfSome, OnOk, map, true};
 ghost use Rattle.nddl_sorts.specs.declared.kind.TypeKind.TheVariants.{Int};
 ghost use Rattle.std.specs.Option.{option_copied};
+ghost use Rattle.nddl_scope.specs.Scope.{is_class_at};
 ghost use Rattle.nddl_lines.specs.Ancestors.{ancestry};
 ghost use Rattle.nddl_lines.specs.Facts.{facts_of};
 ghost use Rattle.nddl_lines.specs.Decls.{members_of};
-ghost use Rattle.nddl_constructors.specs.Wants.{builtin_along, builtin_wants, class_wants, formal_kind, line_formals, member_formals, own_formals};
+ghost use Rattle.nddl_constructors.specs.Wants.{builtin_along, builtin_or, builtin_wants, class_wants, formal_kind, line_formals, member_formals, own_formals};
 
 use eu_name::sequence::Sequence;
 use nddl_ast::declaration::{Decl, Member, Typed};
+use nddl_lines::Basis;
 use nddl_lines::decls::members_of;
-use nddl_lines::lines::above;
+use nddl_lines::lines::{above, ancestry};
 use nddl_lines::parents::parent_in;
-use nddl_lines::{Basis, adding_line};
+use nddl_lines::shorter::builders_over;
 use nddl_scope::{Meaning, Scope};
 use nddl_sorts::TypeKind;
 use nddl_sorts::base::base_kind;
@@ -88,8 +90,8 @@ fn push_levels(wants: &mut Vec<Option<TypeKind>>) -> Result<(), AllocError>
     Ok(())
 }
 
-// The formals of the first class that has a constructor, from the class of this number up. The line isn't gathered, since
-// this is asked of each class of it, and each may have a constructor.
+// The formals of the first class that has a constructor, from the class of this number up. Those between that have none are
+// passed over, and the line isn't gathered, since this is asked of each class of it, and each may have a constructor.
 fn formals_above<'a>(basis: &Basis<'a>, entry: usize) -> Option<&'a Sequence<Typed>>
     ensures { option_copied result ≡ line_formals (facts_of basis.now).names (facts_of basis.now).program
         (ancestry (facts_of basis.now).parents entry) }
@@ -97,7 +99,7 @@ fn formals_above<'a>(basis: &Basis<'a>, entry: usize) -> Option<&'a Sequence<Typ
     formals_along(
         basis.types.scope,
         basis.decls,
-        basis.parents.as_slice(),
+        builders_over(basis, entry),
         entry,
     )
 }
@@ -157,12 +159,55 @@ pub fn builtin_above(alloc: Global, basis: &Basis<'_>, entry: usize) -> Result<u
     ensures { IfOk result (λ number. number ≡ builtin_along (facts_of basis.now).names (facts_of basis.now).program
         (ancestry (facts_of basis.now).parents entry)) }
 {
-    let line = adding_line(alloc, basis, entry)?;
+    match builtin_shortly(basis, entry) {
+        Some(number) => Ok(number),
+        None => builtin_slowly(alloc, basis, entry),
+    }
+}
+
+// The same, by shortcuts, if it is a class whose line is known to end.
+fn builtin_shortly(basis: &Basis<'_>, entry: usize) -> Option<u32>
+    ensures { IfSome result (λ number. number ≡ builtin_along (facts_of basis.now).names (facts_of basis.now).program
+        (ancestry (facts_of basis.now).parents entry)) }
+{
+    if basis.types.scope.is_class(entry) {
+        builtin_at_root(basis, entry)
+    } else {
+        None
+    }
+}
+
+// That which the last class of the line extends.
+fn builtin_at_root(basis: &Basis<'_>, entry: usize) -> Option<u32>
+    requires { is_class_at basis.now.types.scope.now entry ≡ true }
+    ensures { IfSome result (λ number. number ≡ builtin_along (facts_of basis.now).names (facts_of basis.now).program
+        (ancestry (facts_of basis.now).parents entry)) }
+{
+    let root = basis.parents.root(entry)?;
+    Some(builtin_or_none(above(basis.types.scope, basis.decls, root)))
+}
+
+// The number of what means this, if it is a built-in class, and else that of the class of objects.
+fn builtin_or_none(class: Option<Meaning>) -> u32
+    ensures { result ≡ builtin_or 0 class }
+{
+    match class {
+        Some(Meaning::BuiltIn(number)) => number,
+        _ => 0,
+    }
+}
+
+// The same, along the whole line.
+fn builtin_slowly(alloc: Global, basis: &Basis<'_>, entry: usize) -> Result<u32, AllocError>
+    ensures { IfOk result (λ number. number ≡ builtin_along (facts_of basis.now).names (facts_of basis.now).program
+        (ancestry (facts_of basis.now).parents entry)) }
+{
+    let line = ancestry(alloc, basis.parents, entry)?;
     Ok(builtin_along(basis.types.scope, basis.decls, line.as_slice()))
 }
 
-/// The built-in class that a class of the line extends.
-pub fn builtin_along(scope: &Scope, decls: &[&Decl], line: &[usize]) -> u32
+// The built-in class that a class of the line extends.
+fn builtin_along(scope: &Scope, decls: &[&Decl], line: &[usize]) -> u32
     ensures { result ≡ builtin_along scope.now (map (λ decl. decl.now) decls.now) line.now }
 {
     for entry in line {

@@ -15,13 +15,13 @@ use nddl_ast::declaration::Decl;
 use nddl_ast::expression::Type;
 use nddl_lines::circles::is_rooted;
 use nddl_lines::decls::{decl_at, typedef_type};
-use nddl_lines::{Basis, MemberIndex, Parents};
+use nddl_lines::{Basis, MemberIndex, Parents, ShortLines};
 use nddl_scope::{Scope, Sort};
 use nddl_sorts::{Extent, TypeMeaning, Types};
 use std::alloc::{AllocError, Global};
 
-/// What each name of the scope means as a typedef. The lineage is that of what the names stand under, and `short` passes over
-/// classes that add no members.
+/// What each name of the scope means as a typedef. The lineage is that of what the names stand under, and along `short` some
+/// classes are passed over.
 pub fn known_meanings(
     alloc: Global,
     scope: &Scope,
@@ -29,7 +29,7 @@ pub fn known_meanings(
     members: &MemberIndex<'_>,
     parents: &Parents,
     lineage: &Lineage,
-    short: &[Option<usize>],
+    short: &ShortLines,
     whole: &Extent,
 ) -> Result<Vec<Option<TypeMeaning>>, AllocError>
     requires members { members.now ≡ map (λ decl. decl.now) decls.now }
@@ -85,7 +85,7 @@ fn meaning_by<'a>(
     members: &'a MemberIndex<'a>,
     parents: &'a Parents,
     lineage: &'a Lineage,
-    short: &'a [Option<usize>],
+    short: &'a ShortLines,
     whole: &'a Extent,
     known: &'a [Option<TypeMeaning>],
     entry: usize,

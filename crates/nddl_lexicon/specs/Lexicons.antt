@@ -34,7 +34,8 @@ use Rattle.nddl_terms.specs.declared.lexicon.Shape.{Shape}
 use Rattle.nddl_terms.specs.declared.stands.Stand.{Stand}
 use Rattle.nddl_terms.specs.declared.stands.Stand.TheVariants as stands
 use Rattle.nddl_terms.specs.Preds.{class_named}
-use Rattle.nddl_lexicon.specs.Objects.{numbers_base, objects_of, standing_object, turn_stands}
+use Rattle.nddl_lexicon.specs.Listing.{populations}
+use Rattle.nddl_lexicon.specs.Objects.{standing_object}
 use Rattle.nddl_lexicon.specs.Shapes.{World, entry_attributes, kind_class, number_attribute, part_attribute, shape_with}
 
 -- ---- classes
@@ -44,17 +45,8 @@ abbrev pub class_attributes : World → Meaning → List Attribute
 class_attributes world (meanings.BuiltIn number) = map number_attribute (builtin_fields number)
 class_attributes world (meanings.Entry entry) = entry_attributes world entry
 
--- a class of these fields, of the number, with these objects
-abbrev pub shape_by : List Attribute → ℕ → List ℕ → ClassShape
-shape_by fields number objects = record {
-  fields = fields;
-  objects = turn_stands number objects;
-  base = numbers_base (map pos objects);
-}
-
 abbrev pub class_shape_of : World → Meaning → ClassShape
-class_shape_of world class =
-    shape_by (class_attributes world class) (class_number world.facts.names class) (objects_of world.facts class 0 world.objects)
+class_shape_of world class = record { fields = class_attributes world class }
 
 abbrev pub entry_shape : World → ℕ → ClassShape
 entry_shape world entry = class_shape_of world (meanings.Entry entry)
@@ -188,6 +180,7 @@ scope_types world entry (declared ∷ more) =
 abbrev pub lexicon_of : World → Lexicon
 lexicon_of world = record {
   classes = class_shapes world;
+  populations = populations world.facts world.objects;
   preds = pred_shapes world;
   scope = scope_stands world 0 0 0 world.facts.names;
   types = scope_types world 0 world.facts.names;

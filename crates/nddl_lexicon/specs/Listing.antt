@@ -1,60 +1,69 @@
 -- The objects of each class, listed once.
-use Rattle.std.specs.Prelude.{◌≡◌, ℕ, ◌+◌, ◌-◌, ◌==◌, Bool, false, List, [], ◌∷◌, ◌++◌, Option, Some, None}
-use Rattle.std.specs.Prelude.{length, nat_le, nat_lt, slice_get, slice_set, if◌then◌else◌}
-use Rattle.std.specs.List.{filter_map}
-use Rattle.std.specs.Option.{option_and_then, option_map_or}
+use Rattle.std.specs.Prelude.{◌≡◌, ℕ, ◌+◌, ◌-◌, ◌<◌, ◌==◌, ◌&&◌, ℤ, pos, Bool, false, List, [], ◌∷◌, ◌++◌, Option, Some, None, map}
+use Rattle.std.specs.Prelude.{nat_le, nat_lt, slice_get, true}
+use Rattle.std.specs.Option.{option_map_or}
+use Rattle.lineage.specs.Shortcuts.{EndsAt}
 use Rattle.nddl_scope.specs.declared.scope.Meaning.{Meaning}
 use Rattle.nddl_scope.specs.declared.scope.Meaning.TheVariants as meanings
-use Rattle.nddl_lines.specs.Ancestors.{above, ancestry}
+use Rattle.nddl_scope.specs.Scope.{is_class_at}
 use Rattle.nddl_lines.specs.Facts.{Facts}
+use Rattle.nddl_schema.specs.Classes.{class_entries}
 use Rattle.nddl_data.specs.declared.made.MadeObject.{MadeObject}
 use Rattle.nddl_lexicon.specs.Objects.{objects_of}
 
--- the place of the list of a class, if it has one: those of the built-in classes come first
-abbrev pub class_slot : Meaning → Option ℕ
-class_slot (meanings.BuiltIn number) = if nat_lt number 4 then Some number else None
-class_slot (meanings.Entry entry) = if nat_le entry 18446744073709551611 then Some (entry + 4) else None
+-- the objects of a class and of those under it, as values
+abbrev pub class_population : Facts → List MadeObject → Meaning → List ℤ
+class_population facts objects class = map pos (objects_of facts class 0 objects)
 
--- the list of a class, if it is there
-abbrev pub listed_objects : List (List ℕ) → Meaning → Option (List ℕ)
-listed_objects lists class = option_and_then (λ slot. slice_get lists slot) (class_slot class)
+abbrev pub entry_population : Facts → List MadeObject → ℕ → List ℤ
+entry_population facts objects entry = class_population facts objects (meanings.Entry entry)
 
--- each list has the numbers of the objects of its class and of those under it
-abbrev pub AreObjectLists : Facts → List MadeObject → List (List ℕ) → Type 0
-AreObjectLists facts objects lists =
-    (class : Meaning) (list : List ℕ) → listed_objects lists class ≡ Some list → list ≡ objects_of facts class 0 objects
+-- those of the built-in classes
+abbrev pub builtin_populations : Facts → List MadeObject → List (List ℤ)
+builtin_populations facts objects =
+    class_population facts objects (meanings.BuiltIn 0) ∷ class_population facts objects (meanings.BuiltIn 1)
+    ∷ class_population facts objects (meanings.BuiltIn 2) ∷ class_population facts objects (meanings.BuiltIn 3) ∷ []
 
--- ---- how they are filled
+-- those of the built-in classes, and of the classes whose names have these numbers
+abbrev pub populations_with : Facts → List MadeObject → List ℕ → List (List ℤ)
+populations_with facts objects entries = builtin_populations facts objects ++ map (entry_population facts objects) entries
 
--- the number stands at the end of the list
-abbrev pub is_last : ℕ → List ℕ → Bool
-is_last number list = option_map_or (λ last. last == number) (slice_get list (length list - 1)) false
+-- those of all classes, in the order of a table
+abbrev pub populations : Facts → List MadeObject → List (List ℤ)
+populations facts objects = populations_with facts objects (class_entries facts.names 0 facts.names)
 
--- the list with the number at its end
-abbrev pub with_last : ℕ → List ℕ → List ℕ
-with_last number list = if is_last number list then list else list ++ number ∷ []
+-- the class stands at this number, if the names of the declared ones have these numbers
+abbrev pub is_numbered : List ℕ → ℕ → Meaning → Bool
+is_numbered entries number (meanings.BuiltIn builtin) = nat_lt builtin 4 && builtin == number
+is_numbered entries number (meanings.Entry entry) =
+    nat_le 4 number && option_map_or (λ other. other == entry) (slice_get entries (number - 4)) false
 
--- the lists with the number in that of this place, if it is there
-abbrev pub with_listed_at : ℕ → List (List ℕ) → ℕ → List (List ℕ)
-with_listed_at number lists slot = slice_set lists slot (with_last number (option_map_or (λ list. list) (slice_get lists slot) []))
+-- ---- how they are found
 
--- the lists with the number in that of the class
-abbrev pub with_listed : ℕ → List (List ℕ) → Meaning → List (List ℕ)
-with_listed number lists class = option_map_or (with_listed_at number lists) (class_slot class) lists
+-- the places of lists that stand behind those of the built-in classes, and those of these before them
+abbrev pub behind_builtin : List ℕ → List ℕ
+behind_builtin places = 0 ∷ 1 ∷ 2 ∷ 3 ∷ map (λ place. 4 + place) places
 
--- and in those of all these classes
-abbrev pub with_all_listed : ℕ → List (List ℕ) → List Meaning → List (List ℕ)
-with_all_listed number lists [] = lists
-with_all_listed number lists (class ∷ more) = with_all_listed number (with_listed number lists class) more
+-- the number of the name of the class, if it is declared in the files
+abbrev pub owner_of : Meaning → Option ℕ
+owner_of (meanings.BuiltIn number) = None
+owner_of (meanings.Entry entry) = Some entry
 
--- the classes that what is made of a class is of
-abbrev pub classes_over : Facts → Meaning → List Meaning
-classes_over facts (meanings.BuiltIn number) = meanings.BuiltIn 0 ∷ meanings.BuiltIn number ∷ []
-classes_over facts (meanings.Entry entry) =
-    meanings.BuiltIn 0 ∷ meanings.Entry entry ∷ filter_map (above facts.names facts.program) (ancestry facts.parents entry)
+abbrev pub owners_of : List MadeObject → List (Option ℕ)
+owners_of objects = map (λ object. owner_of object.class) objects
 
--- the lists with these objects, of which the first has this number
-abbrev pub with_object_numbers : Facts → ℕ → List (List ℕ) → List MadeObject → List (List ℕ)
-with_object_numbers facts number lists [] = lists
-with_object_numbers facts number lists (object ∷ more) =
-    with_object_numbers facts (number + 1) (with_all_listed number lists (classes_over facts object.class)) more
+-- what the class leads up to is known to end
+abbrev pub HasKnownLine : Facts → Meaning → Type 0
+HasKnownLine facts (meanings.BuiltIn number) = Unit {0}
+HasKnownLine facts (meanings.Entry entry) =
+    (is_class_at facts.names entry ≡ true) × ((root : ℕ) × EndsAt facts.parents entry root)
+
+-- the same of the class of each object
+abbrev pub HaveKnownLines : Facts → List MadeObject → Type 0
+HaveKnownLines facts objects =
+    (number : ℕ) (object : MadeObject) → slice_get objects number ≡ Some object → HasKnownLine facts object.class
+
+-- the same of the first objects, so many
+abbrev pub HaveKnownLinesTo : Facts → ℕ → List MadeObject → Type 0
+HaveKnownLinesTo facts count objects =
+    (number : ℕ) (object : MadeObject) → number < count → slice_get objects number ≡ Some object → HasKnownLine facts object.class

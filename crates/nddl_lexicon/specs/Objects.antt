@@ -2,10 +2,7 @@
 use Rattle.std.specs.Prelude.{ℕ, ◌+◌, ℤ, pos, negsuc, List, [], ◌∷◌, ◌++◌, Option, Some, None, map}
 use Rattle.std.specs.Prelude.{slice_get, if◌then◌else◌}
 use Rattle.std.specs.List.{filter_map}
-use Rattle.domain_core.specs.Domain.{Set}
-use Rattle.model_core.specs.declared.item.Term.TheVariants as terms
 use Rattle.model_core.specs.declared.variable.Base.{Base}
-use Rattle.model_core.specs.declared.variable.Base.TheVariants as bases
 use Rattle.nddl_scope.specs.declared.scope.Meaning.{Meaning}
 use Rattle.nddl_sorts.specs.declared.kind.Extent.{Extent}
 use Rattle.nddl_sorts.specs.declared.kind.Extent.TheVariants as extents
@@ -15,20 +12,13 @@ use Rattle.nddl_data.specs.declared.made.Datum.TheVariants as datums
 use Rattle.nddl_data.specs.declared.made.MadeObject.{MadeObject}
 use Rattle.nddl_data.specs.declared.made.Standing.{Standing}
 use Rattle.nddl_data.specs.declared.made.Standing.TheVariants as standings
-use Rattle.nddl_terms.specs.declared.stands.Stand.{Stand}
-use Rattle.nddl_terms.specs.declared.stands.Stand.TheVariants.{Value}
-use Rattle.nddl_variables.specs.Ascending.{ascending_of}
+use Rattle.nddl_variables.specs.Domains.{numbers_base}
 
 -- the numbers of those objects that are of the class or of one under it, of which the first has this number
 abbrev pub objects_of : Facts → Meaning → ℕ → List MadeObject → List ℕ
 objects_of facts class number [] = []
 objects_of facts class number (object ∷ more) =
     (if is_of_class facts class object.class then number ∷ [] else []) ++ objects_of facts class (number + 1) more
-
--- a variable may be these, or nothing where there are none
-abbrev pub numbers_base : List ℤ → Base
-numbers_base [] = bases.Void
-numbers_base (number ∷ more) = bases.Given (Set (ascending_of (number ∷ more)))
 
 -- the object that a name of the files stands for
 abbrev pub standing_object : Option Standing → Option ℤ
@@ -44,7 +34,3 @@ entry_object standing (negsuc number) = None
 abbrev pub objects_base : Facts → List Standing → List MadeObject → Meaning → Extent → Base
 objects_base facts standing objects class (extents.Set members) = numbers_base (filter_map (entry_object standing) members)
 objects_base facts standing objects class extent = numbers_base (map pos (objects_of facts class 0 objects))
-
--- what the variable of a `foreach` over the class of this number stands for, in one turn after another, if these are its objects
-abbrev pub turn_stands : ℕ → List ℕ → List Stand
-turn_stands class objects = map (λ object. Value (terms.Lit (pos object)) class) objects

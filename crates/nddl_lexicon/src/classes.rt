@@ -2,14 +2,12 @@
 
 ghost use Rattle.std.specs.Prelude.{◌≡◌, ◌++◌, ◌∷◌, [], IfOk, OnOk, Some, map};
 ghost use Rattle.nddl_schema.specs.Classes.{given_fields};
-ghost use Rattle.nddl_lexicon.specs.Lexicons.{builtin_shapes, class_attributes, class_shape_of, class_shapes, entry_shape, shape_by};
+ghost use Rattle.nddl_lexicon.specs.Lexicons.{builtin_shapes, class_attributes, class_shape_of, class_shapes, entry_shape};
 ghost use Rattle.nddl_lexicon.specs.Shapes.{number_attribute, world_of};
 
 use super::attributes::{entry_attributes, push_given_attributes};
-use super::objects::{class_objects, numbers_base, turns_of};
 use super::premises::Premises;
 use eu_name::sequence::Sequence;
-use nddl_schema::numbers::class_number;
 use nddl_scope::Meaning;
 use nddl_terms::attributes::Attributes;
 use nddl_terms::lexicon::{Attribute, ClassShape};
@@ -38,24 +36,6 @@ fn builtin_attributes(alloc: Global, class: Meaning) -> Result<Sequence<Attribut
     Ok(fields)
 }
 
-// What is known of the class, of which these are the objects.
-fn shape_of(
-    alloc: Global,
-    fields: Attributes,
-    number: u32,
-    objects: &[usize],
-) -> Result<ClassShape, AllocError>
-    ensures { IfOk result (λ shape. shape ≡ shape_by fields number objects.now) }
-{
-    let turns = turns_of(alloc, objects, number)?;
-    let base = numbers_base(alloc, objects)?;
-    Ok(ClassShape {
-        fields,
-        objects: turns,
-        base,
-    })
-}
-
 // What is known of the class.
 fn class_shape(
     alloc: Global,
@@ -64,11 +44,10 @@ fn class_shape(
 ) -> Result<ClassShape, AllocError>
     ensures { IfOk result (λ shape. shape ≡ class_shape_of (world_of premises.now) class) }
 {
-    let basis = &premises.sources.basis;
-    let number = class_number(basis.types.scope, premises.sources.numbers, class);
-    let objects = class_objects(alloc, premises, class)?;
-    let fields = Attributes::of(alloc, fields_of(alloc, premises, class)?)?;
-    shape_of(alloc, fields, number, objects.as_slice())
+    let fields = fields_of(alloc, premises, class)?;
+    Ok(ClassShape {
+        fields: Attributes::of(alloc, fields)?,
+    })
 }
 
 // Puts what is known of the class behind the others.

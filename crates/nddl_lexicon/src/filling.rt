@@ -10,16 +10,17 @@ use super::predicates::pred_shapes;
 use super::premises::Premises;
 use super::types::scope_types;
 use eu_name::sequence::Sequence;
-use nddl_terms::PredShapes;
 use nddl_terms::lexicon::Lexicon;
+use nddl_terms::{Populations, PredShapes};
 use std::alloc::{AllocError, Global};
 
 // A lexicon of nothing.
 fn nothing(alloc: Global) -> Lexicon
-    ensures { result ≡ record { classes = []; preds = []; scope = []; types = [] } }
+    ensures { result ≡ record { classes = []; populations = []; preds = []; scope = []; types = [] } }
 {
     Lexicon {
         classes: Sequence::new(alloc),
+        populations: Populations::new(Vec::new(alloc), Vec::new(alloc)),
         preds: PredShapes::new(alloc),
         scope: Sequence::new(alloc),
         types: Sequence::new(alloc),
@@ -41,6 +42,7 @@ fn fill(alloc: Global, premises: &Premises<'_>, lexicon: &mut Lexicon) -> Result
     lexicon.preds = indexed_preds(alloc, premises)?;
     lexicon.scope = scope_stands(alloc, premises, &*lexicon)?;
     lexicon.classes = class_shapes(alloc, premises)?;
+    lexicon.populations = premises.by_class.copy(alloc)?;
     lexicon.types = scope_types(alloc, premises)?;
     Ok(())
 }

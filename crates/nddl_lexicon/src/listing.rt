@@ -1,170 +1,262 @@
 //! The objects of each class, listed once.
 
-ghost use Rattle.std.specs.Prelude.{◌≡◌, ◌∷◌, [], All, IfOk, OnOk, map};
-ghost use Rattle.std.specs.List.{filter_map};
-ghost use Rattle.std.specs.Option.{option_copied};
-ghost use Rattle.nddl_lines.specs.Ancestors.{above};
+ghost use Rattle.std.specs.Prelude.{◌≡◌, ◌+◌, ◌==◌, ◌++◌, ◌∷◌, [], false, IfOk, IfSome, IsTrue, OnOk, map, slice_get};
+ghost use Rattle.std.specs.List.{range_with_len};
+ghost use Rattle.std.specs.Option.{option_map_or};
+ghost use Rattle.lineage_members.specs.Members.{AreMembers, list_at};
 ghost use Rattle.nddl_lines.specs.Facts.{facts_of};
-ghost use Rattle.nddl_lexicon.specs.Listing.{AreObjectLists, class_slot, classes_over, is_last, listed_objects, with_last, with_listed, with_all_listed, with_object_numbers, with_listed_at};
+ghost use Rattle.nddl_schema.specs.Classes.{class_entries};
+ghost use Rattle.nddl_lexicon.specs.Listing.{HasKnownLine, HaveKnownLines, behind_builtin, builtin_populations, class_population, entry_population, is_numbered, owner_of, owners_of, populations, populations_with};
 
+use super::objects::class_population;
 use eu_name::sequence::Sequence;
+use lineage_members::members::Listed;
+use lineage_members::{Members, gather};
 use nddl_data::MadeObject;
 use nddl_lines::Basis;
-use nddl_lines::lines::{above, ancestry};
 use nddl_scope::Meaning;
+use nddl_terms::Populations;
 use std::alloc::{AllocError, Global};
 
-// The place of the list of a class, if it has one.
-fn class_slot(class: Meaning) -> Option<usize>
-    ensures { result ≡ class_slot class }
+/// Whether the class stands at this number, where the names of the declared ones have these numbers.
+pub fn is_numbered(entries: &[usize], number: usize, class: Meaning) -> bool
+    ensures { result ≡ is_numbered entries.now number class }
 {
     match class {
-        Meaning::BuiltIn(number) => {
-            if number < 4 {
-                Some(number as usize)
-            } else {
-                None
-            }
-        }
-        Meaning::Entry(entry) => {
-            if entry <= 18_446_744_073_709_551_611 {
-                Some(entry + 4)
-            } else {
-                None
-            }
-        }
+        Meaning::BuiltIn(builtin) => builtin < 4 && builtin as usize == number,
+        Meaning::Entry(entry) => 4 <= number && stands_at(entries, number - 4, entry),
     }
 }
 
-/// The list of a class, if it is there.
-pub fn listed_objects(lists: &[Sequence<usize>], class: Meaning) -> Option<&Sequence<usize>>
-    ensures { option_copied result ≡ listed_objects lists.now class }
+// Whether the number stands at the place.
+fn stands_at(entries: &[usize], place: usize, entry: usize) -> bool
+    ensures { result ≡ option_map_or (λ other. other == entry) (slice_get entries.now place) false }
 {
-    match class_slot(class) {
-        Some(slot) => lists.get(slot),
-        None => None,
-    }
-}
-
-fn is_last(number: usize, list: &[usize]) -> bool
-    ensures { result ≡ is_last number list.now }
-{
-    match list.last() {
-        Some(last) => *last == number,
+    match entries.get(place) {
+        Some(other) => *other == entry,
         None => false,
     }
 }
 
-// Puts the number at the end of the list, unless it stands there.
-fn put_once(number: usize, list: &mut Sequence<usize>) -> Result<(), AllocError>
-    ensures { OnOk result (list.new ≡ with_last number list.old) }
+// The number of the name of the class, if it is declared in the files.
+fn owner_of(class: Meaning) -> Option<usize>
+    ensures { result ≡ owner_of class }
 {
-    if is_last(number, list.as_slice()) {
-        return Ok(());
-    }
-    list.push(number)
-}
-
-// Puts the number in the list of this place, if it is there.
-#[tactic(auto, using(crate::proofs::ByClass::put_here, crate::proofs::ByClass::put_past))]
-fn put_in(slot: usize, number: usize, lists: &mut Vec<Sequence<usize>>) -> Result<(), AllocError>
-    ensures { OnOk result (lists.new.items ≡ with_listed_at number lists.old.items slot) }
-{
-    if slot < lists.len() {
-        put_once(number, &mut lists[slot])?;
-    }
-    Ok(())
-}
-
-// Puts the number in the list of the class.
-fn note_class(
-    number: usize,
-    class: Meaning,
-    lists: &mut Vec<Sequence<usize>>,
-) -> Result<(), AllocError>
-    ensures { OnOk result (lists.new.items ≡ with_listed number lists.old.items class) }
-{
-    match class_slot(class) {
-        Some(slot) => put_in(slot, number, lists),
-        None => Ok(()),
-    }
-}
-
-// Puts the number in the lists of the classes that those of a line extend.
-fn note_along(
-    basis: &Basis<'_>,
-    number: usize,
-    line: &[usize],
-    lists: &mut Vec<Sequence<usize>>,
-) -> Result<(), AllocError>
-    ensures { OnOk result (lists.new.items ≡ with_all_listed number lists.old.items
-        (filter_map (above (facts_of basis.now).names (facts_of basis.now).program) line.now)) }
-{
-    for entry in line {
-        if let Some(class) = above(basis.types.scope, basis.decls, *entry) {
-            note_class(number, class, lists)?;
-        }
-    }
-    Ok(())
-}
-
-// Puts the object of this number and class in the lists of all classes that it is of.
-fn note_object(
-    alloc: Global,
-    basis: &Basis<'_>,
-    number: usize,
-    class: Meaning,
-    lists: &mut Vec<Sequence<usize>>,
-) -> Result<(), AllocError>
-    ensures { OnOk result (lists.new.items ≡ with_all_listed number lists.old.items (classes_over (facts_of basis.now) class)) }
-{
-    note_class(number, Meaning::BuiltIn(0), lists)?;
-    note_class(number, class, lists)?;
     match class {
-        Meaning::BuiltIn(_) => Ok(()),
+        Meaning::BuiltIn(_) => None,
+        Meaning::Entry(entry) => Some(entry),
+    }
+}
+
+// The same of the class of each object.
+fn owners_of(alloc: Global, objects: &[MadeObject]) -> Result<Vec<Option<usize>>, AllocError>
+    ensures { IfOk result (λ owners. owners.items ≡ owners_of objects.now) }
+{
+    let mut owners = Vec::new(alloc);
+    for object in objects {
+        owners.push(owner_of(object.class))?;
+    }
+    Ok(owners)
+}
+
+// Whether what the class leads up to is known to end.
+fn has_known_line(basis: &Basis<'_>, class: Meaning) -> bool
+    ensures { IsTrue result → HasKnownLine (facts_of basis.now) class }
+{
+    match class {
+        Meaning::BuiltIn(_) => true,
         Meaning::Entry(entry) => {
-            let line = ancestry(alloc, basis.parents, entry)?;
-            note_along(basis, number, line.as_slice(), lists)
+            basis.types.scope.is_class(entry) && basis.parents.root(entry).is_some()
         }
     }
 }
 
-// Puts the objects in the lists.
-fn note_objects(
+// Whether it is so of the class of each object.
+fn have_known_lines(basis: &Basis<'_>, objects: &[MadeObject]) -> bool
+    ensures { IsTrue result → HaveKnownLines (facts_of basis.now) objects.now }
+{
+    for object in objects {
+        if !has_known_line(basis, object.class) {
+            return false;
+        }
+    }
+    true
+}
+
+// The objects of all names, if they could be found in one pass.
+fn gathered(
     alloc: Global,
     basis: &Basis<'_>,
     objects: &[MadeObject],
-    lists: &mut Vec<Sequence<usize>>,
-) -> Result<(), AllocError>
-    ensures { OnOk result (lists.new.items ≡ with_object_numbers (facts_of basis.now) 0 lists.old.items objects.now) }
+) -> Result<Option<Members>, AllocError>
+    ensures { IfOk result (λ found. IfSome found
+        (AreMembers (facts_of basis.now).parents (owners_of objects.now))) }
 {
-    for (number, object) in objects.iter().enumerate() {
-        note_object(alloc, basis, number, object.class, lists)?;
+    let owners = owners_of(alloc, objects)?;
+    gather(
+        alloc,
+        basis.parents.as_slice(),
+        basis.lineage.order(),
+        owners.as_slice(),
+    )
+}
+
+// Puts what the class has at the end.
+fn push_population(
+    alloc: Global,
+    basis: &Basis<'_>,
+    objects: &[MadeObject],
+    class: Meaning,
+    lists: &mut Vec<Sequence<i32>>,
+) -> Result<(), AllocError>
+    ensures { OnOk result (lists.new.items
+        ≡ lists.old.items ++ class_population (facts_of basis.now) objects.now class ∷ []) }
+{
+    let list = class_population(alloc, basis, class, objects)?;
+    lists.push(list)?;
+    Ok(())
+}
+
+// What the built-in classes have.
+fn builtin_lists(
+    alloc: Global,
+    basis: &Basis<'_>,
+    objects: &[MadeObject],
+) -> Result<Vec<Sequence<i32>>, AllocError>
+    ensures { IfOk result (λ lists. lists.items ≡ builtin_populations (facts_of basis.now) objects.now) }
+{
+    let mut lists = Vec::new(alloc);
+    push_population(alloc, basis, objects, Meaning::BuiltIn(0), &mut lists)?;
+    push_population(alloc, basis, objects, Meaning::BuiltIn(1), &mut lists)?;
+    push_population(alloc, basis, objects, Meaning::BuiltIn(2), &mut lists)?;
+    push_population(alloc, basis, objects, Meaning::BuiltIn(3), &mut lists)?;
+    Ok(lists)
+}
+
+// Puts what the classes have whose names have these numbers behind the lists, one after another.
+fn push_each(
+    alloc: Global,
+    basis: &Basis<'_>,
+    entries: &[usize],
+    objects: &[MadeObject],
+    lists: &mut Vec<Sequence<i32>>,
+) -> Result<(), AllocError>
+    ensures { OnOk result (lists.new.items
+        ≡ lists.old.items ++ map (entry_population (facts_of basis.now) objects.now) entries.now) }
+{
+    for entry in entries {
+        push_population(alloc, basis, objects, Meaning::Entry(*entry), lists)?;
     }
     Ok(())
 }
 
-// So many lists, with nothing in them.
-fn no_lists(alloc: Global, count: usize) -> Result<Vec<Sequence<usize>>, AllocError>
-    ensures { IfOk result (λ lists. All (λ list. list ≡ []) lists.items) }
+// Puts the lists behind the others.
+fn append(more: Vec<Sequence<i32>>, lists: &mut Vec<Sequence<i32>>) -> Result<(), AllocError>
+    ensures { OnOk result (lists.new.items ≡ lists.old.items ++ more.items) }
 {
-    let mut lists = Vec::new(alloc);
-    for _ in 0..count {
-        lists.push(Sequence::new(alloc))?;
+    for list in more {
+        lists.push(list)?;
     }
-    Ok(lists)
+    Ok(())
 }
 
-/// The numbers of the objects of each class and of those under it.
-#[tactic(auto, using(crate::proofs::ByClass::all_listed))]
+// The first so many numbers.
+fn first_numbers(alloc: Global, count: usize) -> Result<Vec<usize>, AllocError>
+    ensures { IfOk result (λ numbers. numbers.items ≡ range_with_len 0 count) }
+{
+    let mut numbers = Vec::new(alloc);
+    for number in 0..count {
+        numbers.push(number)?;
+    }
+    Ok(numbers)
+}
+
+// What all these classes have, with a list for each.
+fn listed_each(
+    alloc: Global,
+    basis: &Basis<'_>,
+    entries: &[usize],
+    objects: &[MadeObject],
+) -> Result<Populations, AllocError>
+    ensures { IfOk result (λ found. found ≡ populations_with (facts_of basis.now) objects.now entries.now) }
+{
+    let mut lists = builtin_lists(alloc, basis, objects)?;
+    push_each(alloc, basis, entries, objects, &mut lists)?;
+    let places = first_numbers(alloc, lists.len())?;
+    Ok(Populations::new(lists, places))
+}
+
+// The places of the lists, behind those of the built-in classes.
+fn places_behind(alloc: Global, places: &[usize]) -> Result<Vec<usize>, AllocError>
+    ensures { IfOk result (λ all. all.items ≡ behind_builtin places.now) }
+{
+    let mut all = first_numbers(alloc, 4)?;
+    for place in places {
+        all.push(place_behind(*place)?)?;
+    }
+    Ok(all)
+}
+
+// The place behind four others, of which there is no memory for 2^64.
+fn place_behind(place: usize) -> Result<usize, AllocError>
+    ensures { IfOk result (λ behind. behind ≡ 4 + place) }
+{
+    if place > 18_446_744_073_709_551_611 {
+        return Err(AllocError);
+    }
+    Ok(4 + place)
+}
+
+// What all these classes have, where classes with the same objects share one list.
+fn listed_shared(
+    alloc: Global,
+    basis: &Basis<'_>,
+    objects: &[MadeObject],
+    listed: Listed,
+) -> Result<Populations, AllocError>
+    ensures { IfOk result (λ found. found ≡ builtin_populations (facts_of basis.now) objects.now
+        ++ map (list_at listed.lists.items) listed.places.items) }
+{
+    let places = places_behind(alloc, listed.places.as_slice())?;
+    let mut lists = builtin_lists(alloc, basis, objects)?;
+    append(listed.lists, &mut lists)?;
+    Ok(Populations::new(lists, places))
+}
+
+// The same, by which objects each name has.
+fn listed_by(
+    alloc: Global,
+    basis: &Basis<'_>,
+    entries: &[usize],
+    objects: &[MadeObject],
+    members: &Members,
+) -> Result<Populations, AllocError>
+    requires entries { entries.now ≡ class_entries basis.now.types.scope.now 0 basis.now.types.scope.now }
+    requires lines { HaveKnownLines (facts_of basis.now) objects.now }
+    requires members { AreMembers (facts_of basis.now).parents (owners_of objects.now) members.now }
+    ensures { IfOk result (λ found. found ≡ populations (facts_of basis.now) objects.now) }
+{
+    let listed = members.listed(alloc, entries)?;
+    listed_shared(alloc, basis, objects, listed)
+}
+
+/// The objects of each class and of those under it, by the number of the class. Where the lines of the objects' classes are
+/// known to end, as they are in a program without circles, it takes one pass over all names, and classes with the same
+/// objects share one list.
 pub fn objects_by_class(
     alloc: Global,
     basis: &Basis<'_>,
+    entries: &[usize],
     objects: &[MadeObject],
-) -> Result<Vec<Sequence<usize>>, AllocError>
-    ensures { IfOk result (λ lists. AreObjectLists (facts_of basis.now) objects.now lists.items) }
+) -> Result<Populations, AllocError>
+    requires { entries.now ≡ class_entries basis.now.types.scope.now 0 basis.now.types.scope.now }
+    ensures { IfOk result (λ found. found ≡ populations (facts_of basis.now) objects.now) }
 {
-    let mut lists = no_lists(alloc, basis.types.scope.names().len().saturating_add(4))?;
-    note_objects(alloc, basis, objects, &mut lists)?;
-    Ok(lists)
+    if !have_known_lines(basis, objects) {
+        return listed_each(alloc, basis, entries, objects);
+    }
+    match gathered(alloc, basis, objects)? {
+        Some(members) => listed_by(alloc, basis, entries, objects, &members),
+        None => listed_each(alloc, basis, entries, objects),
+    }
 }

@@ -14,7 +14,8 @@ use Rattle.nddl_scope.specs.declared.declared.Declared.{Declared}
 use Rattle.nddl_scope.specs.declared.scope.Meaning.{Meaning}
 use Rattle.nddl_lines.specs.Ancestors.{above}
 use Rattle.nddl_lines.specs.Decls.{members_of}
-use Rattle.nddl_lines.specs.Shorter.{AddTheSame, adding_along, adds_members, has_named, is_builtin_class}
+use Rattle.nddl_lines.specs.Shorter.{AddTheSame, adds_members, has_named, is_builtin_class}
+use Rattle.nddl_lines.proofs.Keeping.{found_kept}
 
 -- what adds no members to a line has constructors at the most, and extends no built-in class
 pub record AddsNone (members : List Member) (extended : Option Meaning) : Type 0 where
@@ -44,20 +45,11 @@ module _ {X : Type 0} (f : Member → Option X)
 
 -- ---- what is found along a line, class by class, where those change nothing that add no members
 
-module _ {X : Type 0} (names : List Declared) (program : List Decl) (found : List ℕ → X) (step : ℕ → X → X)
-    (on : (entry : ℕ) (line : List ℕ) → found (entry ∷ line) ≡ step entry (found line))
-    (idle : (entry : ℕ) → adds_members names program entry ≡ false → (rest : X) → step entry rest ≡ rest) where
-  found_adding : (line : List ℕ) → found line ≡ found (adding_along names program line)
-  found_adding [] = refl
-  found_adding (entry ∷ line) = on entry line ∙ by (adds_members names program entry) refl (found_adding line)
-    where
-      by : (adds : Bool) → adds_members names program entry ≡ adds → found line ≡ found (adding_along names program line)
-          → step entry (found line) ≡ found (cond adds (entry ∷ adding_along names program line) (adding_along names program line))
-      by true is rest = ap (step entry) rest ∙ sym (on entry (adding_along names program line))
-      by false is rest = idle entry is (found line) ∙ rest
-
-  pub found_same : (one other : List ℕ) → AddTheSame names program one other → found one ≡ found other
-  found_same one other same = found_adding one ∙ (ap found same ∙ sym (found_adding other))
+pub found_same : {X : Type 0} (names : List Declared) (program : List Decl) (found : List ℕ → X) (step : ℕ → X → X)
+    → ((entry : ℕ) (line : List ℕ) → found (entry ∷ line) ≡ step entry (found line))
+    → ((entry : ℕ) → adds_members names program entry ≡ false → (rest : X) → step entry rest ≡ rest)
+    → (one other : List ℕ) → AddTheSame names program one other → found one ≡ found other
+found_same names program found step on idle = found_kept (adds_members names program) found step on idle
 
 -- whether one of the classes passes
 pub any_same : (names : List Declared) (program : List Decl) (test : ℕ → Bool)
@@ -67,20 +59,13 @@ any_same names program test none =
     found_same names program (list_any test) (λ entry rest. test entry || rest) (λ entry line. refl)
     (λ entry is rest. ap (λ first. first || rest) (none entry is))
 
--- ---- the same of what each class of a line gives, where those give nothing that add no members
-
-module _ {X : Type 0} (names : List Declared) (program : List Decl) (f : ℕ → List X) (empty : (entry : ℕ) → adds_members names program entry ≡ false → f entry ≡ []) where
-  flat_adding : (line : List ℕ) → flat_map f line ≡ flat_map f (adding_along names program line)
-  flat_adding [] = refl
-  flat_adding (entry ∷ line) = by (adds_members names program entry) refl (flat_adding line)
-    where
-      by : (adds : Bool) → adds_members names program entry ≡ adds → flat_map f line ≡ flat_map f (adding_along names program line)
-          → f entry ++ flat_map f line ≡ flat_map f (cond adds (entry ∷ adding_along names program line) (adding_along names program line))
-      by true is rest = ap (λ more. f entry ++ more) rest
-      by false is rest = ap (λ first. first ++ flat_map f line) (empty entry is) ∙ rest
-
-  pub flat_same : (one other : List ℕ) → AddTheSame names program one other → flat_map f one ≡ flat_map f other
-  flat_same one other same = flat_adding one ∙ (ap (flat_map f) same ∙ sym (flat_adding other))
+-- what each class of a line gives, where those give nothing that add no members
+pub flat_same : {X : Type 0} (names : List Declared) (program : List Decl) (f : ℕ → List X)
+    → ((entry : ℕ) → adds_members names program entry ≡ false → f entry ≡ [])
+    → (one other : List ℕ) → AddTheSame names program one other → flat_map f one ≡ flat_map f other
+flat_same names program f empty =
+    found_same names program (flat_map f) (λ entry rest. f entry ++ rest) (λ entry line. refl)
+    (λ entry is rest. ap (λ first. first ++ rest) (empty entry is))
 
 -- ---- lines that are turned round
 

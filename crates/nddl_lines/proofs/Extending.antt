@@ -17,8 +17,8 @@ use Rattle.nddl_scope.specs.Scope.{is_class_at, meaning_of}
 use Rattle.nddl_lines.specs.Ancestors.{above, is_under, means}
 use Rattle.nddl_lines.specs.Decls.{class_parent, declaration_with_body}
 use Rattle.nddl_lines.specs.Lines.{class_under, parents_of, sort_under, under_meaning}
-use Rattle.nddl_lines.specs.Shortcuts.{EndsAt, TellsLine, is_on_line}
-use Rattle.nddl_lines.proofs.Ways.{ancestry_is}
+use Rattle.lineage.specs.Shortcuts.{EndsAt, TellsLine, is_on_line}
+use Rattle.lineage.proofs.Ways.{ancestry_is}
 
 -- what a class stands under is what it extends
 abbrev Stands : List Declared → Option Meaning → Option ℕ → Type 0
@@ -128,7 +128,7 @@ module _ (names : List Declared) (program : List Decl) where
       ]
 
   -- a class that leads up to the end extends what it stands under, which is a class
-  on_the_way : (entry parent : ℕ) (path : List ℕ) (root : ℕ) → is_class_at names entry ≡ true → LeadsUp (parents_of names program) entry (parent ∷ path) root
+  pub on_the_way : (entry parent : ℕ) (path : List ℕ) (root : ℕ) → is_class_at names entry ≡ true → LeadsUp (parents_of names program) entry (parent ∷ path) root
       → slice_get (parents_of names program) root ≡ Some None → (above names program entry ≡ Some (meanings.Entry parent)) × (is_class_at names parent ≡ true)
   on_the_way entry parent path root class leads ends =
       let found = class_stands entry class in

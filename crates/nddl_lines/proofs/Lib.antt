@@ -2,8 +2,6 @@ pub mod Above
 pub mod Adding
 pub mod Climbing
 pub mod Extending
-pub mod Fewer
-pub mod Jumping
+pub mod Keeping
 pub mod Passing
 pub mod Placing
-pub mod Ways

@@ -1,6 +1,7 @@
 -- What stands next on the lines, one thing after another along a lineage.
 use Rattle.std.proofs.Common.{◌≡◌, ℕ, zero, suc, ◌+◌, ◌<◌, ◌≤◌, Bool, true, false, cond, List, [], ◌∷◌, length, length-set, map, ◌⊎◌, inl, inr, refl, sym, ◌∙◌, ap, subst, arith}
 use Rattle.std.specs.Prelude.{◌||◌, Option, Some, None, slice_get, slice_set, if◌then◌else◌}
+use Rattle.std.specs.List.{filter}
 use Rattle.std.specs.Option.{option_and_then, option_map_or}
 use Rattle.std.proofs.lemmas.Bool.{cases_lt}
 use Rattle.std.proofs.lemmas.Option.{same_Some, slice_get_within}
@@ -16,8 +17,8 @@ use Rattle.nddl_scope.specs.Scope.{meaning_of}
 use Rattle.nddl_lines.specs.Ancestors.{line_from, parent_in}
 use Rattle.nddl_lines.specs.Decls.{class_parent, decl_members, declaration_with_body}
 use Rattle.nddl_lines.specs.Lines.{is_rooted}
-use Rattle.nddl_lines.specs.Shorter.{AreShorter, adding_along, adds_body, adds_declared, adds_members, has_named, is_builtin_class, is_marked, passed_over}
-use Rattle.nddl_lines.proofs.Ways.{ancestry_is, line_of_none, no_parent_is, parent_is, short_way}
+use Rattle.nddl_lines.specs.Shorter.{AreShorterFor, adds_body, adds_declared, adds_members, builds, builds_body, builds_declared, has_constructor, has_named, is_builtin_class, is_marked, passed_over}
+use Rattle.lineage.proofs.Ways.{ancestry_is, line_of_none, no_parent_is, parent_is, short_way}
 
 -- ---- marks
 
@@ -43,28 +44,56 @@ adds_at names program entry = by (slice_get names entry)
     by None = refl
     by (Some declared) = of_body (declaration_with_body names program declared)
 
--- marked as they are, those are passed over that add nothing
-pub marked_over : (names : List Declared) (program : List Decl) (marks : List Bool) (short : List (Option ℕ)) (next : Option ℕ)
-    → marks ≡ map (adds_declared names program) names
-    → passed_over (is_marked marks) short next ≡ passed_over (adds_members names program) short next
-marked_over names program marks short None are = refl
-marked_over names program marks short (Some number) are =
-    ap (λ b. if b then Some number else parent_in short number)
-    (ap (λ some. is_marked some number) are ∙ (marked_map (adds_declared names program) names number ∙ adds_at names program number))
+builds_at : (names : List Declared) (program : List Decl) (entry : ℕ)
+    → option_map_or (builds_declared names program) (slice_get names entry) false ≡ builds names program entry
+unfolding builds
+builds_at names program entry = by (slice_get names entry)
+  where
+    of_body : (body : Option Decl) → option_map_or builds_body body false ≡ has_constructor (option_map_or decl_members body [])
+    of_body None = refl
+    of_body (Some body) = refl
+
+    by : (slot : Option Declared) → option_map_or (builds_declared names program) slot false
+        ≡ has_constructor (option_map_or decl_members (option_and_then (declaration_with_body names program) slot) [])
+    by None = refl
+    by (Some declared) = of_body (declaration_with_body names program declared)
+
+-- lines are shorter by any test that says the same
+shorter_by : (test other : ℕ → Bool) (parents : List (Option ℕ)) (marked : List Mark) (short : List (Option ℕ))
+    → ((entry : ℕ) → test entry ≡ other entry) → AreShorterFor test parents marked short → AreShorterFor other parents marked short
+shorter_by test other parents marked short same shorter =
+    let tests : test ≡ other = λ i entry. same entry i in
+    let P : (ℕ → Bool) → Type 0 = λ some. AreShorterFor some parents marked short in
+    subst P tests shorter
+
+-- each class is marked as it is declared
+pub adding_shorter : (names : List Declared) (program : List Decl) (marks : List Bool) (parents : List (Option ℕ)) (marked : List Mark)
+    (short : List (Option ℕ)) → marks ≡ map (adds_declared names program) names
+    → AreShorterFor (is_marked marks) parents marked short → AreShorterFor (adds_members names program) parents marked short
+adding_shorter names program marks parents marked short are =
+    shorter_by (is_marked marks) (adds_members names program) parents marked short
+    (λ entry. ap (λ some. is_marked some entry) are ∙ (marked_map (adds_declared names program) names entry ∙ adds_at names program entry))
+
+pub building_shorter : (names : List Declared) (program : List Decl) (marks : List Bool) (parents : List (Option ℕ)) (marked : List Mark)
+    (short : List (Option ℕ)) → marks ≡ map (builds_declared names program) names
+    → AreShorterFor (is_marked marks) parents marked short → AreShorterFor (builds names program) parents marked short
+building_shorter names program marks parents marked short are =
+    shorter_by (is_marked marks) (builds names program) parents marked short
+    (λ entry. ap (λ some. is_marked some entry) are ∙ (marked_map (builds_declared names program) names entry ∙ builds_at names program entry))
 
 -- ---- one thing after another
 
 -- those that come first in the order, so many, have what stands next on their lines
-pub record ArePassed (names : List Declared) (program : List Decl) (parents : List (Option ℕ)) (order : List ℕ) (count : ℕ) (short : List (Option ℕ)) : Type 0 where
+pub record ArePassed (test : ℕ → Bool) (parents : List (Option ℕ)) (order : List ℕ) (count : ℕ) (short : List (Option ℕ)) : Type 0 where
   pub long : length short ≡ length parents
   pub passed : (place entry : ℕ) → place < count → slice_get order place ≡ Some entry
-      → parent_in short entry ≡ passed_over (adds_members names program) short (parent_in parents entry)
+      → parent_in short entry ≡ passed_over test short (parent_in parents entry)
 
-pub none_passed : (names : List Declared) (program : List Decl) (parents : List (Option ℕ)) (order : List ℕ) (short : List (Option ℕ)) → short ≡ parents
-    → ArePassed names program parents order 0 short
-none_passed names program parents order short same = record { long = ap length same; passed = λ place entry less is. absurd (omega arith) }
+pub none_passed : (test : ℕ → Bool) (parents : List (Option ℕ)) (order : List ℕ) (short : List (Option ℕ)) → short ≡ parents
+    → ArePassed test parents order 0 short
+none_passed test parents order short same = record { long = ap length same; passed = λ place entry less is. absurd (omega arith) }
 
-module _ (names : List Declared) (program : List Decl) (parents : List (Option ℕ)) (order : List ℕ) (ordered : ParentsComeFirst parents order) where
+module _ (test : ℕ → Bool) (parents : List (Option ℕ)) (order : List ℕ) (ordered : ParentsComeFirst parents order) where
   -- what a thing of the order stands under comes before it
   comes_before : (place entry parent : ℕ) → slice_get order place ≡ Some entry → parent_in parents entry ≡ Some parent
       → (earlier : ℕ) × (earlier < place) × (slice_get order earlier ≡ Some parent)
@@ -76,14 +105,14 @@ module _ (names : List Declared) (program : List Decl) (parents : List (Option �
 
   -- where those that come before are as they were, what is passed over is so too
   passed_same : (short other : List (Option ℕ)) (next : Option ℕ) → ((parent : ℕ) → next ≡ Some parent → parent_in other parent ≡ parent_in short parent)
-      → passed_over (adds_members names program) other next ≡ passed_over (adds_members names program) short next
+      → passed_over test other next ≡ passed_over test short next
   passed_same short other None same = refl
-  passed_same short other (Some parent) same = ap (λ rest. if adds_members names program parent then Some parent else rest) (same parent refl)
+  passed_same short other (Some parent) same = ap (λ rest. if test parent then Some parent else rest) (same parent refl)
 
   module _ (count entry : ℕ) (short : List (Option ℕ)) (here : slice_get order count ≡ Some entry) (inside : entry < length parents)
-      (so_far : ArePassed names program parents order count short) where
+      (so_far : ArePassed test parents order count short) where
     abbrev next : Option ℕ
-    next = passed_over (adds_members names program) short (parent_in parents entry)
+    next = passed_over test short (parent_in parents entry)
 
     abbrev more : List (Option ℕ)
     more = slice_set short entry next
@@ -98,50 +127,50 @@ module _ (names : List Declared) (program : List Decl) (parents : List (Option �
         by : (other ≡ entry) ⊎ (other ≡ entry → ⊥) → parent_in more other ≡ parent_in short other
         by (inl same) =
             let was = so_far.passed place other less is in
-            ap (parent_in more) same ∙ (written ∙ (ap (λ n. passed_over (adds_members names program) short (parent_in parents n)) (sym same) ∙ sym was))
+            ap (parent_in more) same ∙ (written ∙ (ap (λ n. passed_over test short (parent_in parents n)) (sym same) ∙ sym was))
         by (inr differs) = ap (option_and_then (λ (p : Option ℕ). p)) (get-set_other short entry other next differs)
 
     passed_here : (place other : ℕ) → place ≤ count → slice_get order place ≡ Some other
-        → passed_over (adds_members names program) more (parent_in parents other) ≡ passed_over (adds_members names program) short (parent_in parents other)
+        → passed_over test more (parent_in parents other) ≡ passed_over test short (parent_in parents other)
     passed_here place other most is =
         passed_same short more (parent_in parents other) (λ parent under.
         let before = comes_before place other parent is under in kept before.0 parent (let less : before.0 < place = before.1 in omega arith) before.2)
 
-    pub passes_on : ArePassed names program parents order (count + 1) more
+    pub passes_on : ArePassed test parents order (count + 1) more
     passes_on = record {
       long = length-set short entry next ∙ so_far.long;
       passed = λ place other less is. by place other is (cases_lt place count) less;
     }
       where
         by : (place other : ℕ) → slice_get order place ≡ Some other → (place < count) ⊎ (count ≤ place) → place < count + 1
-            → parent_in more other ≡ passed_over (adds_members names program) more (parent_in parents other)
+            → parent_in more other ≡ passed_over test more (parent_in parents other)
         by place other is (inl before) less =
             kept place other before is ∙ (so_far.passed place other before is ∙ sym (passed_here place other (omega arith) is))
         by place other is (inr most) less =
             let at : place ≡ count = omega arith in
             let same : other ≡ entry = same_Some other entry (sym is ∙ (ap (slice_get order) at ∙ here)) in
             ap (parent_in more) same
-            ∙ (written ∙ (ap (λ n. passed_over (adds_members names program) short (parent_in parents n)) (sym same) ∙ sym (passed_here place other (omega arith) is)))
+            ∙ (written ∙ (ap (λ n. passed_over test short (parent_in parents n)) (sym same) ∙ sym (passed_here place other (omega arith) is)))
 
   -- ---- lines
 
-  module _ (count : ℕ) (short : List (Option ℕ)) (whole : length order ≤ count) (all : ArePassed names program parents order count short) where
-    here_passed : (place entry : ℕ) → slice_get order place ≡ Some entry → parent_in short entry ≡ passed_over (adds_members names program) short (parent_in parents entry)
+  module _ (count : ℕ) (short : List (Option ℕ)) (whole : length order ≤ count) (all : ArePassed test parents order count short) where
+    here_passed : (place entry : ℕ) → slice_get order place ≡ Some entry → parent_in short entry ≡ passed_over test short (parent_in parents entry)
     here_passed place entry is =
         all.passed place entry (let less : place < length order = slice_get_within order place entry is in omega arith) is
 
-    -- with levels enough the same add members to the line and to the way up
+    -- with levels enough the same things of the line pass as of the way up
     lines : (levels place number : ℕ) (path : List ℕ) (root : ℕ) → slice_get order place ≡ Some number → LeadsUp parents number path root
         → slice_get parents root ≡ Some None → length (number ∷ path) ≤ levels
-        → adding_along names program (line_from levels short (Some number)) ≡ adding_along names program (number ∷ path)
+        → filter test (line_from levels short (Some number)) ≡ filter test (number ∷ path)
     lines zero place number path root is leads ends enough = absurd (omega arith)
     lines (suc levels) place number [] root is leads ends enough =
         let none = no_parent_is parents number (let P : ℕ → Type 0 = λ n. slice_get parents n ≡ Some None in subst P leads ends) in
-        let last = here_passed place number is ∙ ap (passed_over (adds_members names program) short) none in
-        ap (λ rest. adding_along names program (number ∷ rest)) (ap (line_from levels short) last ∙ line_of_none short levels)
+        let last = here_passed place number is ∙ ap (passed_over test short) none in
+        ap (λ rest. filter test (number ∷ rest)) (ap (line_from levels short) last ∙ line_of_none short levels)
     lines (suc levels) place number (parent ∷ path) root is leads ends enough =
-        ap (λ rest. cond (adds_members names program number) (number ∷ rest) rest)
-        (by (adds_members names program parent) refl
+        ap (λ rest. cond (test number) (number ∷ rest) rest)
+        (by (test parent) refl
         (lines levels before.0 parent path root before.2 leads.1 ends (omega arith))
         (lines (suc levels) before.0 parent path root before.2 leads.1 ends (omega arith)))
       where
@@ -151,28 +180,28 @@ module _ (names : List Declared) (program : List Decl) (parents : List (Option �
         before : (earlier : ℕ) × (earlier < place) × (slice_get order earlier ≡ Some parent)
         before = comes_before place number parent is under
 
-        by : (adds : Bool) → adds_members names program parent ≡ adds
-            → adding_along names program (line_from levels short (Some parent)) ≡ adding_along names program (parent ∷ path)
-            → adding_along names program (line_from (suc levels) short (Some parent)) ≡ adding_along names program (parent ∷ path)
-            → adding_along names program (line_from levels short (parent_in short number)) ≡ adding_along names program (parent ∷ path)
-        by true adds one more =
-            let next = here_passed place number is ∙ (ap (passed_over (adds_members names program) short) under
-            ∙ ap (λ b. if b then Some parent else parent_in short parent) adds) in
-            ap (λ o. adding_along names program (line_from levels short o)) next ∙ one
-        by false adds one more =
-            let next = here_passed place number is ∙ (ap (passed_over (adds_members names program) short) under
-            ∙ ap (λ b. if b then Some parent else parent_in short parent) adds) in
-            ap (λ o. adding_along names program (line_from levels short o)) next
-            ∙ (sym (ap (λ b. cond b (parent ∷ adding_along names program (line_from levels short (parent_in short parent)))
-            (adding_along names program (line_from levels short (parent_in short parent)))) adds) ∙ more)
+        by : (passes : Bool) → test parent ≡ passes
+            → filter test (line_from levels short (Some parent)) ≡ filter test (parent ∷ path)
+            → filter test (line_from (suc levels) short (Some parent)) ≡ filter test (parent ∷ path)
+            → filter test (line_from levels short (parent_in short number)) ≡ filter test (parent ∷ path)
+        by true passes one more =
+            let next = here_passed place number is ∙ (ap (passed_over test short) under
+            ∙ ap (λ b. if b then Some parent else parent_in short parent) passes) in
+            ap (λ o. filter test (line_from levels short o)) next ∙ one
+        by false passes one more =
+            let next = here_passed place number is ∙ (ap (passed_over test short) under
+            ∙ ap (λ b. if b then Some parent else parent_in short parent) passes) in
+            ap (λ o. filter test (line_from levels short o)) next
+            ∙ (sym (ap (λ b. cond b (parent ∷ filter test (line_from levels short (parent_in short parent)))
+            (filter test (line_from levels short (parent_in short parent)))) passes) ∙ more)
 
-    pub all_shorter : (marked : List Mark) → IsLineageOf parents marked order → AreShorter names program parents marked short
+    pub all_shorter : (marked : List Mark) → IsLineageOf parents marked order → AreShorterFor test parents marked short
     all_shorter marked lineage entry rooted =
         let place = lineage.whole entry (by (standing_in marked entry) rooted) in
         let is = lineage.sound place.0 entry place.1 in
         let way = short_way parents entry is.path is.root is.leads is.ends in
         lines (length short) place.0 entry is.path is.root place.1 is.leads is.ends (let long = all.long in omega arith)
-        ∙ ap (adding_along names program) (sym (ancestry_is parents entry is.path is.root is.leads is.ends))
+        ∙ ap (filter test) (sym (ancestry_is parents entry is.path is.root is.leads is.ends))
       where
         by : (o : Option Standing) → is_rooted o ≡ true → o ≡ Some standings.Rooted
         by None e = absurd (cc)

@@ -1,9 +1,9 @@
 -- What classes lead up to.
-use Rattle.std.specs.Prelude.{ℕ, zero, suc, ◌==◌, Bool, false, ◌||◌, ◌&&◌, not, List, [], ◌∷◌, Option, Some, None}
-use Rattle.std.specs.Prelude.{slice_get, length}
+use Rattle.std.specs.Prelude.{ℕ, ◌==◌, Bool, false, ◌||◌, ◌&&◌, not, List, [], Option, Some, None, slice_get}
 use Rattle.std.specs.List.{list_any, flat_map}
 use Rattle.std.specs.Option.{option_map_or, option_and_then}
 use Rattle.lineage.specs.declared.walk.Mark.{Mark}
+pub use Rattle.lineage.specs.Ancestors.{ancestry, line_from, parent_in}
 use Rattle.lineage.specs.Lines.{standing_in}
 use Rattle.nddl_ast.specs.declared.declaration.Decl.{Decl}
 use Rattle.nddl_ast.specs.declared.declaration.Decl.TheVariants as decls
@@ -28,23 +28,6 @@ use Rattle.nddl_sorts.specs.declared.kind.TypeKind.{TypeKind}
 use Rattle.nddl_sorts.specs.declared.kind.TypeKind.TheVariants as kinds
 use Rattle.nddl_lines.specs.Decls.{declaration_with_body, class_parent, decl_of_name}
 use Rattle.nddl_lines.specs.Lines.{is_rooted}
-
--- what the thing of this number stands under
-abbrev pub parent_in : List (Option ℕ) → ℕ → Option ℕ
-parent_in parents number = option_and_then (λ parent. parent) (slice_get parents number)
-
-abbrev pub line_more : (Option ℕ → List ℕ) → List (Option ℕ) → Option ℕ → List ℕ
-line_more rest parents None = []
-line_more rest parents (Some number) = number ∷ rest (parent_in parents number)
-
--- a thing, if there is one, and what it leads up to, as many levels up
-abbrev pub line_from : ℕ → List (Option ℕ) → Option ℕ → List ℕ
-line_from zero parents next = []
-line_from (suc levels) parents next = line_more (line_from levels parents) parents next
-
--- A thing and what it leads up to, in order. What stands on no circle leads up to fewer things than there are.
-abbrev pub ancestry : List (Option ℕ) → ℕ → List ℕ
-ancestry parents number = line_from (length parents) parents (Some number)
 
 -- what the class of this number extends
 abbrev pub above : List Declared → List Decl → ℕ → Option Meaning

@@ -4,4 +4,3 @@ pub mod Facts
 pub mod Lines
 pub mod Members
 pub mod Shorter
-pub mod Shortcuts

@@ -5,13 +5,13 @@ ghost use Rattle.nddl_lines.specs.Lines.{parents_of};
 ghost use Rattle.nddl_lines.specs.Shorter.{AreShorter};
 
 use super::members::MemberIndex;
-use super::shortcuts::Parents;
-use lineage::Lineage;
+use super::shorter::ShortLines;
+use lineage::{Lineage, Parents};
 use nddl_ast::declaration::Decl;
 use nddl_sorts::Types;
 
 /// What types stand on, the declarations with the members of their classes, what the names stand under, and how, and what
-/// classes stand under where those are passed over that add no members.
+/// classes stand under where some are passed over.
 #[derive(Clone, Copy)]
 pub struct Basis<'a> {
     pub types: Types<'a>,
@@ -19,7 +19,7 @@ pub struct Basis<'a> {
     pub members: &'a MemberIndex<'a>,
     pub parents: &'a Parents,
     pub lineage: &'a Lineage,
-    pub short: &'a [Option<usize>],
+    pub short: &'a ShortLines,
     ghost are_parents: { parents.now ≡ parents_of types.scope.now (map (λ decl. decl.now) decls.now) },
     ghost are_members: { members.now ≡ map (λ decl. decl.now) decls.now },
     ghost are_shorter: { AreShorter types.scope.now (map (λ decl. decl.now) decls.now) parents.now

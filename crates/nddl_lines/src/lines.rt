@@ -4,8 +4,7 @@ ghost use Rattle.std.specs.Prelude.{◌≡◌, IfOk, Some, length, map};
 ghost use Rattle.nddl_lines.specs.Ancestors.{above, ancestry, is_extended, is_same_meaning, line_from, means};
 
 use super::decls::{class_parent, declaration_with_body};
-use super::parents::parent_in;
-use super::shortcuts::Parents;
+use lineage::{Parents, parent_in};
 use nddl_ast::declaration::Decl;
 use nddl_scope::{Meaning, Scope};
 use std::alloc::{AllocError, Global};

@@ -2,10 +2,10 @@
 
 ghost use Rattle.std.specs.Prelude.{◌≡◌, IfOk, map};
 ghost use Rattle.lineage.specs.Lines.{AreParents};
-ghost use Rattle.nddl_lines.specs.Ancestors.{parent_in};
 ghost use Rattle.nddl_lines.specs.Lines.{base_under, class_under, parents_of, sort_under, typedef_at};
 
 use super::decls::{class_parent, decl_at, declaration_with_body, typedef_type};
+pub use lineage::parent_in;
 use nddl_ast::declaration::Decl;
 use nddl_ast::expression::BaseType;
 use nddl_ast::name::Name;
@@ -28,13 +28,6 @@ pub fn parents_of(
     }
     parents.push(Some(names.len()))?;
     Ok(parents)
-}
-
-/// What the thing of this number stands under, where the things stand under these.
-pub fn parent_in(parents: &[Option<usize>], number: usize) -> Option<usize>
-    ensures { result ≡ parent_in parents.now number }
-{
-    *parents.get(number)?
 }
 
 // What the name stands under.

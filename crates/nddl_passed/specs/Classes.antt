@@ -1,5 +1,5 @@
 -- The constructors of classes, and the line of classes to which an object belongs.
-use Rattle.std.specs.Prelude.{ℕ, true, List, [], ◌∷◌, ◌++◌, Option, Some, None, map, slice_get, length}
+use Rattle.std.specs.Prelude.{ℕ, Bool, true, List, [], ◌∷◌, ◌++◌, Option, Some, None, map, slice_get, length}
 use Rattle.std.specs.Prelude.{if◌then◌else◌}
 use Rattle.std.specs.Option.{option_and_then, option_map_or}
 use Rattle.nddl_ast.specs.declared.declaration.Decl.{Decl}
@@ -15,7 +15,7 @@ use Rattle.nddl_scope.specs.Scope.{meaning_of, named_number}
 use Rattle.nddl_lines.specs.Ancestors.{ancestry}
 use Rattle.nddl_lines.specs.Facts.{Facts}
 use Rattle.nddl_lines.specs.Decls.{members_of}
-use Rattle.nddl_classes.specs.Members.{is_constructor}
+use Rattle.nddl_lines.specs.Shorter.{adds_members, builds, is_constructor}
 use Rattle.nddl_constructors.specs.Creations.{class_alone, is_wrong_count}
 use Rattle.nddl_constructors.specs.Wants.{builtin_along, class_wants}
 
@@ -52,14 +52,31 @@ body_decl names entry =
 abbrev pub entries_alone : List ℕ → List Meaning
 entries_alone line = map meanings.Entry line
 
+-- these classes, and behind them the built-in one of this number
+abbrev pub behind_all : ℕ → List ℕ → List Meaning
+behind_all number line = entries_alone line ++ meanings.BuiltIn number ∷ []
+
 -- these classes, and behind them the built-in one that the topmost of them extends
 abbrev pub with_builtin : Facts → List ℕ → List Meaning
-with_builtin facts line = entries_alone line ++ meanings.BuiltIn (builtin_along facts.names facts.program line) ∷ []
+with_builtin facts line = behind_all (builtin_along facts.names facts.program line) line
 
 -- a class and what it leads up to, the built-in class at the end
 abbrev pub line_up : Facts → Meaning → List Meaning
 line_up facts (meanings.BuiltIn number) = meanings.BuiltIn number ∷ []
 line_up facts (meanings.Entry entry) = with_builtin facts (ancestry facts.parents entry)
+
+-- it is a built-in class, or its number passes the test
+abbrev pub is_kept : (ℕ → Bool) → Meaning → Bool
+is_kept test (meanings.BuiltIn number) = true
+is_kept test (meanings.Entry entry) = test entry
+
+-- the class adds members to a line, as any built-in one may
+abbrev pub is_adding : Facts → Meaning → Bool
+is_adding facts class = is_kept (adds_members facts.names facts.program) class
+
+-- the class has a constructor, as each built-in one has
+abbrev pub is_building : Facts → Meaning → Bool
+is_building facts class = is_kept (builds facts.names facts.program) class
 
 -- ---- `new`
 

@@ -27,7 +27,7 @@ use Rattle.nddl_data.specs.Fitting.{is_foreign_datum}
 use Rattle.nddl_data.specs.Reading.{all_unmade_faults, datum_at, settled_data}
 use Rattle.nddl_data.specs.Scene.{Grounds, Scenery}
 use Rattle.nddl_passed.specs.declared.passing.Passed.{Passed}
-use Rattle.nddl_passed.specs.Classes.{body_decl, constructor_at, constructor_formals, constructor_sets, line_up}
+use Rattle.nddl_passed.specs.Classes.{body_decl, constructor_at, constructor_formals, constructor_sets, is_building, line_up}
 
 -- ---- what a body says of `super`
 
@@ -102,18 +102,20 @@ abbrev pub passed_above : Grounds → List MadeObject → Meaning → Option (Li
 passed_above grounds objects class None = None
 passed_above grounds objects class (Some values) = data_above grounds objects values class
 
--- each class of a line with what it is passed, if it is passed anything
-abbrev pub passed_here : Meaning → Option (List (Option Datum)) → List Passed
-passed_here class None = []
-passed_here class (Some values) = record { class = class; values = values } ∷ []
+-- A class of a line with what it is passed, if it has a constructor and is passed anything. One without a constructor hands
+-- on what it is passed, and nothing of it runs.
+abbrev pub passed_here : Facts → Meaning → Option (List (Option Datum)) → List Passed
+passed_here facts class None = []
+passed_here facts class (Some values) =
+    if is_building facts class then record { class = class; values = values } ∷ [] else []
 
 abbrev pub passed_from : Grounds → List MadeObject → List Meaning → Option (List (Option Datum)) → List Passed
 passed_from grounds objects [] values = []
 passed_from grounds objects (class ∷ more) values =
-    passed_here class values ++ passed_from grounds objects more (passed_above grounds objects class values)
+    passed_here grounds.facts class values ++ passed_from grounds objects more (passed_above grounds objects class values)
 
--- The classes of an object of this class with what each is passed, where these are the arguments; the topmost first, as their
--- constructors run.
+-- The classes of an object of this class whose constructors run, with what each is passed, where these are the arguments; the
+-- topmost first, as they run. A class without a constructor isn't among them.
 unfoldable pub passed_down : Grounds → List MadeObject → Meaning → List (Option Datum) → List Passed
 passed_down grounds objects class values =
     reverse (passed_from grounds objects (line_up grounds.facts class) (Some values))

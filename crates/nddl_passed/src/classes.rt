@@ -2,17 +2,19 @@
 
 ghost use Rattle.std.specs.Prelude.{◌≡◌, ◌∷◌, [], IfOk, map, slice_get};
 ghost use Rattle.std.specs.Option.{option_copied, option_map_or};
+ghost use Rattle.nddl_lines.specs.Ancestors.{ancestry};
 ghost use Rattle.nddl_lines.specs.Facts.{facts_of};
-ghost use Rattle.nddl_passed.specs.Classes.{body_decl, class_taking, constructor_at, constructor_formals, constructor_sets, entries_alone, line_up, made_class, own_constructor, with_builtin};
+ghost use Rattle.nddl_lines.specs.Shorter.{KeepTheSame};
+ghost use Rattle.nddl_passed.specs.Classes.{behind_all, body_decl, class_taking, constructor_at, constructor_formals, constructor_sets, entries_alone, is_adding, is_building, line_up, made_class, own_constructor, with_builtin};
 
 use nddl_ast::declaration::{Decl, Member, Set, Typed};
 use nddl_ast::expression::Creation;
 use nddl_constructors::class_wants;
 use nddl_constructors::creations::class_alone;
-use nddl_constructors::wants::builtin_along;
-use nddl_lines::Basis;
+use nddl_constructors::wants::builtin_above;
 use nddl_lines::decls::members_of;
-use nddl_lines::lines::ancestry;
+use nddl_lines::shorter::builds;
+use nddl_lines::{Basis, adding_line, building_line};
 use nddl_scope::{Meaning, Scope};
 use std::alloc::{AllocError, Global};
 
@@ -78,16 +80,65 @@ fn decl_of_name(scope: &Scope, number: usize) -> usize
     }
 }
 
-/// The class and what it leads up to, a built-in class at the end.
-pub fn line_up(alloc: Global, basis: &Basis<'_>, class: Meaning) -> Result<Vec<Meaning>, AllocError>
-    ensures { IfOk result (λ line. line.items ≡ line_up (facts_of basis.now) class) }
+/// A line of the class and what it leads up to, a built-in class at the end, which may lack some that add no members.
+pub fn adding_up(
+    alloc: Global,
+    basis: &Basis<'_>,
+    class: Meaning,
+) -> Result<Vec<Meaning>, AllocError>
+    ensures { IfOk result (λ line. KeepTheSame (is_adding (facts_of basis.now)) line.items (line_up (facts_of basis.now) class)) }
 {
     match class {
         Meaning::BuiltIn(_) => alone(alloc, class),
-        Meaning::Entry(entry) => {
-            let line = ancestry(alloc, basis.parents, entry)?;
-            with_builtin(alloc, basis, line.as_slice())
-        }
+        Meaning::Entry(entry) => adding_above(alloc, basis, entry),
+    }
+}
+
+// The same of the class of this number.
+fn adding_above(alloc: Global, basis: &Basis<'_>, entry: usize) -> Result<Vec<Meaning>, AllocError>
+    ensures { IfOk result (λ line. KeepTheSame (is_adding (facts_of basis.now)) line.items
+        (with_builtin (facts_of basis.now) (ancestry (facts_of basis.now).parents entry))) }
+{
+    let number = builtin_above(alloc, basis, entry)?;
+    let line = adding_line(alloc, basis, entry)?;
+    behind_all(alloc, number, line.as_slice())
+}
+
+/// A line of the class and what it leads up to, a built-in class at the end, which may lack some that have no constructor.
+pub fn building_up(
+    alloc: Global,
+    basis: &Basis<'_>,
+    class: Meaning,
+) -> Result<Vec<Meaning>, AllocError>
+    ensures { IfOk result (λ line. KeepTheSame (is_building (facts_of basis.now)) line.items (line_up (facts_of basis.now) class)) }
+{
+    match class {
+        Meaning::BuiltIn(_) => alone(alloc, class),
+        Meaning::Entry(entry) => building_above(alloc, basis, entry),
+    }
+}
+
+// The same of the class of this number.
+fn building_above(
+    alloc: Global,
+    basis: &Basis<'_>,
+    entry: usize,
+) -> Result<Vec<Meaning>, AllocError>
+    ensures { IfOk result (λ line. KeepTheSame (is_building (facts_of basis.now)) line.items
+        (with_builtin (facts_of basis.now) (ancestry (facts_of basis.now).parents entry))) }
+{
+    let number = builtin_above(alloc, basis, entry)?;
+    let line = building_line(alloc, basis, entry)?;
+    behind_all(alloc, number, line.as_slice())
+}
+
+/// Whether the class has a constructor, as each built-in one has.
+pub fn is_building(basis: &Basis<'_>, class: Meaning) -> bool
+    ensures { result ≡ is_building (facts_of basis.now) class }
+{
+    match class {
+        Meaning::BuiltIn(_) => true,
+        Meaning::Entry(entry) => builds(basis.types.scope, basis.decls, entry),
     }
 }
 
@@ -99,16 +150,11 @@ fn alone(alloc: Global, class: Meaning) -> Result<Vec<Meaning>, AllocError>
     Ok(line)
 }
 
-// These classes, and behind them the built-in one that the topmost of them extends.
-fn with_builtin(
-    alloc: Global,
-    basis: &Basis<'_>,
-    entries: &[usize],
-) -> Result<Vec<Meaning>, AllocError>
-    ensures { IfOk result (λ line. line.items ≡ with_builtin (facts_of basis.now) entries.now) }
+// These classes, and behind them the built-in one of this number.
+fn behind_all(alloc: Global, number: u32, entries: &[usize]) -> Result<Vec<Meaning>, AllocError>
+    ensures { IfOk result (λ line. line.items ≡ behind_all number entries.now) }
 {
     let mut line = entries_alone(alloc, entries)?;
-    let number = builtin_along(basis.types.scope, basis.decls, entries);
     line.push(Meaning::BuiltIn(number))?;
     Ok(line)
 }

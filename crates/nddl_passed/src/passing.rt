@@ -7,7 +7,9 @@ ghost use Rattle.nddl_lines.specs.Facts.{facts_of};
 ghost use Rattle.nddl_data.specs.Scene.{grounds_of, scenery_of};
 ghost use Rattle.nddl_passed.specs.Passing.{constructor_scene, data_above, handed_arguments, handed_data, has_foreign_from, has_late_super, has_super, is_foreign_formal, is_super, is_wrong_super, passed_above, passed_down, passed_from, passed_here, passing_faults, read_faults, silent_arguments, super_arguments, super_data, wants_above};
 
-use super::classes::{body_decl, constructor_at, constructor_formals, constructor_sets, line_up};
+use super::classes::{
+    body_decl, building_up, constructor_at, constructor_formals, constructor_sets, is_building,
+};
 use eu_name::sequence::Sequence;
 use nddl_ast::TextKind;
 use nddl_ast::declaration::{Member, Set, Typed};
@@ -208,22 +210,38 @@ fn passed_above(
     }
 }
 
-// Puts the class with what it is passed at the end, if it is passed anything.
+// Puts the class with what it is passed at the end, if it has a constructor and is passed anything.
 fn push_passed(
+    basis: &Basis<'_>,
     class: Meaning,
     values: Option<Sequence<Option<Datum>>>,
     found: &mut Vec<Passed>,
 ) -> Result<(), AllocError>
-    ensures { OnOk result (found.new.items ≡ found.old.items ++ passed_here class values) }
+    ensures { OnOk result (found.new.items ≡ found.old.items ++ passed_here (facts_of basis.now) class values) }
 {
     match values {
-        Some(values) => found.push(Passed { class, values })?,
-        None => (),
+        Some(values) => push_building(basis, class, values, found),
+        None => Ok(()),
+    }
+}
+
+// The same, where it is passed these values.
+fn push_building(
+    basis: &Basis<'_>,
+    class: Meaning,
+    values: Sequence<Option<Datum>>,
+    found: &mut Vec<Passed>,
+) -> Result<(), AllocError>
+    ensures { OnOk result (found.new.items ≡ found.old.items ++ passed_here (facts_of basis.now) class (Some values)) }
+{
+    if is_building(basis, class) {
+        found.push(Passed { class, values })?;
     }
     Ok(())
 }
 
-// The classes of the line with what each is passed, where the first is passed these values.
+// The classes of the line that have a constructor with what each is passed, where the first of the line is passed these
+// values.
 fn passed_from(
     alloc: Global,
     footing: &Ground<'_>,
@@ -238,15 +256,14 @@ fn passed_from(
     let mut here = Some(values);
     for class in line {
         let next = passed_above(alloc, footing, objects, *class, &here)?;
-        push_passed(*class, here, &mut found)?;
+        push_passed(&footing.basis, *class, here, &mut found)?;
         here = next;
     }
     Ok(found)
 }
 
-/// The classes of an object of the class with what each is passed, where these are the arguments; the topmost first, as their
-/// constructors run.
-#[tactic(auto, unfolding(crate::specs::Passing::passed_down))]
+/// The classes of an object of the class whose constructors run, with what each is passed, where these are the arguments; the
+/// topmost first, as they run.
 pub fn passed_down(
     alloc: Global,
     footing: &Ground<'_>,
@@ -257,7 +274,7 @@ pub fn passed_down(
     ensures { IfOk result (λ found.
         found.items ≡ passed_down (grounds_of footing.now) objects.now class values.now) }
 {
-    let line = line_up(alloc, &footing.basis, class)?;
+    let line = building_up(alloc, &footing.basis, class)?;
     let values = copied(alloc, values)?;
     let mut found = passed_from(alloc, footing, objects, line.as_slice(), values)?;
     found.reverse();

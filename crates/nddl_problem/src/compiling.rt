@@ -11,7 +11,7 @@ ghost use Rattle.nddl_rules.specs.Told.{AreFileTrees, scope_places};
 ghost use Rattle.nddl_table.specs.Table.{IsTable};
 ghost use Rattle.nddl_terms.specs.Names.{AreReadInOrder};
 ghost use Rattle.nddl_problem.specs.Told.{TellsModel, TellsProblem};
-ghost use Rattle.nddl_lexicon.specs.Listing.{AreObjectLists};
+ghost use Rattle.nddl_lexicon.specs.Listing.{populations};
 ghost use Rattle.nddl_lexicon.specs.Shapes.{world_of};
 ghost use Rattle.nddl_problem.specs.Known.{known_by, world_known};
 ghost use Rattle.nddl_problem.specs.Outlined.{IsOutlined};
@@ -21,7 +21,6 @@ ghost use Rattle.nddl_schema.specs.Classes.{class_entries, class_numbers};
 use super::judging::problem_fault;
 use super::making::made_model;
 use super::outline::Outline;
-use eu_name::sequence::Sequence;
 use model_core::model::Model;
 use nddl_ast::TextFault;
 use nddl_ast::declaration::FileDecls;
@@ -35,7 +34,7 @@ use nddl_rules::scope::scope_places;
 use nddl_schema::{Sources, class_entries, class_numbers};
 use nddl_scope::index::NameIndex;
 use nddl_table::{TypeTable, types};
-use nddl_terms::Lexicon;
+use nddl_terms::{Lexicon, Populations};
 use nddl_trees::RuleTree;
 use rules_laws::names_are_read_in_order;
 use std::alloc::{AllocError, Global};
@@ -122,7 +121,12 @@ fn answer_made(
 {
     let entries = class_entries(alloc, basis.types.scope)?;
     let numbers = class_numbers(alloc, basis.types.scope)?;
-    let by_class = objects_by_class(alloc, basis, made.making.objects.as_slice())?;
+    let by_class = objects_by_class(
+        alloc,
+        basis,
+        entries.as_slice(),
+        made.making.objects.as_slice(),
+    )?;
     answer_listed(
         alloc,
         &*question,
@@ -131,7 +135,7 @@ fn answer_made(
         &*made,
         entries.as_slice(),
         numbers.as_slice(),
-        by_class.as_slice(),
+        &by_class,
     )
 }
 
@@ -144,14 +148,14 @@ fn answer_listed<'a>(
     made: &'a Made,
     entries: &'a [usize],
     numbers: &'a [u32],
-    by_class: &'a [Sequence<usize>],
+    by_class: &'a Populations,
 ) -> Result<Result<Model, TextFault>, AllocError>
     requires facts { AreFacts (scope_names (joined_decls program.now.files.now)) (joined_decls program.now.files.now)
         (facts_of basis.now) }
     requires made { progress_of made.now ≡ last_progress (facts_of basis.now) }
     requires entries { entries.now ≡ class_entries basis.now.types.scope.now 0 basis.now.types.scope.now }
     requires numbers { numbers.now ≡ class_numbers basis.now.types.scope.now 4 0 basis.now.types.scope.now }
-    requires listed { AreObjectLists (facts_of basis.now) made.now.making.objects.items by_class.now }
+    requires listed { by_class.now ≡ populations (facts_of basis.now) made.now.making.objects.items }
     ensures { IfOk result (TellsProblem program.now.files.now question.now.table.now question.now.trees.now) }
 {
     let sources = Sources {

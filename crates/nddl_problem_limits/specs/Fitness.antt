@@ -1,7 +1,7 @@
 -- Roots that nothing can be on, and globals that begin as an object of another class.
-use Rattle.std.specs.Prelude.{ℕ, ◌+◌, Bool, true, false, ◌||◌, ◌&&◌, List, [], ◌∷◌, ◌++◌, Option, Some, slice_get}
+use Rattle.std.specs.Prelude.{ℕ, ◌+◌, ◌==◌, Bool, true, false, ◌||◌, ◌&&◌, List, [], ◌∷◌, ◌++◌, Option, Some, length}
 use Rattle.std.specs.List.{list_any}
-use Rattle.std.specs.Option.{option_and_then, option_map_or}
+use Rattle.std.specs.Option.{option_and_then}
 use Rattle.model_core.specs.declared.variable.Base.{Base}
 use Rattle.model_core.specs.declared.variable.Base.TheVariants as bases
 use Rattle.nddl_ast.specs.declared.declaration.Decl.{Decl}
@@ -27,7 +27,7 @@ use Rattle.nddl_objects.specs.Objects.{bare_scene}
 use Rattle.nddl_terms.specs.declared.lexicon.Lexicon.{Lexicon}
 use Rattle.nddl_terms.specs.declared.stands.Stand.{Stand}
 use Rattle.nddl_terms.specs.declared.stands.Stand.TheVariants.{Root}
-use Rattle.nddl_terms.specs.Lexicon.{pred_class, pred_params}
+use Rattle.nddl_terms.specs.Lexicon.{class_objects, pred_class, pred_params}
 use Rattle.nddl_terms.specs.Stands.{file_stand}
 use Rattle.nddl_problem_limits.specs.declared.fitness.Start as code
 
@@ -39,7 +39,7 @@ is_void_base bases.Void = true
 
 -- the class has no object
 abbrev pub is_void_class : Lexicon → ℕ → Bool
-is_void_class lexicon class = option_map_or (λ shape. is_void_base shape.base) (slice_get lexicon.classes class) false
+is_void_class lexicon class = length (class_objects lexicon class) == 0
 
 -- nothing is left for the object of a token of this predicate, or for a parameter
 abbrev pub is_void_pred : Lexicon → ℕ → Bool

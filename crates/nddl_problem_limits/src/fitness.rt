@@ -51,10 +51,7 @@ fn is_void_base(base: &Base) -> bool
 fn is_void_class(lexicon: &Lexicon, class: u32) -> bool
     ensures { result ≡ is_void_class lexicon.now class }
 {
-    match lexicon.classes.as_slice().get(class as usize) {
-        Some(shape) => is_void_base(&shape.base),
-        None => false,
-    }
+    lexicon.objects(class).is_empty()
 }
 
 // Whether nothing is left for one of the parameters.

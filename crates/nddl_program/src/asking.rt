@@ -21,7 +21,7 @@ use nddl_joined::place::file_of;
 use nddl_joined::{Site, join};
 use nddl_known::known_meanings;
 use nddl_lines::parents::parents_of;
-use nddl_lines::{Basis, MemberIndex, Parents, shortened};
+use nddl_lines::{Basis, MemberIndex, Parents, ShortLines};
 use nddl_scope::{Fault, Scope, declared_names};
 use nddl_sorts::{Extent, TypeMeaning, Types};
 use std::alloc::{AllocError, Global};
@@ -154,7 +154,7 @@ fn ask_among<'a, Q: Question>(
     requires lineage { IsLineageOf parents.now lineage.now.marks.items lineage.now.order.items }
     ensures { IfOk result (Q.answers question.now program.now.files.now) }
 {
-    let short = shortened(alloc, scope, program.decls, parents.as_slice(), lineage)?;
+    let short = ShortLines::of(alloc, scope, program.decls, parents.as_slice(), lineage)?;
     let whole = Extent::Whole;
     let known = known_meanings(
         alloc,
@@ -163,7 +163,7 @@ fn ask_among<'a, Q: Question>(
         members,
         parents,
         lineage,
-        short.as_slice(),
+        &short,
         &whole,
     )?;
     ask_by(
@@ -173,7 +173,7 @@ fn ask_among<'a, Q: Question>(
         &*members,
         &*parents,
         &*lineage,
-        short.as_slice(),
+        &short,
         known.as_slice(),
         &whole,
         question,
@@ -188,7 +188,7 @@ fn ask_by<'a, Q: Question>(
     members: &'a MemberIndex<'a>,
     parents: &'a Parents,
     lineage: &'a Lineage,
-    short: &'a [Option<usize>],
+    short: &'a ShortLines,
     known: &'a [Option<TypeMeaning>],
     whole: &'a Extent,
     question: &Q,

@@ -41,7 +41,7 @@ fn root_base(
     ensures { IfOk result (λ base. base ≡ root_base lexicon.now pred object) }
 {
     match object {
-        None => class_base(lexicon, lexicon.pred_class(pred)),
+        None => class_base(alloc, lexicon, lexicon.pred_class(pred)),
         Some(Term::Lit(value)) => Ok(Base::Given(single_set(alloc, value)?)),
         Some(_) => Ok(Base::Void),
     }

@@ -5,14 +5,16 @@ use Rattle.nddl_scope.specs.declared.fault.Fault.{Fault}
 use Rattle.nddl_scope.specs.declared.scope.Meaning.{Meaning}
 use Rattle.nddl_scope.specs.Finding.{earliest_fault}
 use Rattle.nddl_lines.specs.Facts.{Facts}
+use Rattle.nddl_lines.specs.Shorter.{KeepTheSame}
 use Rattle.nddl_data.specs.declared.made.FieldValue.{FieldValue}
 use Rattle.nddl_data.specs.Scene.{Grounds}
 use Rattle.nddl_passed.specs.declared.passing.Passed.{Passed}
-use Rattle.nddl_passed.specs.Classes.{line_up}
+use Rattle.nddl_passed.specs.Classes.{is_adding, line_up}
 use Rattle.nddl_passed.specs.Passing.{passed_down}
 use Rattle.nddl_running.specs.Construction.{Asked, Construction, Subject, has_room, object_begun, too_many, too_nested}
 use Rattle.nddl_running.specs.Finished.{finished_faults}
 use Rattle.nddl_running.specs.Made.{Makes, classes_run, fields_of, finished, made_by, object_made, object_run}
+use Rattle.nddl_running.proofs.Setting.{same_finished}
 
 -- where there may be some levels, one is used up
 pub made_deeper : (levels : ℕ) (grounds : Grounds) (asked : Asked) (so_far : Construction) → 0 < levels
@@ -63,15 +65,14 @@ run_one makes levels grounds subject asked old mid new classes (Ok done) are run
 -- what is wrong with the fields is noted
 pub finished_one : {X E : Type 0} (facts : Facts) (subject : Subject) (class : Meaning) (old : Construction) (new : Option Fault)
     (line : List Meaning) (fields : List FieldValue) (result : Result X E)
-    → line ≡ line_up facts class → fields ≡ fields_of old.objects subject.number
+    → KeepTheSame (is_adding facts) line (line_up facts class) → fields ≡ fields_of old.objects subject.number
     → OnOk result (new ≡ earliest_fault old.first (finished_faults facts subject.place line fields))
     → OnOk result ((record { objects = old.objects; first = new; is_full = old.is_full; is_deep = old.is_deep })
     ≡ finished facts subject class old)
-finished_one facts subject class old new line fields (Err e) is_line are_fields noted = tt
-finished_one facts subject class old new line fields (Ok done) is_line are_fields noted =
+finished_one facts subject class old new line fields (Err e) same are_fields noted = tt
+finished_one facts subject class old new line fields (Ok done) same are_fields noted =
     let with_first : Option Fault → Construction =
     λ first. record { objects = old.objects; first = first; is_full = old.is_full; is_deep = old.is_deep } in
-    let with_these : List Meaning → List FieldValue → Construction =
-    λ l f. with_first (earliest_fault old.first (finished_faults facts subject.place l f)) in
     ap with_first noted
-    ∙ (ap (λ l. with_these l fields) is_line ∙ ap (λ f. with_these (line_up facts class) f) are_fields)
+    ∙ (ap (λ faults. with_first (earliest_fault old.first faults)) (same_finished facts fields subject.place line (line_up facts class) same)
+    ∙ ap (λ f. with_first (earliest_fault old.first (finished_faults facts subject.place (line_up facts class) f))) are_fields)

@@ -1,1 +1,2 @@
 pub mod Deeper
+mod Setting

@@ -25,7 +25,7 @@ use nddl_data::{
 };
 use nddl_joined::Place;
 use nddl_passed::classes::{body_decl, constructor_formals, constructor_sets};
-use nddl_passed::{Passed, constructor_at, line_up, made_class, note_passing, passed_down};
+use nddl_passed::{Passed, adding_up, constructor_at, made_class, note_passing, passed_down};
 use nddl_paths::fields::field_of_class;
 use nddl_scope::Meaning;
 use nddl_scope::fault::note_at;
@@ -164,7 +164,7 @@ fn finish(
     ensures { OnOk result (construction_of making.new
         ≡ finished (facts_of footing.now.basis) (subject_of subject.now) class (construction_of making.old)) }
 {
-    let line = line_up(alloc, &footing.basis, class)?;
+    let line = adding_up(alloc, &footing.basis, class)?;
     let none = SetFields::new(alloc);
     note_finished(
         alloc,

@@ -8,6 +8,7 @@ use Rattle.eu_name.specs.declared.name.Part.{Part}
 use Rattle.eu_name.specs.declared.name.Part.TheVariants as parts
 use Rattle.nddl_terms.specs.declared.lexicon.Attribute.{Attribute}
 use Rattle.nddl_terms.specs.declared.lexicon.Lexicon.{Lexicon}
+use Rattle.nddl_terms.specs.Populations.{list_at}
 use Rattle.nddl_terms.specs.Preds.{class_named}
 
 -- the number of the field or parameter of this name
@@ -21,6 +22,10 @@ attribute_class attributes number = option_map_or (λ attribute. attribute.shape
 -- the fields of a class
 abbrev pub shape_fields : Lexicon → ℕ → List Attribute
 shape_fields lexicon class = option_map_or (λ shape. shape.fields) (slice_get lexicon.classes class) []
+
+-- the objects of a class and of those under it, in the order in which they were made
+abbrev pub class_objects : Lexicon → ℕ → List ℤ
+class_objects lexicon class = list_at lexicon.populations class
 
 -- the parameters of a predicate
 abbrev pub pred_params : Lexicon → ℕ → List Attribute

@@ -3,6 +3,7 @@ pub mod Growth
 pub mod Lexicon
 pub mod Names
 pub mod Paths
+pub mod Populations
 pub mod Preds
 pub mod Readings
 pub mod Stands

@@ -1,9 +1,10 @@
 //! What is known of classes, predicates, types and the names of files once all objects are made.
 
 ghost use Rattle.std.specs.Prelude.{◌≡◌, IfOk, slice_get};
-ghost use Rattle.nddl_terms.specs.Lexicon.{attribute_class, attribute_number, shape_fields, part_class, part_called, place_of_value, pred_class, pred_named, pred_params};
+ghost use Rattle.nddl_terms.specs.Lexicon.{attribute_class, attribute_number, class_objects, shape_fields, part_class, part_called, place_of_value, pred_class, pred_named, pred_params};
 
 use super::attributes::Attributes;
+use super::populations::Populations;
 use super::preds::PredShapes;
 use super::stands::Stand;
 use eu_name::name::Part;
@@ -33,11 +34,6 @@ pub struct Attribute {
 pub struct ClassShape {
     /// Its fields, those of its ancestors first.
     pub fields: Attributes,
-    /// Its objects and those of the classes under it, in the order in which they were made: what the variable of a `foreach`
-    /// over the class stands for.
-    pub objects: Sequence<Stand>,
-    /// What a variable of the class may be.
-    pub base: Base,
 }
 
 /// A predicate, by its number.
@@ -52,6 +48,8 @@ pub struct PredShape {
 #[derive(Drop)]
 pub struct Lexicon {
     pub classes: Sequence<ClassShape>,
+    /// The objects of each class.
+    pub populations: Populations,
     pub preds: PredShapes,
     pub scope: Sequence<Stand>,
     /// What a variable may be whose type is the name; no name but those of enums and typedefs is one here.
@@ -99,6 +97,13 @@ impl Lexicon {
             Some(shape) => shape.fields.number(name),
             None => None,
         }
+    }
+
+    /// The objects of a class and of those under it, in the order in which they were made.
+    pub fn objects(&self, class: u32) -> &[i32]
+        ensures { result.now ≡ class_objects self.now class }
+    {
+        self.populations.objects(class as usize)
     }
 
     /// The parameters of a predicate.

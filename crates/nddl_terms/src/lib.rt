@@ -8,6 +8,7 @@ pub mod growth;
 pub mod lexicon;
 pub mod names;
 pub mod paths;
+pub mod populations;
 pub mod preds;
 pub mod stands;
 
@@ -16,5 +17,6 @@ pub use growth::Growth;
 pub use lexicon::{Attribute, ClassShape, Lexicon, PredShape, Shape};
 pub use names::ReadNames;
 pub use paths::path_stand;
+pub use populations::Populations;
 pub use preds::PredShapes;
 pub use stands::{Made, Reading, Stand, TextPlaces};

@@ -1,6 +1,6 @@
 -- What the statements of a rule stand for.
-use Rattle.std.specs.Prelude.{List, [], ◌∷◌, ◌++◌, slice_get}
-use Rattle.std.specs.Option.{option_map_or}
+use Rattle.std.specs.Prelude.{ℕ, ℤ, List, [], ◌∷◌, ◌++◌, map}
+use Rattle.model_core.specs.declared.item.Term.TheVariants.{Lit}
 use Rattle.model_core.specs.declared.rule.Entry.{Entry}
 use Rattle.model_core.specs.declared.rule.Entry.TheVariants as entries
 use Rattle.model_core.specs.Block.{plain_entries}
@@ -11,8 +11,9 @@ use Rattle.nddl_terms.specs.declared.growth.Growth.{Growth}
 use Rattle.nddl_terms.specs.declared.lexicon.Lexicon.{Lexicon}
 use Rattle.nddl_terms.specs.declared.stands.Made.{Made}
 use Rattle.nddl_terms.specs.declared.stands.Stand.{Stand}
-use Rattle.nddl_terms.specs.declared.stands.Stand.TheVariants.{Class}
+use Rattle.nddl_terms.specs.declared.stands.Stand.TheVariants.{Class, Value}
 use Rattle.nddl_terms.specs.Growth.{with_last_entry}
+use Rattle.nddl_terms.specs.Lexicon.{class_objects}
 use Rattle.nddl_terms.specs.Readings.{Readings}
 use Rattle.nddl_terms.specs.Stands.{first_stand}
 use Rattle.nddl_additions.specs.Arguments.{condition_guard}
@@ -35,9 +36,13 @@ back_in outer growth = record growth { entries = outer }
 
 -- ---- turns
 
+-- what the variable of a `foreach` over the class of this number stands for, in one turn after another, if these are its objects
+abbrev pub turn_stands : ℕ → List ℤ → List Stand
+turn_stands class objects = map (λ object. Value (Lit object) class) objects
+
 -- what the variable of a `foreach` stands for in one turn after another, if the name that it goes over stands for a class
 abbrev pub stand_turns : Lexicon → Stand → List Stand
-stand_turns lexicon (Class class) = option_map_or (λ shape. shape.objects) (slice_get lexicon.classes class) []
+stand_turns lexicon (Class class) = turn_stands class (class_objects lexicon class)
 stand_turns lexicon stand = []
 
 -- the variable of this name stands for this

@@ -7,11 +7,13 @@ ghost use Rattle.model_core.specs.declared.rule.Entry.TheVariants.{Branch};
 ghost use Rattle.nddl_ast.specs.Block.{statements_of, with_statement};
 ghost use Rattle.nddl_ast.specs.Tree.{Statements};
 ghost use Rattle.nddl_terms.specs.Growth.{with_last_entry};
+ghost use Rattle.nddl_terms.specs.Lexicon.{class_objects};
 ghost use Rattle.nddl_terms.specs.Readings.{readings_of};
 ghost use Rattle.nddl_terms.specs.Stands.{first_stand};
-ghost use Rattle.nddl_unrolling.specs.Blocks.{all_turns, back_in, filled_block, in_block, stand_turns, turn_of, unrolled};
+ghost use Rattle.nddl_unrolling.specs.Blocks.{all_turns, back_in, filled_block, in_block, stand_turns, turn_of, turn_stands, unrolled};
 
 use eu_name::sequence::Sequence;
+use model_core::item::Term;
 use model_core::rule::{Block, Entry, Guard};
 use nddl_additions::arguments::guard_of;
 use nddl_additions::calls::{add_ask, add_call};
@@ -19,22 +21,9 @@ use nddl_additions::locals::add_variable;
 use nddl_ast::name::Name;
 use nddl_ast::statement::{Stmt, StmtBlock};
 use nddl_terms::stands::first_stand;
-use nddl_terms::{Growth, Lexicon, Made, Reading, Stand};
+use nddl_terms::{Growth, Made, Reading, Stand};
 use std::alloc::{AllocError, Global};
 use std::mem;
-
-// What the variable of a `foreach` stands for in one turn after another.
-fn stand_turns(lexicon: &Lexicon, over: Stand) -> &[Stand]
-    ensures { result.now ≡ stand_turns lexicon.now over }
-{
-    match over {
-        Stand::Class(class) => match lexicon.classes.as_slice().get(class as usize) {
-            Some(shape) => shape.objects.as_slice(),
-            None => &[],
-        },
-        _ => &[],
-    }
-}
 
 // The turns, and one more that is within them.
 fn with_turn(alloc: Global, turns: &[Made], turn: Made) -> Result<Vec<Made>, AllocError>
@@ -177,9 +166,36 @@ fn unroll_turns(
         (stand_turns reading.now.lexicon.now
         (first_stand (readings_of reading.now) turns.now growth.old class.now.at)) growth.old) }
 {
-    let over = first_stand(reading, turns, growth, class.at);
-    for object in stand_turns(reading.lexicon, over) {
-        unroll_turn(alloc, reading, turns, variable, *object, body, growth)?;
+    match first_stand(reading, turns, growth, class.at) {
+        Stand::Class(number) => {
+            unroll_objects(alloc, reading, turns, variable, number, body, growth)
+        }
+        _ => Ok(()),
+    }
+}
+
+// The same over the class of this number.
+#[cycle(unrolling)]
+fn unroll_objects(
+    alloc: Global,
+    reading: &Reading<'_>,
+    turns: &[Made],
+    variable: &Name,
+    class: u32,
+    body: &StmtBlock,
+    growth: &mut Growth,
+) -> Result<(), AllocError>
+    ensures { OnOk result (growth.new ≡ all_turns
+        (λ object inner. unrolled (readings_of reading.now) (turns.now ++ turn_of variable.now object ∷ [])
+        body.now.statements inner)
+        (turn_stands class (class_objects reading.now.lexicon.now class)) growth.old) }
+{
+    for object in reading.lexicon.objects(class) {
+        let stand = Stand::Value {
+            term: Term::Lit(*object),
+            class,
+        };
+        unroll_turn(alloc, reading, turns, variable, stand, body, growth)?;
     }
     Ok(())
 }

@@ -56,3 +56,8 @@ type_domain names enums kind extent = Set (ascending_of (listed_values names enu
 abbrev pub base_of : List Declared → List Enum → TypeKind → Extent → Base
 base_of names enums (kinds.Object class) extent = bases.Void
 base_of names enums kind extent = bases.Given (type_domain names enums kind extent)
+
+-- a variable may be these, or nothing where there are none
+abbrev pub numbers_base : List ℤ → Base
+numbers_base [] = bases.Void
+numbers_base (number ∷ more) = bases.Given (Set (ascending_of (number ∷ more)))

@@ -3,7 +3,7 @@
 ghost use Rattle.std.specs.Prelude.{◌≡◌, IfOk};
 ghost use Rattle.domain_core.specs.Domain.{Range, Set};
 ghost use Rattle.nddl_variables.specs.Ascending.{ascending_of};
-ghost use Rattle.nddl_variables.specs.Domains.{base_of, type_domain, value_kind};
+ghost use Rattle.nddl_variables.specs.Domains.{base_of, numbers_base, type_domain, value_kind};
 
 use super::values::listed_values;
 use domain_core::domain::Dom;
@@ -74,5 +74,15 @@ pub fn set_of_values(alloc: Global, values: &[i32]) -> Result<Dom, AllocError>
     match Dom::set_of(alloc, values) {
         Ok(domain) => Ok(domain),
         Err(_) => Err(AllocError),
+    }
+}
+
+/// A variable may be these, or nothing where there are none.
+pub fn numbers_base(alloc: Global, values: &[i32]) -> Result<Base, AllocError>
+    ensures { IfOk result (λ base. base ≡ numbers_base values.now) }
+{
+    match values {
+        [] => Ok(Base::Void),
+        _ => Ok(Base::Given(set_of_values(alloc, values)?)),
     }
 }

@@ -5,7 +5,7 @@ use Rattle.std.proofs.lemmas.List.{reverse-append}
 use Rattle.std.proofs.lemmas.Option.{same_Some, none-some}
 use Rattle.lineage.specs.Lines.{IsRooted, LeadsUp, StandsUnder}
 use Rattle.nddl_lines.specs.Ancestors.{ancestry}
-use Rattle.nddl_lines.proofs.Ways.{ancestry_is}
+use Rattle.lineage.proofs.Ways.{ancestry_is}
 
 module _ (parents : List (Option ℕ)) where
   -- what stands under none

@@ -27,7 +27,7 @@ use Rattle.nddl_lines.specs.Facts.{Facts}
 use Rattle.nddl_types.specs.Faults.{all_faults}
 use Rattle.nddl_schema.specs.Classes.{class_entries, enum_of, enums_of, is_first, is_first_class, name_of_entry}
 use Rattle.table_laws.proofs.Apart.{AreOnce, all_both, all_weaker}
-use Rattle.nddl_lines.proofs.Fewer.{differs}
+use Rattle.lineage.proofs.Fewer.{differs}
 use Rattle.table_laws.proofs.First.{neither, not_second, some_position}
 use Rattle.table_laws.proofs.Items.{texts_of}
 use Rattle.types_laws.proofs.Numbered.{entry_is}

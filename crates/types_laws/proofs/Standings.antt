@@ -9,7 +9,7 @@ use Rattle.lineage.specs.declared.walk.Mark.{Mark}
 use Rattle.lineage.specs.declared.walk.Mark.TheVariants as marks
 use Rattle.lineage.specs.Lines.{LeadsUp, IsOnCircle, StandsSo, IsLineageOf, standing_of_mark}
 use Rattle.lineage.proofs.Chains.{one_parent}
-use Rattle.nddl_lines.proofs.Ways.{rooted_off}
+use Rattle.lineage.proofs.Ways.{rooted_off}
 
 -- lists with the same at each place are the same
 pub same_places : {X : Type 0} (xs ys : List X) → length xs ≡ length ys → ((place : ℕ) → place < length xs → slice_get xs place ≡ slice_get ys place)

@@ -1,9 +1,11 @@
 -- What is counted of blocks is enough.
 use Rattle.std.proofs.Common.{◌≡◌, ℕ, ◌+◌, ◌*◌, ◌-◌, ◌^◌, ◌≤◌, min, List, [], ◌∷◌, ◌++◌, length, refl, sym, ◌∙◌, ap, subst, arith}
-use Rattle.std.specs.Prelude.{Option, Some, None, slice_get}
-use Rattle.std.specs.Option.{option_and_then, option_map_or}
+use Rattle.std.specs.Prelude.{ℤ, Option, Some, None}
+use Rattle.std.specs.Option.{option_and_then}
+use Rattle.std.proofs.lemmas.List.{length-map}
 use Rattle.std.proofs.Math.Nat.{suc-mul}
 use Rattle.std.proofs.Math.Numerals.{suc-eq-add-one}
+use Rattle.model_core.specs.declared.item.Term.TheVariants as terms
 use Rattle.model_core.specs.declared.rule.Entry.TheVariants as entries
 use Rattle.model_core.specs.declared.rule.Guard.{Guard}
 use Rattle.model_core.specs.Block.{plain_entries}
@@ -13,12 +15,12 @@ use Rattle.nddl_ast.specs.Tree.{Statements, Nothing, Declares, Calls, Asks, Test
 use Rattle.nddl_trees.specs.declared.tree.Meaning.{Meaning}
 use Rattle.nddl_trees.specs.declared.tree.Meaning.TheVariants as meanings
 use Rattle.nddl_terms.specs.declared.growth.Growth.{Growth}
-use Rattle.nddl_terms.specs.declared.lexicon.ClassShape.{ClassShape}
 use Rattle.nddl_terms.specs.declared.lexicon.Lexicon.{Lexicon}
 use Rattle.nddl_terms.specs.declared.stands.Made.{Made}
 use Rattle.nddl_terms.specs.declared.stands.Stand.{Stand}
 use Rattle.nddl_terms.specs.declared.stands.Stand.TheVariants as stands
 use Rattle.nddl_terms.specs.Growth.{with_last_entry}
+use Rattle.nddl_terms.specs.Lexicon.{class_objects}
 use Rattle.nddl_terms.specs.Names.{name_read_at}
 use Rattle.nddl_terms.specs.Readings.{Readings}
 use Rattle.nddl_terms.specs.Stands.{declared_stand, file_stand, first_stand, meaning_stand, stand_or_nothing}
@@ -26,10 +28,9 @@ use Rattle.nddl_amounts.specs.declared.amounts.Amounts.{Amounts}
 use Rattle.nddl_amounts.specs.Amounts.{amounts_and, amounts_times, no_amounts}
 use Rattle.nddl_amounts.specs.Counting.{counted_with, guard_amounts, stand_count, turn_count, turns_amounts}
 use Rattle.nddl_additions.specs.Arguments.{condition_guard}
-use Rattle.nddl_unrolling.specs.Blocks.{all_turns, back_in, filled_block, in_block, stand_turns, turn_of, unrolled}
-use Rattle.unrolling_laws.specs.Enough.{AreKnownStands, HasKnownObjects, IsKnownStand}
+use Rattle.nddl_unrolling.specs.Blocks.{all_turns, back_in, filled_block, in_block, stand_turns, turn_of, turn_stands, unrolled}
 use Rattle.unrolling_laws.proofs.Counted.{Counts, Enough, condition_adds, condition_counted, counts_and, sum_condition}
-use Rattle.unrolling_laws.proofs.Extras.{Adds, EachMade, Extra, IsNoClass, IsSlotStand, Sound, Within, adds_any, adds_then, adds_within, each_more, extra_and, extra_reads, guards_append, items_append, no_extra}
+use Rattle.unrolling_laws.proofs.Extras.{Adds, EachMade, Extra, IsKnownStand, IsNoClass, IsSlotStand, Sound, Within, adds_any, adds_then, adds_within, each_more, extra_and, extra_reads, guards_append, items_append, no_extra}
 use Rattle.unrolling_laws.proofs.Paths.{declared_is}
 use Rattle.unrolling_laws.proofs.Statements.{ask_enough, call_enough, local_enough}
 
@@ -167,32 +168,36 @@ turns_are reading turns growth (Some (meanings.Here part)) sound known = refl
 turns_are reading turns growth (Some (meanings.Scope place)) sound known = refl
 turns_are reading turns growth (Some (meanings.BuiltIn class)) sound known = refl
 
-class_known : (found : Option ClassShape) → ((shape : ClassShape) → found ≡ Some shape → AreKnownStands shape.objects)
-    → AreKnownStands (option_map_or (λ shape. shape.objects) found [])
-class_known None known = tt
-class_known (Some shape) known = known shape refl
+-- each is known
+abbrev AreKnownStands : List Stand → Type 0
+AreKnownStands [] = Unit {0}
+AreKnownStands (stand ∷ more) = IsKnownStand stand × AreKnownStands more
 
-stand_known : (lexicon : Lexicon) (stand : Stand) → HasKnownObjects lexicon → AreKnownStands (stand_turns lexicon stand)
-stand_known lexicon (stands.Class class) known = class_known (slice_get lexicon.classes class) (known class)
-stand_known lexicon stand known = tt
+-- the objects of a class are literals
+class_known : (class : ℕ) (objects : List ℤ) → AreKnownStands (turn_stands class objects)
+class_known class [] = tt
+class_known class (object ∷ more) = (tt, class_known class more)
 
-objects_known : (lexicon : Lexicon) (found : Option Meaning) → HasKnownObjects lexicon → AreKnownStands (meaning_turns lexicon found)
-objects_known lexicon (Some (meanings.Scope place)) known = stand_known lexicon (stand_or_nothing (file_stand lexicon place)) known
-objects_known lexicon (Some (meanings.BuiltIn class)) known = stand_known lexicon (stands.Class class) known
-objects_known lexicon found known = tt
+stand_known : (lexicon : Lexicon) (stand : Stand) → AreKnownStands (stand_turns lexicon stand)
+stand_known lexicon (stands.Class class) = class_known class (class_objects lexicon class)
+stand_known lexicon stand = tt
 
-class_count : (found : Option ClassShape) → option_map_or (λ shape. length shape.objects) found 0 ≡ length (option_map_or (λ shape. shape.objects) found [])
-class_count None = refl
-class_count (Some shape) = refl
+objects_known : (lexicon : Lexicon) (found : Option Meaning) → AreKnownStands (meaning_turns lexicon found)
+objects_known lexicon (Some (meanings.Scope place)) = stand_known lexicon (stand_or_nothing (file_stand lexicon place))
+objects_known lexicon (Some (meanings.BuiltIn class)) = stand_known lexicon (stands.Class class)
+objects_known lexicon found = tt
+
+class_count : (class : ℕ) (objects : List ℤ) → length objects ≡ length (turn_stands class objects)
+class_count class objects = sym (length-map objects (λ object. stands.Value (terms.Lit object) class))
 
 file_count : (lexicon : Lexicon) (found : Option Stand) → stand_count lexicon found ≡ length (stand_turns lexicon (stand_or_nothing found))
 file_count lexicon None = refl
-file_count lexicon (Some (stands.Class class)) = class_count (slice_get lexicon.classes class)
+file_count lexicon (Some (stands.Class class)) = class_count class (class_objects lexicon class)
 file_count lexicon (Some stand) = refl
 
 count_is : (lexicon : Lexicon) (found : Option Meaning) → turn_count lexicon found ≡ length (meaning_turns lexicon found)
 count_is lexicon (Some (meanings.Scope place)) = file_count lexicon (file_stand lexicon place)
-count_is lexicon (Some (meanings.BuiltIn class)) = class_count (slice_get lexicon.classes class)
+count_is lexicon (Some (meanings.BuiltIn class)) = class_count class (class_objects lexicon class)
 count_is lexicon found = refl
 
 -- so much for each of these objects
@@ -252,18 +257,18 @@ left_none : (extra : Extra) → Within extra (extra_and no_extra extra)
 left_none extra = record { slots = omega arith; locals = omega arith; items = omega arith; guards = omega arith }
 
 -- the block of a `foreach`, once for each object
-repeats_enough : (reading : Readings) (name class : Name) (body : Statements) → HasKnownObjects reading.lexicon → AllEnough reading body
+repeats_enough : (reading : Readings) (name class : Name) (body : Statements) → AllEnough reading body
     → Enough (λ turns growth. all_turns (λ object inner. unrolled reading (turns ++ turn_of name object ∷ []) body inner)
     (stand_turns reading.lexicon (first_stand reading turns growth class.at)) growth)
     (turns_amounts (turn_count reading.lexicon (name_read_at class.at reading.names)) (counted_with reading.lexicon reading.names body no_amounts))
-repeats_enough reading name class body objects inside = record {
+repeats_enough reading name class body inside = record {
   extra = extra_turns (meaning_turns reading.lexicon (name_read_at class.at reading.names)) inside.extra;
   adds = λ turns known growth sound.
       let found = name_read_at class.at reading.names in
       let turn : Stand → Growth → Growth = λ object inner. unrolled reading (turns ++ turn_of name object ∷ []) body inner in
       subst (λ (some : List Stand). Adds (extra_turns (meaning_turns reading.lexicon found) inside.extra) growth (all_turns turn some growth))
       (sym (turns_are reading turns growth found sound known))
-      (turns_add inside.extra turn (meaning_turns reading.lexicon found) (objects_known reading.lexicon found objects)
+      (turns_add inside.extra turn (meaning_turns reading.lexicon found) (objects_known reading.lexicon found)
       (λ object is inner inner_sound.
       inside.adds (turns ++ turn_of name object ∷ []) (each_more IsKnownStand turns (turn_of name object) known is) inner inner_sound)
       growth sound);
@@ -340,29 +345,29 @@ chooses_enough reading at condition then_at inside else_at other more block seco
     }
 
 -- what is counted of statements is enough
-pub all_enough : (reading : Readings) (stmts : Statements) → HasKnownObjects reading.lexicon → AllEnough reading stmts
-all_enough reading Nothing known = record {
+pub all_enough : (reading : Readings) (stmts : Statements) → AllEnough reading stmts
+all_enough reading Nothing = record {
   extra = no_extra;
   adds = λ turns each growth sound. adds_any no_extra growth;
   counts = λ before total is.
       counts_less (extra_and before no_extra) before total
       (record { slots = omega arith; locals = omega arith; items = omega arith; guards = omega arith }) is;
 }
-all_enough reading (Declares variable more) known =
-    before_others reading (Declares variable more) more _ _ (local_enough reading variable) (all_enough reading more known)
+all_enough reading (Declares variable more) =
+    before_others reading (Declares variable more) more _ _ (local_enough reading variable) (all_enough reading more)
     (λ turns growth. refl) (λ total. refl)
-all_enough reading (Calls call more) known =
-    before_others reading (Calls call more) more _ _ (call_enough reading call) (all_enough reading more known)
+all_enough reading (Calls call more) =
+    before_others reading (Calls call more) more _ _ (call_enough reading call) (all_enough reading more)
     (λ turns growth. refl) (λ total. refl)
-all_enough reading (Asks ask more) known =
-    before_others reading (Asks ask more) more _ _ (ask_enough reading ask) (all_enough reading more known)
+all_enough reading (Asks ask more) =
+    before_others reading (Asks ask more) more _ _ (ask_enough reading ask) (all_enough reading more)
     (λ turns growth. refl) (λ total. refl)
-all_enough reading (Tests at condition then_at inside more) known =
-    tests_enough reading at condition then_at inside more (all_enough reading inside known) (all_enough reading more known)
-all_enough reading (Chooses at condition then_at inside else_at other more) known =
-    chooses_enough reading at condition then_at inside else_at other more (all_enough reading inside known) (all_enough reading other known)
-    (all_enough reading more known)
-all_enough reading (Repeats at name class body_at body more) known =
+all_enough reading (Tests at condition then_at inside more) =
+    tests_enough reading at condition then_at inside more (all_enough reading inside) (all_enough reading more)
+all_enough reading (Chooses at condition then_at inside else_at other more) =
+    chooses_enough reading at condition then_at inside else_at other more (all_enough reading inside) (all_enough reading other)
+    (all_enough reading more)
+all_enough reading (Repeats at name class body_at body more) =
     before_others reading (Repeats at name class body_at body more) more _ _
-    (repeats_enough reading name class body known (all_enough reading body known)) (all_enough reading more known)
+    (repeats_enough reading name class body (all_enough reading body)) (all_enough reading more)
     (λ turns growth. refl) (λ total. refl)

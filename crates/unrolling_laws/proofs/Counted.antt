@@ -18,8 +18,7 @@ use Rattle.nddl_amounts.specs.Amounts.{amounts_and}
 use Rattle.nddl_amounts.specs.Counting.{condition_reads, constraint_amounts, constraint_count, pairs_of}
 use Rattle.nddl_amounts.specs.Reads.{all_reads, expr_reads}
 use Rattle.nddl_additions.specs.Arguments.{all_differ, argument, condition_guard, constraint_items, differ, given_arguments, with_constraint}
-use Rattle.unrolling_laws.specs.Enough.{IsKnownStand}
-use Rattle.unrolling_laws.proofs.Extras.{Adds, EachMade, Extra, Sound, adds_any, adds_items, adds_then, extra_and, extra_items, extra_reads}
+use Rattle.unrolling_laws.proofs.Extras.{Adds, EachMade, Extra, IsKnownStand, Sound, adds_any, adds_items, adds_then, extra_and, extra_items, extra_reads}
 use Rattle.unrolling_laws.proofs.Paths.{path_adds}
 
 -- so much is no more than these amounts, which stay at the greatest number

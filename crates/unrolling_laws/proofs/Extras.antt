@@ -3,6 +3,7 @@ use Rattle.std.proofs.Common.{◌≡◌, ℕ, ◌+◌, ◌≤◌, List, [], ◌�
 use Rattle.std.proofs.lemmas.List.{length-append}
 use Rattle.model_core.specs.declared.item.Item.{Item}
 use Rattle.model_core.specs.declared.item.Term.{Term}
+use Rattle.model_core.specs.declared.item.Term.TheVariants as terms
 use Rattle.model_core.specs.declared.rule.Entry.{Entry}
 use Rattle.model_core.specs.declared.rule.Entry.TheVariants as entries
 use Rattle.model_core.specs.declared.rule.Slot as slots
@@ -13,7 +14,7 @@ use Rattle.nddl_terms.specs.declared.growth.Growth.{Growth}
 use Rattle.nddl_terms.specs.declared.lexicon.Shape.{Shape}
 use Rattle.nddl_terms.specs.declared.stands.Made.{Made}
 use Rattle.nddl_terms.specs.declared.stands.Stand.{Stand}
-use Rattle.nddl_terms.specs.declared.stands.Stand.TheVariants.{Slot, Class}
+use Rattle.nddl_terms.specs.declared.stands.Stand.TheVariants.{Value, Slot, Class}
 use Rattle.nddl_terms.specs.Growth.{access, unnamed, with_access, with_item, with_next_local, with_slot}
 use Rattle.nddl_additions.specs.Arguments.{with_items}
 
@@ -61,6 +62,11 @@ abbrev pub guards_in : Growth → ℕ
 guards_in growth = guard_count (plain_entries growth.entries)
 
 -- ---- what stands for declarations
+
+-- a value that is known
+abbrev pub IsKnownStand : Stand → Type 0
+IsKnownStand (Value (terms.Lit value) class) = Unit {0}
+IsKnownStand stand = ⊥
 
 abbrev pub IsSlotStand : Stand → Type 0
 IsSlotStand (Slot number pred) = Unit {0}

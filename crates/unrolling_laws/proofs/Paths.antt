@@ -21,8 +21,7 @@ use Rattle.nddl_terms.specs.Paths.{Reached, known_value, object_step, part_stand
 use Rattle.nddl_terms.specs.Readings.{Readings}
 use Rattle.nddl_terms.specs.Stands.{declared_stand, file_stand, first_stand, latest_stand, meaning_stand, stand_if_at, stand_or_nothing}
 use Rattle.nddl_amounts.specs.Reads.{file_reads, front_reads, meaning_reads}
-use Rattle.unrolling_laws.specs.Enough.{IsKnownStand}
-use Rattle.unrolling_laws.proofs.Extras.{Adds, EachMade, IsSlotStand, Sound, Within, adds_access, adds_any, adds_then, adds_within, extra_and, extra_reads}
+use Rattle.unrolling_laws.proofs.Extras.{Adds, EachMade, IsKnownStand, IsSlotStand, Sound, Within, adds_access, adds_any, adds_then, adds_within, extra_and, extra_reads}
 
 -- of so many names behind what stands for this, how many read a field of a variable at most
 abbrev pub stand_reads : Stand → ℕ → ℕ

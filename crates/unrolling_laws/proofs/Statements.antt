@@ -40,9 +40,8 @@ use Rattle.nddl_additions.specs.Arguments.{argument, with_constraint, with_items
 use Rattle.nddl_additions.specs.Locals.{type_shape, with_begun, with_declared, with_named_at, with_text_local}
 use Rattle.nddl_additions.specs.Calls.{with_ask, with_call, with_constraint_named, with_related, with_relation_to}
 use Rattle.nddl_additions.specs.Slots.{asked_labelled, asked_nothing, asked_of_owner, asked_own, asked_path, object_items, pred_slot, wanted_of, with_asked, with_asked_at, with_relation, with_wanted_token}
-use Rattle.unrolling_laws.specs.Enough.{IsKnownStand}
 use Rattle.unrolling_laws.proofs.Counted.{Enough, constraint_enough, expr_adds}
-use Rattle.unrolling_laws.proofs.Extras.{Adds, EachMade, Extra, IsNoClass, IsSlotStand, Sound, adds_any, adds_item, adds_items, adds_local, adds_slot, adds_then, adds_within, each_more, extra_and, extra_items, extra_local, extra_reads, extra_slot, no_extra}
+use Rattle.unrolling_laws.proofs.Extras.{Adds, EachMade, Extra, IsKnownStand, IsNoClass, IsSlotStand, Sound, adds_any, adds_item, adds_items, adds_local, adds_slot, adds_then, adds_within, each_more, extra_and, extra_items, extra_local, extra_reads, extra_slot, no_extra}
 use Rattle.unrolling_laws.proofs.Paths.{path_adds}
 
 -- nothing is added

@@ -17,8 +17,8 @@ none_sound : Sound no_growth
 none_sound = record { named = tt; asked = tt; unnamed = tt }
 
 pub trees_counted : CountsEnough
-trees_counted lexicon objects tree known =
-    let enough = all_enough (tree_readings lexicon objects tree) tree.body known in
+trees_counted lexicon objects tree =
+    let enough = all_enough (tree_readings lexicon objects tree) tree.body in
     let adds = enough.adds [] tt no_growth none_sound in
     let counts = enough.counts no_extra no_amounts none_counted in
     record {
@@ -33,8 +33,8 @@ unnamed_all [] each = All-nil (λ (variable : VarDecl). variable.name ≡ [])
 unnamed_all (local ∷ more) each = All-cons (λ (variable : VarDecl). variable.name ≡ []) local more each.0 (unnamed_all more each.1)
 
 pub trees_unnamed : LocalsAreUnnamed
-trees_unnamed lexicon objects tree known =
+trees_unnamed lexicon objects tree =
     let reading = tree_readings lexicon objects tree in
-    let enough = all_enough reading tree.body known in
+    let enough = all_enough reading tree.body in
     let adds = enough.adds [] tt no_growth none_sound in
     unnamed_all (unrolled reading [] tree.body no_growth).locals (adds.sound none_sound).unnamed

@@ -1,31 +1,13 @@
 -- What is counted from the text of a rule is enough.
-use Rattle.std.specs.Prelude.{◌≡◌, ℕ, ◌-◌, ◌^◌, ◌≤◌, min, ⊤, List, [], ◌∷◌, Some, length, slice_get}
+use Rattle.std.specs.Prelude.{ℕ, ◌-◌, ◌^◌, ◌≤◌, min, List, length}
 use Rattle.model_core.specs.declared.class.Object.{Object}
-use Rattle.model_core.specs.declared.item.Term.TheVariants as terms
 use Rattle.model_core.specs.declared.rule.Rule.{Rule}
 use Rattle.model_core.specs.Lawful.{guard_count, item_count}
 use Rattle.nddl_trees.specs.PlainTree.{PlainTree}
-use Rattle.nddl_terms.specs.declared.lexicon.ClassShape.{ClassShape}
 use Rattle.nddl_terms.specs.declared.lexicon.Lexicon.{Lexicon}
-use Rattle.nddl_terms.specs.declared.stands.Stand.{Stand}
-use Rattle.nddl_terms.specs.declared.stands.Stand.TheVariants.{Value}
 use Rattle.nddl_amounts.specs.declared.amounts.Amounts.{Amounts}
 use Rattle.nddl_amounts.specs.Counting.{tree_amounts}
 use Rattle.nddl_unrolling.specs.Rules.{tree_rule}
-
--- a value that is known
-abbrev pub IsKnownStand : Stand → Type 0
-IsKnownStand (Value (terms.Lit value) class) = ⊤
-IsKnownStand stand = ⊥
-
-abbrev pub AreKnownStands : List Stand → Type 0
-AreKnownStands [] = ⊤
-AreKnownStands (stand ∷ more) = IsKnownStand stand × AreKnownStands more
-
--- what a variable of `foreach` stands for is known
-abbrev pub HasKnownObjects : Lexicon → Type 0
-HasKnownObjects lexicon =
-    (class : ℕ) (shape : ClassShape) → slice_get lexicon.classes class ≡ Some shape → AreKnownStands shape.objects
 
 -- there are no more than this amount, which stays at the greatest number of 64 bits
 abbrev pub IsCounted : ℕ → ℕ → Type 0
@@ -41,5 +23,5 @@ pub record HasCounted (rule : Rule) (amounts : Amounts) : Type 0 where
 -- a rule that is unrolled has no more than is counted from its text
 abbrev pub CountsEnough : Type 0
 CountsEnough =
-    (lexicon : Lexicon) (objects : List Object) (tree : PlainTree) → HasKnownObjects lexicon
+    (lexicon : Lexicon) (objects : List Object) (tree : PlainTree)
     → HasCounted (tree_rule lexicon objects tree) (tree_amounts lexicon tree)

@@ -4,10 +4,9 @@ use Rattle.model_core.specs.declared.class.Object.{Object}
 use Rattle.nddl_trees.specs.PlainTree.{PlainTree}
 use Rattle.nddl_terms.specs.declared.lexicon.Lexicon.{Lexicon}
 use Rattle.nddl_unrolling.specs.Rules.{tree_rule}
-use Rattle.unrolling_laws.specs.Enough.{HasKnownObjects}
 
 -- no local of a rule that is unrolled has a name
 abbrev pub LocalsAreUnnamed : Type 0
 LocalsAreUnnamed =
-    (lexicon : Lexicon) (objects : List Object) (tree : PlainTree) → HasKnownObjects lexicon
+    (lexicon : Lexicon) (objects : List Object) (tree : PlainTree)
     → All (λ variable. variable.name ≡ []) (tree_rule lexicon objects tree).locals

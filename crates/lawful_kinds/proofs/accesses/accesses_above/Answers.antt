@@ -1,6 +1,7 @@
 use Rattle.lawful_kinds.specs.Terms.{scope_of}
 use Rattle.lawful_kinds.proofs.Accessing.{above_here, above_more, above_less, above_none}
 use Rattle.lawful_kinds.proofs.Telling.{told_false, told_not, told_so}
+use Rattle.lawful_kinds.proofs.Upward.{fewer_above}
 use Rattle.lawful_kinds.proofs.accesses.accesses_above.Goals as goal
 
 pub loop-access-preserved : goal.loop-access-preserved
@@ -13,7 +14,7 @@ loop-access-preserved c =
     )
 
 pub loop-access-smaller : goal.loop-access-smaller
-loop-access-smaller c = c.requires c.loop-access.class c.in-Some.parent c.in-Some.ensures
+loop-access-smaller c = fewer_above c.args.model.now c.args.parents.now c.requires c.loop-access.class c.in-Some.parent c.in-Some.ensures
 
 pub returns-in-None : goal.returns-in-None
 returns-in-None c = told_not _ (λ above.

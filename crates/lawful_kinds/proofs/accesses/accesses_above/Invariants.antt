@@ -1,4 +1,5 @@
-use Rattle.std.specs.Prelude.{◌↔◌, slice_index}
+use Rattle.std.specs.Prelude.{◌↔◌, length}
+use Rattle.lineage.specs.Ancestors.{ancestry}
 use Rattle.lawful_kinds.specs.Terms.{AccessesAbove, scope_of}
 use Rattle.lawful_kinds.proofs.accesses.accesses_above.Given as goal
 
@@ -9,4 +10,4 @@ invariant-loop-access l =
     ↔ AccessesAbove l.model (scope_of l.place) l.first l.access.field l.access.object l.access.value
 
 abbrev pub decreases-loop-access : goal.decreases-loop-access
-decreases-loop-access l = slice_index l.ranks l.class
+decreases-loop-access l = length (ancestry l.parents l.class)

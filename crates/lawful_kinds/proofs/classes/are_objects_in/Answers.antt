@@ -1,4 +1,4 @@
-use Rattle.std.proofs.Common.{◌≡◌, ℤ, w32, to_z, of_z, sym, subst, arith}
+use Rattle.std.proofs.Common.{◌≡◌, w32, to_z, of_z, sym, subst, arith}
 use Rattle.std.proofs.lemmas.Int.{ints}
 use Rattle.model_core.specs.Kinds.{IsObjectOf}
 use Rattle.lawful_kinds.proofs.Each.{all_so, not_all}

@@ -1,6 +1,6 @@
 use Rattle.std.proofs.Common.{◌≡◌, ℤ, w32, to_z, of_z, sym, ◌∙◌, subst, arith}
 use Rattle.std.proofs.lemmas.Int.{ints}
-use Rattle.domain_core.specs.Domain.{Has, least}
+use Rattle.domain_core.specs.Domain.{Has}
 use Rattle.domain_core.proofs.Words.{has_least}
 use Rattle.model_core.specs.Kinds.{IsObjectOf}
 use Rattle.lawful_kinds.proofs.Telling.{has_less}

@@ -2,7 +2,7 @@ use Rattle.std.proofs.Common.{◌≡◌, ℤ, w32, to_z, of_z, sym, subst, arith
 use Rattle.std.proofs.lemmas.Int.{ints}
 use Rattle.model_core.specs.declared.item.Term.{Term}
 use Rattle.model_core.specs.Kinds.{IsObjectOf, IsOfClass}
-use Rattle.lawful_kinds.specs.Terms.{HasAll, IsInner, scope_of}
+use Rattle.lawful_kinds.specs.Terms.{HasAll, scope_of}
 use Rattle.lawful_kinds.proofs.lines.term_line.Goals as goal
 
 pub returns-in-Lit : goal.returns-in-Lit

@@ -1,7 +1,5 @@
 use Rattle.std.proofs.Common.{◌≡◌, ℤ, w32, to_z, of_z, sym, subst, arith}
 use Rattle.std.proofs.lemmas.Int.{ints}
-use Rattle.eu_name.proofs.Members.{get_same}
-use Rattle.model_core.specs.declared.class.Enum.{Enum}
 use Rattle.model_core.specs.Kinds.{IsMemberOf}
 use Rattle.lawful_kinds.specs.Members.{HasMember}
 use Rattle.lawful_kinds.proofs.Telling.{told_as, told_not}

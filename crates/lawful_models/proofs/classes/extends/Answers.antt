@@ -1,4 +1,4 @@
-use Rattle.std.proofs.Common.{ℕ, Some, sym, ◌∙◌, subst}
+use Rattle.std.proofs.Common.{sym, ◌∙◌, subst}
 use Rattle.model_core.specs.Lawful.{ExtendsFields}
 use Rattle.lawful_kinds.proofs.Telling.{some_same, told_as, told_so}
 use Rattle.lawful_models.specs.Classes.{Extends}

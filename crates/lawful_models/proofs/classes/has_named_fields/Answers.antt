@@ -1,4 +1,4 @@
-use Rattle.std.proofs.Common.{List, ◌↔◌, IsTrue, All, map, subst}
+use Rattle.std.proofs.Common.{List, ◌↔◌, IsTrue, All, subst}
 use Rattle.model_core.specs.declared.variable.VarDecl.{VarDecl}
 use Rattle.eu_name.specs.Word.{IsName}
 use Rattle.model_core.specs.Naming.{names_of}

@@ -1,6 +1,5 @@
-use Rattle.std.proofs.Common.{List, [], ◌++◌, map}
+use Rattle.std.proofs.Common.{[], ◌++◌, map}
 use Rattle.std.specs.List.{flat_map}
-use Rattle.model_core.specs.declared.class.Class.{Class}
 use Rattle.model_core.specs.declared.class.Enum.{Enum}
 use Rattle.model_core.specs.declared.class.Object.{Object}
 use Rattle.model_core.specs.declared.model.Root.{Root}

@@ -1,4 +1,4 @@
-use Rattle.std.proofs.Common.{List, ◌↔◌, IsTrue, All, map, subst}
+use Rattle.std.proofs.Common.{List, ◌↔◌, IsTrue, All, subst}
 use Rattle.std.specs.List.{flat_map}
 use Rattle.model_core.specs.declared.class.Enum.{Enum}
 use Rattle.lawful_models.specs.Naming.{IsOwnName}

@@ -1,4 +1,4 @@
-use Rattle.std.proofs.Common.{List, ◌↔◌, IsTrue, All, map, subst}
+use Rattle.std.proofs.Common.{List, ◌↔◌, IsTrue, subst}
 use Rattle.model_core.specs.declared.variable.VarDecl.{VarDecl}
 use Rattle.model_core.specs.Lawful.{HasQuantity}
 use Rattle.lawful_models.proofs.preds.has_its_quantity.Goals as goal

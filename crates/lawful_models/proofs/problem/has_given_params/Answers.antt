@@ -1,4 +1,4 @@
-use Rattle.std.proofs.Common.{List, ◌↔◌, IsTrue, All, map, subst}
+use Rattle.std.proofs.Common.{List, ◌↔◌, IsTrue, All, subst}
 use Rattle.model_core.specs.declared.variable.VarDecl.{VarDecl}
 use Rattle.model_core.specs.Variables.{IsGiven}
 use Rattle.lawful_models.proofs.problem.has_given_params.Goals as goal

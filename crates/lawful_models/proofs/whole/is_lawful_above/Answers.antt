@@ -1,6 +1,6 @@
-use Rattle.std.proofs.Common.{ℕ, List, sym, subst}
+use Rattle.std.proofs.Common.{subst}
 use Rattle.std.specs.Prelude.{MatchOption}
-use Rattle.lawful_kinds.specs.Ground.{AreRanks}
+use Rattle.lawful_kinds.specs.Ground.{AreClassParents}
 use Rattle.lawful_kinds.proofs.Telling.{ok_as, told_not}
 use Rattle.lawful_models.specs.Classes.{AreInLine}
 use Rattle.lawful_models.specs.Wholes.{HasLawfulProblem, IsLawfulAbove}
@@ -10,16 +10,16 @@ use Rattle.lawful_models.proofs.whole.is_lawful_above.Goals as goal
 pub has_lawful_problem-requires-clause-ground : goal.has_lawful_problem-requires-clause-ground
 has_lawful_problem-requires-clause-ground c =
     let model = c.args.model.now in
-    let line = subst (λ found. MatchOption found (AreInLine model → ⊥) (λ ranks. AreInLine model × AreRanks model ranks.items)) c.in-Some.is c.in_ok-found.ensures in
-    ground_is model c.as_slice.result.now c.requires.small c.requires.basis (subst (AreRanks model) (sym c.as_slice.ensures.value) line.1)
+    let line = subst (λ found. MatchOption found (AreInLine model → ⊥) (λ parents. AreInLine model × AreClassParents model parents)) c.in-Some.is c.in_ok-found.ensures in
+    ground_is model c.in-Some.parents c.requires.small c.requires.basis line.1
 
 pub returns-in-Some : goal.returns-in-Some
 returns-in-Some c =
     let model = c.args.model.now in
-    let line = subst (λ found. MatchOption found (AreInLine model → ⊥) (λ ranks. AreInLine model × AreRanks model ranks.items)) c.in-Some.is c.in_ok-found.ensures in
+    let line = subst (λ found. MatchOption found (AreInLine model → ⊥) (λ parents. AreInLine model × AreClassParents model parents)) c.in-Some.is c.in_ok-found.ensures in
     ok_as c.has_lawful_problem.result (HasLawfulProblem model) (IsLawfulAbove model) (λ problem. record { line = line.0; problem = problem }) (λ above. above.problem) c.has_lawful_problem.ensures
 
 pub returns-in-None : goal.returns-in-None
 returns-in-None c =
     let model = c.args.model.now in
-    told_not _ (λ above. subst (λ found. MatchOption found (AreInLine model → ⊥) (λ ranks. AreInLine model × AreRanks model ranks.items)) c.in-None.is c.in_ok-found.ensures above.line)
+    told_not _ (λ above. subst (λ found. MatchOption found (AreInLine model → ⊥) (λ parents. AreInLine model × AreClassParents model parents)) c.in-None.is c.in_ok-found.ensures above.line)

@@ -1,4 +1,4 @@
-use Rattle.std.specs.Prelude.{◌≡◌, ◌+◌, take, drop}
+use Rattle.std.specs.Prelude.{◌≡◌, ◌+◌, drop}
 use Rattle.model_core.specs.Block.{plain_entries}
 use Rattle.lawful_rules.specs.Amounts.{amount_of}
 use Rattle.lawful_rules.proofs.amounts.+amounts.Given as goal

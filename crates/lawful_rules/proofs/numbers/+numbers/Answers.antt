@@ -1,4 +1,3 @@
-use Rattle.std.proofs.Common.{refl}
 use Rattle.lawful_rules.specs.Numbered.{numbers_of}
 use Rattle.lawful_rules.proofs.Splitting.{numbers_none, numbers_split, entry_added, entries_added}
 use Rattle.lawful_rules.proofs.numbers.+numbers.Goals as goal

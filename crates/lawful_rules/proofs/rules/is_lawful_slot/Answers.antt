@@ -1,4 +1,4 @@
-use Rattle.std.proofs.Common.{sym, ap, subst}
+use Rattle.std.proofs.Common.{subst}
 use Rattle.eu_name.proofs.Members.{get_same}
 use Rattle.model_core.specs.declared.class.Pred.{Pred}
 use Rattle.model_core.specs.Lawful.{IsLawfulSlot}

@@ -1,4 +1,4 @@
-use Rattle.std.proofs.Common.{None, Some, ◌≡◌, ◌≤◌, ◌∙◌, ap, length, take, arith, subst, ℕ}
+use Rattle.std.proofs.Common.{None, Some, ◌≡◌, ◌∙◌, ap, length, take, arith, subst, ℕ}
 use Rattle.lineage.specs.Walks.{AreBegun}
 use Rattle.lineage.proofs.Beginning.{begun_root_as, begun_other_as, begun_all, begun_none}
 use Rattle.lineage.proofs.Lists.{read_at}

@@ -1,4 +1,4 @@
-use Rattle.std.proofs.Common.{arith, None, Some, length, length-append, ◌≡◌, ◌<◌, ◌∷◌, []}
+use Rattle.std.proofs.Common.{arith, None, Some, length, ◌<◌}
 use Rattle.lineage.specs.declared.walk.Mark.TheVariants as marks
 use Rattle.lineage.proofs.Climbing.{climbed_more, fewer_unseen}
 use Rattle.lineage.proofs.Lists.{read_at}

@@ -1,4 +1,3 @@
-use Rattle.std.proofs.Common.{◌≡◌, ℕ}
 use Rattle.std.proofs.Common.{sum_by}
 use Rattle.lineage.specs.Walks.{HasClimbed}
 use Rattle.lineage.proofs.Unseen.{unseen_weight}

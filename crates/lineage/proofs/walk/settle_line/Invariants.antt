@@ -1,6 +1,6 @@
 use Rattle.std.proofs.Common.{take}
 use Rattle.lineage.specs.declared.walk.Mark.TheVariants as mark
-use Rattle.lineage.specs.Walks.{MarksAll, below_of}
+use Rattle.lineage.specs.Walks.{MarksAll}
 use Rattle.lineage.proofs.walk.settle_line.Given as goal
 
 abbrev pub invariant-loop-number : goal.invariant-loop-number

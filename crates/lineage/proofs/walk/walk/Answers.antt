@@ -1,8 +1,8 @@
-use Rattle.std.proofs.Common.{◌≡◌, Option, sym, subst, ℕ, List, ap, OnOk, Result, Ok, Err}
+use Rattle.std.proofs.Common.{◌≡◌, Option, subst, ℕ, List, OnOk, Result, Ok, Err}
 use Rattle.std.specs.declared.alloc.AllocError.{AllocError}
 use Rattle.lineage.specs.declared.walk.End.{End}
 use Rattle.lineage.specs.declared.walk.Mark.{Mark}
-use Rattle.lineage.specs.Walks.{AreWalkable, Climbs, Finishes, IsEndAlong, IsKnownFrom}
+use Rattle.lineage.specs.Walks.{AreWalkable, Climbs, Finishes, IsKnownFrom}
 use Rattle.lineage.proofs.Settling.{path_there, end_along, walk_settles}
 use Rattle.lineage.proofs.walk.walk.Goals as goal
 

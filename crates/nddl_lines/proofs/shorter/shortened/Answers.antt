@@ -1,22 +1,19 @@
-use Rattle.std.proofs.Common.{ℕ, List, ◌+◌, get_or, map, sym, ◌∙◌, ap, subst}
+use Rattle.std.proofs.Common.{ℕ, List, ◌+◌, get_or, sym, ◌∙◌, ap, subst}
 use Rattle.std.specs.Prelude.{Option, slice_set}
 use Rattle.std.proofs.lemmas.Option.{slice_get-get_or}
 use Rattle.lineage.specs.Lines.{IsLineageOf}
-use Rattle.nddl_lines.specs.Ancestors.{parent_in}
 use Rattle.nddl_lines.specs.Shorter.{is_marked, passed_over}
-use Rattle.nddl_lines.proofs.Passing.{ArePassed, all_shorter, marked_over, none_passed, passes_on}
-use Rattle.nddl_lines.proofs.Ways.{within_way}
+use Rattle.nddl_lines.proofs.Passing.{ArePassed, all_shorter, none_passed, passes_on}
+use Rattle.lineage.proofs.Ways.{within_way}
 use Rattle.nddl_lines.proofs.shorter.shortened.Goals as goal
 
 pub loop-entry-init : goal.loop-entry-init
 loop-entry-init c =
-    none_passed c.args.scope.now (map (λ decl. decl.now) c.args.decls.now) c.args.parents.now c.order-order.result.now c.in_ok-short.short.items
-    c.in_ok-short.ensures
+    none_passed (is_marked c.args.marks.now) c.args.parents.now c.order-order.result.now c.in_ok-short.short.items c.in_ok-short.ensures
 
 pub loop-entry-preserved : goal.loop-entry-preserved
 loop-entry-preserved c =
-    let names = c.args.scope.now in
-    let program = map (λ decl. decl.now) c.args.decls.now in
+    let test = is_marked c.args.marks.now in
     let parents = c.args.parents.now in
     let order = c.order-order.result.now in
     let count = c.loop-entry.entry-index in
@@ -27,19 +24,15 @@ loop-entry-preserved c =
     let lineage = subst L (sym c.order-order.ensures) c.requires in
     let rooted = lineage.sound count entry here in
     let inside = (within_way parents entry rooted.path rooted.root rooted.leads rooted.ends).0 in
-    let P : List (Option ℕ) → Type 0 = λ some. ArePassed names program parents order (count + 1) some in
-    let next = c.passed_over-passed.ensures
-    ∙ ((λ i. passed_over (is_marked (c.as_slice.ensures.value i)) (c.as_slice-in-loop-entry.ensures.value i) (c.parent_in-next.ensures i)))
-    ∙ marked_over names program c.in_ok-adds.adds.items short (parent_in parents entry) c.in_ok-adds.ensures in
+    let P : List (Option ℕ) → Type 0 = λ some. ArePassed test parents order (count + 1) some in
+    let next = c.passed_over-passed.ensures ∙ (λ i. passed_over test (c.as_slice.ensures.value i) (c.parent_in-next.ensures i)) in
     subst P (sym (c.put.ensures ∙ ap (λ n. slice_set short entry n) next))
-    (passes_on names program parents order lineage.ordered count entry short here inside c.loop-entry.invariant)
+    (passes_on test parents order lineage.ordered count entry short here inside c.loop-entry.invariant)
 
 pub returns : goal.returns
 returns c =
-    let names = c.args.scope.now in
-    let program = map (λ decl. decl.now) c.args.decls.now in
     let order = c.order-order.result.now in
     let L : List ℕ → Type 0 = λ some. IsLineageOf c.args.parents.now c.args.lineage.now.marks.items some in
     let lineage = subst L (sym c.order-order.ensures) c.requires in
-    all_shorter names program c.args.parents.now order lineage.ordered c.loop-entry.entry-index c.loop-entry.short.items c.loop-entry-test.false
-    c.loop-entry.invariant c.args.lineage.now.marks.items lineage
+    all_shorter (is_marked c.args.marks.now) c.args.parents.now order lineage.ordered c.loop-entry.entry-index c.loop-entry.short.items
+    c.loop-entry-test.false c.loop-entry.invariant c.args.lineage.now.marks.items lineage

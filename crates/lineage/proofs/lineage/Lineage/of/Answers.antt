@@ -1,4 +1,4 @@
-use Rattle.std.proofs.Common.{◌≡◌, ◌+◌, ◌++◌, arith, subst, sym, ℕ, List, length, drop}
+use Rattle.std.proofs.Common.{◌≡◌, ◌+◌, arith, subst, sym, ℕ, List, length, drop}
 use Rattle.lineage.specs.declared.walk.Mark.{Mark}
 use Rattle.lineage.specs.Walks.{IsKnownFrom}
 use Rattle.lineage.proofs.Known.{AreKnownBelow, known_none, known_more, known_all}

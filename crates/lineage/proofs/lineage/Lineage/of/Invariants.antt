@@ -1,6 +1,3 @@
-use Rattle.std.proofs.Common.{ℕ, ◌<◌}
-use Rattle.lineage.specs.Walks.{AreWalkable, IsKnownAs}
-use Rattle.lineage.specs.declared.lineage.Standing.{Standing}
 use Rattle.lineage.proofs.Known.{AreKnownBelow}
 use Rattle.lineage.proofs.lineage.Lineage.of.Given as goal
 

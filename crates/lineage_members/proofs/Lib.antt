@@ -1,0 +1,3 @@
+pub mod Marking
+mod Sharing
+mod Handing
