@@ -141,6 +141,10 @@ class A { A(int n) { } } class B extends A { B() { super(); } } | fine
 class A { A(int n) { } } class B extends A { B() { super(); } } B b = new B(); | WrongCount m 74
 class B extends Reusable { B() { super(1); capacity = 2; } } B b = new B(); | WrongCount m 71
 class B { int [0 5] k; B(int n) { k = n; } } class A { B b; A() { b = new B(7); } } foo(1); A a = new A(); | NotInDomain m 74
+class A { int {1, 3} k; A(int n) { k = n; } } A a = new A(3); A b = new A(2); | NotInDomain m 72
+enum E { a, b, c } class A { E {a, c} k; } class B extends A { B(E e) { k = e; } } class C extends A { C() { k = b; } } B x = new B(c); C y = new C(); | NotInDomain m 146
+class A { int {1} k; A() { k = 1; } } class B { int {2} k; B() { k = 1; } } A a = new A(); B b = new B(); | NotInDomain m 101
+class R { } R r = new R(); R s = new R(); class A { R {r} f; A(R x) { f = x; } } A a = new A(r); A b = new A(s); | NotInDomain m 107
 class A { A(int [0 5] n) { } } A a = new A(9); | fine
 class A { int k; A(int k) { k = k; } } A a = new A(9); | fine
 class A { A f; A() { f = new A(); } } A a = new A(); | Limit:new m 29

@@ -98,8 +98,8 @@ fn is_number_within(
     }
 }
 
-// Whether the value lies outside of what a type means.
-fn is_outside_meaning(
+/// Whether the value lies outside of what a type means.
+pub fn is_outside_meaning(
     alloc: Global,
     footing: &Ground<'_>,
     objects: &[MadeObject],

@@ -5,6 +5,7 @@ ghost use Rattle.nddl_scope.specs.Scope.{named_number};
 ghost use Rattle.nddl_lines.specs.Facts.{facts_of};
 ghost use Rattle.nddl_data.specs.declared.made.Standing.TheVariants.{Unmade};
 ghost use Rattle.nddl_data.specs.Scene.{scenery_of};
+ghost use Rattle.nddl_field_types.specs.Kept.{AreFieldTypes};
 ghost use Rattle.nddl_running.specs.Construction.{construction_of};
 ghost use Rattle.nddl_running.specs.Made.{made_by, new_datum, new_made};
 ghost use Rattle.nddl_objects.specs.Objects.{all_declared, bare_scene, one_declared, last_progress, init_declared, most_levels, new_declared, object_declared, settings_declared, progress_of, stood};
@@ -16,9 +17,10 @@ use nddl_ast::expression::{Creation, Init};
 use nddl_ast::statement::Variable;
 use nddl_constructors::note_written;
 use nddl_data::{Datum, Ground, Scene, Standing};
+use nddl_field_types::FieldTypes;
 use nddl_lines::Basis;
 use nddl_running::making::DEEPEST;
-use nddl_running::{Making, make_new};
+use nddl_running::{Blueprint, Making, make_new};
 use nddl_scope::Declared;
 use nddl_scope::declared::variable_sort;
 use std::alloc::{AllocError, Global};
@@ -57,11 +59,13 @@ fn stand(standing: &mut Vec<Standing>, entry: Option<usize>, datum: Option<Datum
 fn declare_object(
     alloc: Global,
     basis: &Basis<'_>,
+    types: &FieldTypes,
     decl: usize,
     variable: &Variable,
     creation: &Creation,
     program: &mut Program,
 ) -> Result<(), AllocError>
+    requires { AreFieldTypes (facts_of basis.now) types.now }
     ensures { OnOk result (progress_of program.new
         ≡ object_declared (facts_of basis.now) decl variable.now creation.now (progress_of program.old)) }
 {
@@ -69,6 +73,7 @@ fn declare_object(
     let datum = make_declared(
         alloc,
         basis,
+        types,
         program.standing.as_slice(),
         decl,
         variable,
@@ -83,12 +88,14 @@ fn declare_object(
 fn make_declared(
     alloc: Global,
     basis: &Basis<'_>,
+    types: &FieldTypes,
     standing: &[Standing],
     decl: usize,
     variable: &Variable,
     creation: &Creation,
     making: &mut Making,
 ) -> Result<Option<Datum>, AllocError>
+    requires { AreFieldTypes (facts_of basis.now) types.now }
     ensures datum { IfOk result (λ datum.
         datum ≡ new_datum most_levels (facts_of basis.now) creation.now (construction_of making.old)) }
     ensures made { OnOk result (construction_of making.new
@@ -102,9 +109,10 @@ fn make_declared(
         basis: *basis,
         standing,
     };
+    let blueprint = Blueprint { footing, types };
     make_new(
         alloc,
-        &footing,
+        &blueprint,
         &scene_of(decl),
         name,
         entry,
@@ -144,18 +152,20 @@ fn declare_settings(
 fn declare_new(
     alloc: Global,
     basis: &Basis<'_>,
+    types: &FieldTypes,
     decl: usize,
     variable: &Variable,
     creation: &Creation,
     program: &mut Program,
 ) -> Result<(), AllocError>
+    requires { AreFieldTypes (facts_of basis.now) types.now }
     ensures { OnOk result (progress_of program.new
         ≡ new_declared (facts_of basis.now) decl variable.now creation.now (progress_of program.old)) }
 {
     if variable_sort(variable).is_config() {
         declare_settings(alloc, basis, decl, creation, program)
     } else {
-        declare_object(alloc, basis, decl, variable, creation, program)
+        declare_object(alloc, basis, types, decl, variable, creation, program)
     }
 }
 
@@ -163,15 +173,19 @@ fn declare_new(
 fn declare_variable(
     alloc: Global,
     basis: &Basis<'_>,
+    types: &FieldTypes,
     decl: usize,
     variable: &Variable,
     program: &mut Program,
 ) -> Result<(), AllocError>
+    requires { AreFieldTypes (facts_of basis.now) types.now }
     ensures { OnOk result (progress_of program.new
         ≡ init_declared (facts_of basis.now) decl variable.now variable.now.init (progress_of program.old)) }
 {
     match &variable.init {
-        Some(Init::New(creation)) => declare_new(alloc, basis, decl, variable, creation, program),
+        Some(Init::New(creation)) => declare_new(
+            alloc, basis, types, decl, variable, creation, program,
+        ),
         _ => Ok(()),
     }
 }
@@ -180,15 +194,19 @@ fn declare_variable(
 fn declare(
     alloc: Global,
     basis: &Basis<'_>,
+    types: &FieldTypes,
     number: usize,
     decl: &Decl,
     program: &mut Program,
 ) -> Result<(), AllocError>
+    requires { AreFieldTypes (facts_of basis.now) types.now }
     ensures { OnOk result (progress_of program.new
         ≡ one_declared (facts_of basis.now) number decl.now (progress_of program.old)) }
 {
     match decl {
-        Decl::Variable(variable) => declare_variable(alloc, basis, number, variable, program),
+        Decl::Variable(variable) => declare_variable(
+            alloc, basis, types, number, variable, program,
+        ),
         _ => Ok(()),
     }
 }
@@ -197,14 +215,16 @@ fn declare(
 fn declare_all(
     alloc: Global,
     basis: &Basis<'_>,
+    types: &FieldTypes,
     decls: &[&Decl],
     program: &mut Program,
 ) -> Result<(), AllocError>
+    requires { AreFieldTypes (facts_of basis.now) types.now }
     ensures { OnOk result (progress_of program.new
         ≡ all_declared (facts_of basis.now) 0 (map (λ decl. decl.now) decls.now) (progress_of program.old)) }
 {
     for (number, decl) in decls.iter().enumerate() {
-        declare(alloc, basis, number, *decl, program)?;
+        declare(alloc, basis, types, number, *decl, program)?;
     }
     Ok(())
 }
@@ -221,8 +241,17 @@ fn unmade(alloc: Global, names: &[Declared]) -> Result<Vec<Standing>, AllocError
 }
 
 /// Makes the objects of a program of which this is known, and finds the earliest of all that is wrong with them.
-#[tactic(auto, unfolding(crate::specs::Objects::last_progress))]
 pub fn make_objects(alloc: Global, basis: &Basis<'_>) -> Result<Program, AllocError>
+    ensures { IfOk result (λ program. progress_of program ≡ last_progress (facts_of basis.now)) }
+{
+    let types = FieldTypes::of(alloc, basis)?;
+    make_typed(alloc, &*basis, &types)
+}
+
+// The same, where this is what the types of its fields mean.
+#[tactic(auto, unfolding(crate::specs::Objects::last_progress))]
+fn make_typed(alloc: Global, basis: &Basis<'_>, types: &FieldTypes) -> Result<Program, AllocError>
+    requires { AreFieldTypes (facts_of basis.now) types.now }
     ensures { IfOk result (λ program. progress_of program ≡ last_progress (facts_of basis.now)) }
 {
     let mut first = None;
@@ -233,6 +262,6 @@ pub fn make_objects(alloc: Global, basis: &Basis<'_>) -> Result<Program, AllocEr
         standing,
         settings: Sequence::new(alloc),
     };
-    declare_all(alloc, basis, basis.decls, &mut program)?;
+    declare_all(alloc, basis, types, basis.decls, &mut program)?;
     Ok(program)
 }

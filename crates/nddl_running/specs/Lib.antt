@@ -1,3 +1,4 @@
+pub mod Blueprints
 pub mod Construction
 pub mod Finished
 pub mod Made

@@ -1,5 +1,5 @@
 -- What a `new` makes: the object, and those that its constructors make in turn.
-use Rattle.std.specs.Prelude.{ℕ, zero, suc, ◌==◌, Bool, false, ◌&&◌, nat_lt, List, [], ◌∷◌, ◌++◌, Option, Some, None}
+use Rattle.std.specs.Prelude.{ℕ, zero, suc, ◌==◌, Bool, ◌&&◌, nat_lt, List, [], ◌∷◌, ◌++◌, Option, Some, None}
 use Rattle.std.specs.Prelude.{length, slice_get, codes, if◌then◌else◌}
 use Rattle.std.specs.Option.{option_map_or}
 use Rattle.nddl_ast.specs.declared.declaration.Member.{Member}
@@ -15,18 +15,16 @@ use Rattle.nddl_scope.specs.declared.scope.Meaning.{Meaning}
 use Rattle.nddl_scope.specs.declared.scope.Meaning.TheVariants as meanings
 use Rattle.nddl_scope.specs.Finding.{faults_here}
 use Rattle.nddl_scope.specs.Scope.{fault_if}
-use Rattle.nddl_lines.specs.Ancestors.{ancestry}
 use Rattle.nddl_lines.specs.Facts.{Facts}
-use Rattle.nddl_paths.specs.Fields.{field_along}
 use Rattle.nddl_constructors.specs.Bodies.{field_in_line, field_kind}
 use Rattle.nddl_constructors.specs.Wants.{class_wants}
 use Rattle.nddl_data.specs.declared.made.Datum.{Datum}
 use Rattle.nddl_data.specs.declared.made.Datum.TheVariants as datums
 use Rattle.nddl_data.specs.declared.made.FieldValue.{FieldValue}
 use Rattle.nddl_data.specs.declared.made.MadeObject.{MadeObject}
-use Rattle.nddl_data.specs.Fitting.{is_outside_type}
 use Rattle.nddl_data.specs.Reading.{all_unmade_faults, datum_at, settled_data, settled_datum, unmade_faults}
 use Rattle.nddl_data.specs.Scene.{Grounds, Scenery}
+use Rattle.nddl_field_types.specs.Outside.{is_outside_field}
 use Rattle.nddl_passed.specs.declared.passing.Passed.{Passed}
 use Rattle.nddl_passed.specs.Classes.{constructor_at, constructor_sets, line_up, made_class}
 use Rattle.nddl_passed.specs.Passing.{constructor_scene, passed_down, passing_faults}
@@ -43,13 +41,8 @@ Makes = Asked → Builds
 
 -- ---- fields
 
--- the value of the field of this name, which a constructor of the class of this number sets, lies outside of its type
-abbrev pub is_outside_field : Grounds → List MadeObject → ℕ → List ℕ → Option Datum → Bool
-is_outside_field grounds objects entry name datum =
-    option_map_or (λ typed. is_outside_type grounds objects typed.declared datum)
-    (field_along grounds.facts.names grounds.facts.program name (ancestry grounds.facts.parents entry)) false
-
--- what is wrong with such a value, at the `new` that makes the object
+-- what is wrong with a value to which a constructor of the class of this number sets the field, at the `new` that makes the
+-- object
 abbrev pub outside_faults : Grounds → List MadeObject → Subject → ℕ → List ℕ → Option Datum → List Fault
 outside_faults grounds objects subject entry name datum =
     faults_here subject.place.decl subject.place.at

@@ -1,10 +1,12 @@
-//! Objects that are made as constructors say: `make_new(alloc, footing, scene, name, entry,
+//! Objects that are made as constructors say: `make_new(alloc, blueprint, scene, name, entry,
 //! creation, levels, making)?` makes what a `new` asks for.
 #![tactic(auto)]
 
+pub mod blueprint;
 pub mod finished;
 pub mod making;
 pub mod running;
 
+pub use blueprint::Blueprint;
 pub use making::{Making, Request};
 pub use running::make_new;

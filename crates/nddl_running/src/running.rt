@@ -3,11 +3,13 @@
 ghost use Rattle.std.specs.Prelude.{◌≡◌, [], None, IfOk, OnOk};
 ghost use Rattle.std.specs.Option.{option_map_or};
 ghost use Rattle.nddl_lines.specs.Facts.{facts_of};
-ghost use Rattle.nddl_data.specs.Scene.{grounds_of, scenery_of};
+ghost use Rattle.nddl_data.specs.Scene.{scenery_of};
 ghost use Rattle.nddl_passed.specs.Passing.{constructor_scene, passing_faults};
+ghost use Rattle.nddl_running.specs.Blueprints.{grounds_in};
 ghost use Rattle.nddl_running.specs.Construction.{asked_of, construction_of, noted, subject_of};
-ghost use Rattle.nddl_running.specs.Made.{asked_object, body_run, builtin_run, class_run, classes_run, field_given, fields_of, finished, init_set, is_outside_field, made_by, nested_name, nested_set, new_datum, new_made, next_datum, number_set, object_run, part_run, parts_run, value_set};
+ghost use Rattle.nddl_running.specs.Made.{asked_object, body_run, builtin_run, class_run, classes_run, field_given, fields_of, finished, init_set, made_by, nested_name, nested_set, new_datum, new_made, next_datum, number_set, object_run, part_run, parts_run, value_set};
 
+use super::blueprint::Blueprint;
 use super::finished::note_finished;
 use super::making::{Making, Request, Subject};
 use eu_name::text::Text;
@@ -19,42 +21,20 @@ use nddl_constructors::bodies::{field_in_line, field_kind};
 use nddl_constructors::class_wants;
 use nddl_constructors::formals::formals_seen;
 use nddl_data::reading::{datum_at, note_all_unmade};
-use nddl_data::{
-    Datum, Ground, MadeObject, Scene, SetFields, is_outside_type, note_unmade, settled_data,
-    settled_datum,
-};
+use nddl_data::{Datum, MadeObject, Scene, SetFields, note_unmade, settled_data, settled_datum};
+use nddl_field_types::is_outside_field;
 use nddl_joined::Place;
 use nddl_passed::classes::{body_decl, constructor_formals, constructor_sets};
 use nddl_passed::{Passed, adding_up, constructor_at, made_class, note_passing, passed_down};
-use nddl_paths::fields::field_of_class;
 use nddl_scope::Meaning;
 use nddl_scope::fault::note_at;
 use nddl_scope::twice::kind_if;
 use std::alloc::{AllocError, Global};
 
-// Whether the value of the field, which a constructor of the class of this number sets, lies outside of its type.
-fn is_outside_field(
-    alloc: Global,
-    footing: &Ground<'_>,
-    objects: &[MadeObject],
-    entry: usize,
-    name: &Text,
-    value: Option<Datum>,
-) -> Result<bool, AllocError>
-    ensures { IfOk result (λ outside.
-        outside ≡ is_outside_field (grounds_of footing.now) objects.now entry name.now value) }
-{
-    let field = field_of_class(alloc, &footing.basis, name, entry)?;
-    match field {
-        Some(typed) => is_outside_type(alloc, footing, objects, &typed.declared, value),
-        None => Ok(false),
-    }
-}
-
 // A constructor of the class of this number sets the field.
 fn set_field(
     alloc: Global,
-    footing: &Ground<'_>,
+    blueprint: &Blueprint<'_>,
     subject: &Subject<'_>,
     entry: usize,
     name: &Text,
@@ -62,11 +42,12 @@ fn set_field(
     making: &mut Making,
 ) -> Result<(), AllocError>
     ensures { OnOk result (construction_of making.new
-        ≡ field_given (grounds_of footing.now) (subject_of subject.now) entry name.now value (construction_of making.old)) }
+        ≡ field_given (grounds_in blueprint.now) (subject_of subject.now) entry name.now value (construction_of making.old)) }
 {
     let is_outside = is_outside_field(
         alloc,
-        footing,
+        &blueprint.footing,
+        blueprint.types,
         making.objects.as_slice(),
         entry,
         name,
@@ -156,19 +137,19 @@ fn fields_of<'a>(objects: &'a [MadeObject], number: usize, none: &'a SetFields) 
 // Notes what is wrong with the fields of the object.
 fn finish(
     alloc: Global,
-    footing: &Ground<'_>,
+    blueprint: &Blueprint<'_>,
     subject: &Subject<'_>,
     class: Meaning,
     making: &mut Making,
 ) -> Result<(), AllocError>
     ensures { OnOk result (construction_of making.new
-        ≡ finished (facts_of footing.now.basis) (subject_of subject.now) class (construction_of making.old)) }
+        ≡ finished (facts_of blueprint.now.footing.basis) (subject_of subject.now) class (construction_of making.old)) }
 {
-    let line = adding_up(alloc, &footing.basis, class)?;
+    let line = adding_up(alloc, &blueprint.footing.basis, class)?;
     let none = SetFields::new(alloc);
     note_finished(
         alloc,
-        &footing.basis,
+        &blueprint.footing.basis,
         subject.place,
         line.as_slice(),
         fields_of(making.objects.as_slice(), subject.number, &none),
@@ -202,7 +183,7 @@ fn class_datum(levels: usize, class: Option<Meaning>, making: &Making) -> Option
 #[cycle(making)]
 pub fn make_new(
     alloc: Global,
-    footing: &Ground<'_>,
+    blueprint: &Blueprint<'_>,
     scene: &Scene<'_>,
     name: &Text,
     entry: Option<usize>,
@@ -211,20 +192,20 @@ pub fn make_new(
     making: &mut Making,
 ) -> Result<Option<Datum>, AllocError>
     ensures datum { IfOk result (λ datum.
-        datum ≡ new_datum levels (facts_of footing.now.basis) creation.now (construction_of making.old)) }
-    ensures made { OnOk result (construction_of making.new ≡ new_made (made_by levels (grounds_of footing.now))
-        (grounds_of footing.now) (scenery_of scene.now) name.now entry creation.now (construction_of making.old)) }
+        datum ≡ new_datum levels (facts_of blueprint.now.footing.basis) creation.now (construction_of making.old)) }
+    ensures made { OnOk result (construction_of making.new ≡ new_made (made_by levels (grounds_in blueprint.now))
+        (grounds_in blueprint.now) (scenery_of scene.now) name.now entry creation.now (construction_of making.old)) }
 {
-    let class = made_class(alloc, &footing.basis, creation)?;
+    let class = made_class(alloc, &blueprint.footing.basis, creation)?;
     let datum = class_datum(levels, class, making);
     note_all_unmade(
-        footing,
+        &blueprint.footing,
         scene,
         creation.arguments.as_slice(),
         &mut making.first,
     );
     make_class(
-        alloc, footing, scene, name, entry, creation, class, levels, making,
+        alloc, blueprint, scene, name, entry, creation, class, levels, making,
     )?;
     Ok(datum)
 }
@@ -233,7 +214,7 @@ pub fn make_new(
 #[cycle(making)]
 fn make_class(
     alloc: Global,
-    footing: &Ground<'_>,
+    blueprint: &Blueprint<'_>,
     scene: &Scene<'_>,
     name: &Text,
     entry: Option<usize>,
@@ -243,16 +224,16 @@ fn make_class(
     making: &mut Making,
 ) -> Result<(), AllocError>
     ensures { OnOk result (construction_of making.new ≡ option_map_or
-        (λ class. made_by levels (grounds_of footing.now) (asked_object (grounds_of footing.now) (scenery_of scene.now)
+        (λ class. made_by levels (grounds_in blueprint.now) (asked_object (grounds_in blueprint.now) (scenery_of scene.now)
         (construction_of making.old).objects name.now entry creation.now class) (construction_of making.old))
         class (construction_of making.old)) }
 {
     match class {
         Some(class) => {
-            let wants = class_wants(alloc, &footing.basis, class)?;
+            let wants = class_wants(alloc, &blueprint.footing.basis, class)?;
             let values = settled_data(
                 alloc,
-                footing,
+                &blueprint.footing,
                 scene,
                 making.objects.as_slice(),
                 wants.as_slice(),
@@ -268,7 +249,7 @@ fn make_class(
                 class,
                 values: values.as_slice(),
             };
-            make(alloc, footing, &request, levels, making)
+            make(alloc, blueprint, &request, levels, making)
         }
         None => Ok(()),
     }
@@ -279,13 +260,13 @@ fn make_class(
 #[cycle(making)]
 fn make(
     alloc: Global,
-    footing: &Ground<'_>,
+    blueprint: &Blueprint<'_>,
     request: &Request<'_>,
     levels: usize,
     making: &mut Making,
 ) -> Result<(), AllocError>
     ensures { OnOk result (construction_of making.new
-        ≡ made_by levels (grounds_of footing.now) (asked_of request.now) (construction_of making.old)) }
+        ≡ made_by levels (grounds_in blueprint.now) (asked_of request.now) (construction_of making.old)) }
 {
     if levels == 0 {
         making.note_too_deep(request.place);
@@ -297,7 +278,7 @@ fn make(
             number: making.count(),
         };
         making.begin(alloc, request)?;
-        run_object(alloc, footing, &subject, request, levels - 1, making)
+        run_object(alloc, blueprint, &subject, request, levels - 1, making)
     } else {
         making.note_too_many(request.place);
         Ok(())
@@ -308,43 +289,43 @@ fn make(
 #[cycle(making)]
 fn run_object(
     alloc: Global,
-    footing: &Ground<'_>,
+    blueprint: &Blueprint<'_>,
     subject: &Subject<'_>,
     request: &Request<'_>,
     levels: usize,
     making: &mut Making,
 ) -> Result<(), AllocError>
-    ensures { OnOk result (construction_of making.new ≡ object_run (made_by levels (grounds_of footing.now)) levels
-        (grounds_of footing.now) (subject_of subject.now) (asked_of request.now) (construction_of making.old)) }
+    ensures { OnOk result (construction_of making.new ≡ object_run (made_by levels (grounds_in blueprint.now)) levels
+        (grounds_in blueprint.now) (subject_of subject.now) (asked_of request.now) (construction_of making.old)) }
 {
     let passed = passed_down(
         alloc,
-        footing,
+        &blueprint.footing,
         making.objects.as_slice(),
         request.class,
         request.values,
     )?;
-    run_classes(alloc, footing, subject, passed.as_slice(), levels, making)?;
-    finish(alloc, footing, subject, request.class, making)
+    run_classes(alloc, blueprint, subject, passed.as_slice(), levels, making)?;
+    finish(alloc, blueprint, subject, request.class, making)
 }
 
 // Runs the constructors of these classes, one after another.
 #[cycle(making)]
 fn run_classes(
     alloc: Global,
-    footing: &Ground<'_>,
+    blueprint: &Blueprint<'_>,
     subject: &Subject<'_>,
     classes: &[Passed],
     levels: usize,
     making: &mut Making,
 ) -> Result<(), AllocError>
-    ensures { OnOk result (construction_of making.new ≡ classes_run (made_by levels (grounds_of footing.now)) levels
-        (grounds_of footing.now) (subject_of subject.now) classes.now (construction_of making.old)) }
+    ensures { OnOk result (construction_of making.new ≡ classes_run (made_by levels (grounds_in blueprint.now)) levels
+        (grounds_in blueprint.now) (subject_of subject.now) classes.now (construction_of making.old)) }
 {
     for passed in classes {
         run_class(
             alloc,
-            footing,
+            blueprint,
             subject,
             passed.class,
             passed.values.as_slice(),
@@ -359,23 +340,27 @@ fn run_classes(
 #[cycle(making)]
 fn run_class(
     alloc: Global,
-    footing: &Ground<'_>,
+    blueprint: &Blueprint<'_>,
     subject: &Subject<'_>,
     class: Meaning,
     values: &[Option<Datum>],
     levels: usize,
     making: &mut Making,
 ) -> Result<(), AllocError>
-    ensures { OnOk result (construction_of making.new ≡ class_run (made_by levels (grounds_of footing.now)) levels
-        (grounds_of footing.now) (subject_of subject.now) class values.now (construction_of making.old)) }
+    ensures { OnOk result (construction_of making.new ≡ class_run (made_by levels (grounds_in blueprint.now)) levels
+        (grounds_in blueprint.now) (subject_of subject.now) class values.now (construction_of making.old)) }
 {
     match class {
         Meaning::BuiltIn(number) => run_builtin(alloc, subject, number, values, making),
         Meaning::Entry(entry) => {
-            match constructor_at(footing.basis.types.scope, footing.basis.decls, entry) {
+            match constructor_at(
+                blueprint.footing.basis.types.scope,
+                blueprint.footing.basis.decls,
+                entry,
+            ) {
                 Some(constructor) => run_body(
                     alloc,
-                    footing,
+                    blueprint,
                     subject,
                     entry,
                     values,
@@ -393,7 +378,7 @@ fn run_class(
 #[cycle(making)]
 fn run_body(
     alloc: Global,
-    footing: &Ground<'_>,
+    blueprint: &Blueprint<'_>,
     subject: &Subject<'_>,
     entry: usize,
     values: &[Option<Datum>],
@@ -401,15 +386,15 @@ fn run_body(
     levels: usize,
     making: &mut Making,
 ) -> Result<(), AllocError>
-    ensures { OnOk result (construction_of making.new ≡ body_run (made_by levels (grounds_of footing.now)) levels
-        (grounds_of footing.now) (subject_of subject.now) entry values.now constructor.now (construction_of making.old)) }
+    ensures { OnOk result (construction_of making.new ≡ body_run (made_by levels (grounds_in blueprint.now)) levels
+        (grounds_in blueprint.now) (subject_of subject.now) entry values.now constructor.now (construction_of making.old)) }
 {
-    let basis = &footing.basis;
+    let basis = &blueprint.footing.basis;
     let formals = formals_seen(alloc, basis, constructor_formals(constructor))?;
     let scene = Scene::in_body(body_decl(basis.types.scope, entry), &formals, values);
     run_scene(
         alloc,
-        footing,
+        blueprint,
         &scene,
         subject,
         entry,
@@ -423,7 +408,7 @@ fn run_body(
 #[cycle(making)]
 fn run_scene(
     alloc: Global,
-    footing: &Ground<'_>,
+    blueprint: &Blueprint<'_>,
     scene: &Scene<'_>,
     subject: &Subject<'_>,
     entry: usize,
@@ -431,15 +416,15 @@ fn run_scene(
     levels: usize,
     making: &mut Making,
 ) -> Result<(), AllocError>
-    requires { scenery_of scene.now ≡ constructor_scene (facts_of footing.now.basis) entry constructor.now scene.now.values.now }
-    ensures { OnOk result (construction_of making.new ≡ body_run (made_by levels (grounds_of footing.now)) levels
-        (grounds_of footing.now) (subject_of subject.now) entry scene.now.values.now constructor.now
+    requires { scenery_of scene.now ≡ constructor_scene (facts_of blueprint.now.footing.basis) entry constructor.now scene.now.values.now }
+    ensures { OnOk result (construction_of making.new ≡ body_run (made_by levels (grounds_in blueprint.now)) levels
+        (grounds_in blueprint.now) (subject_of subject.now) entry scene.now.values.now constructor.now
         (construction_of making.old)) }
 {
-    note_passed(alloc, footing, scene, subject, entry, constructor, making)?;
+    note_passed(alloc, blueprint, scene, subject, entry, constructor, making)?;
     run_parts(
         alloc,
-        footing,
+        blueprint,
         scene,
         subject,
         entry,
@@ -452,21 +437,21 @@ fn run_scene(
 // Notes what is wrong with what the constructor is passed, and hands on.
 fn note_passed(
     alloc: Global,
-    footing: &Ground<'_>,
+    blueprint: &Blueprint<'_>,
     scene: &Scene<'_>,
     subject: &Subject<'_>,
     entry: usize,
     constructor: &Member,
     making: &mut Making,
 ) -> Result<(), AllocError>
-    requires { scenery_of scene.now ≡ constructor_scene (facts_of footing.now.basis) entry constructor.now scene.now.values.now }
+    requires { scenery_of scene.now ≡ constructor_scene (facts_of blueprint.now.footing.basis) entry constructor.now scene.now.values.now }
     ensures { OnOk result (construction_of making.new ≡ noted (construction_of making.old)
-        (passing_faults (grounds_of footing.now) (construction_of making.old).objects subject.now.place entry
+        (passing_faults (grounds_in blueprint.now) (construction_of making.old).objects subject.now.place entry
         scene.now.values.now constructor.now)) }
 {
     note_passing(
         alloc,
-        footing,
+        &blueprint.footing,
         scene,
         making.objects.as_slice(),
         subject.place,
@@ -480,7 +465,7 @@ fn note_passed(
 #[cycle(making)]
 fn run_parts(
     alloc: Global,
-    footing: &Ground<'_>,
+    blueprint: &Blueprint<'_>,
     scene: &Scene<'_>,
     subject: &Subject<'_>,
     entry: usize,
@@ -488,11 +473,13 @@ fn run_parts(
     levels: usize,
     making: &mut Making,
 ) -> Result<(), AllocError>
-    ensures { OnOk result (construction_of making.new ≡ parts_run (made_by levels (grounds_of footing.now)) levels
-        (grounds_of footing.now) (scenery_of scene.now) (subject_of subject.now) entry parts.now (construction_of making.old)) }
+    ensures { OnOk result (construction_of making.new ≡ parts_run (made_by levels (grounds_in blueprint.now)) levels
+        (grounds_in blueprint.now) (scenery_of scene.now) (subject_of subject.now) entry parts.now (construction_of making.old)) }
 {
     for part in parts {
-        run_part(alloc, footing, scene, subject, entry, part, levels, making)?;
+        run_part(
+            alloc, blueprint, scene, subject, entry, part, levels, making,
+        )?;
     }
     Ok(())
 }
@@ -501,7 +488,7 @@ fn run_parts(
 #[cycle(making)]
 fn run_part(
     alloc: Global,
-    footing: &Ground<'_>,
+    blueprint: &Blueprint<'_>,
     scene: &Scene<'_>,
     subject: &Subject<'_>,
     entry: usize,
@@ -509,12 +496,12 @@ fn run_part(
     levels: usize,
     making: &mut Making,
 ) -> Result<(), AllocError>
-    ensures { OnOk result (construction_of making.new ≡ part_run (made_by levels (grounds_of footing.now)) levels
-        (grounds_of footing.now) (scenery_of scene.now) (subject_of subject.now) entry part.now (construction_of making.old)) }
+    ensures { OnOk result (construction_of making.new ≡ part_run (made_by levels (grounds_in blueprint.now)) levels
+        (grounds_in blueprint.now) (scenery_of scene.now) (subject_of subject.now) entry part.now (construction_of making.old)) }
 {
     match part {
         Set::Field { name, value } => set_init(
-            alloc, footing, scene, subject, entry, name, value, levels, making,
+            alloc, blueprint, scene, subject, entry, name, value, levels, making,
         ),
         Set::Super { .. } => Ok(()),
     }
@@ -524,7 +511,7 @@ fn run_part(
 #[cycle(making)]
 fn set_init(
     alloc: Global,
-    footing: &Ground<'_>,
+    blueprint: &Blueprint<'_>,
     scene: &Scene<'_>,
     subject: &Subject<'_>,
     entry: usize,
@@ -533,14 +520,14 @@ fn set_init(
     levels: usize,
     making: &mut Making,
 ) -> Result<(), AllocError>
-    ensures { OnOk result (construction_of making.new ≡ init_set (made_by levels (grounds_of footing.now)) levels
-        (grounds_of footing.now) (scenery_of scene.now) (subject_of subject.now) entry name.now.text value.now
+    ensures { OnOk result (construction_of making.new ≡ init_set (made_by levels (grounds_in blueprint.now)) levels
+        (grounds_in blueprint.now) (scenery_of scene.now) (subject_of subject.now) entry name.now.text value.now
         (construction_of making.old)) }
 {
     match value {
-        Init::Expr(expr) => set_value(alloc, footing, scene, subject, entry, name, expr, making),
+        Init::Expr(expr) => set_value(alloc, blueprint, scene, subject, entry, name, expr, making),
         Init::New(creation) => set_new(
-            alloc, footing, scene, subject, entry, name, creation, levels, making,
+            alloc, blueprint, scene, subject, entry, name, creation, levels, making,
         ),
     }
 }
@@ -548,7 +535,7 @@ fn set_init(
 // Sets the field to a value.
 fn set_value(
     alloc: Global,
-    footing: &Ground<'_>,
+    blueprint: &Blueprint<'_>,
     scene: &Scene<'_>,
     subject: &Subject<'_>,
     entry: usize,
@@ -556,27 +543,27 @@ fn set_value(
     expr: &Expr,
     making: &mut Making,
 ) -> Result<(), AllocError>
-    ensures { OnOk result (construction_of making.new ≡ value_set (grounds_of footing.now) (scenery_of scene.now)
+    ensures { OnOk result (construction_of making.new ≡ value_set (grounds_in blueprint.now) (scenery_of scene.now)
         (subject_of subject.now) entry name.now.text expr.now (construction_of making.old)) }
 {
-    let field = field_in_line(alloc, &footing.basis, entry, &name.text)?;
+    let field = field_in_line(alloc, &blueprint.footing.basis, entry, &name.text)?;
     let datum = settled_datum(
         alloc,
-        footing,
+        &blueprint.footing,
         scene,
         making.objects.as_slice(),
         field_kind(field),
         expr,
     )?;
-    note_unmade(footing, scene, expr, &mut making.first);
-    set_field(alloc, footing, subject, entry, &name.text, datum, making)
+    note_unmade(&blueprint.footing, scene, expr, &mut making.first);
+    set_field(alloc, blueprint, subject, entry, &name.text, datum, making)
 }
 
 // Sets the field to an object that is made for it.
 #[cycle(making)]
 fn set_new(
     alloc: Global,
-    footing: &Ground<'_>,
+    blueprint: &Blueprint<'_>,
     scene: &Scene<'_>,
     subject: &Subject<'_>,
     entry: usize,
@@ -585,13 +572,13 @@ fn set_new(
     levels: usize,
     making: &mut Making,
 ) -> Result<(), AllocError>
-    ensures { OnOk result (construction_of making.new ≡ nested_set (made_by levels (grounds_of footing.now)) levels
-        (grounds_of footing.now) (scenery_of scene.now) (subject_of subject.now) entry name.now.text creation.now
+    ensures { OnOk result (construction_of making.new ≡ nested_set (made_by levels (grounds_in blueprint.now)) levels
+        (grounds_in blueprint.now) (scenery_of scene.now) (subject_of subject.now) entry name.now.text creation.now
         (construction_of making.old)) }
 {
     let nested = nested_name(alloc, subject.name, &name.text)?;
     let datum = make_new(
-        alloc, footing, scene, &nested, None, creation, levels, making,
+        alloc, blueprint, scene, &nested, None, creation, levels, making,
     )?;
-    set_field(alloc, footing, subject, entry, &name.text, datum, making)
+    set_field(alloc, blueprint, subject, entry, &name.text, datum, making)
 }

@@ -1,6 +1,6 @@
 use Rattle.std.proofs.Common.{◌∙◌, ap, sym, arith}
-use Rattle.nddl_data.specs.Scene.{grounds_of}
 use Rattle.nddl_passed.specs.Passing.{passed_down}
+use Rattle.nddl_running.specs.Blueprints.{grounds_in}
 use Rattle.nddl_running.specs.Construction.{asked_of, construction_of, subject_of}
 use Rattle.nddl_running.specs.Made.{made_by}
 use Rattle.nddl_running.proofs.Deeper.{made_one, run_one}
@@ -8,14 +8,14 @@ use Rattle.nddl_running.proofs.running.+making.Goals as goal
 
 pub make-returns-in_ok-begin : goal.make-returns-in_ok-begin
 make-returns-in_ok-begin t c =
-    made_one c.args.levels c.count.result (grounds_of c.args.footing.now) (asked_of c.args.request.now)
+    made_one c.args.levels c.count.result (grounds_in c.args.blueprint.now) (asked_of c.args.request.now)
     (construction_of c.args.making.now) (construction_of c.begin.new.self) (construction_of c.run_object.new.making)
     c.run_object.result (omega (arith, c.if-levels-eq0.false)) (sym c.has_room.ensures ∙ c.if-has_room.true) c.count.ensures
     c.in_ok-begin.ensures c.run_object.ensures
 
 pub run_object-returns : goal.run_object-returns
 run_object-returns t c =
-    let grounds = grounds_of c.args.footing.now in
+    let grounds = grounds_in c.args.blueprint.now in
     let makes = made_by c.args.levels grounds in
     run_one makes c.args.levels grounds (subject_of c.args.subject.now) (asked_of c.args.request.now)
     (construction_of c.args.making.now) (construction_of c.run_classes.new.making) (construction_of c.finish.new.making)

@@ -1,6 +1,7 @@
 -- The levels that are left fall, or what is run is a part of what was run.
 use Rattle.std.proofs.Common.{◌≡◌, ◌*◌, ◌+◌, drop}
-use Rattle.nddl_data.specs.Scene.{grounds_of, scenery_of}
+use Rattle.nddl_data.specs.Scene.{scenery_of}
+use Rattle.nddl_running.specs.Blueprints.{grounds_in}
 use Rattle.nddl_running.specs.Construction.{construction_of, subject_of}
 use Rattle.nddl_running.specs.Made.{classes_run, made_by, parts_run}
 use Rattle.nddl_running.proofs.running.+making.Given as goal
@@ -44,15 +45,15 @@ decreases-set_new l = 12 * l.levels + 3
 -- what comes of the classes that are left from here comes of all from the start
 abbrev pub invariant-run_classes-loop-passed : goal.invariant-run_classes-loop-passed
 invariant-run_classes-loop-passed l =
-    classes_run (made_by l.levels (grounds_of l.footing)) l.levels (grounds_of l.footing) (subject_of l.subject)
+    classes_run (made_by l.levels (grounds_in l.blueprint)) l.levels (grounds_in l.blueprint) (subject_of l.subject)
     (drop l.passed-index l.classes) (construction_of l.making)
-    ≡ classes_run (made_by l.levels (grounds_of l.footing)) l.levels (grounds_of l.footing) (subject_of l.subject)
+    ≡ classes_run (made_by l.levels (grounds_in l.blueprint)) l.levels (grounds_in l.blueprint) (subject_of l.subject)
     l.classes (construction_of l.fn.making)
 
 -- what comes of the parts that are left from here comes of all from the start
 abbrev pub invariant-run_parts-loop-part : goal.invariant-run_parts-loop-part
 invariant-run_parts-loop-part l =
-    parts_run (made_by l.levels (grounds_of l.footing)) l.levels (grounds_of l.footing) (scenery_of l.scene)
+    parts_run (made_by l.levels (grounds_in l.blueprint)) l.levels (grounds_in l.blueprint) (scenery_of l.scene)
     (subject_of l.subject) l.entry (drop l.part-index l.parts) (construction_of l.making)
-    ≡ parts_run (made_by l.levels (grounds_of l.footing)) l.levels (grounds_of l.footing) (scenery_of l.scene)
+    ≡ parts_run (made_by l.levels (grounds_in l.blueprint)) l.levels (grounds_in l.blueprint) (scenery_of l.scene)
     (subject_of l.subject) l.entry l.parts (construction_of l.fn.making)
