@@ -146,7 +146,8 @@ fn if_whole(
 }
 
 /// Which members each thing has, where the things stand under these, and these own the members. In the order each thing
-/// comes after the one that it stands under; where it lacks one that is on the way from an owner, there is no answer.
+/// comes after the one that it stands under; where it lacks one that is on the way from an owner, there is no answer. For which
+/// orders there is one isn't promised: whoever asks looks for the members one by one then.
 pub fn gather(
     alloc: Global,
     parents: &[Option<usize>],

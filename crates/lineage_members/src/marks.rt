@@ -98,7 +98,7 @@ pub fn numbers_marked(alloc: Global, marks: &[bool]) -> Result<Sequence<i32>, Al
     Ok(numbers)
 }
 
-/// Whether what is marked in the one is so in the other.
+/// Whether what is marked in the one is so in the other. That it is told wherever it is so isn't promised.
 pub fn is_within(one: &[bool], other: &[bool]) -> bool
     ensures { IsTrue result → IsWithin one.now other.now }
 {

@@ -62,7 +62,8 @@ impl Members {
         is_marked(self.marks(thing), number)
     }
 
-    /// Whether the other thing has all that the thing has. Where they share their marks it is known at once.
+    /// Whether the other thing has all that the thing has. Where they share their marks it is known at once. That it is told
+    /// wherever it is so isn't promised.
     pub fn is_within(&self, thing: usize, other: usize) -> bool
         ensures { IsTrue result → IsWithin (marks_at self.now thing) (marks_at self.now other) }
     {
@@ -91,7 +92,8 @@ impl Members {
         Ok(())
     }
 
-    /// Gives the thing the members of the other one as well.
+    /// Gives the thing the members of the other one as well. That it has got them isn't promised, as `gather` looks at that at
+    /// the end.
     pub fn join(&mut self, alloc: Global, thing: usize, other: usize) -> Result<(), AllocError>
         ensures { OnOk result (Joins thing other self.old self.new) }
     {

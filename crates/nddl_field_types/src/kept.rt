@@ -15,7 +15,7 @@ use nddl_sorts::types::type_meaning;
 use nddl_sorts::{TypeMeaning, Types};
 use std::alloc::{AllocError, Global};
 
-/// What the types of some fields mean.
+/// What the types of some fields mean. Of which fields isn't promised: of any other a type is read where it is asked for.
 #[derive(Drop)]
 pub struct FieldTypes {
     // For each declaration, if it is a class, the places of what its fields mean, by their names.
