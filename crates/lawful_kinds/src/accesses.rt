@@ -98,6 +98,10 @@ fn accesses_some(model: &Model, parents: &Parents, place: Place<'_>, access: Acc
 {
     match term_line(model, place, access.object) {
         Line::From(first) => {
+            // Mostly all the objects are of the class of the first one.
+            if accesses_in(model, parents, place, first, access) {
+                return true;
+            }
             let class = lowest_over(model, parents, place, first, access.object);
             accesses_above(model, parents, place, class, access)
         }

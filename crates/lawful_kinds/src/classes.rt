@@ -29,6 +29,9 @@ pub fn is_under(model: &Model, parents: &Parents, class: u32, ancestor: u32) -> 
     requires { AreClassParents model.now parents.now }
     ensures { IsTrue result ↔ IsUnder model.now class ancestor }
 {
+    if class == ancestor {
+        return true;
+    }
     match parents.is_on_line(class as usize, ancestor as usize) {
         Some(under) => under,
         None => leads_to(model, parents, class, ancestor),
