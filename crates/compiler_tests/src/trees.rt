@@ -4,7 +4,7 @@ use super::answers::{Sought, fault_words, told};
 use super::rows::{Asked, assert_rows};
 use eu_name::name::Part;
 use nddl_ast::declaration::FileDecls;
-use nddl_rules::rules;
+use nddl_problem::passed_nddl_rules::rules;
 use nddl_table::TypeTable;
 use nddl_trees::{Meaning, RuleTree};
 use std::alloc::{AllocError, Global};

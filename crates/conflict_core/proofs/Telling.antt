@@ -6,8 +6,8 @@ use Rattle.std.specs.declared.alloc.AllocError.{AllocError}
 use Rattle.model_core.specs.declared.decision.Decision.{Decision}
 use Rattle.model_core.specs.History.{standing}
 use Rattle.plan_defs.specs.Settling.{IsConflict}
-use Rattle.plan_steps.proofs.Keeping.{standing_settled}
-use Rattle.plan_edges.specs.declared.edge.NamedEdge.{NamedEdge}
+use Rattle.plan_db.proofs.plan_steps.Keeping.{standing_settled}
+use Rattle.plan_cycles.specs.plan_edges.NamedEdge.{NamedEdge}
 use Rattle.plan_cycles.specs.TimeCycle.{IsTimeCycle}
 use Rattle.plan_db.specs.Answers.{Held}
 use Rattle.plan_db.specs.Database.{IsSound, HasCollapsed}

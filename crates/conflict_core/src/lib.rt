@@ -9,6 +9,7 @@ mod conflict;
 mod cycle;
 mod explaining;
 pub mod fault;
+pub mod passed_plan_db;
 mod turns;
 
 pub use cycle::time_cycle;

@@ -1,9 +1,9 @@
 //! Which law each kind of constraint has.
 
 ghost use Rattle.std.specs.Prelude.{◌≤◌, [], ◌∷◌, All, length};
-ghost use Rattle.model_core.specs.Consistency.{Ends};
-ghost use Rattle.model_core.specs.Constraints.{HoldsOf};
-ghost use Rattle.model_core.specs.declared.item.Kind.TheVariants as kind;
+ghost use Rattle.narrow_core.specs.model_core.Consistency.{Ends};
+ghost use Rattle.narrow_core.specs.model_core.Constraints.{HoldsOf};
+ghost use Rattle.narrow_core.specs.model_core.Kind.TheVariants as kind;
 ghost use Rattle.cell_store.specs.Cells.{present};
 ghost use Rattle.constraint_net.specs.Agendas.{HasVariables, Alerts, TellsOfLoss};
 ghost use Rattle.constraint_net.specs.Arguments.{IsArgument, AgreeAt};
@@ -15,10 +15,10 @@ use super::constraint::{Constraint, NetArg};
 use super::domains::Domains;
 use cell_store::Mark;
 use domain_core::Change;
-use model_core::item::Kind;
 use narrow_core::equal::{Eq, Neq};
 use narrow_core::field::Field;
 use narrow_core::order::{Leq, Lt};
+use narrow_core::passed_model_core::Kind;
 use narrow_core::product::MulEq;
 use narrow_core::sum::AddEq;
 use narrow_core::tested::{TestEq, TestLeq};

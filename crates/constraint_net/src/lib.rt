@@ -13,6 +13,7 @@ mod domains;
 mod kinds;
 pub mod laws;
 pub mod network;
+pub mod passed_cell_store;
 mod posted;
 mod queue;
 mod reading;

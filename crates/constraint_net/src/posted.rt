@@ -1,13 +1,13 @@
 //! The constraints that were posted.
 
 ghost use Rattle.std.specs.Prelude.{◌≡◌, ℕ, [], ◌∷◌, ◌++◌, length, option_copied, slice_get, Contains, IsTrue, IfSome, OnOk, OnErr, MatchOption};
-ghost use Rattle.model_core.specs.declared.item.Kind.TheVariants.{Leq};
+ghost use Rattle.narrow_core.specs.model_core.Kind.TheVariants.{Leq};
 ghost use Rattle.constraint_net.specs.declared.constraint.NetArg.TheVariants.{Var};
 
 use super::constraint::{Arguments, Constraint, NetArg};
 use cell_store::numbers::short;
 use indexmap::IndexMap;
-use model_core::item::Kind;
+use narrow_core::passed_model_core::Kind;
 use slab::Slab;
 use std::alloc::{AllocError, Global};
 use std::marker::Model;

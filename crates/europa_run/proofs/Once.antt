@@ -10,10 +10,10 @@ use Rattle.line_session.specs.Sessions.{Session}
 use Rattle.line_session.proofs.LawLemmas.{fault_writes_front}
 use Rattle.plan_soundness.specs.Soundness.{StatesHaveOnePlan}
 use Rattle.plan_verdicts.specs.Laws.{TextsAreCheckedOnce}
-use Rattle.posed_files.specs.Laws.{IsPosedOnce, PosedIsSound}
+use Rattle.run_trials.specs.posed_files.Laws.{IsPosedOnce, PosedIsSound}
 use Rattle.run_printing.specs.declared.status.RunEnd.{RunEnd}
 use Rattle.run_printing.specs.declared.status.RunFault.TheVariants.{Read, Write, Memory}
-use Rattle.session_core.specs.Replies.{AnswersLine}
+use Rattle.session_laws.specs.session_core.Replies.{AnswersLine}
 use Rattle.europa_run.specs.Laws.{HasOneOutput, FaultLeavesFront}
 use Rattle.europa_run.specs.Output.{Given, SessionOutput, Output}
 use Rattle.europa_run.specs.Runs.{Leavings, StopsScript}

@@ -7,14 +7,14 @@ use Rattle.nddl_ast.specs.declared.declaration.Decl.{Decl}
 use Rattle.nddl_ast.specs.declared.kind.TextKind.{TextKind}
 use Rattle.nddl_includes.specs.declared.fault.TextFail.{TextFail}
 use Rattle.nddl_files.proofs.OneReading.{read_once}
-use Rattle.plan_db.specs.Database.{Database}
+use Rattle.run_trials.specs.plan_db.Database.{Database}
 use Rattle.plan_verdicts.specs.Laws.{TextsAreCheckedOnce}
-use Rattle.posed_files.specs.Laws.{IsPosedOnce}
-use Rattle.posed_files.specs.Posing.{PosedFault, IsPosed}
-use Rattle.run_commands.specs.Checking.{CheckedOutput, checked_end}
-use Rattle.run_commands.specs.Contents.{IsFaulty, HasBytes, ContentOutput}
-use Rattle.run_commands.specs.Posing.{PosedOutput}
-use Rattle.run_commands.specs.Showing.{ReadingOutput, TextOutput, ShowOutput}
+use Rattle.run_trials.specs.posed_files.Laws.{IsPosedOnce}
+use Rattle.run_trials.specs.posed_files.Posing.{PosedFault, IsPosed}
+use Rattle.run_trials.specs.run_commands.Checking.{CheckedOutput, checked_end}
+use Rattle.run_trials.specs.run_commands.Contents.{IsFaulty, HasBytes, ContentOutput}
+use Rattle.run_trials.specs.run_commands.Posing.{PosedOutput}
+use Rattle.run_trials.specs.run_commands.Showing.{ReadingOutput, TextOutput, ShowOutput}
 use Rattle.run_printing.specs.declared.status.RunEnd.{RunEnd}
 use Rattle.run_printing.specs.Printed.{FaultOutput, fault_line}
 

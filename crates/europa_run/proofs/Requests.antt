@@ -10,14 +10,14 @@ use Rattle.line_session.specs.Laws.{HasOneReply}
 use Rattle.line_session.specs.Lines.{lines_of}
 use Rattle.line_session.specs.Sessions.{Course}
 use Rattle.line_session.proofs.LawLemmas.{session_is_one}
-use Rattle.plan_db.specs.Database.{Database}
+use Rattle.run_trials.specs.plan_db.Database.{Database}
 use Rattle.plan_soundness.specs.Soundness.{StatesHaveOnePlan}
 use Rattle.plan_verdicts.specs.Laws.{TextsAreCheckedOnce}
-use Rattle.posed_files.specs.Laws.{IsPosedOnce, PosedIsSound}
-use Rattle.run_commands.specs.Checking.{PlanFileOutput}
-use Rattle.run_commands.specs.Searching.{SearchOutput, visits_of}
+use Rattle.run_trials.specs.posed_files.Laws.{IsPosedOnce, PosedIsSound}
+use Rattle.run_trials.specs.run_commands.Checking.{PlanFileOutput}
+use Rattle.run_trials.specs.run_commands.Searching.{SearchOutput, visits_of}
 use Rattle.run_printing.specs.declared.status.RunEnd.{RunEnd}
-use Rattle.session_core.specs.Replies.{AnswersLine}
+use Rattle.session_laws.specs.session_core.Replies.{AnswersLine}
 use Rattle.europa_run.specs.Output.{Given, end_of, SessionOutput, RequestOutput, Output}
 use Rattle.europa_run.specs.Pieces.{IsInRange}
 use Rattle.europa_run.proofs.Printing.{IsOne, posed_one, show_one, plan_file_one}

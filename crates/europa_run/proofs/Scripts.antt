@@ -11,12 +11,12 @@ use Rattle.line_session.specs.declared.talk.SessionEnd.TheVariants.{OfInput, ByA
 use Rattle.line_session.specs.Ends.{Passage, input_of, course_of, begun, Ends}
 use Rattle.line_session.specs.Lines.{lines_of}
 use Rattle.line_session.specs.Sessions.{Ending, AtEnd, AtAnswer, AtLimit, Session}
-use Rattle.plan_db.specs.Answers.{Held}
-use Rattle.plan_db.specs.Database.{Database}
+use Rattle.run_trials.specs.plan_db.Answers.{Held}
+use Rattle.run_trials.specs.plan_db.Database.{Database}
 use Rattle.run_printing.specs.declared.status.RunEnd.{RunEnd}
 use Rattle.run_printing.specs.declared.status.RunEnd.TheVariants.{Done, LinesSpent}
 use Rattle.run_printing.specs.declared.status.RunFault.{RunFault}
-use Rattle.session_core.specs.Replies.{AnswersLine}
+use Rattle.session_laws.specs.session_core.Replies.{AnswersLine}
 use Rattle.europa_run.specs.declared.answering.Answer.TheVariants as answer
 use Rattle.europa_run.specs.Output.{Given, given_by, end_of, Output}
 use Rattle.europa_run.specs.Pieces.{Comes, ended_by, Streams, EditTells, RunsRequest}

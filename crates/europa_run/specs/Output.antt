@@ -8,17 +8,17 @@ use Rattle.eu_io.specs.declared.shelf.FileEntry.{FileEntry}
 use Rattle.line_session.specs.Ends.{begun}
 use Rattle.line_session.specs.Lines.{lines_of}
 use Rattle.line_session.specs.Sessions.{Ending, AtEnd, AtAnswer, AtLimit, Course, Session}
-use Rattle.plan_db.specs.Database.{Database}
-use Rattle.run_commands.specs.Checking.{CheckOutput}
-use Rattle.run_commands.specs.Generating.{GenerateOutput}
-use Rattle.run_commands.specs.Planning.{PlanOutput}
-use Rattle.run_commands.specs.Posing.{PosedOutput}
-use Rattle.run_commands.specs.Showing.{ShowOutput}
+use Rattle.run_trials.specs.plan_db.Database.{Database}
+use Rattle.run_trials.specs.run_commands.Checking.{CheckOutput}
+use Rattle.run_trials.specs.run_commands.Generating.{GenerateOutput}
+use Rattle.run_trials.specs.run_commands.Planning.{PlanOutput}
+use Rattle.run_trials.specs.run_commands.Posing.{PosedOutput}
+use Rattle.run_trials.specs.run_commands.Showing.{ShowOutput}
 use Rattle.run_printing.specs.declared.status.RunEnd.{RunEnd}
 use Rattle.run_printing.specs.declared.status.RunEnd.TheVariants.{Done, LinesSpent}
 use Rattle.run_printing.specs.Printed.{UsageOutput}
 use Rattle.run_trials.specs.Trying.{TryOutput}
-use Rattle.session_core.specs.Replies.{AnswersLine}
+use Rattle.session_laws.specs.session_core.Replies.{AnswersLine}
 
 -- what a run may read: the files, and the bytes of its input
 pub record Given : Type 0 where

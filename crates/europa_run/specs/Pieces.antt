@@ -9,15 +9,15 @@ use Rattle.line_session.specs.declared.fault.SessionFault.{SessionFault}
 use Rattle.line_session.specs.declared.fault.SessionFault.TheVariants as session
 use Rattle.line_session.specs.declared.talk.SessionEnd.{SessionEnd}
 use Rattle.line_session.specs.Ends.{SessionTells}
-use Rattle.plan_db.specs.Database.{Database}
-use Rattle.posed_files.specs.Posing.{Poses}
+use Rattle.run_trials.specs.plan_db.Database.{Database}
+use Rattle.run_trials.specs.posed_files.Posing.{Poses}
 use Rattle.run_printing.specs.declared.lines.Printed.{Printed as Line}
 use Rattle.run_printing.specs.declared.status.RunEnd.{RunEnd}
 use Rattle.run_printing.specs.declared.status.RunEnd.TheVariants.{Done, LinesSpent}
 use Rattle.run_printing.specs.declared.status.RunFault.{RunFault}
 use Rattle.run_printing.specs.declared.status.RunFault.TheVariants as run
 use Rattle.run_printing.specs.Printed.{UsageOutput}
-use Rattle.session_core.specs.Replies.{AnswersLine}
+use Rattle.session_laws.specs.session_core.Replies.{AnswersLine}
 use Rattle.europa_run.specs.declared.answering.Answer.{Answer}
 use Rattle.europa_run.specs.declared.answering.Answer.TheVariants as answer
 use Rattle.europa_run.specs.Output.{given_by, is_script, RequestOutput}

@@ -9,15 +9,15 @@ use Rattle.line_session.specs.declared.fault.SessionFault.TheVariants as session
 use Rattle.line_session.specs.Ends.{Passage, input_of, begun, Ends}
 use Rattle.line_session.specs.Lines.{lines_of}
 use Rattle.line_session.specs.Sessions.{AtAnswer, Course, Session}
-use Rattle.plan_db.specs.Database.{Database}
-use Rattle.posed_files.specs.Posing.{IsPosed}
+use Rattle.run_trials.specs.plan_db.Database.{Database}
+use Rattle.run_trials.specs.posed_files.Posing.{IsPosed}
 use Rattle.run_printing.specs.declared.status.RunEnd.{RunEnd}
 use Rattle.run_printing.specs.declared.status.RunEnd.TheVariants.{Done}
 use Rattle.run_printing.specs.declared.status.RunFault.{RunFault}
 use Rattle.run_printing.specs.declared.status.RunFault.TheVariants.{Read, Write, Memory}
 use Rattle.run_printing.specs.declared.status.Status.{Status}
 use Rattle.run_printing.specs.Statuses.{status_of}
-use Rattle.session_core.specs.Replies.{AnswersLine}
+use Rattle.session_laws.specs.session_core.Replies.{AnswersLine}
 use Rattle.europa_run.specs.Output.{Given, given_by, Output}
 
 -- the bytes of its input that a run left, and what it wrote

@@ -11,10 +11,10 @@ ghost use Rattle.run_printing.specs.Statuses.{is_read, is_write};
 use command_words::request::Request;
 use eu_io::shelf::Shelf;
 use eu_name::text::Text;
-use plan_db::Db;
-use posed_files::pose;
-use run_commands::{check, generated, plan, show, unposed};
 use run_printing::{Printed, RunFault};
+use run_trials::passed_plan_db::Db;
+use run_trials::passed_posed_files::pose;
+use run_trials::passed_run_commands::{check, generated, plan, show, unposed};
 use run_trials::trial;
 use std::alloc::Global;
 

@@ -9,10 +9,10 @@ use eu_io::sink::Sink;
 use eu_io::source::Source;
 use line_session::fault::SessionFault;
 use line_session::talk::{SessionEnd, session};
-use plan_db::Db;
-use plan_release::let_go;
 use run_printing::{RunEnd, RunFault};
-use session_core::Editor;
+use run_trials::passed_plan_db::Db;
+use run_trials::passed_plan_release::let_go;
+use session_laws::passed_session_core::Editor;
 use std::alloc::Global;
 
 /// Answers the input's lines over the database.

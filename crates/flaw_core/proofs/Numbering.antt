@@ -17,7 +17,7 @@ use Rattle.model_core.proofs.Leading.{token_once}
 use Rattle.plan_defs.specs.Refusals.{HaveSamePredicate, AreActive}
 use Rattle.plan_states.specs.Flaws.{Undecided, Undetermined, Unordered, Untimed}
 use Rattle.plan_states.proofs.Telling.{one_at}
-use Rattle.plan_progress.proofs.Places.{get_front}
+use Rattle.plan_search.specs.plan_progress.Places.{get_front}
 use Rattle.plan_search.specs.Choices.{AreTargets, AreTokenChoices, AreValueChoices, IsActivationLeft, IsRejectionLeft}
 use Rattle.flaw_core.specs.declared.choosing.Choice.{Choice}
 use Rattle.flaw_core.specs.declared.choosing.Choice.TheVariants.{Specify, Activate, Merge, Reject, Order}

@@ -4,3 +4,4 @@ pub mod Gathering
 pub mod Seeking
 pub mod Picking
 pub mod PlainLaws
+pub mod plan_search

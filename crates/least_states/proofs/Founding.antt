@@ -26,11 +26,11 @@ use Rattle.plan_defs.proofs.Knowing.{known_or_not}
 use Rattle.plan_defs.proofs.Ordered.{contains_none}
 use Rattle.plan_defs.proofs.Settling.{IsSettled-push}
 use Rattle.plan_defs.proofs.States.{IsBelow-trans}
-use Rattle.plan_growth.proofs.Deciding.{reservoirs_above}
-use Rattle.plan_growth.proofs.Resources.{reusables_above}
-use Rattle.plan_states.specs.Flaws.{HasFlaw}
-use Rattle.plan_states.specs.StatePlans.{IsStatePlan}
-use Rattle.plan_states.proofs.Deciding.{decides_once}
+use Rattle.own_states.specs.plan_growth.Deciding.{reservoirs_above}
+use Rattle.own_states.specs.plan_growth.Resources.{reusables_above}
+use Rattle.plan_soundness.specs.plan_states.Flaws.{HasFlaw}
+use Rattle.plan_soundness.specs.plan_states.StatePlans.{IsStatePlan}
+use Rattle.plan_soundness.specs.plan_states.Deciding.{decides_once}
 use Rattle.plan_soundness.specs.Soundness.{IsWellFounded, IsFlawlessPlan}
 use Rattle.plan_soundness.proofs.Agreeing.{agrees}
 use Rattle.plan_soundness.proofs.Clauses.{is_valid}

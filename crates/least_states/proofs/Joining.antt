@@ -31,9 +31,9 @@ use Rattle.plan_defs.specs.Terms.{Argument, Value, Variable, HasDomain}
 use Rattle.plan_defs.proofs.Lower.{asks_as_much, turn_below}
 use Rattle.plan_defs.proofs.Knowing.{there_or_not}
 use Rattle.plan_defs.proofs.States.{gives_same, gives_domain}
-use Rattle.plan_growth.proofs.Bases.{base_once}
-use Rattle.plan_progress.proofs.Coming.{local_once}
-use Rattle.plan_progress.proofs.Lawful.{base_lawful, rule_lawful}
+use Rattle.own_states.specs.plan_growth.Bases.{base_once}
+use Rattle.own_states.specs.plan_progress.ComingLemmas.{local_once}
+use Rattle.own_states.specs.plan_progress.Lawful.{base_lawful, rule_lawful}
 use Rattle.own_states.proofs.Listing.{Chosen, chosen}
 use Rattle.own_states.proofs.Making.{Made, MayBeState, made, about_more}
 use Rattle.own_states.proofs.Paths.{block_order}

@@ -39,10 +39,10 @@ use Rattle.plan_defs.specs.Terms.{InProblem, InRule, Argument, Value, Variable, 
 use Rattle.plan_defs.proofs.Lower.{Follows-map, HasBlock-map, asks_as_much, turn_below}
 use Rattle.plan_defs.proofs.Ordered.{contains_head, contains_later}
 use Rattle.plan_defs.proofs.States.{gives_same, gives_domain}
-use Rattle.plan_growth.proofs.Deciding.{reservoirs_above}
-use Rattle.plan_growth.proofs.Resources.{reusables_above}
-use Rattle.plan_progress.proofs.Blocks.{block_once}
-use Rattle.plan_progress.proofs.Lawful.{rule_lawful}
+use Rattle.own_states.specs.plan_growth.Deciding.{reservoirs_above}
+use Rattle.own_states.specs.plan_growth.Resources.{reusables_above}
+use Rattle.own_states.specs.plan_progress.Blocks.{block_once}
+use Rattle.own_states.specs.plan_progress.Lawful.{rule_lawful}
 use Rattle.plan_soundness.proofs.Asking.{IsOfTwo, of_two}
 use Rattle.plan_soundness.proofs.Seeing.{outer_open, supported_slot}
 use Rattle.own_states.proofs.Listing.{Chosen, chosen}

@@ -20,7 +20,7 @@ use Rattle.plan_defs.specs.Situations.{situation_of}
 use Rattle.plan_defs.specs.Support.{IsOpen, AsksFor, IsSupportedToken, IsSupportedBlock, front_token}
 use Rattle.plan_defs.proofs.Knowing.{IsOrNot, given_or_not, same_token}
 use Rattle.plan_defs.proofs.States.{gives_same}
-use Rattle.plan_progress.proofs.Blocks.{block_once}
+use Rattle.own_states.specs.plan_progress.Blocks.{block_once}
 use Rattle.plan_soundness.proofs.Seeing.{supported_slot}
 use Rattle.own_states.proofs.Guards.{CanTell, open_or_not}
 use Rattle.own_states.proofs.Listing.{any_or_not}

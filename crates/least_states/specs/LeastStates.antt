@@ -10,8 +10,8 @@ use Rattle.plan_defs.specs.Broken.{AgreesWith}
 use Rattle.plan_defs.specs.Closure.{IsConsistentState, IsLeast}
 use Rattle.plan_defs.specs.Settling.{IsSettled}
 use Rattle.plan_defs.specs.Valid.{IsValid}
-use Rattle.plan_states.specs.Flaws.{HasFlaw}
-use Rattle.plan_states.specs.StatePlans.{IsStatePlan}
+use Rattle.plan_soundness.specs.plan_states.Flaws.{HasFlaw}
+use Rattle.plan_soundness.specs.plan_states.StatePlans.{IsStatePlan}
 use Rattle.plan_soundness.specs.Soundness.{IsWellFounded}
 
 -- a consistent state that the two states lie below

@@ -19,3 +19,5 @@ pub mod Names
 pub mod Decided
 pub mod TokenStates
 pub mod Views
+pub mod domain_core
+pub mod eu_name

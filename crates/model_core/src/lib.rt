@@ -9,6 +9,7 @@ pub mod decision;
 pub mod item;
 pub mod lookup;
 pub mod model;
+pub mod passed_eu_name;
 pub mod resolve;
 pub mod rule;
 pub mod var_text;

@@ -5,3 +5,4 @@ pub mod Sides
 pub mod Sweeps
 pub mod Truths
 pub mod Tables
+pub mod model_core

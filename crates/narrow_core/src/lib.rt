@@ -10,6 +10,8 @@ pub mod laws;
 mod limits;
 pub mod narrow;
 pub mod order;
+pub mod passed_eu_name;
+pub mod passed_model_core;
 mod passing;
 pub mod product;
 pub mod sum;

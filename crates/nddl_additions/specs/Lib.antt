@@ -2,3 +2,4 @@ pub mod Arguments
 pub mod Calls
 pub mod Locals
 pub mod Slots
+pub mod nddl_arguments

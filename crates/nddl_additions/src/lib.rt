@@ -5,5 +5,6 @@
 pub mod arguments;
 pub mod calls;
 pub mod locals;
+pub mod passed_nddl_arguments;
 pub mod slots;
 pub mod types;

@@ -4,11 +4,11 @@ use Rattle.std.specs.Option.{option_map_or}
 use Rattle.model_core.specs.declared.item.Kind.{Kind}
 use Rattle.nddl_ast.specs.declared.expression.Expr.{Expr}
 use Rattle.nddl_ast.specs.declared.expression.Expr.TheVariants as exprs
-use Rattle.nddl_arguments.specs.Constraints.{constraint_named}
+use Rattle.nddl_roots.specs.nddl_arguments.Constraints.{constraint_named}
 use Rattle.nddl_terms.specs.declared.growth.Growth.{Growth}
 use Rattle.nddl_terms.specs.declared.stands.Stand.TheVariants.{Value}
 use Rattle.nddl_terms.specs.Paths.{Reached, reached}
-use Rattle.nddl_additions.specs.Arguments.{AllArgued, constant_term, constraint_items, stand_term, with_items}
+use Rattle.nddl_roots.specs.nddl_additions.Arguments.{AllArgued, constant_term, constraint_items, stand_term, with_items}
 use Rattle.nddl_roots.specs.Outside.{Outsides, outer_path}
 
 -- what an argument stands for, and what there is then

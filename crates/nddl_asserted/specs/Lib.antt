@@ -1,3 +1,4 @@
 pub mod Asserted
 pub mod Constraints
 pub mod Decisions
+pub mod nddl_roots

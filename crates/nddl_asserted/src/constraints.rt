@@ -7,11 +7,11 @@ ghost use Rattle.nddl_asserted.specs.Constraints.{outer_argument, outer_argument
 use eu_name::sequence::Sequence;
 use eu_name::text::Text;
 use model_core::item::{Kind, Term};
-use nddl_additions::arguments::{add_constraint_of, constant_term, stand_term};
-use nddl_arguments::words::constraint_named;
 use nddl_ast::expression::Expr;
 use nddl_roots::Outside;
 use nddl_roots::outside::path_stand;
+use nddl_roots::passed_nddl_additions::{add_constraint_of, constant_term, stand_term};
+use nddl_roots::passed_nddl_arguments::constraint_named;
 use nddl_terms::{Growth, Stand};
 use std::alloc::{AllocError, Global};
 

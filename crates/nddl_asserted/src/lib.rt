@@ -5,5 +5,6 @@
 pub mod assertions;
 pub mod constraints;
 pub mod decisions;
+pub mod passed_nddl_roots;
 
 pub use assertions::{Assertions, ProblemText, assertions_of};

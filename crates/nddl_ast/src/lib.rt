@@ -8,6 +8,7 @@ pub mod expression;
 pub mod fault;
 pub mod kind;
 pub mod name;
+pub mod passed_eu_name;
 mod places;
 pub mod same;
 pub mod statement;

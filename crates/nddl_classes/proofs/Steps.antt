@@ -3,7 +3,7 @@ use Rattle.std.proofs.Common.{◌≡◌, ℕ, ◌+◌, ◌<◌, List, [], ◌∷
 use Rattle.std.specs.Prelude.{Option, nat_lt}
 use Rattle.std.specs.List.{flat_map}
 use Rattle.std.proofs.lemmas.List.{drop_more, length-map}
-use Rattle.model_core.specs.Naming.{token_part_words}
+use Rattle.nddl_scope.specs.model_core.Naming.{token_part_words}
 use Rattle.nddl_ast.specs.declared.declaration.Member.{Member}
 use Rattle.nddl_ast.specs.declared.declaration.Typed.{Typed}
 use Rattle.nddl_ast.specs.declared.kind.TextKind.{TextKind}
@@ -15,7 +15,7 @@ use Rattle.nddl_scope.specs.Index.{Noted}
 use Rattle.nddl_scope.specs.Repeats.{repeated_faults}
 use Rattle.nddl_scope.specs.Scope.{fault_if}
 use Rattle.nddl_scope.proofs.Earliest.{earliest_append}
-use Rattle.nddl_lines.specs.Facts.{Facts}
+use Rattle.nddl_known.specs.nddl_lines.Facts.{Facts}
 use Rattle.nddl_known.specs.Known.{all_type_faults}
 use Rattle.nddl_classes.specs.Classes.{class_faults, parent_faults}
 use Rattle.nddl_inherited.specs.Inherited.{inherited_noted, member_names, words_noted}

@@ -12,7 +12,7 @@ use Rattle.nddl_scope.specs.declared.scope.Meaning.TheVariants as meanings
 use Rattle.nddl_scope.specs.Finding.{faults_here}
 use Rattle.nddl_scope.specs.Repeats.{repeated_faults}
 use Rattle.nddl_scope.specs.Scope.{is_class_at, meaning_of}
-use Rattle.nddl_lines.specs.Facts.{Facts}
+use Rattle.nddl_known.specs.nddl_lines.Facts.{Facts}
 use Rattle.nddl_inherited.specs.Inherited.{inherited_noted, member_names}
 use Rattle.nddl_classes.specs.Members.{constructors_faults, member_faults}
 

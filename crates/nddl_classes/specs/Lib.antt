@@ -1,2 +1,3 @@
 pub mod Classes
 pub mod Members
+pub mod nddl_known

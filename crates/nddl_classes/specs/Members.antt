@@ -2,7 +2,7 @@
 use Rattle.std.specs.Prelude.{ℕ, Bool, true, false, ◌||◌, not, nat_lt, List, [], ◌∷◌, ◌++◌, Option, Some, None, map, length}
 use Rattle.std.specs.List.{filter_map, flat_map}
 use Rattle.std.specs.Str.{bytes_eq}
-use Rattle.model_core.specs.Naming.{token_part_words}
+use Rattle.nddl_scope.specs.model_core.Naming.{token_part_words}
 use Rattle.nddl_ast.specs.declared.declaration.Member.{Member}
 use Rattle.nddl_ast.specs.declared.declaration.Member.TheVariants as members
 use Rattle.nddl_ast.specs.declared.declaration.PredicatePart.{PredicatePart}
@@ -14,7 +14,7 @@ use Rattle.nddl_scope.specs.declared.fault.Fault.{Fault}
 use Rattle.nddl_scope.specs.Finding.{faults_here}
 use Rattle.nddl_scope.specs.Repeats.{repeated_faults}
 use Rattle.nddl_scope.specs.Scope.{fault_if}
-use Rattle.nddl_lines.specs.Facts.{Facts}
+use Rattle.nddl_known.specs.nddl_lines.Facts.{Facts}
 use Rattle.nddl_known.specs.Known.{all_type_faults}
 use Rattle.nddl_inherited.specs.Inherited.{words_noted}
 

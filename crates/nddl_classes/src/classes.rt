@@ -3,7 +3,7 @@
 ghost use Rattle.std.specs.Prelude.{◌≡◌, OnOk};
 ghost use Rattle.nddl_scope.specs.Finding.{earliest_fault};
 ghost use Rattle.nddl_scope.specs.Repeats.{repeated_faults};
-ghost use Rattle.nddl_lines.specs.Facts.{facts_of};
+ghost use Rattle.nddl_known.specs.nddl_lines.Facts.{facts_of};
 ghost use Rattle.nddl_classes.specs.Classes.{class_faults, class_meaning_fault, parent_faults};
 ghost use Rattle.nddl_inherited.specs.Inherited.{member_names};
 
@@ -13,7 +13,7 @@ use nddl_ast::TextKind;
 use nddl_ast::declaration::Member;
 use nddl_ast::name::Name;
 use nddl_inherited::{inherited, member_name};
-use nddl_lines::Basis;
+use nddl_known::passed_nddl_lines::Basis;
 use nddl_scope::fault::note_at;
 use nddl_scope::index::NameIndex;
 use nddl_scope::repeats::note_repeated;

@@ -4,5 +4,6 @@
 pub mod classes;
 pub mod constructors;
 pub mod members;
+pub mod passed_nddl_known;
 
 pub use classes::{class_fault, note_class};

@@ -2,10 +2,10 @@
 
 ghost use Rattle.std.specs.Prelude.{◌≡◌, [], IfOk, OnOk, map};
 ghost use Rattle.std.specs.List.{flat_map};
-ghost use Rattle.model_core.specs.Naming.{token_part_words};
+ghost use Rattle.nddl_scope.specs.model_core.Naming.{token_part_words};
 ghost use Rattle.nddl_scope.specs.Finding.{earliest_fault};
 ghost use Rattle.nddl_scope.specs.Repeats.{repeated_faults};
-ghost use Rattle.nddl_lines.specs.Facts.{facts_of};
+ghost use Rattle.nddl_known.specs.nddl_lines.Facts.{facts_of};
 ghost use Rattle.nddl_inherited.specs.Inherited.{words_noted};
 ghost use Rattle.nddl_classes.specs.Members.{formals_faults, member_faults, parameters_of, predicate_faults, typed_faults, typed_names};
 
@@ -14,7 +14,7 @@ use nddl_ast::declaration::{Member, PredicatePart, Typed};
 use nddl_ast::name::Name;
 use nddl_inherited::note_word;
 use nddl_known::note_all_type_faults;
-use nddl_lines::Basis;
+use nddl_known::passed_nddl_lines::Basis;
 use nddl_scope::Fault;
 use nddl_scope::fault::note_at;
 use nddl_scope::index::NameIndex;

@@ -17,7 +17,7 @@ use Rattle.nddl_sorts.specs.declared.kind.TypeKind.{TypeKind}
 use Rattle.nddl_sorts.specs.declared.kind.TypeKind.TheVariants as kinds
 use Rattle.nddl_lines.specs.Ancestors.{is_every, is_same_meaning, is_under}
 use Rattle.nddl_lines.specs.Facts.{Facts}
-use Rattle.nddl_classes.specs.Classes.{class_meaning_fault}
+use Rattle.nddl_paths.specs.nddl_classes.Classes.{class_meaning_fault}
 use Rattle.nddl_paths.specs.Paths.{Surroundings}
 use Rattle.nddl_constructors.specs.Constants.{constants_faults, value_faults}
 use Rattle.nddl_constructors.specs.Wants.{class_wants}

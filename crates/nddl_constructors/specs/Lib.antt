@@ -4,3 +4,7 @@ pub mod Creations
 pub mod Formals
 pub mod Objects
 pub mod Wants
+pub mod nddl_classes
+pub mod nddl_lines
+pub mod nddl_paths
+pub mod nddl_schema

@@ -1,8 +1,8 @@
 -- What is known where the value of a field or of an argument is read.
 use Rattle.std.specs.Prelude.{ℕ, List, Option}
-use Rattle.nddl_lines.specs.Facts.{Facts, facts_of}
-use Rattle.nddl_paths.specs.declared.denoted.Seen.{Seen}
-use Rattle.nddl_paths.specs.Seen.{seen_in}
+use Rattle.nddl_constructors.specs.nddl_lines.Facts.{Facts, facts_of}
+use Rattle.nddl_constructors.specs.nddl_paths.SeenType.{Seen}
+use Rattle.nddl_constructors.specs.nddl_paths.Seen.{seen_in}
 use Rattle.nddl_data.specs.declared.made.Datum.{Datum}
 use Rattle.nddl_data.specs.declared.made.Ground as ground_code
 use Rattle.nddl_data.specs.declared.made.Scene as scene_code

@@ -7,6 +7,9 @@
 pub mod fields;
 pub mod fitting;
 pub mod made;
+pub mod passed_nddl_constructors;
+pub mod passed_nddl_paths;
+pub mod passed_nddl_schema;
 pub mod reading;
 
 pub use fields::SetFields;

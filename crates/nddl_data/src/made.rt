@@ -6,7 +6,7 @@ ghost use Rattle.nddl_data.specs.Scene.{scenery_of};
 use super::fields::SetFields;
 use eu_name::text::Text;
 use nddl_constructors::Formals;
-use nddl_lines::Basis;
+use nddl_constructors::passed_nddl_lines::Basis;
 use nddl_scope::Meaning;
 
 /// A value that is settled.

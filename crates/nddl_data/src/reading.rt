@@ -2,7 +2,7 @@
 
 ghost use Rattle.std.specs.Prelude.{◌≡◌, IfOk, slice_get};
 ghost use Rattle.nddl_scope.specs.Finding.{earliest_fault};
-ghost use Rattle.nddl_paths.specs.Seen.{seen_in};
+ghost use Rattle.nddl_constructors.specs.nddl_paths.Seen.{seen_in};
 ghost use Rattle.nddl_constructors.specs.Formals.{formal_number};
 ghost use Rattle.nddl_data.specs.Reading.{all_unmade_faults, data_behind, datum_at, datum_behind, entry_datum, expr_datum, first_datum, is_unmade, is_unmade_meaning, is_unmade_sort, is_unmade_standing, is_well_written, literal_datum, meaning_datum, path_datum, settled_data, settled_datum, sort_datum, standing_datum, unmade_faults};
 ghost use Rattle.nddl_data.specs.Scene.{grounds_of, scenery_of};
@@ -15,7 +15,7 @@ use nddl_ast::name::{Name, Path};
 use nddl_constructors::Formals;
 use nddl_constructors::constants::{is_understood, wanted_at};
 use nddl_constructors::formals::around_formals;
-use nddl_paths::expr_denoted;
+use nddl_constructors::passed_nddl_paths::expr_denoted;
 use nddl_scope::fault::note_at;
 use nddl_scope::twice::kind_if;
 use nddl_scope::{Fault, Meaning, Sort};

@@ -9,8 +9,8 @@ use Rattle.nddl_sorts.specs.Types.{type_meaning}
 use Rattle.nddl_lines.specs.Decls.{members_of}
 use Rattle.nddl_lines.specs.Members.{member_field, named_typed}
 use Rattle.nddl_lines.specs.Shorter.{AddTheSame}
-use Rattle.nddl_paths.specs.Fields.{field_along}
-use Rattle.nddl_paths.proofs.Adding.{field_same}
+use Rattle.nddl_data.specs.nddl_paths.Fields.{field_along}
+use Rattle.nddl_data.specs.nddl_paths.Adding.{field_same}
 use Rattle.nddl_data.specs.declared.made.Datum.{Datum}
 use Rattle.nddl_data.specs.declared.made.MadeObject.{MadeObject}
 use Rattle.nddl_data.specs.Fitting.{is_outside_type}

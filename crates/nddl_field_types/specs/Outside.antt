@@ -3,7 +3,7 @@ use Rattle.std.specs.Prelude.{ℕ, Bool, false, List, Option, Some, None}
 use Rattle.std.specs.Option.{option_map_or}
 use Rattle.nddl_sorts.specs.declared.kind.TypeMeaning.{TypeMeaning}
 use Rattle.nddl_lines.specs.Ancestors.{ancestry}
-use Rattle.nddl_paths.specs.Fields.{field_along}
+use Rattle.nddl_data.specs.nddl_paths.Fields.{field_along}
 use Rattle.nddl_data.specs.declared.made.Datum.{Datum}
 use Rattle.nddl_data.specs.declared.made.MadeObject.{MadeObject}
 use Rattle.nddl_data.specs.Fitting.{is_outside_meaning, is_outside_type}

@@ -5,6 +5,9 @@
 
 pub mod kept;
 pub mod outside;
+pub mod passed_nddl_constructors;
+pub mod passed_nddl_data;
+pub mod passed_nddl_schema;
 
 pub use kept::FieldTypes;
 pub use outside::is_outside_field;

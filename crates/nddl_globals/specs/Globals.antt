@@ -19,8 +19,8 @@ use Rattle.nddl_sorts.specs.declared.kind.TypeMeaning.{TypeMeaning}
 use Rattle.nddl_sorts.specs.Kinds.{is_ranged}
 use Rattle.nddl_known.specs.Known.{fine_meaning}
 use Rattle.nddl_variables.specs.Domains.{value_kind}
-use Rattle.nddl_data.specs.Reading.{settled_datum}
-use Rattle.nddl_data.specs.Scene.{Grounds}
+use Rattle.nddl_objects.specs.nddl_data.Reading.{settled_datum}
+use Rattle.nddl_objects.specs.nddl_data.Scene.{Grounds}
 use Rattle.nddl_objects.specs.Modelled.{datum_value}
 use Rattle.nddl_objects.specs.Objects.{bare_scene}
 use Rattle.nddl_lexicon.specs.Lexicons.{is_global_sort}

@@ -1,1 +1,3 @@
 pub mod Globals
+pub mod nddl_data
+pub mod nddl_lexicon

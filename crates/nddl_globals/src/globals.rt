@@ -1,7 +1,7 @@
 //! The global variables that a program declares.
 
 ghost use Rattle.std.specs.Prelude.{◌≡◌, ◌++◌, ◌∷◌, [], IfOk, OnOk, map};
-ghost use Rattle.nddl_data.specs.Scene.{grounds_of, scenery_of};
+ghost use Rattle.nddl_objects.specs.nddl_data.Scene.{grounds_of, scenery_of};
 ghost use Rattle.nddl_lexicon.specs.Lexicons.{is_global_sort};
 ghost use Rattle.nddl_lexicon.specs.Shapes.{kind_base, world_of};
 ghost use Rattle.nddl_objects.specs.Objects.{bare_scene};
@@ -13,11 +13,11 @@ use model_core::variable::{Base, VarDecl};
 use nddl_ast::declaration::Decl;
 use nddl_ast::expression::{Expr, Init};
 use nddl_ast::statement::Variable;
-use nddl_data::{Ground, Scene, settled_datum};
 use nddl_known::fine_meaning;
 use nddl_lexicon::Premises;
 use nddl_lexicon::shapes::shape_with;
 use nddl_objects::modelled::datum_value;
+use nddl_objects::passed_nddl_data::{Ground, Scene, settled_datum};
 use nddl_roots::singles::single_set;
 use nddl_scope::Sort;
 use nddl_scope::declared::variable_sort;

@@ -2,5 +2,7 @@
 #![tactic(auto)]
 
 pub mod globals;
+pub mod passed_nddl_data;
+pub mod passed_nddl_lexicon;
 
 pub use globals::declared_globals;

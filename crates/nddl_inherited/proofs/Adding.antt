@@ -3,11 +3,11 @@ use Rattle.std.proofs.Common.{◌≡◌, ℕ, ◌&&◌, Bool, true, false, cond,
 use Rattle.std.specs.Prelude.{Option, Some, None, Result, Ok, Err, IfOk, if◌then◌else◌}
 use Rattle.lineage.specs.Lines.{standing_in}
 use Rattle.nddl_ast.specs.declared.declaration.Decl.{Decl}
-use Rattle.nddl_scope.specs.declared.declared.Declared.{Declared}
-use Rattle.nddl_scope.specs.declared.scope.Meaning.{Meaning}
-use Rattle.nddl_scope.specs.declared.scope.Meaning.TheVariants as meanings
-use Rattle.nddl_scope.specs.Index.{Noted}
-use Rattle.nddl_scope.specs.Scope.{is_class_at}
+use Rattle.nddl_lines.specs.nddl_scope.Declared.{Declared}
+use Rattle.nddl_lines.specs.nddl_scope.Meaning.{Meaning}
+use Rattle.nddl_lines.specs.nddl_scope.Meaning.TheVariants as meanings
+use Rattle.nddl_lines.specs.nddl_scope.Index.{Noted}
+use Rattle.nddl_lines.specs.nddl_scope.Scope.{is_class_at}
 use Rattle.nddl_lines.specs.Ancestors.{above, ancestry}
 use Rattle.nddl_lines.specs.Decls.{members_of}
 use Rattle.nddl_lines.specs.Facts.{Facts}

@@ -6,11 +6,11 @@ use Rattle.nddl_ast.specs.declared.declaration.Decl.{Decl}
 use Rattle.nddl_ast.specs.declared.declaration.Member.{Member}
 use Rattle.nddl_ast.specs.declared.declaration.Member.TheVariants as members
 use Rattle.nddl_ast.specs.declared.name.Name.{Name}
-use Rattle.nddl_scope.specs.declared.declared.Declared.{Declared}
-use Rattle.nddl_scope.specs.declared.scope.Meaning.{Meaning}
-use Rattle.nddl_scope.specs.declared.scope.Meaning.TheVariants as meanings
-use Rattle.nddl_scope.specs.Index.{Noted, with_noted}
-use Rattle.nddl_scope.specs.Scope.{is_class_at, meaning_of}
+use Rattle.nddl_lines.specs.nddl_scope.Declared.{Declared}
+use Rattle.nddl_lines.specs.nddl_scope.Meaning.{Meaning}
+use Rattle.nddl_lines.specs.nddl_scope.Meaning.TheVariants as meanings
+use Rattle.nddl_lines.specs.nddl_scope.Index.{Noted, with_noted}
+use Rattle.nddl_lines.specs.nddl_scope.Scope.{is_class_at, meaning_of}
 use Rattle.nddl_lines.specs.Ancestors.{above, ancestry}
 use Rattle.nddl_lines.specs.Decls.{members_of}
 use Rattle.nddl_lines.specs.Facts.{Facts}

@@ -1,8 +1,8 @@
 //! The names that a class has from those that it extends.
 
 ghost use Rattle.std.specs.Prelude.{◌≡◌, ◌∷◌, [], IfOk, OnOk, Some, codes, map};
-ghost use Rattle.nddl_scope.specs.declared.scope.Meaning.TheVariants.{Entry};
-ghost use Rattle.nddl_scope.specs.Index.{with_noted};
+ghost use Rattle.nddl_lines.specs.nddl_scope.Meaning.TheVariants.{Entry};
+ghost use Rattle.nddl_lines.specs.nddl_scope.Index.{with_noted};
 ghost use Rattle.nddl_lines.specs.Facts.{facts_of};
 ghost use Rattle.nddl_inherited.specs.Inherited.{builtin_members, class_noted, inherited_noted, line_noted, meaning_noted, member_names, names_noted, reservoir_members, words_noted};
 
@@ -14,9 +14,8 @@ use nddl_lines::Basis;
 use nddl_lines::circles::is_rooted;
 use nddl_lines::decls::members_of;
 use nddl_lines::lines::above;
+use nddl_lines::passed_nddl_scope::{Meaning, NameIndex, Scope};
 use nddl_lines::shorter::adding_line;
-use nddl_scope::index::NameIndex;
-use nddl_scope::{Meaning, Scope};
 use std::alloc::{AllocError, Global};
 
 /// The names that a class has from what it extends by this name.

@@ -2,7 +2,7 @@
 use Rattle.std.proofs.Common.{◌≡◌, ◌<◌, ◌≤◌, sym, ◌∙◌, inl, inr, arith}
 use Rattle.std.specs.Prelude.{◌⊎◌}
 use Rattle.std.proofs.lemmas.Bool.{cases_lt}
-use Rattle.eu_name.specs.NameOrder.{IsStrictTotalOrder}
+use Rattle.nddl_ast.specs.eu_name.NameOrder.{IsStrictTotalOrder}
 use Rattle.nddl_joined.specs.declared.place.Place.{Place}
 use Rattle.nddl_joined.specs.Place.{IsPlaceBefore}
 

@@ -1,2 +1,3 @@
 pub mod Joined
 pub mod Place
+pub mod nddl_ast

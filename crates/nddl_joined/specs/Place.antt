@@ -2,7 +2,7 @@
 use Rattle.std.specs.Prelude.{◌<◌, Option, List}
 use Rattle.std.specs.List.{slice_get}
 use Rattle.std.specs.Option.{option_and_then}
-use Rattle.eu_name.specs.NameOrder.{ByNumber}
+use Rattle.nddl_ast.specs.eu_name.NameOrder.{ByNumber}
 use Rattle.nddl_ast.specs.declared.declaration.FileDecls.{FileDecls}
 use Rattle.nddl_joined.specs.declared.place.Place.{Place}
 use Rattle.nddl_joined.specs.declared.site.Site.{Site}

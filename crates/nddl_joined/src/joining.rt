@@ -5,8 +5,8 @@ ghost use Rattle.std.specs.Option.{option_copied};
 ghost use Rattle.nddl_joined.specs.Joined.{Stretch, decl_in, decl_stretch, file_stretch, is_file_named, joined_sites};
 
 use super::site::Site;
-use eu_name::sequence::Sequence;
 use nddl_ast::declaration::{Decl, FileDecls};
+use nddl_ast::passed_eu_name::Sequence;
 use std::alloc::{AllocError, Global};
 
 /// The sites of all declarations of the files, which are in the order in which they were read: those of an included

@@ -2,7 +2,7 @@
 
 ghost use Rattle.std.specs.Prelude.{List};
 ghost use Rattle.nddl_ast.specs.declared.declaration.FileDecls.{FileDecls};
-ghost use Rattle.eu_name.specs.NameOrder.{IsStrictTotalOrder};
+ghost use Rattle.nddl_ast.specs.eu_name.NameOrder.{IsStrictTotalOrder};
 ghost use Rattle.nddl_joined.specs.Joined.{AreAtSites};
 ghost use Rattle.nddl_joined.specs.Place.{IsPlaceBefore};
 

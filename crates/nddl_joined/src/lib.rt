@@ -5,6 +5,7 @@
 
 pub mod joining;
 pub mod laws;
+pub mod passed_nddl_ast;
 pub mod place;
 pub mod site;
 

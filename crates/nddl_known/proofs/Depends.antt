@@ -5,20 +5,20 @@ use Rattle.std.specs.Option.{option_and_then, option_map, option_map_or}
 use Rattle.nddl_ast.specs.declared.expression.BaseType.{BaseType}
 use Rattle.nddl_ast.specs.declared.expression.BaseType.TheVariants as bases
 use Rattle.nddl_ast.specs.declared.expression.Type as types
-use Rattle.nddl_scope.specs.declared.declared.Declared.{Declared}
-use Rattle.nddl_scope.specs.declared.declared.Sort.{Sort}
-use Rattle.nddl_scope.specs.declared.declared.Sort.TheVariants as sorts
-use Rattle.nddl_scope.specs.declared.scope.Meaning.{Meaning}
-use Rattle.nddl_scope.specs.declared.scope.Meaning.TheVariants as meanings
-use Rattle.nddl_scope.specs.Finding.{faults_here}
-use Rattle.nddl_scope.specs.Scope.{meaning_of}
-use Rattle.nddl_sorts.specs.declared.kind.Extent.{Extent}
-use Rattle.nddl_sorts.specs.declared.kind.Extent.TheVariants as extents
-use Rattle.nddl_sorts.specs.declared.kind.TypeKind.{TypeKind}
-use Rattle.nddl_sorts.specs.declared.kind.TypeMeaning.{TypeMeaning}
-use Rattle.nddl_sorts.specs.Bases.{base_extent, base_fault, base_kind, meaning_extent, meaning_kind, sort_kind}
-use Rattle.nddl_sorts.specs.Bounds.{bounds_extent, bounds_faults}
-use Rattle.nddl_sorts.specs.Types.{is_fine}
+use Rattle.nddl_lines.specs.nddl_scope.Declared.{Declared}
+use Rattle.nddl_lines.specs.nddl_scope.Sort.{Sort}
+use Rattle.nddl_lines.specs.nddl_scope.Sort.TheVariants as sorts
+use Rattle.nddl_lines.specs.nddl_scope.Meaning.{Meaning}
+use Rattle.nddl_lines.specs.nddl_scope.Meaning.TheVariants as meanings
+use Rattle.nddl_lines.specs.nddl_scope.Finding.{faults_here}
+use Rattle.nddl_lines.specs.nddl_scope.Scope.{meaning_of}
+use Rattle.nddl_lines.specs.nddl_sorts.Extent.{Extent}
+use Rattle.nddl_lines.specs.nddl_sorts.Extent.TheVariants as extents
+use Rattle.nddl_lines.specs.nddl_sorts.TypeKind.{TypeKind}
+use Rattle.nddl_lines.specs.nddl_sorts.TypeMeaning.{TypeMeaning}
+use Rattle.nddl_lines.specs.nddl_sorts.Bases.{base_extent, base_fault, base_kind, meaning_extent, meaning_kind, sort_kind}
+use Rattle.nddl_lines.specs.nddl_sorts.Bounds.{bounds_extent, bounds_faults}
+use Rattle.nddl_lines.specs.nddl_sorts.Types.{is_fine}
 use Rattle.nddl_lines.specs.Ancestors.{objects_faults}
 use Rattle.nddl_lines.specs.Facts.{Facts}
 use Rattle.nddl_known.specs.Known.{all_type_faults, fine_meaning}

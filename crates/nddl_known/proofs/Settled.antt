@@ -11,12 +11,12 @@ use Rattle.nddl_ast.specs.declared.declaration.Decl.{Decl}
 use Rattle.nddl_ast.specs.declared.expression.BaseType.{BaseType}
 use Rattle.nddl_ast.specs.declared.expression.BaseType.TheVariants as bases
 use Rattle.nddl_ast.specs.declared.expression.Type as types
-use Rattle.nddl_scope.specs.declared.declared.Declared.{Declared}
-use Rattle.nddl_scope.specs.declared.declared.Sort.{Sort}
-use Rattle.nddl_scope.specs.declared.declared.Sort.TheVariants as sorts
-use Rattle.nddl_scope.specs.declared.scope.Meaning.{Meaning}
-use Rattle.nddl_scope.specs.declared.scope.Meaning.TheVariants as meanings
-use Rattle.nddl_sorts.specs.declared.kind.TypeMeaning.{TypeMeaning}
+use Rattle.nddl_lines.specs.nddl_scope.Declared.{Declared}
+use Rattle.nddl_lines.specs.nddl_scope.Sort.{Sort}
+use Rattle.nddl_lines.specs.nddl_scope.Sort.TheVariants as sorts
+use Rattle.nddl_lines.specs.nddl_scope.Meaning.{Meaning}
+use Rattle.nddl_lines.specs.nddl_scope.Meaning.TheVariants as meanings
+use Rattle.nddl_lines.specs.nddl_sorts.TypeMeaning.{TypeMeaning}
 use Rattle.nddl_lines.specs.Decls.{decl_of_name, typedef_type}
 use Rattle.nddl_lines.specs.Facts.{Facts}
 use Rattle.nddl_lines.specs.Lines.{base_under, is_rooted, is_typedef_sort, parents_of, sort_under, typedef_of_meaning}

@@ -5,11 +5,11 @@ use Rattle.std.specs.Option.{option_and_then}
 use Rattle.lineage.specs.Lines.{IsLineageOf, standing_in}
 use Rattle.nddl_ast.specs.declared.declaration.Decl.{Decl}
 use Rattle.nddl_ast.specs.declared.expression.Type as types
-use Rattle.nddl_scope.specs.declared.declared.Declared.{Declared}
-use Rattle.nddl_scope.specs.declared.fault.Fault.{Fault}
-use Rattle.nddl_sorts.specs.declared.kind.TypeMeaning.{TypeMeaning}
-use Rattle.nddl_sorts.specs.Bases.{base_kind}
-use Rattle.nddl_sorts.specs.Types.{is_fine, type_faults, type_meaning}
+use Rattle.nddl_lines.specs.nddl_scope.Declared.{Declared}
+use Rattle.nddl_lines.specs.nddl_scope.Fault.{Fault}
+use Rattle.nddl_lines.specs.nddl_sorts.TypeMeaning.{TypeMeaning}
+use Rattle.nddl_lines.specs.nddl_sorts.Bases.{base_kind}
+use Rattle.nddl_lines.specs.nddl_sorts.Types.{is_fine, type_faults, type_meaning}
 use Rattle.nddl_lines.specs.Ancestors.{objects_faults}
 use Rattle.nddl_lines.specs.Facts.{Facts}
 use Rattle.nddl_lines.specs.Decls.{decl_of_name, typedef_type}

@@ -6,7 +6,7 @@ ghost use Rattle.lineage.specs.Lines.{IsLineageOf};
 ghost use Rattle.nddl_lines.specs.Facts.{facts_of};
 ghost use Rattle.nddl_lines.specs.Lines.{parents_of};
 ghost use Rattle.nddl_lines.specs.Shorter.{AreShorter};
-ghost use Rattle.nddl_sorts.specs.declared.kind.Extent.TheVariants.{Whole};
+ghost use Rattle.nddl_lines.specs.nddl_sorts.Extent.TheVariants.{Whole};
 ghost use Rattle.nddl_known.specs.Known.{AreFacts, declared_type, known_meaning, with_meaning};
 
 use super::types::fine_meaning;
@@ -15,9 +15,9 @@ use nddl_ast::declaration::Decl;
 use nddl_ast::expression::Type;
 use nddl_lines::circles::is_rooted;
 use nddl_lines::decls::{decl_at, typedef_type};
+use nddl_lines::passed_nddl_scope::{Scope, Sort};
+use nddl_lines::passed_nddl_sorts::{Extent, TypeMeaning, Types};
 use nddl_lines::{Basis, MemberIndex, Parents, ShortLines};
-use nddl_scope::{Scope, Sort};
-use nddl_sorts::{Extent, TypeMeaning, Types};
 use std::alloc::{AllocError, Global};
 
 /// What each name of the scope means as a typedef. The lineage is that of what the names stand under, and along `short` some

@@ -3,6 +3,9 @@
 #![tactic(auto)]
 
 pub mod known;
+pub mod passed_nddl_lines;
+pub mod passed_nddl_scope;
+pub mod passed_nddl_sorts;
 pub mod types;
 
 pub use known::known_meanings;

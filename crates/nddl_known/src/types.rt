@@ -1,20 +1,19 @@
 //! All that is wrong with a type, and what it means.
 
 ghost use Rattle.std.specs.Prelude.{◌≡◌, IfOk, OnOk};
-ghost use Rattle.nddl_scope.specs.Finding.{earliest_fault};
+ghost use Rattle.nddl_lines.specs.nddl_scope.Finding.{earliest_fault};
 ghost use Rattle.nddl_lines.specs.Facts.{facts_of};
 ghost use Rattle.nddl_known.specs.Known.{all_type_faults, fine_meaning};
 
 use nddl_ast::expression::Type;
 use nddl_lines::Basis;
 use nddl_lines::objects::note_objects;
-use nddl_scope::Fault;
-use nddl_sorts::base::base_kind;
-use nddl_sorts::{TypeMeaning, note_type_faults, type_meaning};
+use nddl_lines::passed_nddl_scope::Fault;
+use nddl_lines::passed_nddl_sorts::{TypeMeaning, base_kind, note_type_faults, type_meaning};
 use std::alloc::{AllocError, Global};
 
 /// Notes all that is wrong with the type, which stands in the declaration of this number.
-#[tactic(auto, using(nddl_scope::proofs::Earliest::earliest_append), unfolding(crate::specs::Known::all_type_faults))]
+#[tactic(auto, using(crate::proofs::Passed::earliest_append), unfolding(crate::specs::Known::all_type_faults))]
 pub fn note_all_type_faults(
     alloc: Global,
     basis: &Basis<'_>,
@@ -30,7 +29,7 @@ pub fn note_all_type_faults(
 }
 
 /// What the type means, if nothing is wrong with it and it stands on nothing that is.
-#[tactic(auto, using(nddl_sorts::proofs::Counts::none_wrong, nddl_sorts::proofs::Counts::some_wrong))]
+#[tactic(auto, using(crate::proofs::Passed::none_wrong, crate::proofs::Passed::some_wrong))]
 pub fn fine_meaning(
     alloc: Global,
     basis: &Basis<'_>,

@@ -16,7 +16,7 @@ use Rattle.nddl_lines.specs.Facts.{Facts}
 use Rattle.nddl_lines.specs.Lines.{parents_of}
 use Rattle.nddl_lines.proofs.Extending.{entry_under}
 use Rattle.nddl_schema.specs.Classes.{class_entries, is_first_class}
-use Rattle.nddl_constructors.specs.Creations.{is_of_class}
+use Rattle.nddl_data.specs.nddl_constructors.Creations.{is_of_class}
 use Rattle.nddl_data.specs.declared.made.MadeObject.{MadeObject}
 use Rattle.nddl_lexicon.specs.Listing.{HasKnownLine, HaveKnownLines, behind_builtin, builtin_populations, class_population, entry_population, is_numbered, owner_of, owners_of, populations, populations_with}
 use Rattle.nddl_lexicon.specs.Objects.{objects_of}

@@ -23,9 +23,9 @@ use Rattle.nddl_lines.specs.Ancestors.{above}
 use Rattle.nddl_lines.specs.Decls.{decl_of_name, members_of}
 use Rattle.nddl_schema.specs.Classes.{builtin_fields, class_entries, class_number, is_first, line_down}
 use Rattle.nddl_schema.specs.Predicates.{builtin_preds, given_preds}
-use Rattle.nddl_paths.specs.declared.denoted.Denoted.{Denoted}
-use Rattle.nddl_paths.specs.declared.denoted.Denoted.TheVariants as denoted
-use Rattle.nddl_paths.specs.Files.{file_denoted}
+use Rattle.nddl_data.specs.nddl_paths.Denoted.{Denoted}
+use Rattle.nddl_data.specs.nddl_paths.Denoted.TheVariants as denoted
+use Rattle.nddl_data.specs.nddl_paths.Files.{file_denoted}
 use Rattle.nddl_terms.specs.declared.lexicon.Attribute.{Attribute}
 use Rattle.nddl_terms.specs.declared.lexicon.ClassShape.{ClassShape}
 use Rattle.nddl_terms.specs.declared.lexicon.Lexicon.{Lexicon}

@@ -2,3 +2,4 @@ pub mod Listing
 pub mod Objects
 pub mod Shapes
 pub mod Lexicons
+pub mod nddl_data

@@ -7,7 +7,7 @@ use Rattle.nddl_scope.specs.declared.scope.Meaning.{Meaning}
 use Rattle.nddl_sorts.specs.declared.kind.Extent.{Extent}
 use Rattle.nddl_sorts.specs.declared.kind.Extent.TheVariants as extents
 use Rattle.nddl_lines.specs.Facts.{Facts}
-use Rattle.nddl_constructors.specs.Creations.{is_of_class}
+use Rattle.nddl_data.specs.nddl_constructors.Creations.{is_of_class}
 use Rattle.nddl_data.specs.declared.made.Datum.TheVariants as datums
 use Rattle.nddl_data.specs.declared.made.MadeObject.{MadeObject}
 use Rattle.nddl_data.specs.declared.made.Standing.{Standing}

@@ -7,6 +7,7 @@ pub mod filling;
 pub mod listing;
 pub mod names;
 pub mod objects;
+pub mod passed_nddl_data;
 pub mod predicates;
 pub mod premises;
 pub mod shapes;

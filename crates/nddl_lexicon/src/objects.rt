@@ -11,7 +11,7 @@ use super::listing::is_numbered;
 use super::premises::Premises;
 use eu_name::sequence::Sequence;
 use model_core::variable::Base;
-use nddl_constructors::creations::is_of_class;
+use nddl_data::passed_nddl_constructors::is_of_class;
 use nddl_data::reading::standing_at;
 use nddl_data::{Datum, MadeObject, Standing};
 use nddl_lines::Basis;

@@ -7,13 +7,13 @@ use Rattle.lineage.specs.Lines.{AreParents}
 use Rattle.nddl_ast.specs.declared.declaration.Decl.{Decl}
 use Rattle.nddl_ast.specs.declared.expression.BaseType.{BaseType}
 use Rattle.nddl_ast.specs.declared.expression.BaseType.TheVariants as bases
-use Rattle.nddl_scope.specs.declared.declared.Declared.{Declared}
-use Rattle.nddl_scope.specs.declared.declared.Sort.{Sort}
-use Rattle.nddl_scope.specs.declared.declared.Sort.TheVariants as sorts
-use Rattle.nddl_scope.specs.declared.scope.Meaning.{Meaning}
-use Rattle.nddl_scope.specs.declared.scope.Meaning.TheVariants as meanings
-use Rattle.nddl_scope.specs.Names.{is_class_sort}
-use Rattle.nddl_scope.specs.Scope.{is_class_at, meaning_of}
+use Rattle.nddl_sorts.specs.nddl_scope.Declared.{Declared}
+use Rattle.nddl_sorts.specs.nddl_scope.Sort.{Sort}
+use Rattle.nddl_sorts.specs.nddl_scope.Sort.TheVariants as sorts
+use Rattle.nddl_sorts.specs.nddl_scope.Meaning.{Meaning}
+use Rattle.nddl_sorts.specs.nddl_scope.Meaning.TheVariants as meanings
+use Rattle.nddl_sorts.specs.nddl_scope.Names.{is_class_sort}
+use Rattle.nddl_sorts.specs.nddl_scope.Scope.{is_class_at, meaning_of}
 use Rattle.nddl_lines.specs.Decls.{declaration_with_body, class_parent, decl_of_name, typedef_type}
 use Rattle.nddl_lines.specs.Lines.{base_under, class_under, is_typedef_sort, parents_of, sort_under, typedef_of_meaning, under_meaning}
 

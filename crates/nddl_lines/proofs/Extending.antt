@@ -7,13 +7,13 @@ use Rattle.std.proofs.lemmas.Option.{same_Some}
 use Rattle.lineage.specs.Lines.{LeadsUp}
 use Rattle.nddl_ast.specs.declared.declaration.Decl.{Decl}
 use Rattle.nddl_ast.specs.declared.name.Name.{Name}
-use Rattle.nddl_scope.specs.declared.declared.Declared.{Declared}
-use Rattle.nddl_scope.specs.declared.declared.Sort.{Sort}
-use Rattle.nddl_scope.specs.declared.declared.Sort.TheVariants as sorts
-use Rattle.nddl_scope.specs.declared.scope.Meaning.{Meaning}
-use Rattle.nddl_scope.specs.declared.scope.Meaning.TheVariants as meanings
-use Rattle.nddl_scope.specs.Names.{is_class_sort}
-use Rattle.nddl_scope.specs.Scope.{is_class_at, meaning_of}
+use Rattle.nddl_sorts.specs.nddl_scope.Declared.{Declared}
+use Rattle.nddl_sorts.specs.nddl_scope.Sort.{Sort}
+use Rattle.nddl_sorts.specs.nddl_scope.Sort.TheVariants as sorts
+use Rattle.nddl_sorts.specs.nddl_scope.Meaning.{Meaning}
+use Rattle.nddl_sorts.specs.nddl_scope.Meaning.TheVariants as meanings
+use Rattle.nddl_sorts.specs.nddl_scope.Names.{is_class_sort}
+use Rattle.nddl_sorts.specs.nddl_scope.Scope.{is_class_at, meaning_of}
 use Rattle.nddl_lines.specs.Ancestors.{above, is_under, means}
 use Rattle.nddl_lines.specs.Decls.{class_parent, declaration_with_body}
 use Rattle.nddl_lines.specs.Lines.{class_under, parents_of, sort_under, under_meaning}

@@ -5,3 +5,4 @@ pub mod Extending
 pub mod Keeping
 pub mod Passing
 pub mod Placing
+pub mod Passed

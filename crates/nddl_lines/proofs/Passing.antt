@@ -12,8 +12,8 @@ use Rattle.lineage.specs.Lines.{IsLineageOf, LeadsUp, ParentsComeFirst, StandsUn
 use Rattle.lineage.proofs.Lists.{get-set_same, get-set_other}
 use Rattle.lineage.proofs.Marking.{equal_or_not}
 use Rattle.nddl_ast.specs.declared.declaration.Decl.{Decl}
-use Rattle.nddl_scope.specs.declared.declared.Declared.{Declared}
-use Rattle.nddl_scope.specs.Scope.{meaning_of}
+use Rattle.nddl_sorts.specs.nddl_scope.Declared.{Declared}
+use Rattle.nddl_sorts.specs.nddl_scope.Scope.{meaning_of}
 use Rattle.nddl_lines.specs.Ancestors.{line_from, parent_in}
 use Rattle.nddl_lines.specs.Decls.{class_parent, decl_members, declaration_with_body}
 use Rattle.nddl_lines.specs.Lines.{is_rooted}

@@ -10,9 +10,9 @@ use Rattle.nddl_ast.specs.declared.declaration.Member.TheVariants as members
 use Rattle.nddl_ast.specs.declared.declaration.PredicatePart.{PredicatePart}
 use Rattle.nddl_ast.specs.declared.declaration.Typed.{Typed}
 use Rattle.nddl_ast.specs.declared.name.Name.{Name}
-use Rattle.nddl_scope.specs.Index.{Noted, NotesFirst, noted_number, with_noted}
-use Rattle.nddl_scope.proofs.Firsts.{position_later}
-use Rattle.nddl_scope.proofs.Indexes.{noted_with}
+use Rattle.nddl_sorts.specs.nddl_scope.Index.{Noted, NotesFirst, noted_number, with_noted}
+use Rattle.nddl_sorts.specs.nddl_scope.Firsts.{position_later}
+use Rattle.nddl_sorts.specs.nddl_scope.Indexes.{noted_with}
 use Rattle.nddl_lines.specs.Decls.{decl_members}
 use Rattle.nddl_lines.specs.declared.members.Places.{Places}
 use Rattle.nddl_lines.specs.Members.{ArePlaces, HasMembers, field_at, field_declared, field_place, is_field_named, is_predicate_named, member_field, named_typed, predicate_declared, predicate_place}

@@ -16,14 +16,14 @@ use Rattle.nddl_ast.specs.declared.expression.Value.TheVariants as values
 use Rattle.nddl_ast.specs.declared.kind.TextKind.TheVariants as faults
 use Rattle.nddl_ast.specs.declared.name.Name.{Name}
 use Rattle.nddl_ast.specs.Places.{value_place}
-use Rattle.nddl_scope.specs.declared.declared.Declared.{Declared}
-use Rattle.nddl_scope.specs.declared.declared.Sort.{Sort}
-use Rattle.nddl_scope.specs.declared.declared.Sort.TheVariants as sorts
-use Rattle.nddl_scope.specs.declared.fault.Fault.{Fault}
-use Rattle.nddl_scope.specs.declared.scope.Meaning.{Meaning}
-use Rattle.nddl_scope.specs.declared.scope.Meaning.TheVariants as meanings
-use Rattle.nddl_scope.specs.Finding.{faults_here}
-use Rattle.nddl_scope.specs.Scope.{fault_if, is_class_at, meaning_of}
+use Rattle.nddl_sorts.specs.nddl_scope.Declared.{Declared}
+use Rattle.nddl_sorts.specs.nddl_scope.Sort.{Sort}
+use Rattle.nddl_sorts.specs.nddl_scope.Sort.TheVariants as sorts
+use Rattle.nddl_sorts.specs.nddl_scope.Fault.{Fault}
+use Rattle.nddl_sorts.specs.nddl_scope.Meaning.{Meaning}
+use Rattle.nddl_sorts.specs.nddl_scope.Meaning.TheVariants as meanings
+use Rattle.nddl_sorts.specs.nddl_scope.Finding.{faults_here}
+use Rattle.nddl_sorts.specs.nddl_scope.Scope.{fault_if, is_class_at, meaning_of}
 use Rattle.nddl_sorts.specs.declared.kind.TypeKind.{TypeKind}
 use Rattle.nddl_sorts.specs.declared.kind.TypeKind.TheVariants as kinds
 use Rattle.nddl_lines.specs.Decls.{declaration_with_body, class_parent, decl_of_name}

@@ -4,9 +4,9 @@ use Rattle.lineage.specs.declared.walk.Mark.{Mark}
 use Rattle.nddl_ast.specs.declared.declaration.Decl.{Decl}
 use Rattle.nddl_ast.specs.declared.expression.Bounds.{Bounds}
 use Rattle.nddl_ast.specs.declared.expression.Value.{Value}
-use Rattle.nddl_scope.specs.declared.declared.Declared.{Declared}
-use Rattle.nddl_scope.specs.declared.fault.Fault.{Fault}
-use Rattle.nddl_scope.specs.declared.scope.Meaning.{Meaning}
+use Rattle.nddl_sorts.specs.nddl_scope.Declared.{Declared}
+use Rattle.nddl_sorts.specs.nddl_scope.Fault.{Fault}
+use Rattle.nddl_sorts.specs.nddl_scope.Meaning.{Meaning}
 use Rattle.nddl_sorts.specs.declared.kind.TypeKind.{TypeKind}
 use Rattle.nddl_sorts.specs.declared.kind.TypeMeaning.{TypeMeaning}
 use Rattle.nddl_lines.specs.declared.basis.Basis as code

@@ -4,3 +4,5 @@ pub mod Facts
 pub mod Lines
 pub mod Members
 pub mod Shorter
+pub mod nddl_scope
+pub mod nddl_sorts

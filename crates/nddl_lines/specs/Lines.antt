@@ -11,16 +11,16 @@ use Rattle.nddl_ast.specs.declared.expression.BaseType.{BaseType}
 use Rattle.nddl_ast.specs.declared.expression.BaseType.TheVariants as bases
 use Rattle.nddl_ast.specs.declared.kind.TextKind.TheVariants as faults
 use Rattle.nddl_ast.specs.declared.name.Name.{Name}
-use Rattle.nddl_joined.specs.declared.place.Place.{Place}
-use Rattle.nddl_scope.specs.declared.declared.Declared.{Declared}
-use Rattle.nddl_scope.specs.declared.declared.Sort.{Sort}
-use Rattle.nddl_scope.specs.declared.declared.Sort.TheVariants as sorts
-use Rattle.nddl_scope.specs.declared.fault.Fault.{Fault}
-use Rattle.nddl_scope.specs.declared.scope.Meaning.{Meaning}
-use Rattle.nddl_scope.specs.declared.scope.Meaning.TheVariants as meanings
-use Rattle.nddl_scope.specs.Finding.{faults_here}
-use Rattle.nddl_scope.specs.Names.{is_class_sort}
-use Rattle.nddl_scope.specs.Scope.{is_class_at, meaning_of, named_number}
+use Rattle.nddl_sorts.specs.nddl_joined.Place.{Place}
+use Rattle.nddl_sorts.specs.nddl_scope.Declared.{Declared}
+use Rattle.nddl_sorts.specs.nddl_scope.Sort.{Sort}
+use Rattle.nddl_sorts.specs.nddl_scope.Sort.TheVariants as sorts
+use Rattle.nddl_sorts.specs.nddl_scope.Fault.{Fault}
+use Rattle.nddl_sorts.specs.nddl_scope.Meaning.{Meaning}
+use Rattle.nddl_sorts.specs.nddl_scope.Meaning.TheVariants as meanings
+use Rattle.nddl_sorts.specs.nddl_scope.Finding.{faults_here}
+use Rattle.nddl_sorts.specs.nddl_scope.Names.{is_class_sort}
+use Rattle.nddl_sorts.specs.nddl_scope.Scope.{is_class_at, meaning_of, named_number}
 use Rattle.nddl_lines.specs.Decls.{class_parent, typedef_type, decl_of_name, declaration_with_body}
 
 -- Names stand for what is declared first under them. One thing more, nowhere, has the number behind theirs and stands under

@@ -7,7 +7,7 @@ use Rattle.nddl_ast.specs.declared.declaration.Decl.{Decl}
 use Rattle.nddl_ast.specs.declared.declaration.Member.{Member}
 use Rattle.nddl_ast.specs.declared.declaration.Member.TheVariants as members
 use Rattle.nddl_ast.specs.declared.declaration.Typed.{Typed}
-use Rattle.nddl_scope.specs.Index.{HasFirsts, NotesFirst, noted_number}
+use Rattle.nddl_sorts.specs.nddl_scope.Index.{HasFirsts, NotesFirst, noted_number}
 use Rattle.nddl_lines.specs.declared.members.Places.{Places}
 use Rattle.nddl_lines.specs.Decls.{decl_members}
 

@@ -8,10 +8,10 @@ use Rattle.lineage.specs.Lines.{standing_in}
 use Rattle.nddl_ast.specs.declared.declaration.Decl.{Decl}
 use Rattle.nddl_ast.specs.declared.declaration.Member.{Member}
 use Rattle.nddl_ast.specs.declared.declaration.Member.TheVariants as members
-use Rattle.nddl_scope.specs.declared.declared.Declared.{Declared}
-use Rattle.nddl_scope.specs.declared.scope.Meaning.{Meaning}
-use Rattle.nddl_scope.specs.declared.scope.Meaning.TheVariants as meanings
-use Rattle.nddl_scope.specs.Scope.{meaning_of}
+use Rattle.nddl_sorts.specs.nddl_scope.Declared.{Declared}
+use Rattle.nddl_sorts.specs.nddl_scope.Meaning.{Meaning}
+use Rattle.nddl_sorts.specs.nddl_scope.Meaning.TheVariants as meanings
+use Rattle.nddl_sorts.specs.nddl_scope.Scope.{meaning_of}
 use Rattle.nddl_lines.specs.declared.shorter.ShortLines.{ShortLines}
 use Rattle.nddl_lines.specs.Ancestors.{above, ancestry, parent_in}
 use Rattle.nddl_lines.specs.Decls.{class_parent, decl_members, declaration_with_body, members_of}

@@ -1,17 +1,16 @@
 //! Classes and typedefs that are their own ancestors.
 
 ghost use Rattle.std.specs.Prelude.{◌≡◌};
-ghost use Rattle.nddl_scope.specs.Finding.{earliest_fault};
+ghost use Rattle.nddl_sorts.specs.nddl_scope.Finding.{earliest_fault};
 ghost use Rattle.nddl_lines.specs.Lines.{circle_fault, circle_faults, declared_place, is_circle, is_rooted};
 
 use lineage::{Lineage, Standing};
 use nddl_ast::TextKind;
-use nddl_joined::Place;
-use nddl_scope::fault::note_at;
-use nddl_scope::{Declared, Fault, Scope};
+use nddl_sorts::passed_nddl_joined::Place;
+use nddl_sorts::passed_nddl_scope::{Declared, Fault, Scope, note_at};
 
 /// Notes each class and each typedef that is its own ancestor.
-#[tactic(auto, using(nddl_scope::proofs::Earliest::earliest_append))]
+#[tactic(auto, using(crate::proofs::Passed::earliest_append))]
 pub fn note_circles(scope: &Scope, lineage: &Lineage, first: &mut Option<Fault>)
     ensures { first.new ≡ earliest_fault first.old
         (circle_faults scope.now lineage.now.marks.items 0 scope.now) }

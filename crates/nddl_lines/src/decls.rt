@@ -7,7 +7,7 @@ ghost use Rattle.nddl_lines.specs.Decls.{class_parent, decl_members, declaration
 use nddl_ast::declaration::{Decl, Member};
 use nddl_ast::expression::Type;
 use nddl_ast::name::Name;
-use nddl_scope::{Declared, Scope};
+use nddl_sorts::passed_nddl_scope::{Declared, Scope};
 
 /// The declaration of this number.
 pub fn decl_at<'a>(decls: &[&'a Decl], number: usize) -> Option<&'a Decl>

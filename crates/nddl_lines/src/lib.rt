@@ -14,6 +14,8 @@ pub mod lines;
 pub mod members;
 pub mod objects;
 pub mod parents;
+pub mod passed_nddl_scope;
+pub mod passed_nddl_sorts;
 pub mod shorter;
 pub mod under;
 

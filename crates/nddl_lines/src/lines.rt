@@ -6,7 +6,7 @@ ghost use Rattle.nddl_lines.specs.Ancestors.{above, ancestry, is_extended, is_sa
 use super::decls::{class_parent, declaration_with_body};
 use lineage::{Parents, parent_in};
 use nddl_ast::declaration::Decl;
-use nddl_scope::{Meaning, Scope};
+use nddl_sorts::passed_nddl_scope::{Meaning, Scope};
 use std::alloc::{AllocError, Global};
 
 /// The thing of this number and what it leads up to, in order.

@@ -7,9 +7,9 @@ ghost use Rattle.nddl_lines.specs.Decls.{decl_members};
 ghost use Rattle.nddl_lines.specs.Members.{ArePlaces, HasMembers, NotesMember, field_at, field_declared, field_place, member_field, predicate_declared, predicate_place};
 
 use super::decls::{decl_at, decl_members};
-use eu_name::text::Text;
 use nddl_ast::declaration::{Decl, Member, Typed};
-use nddl_scope::index::NameIndex;
+use nddl_ast::passed_eu_name::Text;
+use nddl_sorts::passed_nddl_scope::NameIndex;
 use std::alloc::{AllocError, Global};
 use std::marker::Model;
 

@@ -1,9 +1,9 @@
 //! Objects in the sets of types.
 
 ghost use Rattle.std.specs.Prelude.{◌≡◌, IfOk, OnOk, Some, map};
-ghost use Rattle.nddl_scope.specs.declared.scope.Meaning.TheVariants.{Entry};
+ghost use Rattle.nddl_sorts.specs.nddl_scope.Meaning.TheVariants.{Entry};
 ghost use Rattle.std.specs.Option.{option_copied};
-ghost use Rattle.nddl_scope.specs.Finding.{earliest_fault};
+ghost use Rattle.nddl_sorts.specs.nddl_scope.Finding.{earliest_fault};
 ghost use Rattle.nddl_lines.specs.Ancestors.{class_of_object, made_in, object_of, object_of_meaning};
 ghost use Rattle.nddl_lines.specs.Facts.{faults_of_foreign, faults_of_objects, is_foreign_in, is_outside_in};
 
@@ -16,10 +16,8 @@ use nddl_ast::TextKind;
 use nddl_ast::declaration::Decl;
 use nddl_ast::expression::{Bounds, Init, Value};
 use nddl_ast::name::Name;
-use nddl_scope::fault::note_at;
-use nddl_scope::twice::kind_if;
-use nddl_scope::{Declared, Fault, Meaning, Scope, Sort};
 use nddl_sorts::TypeKind;
+use nddl_sorts::passed_nddl_scope::{Declared, Fault, Meaning, Scope, Sort, kind_if, note_at};
 use std::alloc::{AllocError, Global};
 
 /// Notes each object in the bounds of a type of this kind that isn't of its class.
@@ -42,7 +40,7 @@ pub fn note_objects(
 }
 
 // Notes each of the values that is an object of another class.
-#[tactic(auto, using(nddl_scope::proofs::Earliest::earliest_append))]
+#[tactic(auto, using(crate::proofs::Passed::earliest_append))]
 fn note_foreign(
     alloc: Global,
     basis: &Basis<'_>,

@@ -9,7 +9,7 @@ pub use lineage::parent_in;
 use nddl_ast::declaration::Decl;
 use nddl_ast::expression::BaseType;
 use nddl_ast::name::Name;
-use nddl_scope::{Declared, Meaning, Scope, Sort};
+use nddl_sorts::passed_nddl_scope::{Declared, Meaning, Scope, Sort};
 use std::alloc::{AllocError, Global};
 
 /// What each name stands under, and at the end nowhere, which stands under itself.

@@ -5,7 +5,7 @@
 ghost use Rattle.std.specs.Prelude.{◌≡◌, IfOk, map, slice_set};
 ghost use Rattle.std.specs.Option.{option_and_then};
 ghost use Rattle.lineage.specs.Lines.{IsLineageOf};
-ghost use Rattle.nddl_scope.specs.Scope.{meaning_of};
+ghost use Rattle.nddl_sorts.specs.nddl_scope.Scope.{meaning_of};
 ghost use Rattle.nddl_lines.specs.Ancestors.{ancestry, parent_in};
 ghost use Rattle.nddl_lines.specs.Decls.{class_parent};
 ghost use Rattle.nddl_lines.specs.Shorter.{AddTheSame, AreShorter, AreShorterFor, BuildTheSame, adds_body, adds_declared, adds_members, builds, builds_declared, has_constructor, has_named, is_builtin_class, is_constructor, is_marked, is_named, passed_over};
@@ -17,7 +17,7 @@ use super::lines::{ancestry, line_along};
 use super::parents::parent_in;
 use lineage::Lineage;
 use nddl_ast::declaration::{Decl, Member};
-use nddl_scope::{Declared, Meaning, Scope};
+use nddl_sorts::passed_nddl_scope::{Declared, Meaning, Scope};
 use std::alloc::{AllocError, Global};
 
 /// What the things stand under, where some classes are passed over.

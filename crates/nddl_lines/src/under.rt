@@ -1,13 +1,13 @@
 //! Which classes stand under which.
 
 ghost use Rattle.std.specs.Prelude.{◌≡◌, ◌||◌, ◌==◌, IfOk, IfSome, map, true};
-ghost use Rattle.nddl_scope.specs.Scope.{is_class_at};
-ghost use Rattle.nddl_scope.specs.declared.scope.Meaning.TheVariants.{BuiltIn, Entry};
+ghost use Rattle.nddl_sorts.specs.nddl_scope.Scope.{is_class_at};
+ghost use Rattle.nddl_sorts.specs.nddl_scope.Meaning.TheVariants.{BuiltIn, Entry};
 ghost use Rattle.nddl_lines.specs.Ancestors.{above, is_under, means};
 
 use super::basis::Basis;
 use super::lines::{above, ancestry, is_extended, is_same_meaning, means};
-use nddl_scope::Meaning;
+use nddl_sorts::passed_nddl_scope::Meaning;
 use std::alloc::{AllocError, Global};
 
 /// Whether the class of this number is the other one, or under it.

@@ -13,13 +13,13 @@ use Rattle.nddl_scope.specs.declared.scope.Meaning.{Meaning}
 use Rattle.nddl_scope.specs.declared.scope.Meaning.TheVariants as meanings
 use Rattle.nddl_lines.specs.Ancestors.{ancestry}
 use Rattle.nddl_lines.specs.Facts.{Facts}
-use Rattle.nddl_schema.specs.Classes.{class_number}
-use Rattle.nddl_constructors.specs.Wants.{builtin_along}
-use Rattle.nddl_data.specs.declared.made.Datum.{Datum}
-use Rattle.nddl_data.specs.declared.made.Datum.TheVariants as datums
-use Rattle.nddl_data.specs.declared.made.FieldValue.{FieldValue}
-use Rattle.nddl_data.specs.declared.made.MadeObject.{MadeObject}
-use Rattle.nddl_data.specs.Fields.{field_datum}
+use Rattle.nddl_running.specs.nddl_schema.Classes.{class_number}
+use Rattle.nddl_running.specs.nddl_constructors.Wants.{builtin_along}
+use Rattle.nddl_running.specs.nddl_data.Datum.{Datum}
+use Rattle.nddl_running.specs.nddl_data.Datum.TheVariants as datums
+use Rattle.nddl_running.specs.nddl_data.FieldValue.{FieldValue}
+use Rattle.nddl_running.specs.nddl_data.MadeObject.{MadeObject}
+use Rattle.nddl_running.specs.nddl_data.Fields.{field_datum}
 
 -- ---- values
 

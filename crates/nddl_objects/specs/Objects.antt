@@ -10,11 +10,11 @@ use Rattle.nddl_scope.specs.Finding.{earliest_fault}
 use Rattle.nddl_scope.specs.Names.{is_config_sort, sort_of_variable}
 use Rattle.nddl_scope.specs.Scope.{named_number}
 use Rattle.nddl_lines.specs.Facts.{Facts}
-use Rattle.nddl_constructors.specs.Objects.{written_faults}
-use Rattle.nddl_data.specs.declared.made.Datum.{Datum}
-use Rattle.nddl_data.specs.declared.made.Standing.{Standing}
-use Rattle.nddl_data.specs.declared.made.Standing.TheVariants as standings
-use Rattle.nddl_data.specs.Scene.{Grounds, Scenery}
+use Rattle.nddl_running.specs.nddl_constructors.Objects.{written_faults}
+use Rattle.nddl_running.specs.nddl_data.Datum.{Datum}
+use Rattle.nddl_running.specs.nddl_data.Standing.{Standing}
+use Rattle.nddl_running.specs.nddl_data.Standing.TheVariants as standings
+use Rattle.nddl_running.specs.nddl_data.Scene.{Grounds, Scenery}
 use Rattle.nddl_running.specs.Construction.{Construction, construction_of, noted}
 use Rattle.nddl_running.specs.Made.{made_by, new_datum, new_made}
 use Rattle.nddl_objects.specs.declared.objects.Program as code

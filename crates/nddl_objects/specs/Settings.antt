@@ -7,11 +7,11 @@ use Rattle.nddl_scope.specs.Finding.{faults_here}
 use Rattle.nddl_scope.specs.Scope.{fault_if}
 use Rattle.nddl_sorts.specs.declared.kind.TypeKind.{TypeKind}
 use Rattle.nddl_sorts.specs.declared.kind.TypeKind.TheVariants as kinds
-use Rattle.nddl_data.specs.declared.made.Datum.{Datum}
-use Rattle.nddl_data.specs.declared.made.Datum.TheVariants as datums
-use Rattle.nddl_data.specs.declared.made.MadeObject.{MadeObject}
-use Rattle.nddl_data.specs.Reading.{all_unmade_faults, datum_at, settled_data}
-use Rattle.nddl_data.specs.Scene.{Grounds, Scenery}
+use Rattle.nddl_running.specs.nddl_data.Datum.{Datum}
+use Rattle.nddl_running.specs.nddl_data.Datum.TheVariants as datums
+use Rattle.nddl_running.specs.nddl_data.MadeObject.{MadeObject}
+use Rattle.nddl_running.specs.nddl_data.Reading.{all_unmade_faults, datum_at, settled_data}
+use Rattle.nddl_running.specs.nddl_data.Scene.{Grounds, Scenery}
 use Rattle.nddl_running.specs.Finished.{datum_below}
 
 -- the first three are whole numbers

@@ -5,6 +5,7 @@
 
 pub mod modelled;
 pub mod objects;
+pub mod passed_nddl_data;
 pub mod settings;
 
 pub use modelled::modelled_objects;

@@ -2,14 +2,15 @@
 
 ghost use Rattle.std.specs.Prelude.{◌≡◌, IfOk, OnOk};
 ghost use Rattle.nddl_scope.specs.Finding.{earliest_fault};
-ghost use Rattle.nddl_data.specs.Scene.{grounds_of, scenery_of};
+ghost use Rattle.nddl_running.specs.nddl_data.Scene.{grounds_of, scenery_of};
 ghost use Rattle.nddl_objects.specs.Settings.{are_crossed, are_wrong_settings, is_below, is_over, setting_data, setting_faults_of};
 
 use eu_name::sequence::Sequence;
 use nddl_ast::TextKind;
 use nddl_ast::expression::Creation;
-use nddl_data::reading::{datum_at, note_all_unmade};
-use nddl_data::{Datum, Ground, MadeObject, Scene, settled_data};
+use nddl_running::passed_nddl_data::{
+    Datum, Ground, MadeObject, Scene, datum_at, note_all_unmade, settled_data,
+};
 use nddl_scope::Fault;
 use nddl_scope::fault::note_at;
 use nddl_scope::twice::kind_if;

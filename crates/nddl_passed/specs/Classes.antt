@@ -16,8 +16,8 @@ use Rattle.nddl_lines.specs.Ancestors.{ancestry}
 use Rattle.nddl_lines.specs.Facts.{Facts}
 use Rattle.nddl_lines.specs.Decls.{members_of}
 use Rattle.nddl_lines.specs.Shorter.{adds_members, builds, is_constructor}
-use Rattle.nddl_constructors.specs.Creations.{class_alone, is_wrong_count}
-use Rattle.nddl_constructors.specs.Wants.{builtin_along, class_wants}
+use Rattle.nddl_data.specs.nddl_constructors.Creations.{class_alone, is_wrong_count}
+use Rattle.nddl_data.specs.nddl_constructors.Wants.{builtin_along, class_wants}
 
 -- ---- constructors
 

@@ -18,9 +18,9 @@ use Rattle.nddl_scope.specs.Scope.{fault_if}
 use Rattle.nddl_sorts.specs.declared.kind.TypeKind.{TypeKind}
 use Rattle.nddl_lines.specs.Ancestors.{above}
 use Rattle.nddl_lines.specs.Facts.{Facts}
-use Rattle.nddl_constructors.specs.Creations.{is_wrong_count, meaning_wants}
-use Rattle.nddl_constructors.specs.Formals.{formal_seen}
-use Rattle.nddl_constructors.specs.Wants.{formal_kind}
+use Rattle.nddl_data.specs.nddl_constructors.Creations.{is_wrong_count, meaning_wants}
+use Rattle.nddl_data.specs.nddl_constructors.Formals.{formal_seen}
+use Rattle.nddl_data.specs.nddl_constructors.Wants.{formal_kind}
 use Rattle.nddl_data.specs.declared.made.Datum.{Datum}
 use Rattle.nddl_data.specs.declared.made.MadeObject.{MadeObject}
 use Rattle.nddl_data.specs.Fitting.{is_foreign_datum}

@@ -9,9 +9,7 @@ ghost use Rattle.nddl_passed.specs.Classes.{behind_all, body_decl, class_taking,
 
 use nddl_ast::declaration::{Decl, Member, Set, Typed};
 use nddl_ast::expression::Creation;
-use nddl_constructors::class_wants;
-use nddl_constructors::creations::class_alone;
-use nddl_constructors::wants::builtin_above;
+use nddl_data::passed_nddl_constructors::{builtin_above, class_alone, class_wants};
 use nddl_lines::decls::members_of;
 use nddl_lines::shorter::builds;
 use nddl_lines::{Basis, adding_line, building_line};

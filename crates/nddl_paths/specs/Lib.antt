@@ -4,3 +4,5 @@ pub mod Paths
 pub mod Predicates
 pub mod Seen
 pub mod Steps
+pub mod nddl_classes
+pub mod nddl_schema

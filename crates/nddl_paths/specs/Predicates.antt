@@ -17,7 +17,7 @@ use Rattle.nddl_lines.specs.Ancestors.{above, ancestry}
 use Rattle.nddl_lines.specs.Facts.{Facts}
 use Rattle.nddl_lines.specs.Members.{is_predicate_named, named_typed}
 use Rattle.nddl_lines.specs.Decls.{members_of}
-use Rattle.nddl_classes.specs.Members.{parameters_of}
+use Rattle.nddl_schema.specs.nddl_classes.Members.{parameters_of}
 use Rattle.nddl_schema.specs.Predicates.{builtin_preds}
 use Rattle.nddl_paths.specs.declared.denoted.Denoted.{Denoted}
 use Rattle.nddl_paths.specs.declared.denoted.Denoted.TheVariants as denoted

@@ -6,6 +6,8 @@
 pub mod denoted;
 pub mod fields;
 pub mod files;
+pub mod passed_nddl_classes;
+pub mod passed_nddl_schema;
 pub mod paths;
 pub mod predicates;
 pub mod seen;

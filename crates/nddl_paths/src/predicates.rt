@@ -3,7 +3,7 @@
 ghost use Rattle.std.specs.Prelude.{◌≡◌, IfOk, map};
 ghost use Rattle.std.specs.List.{position_from};
 ghost use Rattle.std.specs.Option.{option_and_then, option_copied};
-ghost use Rattle.nddl_classes.specs.Members.{parameters_of};
+ghost use Rattle.nddl_schema.specs.nddl_classes.Members.{parameters_of};
 ghost use Rattle.nddl_lines.specs.Decls.{members_of, number_with_body};
 ghost use Rattle.nddl_lines.specs.Facts.{facts_of};
 ghost use Rattle.nddl_lines.specs.Members.{is_predicate_named, named_typed, predicate_declared};

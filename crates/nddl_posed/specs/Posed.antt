@@ -7,13 +7,13 @@ use Rattle.model_core.specs.declared.variable.VarDecl.{VarDecl}
 use Rattle.nddl_ast.specs.declared.declaration.FileDecls.{FileDecls}
 use Rattle.nddl_joined.specs.declared.site.Site.{Site}
 use Rattle.nddl_scope.specs.Index.{Noted}
-use Rattle.nddl_data.specs.declared.made.Datum.{Datum}
+use Rattle.nddl_globals.specs.nddl_data.Datum.{Datum}
 use Rattle.nddl_terms.specs.declared.lexicon.Lexicon.{Lexicon}
 use Rattle.nddl_terms.specs.declared.stands.TextPlaces.{TextPlaces}
 use Rattle.nddl_terms.specs.Readings.{Readings}
-use Rattle.nddl_lexicon.specs.Shapes.{World, world_of}
-use Rattle.nddl_roots.specs.Outside.{Outsides}
-use Rattle.nddl_roots.specs.Roots.{posted_roots}
+use Rattle.nddl_globals.specs.nddl_lexicon.Shapes.{World, world_of}
+use Rattle.nddl_asserted.specs.nddl_roots.Outside.{Outsides}
+use Rattle.nddl_asserted.specs.nddl_roots.Roots.{posted_roots}
 use Rattle.nddl_globals.specs.Globals.{declared_globals}
 use Rattle.nddl_asserted.specs.declared.assertions.Assertions.{Assertions}
 use Rattle.nddl_asserted.specs.Asserted.{ProblemText, assertions_of}

@@ -1,8 +1,8 @@
 -- The numbers of the settings of a search.
 use Rattle.std.specs.Prelude.{ℕ, ℤ, pos, negsuc, List, Option, Some}
-use Rattle.nddl_data.specs.declared.made.Datum.{Datum}
-use Rattle.nddl_data.specs.declared.made.Datum.TheVariants as datums
-use Rattle.nddl_data.specs.Reading.{datum_at}
+use Rattle.nddl_globals.specs.nddl_data.Datum.{Datum}
+use Rattle.nddl_globals.specs.nddl_data.Datum.TheVariants as datums
+use Rattle.nddl_globals.specs.nddl_data.Reading.{datum_at}
 
 -- the number that a setting is, or another where there are no settings
 abbrev pub number_or : ℤ → Option Datum → ℤ

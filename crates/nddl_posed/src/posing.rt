@@ -1,7 +1,7 @@
 //! The problem of a program.
 
 ghost use Rattle.std.specs.Prelude.{◌≡◌, IfOk, length};
-ghost use Rattle.nddl_roots.specs.Outside.{outsides_of};
+ghost use Rattle.nddl_asserted.specs.nddl_roots.Outside.{outsides_of};
 ghost use Rattle.nddl_asserted.specs.Asserted.{assertions_of};
 ghost use Rattle.nddl_posed.specs.Posed.{bare_places, outside_rules, posed_problem, posing_of, problem_stating, stated_beside, stated_of, stated_with, text_beside};
 
@@ -12,13 +12,13 @@ use model_core::class::Object;
 use model_core::item::Item;
 use model_core::model::{Placed, Problem, Root};
 use model_core::variable::VarDecl;
+use nddl_asserted::passed_nddl_roots::{Outside, posted_roots};
 use nddl_asserted::{Assertions, ProblemText, assertions_of};
 use nddl_ast::declaration::FileDecls;
-use nddl_data::Datum;
 use nddl_globals::declared_globals;
+use nddl_globals::passed_nddl_data::Datum;
+use nddl_globals::passed_nddl_lexicon::Premises;
 use nddl_joined::Site;
-use nddl_lexicon::Premises;
-use nddl_roots::{Outside, posted_roots};
 use nddl_scope::index::NameIndex;
 use nddl_terms::lexicon::as_number;
 use nddl_terms::{Lexicon, ReadNames, Reading, TextPlaces};

@@ -3,8 +3,7 @@
 ghost use Rattle.std.specs.Prelude.{◌≡◌};
 ghost use Rattle.nddl_posed.specs.Settings.{natural_number, number_or, setting_or};
 
-use nddl_data::Datum;
-use nddl_data::reading::datum_at;
+use nddl_globals::passed_nddl_data::{Datum, datum_at};
 
 fn number_or(otherwise: i32, datum: Option<Datum>) -> i32
     ensures { result ≡ number_or otherwise datum }

@@ -11,7 +11,7 @@ use Rattle.nddl_scope.specs.Names.{scope_names}
 use Rattle.nddl_lines.specs.Facts.{Facts}
 use Rattle.nddl_known.specs.Known.{AreFacts}
 use Rattle.nddl_types.specs.Faults.{told_fault}
-use Rattle.nddl_table.specs.declared.table.TypeTable.{TypeTable}
+use Rattle.rules_laws.specs.nddl_table.TypeTable.{TypeTable}
 use Rattle.nddl_trees.specs.PlainTree.{PlainTree}
 use Rattle.nddl_problem.specs.Compiled.{problem_fault}
 use Rattle.nddl_problem.specs.Known.{known_by}

@@ -9,7 +9,7 @@ use Rattle.nddl_amounts.specs.Weighing.{tree_limits}
 use Rattle.nddl_modelled.specs.Modelled.{modelled_classes, modelled_preds}
 use Rattle.nddl_unrolling.specs.Rules.{tree_rules}
 use Rattle.nddl_problem_limits.specs.Limits.{problem_limit_faults}
-use Rattle.nddl_problem_texts.specs.Texts.{problem_text_faults}
+use Rattle.nddl_problem_limits.specs.nddl_problem_texts.Texts.{problem_text_faults}
 use Rattle.nddl_posed.specs.Posed.{Posing, posed_problem}
 use Rattle.nddl_problem.specs.Known.{Known, lexicon_known, objects_known, progress_known, scope_known, world_known}
 

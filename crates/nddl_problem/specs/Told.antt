@@ -11,10 +11,10 @@ use Rattle.nddl_scope.specs.Names.{scope_names}
 use Rattle.nddl_lines.specs.Facts.{Facts}
 use Rattle.nddl_known.specs.Known.{AreFacts}
 use Rattle.nddl_types.specs.Faults.{TellsFirst, told_fault}
-use Rattle.nddl_table.specs.declared.table.TypeTable.{TypeTable}
-use Rattle.nddl_table.specs.Table.{IsTable}
+use Rattle.rules_laws.specs.nddl_table.TypeTable.{TypeTable}
+use Rattle.rules_laws.specs.nddl_table.Table.{IsTable}
 use Rattle.nddl_trees.specs.PlainTree.{PlainTree}
-use Rattle.nddl_rules.specs.Told.{AreFileTrees, IsFirstRuleFault}
+use Rattle.rules_laws.specs.nddl_rules.Told.{AreFileTrees, IsFirstRuleFault}
 use Rattle.nddl_problem.specs.Compiled.{compiled_model, problem_fault}
 use Rattle.nddl_problem.specs.Known.{known_by}
 

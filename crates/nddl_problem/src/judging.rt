@@ -8,7 +8,7 @@ ghost use Rattle.nddl_problem.specs.Outlined.{IsOutlined, known_of};
 use super::outline::Outline;
 use nddl_amounts::note_tree_limits;
 use nddl_problem_limits::note_problem_limits;
-use nddl_problem_texts::note_problem_texts;
+use nddl_problem_limits::passed_nddl_problem_texts::note_problem_texts;
 use nddl_scope::Fault;
 use std::alloc::{AllocError, Global};
 

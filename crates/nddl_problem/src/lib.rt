@@ -6,5 +6,6 @@ pub mod judging;
 pub mod laws;
 pub mod making;
 pub mod outline;
+pub mod passed_nddl_rules;
 
 pub use compiling::compile;

@@ -19,10 +19,10 @@ use Rattle.nddl_scope.specs.Index.{Noted, noted_number}
 use Rattle.nddl_scope.specs.Scope.{fault_if}
 use Rattle.nddl_sorts.specs.declared.kind.TypeKind.{TypeKind}
 use Rattle.nddl_sorts.specs.Bases.{base_kind}
-use Rattle.nddl_data.specs.declared.made.MadeObject.{MadeObject}
-use Rattle.nddl_data.specs.Fitting.{is_foreign_datum}
-use Rattle.nddl_data.specs.Reading.{settled_datum}
-use Rattle.nddl_data.specs.Scene.{Grounds, grounds_of}
+use Rattle.nddl_objects.specs.nddl_data.MadeObject.{MadeObject}
+use Rattle.nddl_objects.specs.nddl_data.Fitting.{is_foreign_datum}
+use Rattle.nddl_objects.specs.nddl_data.Reading.{settled_datum}
+use Rattle.nddl_objects.specs.nddl_data.Scene.{Grounds, grounds_of}
 use Rattle.nddl_objects.specs.Objects.{bare_scene}
 use Rattle.nddl_terms.specs.declared.lexicon.Lexicon.{Lexicon}
 use Rattle.nddl_terms.specs.declared.stands.Stand.{Stand}

@@ -3,7 +3,7 @@
 ghost use Rattle.std.specs.Prelude.{◌≡◌, IfOk, OnOk, map};
 ghost use Rattle.std.specs.List.{list_any};
 ghost use Rattle.nddl_scope.specs.Finding.{earliest_fault};
-ghost use Rattle.nddl_data.specs.Scene.{grounds_of, scenery_of};
+ghost use Rattle.nddl_objects.specs.nddl_data.Scene.{grounds_of, scenery_of};
 ghost use Rattle.nddl_objects.specs.Objects.{bare_scene};
 ghost use Rattle.nddl_problem_limits.specs.Fitness.{foreign_begun_faults, foreign_value_faults, is_void_base, is_void_class, is_void_pred, is_void_stand, outset_at, placed_stand, unfit_decl_faults, unfit_faults_from, void_root_faults};
 
@@ -13,9 +13,9 @@ use nddl_ast::TextKind;
 use nddl_ast::declaration::Decl;
 use nddl_ast::expression::{Expr, Init};
 use nddl_ast::statement::{Ask, Variable};
-use nddl_data::fitting::is_foreign_datum;
-use nddl_data::reading::settled_datum;
-use nddl_data::{Ground, MadeObject, Scene};
+use nddl_objects::passed_nddl_data::{
+    Ground, MadeObject, Scene, is_foreign_datum, reading_settled_datum as settled_datum,
+};
 use nddl_scope::Fault;
 use nddl_scope::fault::note_at;
 use nddl_scope::index::NameIndex;

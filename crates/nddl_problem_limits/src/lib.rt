@@ -5,6 +5,8 @@
 pub mod fitness;
 pub mod limits;
 pub mod made;
+pub mod passed_nddl_objects;
+pub mod passed_nddl_problem_texts;
 pub mod posts;
 
 pub use limits::note_problem_limits;

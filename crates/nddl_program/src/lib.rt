@@ -3,6 +3,7 @@
 
 pub mod asking;
 pub mod files;
+pub mod passed_nddl_types;
 pub mod question;
 
 pub use asking::{ask, told};

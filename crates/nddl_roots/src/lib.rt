@@ -3,6 +3,8 @@
 #![tactic(auto)]
 
 pub mod outside;
+pub mod passed_nddl_additions;
+pub mod passed_nddl_arguments;
 pub mod roots;
 pub mod singles;
 

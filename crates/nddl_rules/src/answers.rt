@@ -9,9 +9,9 @@ use nddl_ast::declaration::FileDecls;
 use nddl_blocks::first_rule_wrong;
 use nddl_collected::{RuleTexts, all_trees};
 use nddl_lines::Basis;
-use nddl_program::{Program, Question, ask, told};
 use nddl_scope::index::NameIndex;
 use nddl_table::TypeTable;
+use nddl_table::passed_nddl_program::{Program, Question, ask, told};
 use nddl_trees::RuleTree;
 use std::alloc::{AllocError, Global};
 

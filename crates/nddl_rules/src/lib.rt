@@ -3,6 +3,8 @@
 #![tactic(auto)]
 
 pub mod answers;
+pub mod passed_nddl_program;
+pub mod passed_nddl_table;
 pub mod scope;
 
 pub use answers::rules;

@@ -6,8 +6,8 @@ use Rattle.nddl_scope.specs.declared.scope.Meaning.{Meaning}
 use Rattle.nddl_scope.specs.Finding.{earliest_fault}
 use Rattle.nddl_lines.specs.Facts.{Facts}
 use Rattle.nddl_lines.specs.Shorter.{KeepTheSame}
-use Rattle.nddl_data.specs.declared.made.FieldValue.{FieldValue}
-use Rattle.nddl_data.specs.Scene.{Grounds}
+use Rattle.nddl_field_types.specs.nddl_data.FieldValue.{FieldValue}
+use Rattle.nddl_field_types.specs.nddl_data.Scene.{Grounds}
 use Rattle.nddl_passed.specs.declared.passing.Passed.{Passed}
 use Rattle.nddl_passed.specs.Classes.{is_adding, line_up}
 use Rattle.nddl_passed.specs.Passing.{passed_down}

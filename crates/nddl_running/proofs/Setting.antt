@@ -16,7 +16,7 @@ use Rattle.nddl_lines.specs.Facts.{Facts}
 use Rattle.nddl_lines.specs.Shorter.{KeepTheSame, has_named}
 use Rattle.nddl_lines.proofs.Adding.{adds_none}
 use Rattle.nddl_lines.proofs.Keeping.{found_kept}
-use Rattle.nddl_data.specs.declared.made.FieldValue.{FieldValue}
+use Rattle.nddl_field_types.specs.nddl_data.FieldValue.{FieldValue}
 use Rattle.nddl_passed.specs.Classes.{is_adding}
 use Rattle.nddl_running.specs.Finished.{are_all_set, finished_faults, is_class_out, is_class_set, is_member_set}
 

@@ -1,5 +1,5 @@
 -- What objects are made by.
-use Rattle.nddl_data.specs.Scene.{Grounds, grounds_of}
+use Rattle.nddl_field_types.specs.nddl_data.Scene.{Grounds, grounds_of}
 use Rattle.nddl_running.specs.declared.blueprint.Blueprint.{Blueprint}
 
 -- what is known of a program, and what its names stand for by now

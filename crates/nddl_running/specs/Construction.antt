@@ -9,9 +9,9 @@ use Rattle.nddl_scope.specs.declared.fault.Fault.{Fault}
 use Rattle.nddl_scope.specs.declared.scope.Meaning.{Meaning}
 use Rattle.nddl_scope.specs.Finding.{earliest_fault, faults_here}
 use Rattle.nddl_scope.specs.Scope.{fault_if}
-use Rattle.nddl_data.specs.declared.made.Datum.{Datum}
-use Rattle.nddl_data.specs.declared.made.FieldValue.{FieldValue}
-use Rattle.nddl_data.specs.declared.made.MadeObject.{MadeObject}
+use Rattle.nddl_field_types.specs.nddl_data.Datum.{Datum}
+use Rattle.nddl_field_types.specs.nddl_data.FieldValue.{FieldValue}
+use Rattle.nddl_field_types.specs.nddl_data.MadeObject.{MadeObject}
 use Rattle.nddl_running.specs.declared.making.Making as code
 use Rattle.nddl_running.specs.declared.making.Request as request_code
 use Rattle.nddl_running.specs.declared.making.Subject as subject_code

@@ -13,10 +13,10 @@ use Rattle.nddl_scope.specs.Finding.{faults_here}
 use Rattle.nddl_scope.specs.Scope.{fault_if}
 use Rattle.nddl_lines.specs.Facts.{Facts}
 use Rattle.nddl_lines.specs.Decls.{members_of}
-use Rattle.nddl_data.specs.declared.made.Datum.{Datum}
-use Rattle.nddl_data.specs.declared.made.Datum.TheVariants as datums
-use Rattle.nddl_data.specs.declared.made.FieldValue.{FieldValue}
-use Rattle.nddl_data.specs.Fields.{field_datum, is_set_once}
+use Rattle.nddl_field_types.specs.nddl_data.Datum.{Datum}
+use Rattle.nddl_field_types.specs.nddl_data.Datum.TheVariants as datums
+use Rattle.nddl_field_types.specs.nddl_data.FieldValue.{FieldValue}
+use Rattle.nddl_field_types.specs.nddl_data.Fields.{field_datum, is_set_once}
 
 -- ---- fields that are set
 

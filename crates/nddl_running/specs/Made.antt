@@ -16,14 +16,14 @@ use Rattle.nddl_scope.specs.declared.scope.Meaning.TheVariants as meanings
 use Rattle.nddl_scope.specs.Finding.{faults_here}
 use Rattle.nddl_scope.specs.Scope.{fault_if}
 use Rattle.nddl_lines.specs.Facts.{Facts}
-use Rattle.nddl_constructors.specs.Bodies.{field_in_line, field_kind}
-use Rattle.nddl_constructors.specs.Wants.{class_wants}
-use Rattle.nddl_data.specs.declared.made.Datum.{Datum}
-use Rattle.nddl_data.specs.declared.made.Datum.TheVariants as datums
-use Rattle.nddl_data.specs.declared.made.FieldValue.{FieldValue}
-use Rattle.nddl_data.specs.declared.made.MadeObject.{MadeObject}
-use Rattle.nddl_data.specs.Reading.{all_unmade_faults, datum_at, settled_data, settled_datum, unmade_faults}
-use Rattle.nddl_data.specs.Scene.{Grounds, Scenery}
+use Rattle.nddl_field_types.specs.nddl_constructors.Bodies.{field_in_line, field_kind}
+use Rattle.nddl_field_types.specs.nddl_constructors.Wants.{class_wants}
+use Rattle.nddl_field_types.specs.nddl_data.Datum.{Datum}
+use Rattle.nddl_field_types.specs.nddl_data.Datum.TheVariants as datums
+use Rattle.nddl_field_types.specs.nddl_data.FieldValue.{FieldValue}
+use Rattle.nddl_field_types.specs.nddl_data.MadeObject.{MadeObject}
+use Rattle.nddl_field_types.specs.nddl_data.Reading.{all_unmade_faults, datum_at, settled_data, settled_datum, unmade_faults}
+use Rattle.nddl_field_types.specs.nddl_data.Scene.{Grounds, Scenery}
 use Rattle.nddl_field_types.specs.Outside.{is_outside_field}
 use Rattle.nddl_passed.specs.declared.passing.Passed.{Passed}
 use Rattle.nddl_passed.specs.Classes.{constructor_at, constructor_sets, line_up, made_class}

@@ -3,8 +3,8 @@
 ghost use Rattle.nddl_lines.specs.Facts.{facts_of};
 ghost use Rattle.nddl_field_types.specs.Kept.{AreFieldTypes};
 
-use nddl_data::Ground;
 use nddl_field_types::FieldTypes;
+use nddl_field_types::passed_nddl_data::Ground;
 
 /// What is known of a program where its objects are made, and what the types of its fields mean, as far as that is kept.
 #[derive(Clone, Copy)]

@@ -4,13 +4,13 @@ ghost use Rattle.std.specs.Prelude.{◌≡◌, IfOk, OnOk};
 ghost use Rattle.std.specs.List.{list_all, list_any};
 ghost use Rattle.nddl_scope.specs.Finding.{earliest_fault};
 ghost use Rattle.nddl_lines.specs.Facts.{facts_of};
-ghost use Rattle.nddl_data.specs.Fields.{field_datum, is_set_once};
+ghost use Rattle.nddl_field_types.specs.nddl_data.Fields.{field_datum, is_set_once};
 ghost use Rattle.nddl_running.specs.Finished.{are_all_set, are_builtin_set, datum_below, finished_faults, is_class_out, is_class_set, is_member_set, is_out_of_bounds};
 
 use eu_name::text::Text;
 use nddl_ast::TextKind;
 use nddl_ast::declaration::Member;
-use nddl_data::{Datum, SetFields};
+use nddl_field_types::passed_nddl_data::{Datum, SetFields};
 use nddl_joined::Place;
 use nddl_lines::Basis;
 use nddl_lines::decls::members_of;

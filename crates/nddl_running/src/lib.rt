@@ -5,6 +5,10 @@
 pub mod blueprint;
 pub mod finished;
 pub mod making;
+pub mod passed_nddl_constructors;
+pub mod passed_nddl_data;
+pub mod passed_nddl_field_types;
+pub mod passed_nddl_schema;
 pub mod running;
 
 pub use blueprint::Blueprint;

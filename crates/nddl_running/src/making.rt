@@ -5,7 +5,7 @@ ghost use Rattle.nddl_running.specs.Construction.{asked_of, object_begun, constr
 
 use eu_name::text::Text;
 use nddl_ast::TextKind;
-use nddl_data::{Datum, FieldValue, MadeObject, SetFields};
+use nddl_field_types::passed_nddl_data::{Datum, FieldValue, MadeObject, SetFields};
 use nddl_joined::Place;
 use nddl_scope::fault::note_at;
 use nddl_scope::twice::kind_if;

@@ -3,7 +3,7 @@
 ghost use Rattle.std.specs.Prelude.{◌≡◌, [], None, IfOk, OnOk};
 ghost use Rattle.std.specs.Option.{option_map_or};
 ghost use Rattle.nddl_lines.specs.Facts.{facts_of};
-ghost use Rattle.nddl_data.specs.Scene.{scenery_of};
+ghost use Rattle.nddl_field_types.specs.nddl_data.Scene.{scenery_of};
 ghost use Rattle.nddl_passed.specs.Passing.{constructor_scene, passing_faults};
 ghost use Rattle.nddl_running.specs.Blueprints.{grounds_in};
 ghost use Rattle.nddl_running.specs.Construction.{asked_of, construction_of, noted, subject_of};
@@ -17,12 +17,14 @@ use nddl_ast::TextKind;
 use nddl_ast::declaration::{Member, Set};
 use nddl_ast::expression::{Creation, Expr, Init};
 use nddl_ast::name::Name;
-use nddl_constructors::bodies::{field_in_line, field_kind};
-use nddl_constructors::class_wants;
-use nddl_constructors::formals::formals_seen;
-use nddl_data::reading::{datum_at, note_all_unmade};
-use nddl_data::{Datum, MadeObject, Scene, SetFields, note_unmade, settled_data, settled_datum};
 use nddl_field_types::is_outside_field;
+use nddl_field_types::passed_nddl_constructors::{
+    class_wants, field_in_line, field_kind, formals_seen,
+};
+use nddl_field_types::passed_nddl_data::{
+    Datum, MadeObject, Scene, SetFields, datum_at, note_all_unmade, note_unmade, settled_data,
+    settled_datum,
+};
 use nddl_joined::Place;
 use nddl_passed::classes::{body_decl, constructor_formals, constructor_sets};
 use nddl_passed::{Passed, adding_up, constructor_at, made_class, note_passing, passed_down};

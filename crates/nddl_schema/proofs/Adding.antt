@@ -5,8 +5,8 @@ use Rattle.std.specs.List.{flat_map}
 use Rattle.model_core.specs.declared.class.Enum.{Enum}
 use Rattle.model_core.specs.declared.class.Pred.{Pred}
 use Rattle.model_core.specs.declared.variable.VarDecl.{VarDecl}
-use Rattle.nddl_scope.specs.declared.scope.Meaning.{Meaning}
-use Rattle.nddl_scope.specs.declared.scope.Meaning.TheVariants as meanings
+use Rattle.nddl_lines.specs.nddl_scope.Meaning.{Meaning}
+use Rattle.nddl_lines.specs.nddl_scope.Meaning.TheVariants as meanings
 use Rattle.nddl_lines.specs.Ancestors.{above}
 use Rattle.nddl_lines.specs.Facts.{Facts}
 use Rattle.nddl_lines.specs.Members.{member_field}

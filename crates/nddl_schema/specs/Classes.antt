@@ -9,11 +9,11 @@ use Rattle.model_core.specs.declared.variable.VarDecl.{VarDecl}
 use Rattle.nddl_ast.specs.declared.declaration.Decl.{Decl}
 use Rattle.nddl_ast.specs.declared.declaration.Decl.TheVariants as decls
 use Rattle.nddl_ast.specs.declared.declaration.Member.{Member}
-use Rattle.nddl_scope.specs.declared.declared.Declared.{Declared}
-use Rattle.nddl_scope.specs.declared.scope.Meaning.{Meaning}
-use Rattle.nddl_scope.specs.declared.scope.Meaning.TheVariants as meanings
-use Rattle.nddl_scope.specs.Names.{is_class_sort}
-use Rattle.nddl_scope.specs.Scope.{named_number}
+use Rattle.nddl_lines.specs.nddl_scope.Declared.{Declared}
+use Rattle.nddl_lines.specs.nddl_scope.Meaning.{Meaning}
+use Rattle.nddl_lines.specs.nddl_scope.Meaning.TheVariants as meanings
+use Rattle.nddl_lines.specs.nddl_scope.Names.{is_class_sort}
+use Rattle.nddl_lines.specs.nddl_scope.Scope.{named_number}
 use Rattle.nddl_lines.specs.Ancestors.{above, ancestry}
 use Rattle.nddl_lines.specs.Facts.{Facts}
 use Rattle.nddl_lines.specs.Members.{member_field}

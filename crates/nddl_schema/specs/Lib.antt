@@ -1,2 +1,3 @@
 pub mod Classes
 pub mod Predicates
+pub mod nddl_classes

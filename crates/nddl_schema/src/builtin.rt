@@ -8,7 +8,7 @@ use eu_name::sequence::Sequence;
 use eu_name::text::Text;
 use model_core::class::{Class, Pred, PredKind};
 use model_core::variable::VarDecl;
-use nddl_scope::Meaning;
+use nddl_lines::passed_nddl_scope::Meaning;
 use nddl_variables::number_variable;
 use std::alloc::{AllocError, Global};
 

@@ -18,8 +18,8 @@ use nddl_lines::Basis;
 use nddl_lines::decls::members_of;
 use nddl_lines::lines::above;
 use nddl_lines::members::member_field;
+use nddl_lines::passed_nddl_scope::Scope;
 use nddl_lines::shorter::adding_line;
-use nddl_scope::Scope;
 use nddl_variables::push_variable;
 use std::alloc::{AllocError, Global};
 

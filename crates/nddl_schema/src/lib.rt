@@ -6,6 +6,7 @@ pub mod builtin;
 pub mod classes;
 pub mod enums;
 pub mod numbers;
+pub mod passed_nddl_classes;
 pub mod predicates;
 pub mod sources;
 

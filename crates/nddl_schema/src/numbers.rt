@@ -3,7 +3,7 @@
 ghost use Rattle.std.specs.Prelude.{◌≡◌, ◌+◌, IfOk};
 ghost use Rattle.nddl_schema.specs.Classes.{class_entries, class_number, class_numbers, is_first, is_first_class, parent_number};
 
-use nddl_scope::{Declared, Meaning, Scope};
+use nddl_lines::passed_nddl_scope::{Declared, Meaning, Scope};
 use std::alloc::{AllocError, Global};
 
 /// Whether nothing is declared under the name before this number.

@@ -18,7 +18,7 @@ use nddl_ast::declaration::{Member, PredicatePart};
 use nddl_ast::name::Name;
 use nddl_lines::decls::members_of;
 use nddl_lines::lines::above;
-use nddl_scope::Meaning;
+use nddl_lines::passed_nddl_scope::Meaning;
 use nddl_variables::push_variable;
 use std::alloc::{AllocError, Global};
 

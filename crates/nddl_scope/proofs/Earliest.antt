@@ -3,7 +3,7 @@ use Rattle.std.proofs.Common.{◌≡◌, ℕ, zero, suc, ◌<◌, Bool, true, fa
 use Rattle.std.specs.Prelude.{◌⊎◌, Option, Some, None, Contains}
 use Rattle.std.proofs.lemmas.Grind.{common_steps}
 use Rattle.std.proofs.lemmas.Option.{same_Some}
-use Rattle.nddl_ast.specs.Kinds.{kind_rank}
+use Rattle.nddl_joined.specs.nddl_ast.Kinds.{kind_rank}
 use Rattle.nddl_scope.specs.declared.fault.Fault.{Fault}
 use Rattle.nddl_scope.specs.Finding.{IsFaultBefore, is_fault_before, earlier_fault, earliest_fault, HasNoLater, Finds, FindsEarliest}
 

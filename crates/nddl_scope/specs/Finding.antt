@@ -1,9 +1,9 @@
 -- Faults of a program, and which of them comes first.
 use Rattle.std.specs.Prelude.{◌≡◌, ℕ, ◌<◌, ◌⊎◌, ◌||◌, ◌&&◌, ◌==◌, nat_lt, Bool, List, [], ◌∷◌, Option}
 use Rattle.std.specs.Prelude.{Some, None, Contains, if◌then◌else◌}
-use Rattle.eu_name.specs.NameOrder.{ByNumber}
-use Rattle.nddl_ast.specs.Kinds.{kind_rank}
-use Rattle.nddl_ast.specs.declared.kind.TextKind.{TextKind}
+use Rattle.model_core.specs.eu_name.NameOrder.{ByNumber}
+use Rattle.nddl_joined.specs.nddl_ast.Kinds.{kind_rank}
+use Rattle.nddl_joined.specs.nddl_ast.TextKind.{TextKind}
 use Rattle.nddl_scope.specs.declared.fault.Fault.{Fault}
 
 -- the one comes before the other by its place, and at one place by its kind

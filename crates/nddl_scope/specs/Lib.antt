@@ -4,3 +4,6 @@ pub mod Index
 pub mod Names
 pub mod Scope
 pub mod Repeats
+pub mod model_core
+pub mod nddl_ast
+pub mod nddl_joined

@@ -2,17 +2,17 @@
 use Rattle.std.specs.Prelude.{ℕ, ◌+◌, Bool, true, false, ◌||◌, ◌&&◌, List, [], ◌∷◌, ◌++◌, Option, Some, None}
 use Rattle.std.specs.Prelude.{codes, if◌then◌else◌}
 use Rattle.std.specs.Str.{bytes_eq}
-use Rattle.nddl_ast.specs.declared.declaration.Decl.{Decl}
-use Rattle.nddl_ast.specs.declared.declaration.Decl.TheVariants as decls
-use Rattle.nddl_ast.specs.declared.expression.BaseType.{BaseType}
-use Rattle.nddl_ast.specs.declared.expression.BaseType.TheVariants as bases
-use Rattle.nddl_ast.specs.declared.expression.Bounds.{Bounds}
-use Rattle.nddl_ast.specs.declared.expression.Bounds.TheVariants as bounds
-use Rattle.nddl_ast.specs.declared.expression.Init.{Init}
-use Rattle.nddl_ast.specs.declared.expression.Init.TheVariants as inits
-use Rattle.nddl_ast.specs.declared.expression.Type as types
-use Rattle.nddl_ast.specs.declared.name.Name.{Name}
-use Rattle.nddl_ast.specs.declared.statement.Variable.{Variable}
+use Rattle.nddl_joined.specs.nddl_ast.Decl.{Decl}
+use Rattle.nddl_joined.specs.nddl_ast.Decl.TheVariants as decls
+use Rattle.nddl_joined.specs.nddl_ast.BaseType.{BaseType}
+use Rattle.nddl_joined.specs.nddl_ast.BaseType.TheVariants as bases
+use Rattle.nddl_joined.specs.nddl_ast.Bounds.{Bounds}
+use Rattle.nddl_joined.specs.nddl_ast.Bounds.TheVariants as bounds
+use Rattle.nddl_joined.specs.nddl_ast.Init.{Init}
+use Rattle.nddl_joined.specs.nddl_ast.Init.TheVariants as inits
+use Rattle.nddl_joined.specs.nddl_ast.Type as types
+use Rattle.nddl_joined.specs.nddl_ast.Name.{Name}
+use Rattle.nddl_joined.specs.nddl_ast.Variable.{Variable}
 use Rattle.nddl_scope.specs.declared.declared.Declared.{Declared}
 use Rattle.nddl_scope.specs.declared.declared.Sort.{Sort}
 use Rattle.nddl_scope.specs.declared.declared.Sort.TheVariants as sorts

@@ -1,7 +1,7 @@
 -- Names that are declared a second time where few names stand: as fields and predicates of a class, parameters or formals.
 use Rattle.std.specs.Prelude.{ℕ, List, [], ◌∷◌, ◌++◌, is_some}
-use Rattle.nddl_ast.specs.declared.kind.TextKind.TheVariants as kinds
-use Rattle.nddl_ast.specs.declared.name.Name.{Name}
+use Rattle.nddl_joined.specs.nddl_ast.TextKind.TheVariants as kinds
+use Rattle.nddl_joined.specs.nddl_ast.Name.{Name}
 use Rattle.nddl_scope.specs.declared.fault.Fault.{Fault}
 use Rattle.nddl_scope.specs.Finding.{faults_here}
 use Rattle.nddl_scope.specs.Index.{Noted, noted_number, with_noted}

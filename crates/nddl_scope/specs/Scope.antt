@@ -4,8 +4,8 @@ use Rattle.std.specs.Prelude.{◌++◌, Option, Some, None}
 use Rattle.std.specs.List.{slice_get, position_from}
 use Rattle.std.specs.Option.{option_map, option_map_or, option_or}
 use Rattle.std.specs.Str.{bytes_eq}
-use Rattle.nddl_ast.specs.declared.kind.TextKind.{TextKind}
-use Rattle.nddl_ast.specs.declared.kind.TextKind.TheVariants as kinds
+use Rattle.nddl_joined.specs.nddl_ast.TextKind.{TextKind}
+use Rattle.nddl_joined.specs.nddl_ast.TextKind.TheVariants as kinds
 use Rattle.nddl_scope.specs.declared.declared.Declared.{Declared}
 use Rattle.nddl_scope.specs.declared.fault.Fault.{Fault}
 use Rattle.nddl_scope.specs.declared.scope.Meaning.{Meaning}

@@ -2,16 +2,12 @@
 
 ghost use Rattle.std.specs.Prelude.{◌≡◌, ◌+◌, ◌++◌, ◌∷◌, [], IfOk, OnOk, map};
 ghost use Rattle.nddl_scope.specs.Names.{declared_as, declared_members, enums_in_decl, is_body_sort, is_class_sort, is_config_sort, is_config_type, is_posting_word, is_unbounded, names_in_decl, scope_names, sort_of_variable};
-ghost use Rattle.nddl_ast.specs.declared.declaration.Decl.TheVariants as decls;
+ghost use Rattle.nddl_joined.specs.nddl_ast.Decl.TheVariants as decls;
 
 use super::builtin::is_config;
-use eu_name::sequence::Sequence;
-use eu_name::text::Text;
-use nddl_ast::declaration::Decl;
-use nddl_ast::expression::{BaseType, Bounds, Init, Type};
-use nddl_ast::name::Name;
-use nddl_ast::statement::{Ask, Variable};
+use model_core::passed_eu_name::{Sequence, Text};
 use nddl_joined::Place;
+use nddl_joined::passed_nddl_ast::{Ask, BaseType, Bounds, Decl, Init, Name, Type, Variable};
 use std::alloc::{AllocError, Global};
 
 /// As what a name is declared.

@@ -1,11 +1,11 @@
 //! Faults of a program, and which of them comes first.
 
 ghost use Rattle.std.specs.Prelude.{◌≡◌, ◌||◌, ◌&&◌, ◌==◌, nat_lt};
-ghost use Rattle.nddl_ast.specs.Kinds.{kind_rank};
+ghost use Rattle.nddl_joined.specs.nddl_ast.Kinds.{kind_rank};
 ghost use Rattle.nddl_scope.specs.Finding.{FindsEarliest, earlier_fault, earliest_fault, faults_here, is_fault_before};
 
-use nddl_ast::TextKind;
 use nddl_joined::Place;
+use nddl_joined::passed_nddl_ast::TextKind;
 
 /// What is wrong at a place in a program.
 #[derive(Clone, Copy, Debug, PartialEq, Eq)]

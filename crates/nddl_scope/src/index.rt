@@ -3,9 +3,8 @@
 ghost use Rattle.std.specs.Prelude.{◌≡◌, ◌++◌, ◌∷◌, [], IfOk, OnOk, OnErr, None, is_none};
 ghost use Rattle.nddl_scope.specs.Index.{noted_number, with_noted};
 
-use eu_name::laws::names_are_told_apart;
-use eu_name::text::Text;
 use indexmap::IndexMap;
+use model_core::passed_eu_name::{Text, names_are_told_apart};
 use std::alloc::{AllocError, Global};
 use std::marker::Model;
 

@@ -8,8 +8,7 @@ ghost use Rattle.nddl_scope.specs.Repeats.{repeated_fault};
 use super::fault::{Fault, note_at};
 use super::index::NameIndex;
 use super::twice::kind_if;
-use nddl_ast::TextKind;
-use nddl_ast::name::Name;
+use nddl_joined::passed_nddl_ast::{Name, TextKind};
 use std::alloc::AllocError;
 
 /// Notes the name, which stands in the declaration of this number, and that it is declared a second time, if it was

@@ -7,8 +7,7 @@ ghost use Rattle.nddl_scope.specs.Scope.{IsIndexed, NotesListed, builtin_number,
 use super::builtin::builtin_number;
 use super::declared::{Declared, Sort};
 use super::index::NameIndex;
-use eu_name::sequence::Sequence;
-use eu_name::text::Text;
+use model_core::passed_eu_name::{Sequence, Text};
 use std::alloc::{AllocError, Global};
 use std::marker::Model;
 

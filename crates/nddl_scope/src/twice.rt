@@ -8,7 +8,7 @@ use super::builtin::is_builtin;
 use super::declared::Declared;
 use super::fault::{Fault, note_at};
 use super::scope::Scope;
-use nddl_ast::TextKind;
+use nddl_joined::passed_nddl_ast::TextKind;
 
 /// Notes each name of the scope that is declared already, or is the language's own.
 #[tactic(auto, using(crate::proofs::Earliest::earliest_append))]

@@ -5,7 +5,7 @@ use Rattle.std.specs.List.{filter_map}
 use Rattle.nddl_scope.specs.declared.declared.Declared.{Declared}
 use Rattle.nddl_scope.specs.declared.fault.Fault.{Fault}
 use Rattle.nddl_scope.specs.Finding.{earliest_fault, is_fault_before}
-use Rattle.nddl_ast.specs.declared.expression.Value.{Value}
+use Rattle.nddl_scope.specs.nddl_ast.Value.{Value}
 use Rattle.nddl_sorts.specs.declared.kind.Extent.{Extent}
 use Rattle.nddl_sorts.specs.declared.kind.TypeKind.{TypeKind}
 use Rattle.nddl_sorts.specs.Bounds.{has_too_many, own_numbers}

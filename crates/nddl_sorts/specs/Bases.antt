@@ -1,10 +1,10 @@
 -- What types mean before their ranges and sets, and what is wrong there.
 use Rattle.std.specs.Prelude.{ℕ, List, Option, Some, None, slice_get}
 use Rattle.std.specs.Option.{option_map, option_map_or, option_and_then}
-use Rattle.nddl_ast.specs.declared.kind.TextKind.{TextKind}
-use Rattle.nddl_ast.specs.declared.kind.TextKind.TheVariants as faults
-use Rattle.nddl_ast.specs.declared.expression.BaseType.{BaseType}
-use Rattle.nddl_ast.specs.declared.expression.BaseType.TheVariants as bases
+use Rattle.nddl_scope.specs.nddl_ast.TextKind.{TextKind}
+use Rattle.nddl_scope.specs.nddl_ast.TextKind.TheVariants as faults
+use Rattle.nddl_scope.specs.nddl_ast.BaseType.{BaseType}
+use Rattle.nddl_scope.specs.nddl_ast.BaseType.TheVariants as bases
 use Rattle.nddl_scope.specs.declared.declared.Declared.{Declared}
 use Rattle.nddl_scope.specs.declared.declared.Sort.{Sort}
 use Rattle.nddl_scope.specs.declared.declared.Sort.TheVariants as sorts

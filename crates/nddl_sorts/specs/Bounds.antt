@@ -2,11 +2,11 @@
 use Rattle.std.specs.Prelude.{ℕ, Bool, false, ◌&&◌, not, nat_lt, ℤ, int_le, List, [], ◌++◌, length, Option, Some}
 use Rattle.std.specs.Prelude.{if◌then◌else◌}
 use Rattle.std.specs.List.{flat_map, filter_map}
-use Rattle.nddl_ast.specs.declared.kind.TextKind.TheVariants as faults
-use Rattle.nddl_ast.specs.declared.expression.Bounds.{Bounds}
-use Rattle.nddl_ast.specs.declared.expression.Bounds.TheVariants as bounds
-use Rattle.nddl_ast.specs.declared.expression.Value.{Value}
-use Rattle.nddl_ast.specs.Places.{value_place}
+use Rattle.nddl_scope.specs.nddl_ast.TextKind.TheVariants as faults
+use Rattle.nddl_scope.specs.nddl_ast.Bounds.{Bounds}
+use Rattle.nddl_scope.specs.nddl_ast.Bounds.TheVariants as bounds
+use Rattle.nddl_scope.specs.nddl_ast.Value.{Value}
+use Rattle.nddl_scope.specs.nddl_ast.Places.{value_place}
 use Rattle.nddl_scope.specs.declared.declared.Declared.{Declared}
 use Rattle.nddl_scope.specs.declared.fault.Fault.{Fault}
 use Rattle.nddl_scope.specs.Finding.{faults_here}

@@ -4,3 +4,5 @@ pub mod Kinds
 pub mod Members
 pub mod Types
 pub mod Values
+pub mod nddl_joined
+pub mod nddl_scope

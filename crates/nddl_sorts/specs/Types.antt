@@ -1,7 +1,7 @@
 -- What types mean, and what is wrong with one.
 use Rattle.std.specs.Prelude.{ℕ, Bool, true, false, List, [], ◌∷◌, ◌++◌, Option, None, if◌then◌else◌}
 use Rattle.std.specs.Option.{option_map, option_map_or}
-use Rattle.nddl_ast.specs.declared.expression.Type as types
+use Rattle.nddl_scope.specs.nddl_ast.Type as types
 use Rattle.nddl_scope.specs.declared.declared.Declared.{Declared}
 use Rattle.nddl_scope.specs.declared.fault.Fault.{Fault}
 use Rattle.nddl_scope.specs.Finding.{faults_here}

@@ -2,12 +2,12 @@
 use Rattle.std.specs.Prelude.{ℕ, ◌==◌, Bool, true, false, ◌&&◌, not, ℤ, pos, List, Option, Some, None, slice_get}
 use Rattle.std.specs.Prelude.{if◌then◌else◌}
 use Rattle.std.specs.Option.{option_map, option_map_or, option_and_then}
-use Rattle.nddl_ast.specs.declared.kind.TextKind.{TextKind}
-use Rattle.nddl_ast.specs.declared.kind.TextKind.TheVariants as faults
-use Rattle.nddl_ast.specs.declared.expression.Constant.{Constant}
-use Rattle.nddl_ast.specs.declared.expression.Constant.TheVariants as constants
-use Rattle.nddl_ast.specs.declared.expression.Value.{Value}
-use Rattle.nddl_ast.specs.declared.expression.Value.TheVariants as values
+use Rattle.nddl_scope.specs.nddl_ast.TextKind.{TextKind}
+use Rattle.nddl_scope.specs.nddl_ast.TextKind.TheVariants as faults
+use Rattle.nddl_scope.specs.nddl_ast.Constant.{Constant}
+use Rattle.nddl_scope.specs.nddl_ast.Constant.TheVariants as constants
+use Rattle.nddl_scope.specs.nddl_ast.Value.{Value}
+use Rattle.nddl_scope.specs.nddl_ast.Value.TheVariants as values
 use Rattle.nddl_scope.specs.declared.declared.Declared.{Declared}
 use Rattle.nddl_scope.specs.declared.declared.Sort.{Sort}
 use Rattle.nddl_scope.specs.declared.declared.Sort.TheVariants as sorts

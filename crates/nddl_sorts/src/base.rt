@@ -6,8 +6,7 @@ ghost use Rattle.nddl_sorts.specs.Bases.{base_extent, base_fault, base_kind, ent
 
 use super::kind::{Extent, TypeKind, TypeMeaning};
 use super::types::Types;
-use nddl_ast::TextKind;
-use nddl_ast::expression::BaseType;
+use nddl_scope::passed_nddl_ast::{BaseType, TextKind};
 use nddl_scope::{Meaning, Scope, Sort};
 
 /// What is wrong with the base of a type.

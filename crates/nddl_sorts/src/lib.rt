@@ -6,6 +6,8 @@
 pub mod base;
 pub mod kind;
 pub mod members;
+pub mod passed_nddl_joined;
+pub mod passed_nddl_scope;
 pub mod ranges;
 pub mod sets;
 pub mod types;

@@ -7,9 +7,8 @@ ghost use Rattle.nddl_sorts.specs.Bounds.{is_wrong_range, extent_between, range_
 
 use super::kind::{Extent, TypeKind};
 use super::values::{end_fault, end_number, value_fault};
-use nddl_ast::TextKind;
-use nddl_ast::expression::Value;
 use nddl_scope::fault::note_at;
+use nddl_scope::passed_nddl_ast::{TextKind, Value};
 use nddl_scope::twice::kind_if;
 use nddl_scope::{Fault, Scope};
 

@@ -9,9 +9,8 @@ ghost use Rattle.nddl_sorts.specs.Bounds.{has_too_many, members_faults, own_numb
 use super::kind::{Extent, TypeKind};
 use super::members::Members;
 use super::values::{member_fault, own_number};
-use nddl_ast::TextKind;
-use nddl_ast::expression::Value;
 use nddl_scope::fault::note_at;
+use nddl_scope::passed_nddl_ast::{TextKind, Value};
 use nddl_scope::twice::kind_if;
 use nddl_scope::{Fault, Scope};
 use std::alloc::{AllocError, Global};

@@ -10,8 +10,8 @@ use super::base::{base_extent, base_fault, base_kind};
 use super::kind::{Extent, TypeKind, TypeMeaning};
 use super::ranges::{note_range_faults, range_meaning};
 use super::sets::{note_set_faults, set_meaning};
-use nddl_ast::expression::{Bounds, Type};
 use nddl_scope::fault::note_at;
+use nddl_scope::passed_nddl_ast::{Bounds, Type};
 use nddl_scope::{Fault, Scope};
 use std::alloc::{AllocError, Global};
 

@@ -6,9 +6,8 @@ ghost use Rattle.nddl_scope.specs.Scope.{meaning_of};
 ghost use Rattle.nddl_sorts.specs.Values.{end_fault, end_number, fits, given_entry, given_fault, given_literal, given_meaning, given_value, member_fault, missing_fault, own_number, value_fault};
 
 use super::kind::{Extent, TypeKind};
-use eu_name::text::Text;
-use nddl_ast::TextKind;
-use nddl_ast::expression::{Constant, Literal, Value};
+use nddl_scope::passed_eu_name::Text;
+use nddl_scope::passed_nddl_ast::{Constant, Literal, TextKind, Value};
 use nddl_scope::{Meaning, Scope, Sort};
 
 /// Of what a value is.

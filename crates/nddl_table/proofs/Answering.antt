@@ -9,7 +9,7 @@ use Rattle.nddl_scope.specs.Finding.{earliest_fault, is_fault_before}
 use Rattle.nddl_scope.specs.Names.{scope_names}
 use Rattle.nddl_lines.specs.Facts.{Facts}
 use Rattle.nddl_known.specs.Known.{AreFacts}
-use Rattle.nddl_types.specs.Faults.{all_faults}
+use Rattle.nddl_program.specs.nddl_types.Faults.{all_faults}
 use Rattle.nddl_table.specs.declared.table.TypeTable.{TypeTable}
 use Rattle.nddl_table.specs.declared.tabling.Parts.{Parts}
 use Rattle.nddl_schema.specs.Classes.{enums_of}

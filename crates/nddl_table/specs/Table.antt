@@ -10,7 +10,7 @@ use Rattle.nddl_joined.specs.Joined.{joined_decls, joined_sites}
 use Rattle.nddl_scope.specs.Names.{scope_names}
 use Rattle.nddl_lines.specs.Facts.{Facts}
 use Rattle.nddl_known.specs.Known.{AreFacts}
-use Rattle.nddl_types.specs.Faults.{TellsFirst, all_faults}
+use Rattle.nddl_program.specs.nddl_types.Faults.{TellsFirst, all_faults}
 use Rattle.nddl_table.specs.declared.table.Named.{Named}
 use Rattle.nddl_table.specs.declared.table.TypeTable.{TypeTable}
 use Rattle.nddl_schema.specs.Classes.{classes_of, enums_of}

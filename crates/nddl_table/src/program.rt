@@ -7,8 +7,8 @@ use super::tabling::table_of;
 use nddl_ast::TextFault;
 use nddl_ast::declaration::FileDecls;
 use nddl_lines::Basis;
+use nddl_program::passed_nddl_types::first_wrong;
 use nddl_program::{Program, Question, ask, told};
-use nddl_types::first_wrong;
 use std::alloc::{AllocError, Global};
 
 /// The table of the files, which are in the order in which they were read, or what is wrong first with their names and

@@ -15,7 +15,7 @@ use Rattle.nddl_scope.specs.Names.{is_config_sort, scope_names, sort_of_variable
 use Rattle.nddl_scope.specs.Scope.{fault_if, second_name_faults}
 use Rattle.nddl_lines.specs.Facts.{Facts}
 use Rattle.nddl_lines.specs.Lines.{circle_faults}
-use Rattle.nddl_known.specs.Known.{AreFacts, all_type_faults}
+use Rattle.nddl_classes.specs.nddl_known.Known.{AreFacts, all_type_faults}
 use Rattle.nddl_classes.specs.Classes.{class_faults}
 
 -- what is wrong with the declaration of this number: an enum of too many members, a type, or a class

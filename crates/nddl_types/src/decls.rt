@@ -10,7 +10,7 @@ use nddl_ast::TextKind;
 use nddl_ast::declaration::Decl;
 use nddl_ast::statement::Variable;
 use nddl_classes::note_class;
-use nddl_known::note_all_type_faults;
+use nddl_classes::passed_nddl_known::note_all_type_faults;
 use nddl_lines::Basis;
 use nddl_scope::Fault;
 use nddl_scope::declared::variable_sort;

@@ -5,7 +5,7 @@ use Rattle.nddl_ast.specs.declared.expression.Expr.TheVariants as exprs
 use Rattle.nddl_ast.specs.declared.name.Name.{Name}
 use Rattle.nddl_ast.specs.declared.statement.Call.{Call}
 use Rattle.nddl_ast.specs.Tree.{Statements, Nothing, Declares, Calls, Asks, Tests, Chooses, Repeats}
-use Rattle.nddl_arguments.specs.Constraints.{relation_named}
+use Rattle.nddl_additions.specs.nddl_arguments.Constraints.{relation_named}
 use Rattle.nddl_terms.specs.declared.stands.TextPlaces.{TextPlaces}
 
 -- the place, if a path has more names than one, and so asks for a token

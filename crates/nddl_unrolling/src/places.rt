@@ -7,7 +7,7 @@ ghost use Rattle.nddl_ast.specs.Tree.{Statements};
 ghost use Rattle.nddl_unrolling.specs.Places.{asked_place, call_place, no_places, place_if_more, text_places, with_slot_places};
 
 use eu_name::sequence::Sequence;
-use nddl_arguments::words::relation_named;
+use nddl_additions::passed_nddl_arguments::relation_named;
 use nddl_ast::expression::Expr;
 use nddl_ast::name::Name;
 use nddl_ast::statement::{Call, Stmt, StmtBlock};

@@ -8,8 +8,8 @@ use Rattle.model_core.specs.declared.variable.Base.TheVariants as bases
 use Rattle.model_core.specs.declared.variable.ValueKind.TheVariants as values
 use Rattle.model_core.specs.declared.variable.VarDecl.{VarDecl}
 use Rattle.nddl_ast.specs.declared.declaration.Typed.{Typed}
-use Rattle.nddl_sorts.specs.declared.kind.TypeMeaning.{TypeMeaning}
-use Rattle.nddl_lines.specs.Facts.{Facts}
+use Rattle.nddl_known.specs.nddl_sorts.TypeMeaning.{TypeMeaning}
+use Rattle.nddl_known.specs.nddl_lines.Facts.{Facts}
 use Rattle.nddl_known.specs.Known.{fine_meaning}
 use Rattle.nddl_variables.specs.Domains.{base_of, value_kind}
 

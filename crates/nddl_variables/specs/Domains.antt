@@ -8,13 +8,13 @@ use Rattle.model_core.specs.declared.variable.Base.{Base}
 use Rattle.model_core.specs.declared.variable.Base.TheVariants as bases
 use Rattle.model_core.specs.declared.variable.ValueKind.{ValueKind}
 use Rattle.model_core.specs.declared.variable.ValueKind.TheVariants as values
-use Rattle.nddl_scope.specs.declared.declared.Declared.{Declared}
-use Rattle.nddl_scope.specs.declared.declared.Sort.{Sort}
-use Rattle.nddl_scope.specs.declared.declared.Sort.TheVariants as sorts
-use Rattle.nddl_sorts.specs.declared.kind.Extent.{Extent}
-use Rattle.nddl_sorts.specs.declared.kind.Extent.TheVariants as extents
-use Rattle.nddl_sorts.specs.declared.kind.TypeKind.{TypeKind}
-use Rattle.nddl_sorts.specs.declared.kind.TypeKind.TheVariants as kinds
+use Rattle.nddl_known.specs.nddl_scope.Declared.{Declared}
+use Rattle.nddl_known.specs.nddl_scope.Sort.{Sort}
+use Rattle.nddl_known.specs.nddl_scope.Sort.TheVariants as sorts
+use Rattle.nddl_known.specs.nddl_sorts.Extent.{Extent}
+use Rattle.nddl_known.specs.nddl_sorts.Extent.TheVariants as extents
+use Rattle.nddl_known.specs.nddl_sorts.TypeKind.{TypeKind}
+use Rattle.nddl_known.specs.nddl_sorts.TypeKind.TheVariants as kinds
 use Rattle.nddl_variables.specs.Ascending.{ascending_of}
 
 -- what the values of a type of this kind are

@@ -9,8 +9,8 @@ use super::values::listed_values;
 use domain_core::domain::Dom;
 use model_core::class::Enum;
 use model_core::variable::{Base, ValueKind};
-use nddl_scope::Scope;
-use nddl_sorts::{Extent, TypeKind};
+use nddl_known::passed_nddl_scope::Scope;
+use nddl_known::passed_nddl_sorts::{Extent, TypeKind};
 use std::alloc::{AllocError, Global};
 
 /// What the values of a type of this kind are.

@@ -5,8 +5,8 @@ ghost use Rattle.std.specs.List.{filter_map, range_with_len};
 ghost use Rattle.nddl_variables.specs.Domains.{enum_size, listed_values, place_of_member, place_of_sort};
 
 use model_core::class::Enum;
-use nddl_scope::{Scope, Sort};
-use nddl_sorts::{Extent, TypeKind};
+use nddl_known::passed_nddl_scope::{Scope, Sort};
+use nddl_known::passed_nddl_sorts::{Extent, TypeKind};
 use std::alloc::{AllocError, Global};
 
 /// The values of a type of this kind.

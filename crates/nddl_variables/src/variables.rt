@@ -1,7 +1,7 @@
 //! The variables that are declared with types.
 
 ghost use Rattle.std.specs.Prelude.{◌≡◌, ◌++◌, ◌∷◌, [], IfOk, OnOk};
-ghost use Rattle.nddl_lines.specs.Facts.{facts_of};
+ghost use Rattle.nddl_known.specs.nddl_lines.Facts.{facts_of};
 ghost use Rattle.nddl_variables.specs.Declares.{number_variable, declared_variable, variable_with, variables_of};
 
 use super::domains::{base_of, range, value_kind};
@@ -11,8 +11,8 @@ use model_core::class::Enum;
 use model_core::variable::{Base, ValueKind, VarDecl};
 use nddl_ast::declaration::Typed;
 use nddl_known::fine_meaning;
-use nddl_lines::Basis;
-use nddl_sorts::TypeMeaning;
+use nddl_known::passed_nddl_lines::Basis;
+use nddl_known::passed_nddl_sorts::TypeMeaning;
 use std::alloc::{AllocError, Global};
 
 // The variable that is declared, if nothing is wrong with its type.

@@ -1,1 +1,3 @@
 pub mod OwnStates
+pub mod plan_growth
+pub mod plan_progress

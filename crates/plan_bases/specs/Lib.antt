@@ -1,1 +1,2 @@
 pub mod Bases
+pub mod plan_values

@@ -29,21 +29,21 @@ use Rattle.plan_defs.proofs.Ordered.{contains_none}
 use Rattle.plan_growth.specs.Claims.{IsPostedIn}
 use Rattle.plan_growth.specs.Content.{Content, shown}
 use Rattle.plan_growth.specs.Growth.{LeaveNothing}
-use Rattle.plan_progress.specs.Progress.{IsTurnFollowed}
-use Rattle.plan_progress.proofs.Keeping.{first_misses}
-use Rattle.plan_progress.proofs.Supporting.{root_supported}
+use Rattle.plan_opening.specs.plan_progress.Progress.{IsTurnFollowed}
+use Rattle.plan_opening.specs.plan_progress.Keeping.{first_misses}
+use Rattle.plan_opening.specs.plan_progress.Supporting.{root_supported}
 use Rattle.plan_store.specs.Keys.{named_variable, named_block}
 use Rattle.plan_store.specs.Stores.{Stored}
 use Rattle.plan_store.specs.declared.key.OpenBlock.{OpenBlock}
 use Rattle.plan_store.proofs.Naming.{gives_by_number}
-use Rattle.plan_posting.specs.Counting.{AreRootsThere}
-use Rattle.plan_posting.specs.Origins.{content_now}
-use Rattle.plan_posting.specs.Postable.{CanPostItem, IsItemNamed}
-use Rattle.plan_posting.specs.Posted.{PostsClaims, OnlyPosts}
-use Rattle.plan_posting.specs.Tables.{HaveTables}
-use Rattle.plan_posting.proofs.Allowing.{lawful_items_can_be_posted}
-use Rattle.plan_posting.proofs.Present.{items_of_problem_are_named}
-use Rattle.plan_posting.proofs.Storing.{with_constraints}
+use Rattle.plan_opening.specs.plan_posting.Counting.{AreRootsThere}
+use Rattle.plan_opening.specs.plan_posting.Origins.{content_now}
+use Rattle.plan_opening.specs.plan_posting.Postable.{CanPostItem, IsItemNamed}
+use Rattle.plan_opening.specs.plan_posting.Posted.{PostsClaims, OnlyPosts}
+use Rattle.plan_opening.specs.plan_posting.Tables.{HaveTables}
+use Rattle.plan_opening.specs.plan_posting.Allowing.{lawful_items_can_be_posted}
+use Rattle.plan_opening.specs.plan_posting.Present.{items_of_problem_are_named}
+use Rattle.plan_opening.specs.plan_posting.Storing.{with_constraints}
 use Rattle.plan_opening.specs.Begun.{IsBegun, StaysBegun}
 use Rattle.plan_opening.specs.Underway.{OnlyAdds}
 use Rattle.plan_opening.proofs.Standing.{claims_justified}

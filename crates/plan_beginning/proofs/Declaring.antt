@@ -25,9 +25,9 @@ use Rattle.plan_growth.specs.Claims.{AreFieldsOf}
 use Rattle.plan_growth.specs.Content.{Content, shown, IsContent}
 use Rattle.plan_growth.specs.Growth.{LeaveNothing}
 use Rattle.plan_growth.proofs.Owing.{no_void}
-use Rattle.plan_progress.specs.Progress.{IsJustified}
-use Rattle.plan_progress.proofs.Justifying.{globals_justified}
-use Rattle.plan_progress.proofs.Places.{contains_map, get_front}
+use Rattle.plan_opening.specs.plan_progress.Progress.{IsJustified}
+use Rattle.plan_opening.specs.plan_progress.Justifying.{globals_justified}
+use Rattle.plan_opening.specs.plan_progress.Places.{contains_map, get_front}
 use Rattle.plan_store.specs.Keys.{named_variable, named_block}
 use Rattle.plan_store.specs.Stores.{Stored, snapshot_of, IsSnapshot}
 use Rattle.plan_store.specs.declared.key.OpenBlock.{OpenBlock}
@@ -35,8 +35,8 @@ use Rattle.plan_store.specs.declared.key.VarKey.{VarKey}
 use Rattle.plan_store.specs.declared.key.VarKey.TheVariants.{Global}
 use Rattle.plan_store.proofs.Lists.{unmapped}
 use Rattle.plan_store.proofs.Naming.{names_are_once, gives_by_number}
-use Rattle.plan_posting.specs.Origins.{content_now}
-use Rattle.plan_posting.specs.Tables.{HaveTables, OnlyTables}
+use Rattle.plan_opening.specs.plan_posting.Origins.{content_now}
+use Rattle.plan_opening.specs.plan_posting.Tables.{HaveTables, OnlyTables}
 use Rattle.plan_opening.specs.Begun.{IsBegun}
 use Rattle.plan_opening.specs.Bringing.{KeyDomain, BringsKeys, Brings}
 use Rattle.plan_opening.proofs.Bringing.{key_of, domain_of, brings_nothing, brings_joined, fails_as}

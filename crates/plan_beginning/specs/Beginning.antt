@@ -14,8 +14,8 @@ use Rattle.plan_growth.specs.Growth.{LeaveNothing}
 use Rattle.plan_store.specs.Stores.{Stored}
 use Rattle.plan_store.specs.declared.key.VarKey.{VarKey}
 use Rattle.plan_store.specs.declared.key.VarKey.TheVariants.{Global}
-use Rattle.plan_posting.specs.Origins.{content_now}
-use Rattle.plan_posting.specs.Tables.{HaveTables}
+use Rattle.plan_opening.specs.plan_posting.Origins.{content_now}
+use Rattle.plan_opening.specs.plan_posting.Tables.{HaveTables}
 use Rattle.plan_opening.specs.Begun.{IsBegun}
 use Rattle.plan_opening.specs.Underway.{IsStoreUnderway}
 

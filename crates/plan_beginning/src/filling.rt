@@ -8,7 +8,7 @@ use super::globals::bring_globals;
 use super::problem::{bring_roots, post_problem};
 use constraint_net::NetFault;
 use model_core::model::Model;
-use plan_posting::add_tables;
+use plan_opening::passed_plan_posting::add_tables;
 use plan_store::Store;
 use std::alloc::Global;
 

@@ -8,7 +8,7 @@ use Rattle.eu_name.specs.declared.name.VarName.{VarName}
 use Rattle.constraint_net.specs.declared.constraint.Constraint.{Constraint}
 use Rattle.plan_defs.specs.Claims.{Claim}
 use Rattle.plan_growth.specs.Claims.{SaysClaim, IsPostedIn}
-use Rattle.plan_posting.specs.Posted.{PostsClaims}
+use Rattle.plan_unfolding.specs.plan_posting.Posted.{PostsClaims}
 use Rattle.plan_closing.specs.Turns.{SeesToClaims}
 
 abbrev pub SaysOne : List VarName → (Claim → Type 0) → Constraint → Type 0

@@ -21,7 +21,7 @@ use Rattle.plan_store.specs.declared.key.VarKey.{VarKey}
 use Rattle.plan_store.specs.declared.key.VarKey.TheVariants as key
 use Rattle.plan_store.proofs.Lists.{contains_at, unmapped}
 use Rattle.plan_store.proofs.Naming.{same_key, length_names, names_are_once, names_have_one_number, gives_by_number}
-use Rattle.plan_posting.specs.Origins.{content_now}
+use Rattle.plan_unfolding.specs.plan_posting.Origins.{content_now}
 
 some_of : {X : Type 0} (one other : X) → Some one ≡ Some other → one ≡ other
 some_of one other same = cc

@@ -47,10 +47,10 @@ use Rattle.plan_store.specs.declared.watchers.Watch.{Watch}
 use Rattle.plan_store.proofs.Lists.{unmapped}
 use Rattle.plan_store.proofs.Naming.{names_are_once, names_have_one_number}
 use Rattle.plan_store.proofs.Watched.{watchers_are_listed}
-use Rattle.plan_posting.specs.Origins.{content_now}
-use Rattle.plan_posting.specs.Terms.{HasTimesAt}
-use Rattle.plan_opening.specs.Underway.{IsStoreUnderway, OnlyAdds, GoesOnAs}
-use Rattle.plan_opening.proofs.Opening.{name_there}
+use Rattle.plan_unfolding.specs.plan_posting.Origins.{content_now}
+use Rattle.plan_unfolding.specs.plan_posting.Terms.{HasTimesAt}
+use Rattle.plan_unfolding.specs.plan_opening.Underway.{IsStoreUnderway, OnlyAdds, GoesOnAs}
+use Rattle.plan_unfolding.proofs.plan_opening.Opening.{name_there}
 use Rattle.plan_unfolding.specs.Branches.{StaysOnWay, FollowsBranches}
 use Rattle.plan_unfolding.specs.Reading.{CanReadAt}
 use Rattle.plan_unfolding.proofs.Adding.{Adds, adds_nothing, adds_both, content_adds, goes_there, goes_at, opens_back}
@@ -60,7 +60,7 @@ use Rattle.plan_closing.specs.Looking.{IsOnWay, HasWay, IsBlockFollowed, Follows
 use Rattle.plan_closing.specs.Turns.{PostsOrMarks, IsTurnOf, TakesTurns}
 use Rattle.plan_closing.proofs.Sharing.{same_content}
 use Rattle.plan_closing.proofs.Staying.{turns_underway, underway_more}
-use Rattle.plan_posting.proofs.Storing.{marks_same, marks_both}
+use Rattle.plan_unfolding.specs.plan_posting.Storing.{marks_same, marks_both}
 
 -- ---- what a store on its way has
 

@@ -11,7 +11,7 @@ use Rattle.constraint_net.specs.declared.NetFault.{NetFault}
 use Rattle.constraint_net.specs.declared.NetFault.TheVariants.{Collapsed, Memory}
 use Rattle.plan_store.specs.Puts.{ChangesNet}
 use Rattle.plan_store.specs.Stores.{Stored, snapshot_of}
-use Rattle.plan_opening.specs.Underway.{IsUnderway, IsStoreUnderway}
+use Rattle.plan_unfolding.specs.plan_opening.Underway.{IsUnderway, IsStoreUnderway}
 use Rattle.plan_closing.specs.Closing.{AreKnownDue, HasComeToRest, Heeds, StepLeaves, Steps, TakesSteps, LooksAtAll, BringsToRest}
 use Rattle.plan_closing.specs.Looking.{IsOnWay, HasWay, KeepsWay, LooksAt}
 use Rattle.plan_closing.specs.declared.closing.Step.{Step}

@@ -29,9 +29,9 @@ use Rattle.plan_store.specs.StoreMarks.{with_mark}
 use Rattle.plan_store.specs.declared.watchers.Watch.{Watch}
 use Rattle.plan_store.proofs.Watched.{watchers_are_listed}
 use Rattle.plan_store.proofs.Naming.{same_place, length_names}
-use Rattle.plan_posting.specs.Origins.{content_now}
-use Rattle.plan_posting.specs.Posted.{OnlyPosts, PostsClaims}
-use Rattle.plan_posting.specs.Terms.{HasTimesAt}
+use Rattle.plan_unfolding.specs.plan_posting.Origins.{content_now}
+use Rattle.plan_unfolding.specs.plan_posting.Posted.{OnlyPosts, PostsClaims}
+use Rattle.plan_unfolding.specs.plan_posting.Terms.{HasTimesAt}
 use Rattle.plan_closing.specs.Seating.{SeatsAll}
 use Rattle.plan_closing.specs.Turns.{OnlyMarks, PostsOrMarks, HaveDecided, FindsTimeline, SeesToClaims, SaysTurn, IsTurnOf, TakeTheirTurns, TakesTurnsAmong, TakesTurns}
 use Rattle.plan_closing.proofs.Claimed.{SaysOne, sees_none, sees_posted, sees_same, sees_both, ok_then}

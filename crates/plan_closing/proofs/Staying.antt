@@ -32,8 +32,8 @@ use Rattle.timeline_core.specs.Unordered.{AreDecidedOnce}
 use Rattle.token_store.specs.Orders.{name_at}
 use Rattle.plan_store.specs.Puts.{ChangesNet}
 use Rattle.plan_store.specs.Stores.{Stored}
-use Rattle.plan_posting.specs.Origins.{content_now}
-use Rattle.plan_opening.specs.Underway.{IsStoreUnderway}
+use Rattle.plan_unfolding.specs.plan_posting.Origins.{content_now}
+use Rattle.plan_unfolding.specs.plan_opening.Underway.{IsStoreUnderway}
 use Rattle.plan_closing.specs.Turns.{PostsOrMarks, IsTurnOf, TakesTurns}
 use Rattle.plan_closing.proofs.Claimed.{SaysOne}
 

@@ -6,7 +6,7 @@ use Rattle.constraint_net.specs.declared.NetFault.{NetFault}
 use Rattle.constraint_net.specs.declared.NetFault.TheVariants.{Collapsed, Memory}
 use Rattle.plan_growth.specs.Growth.{LeaveNothing}
 use Rattle.plan_store.specs.Stores.{Stored, snapshot_of}
-use Rattle.plan_opening.specs.Underway.{IsAtRest}
+use Rattle.plan_unfolding.specs.plan_opening.Underway.{IsAtRest}
 use Rattle.plan_closing.specs.declared.closing.Step.{Step}
 use Rattle.plan_closing.specs.declared.closing.Step.TheVariants as step
 use Rattle.plan_closing.specs.Looking.{IsOnWay}

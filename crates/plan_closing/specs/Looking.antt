@@ -13,8 +13,8 @@ use Rattle.plan_progress.specs.Progress.{AreBranchesFollowed}
 use Rattle.timeline_core.specs.Unordered.{AreDecidedOnce}
 use Rattle.plan_store.specs.Stores.{Stored, blocks_watching}
 use Rattle.plan_store.specs.declared.key.VarKey.TheVariants as key
-use Rattle.plan_posting.specs.Origins.{content_now}
-use Rattle.plan_opening.specs.Underway.{IsStoreUnderway}
+use Rattle.plan_unfolding.specs.plan_posting.Origins.{content_now}
+use Rattle.plan_unfolding.specs.plan_opening.Underway.{IsStoreUnderway}
 use Rattle.plan_closing.specs.Turns.{TakesTurns}
 
 -- the store is on its way to the least state of the decisions, which decide each token once: the first so many blocks are

@@ -16,8 +16,8 @@ use Rattle.plan_growth.specs.Content.{shown}
 use Rattle.plan_growth.specs.Growth.{ends_before}
 use Rattle.timeline_core.specs.Unordered.{AreDecidedOnce, IsActiveOn}
 use Rattle.plan_store.specs.Stores.{Stored, snapshot_of}
-use Rattle.plan_posting.specs.Counting.{AreTokenStates}
-use Rattle.plan_posting.specs.Origins.{content_now}
+use Rattle.plan_unfolding.specs.plan_posting.Counting.{AreTokenStates}
+use Rattle.plan_unfolding.specs.plan_posting.Origins.{content_now}
 
 -- but for the latest mark nothing changes
 abbrev pub OnlyMarks : Stored → Stored → Type 0

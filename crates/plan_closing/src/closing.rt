@@ -3,7 +3,7 @@
 ghost use Rattle.std.specs.Prelude.{◌≡◌, ◌≤◌, length, OnOk};
 ghost use Rattle.model_core.specs.Lawful.{IsLawful};
 ghost use Rattle.plan_store.specs.StoreMarks.{KeepStoreMarks};
-ghost use Rattle.plan_posting.specs.Tables.{HaveTables};
+ghost use Rattle.plan_unfolding.specs.plan_posting.Tables.{HaveTables};
 ghost use Rattle.plan_closing.specs.Looking.{HasWay};
 ghost use Rattle.plan_closing.specs.Seating.{IsSeatingOf, KeepsSeating};
 ghost use Rattle.plan_closing.specs.Closing.{CanGoOn, CanClose, Heeds, Steps, TakesSteps, LooksAtAll, BringsToRest};

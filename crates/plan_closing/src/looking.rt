@@ -4,7 +4,7 @@ ghost use Rattle.std.specs.Prelude.{◌≡◌, ◌↔◌, ◌<◌, length, slice
 ghost use Rattle.model_core.specs.Lawful.{IsLawful};
 ghost use Rattle.plan_store.specs.Stores.{blocks_watching};
 ghost use Rattle.plan_store.specs.StoreMarks.{KeepStoreMarks};
-ghost use Rattle.plan_opening.specs.Underway.{OnlyAdds};
+ghost use Rattle.plan_unfolding.specs.plan_opening.Underway.{OnlyAdds};
 ghost use Rattle.plan_unfolding.specs.Branches.{StaysOnWay, FollowsBranches};
 ghost use Rattle.plan_closing.specs.Seating.{IsSeatingOf, KeepsSeating};
 ghost use Rattle.plan_closing.specs.Turns.{PostsOrMarks};

@@ -12,9 +12,9 @@ ghost use Rattle.plan_defs.specs.Timelines.{IsOn, EndsTooLate};
 ghost use Rattle.plan_growth.specs.Content.{shown};
 ghost use Rattle.plan_store.specs.Keys.{named_variable, IsKeyBelow};
 ghost use Rattle.plan_store.specs.StoreMarks.{KeepStoreMarks};
-ghost use Rattle.plan_posting.specs.Origins.{content_now};
-ghost use Rattle.plan_posting.specs.Posted.{OnlyPosts};
-ghost use Rattle.plan_posting.specs.Terms.{HasTimesAt};
+ghost use Rattle.plan_unfolding.specs.plan_posting.Origins.{content_now};
+ghost use Rattle.plan_unfolding.specs.plan_posting.Posted.{OnlyPosts};
+ghost use Rattle.plan_unfolding.specs.plan_posting.Terms.{HasTimesAt};
 ghost use Rattle.plan_closing.specs.Seating.{IsSeatingOf, KeepsSeating};
 ghost use Rattle.plan_closing.specs.Turns.{PostsOrMarks, HaveDecided, FindsTimeline, SeesToClaims, SaysTurn, TakeTheirTurns, TakesTurnsAmong, TakesTurns};
 
@@ -22,8 +22,8 @@ use super::seating::Seating;
 use domain_core::domain::Dom;
 use eu_name::name::Part;
 use model_core::model::Model;
-use plan_posting::{PartAt, is_known_at_most, post_at_most};
 use plan_store::{Store, VarKey};
+use plan_unfolding::passed_plan_posting::{PartAt, is_known_at_most, post_at_most};
 use std::alloc::AllocError;
 use timeline_core::{is_timeline, takes_place};
 

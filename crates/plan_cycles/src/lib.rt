@@ -4,6 +4,7 @@
 #![tactic(auto)]
 
 mod cycle;
+pub mod passed_plan_edges;
 mod points;
 
 pub use cycle::cycle_of;

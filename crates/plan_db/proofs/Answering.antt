@@ -10,12 +10,12 @@ use Rattle.model_core.specs.State.{State, Gives}
 use Rattle.plan_defs.specs.Closure.{IsLeast, IsCollapsed}
 use Rattle.plan_defs.specs.History.{IsHistory}
 use Rattle.plan_defs.proofs.Members.{contains_from_get, get_below, get_same}
-use Rattle.plan_refusals.specs.declared.reason.Reason.TheVariants as reasons
-use Rattle.plan_posting.specs.Counting.{AreTokenStates}
+use Rattle.plan_edges.specs.plan_refusals.Reason.TheVariants as reasons
+use Rattle.plan_edges.specs.plan_posting.Counting.{AreTokenStates}
 use Rattle.plan_store.specs.Stores.{Stored, snapshot_of}
-use Rattle.plan_view.specs.Seeing.{Seen, seen_state}
-use Rattle.plan_state.specs.declared.footing.Footing.TheVariants.{Rest}
-use Rattle.plan_state.specs.Standing.{Stood}
+use Rattle.plan_edges.specs.plan_view.Seeing.{Seen, seen_state}
+use Rattle.plan_steps.specs.plan_state.Footing.TheVariants.{Rest}
+use Rattle.plan_steps.specs.plan_state.Standing.{Stood}
 use Rattle.plan_steps.proofs.Keeping.{least_kept}
 use Rattle.plan_steps.specs.declared.objection.Objection.{Objection}
 use Rattle.plan_steps.specs.declared.objection.Objection.TheVariants.{Collapsed, Refused}

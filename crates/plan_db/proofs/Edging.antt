@@ -9,12 +9,12 @@ use Rattle.model_core.specs.History.{History, standing}
 use Rattle.plan_defs.specs.Settling.{IsSettled}
 use Rattle.plan_edges.specs.declared.edge.NamedEdge.{NamedEdge}
 use Rattle.plan_edges.specs.Whole.{AreTimeEdges}
-use Rattle.plan_opening.specs.Underway.{IsAtRest}
+use Rattle.plan_edges.specs.plan_opening.Underway.{IsAtRest}
 use Rattle.plan_store.specs.Stores.{Stored, snapshot_of}
-use Rattle.plan_view.specs.Seeing.{seen_state}
-use Rattle.plan_state.specs.declared.footing.Footing.TheVariants.{Fallen, Void}
-use Rattle.plan_state.specs.Advancing.{but_last, IsLeastOf}
-use Rattle.plan_state.specs.Standing.{Stood, KeepsListOn}
+use Rattle.plan_edges.specs.plan_view.Seeing.{seen_state}
+use Rattle.plan_steps.specs.plan_state.Footing.TheVariants.{Fallen, Void}
+use Rattle.plan_steps.specs.plan_state.Advancing.{but_last, IsLeastOf}
+use Rattle.plan_steps.specs.plan_state.Standing.{Stood, KeepsListOn}
 use Rattle.plan_steps.specs.Kept.{KeepsHistory}
 use Rattle.plan_steps.proofs.Keeping.{standing_settled}
 use Rattle.plan_db.specs.declared.edges.EdgeFault.{EdgeFault}

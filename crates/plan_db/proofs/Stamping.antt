@@ -13,11 +13,11 @@ use Rattle.plan_defs.proofs.Ordered.{contains_head, contains_later, contains_cas
 use Rattle.plan_store.specs.Stamps.{HasStamp, FollowStamps}
 use Rattle.plan_store.specs.Stores.{Stored, snapshot_of, IsSnapshot, named_content, variable_names}
 use Rattle.plan_store.proofs.Naming.{gives_by_number, names_are_once}
-use Rattle.plan_view.specs.Seeing.{seen_state}
-use Rattle.plan_view.proofs.Seen.{put_in_order}
-use Rattle.plan_state.specs.declared.footing.Footing.{Footing}
-use Rattle.plan_state.specs.declared.footing.Footing.TheVariants.{Rest, Fallen, Void}
-use Rattle.plan_state.specs.Standing.{Stood}
+use Rattle.plan_edges.specs.plan_view.Seeing.{seen_state}
+use Rattle.plan_edges.proofs.plan_view.Seen.{put_in_order}
+use Rattle.plan_steps.specs.plan_state.Footing.{Footing}
+use Rattle.plan_steps.specs.plan_state.Footing.TheVariants.{Rest, Fallen, Void}
+use Rattle.plan_steps.specs.plan_state.Standing.{Stood}
 use Rattle.plan_steps.specs.Kept.{KeepsHistory}
 use Rattle.plan_steps.proofs.Keeping.{least_kept}
 use Rattle.plan_db.specs.declared.fault.QueryFault.{QueryFault}

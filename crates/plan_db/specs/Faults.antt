@@ -1,6 +1,6 @@
 -- What the reasons against a decision are answered as.
-use Rattle.plan_refusals.specs.declared.reason.Reason.{Reason}
-use Rattle.plan_refusals.specs.declared.reason.Reason.TheVariants as reason
+use Rattle.plan_edges.specs.plan_refusals.Reason.{Reason}
+use Rattle.plan_edges.specs.plan_refusals.Reason.TheVariants as reason
 use Rattle.plan_steps.specs.declared.objection.Objection.{Objection}
 use Rattle.plan_steps.specs.declared.objection.Objection.TheVariants.{Collapsed, Refused}
 use Rattle.plan_db.specs.declared.fault.DbFault.{DbFault}

@@ -19,9 +19,9 @@ use eu_name::name::VarName;
 use model_core::decision::Decision;
 use model_core::model::Model;
 use plan_edges::NamedEdge;
-use plan_state::Standing;
+use plan_edges::passed_plan_view::StoreView;
+use plan_steps::passed_plan_state::Standing;
 use plan_steps::{Subject, fits, rebuild};
-use plan_view::StoreView;
 use std::alloc::{AllocError, Global};
 use std::marker;
 

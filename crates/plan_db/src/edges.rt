@@ -10,7 +10,7 @@ ghost use Rattle.plan_db.specs.Edges.{HasEdges, HasNoEdges};
 use decision_log::Log;
 use model_core::model::Model;
 use plan_edges::{NamedEdge, time_edges};
-use plan_state::{Footing, Standing};
+use plan_steps::passed_plan_state::{Footing, Standing};
 use std::alloc::AllocError;
 use thiserror::Error;
 

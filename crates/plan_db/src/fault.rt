@@ -3,7 +3,7 @@
 ghost use Rattle.std.specs.Prelude.{◌≡◌};
 ghost use Rattle.plan_db.specs.Faults.{fault_for};
 
-use plan_refusals::Reason;
+use plan_edges::passed_plan_refusals::Reason;
 use plan_steps::Objection;
 use std::alloc::AllocError;
 use thiserror::Error;

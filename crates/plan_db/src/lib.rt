@@ -14,12 +14,14 @@ mod changing;
 pub mod database;
 pub mod edges;
 pub mod fault;
+pub mod passed_plan_state;
+pub mod passed_plan_steps;
 mod stamps;
 mod telling;
 
 pub use database::Db;
 pub use edges::EdgeFault;
 pub use fault::{DbFault, Outcome, QueryFault};
+pub use plan_edges::passed_plan_view::StoreView;
 pub use plan_edges::{NamedEdge, Point};
 pub use plan_steps::Subject;
-pub use plan_view::StoreView;

@@ -10,7 +10,7 @@ ghost use Rattle.plan_db.specs.Database.{taken_in, IsTold, IsUntold};
 ghost use Rattle.plan_db.specs.Stamps.{stamps_of, IsStampedAs};
 
 use eu_name::name::VarName;
-use plan_state::{Footing, Standing};
+use plan_steps::passed_plan_state::{Footing, Standing};
 
 /// How often the domain of the variable was written.
 pub fn stamp(kept: &Standing, variable: &VarName) -> Option<u64>

@@ -7,8 +7,8 @@ use Rattle.std.proofs.lemmas.Int.{ints}
 use Rattle.std.proofs.lemmas.List.{length-map}
 use Rattle.std.proofs.lemmas.List.Elements.{All-contains}
 use Rattle.std.proofs.lemmas.Slice.Zip.{AllZip-long}
-use Rattle.domain_core.specs.Domain.{Domain, Range, Has, IsSingle, IsDomain, least, greatest}
-use Rattle.domain_core.proofs.Words.{single_least, single_greatest}
+use Rattle.model_core.specs.domain_core.Domain.{Domain, Range, Has, IsSingle, IsDomain, least, greatest}
+use Rattle.model_core.specs.domain_core.Words.{single_least, single_greatest}
 use Rattle.eu_name.specs.declared.name.Part.{Part}
 use Rattle.eu_name.specs.declared.name.Part.TheVariants.{Start, End, Duration, Object, Param}
 use Rattle.eu_name.specs.declared.name.Step.{Step}

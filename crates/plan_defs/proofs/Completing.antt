@@ -3,8 +3,8 @@ use Rattle.std.proofs.Common.{◌≡◌, ℕ, zero, suc, ◌+◌, ◌<◌, ◌�
 use Rattle.std.specs.Prelude.{Contains, slice_get}
 use Rattle.std.specs.List.{AllZip}
 use Rattle.std.proofs.lemmas.Int.{ints}
-use Rattle.domain_core.specs.Domain.{Domain, Range, Has, IsSingle, least, greatest}
-use Rattle.domain_core.proofs.Words.{single_least, single_greatest}
+use Rattle.model_core.specs.domain_core.Domain.{Domain, Range, Has, IsSingle, least, greatest}
+use Rattle.model_core.specs.domain_core.Words.{single_least, single_greatest}
 use Rattle.eu_name.specs.declared.name.Part.TheVariants.{Start, Object, Param}
 use Rattle.eu_name.specs.declared.name.Step.{Step}
 use Rattle.eu_name.specs.declared.name.TokenName.{TokenName}

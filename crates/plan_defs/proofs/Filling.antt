@@ -3,8 +3,8 @@ use Rattle.std.proofs.Common.{◌≡◌, ℕ, ◌+◌, ◌<◌, ◌⊎◌, ℤ, 
 use Rattle.std.specs.Prelude.{All, AllPairs, Contains, slice_get, codes}
 use Rattle.std.specs.List.{AllZip}
 use Rattle.std.proofs.lemmas.Int.{ints}
-use Rattle.domain_core.specs.Domain.{Domain, Range, Has, IsSingle, IsDomain, least, greatest}
-use Rattle.domain_core.proofs.Words.{single_least, single_greatest}
+use Rattle.model_core.specs.domain_core.Domain.{Domain, Range, Has, IsSingle, IsDomain, least, greatest}
+use Rattle.model_core.specs.domain_core.Words.{single_least, single_greatest}
 use Rattle.eu_name.specs.declared.name.Part.{Part}
 use Rattle.eu_name.specs.declared.name.Part.TheVariants.{Start, End, Object, Param}
 use Rattle.eu_name.specs.declared.name.Step.{Step}

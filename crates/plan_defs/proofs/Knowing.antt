@@ -1,7 +1,7 @@
 -- Whether a thing is on a list can be told where things have an order, and so whether a state has what a decision names.
 use Rattle.std.proofs.Common.{◌≡◌, ◌⊎◌, inl, inr, ⊎_elim, List, [], ◌∷◌, ap, subst}
 use Rattle.std.specs.Prelude.{Contains}
-use Rattle.domain_core.specs.Domain.{Domain}
+use Rattle.model_core.specs.domain_core.Domain.{Domain}
 use Rattle.eu_name.specs.declared.name.TokenName.{TokenName}
 use Rattle.eu_name.specs.declared.name.VarName.{VarName}
 use Rattle.eu_name.specs.NameOrder.{IsStrictTotalOrder, IsTokenBefore, IsVarBefore}

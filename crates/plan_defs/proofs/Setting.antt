@@ -2,8 +2,8 @@
 use Rattle.std.proofs.Common.{◌≡◌, ℕ, suc, zero, List, [], ◌∷◌, set, Some, inl, inr, refl, sym, ap, ◌∙◌, subst}
 use Rattle.std.proofs.lemmas.List.Elements.{All-set}
 use Rattle.std.specs.Prelude.{slice_get, Contains, All, AllPairs, ◌⊎◌, ◌↔◌}
-use Rattle.domain_core.specs.Domain.{Domain, IsDomain, IsWithin}
-use Rattle.domain_core.proofs.Words.{IsWithin-refl}
+use Rattle.model_core.specs.domain_core.Domain.{Domain, IsDomain, IsWithin}
+use Rattle.model_core.specs.domain_core.Words.{IsWithin-refl}
 use Rattle.eu_name.specs.declared.name.TokenName.{TokenName}
 use Rattle.eu_name.specs.declared.name.VarName.{VarName}
 use Rattle.eu_name.specs.declared.name.VarName.TheVariants.{Token, Local, Global}

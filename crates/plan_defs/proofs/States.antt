@@ -2,8 +2,8 @@
 use Rattle.std.proofs.Common.{◌≡◌, refl, ap, subst}
 use Rattle.std.specs.Prelude.{Contains}
 use Rattle.std.proofs.lemmas.List.Elements.{All-contains}
-use Rattle.domain_core.specs.Domain.{Domain, IsDomain, IsWithin}
-use Rattle.domain_core.proofs.Words.{IsWithin-refl, IsWithin-trans, IsWithin-antisym}
+use Rattle.model_core.specs.domain_core.Domain.{Domain, IsDomain, IsWithin}
+use Rattle.model_core.specs.domain_core.Words.{IsWithin-refl, IsWithin-trans, IsWithin-antisym}
 use Rattle.eu_name.specs.declared.name.VarName.{VarName}
 use Rattle.eu_name.specs.NameOrder.{IsTokenBefore, IsVarBefore}
 use Rattle.eu_name.proofs.Orders.{token_order, var_order}

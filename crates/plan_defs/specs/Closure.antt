@@ -1,6 +1,6 @@
 -- What the decisions leave possible: the closed states, and the least of them.
 use Rattle.std.specs.Prelude.{List, Contains, ⊤}
-use Rattle.domain_core.specs.Domain.{Domain, IsSingle}
+use Rattle.model_core.specs.domain_core.Domain.{Domain, IsSingle}
 use Rattle.eu_name.specs.declared.name.TokenName.{TokenName}
 use Rattle.eu_name.specs.declared.name.VarName.{VarName}
 use Rattle.model_core.specs.declared.decision.Decision.{Decision}

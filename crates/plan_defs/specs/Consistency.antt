@@ -1,7 +1,7 @@
 -- When a claim is consistent in a state.
 use Rattle.std.specs.Prelude.{◌≡◌, ℕ, ℤ, List, Some, slice_get}
 use Rattle.std.specs.List.{AllZip}
-use Rattle.domain_core.specs.Domain.{Domain}
+use Rattle.model_core.specs.domain_core.Domain.{Domain}
 use Rattle.model_core.specs.declared.class.Object.{Object}
 use Rattle.model_core.specs.declared.model.Model.{Model}
 use Rattle.model_core.specs.Constraints.{AgreeOn}

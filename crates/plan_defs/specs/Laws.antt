@@ -1,6 +1,6 @@
 -- What is proved of the definitions.
 use Rattle.std.specs.Prelude.{◌≡◌, ◌↔◌, ◌⊎◌, ℤ, pos, ◌+ℤ◌, ◌≤ℤ◌, List, ◌∷◌, ◌++◌, Contains}
-use Rattle.domain_core.specs.Domain.{Domain, IsDomain, IsWithin, least, greatest}
+use Rattle.model_core.specs.domain_core.Domain.{Domain, IsDomain, IsWithin, least, greatest}
 use Rattle.eu_name.specs.declared.name.TokenName.{TokenName}
 use Rattle.eu_name.specs.declared.name.VarName.{VarName}
 use Rattle.model_core.specs.declared.class.PredKind.TheVariants.{Produce, Consume}

@@ -1,6 +1,6 @@
 -- Which decisions may be taken after which.
 use Rattle.std.specs.Prelude.{◌≡◌, ◌≢◌, ℕ, ◌<◌, ◌≤◌, ℤ, ◌⊎◌, List, length, All, AllPairs, Contains}
-use Rattle.domain_core.specs.Domain.{Domain, Has}
+use Rattle.model_core.specs.domain_core.Domain.{Domain, Has}
 use Rattle.eu_name.specs.declared.name.TokenName.{TokenName}
 use Rattle.eu_name.specs.declared.name.VarName.{VarName}
 use Rattle.model_core.specs.declared.decision.Decision.{Decision}

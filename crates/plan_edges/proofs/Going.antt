@@ -35,11 +35,11 @@ use Rattle.token_store.specs.Tokens.{tokens_now, token_names}
 use Rattle.plan_defs.specs.Terms.{InRule}
 use Rattle.plan_defs.proofs.Members.{get_below, get_within, get_same}
 use Rattle.plan_fitting.proofs.Opened.{few_entries}
-use Rattle.plan_opening.proofs.Lists.{contains_unmap}
-use Rattle.plan_posting.specs.Terms.{CanStand}
-use Rattle.plan_posting.proofs.Allowing.{arguments_kinds, stands}
-use Rattle.plan_progress.proofs.Lawful.{rule_lawful}
-use Rattle.plan_progress.proofs.Places.{contains_map}
+use Rattle.plan_fitting.proofs.plan_opening.Lists.{contains_unmap}
+use Rattle.plan_fitting.specs.plan_posting.Terms.{CanStand}
+use Rattle.plan_fitting.specs.plan_posting.Allowing.{arguments_kinds, stands}
+use Rattle.plan_fitting.specs.plan_progress.Lawful.{rule_lawful}
+use Rattle.plan_fitting.specs.plan_progress.Places.{contains_map}
 use Rattle.plan_store.specs.declared.key.OpenBlock.{OpenBlock}
 use Rattle.rule_engine.proofs.Limits.{as_many}
 use Rattle.plan_store.specs.Keys.{named_block}
@@ -51,8 +51,8 @@ use Rattle.plan_values.proofs.Few.{few_of, few_rule}
 use Rattle.plan_values.proofs.Matching.{read_item}
 use Rattle.plan_values.proofs.Standing.{direct_at}
 use Rattle.plan_values.proofs.Walking.{follows_join, items_next}
-use Rattle.plan_view.specs.Seeing.{seen_state}
-use Rattle.plan_view.proofs.Seen.{put_in_order, name_stands}
+use Rattle.plan_fitting.specs.plan_view.Seeing.{seen_state}
+use Rattle.plan_fitting.proofs.plan_view.Seen.{put_in_order, name_stands}
 use Rattle.plan_edges.specs.declared.edge.NamedEdge.{NamedEdge}
 use Rattle.plan_edges.specs.Adding.{AddsEdges}
 use Rattle.plan_edges.specs.Edges.{AppendsEach}

@@ -14,11 +14,11 @@ use Rattle.model_core.specs.State.{State, IsState}
 use Rattle.model_core.specs.Tokens.{HasToken}
 use Rattle.plan_defs.specs.Terms.{InProblem}
 use Rattle.plan_defs.proofs.Members.{get_from_contains}
-use Rattle.plan_opening.specs.Underway.{IsAtRest}
+use Rattle.plan_fitting.specs.plan_opening.Underway.{IsAtRest}
 use Rattle.plan_store.specs.Stores.{Stored, snapshot_of, IsSnapshot, named_content}
 use Rattle.plan_store.proofs.Naming.{names_are_once}
-use Rattle.plan_view.specs.Seeing.{seen_state}
-use Rattle.plan_view.proofs.Seen.{have_states, put_in_order}
+use Rattle.plan_fitting.specs.plan_view.Seeing.{seen_state}
+use Rattle.plan_fitting.proofs.plan_view.Seen.{have_states, put_in_order}
 use Rattle.token_store.specs.Tokens.{TokenPast, tokens_now, token_names, IsNamedAt}
 use Rattle.plan_edges.specs.declared.edge.NamedEdge.{NamedEdge}
 use Rattle.plan_edges.specs.declared.walking.Sort.TheVariants.{Relations, Constraints}

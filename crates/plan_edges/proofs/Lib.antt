@@ -5,3 +5,4 @@ pub mod Falling
 pub mod Going
 pub mod Joining
 pub mod Settled
+pub mod plan_view

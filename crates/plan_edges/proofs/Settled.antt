@@ -13,7 +13,7 @@ use Rattle.model_core.specs.Lawful.{IsLawful}
 use Rattle.plan_defs.specs.Refusals.{NotInDomain, IsDeclared, IsAdmissible}
 use Rattle.plan_defs.specs.Settling.{SettlesAfter, IsSettled}
 use Rattle.plan_defs.proofs.Ordered.{contains_none}
-use Rattle.plan_progress.proofs.Lawful.{base_lawful}
+use Rattle.plan_fitting.specs.plan_progress.Lawful.{base_lawful}
 use Rattle.plan_edges.specs.Adding.{AreValues}
 
 value_or : (value : ℤ) → IsValue value ⊎ (IsValue value → ⊥)

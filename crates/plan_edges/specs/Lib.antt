@@ -4,3 +4,7 @@ pub mod Points
 pub mod Sites
 pub mod Walking
 pub mod Whole
+pub mod plan_opening
+pub mod plan_posting
+pub mod plan_refusals
+pub mod plan_view

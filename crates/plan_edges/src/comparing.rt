@@ -10,7 +10,7 @@ ghost use Rattle.model_core.specs.Tokens.{root_token, slot_token};
 ghost use Rattle.plan_defs.specs.Claims.{relates, part_of};
 ghost use Rattle.plan_defs.specs.Claims.{Claim};
 ghost use Rattle.plan_defs.specs.Terms.{Argument, InProblem, InRule, Means, Variable};
-ghost use Rattle.plan_posting.specs.Posted.{compares, comparisons_claim, moment_of};
+ghost use Rattle.plan_fitting.specs.plan_posting.Posted.{compares, comparisons_claim, moment_of};
 ghost use Rattle.plan_edges.specs.declared.edge.Point.{Point as Instant};
 ghost use Rattle.plan_edges.specs.Adding.{AddsEdges};
 ghost use Rattle.plan_edges.specs.Edges.{AppendsEach, HasClaimEdges, HasRelationEdges, HasConstraintEdges, comparing_edges};
@@ -24,7 +24,7 @@ use eu_name::sequence::Sequence;
 use model_core::decision::Decision;
 use model_core::item::{Item, Kind, Rel, Term};
 use model_core::model::Model;
-use plan_posting::relations::{Comparison, Moment, comparisons};
+use plan_fitting::passed_plan_posting::{Comparison, Moment, comparisons};
 use rule_engine::slot_name;
 use std::alloc::{AllocError, Global};
 

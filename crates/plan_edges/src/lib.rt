@@ -10,6 +10,8 @@ mod comparing;
 pub mod edge;
 mod gathering;
 mod lasting;
+pub mod passed_plan_refusals;
+pub mod passed_plan_view;
 mod points;
 mod walking;
 mod whole;

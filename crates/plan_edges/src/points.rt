@@ -12,7 +12,7 @@ use eu_name::laws::names_are_told_apart;
 use eu_name::name::{Part, TokenName};
 use model_core::decision::Decision;
 use model_core::model::Model;
-use plan_opening::is_fact;
+use plan_fitting::passed_plan_opening::is_fact;
 use std::alloc::AllocError;
 
 // Whether the decision activates the token.

@@ -9,7 +9,7 @@ ghost use Rattle.model_core.specs.Numbers.{items_from, turned, rule_items};
 ghost use Rattle.model_core.specs.Tokens.{HasToken};
 ghost use Rattle.token_store.specs.Tokens.{tokens_now, token_names};
 ghost use Rattle.plan_values.specs.Walks.{HasRuleOf, items_of};
-ghost use Rattle.plan_view.specs.Seeing.{seen_state};
+ghost use Rattle.plan_fitting.specs.plan_view.Seeing.{seen_state};
 ghost use Rattle.plan_edges.specs.Adding.{AddsEdges};
 ghost use Rattle.plan_edges.specs.Edges.{AppendsEach};
 ghost use Rattle.plan_edges.specs.Sites.{HasShortSlots};

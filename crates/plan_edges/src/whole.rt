@@ -5,9 +5,9 @@ ghost use Rattle.model_core.specs.declared.rule.Slot.{Slot};
 ghost use Rattle.model_core.specs.Lawful.{IsLawful};
 ghost use Rattle.model_core.specs.Tokens.{HasToken};
 ghost use Rattle.plan_defs.specs.Settling.{IsSettled};
-ghost use Rattle.plan_opening.specs.Underway.{IsAtRest};
+ghost use Rattle.plan_fitting.specs.plan_opening.Underway.{IsAtRest};
 ghost use Rattle.plan_store.specs.Stores.{snapshot_of};
-ghost use Rattle.plan_view.specs.Seeing.{seen_state};
+ghost use Rattle.plan_fitting.specs.plan_view.Seeing.{seen_state};
 ghost use Rattle.plan_edges.specs.Adding.{AddsEdges, AreValues, HaveDurations};
 ghost use Rattle.plan_edges.specs.Edges.{AppendsEach};
 ghost use Rattle.plan_edges.specs.Whole.{AreTimeEdges, HasTokenEdges};
@@ -20,8 +20,8 @@ use eu_name::name::TokenName;
 use model_core::decision::Decision;
 use model_core::model::Model;
 use model_core::view::View;
+use plan_fitting::passed_plan_view::StoreView;
 use plan_store::Store;
-use plan_view::StoreView;
 use std::alloc::{AllocError, Global};
 
 // The edges of the items of this sort in open blocks.

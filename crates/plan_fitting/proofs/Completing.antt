@@ -25,15 +25,15 @@ use Rattle.plan_defs.specs.Support.{Opens, IsSupportedToken, IsSupportedBlock}
 use Rattle.plan_defs.specs.Terms.{InRule}
 use Rattle.plan_defs.proofs.Lower.{Further, HasBlock-map, further_below, opens_further, supported_further, block_further}
 use Rattle.plan_defs.proofs.Members.{get_from_contains, contains_from_get, get_below, get_within, get_same}
-use Rattle.plan_growth.specs.Content.{Content, shown, AreAlike}
-use Rattle.plan_growth.specs.Growth.{IsWhole, block_at}
-use Rattle.plan_growth.specs.Laws.{HasAllSupported}
-use Rattle.plan_growth.proofs.Alike.{alike_below, alike_back}
-use Rattle.plan_growth.proofs.Supporting.{has_all}
-use Rattle.plan_opening.specs.Underway.{IsAtRest}
-use Rattle.plan_progress.specs.Progress.{MissesNothing}
-use Rattle.plan_progress.proofs.Blocks.{block_once}
-use Rattle.plan_progress.proofs.Ending as ending
+use Rattle.plan_store.specs.plan_growth.Content.{Content, shown, AreAlike}
+use Rattle.plan_store.specs.plan_growth.Growth.{IsWhole, block_at}
+use Rattle.plan_store.specs.plan_growth.Laws.{HasAllSupported}
+use Rattle.plan_store.specs.plan_growth.Alike.{alike_below, alike_back}
+use Rattle.plan_store.specs.plan_growth.Supporting.{has_all}
+use Rattle.plan_refusals.specs.plan_opening.Underway.{IsAtRest}
+use Rattle.plan_refusals.specs.plan_progress.Progress.{MissesNothing}
+use Rattle.plan_refusals.specs.plan_progress.Blocks.{block_once}
+use Rattle.plan_refusals.specs.plan_progress.Ending as ending
 use Rattle.plan_store.specs.declared.key.OpenBlock.{OpenBlock}
 use Rattle.plan_store.specs.Keys.{named_block}
 use Rattle.plan_store.specs.Stores.{Stored, snapshot_of, IsSnapshot, named_content}
@@ -45,8 +45,8 @@ use Rattle.plan_refusals.specs.Judging.{IsKeptAs, AreTold}
 use Rattle.plan_refusals.proofs.Told.{inactive_undecided, other_decided, kept_has}
 use Rattle.plan_refusals.proofs.Full.{kept_somehow}
 use Rattle.plan_refusals.proofs.Resting.{rest_told}
-use Rattle.plan_view.specs.InOrder.{state_of}
-use Rattle.plan_view.proofs.Seen.{put_in_order}
+use Rattle.plan_refusals.specs.plan_view.InOrder.{state_of}
+use Rattle.plan_refusals.proofs.plan_view.Seen.{put_in_order}
 use Rattle.plan_fitting.specs.Completeness.{AreAllDecided, IsRootOut, block_behind, IsSettledBranch, AreAllSettled, AreBlocksOf}
 use Rattle.plan_fitting.proofs.Branching.{last_turn}
 

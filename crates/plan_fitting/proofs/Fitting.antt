@@ -8,17 +8,17 @@ use Rattle.model_core.specs.State.{State}
 use Rattle.plan_defs.specs.Closure.{IsLeast, IsCollapsed}
 use Rattle.plan_defs.specs.Resources.{FitReusables, FitReservoirs}
 use Rattle.plan_defs.specs.Settling.{IsSettled}
-use Rattle.plan_growth.specs.Laws.{IsTop, ResourcesDecide}
-use Rattle.plan_opening.specs.Underway.{IsAtRest}
-use Rattle.plan_progress.proofs.Ending as ending
+use Rattle.plan_store.specs.plan_growth.Laws.{IsTop, ResourcesDecide}
+use Rattle.plan_refusals.specs.plan_opening.Underway.{IsAtRest}
+use Rattle.plan_refusals.specs.plan_progress.Ending as ending
 use Rattle.plan_resources.specs.Actors.{IsSoundView}
 use Rattle.plan_resources.specs.Fits.{FitLevels}
 use Rattle.plan_store.specs.Stores.{Stored, snapshot_of, IsSnapshot, named_content}
 use Rattle.plan_store.proofs.Naming.{names_are_once}
 use Rattle.timeline_core.specs.Unordered.{AreDecidedOnce}
 use Rattle.token_store.specs.Tokens.{tokens_now}
-use Rattle.plan_view.specs.Seeing.{seen_state}
-use Rattle.plan_view.proofs.Seen.{have_states, one_state}
+use Rattle.plan_refusals.specs.plan_view.Seeing.{seen_state}
+use Rattle.plan_refusals.proofs.plan_view.Seen.{have_states, one_state}
 use Rattle.plan_fitting.specs.Completeness.{AreAllDecided, AreAllSettled}
 use Rattle.plan_fitting.proofs.Completing.{alike, misses, complete_from, complete_decided, complete_settled}
 

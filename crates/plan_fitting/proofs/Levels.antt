@@ -23,14 +23,14 @@ use Rattle.model_core.specs.State.{Gives}
 use Rattle.model_core.specs.Tokens.{root_token}
 use Rattle.plan_defs.specs.Resources.{IsActor, SurelyChanges, MayChange, IsHighChange, IsLowChange, StaysWithin, IsOfRejected, IsTokenComplete, FitReservoirs}
 use Rattle.plan_defs.proofs.Members.{contains_from_get}
-use Rattle.plan_growth.proofs.Chosen.{filled}
-use Rattle.plan_opening.specs.Underway.{IsAtRest}
+use Rattle.plan_store.specs.plan_growth.Chosen.{filled}
+use Rattle.plan_refusals.specs.plan_opening.Underway.{IsAtRest}
 use Rattle.plan_store.specs.declared.key.OpenBlock.{OpenBlock}
 use Rattle.plan_store.specs.Keys.{named_block}
 use Rattle.plan_store.specs.Stamps.{StampsGoOn}
 use Rattle.plan_store.specs.StoreMarks.{AreFirst}
 use Rattle.plan_store.specs.Stores.{Stored, snapshot_of, IsSnapshot}
-use Rattle.plan_view.specs.Seeing.{seen_state}
+use Rattle.plan_refusals.specs.plan_view.Seeing.{seen_state}
 use Rattle.timeline_core.specs.Unordered.{AreDecidedOnce}
 use Rattle.token_store.specs.Tokens.{tokens_now}
 use Rattle.plan_fitting.specs.declared.touched.Resources.TheVariants.{Reservoirs}

@@ -5,3 +5,6 @@ pub mod Levels
 pub mod Looping
 pub mod Opened
 pub mod Remaining
+pub mod plan_opening
+pub mod plan_refusals
+pub mod plan_view

@@ -10,8 +10,8 @@ use Rattle.model_core.specs.Entries.{Entries}
 use Rattle.model_core.specs.Lawful.{IsLawful}
 use Rattle.plan_store.specs.declared.key.OpenBlock.{OpenBlock}
 use Rattle.plan_store.specs.Keys.{named_block}
-use Rattle.rule_engine.proofs.Finding.{found_by}
-use Rattle.rule_engine.proofs.Limits.{block_short}
+use Rattle.plan_refusals.specs.rule_engine.Finding.{found_by}
+use Rattle.plan_refusals.specs.rule_engine.Limits.{block_short}
 
 -- the block, where its token has this name and its way is this
 pub is_at : (model : Model) (names : List TokenName) (block : OpenBlock) (token : TokenName) (path : List Turn) (entries : Entries) → Some token ≡ slice_get names block.token

@@ -25,9 +25,9 @@ use Rattle.token_store.specs.declared.trail.Token.{Token as Kept}
 use Rattle.timeline_core.specs.Unordered.{AreDecidedOnce}
 use Rattle.plan_defs.specs.Resources.{IsActor, SurelyUses, IsShare, KeepsCapacity, FitReusables}
 use Rattle.plan_defs.proofs.Members.{get_from_contains, contains_from_get, get_below, get_within}
-use Rattle.plan_growth.specs.Content.{Content, shown, AreAlike}
-use Rattle.plan_growth.proofs.Chosen.{filled}
-use Rattle.plan_opening.specs.Underway.{IsAtRest}
+use Rattle.plan_store.specs.plan_growth.Content.{Content, shown, AreAlike}
+use Rattle.plan_store.specs.plan_growth.Chosen.{filled}
+use Rattle.plan_refusals.specs.plan_opening.Underway.{IsAtRest}
 use Rattle.plan_store.specs.declared.key.VarKey.{VarKey}
 use Rattle.plan_store.specs.declared.key.VarKey.TheVariants as key
 use Rattle.plan_store.specs.Keys.{named_variable, IsKeyBelow}
@@ -38,8 +38,8 @@ use Rattle.plan_store.proofs.Naming.{gives_by_number, names_are_once, length_nam
 use Rattle.plan_refusals.specs.Judging.{AreTold, IsKeptAs}
 use Rattle.plan_refusals.proofs.Resting.{rest_told}
 use Rattle.plan_refusals.proofs.Told.{active_kept}
-use Rattle.plan_view.specs.Seeing.{seen_state}
-use Rattle.plan_view.proofs.Seen.{put_in_order, name_stands}
+use Rattle.plan_refusals.specs.plan_view.Seeing.{seen_state}
+use Rattle.plan_refusals.proofs.plan_view.Seen.{put_in_order, name_stands}
 use Rattle.plan_fitting.specs.declared.touched.Resources.{Resources}
 use Rattle.plan_fitting.specs.declared.touched.Resources.TheVariants.{Reusables}
 use Rattle.plan_fitting.specs.Touching.{ActsOn, IsIdleAt, AreActorsAsBefore}

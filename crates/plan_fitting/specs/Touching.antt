@@ -13,13 +13,13 @@ use Rattle.model_core.specs.declared.view.TokenState.{TokenState}
 use Rattle.token_store.specs.Tokens.{TokenList, tokens_now, token_names, token_preds, token_states}
 use Rattle.timeline_core.specs.Unordered.{TakesPlace}
 use Rattle.plan_defs.specs.Closure.{IsLeast}
-use Rattle.plan_opening.specs.Underway.{IsAtRest}
+use Rattle.plan_refusals.specs.plan_opening.Underway.{IsAtRest}
 use Rattle.plan_store.specs.declared.key.VarKey.TheVariants as key
 use Rattle.plan_store.specs.declared.store.Mark.{Mark}
 use Rattle.plan_store.specs.Stamps.{StampsGoOn}
 use Rattle.plan_store.specs.StoreMarks.{IsStoreMark}
 use Rattle.plan_store.specs.Stores.{Stored, Snapshot, snapshot_of}
-use Rattle.plan_view.specs.Seeing.{seen_state}
+use Rattle.plan_refusals.specs.plan_view.Seeing.{seen_state}
 use Rattle.plan_fitting.specs.declared.touched.Resources.{Resources}
 use Rattle.plan_fitting.specs.declared.touched.Resources.TheVariants.{Reusables, Reservoirs}
 

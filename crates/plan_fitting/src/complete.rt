@@ -18,10 +18,10 @@ use model_core::item::Term;
 use model_core::model::Model;
 use model_core::rule::{Entry, Guard, Side, Turn};
 use model_core::view::TokenState;
-use plan_posting::is_rejectable;
+use plan_refusals::passed_plan_posting::is_rejectable;
+use plan_refusals::passed_rule_engine::block_of;
 use plan_refusals::state_of;
 use plan_store::{OpenBlock, Store};
-use rule_engine::block_of;
 use std::alloc::{AllocError, Global};
 use token_store::Tokens;
 

@@ -5,19 +5,19 @@ ghost use Rattle.model_core.specs.Lawful.{IsLawful};
 ghost use Rattle.plan_defs.specs.Closure.{IsLeast, IsCollapsed};
 ghost use Rattle.plan_defs.specs.Resources.{FitReusables, FitReservoirs};
 ghost use Rattle.plan_defs.specs.Settling.{IsSettled};
-ghost use Rattle.plan_opening.specs.Underway.{IsAtRest};
+ghost use Rattle.plan_refusals.specs.plan_opening.Underway.{IsAtRest};
 ghost use Rattle.plan_store.specs.Stores.{snapshot_of};
-ghost use Rattle.plan_view.specs.Seeing.{seen_state};
+ghost use Rattle.plan_refusals.specs.plan_view.Seeing.{seen_state};
 ghost use Rattle.plan_fitting.specs.Touching.{FittedAt};
 
 use super::complete::{are_all_decided, are_all_settled};
 use super::touched::{Resources, are_actors_as_before, are_levels_as_before};
 use model_core::decision::Decision;
 use model_core::model::Model;
-use plan_growth::laws::resources_decide;
+use plan_refusals::passed_plan_view::StoreView;
 use plan_resources::{has_reservoir, reservoirs_fit, reusables_fit};
+use plan_store::passed_plan_growth::resources_decide;
 use plan_store::{Mark, Store};
-use plan_view::StoreView;
 use std::alloc::{AllocError, Global};
 use timeline_core::unordered::settled_lists_decide_once;
 

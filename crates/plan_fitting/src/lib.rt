@@ -9,6 +9,10 @@
 
 mod complete;
 mod fit;
+pub mod passed_plan_opening;
+pub mod passed_plan_posting;
+pub mod passed_plan_refusals;
+pub mod passed_plan_view;
 mod touched;
 
 pub use fit::{resources_fit, resources_fit_since};

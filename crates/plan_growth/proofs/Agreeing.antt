@@ -3,7 +3,7 @@ use Rattle.std.proofs.Common.{◌≡◌, ℕ, List, [], ◌∷◌, ◌++◌, Som
 use Rattle.std.specs.Prelude.{slice_get}
 use Rattle.std.specs.List.{AllZip}
 use Rattle.std.proofs.lemmas.Option.{get_or_from_slice_get}
-use Rattle.domain_core.specs.Domain.{Domain, Range}
+use Rattle.model_core.specs.domain_core.Domain.{Domain, Range}
 use Rattle.eu_name.specs.declared.name.VarName.{VarName}
 use Rattle.model_core.specs.declared.item.Kind.{Kind}
 use Rattle.model_core.specs.declared.item.Kind.TheVariants.{Field}
@@ -11,7 +11,7 @@ use Rattle.model_core.specs.declared.model.Model.{Model}
 use Rattle.model_core.specs.Consistency.{Values, AreConsistent}
 use Rattle.model_core.specs.Constraints.{AgreeOn, IsFieldOf}
 use Rattle.model_core.specs.State.{State, Gives, AreInOrder}
-use Rattle.narrow_core.specs.declared.field.Field as tables
+use Rattle.constraint_net.specs.narrow_core.Field as tables
 use Rattle.constraint_net.specs.Arguments.{domain_of, domains_of}
 use Rattle.constraint_net.specs.Networks.{field_of, IsConsistent}
 use Rattle.constraint_net.specs.declared.constraint.Constraint.{Constraint}

@@ -2,8 +2,8 @@
 use Rattle.std.proofs.Common.{List, ◌⊎◌}
 use Rattle.std.specs.Prelude.{Contains, AllPairs, All, ◌≢◌}
 use Rattle.std.proofs.lemmas.List.Elements.{All-contains}
-use Rattle.domain_core.specs.Domain.{IsDomain}
-use Rattle.domain_core.proofs.Words.{IsWithin-refl}
+use Rattle.model_core.specs.domain_core.Domain.{IsDomain}
+use Rattle.model_core.specs.domain_core.Words.{IsWithin-refl}
 use Rattle.eu_name.specs.declared.name.TokenName.{TokenName}
 use Rattle.eu_name.specs.declared.name.VarName.{VarName}
 use Rattle.eu_name.specs.declared.name.VarName.TheVariants.{Token, Local, Global}

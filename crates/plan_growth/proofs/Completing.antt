@@ -2,8 +2,8 @@
 use Rattle.std.proofs.Common.{◌≡◌, ℕ, ℤ, List, [], ◌∷◌, ◌++◌, ◌⊎◌, inl, inr, refl, sym, ◌∙◌, subst, append_assoc, append-nil, arith}
 use Rattle.std.proofs.lemmas.Int.{ints}
 use Rattle.std.specs.Prelude.{Contains}
-use Rattle.domain_core.specs.Domain.{Domain, Has, least}
-use Rattle.domain_core.proofs.Words.{has_least}
+use Rattle.model_core.specs.domain_core.Domain.{Domain, Has, least}
+use Rattle.model_core.specs.domain_core.Words.{has_least}
 use Rattle.eu_name.specs.declared.name.Step.{Step}
 use Rattle.eu_name.specs.declared.name.TokenName.{TokenName}
 use Rattle.model_core.specs.declared.decision.Decision.{Decision}

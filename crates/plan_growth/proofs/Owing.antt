@@ -1,7 +1,7 @@
 -- What a content above all consistent states asks for, each of them has.
 use Rattle.std.proofs.Common.{List, [], ◌++◌, inl, inr, subst}
 use Rattle.std.specs.Prelude.{Contains}
-use Rattle.domain_core.specs.Domain.{Domain, IsWithin}
+use Rattle.model_core.specs.domain_core.Domain.{Domain, IsWithin}
 use Rattle.eu_name.specs.declared.name.TokenName.{TokenName}
 use Rattle.eu_name.specs.declared.name.VarName.{VarName}
 use Rattle.model_core.specs.declared.decision.Decision.{Decision}

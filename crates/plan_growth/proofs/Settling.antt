@@ -2,13 +2,13 @@
 use Rattle.std.proofs.Common.{◌≡◌, ℕ, ◌<◌, suc, zero, List, [], ◌∷◌, length, Some, Ok, Err, refl, ap, ◌∙◌, subst, arith}
 use Rattle.std.specs.Prelude.{Result, slice_get}
 use Rattle.std.specs.List.{AllZip}
-use Rattle.domain_core.specs.Domain.{Domain, IsDomain, IsWithin}
+use Rattle.model_core.specs.domain_core.Domain.{Domain, IsDomain, IsWithin}
 use Rattle.eu_name.specs.declared.name.VarName.{VarName}
 use Rattle.model_core.specs.declared.decision.Decision.{Decision}
 use Rattle.model_core.specs.declared.model.Model.{Model}
 use Rattle.model_core.specs.State.{State, Gives, IsBelow}
-use Rattle.narrow_core.specs.declared.field.Field.{Field}
-use Rattle.narrow_core.specs.Laws.{LieWithin}
+use Rattle.constraint_net.specs.narrow_core.Field.{Field}
+use Rattle.constraint_net.specs.narrow_core.Laws.{LieWithin}
 use Rattle.constraint_net.specs.Networks.{AllConsistent, IsConsistent}
 use Rattle.constraint_net.specs.Steps.{FitWithin, Advances, SettlesTo}
 use Rattle.constraint_net.specs.declared.NetFault.{NetFault}

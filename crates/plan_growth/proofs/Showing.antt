@@ -1,7 +1,7 @@
 -- What a content gives, by the numbers of its variables.
 use Rattle.std.proofs.Common.{◌≡◌, ℕ, suc, zero, List, [], ◌∷◌, length, Some, inl, inr, refl, ap, subst, arith}
 use Rattle.std.specs.Prelude.{Contains, AllPairs, slice_get, ◌≢◌}
-use Rattle.domain_core.specs.Domain.{Domain}
+use Rattle.model_core.specs.domain_core.Domain.{Domain}
 use Rattle.eu_name.specs.declared.name.VarName.{VarName}
 use Rattle.model_core.specs.State.{VarDomain}
 use Rattle.plan_defs.proofs.Members.{get_from_contains, contains_from_get, get_below, get_within}

@@ -5,7 +5,7 @@ use Rattle.eu_name.specs.declared.name.VarName.{VarName}
 use Rattle.model_core.specs.declared.decision.Decision.{Decision}
 use Rattle.model_core.specs.declared.model.Model.{Model}
 use Rattle.model_core.specs.State.{State}
-use Rattle.narrow_core.specs.declared.field.Field.{Field}
+use Rattle.constraint_net.specs.narrow_core.Field.{Field}
 use Rattle.constraint_net.specs.Networks.{field_of}
 use Rattle.constraint_net.specs.declared.constraint.Constraint.{Constraint}
 use Rattle.constraint_net.specs.declared.constraint.NetArg.{NetArg}

@@ -1,6 +1,6 @@
 -- What is kept of a state on the way to it: tokens, open blocks and variables, in the order in which they came.
 use Rattle.std.specs.Prelude.{◌≡◌, ◌≢◌, ◌↔◌, List, [], ◌∷◌, length, All, AllPairs, Contains}
-use Rattle.domain_core.specs.Domain.{Domain, IsDomain}
+use Rattle.model_core.specs.domain_core.Domain.{Domain, IsDomain}
 use Rattle.eu_name.specs.declared.name.TokenName.{TokenName}
 use Rattle.eu_name.specs.declared.name.VarName.{VarName}
 use Rattle.model_core.specs.declared.model.Model.{Model}

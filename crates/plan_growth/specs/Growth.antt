@@ -1,6 +1,6 @@
 -- How what is kept grows towards the least state: what comes is what every consistent state has.
 use Rattle.std.specs.Prelude.{◌≡◌, ◌⊎◌, ℕ, List, [], Some, slice_get, Contains}
-use Rattle.domain_core.specs.Domain.{Domain}
+use Rattle.model_core.specs.domain_core.Domain.{Domain}
 use Rattle.eu_name.specs.declared.name.TokenName.{TokenName}
 use Rattle.eu_name.specs.declared.name.VarName.{VarName}
 use Rattle.model_core.specs.declared.decision.Decision.{Decision}
@@ -17,7 +17,7 @@ use Rattle.model_core.specs.Numbers.{turned}
 use Rattle.model_core.specs.State.{State, Gives, IsBelow}
 use Rattle.model_core.specs.Tokens.{IsRoot, root_token, slot_token}
 use Rattle.model_core.specs.Variables.{HasBase}
-use Rattle.narrow_core.specs.declared.field.Field.{Field}
+use Rattle.constraint_net.specs.narrow_core.Field.{Field}
 use Rattle.constraint_net.specs.Networks.{AllConsistent}
 use Rattle.constraint_net.specs.declared.constraint.Constraint.{Constraint}
 use Rattle.plan_defs.specs.Claims.{Claim, IsClaim, part_of, at_most}

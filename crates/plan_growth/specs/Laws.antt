@@ -1,6 +1,6 @@
 -- What is proved of the growth.
 use Rattle.std.specs.Prelude.{◌⊎◌, List, [], ◌++◌, Contains, Result, Ok, Err}
-use Rattle.domain_core.specs.Domain.{Domain}
+use Rattle.model_core.specs.domain_core.Domain.{Domain}
 use Rattle.eu_name.specs.declared.name.TokenName.{TokenName}
 use Rattle.eu_name.specs.declared.name.VarName.{VarName}
 use Rattle.model_core.specs.declared.decision.Decision.{Decision}
@@ -11,7 +11,7 @@ use Rattle.model_core.specs.Decided.{IsActive, IsTaken, IsRejected}
 use Rattle.model_core.specs.Entries.{Entries}
 use Rattle.model_core.specs.State.{State, IsAbout, IsState, IsBelow}
 use Rattle.model_core.specs.Variables.{HasBase}
-use Rattle.narrow_core.specs.declared.field.Field.{Field}
+use Rattle.constraint_net.specs.narrow_core.Field.{Field}
 use Rattle.constraint_net.specs.Networks.{AllConsistent}
 use Rattle.constraint_net.specs.Steps.{SettlesTo}
 use Rattle.constraint_net.specs.declared.NetFault.{NetFault}

@@ -5,3 +5,6 @@
 #![tactic(auto)]
 
 pub mod laws;
+pub mod passed_cell_store;
+pub mod passed_constraint_net;
+pub mod passed_model_core;

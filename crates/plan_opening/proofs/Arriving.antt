@@ -23,7 +23,7 @@ use Rattle.model_core.specs.Tokens.{HasToken}
 use Rattle.model_core.specs.TokenStates.{HasTokenState}
 use Rattle.model_core.specs.Variables.{HasBase, HasPartBase}
 use Rattle.model_core.proofs.Leading.{token_once}
-use Rattle.narrow_core.specs.declared.field.Field.{Field}
+use Rattle.constraint_net.specs.narrow_core.Field.{Field}
 use Rattle.constraint_net.specs.declared.NetFault.{NetFault}
 use Rattle.constraint_net.specs.declared.NetFault.TheVariants.{Collapsed, Memory}
 use Rattle.constraint_net.specs.declared.constraint.Constraint.{Constraint}
@@ -35,23 +35,23 @@ use Rattle.plan_defs.specs.Situations.{situation_of}
 use Rattle.plan_defs.specs.Support.{IsSupportedToken}
 use Rattle.plan_defs.proofs.Members.{get_below, get_from_contains, get_all}
 use Rattle.plan_defs.proofs.Ordered.{contains_none}
-use Rattle.plan_growth.specs.Claims.{IsPostedIn}
-use Rattle.plan_growth.specs.Content.{Content, shown, IsContent}
-use Rattle.plan_growth.specs.Growth.{LeaveNothing, IsAboveAll}
-use Rattle.plan_growth.proofs.Owing.{no_void, asked_is_owed}
-use Rattle.plan_progress.specs.Coming.{TokenComes}
-use Rattle.plan_progress.specs.Progress.{IsJustified, MissesNothing}
-use Rattle.plan_progress.proofs.Coming.{names_kept}
-use Rattle.plan_progress.proofs.Growing.{token_justified}
-use Rattle.plan_progress.proofs.Keeping.{token_misses}
-use Rattle.plan_progress.proofs.Mapping.{posted_kept}
-use Rattle.plan_progress.proofs.Places.{contains_map, get_front}
-use Rattle.plan_store.specs.Keys.{named_variable, named_block, IsKeyBelow}
-use Rattle.plan_store.specs.Stores.{Stored, snapshot_of, IsSnapshot}
-use Rattle.plan_store.specs.declared.key.VarKey.{VarKey}
-use Rattle.plan_store.specs.declared.key.VarKey.TheVariants as keys
-use Rattle.plan_store.proofs.Naming.{names_are_once, length_names, token_is_added}
-use Rattle.plan_store.proofs.Snapshots.{names_push}
+use Rattle.plan_posting.specs.plan_growth.Claims.{IsPostedIn}
+use Rattle.plan_posting.specs.plan_growth.Content.{Content, shown, IsContent}
+use Rattle.plan_posting.specs.plan_growth.Growth.{LeaveNothing, IsAboveAll}
+use Rattle.plan_posting.specs.plan_growth.Owing.{no_void, asked_is_owed}
+use Rattle.plan_posting.specs.plan_progress.Coming.{TokenComes}
+use Rattle.plan_posting.specs.plan_progress.Progress.{IsJustified, MissesNothing}
+use Rattle.plan_posting.specs.plan_progress.ComingLemmas.{names_kept}
+use Rattle.plan_posting.specs.plan_progress.Growing.{token_justified}
+use Rattle.plan_posting.specs.plan_progress.Keeping.{token_misses}
+use Rattle.plan_posting.specs.plan_progress.Mapping.{posted_kept}
+use Rattle.plan_posting.specs.plan_progress.Places.{contains_map, get_front}
+use Rattle.plan_posting.specs.plan_store.Keys.{named_variable, named_block, IsKeyBelow}
+use Rattle.plan_posting.specs.plan_store.Stores.{Stored, snapshot_of, IsSnapshot}
+use Rattle.plan_posting.specs.plan_store.VarKey.{VarKey}
+use Rattle.plan_posting.specs.plan_store.VarKey.TheVariants as keys
+use Rattle.plan_posting.proofs.plan_store.Naming.{names_are_once, length_names, token_is_added}
+use Rattle.plan_posting.proofs.plan_store.Snapshots.{names_push}
 use Rattle.plan_posting.specs.Counting.{AreTokenStates}
 use Rattle.plan_posting.specs.Origins.{content_now}
 use Rattle.plan_opening.specs.Arriving.{AskForToken, WantsSomePart, BringsToken, BringsOrFails}

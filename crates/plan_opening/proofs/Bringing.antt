@@ -8,9 +8,9 @@ use Rattle.model_core.specs.declared.variable.Base.{Base}
 use Rattle.model_core.specs.declared.variable.Base.TheVariants.{Given, Void}
 use Rattle.constraint_net.specs.declared.NetFault.{NetFault}
 use Rattle.constraint_net.specs.declared.NetFault.TheVariants.{Collapsed, Memory}
-use Rattle.plan_store.specs.declared.key.VarKey.{VarKey}
-use Rattle.plan_store.specs.Puts.{PutsVariable, with_variable}
-use Rattle.plan_store.specs.Stores.{Stored}
+use Rattle.plan_posting.specs.plan_store.VarKey.{VarKey}
+use Rattle.plan_posting.specs.plan_store.Puts.{PutsVariable, with_variable}
+use Rattle.plan_posting.specs.plan_store.Stores.{Stored}
 use Rattle.plan_opening.specs.Bringing.{KeyDomain, KeepsRest, BringsKeys, Brings}
 
 abbrev pub key_of : KeyDomain → VarKey

@@ -5,3 +5,4 @@ pub mod Locals
 pub mod Opening
 pub mod Arriving
 pub mod Parting
+pub mod plan_store

@@ -3,7 +3,7 @@ use Rattle.std.proofs.Common.{◌≡◌, ℕ, zero, suc, List, [], ◌∷◌, �
 use Rattle.std.specs.Prelude.{◌≢◌, AllPairs, Contains, slice_get}
 use Rattle.std.proofs.lemmas.List.Elements.{Contains-push}
 use Rattle.plan_defs.proofs.Ordered.{contains_head, contains_later, contains_cases, contains_none, ordered_head, ordered_tail, ordered_none, ordered_cons}
-use Rattle.plan_progress.proofs.Places.{contains_map, get_cases}
+use Rattle.plan_posting.specs.plan_progress.Places.{contains_map, get_cases}
 
 pub contains_unmap : {X Y : Type 0} (f : X → Y) (xs : List X) (y : Y) → Contains (map f xs) y → (x : X) × Contains xs x × (f x ≡ y)
 contains_unmap f [] y there = absurd (contains_none y there)

@@ -12,9 +12,9 @@ use Rattle.model_core.specs.declared.variable.VarDecl.{VarDecl}
 use Rattle.model_core.specs.Tokens.{HasRule}
 use Rattle.constraint_net.specs.declared.NetFault.{NetFault}
 use Rattle.plan_defs.proofs.Ordered.{contains_none}
-use Rattle.plan_store.specs.declared.key.VarKey.{VarKey}
-use Rattle.plan_store.specs.declared.key.VarKey.TheVariants.{Local}
-use Rattle.plan_store.specs.Stores.{Stored}
+use Rattle.plan_posting.specs.plan_store.VarKey.{VarKey}
+use Rattle.plan_posting.specs.plan_store.VarKey.TheVariants.{Local}
+use Rattle.plan_posting.specs.plan_store.Stores.{Stored}
 use Rattle.plan_opening.specs.Bringing.{BringsKeys, Brings}
 use Rattle.plan_opening.specs.Wanted.{WantsLocal, WantsLocals, IsNamedLocal, IsDeclaredLocal}
 use Rattle.plan_opening.proofs.Bringing.{brings_nothing, brings_as, brings_joined, fails_as}

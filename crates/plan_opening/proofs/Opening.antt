@@ -22,36 +22,36 @@ use Rattle.model_core.specs.State.{VarDomain, StandsOpen}
 use Rattle.model_core.specs.Tokens.{HasToken}
 use Rattle.model_core.specs.TokenStates.{HasTokenState}
 use Rattle.model_core.specs.Variables.{HasBase}
-use Rattle.rule_engine.specs.Contents.{AreAdditions}
-use Rattle.rule_engine.specs.Lists.{locals_in}
-use Rattle.rule_engine.specs.declared.block.Additions.{Additions}
+use Rattle.plan_posting.specs.rule_engine.Contents.{AreAdditions}
+use Rattle.plan_posting.specs.rule_engine.Lists.{locals_in}
+use Rattle.plan_posting.specs.rule_engine.Additions.{Additions}
 use Rattle.token_store.specs.Orders.{name_at}
 use Rattle.token_store.specs.Tokens.{TokenList, TokenPast, tokens_now, token_names, token_preds, token_states}
 use Rattle.constraint_net.specs.declared.NetFault.{NetFault}
 use Rattle.constraint_net.specs.declared.NetFault.TheVariants.{Collapsed, Memory}
-use Rattle.narrow_core.specs.declared.field.Field.{Field}
+use Rattle.constraint_net.specs.narrow_core.Field.{Field}
 use Rattle.constraint_net.specs.declared.constraint.Constraint.{Constraint}
 use Rattle.plan_defs.proofs.Lower.{HasBlock-map}
 use Rattle.plan_defs.proofs.Members.{get_from_contains, contains_from_get, all_from_get, get_all}
 use Rattle.plan_defs.proofs.Ordered.{contains_head, contains_later, contains_cases, contains_none}
-use Rattle.plan_growth.specs.Content.{Content, shown, IsContent}
-use Rattle.plan_growth.specs.Growth.{LeaveNothing}
-use Rattle.plan_growth.proofs.Owing.{no_void, asked_is_owed}
-use Rattle.plan_progress.specs.Coming.{BlockComes}
-use Rattle.plan_progress.specs.Progress.{IsJustified, MissesNothing}
-use Rattle.plan_progress.proofs.Blocks.{block_once}
-use Rattle.plan_progress.proofs.Coming.{local_once}
-use Rattle.plan_progress.proofs.Growing.{block_justified}
-use Rattle.plan_progress.proofs.Keeping.{block_misses}
-use Rattle.plan_progress.proofs.Lawful.{rule_lawful}
-use Rattle.plan_progress.proofs.Places.{contains_map, get_front, get_cases}
-use Rattle.plan_store.specs.Keys.{named_variable, named_block}
-use Rattle.plan_store.specs.Puts.{PutsBlock}
-use Rattle.plan_store.specs.Stores.{Stored, snapshot_of, IsSnapshot, named_content}
-use Rattle.plan_store.specs.declared.key.OpenBlock.{OpenBlock}
-use Rattle.plan_store.specs.declared.key.VarKey.{VarKey}
-use Rattle.plan_store.specs.declared.key.VarKey.TheVariants.{Local}
-use Rattle.plan_store.proofs.Naming.{names_are_once, length_names}
+use Rattle.plan_posting.specs.plan_growth.Content.{Content, shown, IsContent}
+use Rattle.plan_posting.specs.plan_growth.Growth.{LeaveNothing}
+use Rattle.plan_posting.specs.plan_growth.Owing.{no_void, asked_is_owed}
+use Rattle.plan_posting.specs.plan_progress.Coming.{BlockComes}
+use Rattle.plan_posting.specs.plan_progress.Progress.{IsJustified, MissesNothing}
+use Rattle.plan_posting.specs.plan_progress.Blocks.{block_once}
+use Rattle.plan_posting.specs.plan_progress.ComingLemmas.{local_once}
+use Rattle.plan_posting.specs.plan_progress.Growing.{block_justified}
+use Rattle.plan_posting.specs.plan_progress.Keeping.{block_misses}
+use Rattle.plan_posting.specs.plan_progress.Lawful.{rule_lawful}
+use Rattle.plan_posting.specs.plan_progress.Places.{contains_map, get_front, get_cases}
+use Rattle.plan_posting.specs.plan_store.Keys.{named_variable, named_block}
+use Rattle.plan_posting.specs.plan_store.Puts.{PutsBlock}
+use Rattle.plan_posting.specs.plan_store.Stores.{Stored, snapshot_of, IsSnapshot, named_content}
+use Rattle.plan_posting.specs.plan_store.OpenBlock.{OpenBlock}
+use Rattle.plan_posting.specs.plan_store.VarKey.{VarKey}
+use Rattle.plan_posting.specs.plan_store.VarKey.TheVariants.{Local}
+use Rattle.plan_posting.proofs.plan_store.Naming.{names_are_once, length_names}
 use Rattle.plan_opening.specs.Bringing.{KeyDomain, BringsKeys, Brings}
 use Rattle.plan_opening.specs.Opened.{AreLocalsOf, AskForBlock, OpensBlock, OpensOrFails}
 use Rattle.plan_posting.specs.Counting.{AreTokenStates}

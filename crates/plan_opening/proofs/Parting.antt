@@ -33,11 +33,11 @@ use Rattle.token_store.specs.declared.trail.Token.{Token}
 use Rattle.plan_defs.specs.Claims.{lasts}
 use Rattle.plan_defs.proofs.Members.{get_below, get_same, get_within, contains_from_get, all_from_get}
 use Rattle.plan_defs.proofs.Ordered.{contains_head, contains_later, contains_cases, contains_none}
-use Rattle.plan_store.specs.Puts.{PutsToken, PutsVariable}
-use Rattle.plan_store.specs.Stores.{Stored}
-use Rattle.plan_store.specs.declared.key.VarKey.{VarKey}
-use Rattle.plan_store.specs.declared.key.VarKey.TheVariants as keys
-use Rattle.plan_store.proofs.Naming.{length_names}
+use Rattle.plan_posting.specs.plan_store.Puts.{PutsToken, PutsVariable}
+use Rattle.plan_posting.specs.plan_store.Stores.{Stored}
+use Rattle.plan_posting.specs.plan_store.VarKey.{VarKey}
+use Rattle.plan_posting.specs.plan_store.VarKey.TheVariants as keys
+use Rattle.plan_posting.proofs.plan_store.Naming.{length_names}
 use Rattle.plan_posting.specs.Origins.{content_now}
 use Rattle.plan_posting.specs.Posted.{PostsClaims, OnlyPosts}
 use Rattle.plan_posting.specs.Terms.{HasPartAt, HasTimesAt}

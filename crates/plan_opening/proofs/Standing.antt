@@ -13,15 +13,15 @@ use Rattle.model_core.specs.declared.view.TokenState.TheVariants.{Inactive, Acti
 use Rattle.model_core.specs.Decided.{IsTaken, IsRejected}
 use Rattle.model_core.specs.State.{State}
 use Rattle.model_core.specs.TokenStates.{HasTokenState}
-use Rattle.narrow_core.specs.declared.field.Field.{Field}
+use Rattle.constraint_net.specs.narrow_core.Field.{Field}
 use Rattle.constraint_net.specs.declared.constraint.Constraint.{Constraint}
 use Rattle.plan_defs.specs.Claims.{Claim, IsClaim, ItemSays}
 use Rattle.plan_defs.specs.Terms.{Context}
-use Rattle.plan_growth.specs.Claims.{SaysClaim}
-use Rattle.plan_growth.specs.Content.{Content, shown}
-use Rattle.plan_progress.specs.Progress.{IsJustified}
-use Rattle.plan_progress.proofs.Justifying.{posting_justified}
-use Rattle.plan_store.specs.Stores.{Stored, snapshot_of}
+use Rattle.plan_posting.specs.plan_growth.Claims.{SaysClaim}
+use Rattle.plan_posting.specs.plan_growth.Content.{Content, shown}
+use Rattle.plan_posting.specs.plan_progress.Progress.{IsJustified}
+use Rattle.plan_posting.specs.plan_progress.Justifying.{posting_justified}
+use Rattle.plan_posting.specs.plan_store.Stores.{Stored, snapshot_of}
 use Rattle.plan_posting.specs.Counting.{AreTokenStates, ItemCounts}
 use Rattle.plan_posting.specs.Posted.{PostsClaims, Asserts}
 use Rattle.plan_posting.proofs.Said.{posts_nothing, posts_same}

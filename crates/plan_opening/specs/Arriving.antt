@@ -18,9 +18,9 @@ use Rattle.constraint_net.specs.declared.NetFault.TheVariants.{Collapsed, Memory
 use Rattle.plan_defs.specs.Claims.{lasts}
 use Rattle.plan_defs.specs.Situations.{situation_of}
 use Rattle.plan_defs.specs.Support.{IsSupportedToken}
-use Rattle.plan_growth.specs.Content.{Content, shown}
-use Rattle.plan_store.specs.Stores.{Stored}
-use Rattle.plan_store.specs.declared.key.VarKey.{VarKey}
+use Rattle.plan_posting.specs.plan_growth.Content.{Content, shown}
+use Rattle.plan_posting.specs.plan_store.Stores.{Stored}
+use Rattle.plan_posting.specs.plan_store.VarKey.{VarKey}
 use Rattle.plan_posting.specs.Origins.{content_now}
 use Rattle.plan_posting.specs.Posted.{PostsClaims}
 use Rattle.plan_opening.specs.Bringing.{KeyDomain}

@@ -8,11 +8,11 @@ use Rattle.constraint_net.specs.declared.NetFault.TheVariants.{Collapsed, Memory
 use Rattle.plan_defs.specs.Claims.{Claim, IsOfToken}
 use Rattle.plan_defs.specs.Situations.{situation_of}
 use Rattle.plan_defs.specs.Support.{IsSupportedToken}
-use Rattle.plan_growth.specs.Claims.{IsPostedIn}
-use Rattle.plan_growth.specs.Content.{shown}
-use Rattle.plan_growth.specs.Growth.{LeaveNothing}
-use Rattle.plan_progress.specs.Progress.{IsJustified}
-use Rattle.plan_store.specs.Stores.{Stored, snapshot_of}
+use Rattle.plan_posting.specs.plan_growth.Claims.{IsPostedIn}
+use Rattle.plan_posting.specs.plan_growth.Content.{shown}
+use Rattle.plan_posting.specs.plan_growth.Growth.{LeaveNothing}
+use Rattle.plan_posting.specs.plan_progress.Progress.{IsJustified}
+use Rattle.plan_posting.specs.plan_store.Stores.{Stored, snapshot_of}
 use Rattle.plan_posting.specs.Counting.{AreTokenStates}
 use Rattle.plan_posting.specs.Origins.{content_now}
 use Rattle.plan_opening.specs.Wanted.{ArePreds}

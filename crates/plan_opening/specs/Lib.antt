@@ -5,3 +5,8 @@ pub mod Opened
 pub mod Parts
 pub mod Arriving
 pub mod Begun
+pub mod plan_growth
+pub mod plan_posting
+pub mod plan_progress
+pub mod plan_store
+pub mod rule_engine

@@ -9,15 +9,15 @@ use Rattle.model_core.specs.declared.variable.Base.{Base}
 use Rattle.model_core.specs.declared.variable.Base.TheVariants.{Given, Void}
 use Rattle.model_core.specs.Blocks.{TokenBlock, IsBlock, direct}
 use Rattle.model_core.specs.Entries.{Entries}
-use Rattle.rule_engine.specs.Lists.{locals_in}
+use Rattle.plan_posting.specs.rule_engine.Lists.{locals_in}
 use Rattle.plan_defs.specs.Situations.{situation_of}
 use Rattle.plan_defs.specs.Support.{IsSupportedBlock}
-use Rattle.plan_growth.specs.Content.{Content, shown}
-use Rattle.plan_growth.specs.Growth.{block_at}
+use Rattle.plan_posting.specs.plan_growth.Content.{Content, shown}
+use Rattle.plan_posting.specs.plan_growth.Growth.{block_at}
 use Rattle.token_store.specs.Tokens.{tokens_now, token_names}
-use Rattle.plan_store.specs.declared.key.OpenBlock.{OpenBlock}
-use Rattle.plan_store.specs.declared.key.VarKey.{VarKey}
-use Rattle.plan_store.specs.Stores.{Stored}
+use Rattle.plan_posting.specs.plan_store.OpenBlock.{OpenBlock}
+use Rattle.plan_posting.specs.plan_store.VarKey.{VarKey}
+use Rattle.plan_posting.specs.plan_store.Stores.{Stored}
 use Rattle.constraint_net.specs.declared.NetFault.{NetFault}
 use Rattle.constraint_net.specs.declared.NetFault.TheVariants.{Collapsed, Memory}
 use Rattle.plan_opening.specs.Bringing.{KeyDomain}

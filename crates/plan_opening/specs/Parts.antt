@@ -7,8 +7,8 @@ use Rattle.model_core.specs.declared.rule.Slot.{Slot}
 use Rattle.model_core.specs.declared.variable.Base.{Base}
 use Rattle.model_core.specs.declared.variable.Base.TheVariants.{Given, Void}
 use Rattle.model_core.specs.Variables.{HasPartBase}
-use Rattle.plan_store.specs.declared.key.VarKey.{VarKey}
-use Rattle.plan_store.specs.declared.key.VarKey.TheVariants as keys
+use Rattle.plan_posting.specs.plan_store.VarKey.{VarKey}
+use Rattle.plan_posting.specs.plan_store.VarKey.TheVariants as keys
 use Rattle.plan_opening.specs.declared.parts.Asked.{Asked}
 
 -- the base of this domain; void where there is none

@@ -8,16 +8,16 @@ use Rattle.model_core.specs.declared.rule.Guard.{Guard}
 use Rattle.model_core.specs.Blocks.{TokenBlock, IsBlock, direct, OfBranch}
 use Rattle.model_core.specs.Entries.{Entries}
 use Rattle.token_store.specs.Tokens.{tokens_now}
-use Rattle.narrow_core.specs.declared.field.Field.{Field}
+use Rattle.constraint_net.specs.narrow_core.Field.{Field}
 use Rattle.constraint_net.specs.Networks.{AllConsistent}
 use Rattle.constraint_net.specs.declared.NetFault.{NetFault}
 use Rattle.constraint_net.specs.declared.NetFault.TheVariants.{Collapsed, Memory}
 use Rattle.plan_defs.specs.Terms.{InRule}
-use Rattle.plan_growth.specs.Content.{Content}
-use Rattle.plan_growth.specs.Growth.{LeaveNothing}
-use Rattle.plan_progress.specs.Progress.{IsJustified, MissesNothing, GuardNames}
-use Rattle.plan_store.specs.Stores.{Stored, Snapshot, snapshot_of, named_content}
-use Rattle.plan_store.specs.declared.watchers.Watch.{Watch}
+use Rattle.plan_posting.specs.plan_growth.Content.{Content}
+use Rattle.plan_posting.specs.plan_growth.Growth.{LeaveNothing}
+use Rattle.plan_posting.specs.plan_progress.Progress.{IsJustified, MissesNothing, GuardNames}
+use Rattle.plan_posting.specs.plan_store.Stores.{Stored, Snapshot, snapshot_of, named_content}
+use Rattle.plan_posting.specs.plan_store.Watch.{Watch}
 use Rattle.plan_posting.specs.Counting.{AreTokenStates}
 use Rattle.plan_opening.specs.Wanted.{ArePreds}
 

@@ -12,10 +12,10 @@ use Rattle.model_core.specs.Blocks.{IsBlock, direct, OfLocal}
 use Rattle.model_core.specs.Entries.{Entries}
 use Rattle.model_core.specs.Tokens.{HasRule, HasToken}
 use Rattle.token_store.specs.Tokens.{TokenList, token_names, token_preds}
-use Rattle.plan_store.specs.Keys.{named_block}
-use Rattle.plan_store.specs.declared.key.OpenBlock.{OpenBlock}
-use Rattle.plan_store.specs.declared.key.VarKey.{VarKey}
-use Rattle.plan_store.specs.declared.key.VarKey.TheVariants.{Local}
+use Rattle.plan_posting.specs.plan_store.Keys.{named_block}
+use Rattle.plan_posting.specs.plan_store.OpenBlock.{OpenBlock}
+use Rattle.plan_posting.specs.plan_store.VarKey.{VarKey}
+use Rattle.plan_posting.specs.plan_store.VarKey.TheVariants.{Local}
 
 -- each token is kept with the predicate of its slot
 abbrev pub ArePreds : Model → TokenList → Type 0

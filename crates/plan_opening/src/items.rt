@@ -5,8 +5,8 @@ ghost use Rattle.model_core.specs.declared.decision.Decision.{Decision};
 ghost use Rattle.model_core.specs.Decided.{IsTaken};
 ghost use Rattle.token_store.specs.Tokens.{tokens_now};
 ghost use Rattle.plan_defs.specs.Claims.{ItemSays};
-ghost use Rattle.plan_store.specs.StoreMarks.{KeepStoreMarks};
-ghost use Rattle.plan_store.specs.Stores.{snapshot_of};
+ghost use Rattle.plan_posting.specs.plan_store.StoreMarks.{KeepStoreMarks};
+ghost use Rattle.plan_posting.specs.plan_store.Stores.{snapshot_of};
 ghost use Rattle.plan_posting.specs.Counting.{AreTokenStates, AreRootsThere};
 ghost use Rattle.plan_posting.specs.Origins.{content_now, origin_context, IsOriginBelow};
 ghost use Rattle.plan_posting.specs.Postable.{CanPostItem, IsItemNamed};
@@ -14,8 +14,8 @@ ghost use Rattle.plan_posting.specs.Posted.{PostsClaims, OnlyPosts};
 
 use model_core::item::Item;
 use model_core::model::Model;
+use plan_posting::passed_plan_store::Store;
 use plan_posting::{Origin, counts, post_item};
-use plan_store::Store;
 use std::alloc::{AllocError, Global};
 
 /// Asks from now on for what the item says where it stands: that it holds, if all that it is about counts.

@@ -8,6 +8,9 @@
 mod blocks;
 mod items;
 mod parts;
+pub mod passed_plan_posting;
+pub mod passed_plan_store;
+pub mod passed_rule_engine;
 mod tokens;
 mod variables;
 

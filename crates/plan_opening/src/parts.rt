@@ -10,7 +10,7 @@ ghost use Rattle.model_core.specs.Lawful.{IsLawful};
 ghost use Rattle.model_core.specs.Variables.{HasParameter, HasPartBase};
 ghost use Rattle.constraint_net.specs.declared.NetFault.TheVariants.{Collapsed};
 ghost use Rattle.token_store.specs.Tokens.{tokens_now};
-ghost use Rattle.plan_store.specs.StoreMarks.{KeepStoreMarks};
+ghost use Rattle.plan_posting.specs.plan_store.StoreMarks.{KeepStoreMarks};
 ghost use Rattle.plan_opening.specs.Bringing.{Brings};
 ghost use Rattle.plan_opening.specs.Parts.{base_given, slot_asked, WantsPart, WantsParts, ArePartsOf};
 
@@ -20,7 +20,7 @@ use domain_core::domain::Dom;
 use eu_name::name::Part;
 use model_core::model::Model;
 use model_core::variable::Base;
-use plan_store::{Store, VarKey};
+use plan_posting::passed_plan_store::{Store, VarKey};
 use std::alloc::{AllocError, Global};
 
 /// What asks for a token: its predicate, and the objects that it may be on, if there are any.

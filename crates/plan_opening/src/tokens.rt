@@ -5,8 +5,8 @@ ghost use Rattle.model_core.specs.declared.rule.Slot.{Slot};
 ghost use Rattle.model_core.specs.Lawful.{IsLawful};
 ghost use Rattle.model_core.specs.Tokens.{HasToken, LeadsToSlot, IsFact};
 ghost use Rattle.token_store.specs.Tokens.{tokens_now, token_names, IsNewName};
-ghost use Rattle.plan_store.specs.Puts.{PutsToken};
-ghost use Rattle.plan_store.specs.StoreMarks.{KeepStoreMarks};
+ghost use Rattle.plan_posting.specs.plan_store.Puts.{PutsToken};
+ghost use Rattle.plan_posting.specs.plan_store.StoreMarks.{KeepStoreMarks};
 ghost use Rattle.plan_posting.specs.Origins.{content_now};
 ghost use Rattle.plan_opening.specs.Arriving.{BeginsToken, WantsSomePart, BringsOrFails, AskForToken};
 ghost use Rattle.plan_opening.specs.Begun.{StaysBegun};
@@ -20,8 +20,8 @@ use constraint_net::NetFault;
 use eu_name::name::{Step, TokenName};
 use model_core::model::{Model, RootKind};
 use model_core::view::TokenState;
+use plan_posting::passed_plan_store::Store;
 use plan_posting::post_lasts;
-use plan_store::Store;
 use std::alloc::{AllocError, Global};
 
 // What the step from a token of the predicate asks for.

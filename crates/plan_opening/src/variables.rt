@@ -7,8 +7,8 @@ ghost use Rattle.model_core.specs.declared.variable.Base.{Base as Declared};
 ghost use Rattle.model_core.specs.declared.variable.Base.TheVariants.{Given, Void};
 ghost use Rattle.constraint_net.specs.declared.NetFault.TheVariants.{Collapsed};
 ghost use Rattle.token_store.specs.Tokens.{tokens_now};
-ghost use Rattle.plan_store.specs.Keys.{IsKeyBelow};
-ghost use Rattle.plan_store.specs.StoreMarks.{KeepStoreMarks};
+ghost use Rattle.plan_posting.specs.plan_store.Keys.{IsKeyBelow};
+ghost use Rattle.plan_posting.specs.plan_store.StoreMarks.{KeepStoreMarks};
 ghost use Rattle.plan_opening.specs.Bringing.{Brings};
 ghost use Rattle.plan_opening.specs.Wanted.{IsDeclaredLocal, WantsLocal, WantsLocals, IsNamedLocal};
 
@@ -17,7 +17,7 @@ use domain_core::domain::Dom;
 use eu_name::name::VarName;
 use model_core::model::Model;
 use model_core::variable::Base;
-use plan_store::{Store, VarKey};
+use plan_posting::passed_plan_store::{Store, VarKey};
 
 /// A rule of the token at the place, by its number in the list of the token's predicate.
 #[derive(Clone, Copy)]

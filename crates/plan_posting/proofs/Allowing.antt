@@ -15,7 +15,7 @@ use Rattle.model_core.specs.declared.variable.ValueKind.{ValueKind}
 use Rattle.model_core.specs.declared.variable.ValueKind.TheVariants as kinds
 use Rattle.model_core.specs.Kinds.{Scope, OfProblem, OfRule, IsValueOf, IsOfKind, AreOfKind, AreArguments}
 use Rattle.model_core.specs.Lawful.{IsLawful, IsLawfulEnum}
-use Rattle.narrow_core.specs.declared.field.Field as tables
+use Rattle.plan_progress.specs.narrow_core.Field as tables
 use Rattle.plan_defs.specs.Terms.{Context, InProblem, InRule}
 use Rattle.plan_defs.proofs.Members.{get_all, get_below}
 use Rattle.rule_engine.proofs.Limits.{few_rule}

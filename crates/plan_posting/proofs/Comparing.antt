@@ -5,7 +5,7 @@ use Rattle.std.proofs.lemmas.List.{take_more, map_push}
 use Rattle.std.proofs.lemmas.List.Elements.{Contains-append_left, Contains-append_right, Contains-append_cases}
 use Rattle.eu_name.specs.declared.name.TokenName.{TokenName}
 use Rattle.eu_name.specs.declared.name.VarName.{VarName}
-use Rattle.constraint_net.specs.declared.constraint.Constraint.{Constraint}
+use Rattle.plan_progress.specs.constraint_net.Constraint.{Constraint}
 use Rattle.plan_defs.specs.Claims.{Claim}
 use Rattle.plan_posting.specs.declared.relations.Comparison.{Comparison}
 use Rattle.plan_posting.specs.Posted.{PostsClaims, compares, comparisons_claim}

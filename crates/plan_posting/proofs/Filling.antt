@@ -18,13 +18,13 @@ use Rattle.model_core.specs.declared.variable.ValueKind.{ValueKind}
 use Rattle.model_core.specs.declared.variable.VarDecl.{VarDecl}
 use Rattle.model_core.specs.Kinds.{IsValueOf}
 use Rattle.model_core.specs.Lawful.{IsLawful, IsLawfulObject}
-use Rattle.narrow_core.specs.declared.field.Field.{Field}
-use Rattle.narrow_core.specs.declared.field.FieldEntry.{FieldEntry}
-use Rattle.narrow_core.specs.Meanings.{IsInTable}
-use Rattle.constraint_net.specs.Calls.{IsAscending, given_by, table_of}
+use Rattle.plan_progress.specs.narrow_core.Field.{Field}
+use Rattle.plan_progress.specs.narrow_core.FieldEntry.{FieldEntry}
+use Rattle.plan_progress.specs.narrow_core.Meanings.{IsInTable}
+use Rattle.plan_progress.specs.constraint_net.Calls.{IsAscending, given_by, table_of}
 use Rattle.plan_defs.specs.Consistency.{HasField}
 use Rattle.plan_defs.proofs.Members.{get_all, get_below, get_same, get_from_contains, contains_from_get}
-use Rattle.plan_growth.specs.Claims.{AreFieldsOf}
+use Rattle.plan_progress.specs.plan_growth.Claims.{AreFieldsOf}
 use Rattle.plan_store.proofs.Lists.{unmapped}
 use Rattle.plan_posting.specs.Tables.{ListsField, HaveTables}
 use Rattle.plan_posting.proofs.Allowing.{value_of_kind}

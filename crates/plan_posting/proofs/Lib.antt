@@ -8,3 +8,4 @@ pub mod Allowing
 pub mod Present
 pub mod Taking
 pub mod Filling
+pub mod plan_store

@@ -14,13 +14,13 @@ use Rattle.model_core.specs.declared.item.Kind.TheVariants.{MulEq, AllDiff, Fiel
 use Rattle.model_core.specs.declared.item.Term.{Term}
 use Rattle.model_core.specs.declared.item.Term.TheVariants as terms
 use Rattle.model_core.specs.Tokens.{root_token, slot_token}
-use Rattle.narrow_core.specs.declared.field.Field as tables
-use Rattle.constraint_net.specs.Arguments.{IsArgument}
-use Rattle.constraint_net.specs.Networks.{CanPost, IsAllowed, HasFactor}
-use Rattle.constraint_net.specs.declared.constraint.NetArg.{NetArg}
+use Rattle.plan_progress.specs.narrow_core.Field as tables
+use Rattle.plan_progress.specs.constraint_net.Arguments.{IsArgument}
+use Rattle.plan_progress.specs.constraint_net.Networks.{CanPost, IsAllowed, HasFactor}
+use Rattle.plan_progress.specs.constraint_net.NetArg.{NetArg}
 use Rattle.plan_defs.specs.Terms.{Context, InProblem, InRule, Argument, Value, Variable, Means}
-use Rattle.plan_growth.specs.Claims.{IsNamedArgument}
-use Rattle.plan_growth.specs.Content.{Content}
+use Rattle.plan_progress.specs.plan_growth.Claims.{IsNamedArgument}
+use Rattle.plan_progress.specs.plan_growth.Content.{Content}
 use Rattle.plan_posting.specs.Terms.{CanStand, IsTermArgument}
 use Rattle.plan_posting.specs.Postable.{CanPostTerms, AreTermsAllowed, HasFactorTerm}
 

@@ -11,10 +11,10 @@ use Rattle.eu_name.specs.declared.name.VarName.{VarName}
 use Rattle.eu_name.specs.declared.name.VarName.TheVariants as name
 use Rattle.token_store.specs.Orders.{name_at}
 use Rattle.token_store.specs.Tokens.{TokenList, tokens_now, token_names, IsNamedAt}
-use Rattle.constraint_net.specs.Arguments.{IsArgument}
-use Rattle.constraint_net.specs.declared.constraint.NetArg.{NetArg}
+use Rattle.plan_progress.specs.constraint_net.Arguments.{IsArgument}
+use Rattle.plan_progress.specs.constraint_net.NetArg.{NetArg}
 use Rattle.plan_defs.specs.Terms.{Variable}
-use Rattle.plan_growth.specs.Claims.{IsNamedArgument}
+use Rattle.plan_progress.specs.plan_growth.Claims.{IsNamedArgument}
 use Rattle.plan_defs.proofs.Members.{get_from_contains, contains_from_get, get_all}
 use Rattle.plan_store.specs.Keys.{named_variable, IsKeyBelow}
 use Rattle.plan_store.specs.Stores.{Stored, snapshot_of, IsSnapshot}

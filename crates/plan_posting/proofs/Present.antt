@@ -20,7 +20,7 @@ use Rattle.model_core.specs.Tokens.{HasToken, root_token, slot_of}
 use Rattle.model_core.specs.Variables.{HasPartBase}
 use Rattle.plan_defs.specs.Terms.{InProblem}
 use Rattle.plan_defs.proofs.Members.{get_below}
-use Rattle.plan_growth.specs.Content.{Content, IsContent}
+use Rattle.plan_progress.specs.plan_growth.Content.{Content, IsContent}
 use Rattle.plan_progress.specs.Coming.{IsTermThere}
 use Rattle.plan_posting.specs.Counting.{AreRootsThere}
 use Rattle.plan_posting.specs.PostingLaws.{WhatIsThereIsNamed, ItemsOfProblemAreNamed}

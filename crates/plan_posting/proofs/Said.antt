@@ -8,14 +8,14 @@ use Rattle.std.proofs.lemmas.List.Elements.{All-append, All-cons, All-nil, All-w
 use Rattle.eu_name.specs.declared.name.VarName.{VarName}
 use Rattle.model_core.specs.declared.item.Kind.{Kind}
 use Rattle.model_core.specs.declared.item.Term.{Term}
-use Rattle.constraint_net.specs.Calls.{Posts}
-use Rattle.constraint_net.specs.Networks.{Network}
-use Rattle.constraint_net.specs.declared.constraint.Constraint.{Constraint}
-use Rattle.constraint_net.specs.declared.constraint.NetArg.{NetArg}
+use Rattle.plan_progress.specs.constraint_net.Calls.{Posts}
+use Rattle.plan_progress.specs.constraint_net.Networks.{Network}
+use Rattle.plan_progress.specs.constraint_net.Constraint.{Constraint}
+use Rattle.plan_progress.specs.constraint_net.NetArg.{NetArg}
 use Rattle.plan_defs.specs.Claims.{Claim}
 use Rattle.plan_defs.specs.Terms.{Context}
-use Rattle.plan_growth.specs.Claims.{IsNamedArgument, SaysClaim, IsPostedIn}
-use Rattle.plan_growth.specs.Content.{Content}
+use Rattle.plan_progress.specs.plan_growth.Claims.{IsNamedArgument, SaysClaim, IsPostedIn}
+use Rattle.plan_progress.specs.plan_growth.Content.{Content}
 use Rattle.plan_posting.specs.Terms.{CanStand, IsTermArgument}
 use Rattle.plan_posting.specs.Posted.{PostsClaims, AssertsOf}
 use Rattle.plan_posting.proofs.Meaning.{all_meant, all_named}

@@ -3,11 +3,11 @@ use Rattle.std.proofs.Common.{◌≡◌, ℕ, List, Ok, Err, sym, ap, ◌∙◌,
 use Rattle.std.specs.Prelude.{Result}
 use Rattle.std.specs.declared.alloc.AllocError.{AllocError}
 use Rattle.model_core.specs.declared.item.Kind.{Kind}
-use Rattle.constraint_net.specs.Calls.{Posts}
-use Rattle.constraint_net.specs.Networks.{Network}
-use Rattle.constraint_net.specs.declared.constraint.Constraint.{Constraint}
-use Rattle.constraint_net.specs.declared.constraint.NetArg.{NetArg}
-use Rattle.narrow_core.specs.declared.field.Field.{Field}
+use Rattle.plan_progress.specs.constraint_net.Calls.{Posts}
+use Rattle.plan_progress.specs.constraint_net.Networks.{Network}
+use Rattle.plan_progress.specs.constraint_net.Constraint.{Constraint}
+use Rattle.plan_progress.specs.constraint_net.NetArg.{NetArg}
+use Rattle.plan_progress.specs.narrow_core.Field.{Field}
 use Rattle.plan_store.specs.Puts.{ChangesNet}
 use Rattle.plan_store.specs.StoreMarks.{KeepStoreMarks}
 use Rattle.plan_store.specs.Stores.{Stored}

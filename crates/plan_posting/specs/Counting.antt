@@ -14,7 +14,7 @@ use Rattle.model_core.specs.Tokens.{IsRoot, IsRejectable, root_token}
 use Rattle.model_core.specs.TokenStates.{HasTokenState}
 use Rattle.token_store.specs.Tokens.{token_names, token_states}
 use Rattle.plan_defs.specs.Terms.{Argument, Context, InProblem, InRule, Means, ArgumentCounts}
-use Rattle.plan_growth.specs.Content.{Content, shown}
+use Rattle.plan_progress.specs.plan_growth.Content.{Content, shown}
 use Rattle.plan_store.specs.Stores.{Snapshot, named_content}
 
 -- what is said of the token counts: if it may be rejected, it is taken

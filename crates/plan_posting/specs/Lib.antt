@@ -5,3 +5,8 @@ pub mod Posted
 pub mod Counting
 pub mod Tables
 pub mod PostingLaws
+pub mod constraint_net
+pub mod plan_growth
+pub mod plan_progress
+pub mod plan_store
+pub mod rule_engine

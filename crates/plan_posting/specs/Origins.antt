@@ -4,7 +4,7 @@ use Rattle.eu_name.specs.declared.name.TokenName.{TokenName}
 use Rattle.token_store.specs.Orders.{name_at}
 use Rattle.plan_defs.specs.Claims.{part_of}
 use Rattle.plan_defs.specs.Terms.{Argument, Context, InProblem, InRule}
-use Rattle.plan_growth.specs.Content.{Content}
+use Rattle.plan_progress.specs.plan_growth.Content.{Content}
 use Rattle.plan_store.specs.Stores.{Stored, snapshot_of, named_content}
 use Rattle.plan_posting.specs.declared.origin.Origin.{Origin}
 use Rattle.plan_posting.specs.declared.origin.Origin.TheVariants.{Problem, Rule}

@@ -8,9 +8,9 @@ use Rattle.model_core.specs.declared.item.Term.{Term}
 use Rattle.model_core.specs.declared.item.Term.TheVariants.{Lit}
 use Rattle.model_core.specs.Constraints.{arity_of}
 use Rattle.model_core.specs.Tokens.{slot_token}
-use Rattle.narrow_core.specs.declared.field.Field as tables
+use Rattle.plan_progress.specs.narrow_core.Field as tables
 use Rattle.plan_defs.specs.Terms.{Context, InProblem, InRule}
-use Rattle.plan_growth.specs.Content.{Content}
+use Rattle.plan_progress.specs.plan_growth.Content.{Content}
 use Rattle.plan_progress.specs.Coming.{IsTermThere}
 use Rattle.plan_posting.specs.Terms.{CanStand, HasTimes}
 

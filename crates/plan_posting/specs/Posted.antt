@@ -9,10 +9,10 @@ use Rattle.model_core.specs.declared.item.Item.TheVariants.{Constraint, Relation
 use Rattle.model_core.specs.declared.item.Kind.{Kind}
 use Rattle.model_core.specs.declared.item.Term.{Term}
 use Rattle.model_core.specs.Tokens.{slot_token}
-use Rattle.constraint_net.specs.declared.constraint.Constraint as posts
+use Rattle.plan_progress.specs.constraint_net.Constraint as posts
 use Rattle.plan_defs.specs.Claims.{Claim, relates, at_most, equal, part_of}
 use Rattle.plan_defs.specs.Terms.{Argument, Context, InProblem, InRule, Means}
-use Rattle.plan_growth.specs.Claims.{SaysClaim, IsPostedIn}
+use Rattle.plan_progress.specs.plan_growth.Claims.{SaysClaim, IsPostedIn}
 use Rattle.plan_store.specs.Stores.{Stored}
 use Rattle.plan_posting.specs.declared.relations.Comparison.{Comparison}
 use Rattle.plan_posting.specs.declared.relations.Comparison.TheVariants.{AtMost, Equal}

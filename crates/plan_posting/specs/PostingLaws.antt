@@ -11,10 +11,10 @@ use Rattle.model_core.specs.Decided.{IsTaken}
 use Rattle.model_core.specs.Kinds.{Scope, OfProblem, OfRule, IsOfKind}
 use Rattle.model_core.specs.Lawful.{IsLawful, IsLawfulItem}
 use Rattle.model_core.specs.Tokens.{HasRule}
-use Rattle.narrow_core.specs.declared.field.Field.{Field}
+use Rattle.plan_progress.specs.narrow_core.Field.{Field}
 use Rattle.plan_defs.specs.Claims.{Claim, ItemSays}
 use Rattle.plan_defs.specs.Terms.{Context, InProblem, InRule, Variable, Means}
-use Rattle.plan_growth.specs.Content.{Content, IsContent}
+use Rattle.plan_progress.specs.plan_growth.Content.{Content, IsContent}
 use Rattle.plan_progress.specs.Coming.{IsItemThere, IsTermThere}
 use Rattle.plan_store.specs.Keys.{named_variable}
 use Rattle.plan_store.specs.Stores.{Stored}

@@ -1,8 +1,8 @@
 -- Tables of what objects have in their fields.
 use Rattle.std.specs.Prelude.{◌≡◌, ◌≤◌, ◌↔◌, ℕ, ℤ, List, [], ◌∷◌, ◌++◌, length, All, Contains}
 use Rattle.model_core.specs.declared.model.Model.{Model}
-use Rattle.narrow_core.specs.declared.field.Field.{Field}
-use Rattle.constraint_net.specs.Calls.{IsAscending, table_of}
+use Rattle.plan_progress.specs.narrow_core.Field.{Field}
+use Rattle.plan_progress.specs.constraint_net.Calls.{IsAscending, table_of}
 use Rattle.plan_defs.specs.Consistency.{HasField}
 use Rattle.plan_store.specs.Stores.{Stored}
 

@@ -7,10 +7,10 @@ use Rattle.eu_name.specs.declared.name.TokenName.{TokenName}
 use Rattle.eu_name.specs.declared.name.VarName.TheVariants.{Token}
 use Rattle.model_core.specs.declared.item.Term.{Term}
 use Rattle.model_core.specs.declared.item.Term.TheVariants.{Lit, Here, Slot, Local, Global, Root}
-use Rattle.constraint_net.specs.declared.constraint.NetArg.{NetArg}
+use Rattle.plan_progress.specs.constraint_net.NetArg.{NetArg}
 use Rattle.plan_defs.specs.Terms.{Context, InProblem, InRule, Argument, Means}
-use Rattle.plan_growth.specs.Claims.{IsNamedArgument}
-use Rattle.plan_growth.specs.Content.{Content}
+use Rattle.plan_progress.specs.plan_growth.Claims.{IsNamedArgument}
+use Rattle.plan_progress.specs.plan_growth.Content.{Content}
 use Rattle.token_store.specs.Orders.{name_at}
 use Rattle.token_store.specs.Tokens.{tokens_now}
 use Rattle.plan_store.specs.Stores.{Stored}

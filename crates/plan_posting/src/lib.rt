@@ -15,6 +15,8 @@ mod arguments;
 mod counting;
 pub mod laws;
 pub mod origin;
+pub mod passed_plan_store;
+pub mod passed_rule_engine;
 mod posting;
 pub mod relations;
 mod tables;

@@ -8,7 +8,7 @@ ghost use Rattle.model_core.specs.Tokens.{slot_token};
 ghost use Rattle.token_store.specs.Orders.{name_at};
 ghost use Rattle.token_store.specs.Tokens.{tokens_now};
 ghost use Rattle.plan_defs.specs.Claims.{at_most, equal, lasts, relates};
-ghost use Rattle.plan_growth.specs.Claims.{IsPostedIn};
+ghost use Rattle.plan_progress.specs.plan_growth.Claims.{IsPostedIn};
 ghost use Rattle.plan_progress.specs.Coming.{IsTermThere};
 ghost use Rattle.plan_store.specs.StoreMarks.{KeepStoreMarks};
 ghost use Rattle.plan_store.specs.Stores.{Stored};

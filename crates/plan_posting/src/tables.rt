@@ -2,7 +2,7 @@
 
 ghost use Rattle.std.specs.Prelude.{◌≡◌, ◌≤◌, ◌<◌, [], length, All, IfOk, OnOk};
 ghost use Rattle.model_core.specs.Lawful.{IsLawful};
-ghost use Rattle.plan_growth.specs.Claims.{AreFieldsOf};
+ghost use Rattle.plan_progress.specs.plan_growth.Claims.{AreFieldsOf};
 ghost use Rattle.plan_posting.specs.Tables.{ListsField, AddsField, HaveTables, OnlyTables};
 
 use model_core::model::Model;

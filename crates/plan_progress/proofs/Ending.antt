@@ -12,9 +12,9 @@ use Rattle.model_core.specs.Blocks.{TokenBlock}
 use Rattle.model_core.specs.Decided.{IsTaken, IsRejected}
 use Rattle.model_core.specs.Numbers.{turned}
 use Rattle.model_core.specs.State.{State}
-use Rattle.narrow_core.specs.declared.field.Field.{Field}
-use Rattle.constraint_net.specs.Networks.{AllConsistent}
-use Rattle.constraint_net.specs.declared.constraint.Constraint.{Constraint}
+use Rattle.plan_growth.specs.narrow_core.Field.{Field}
+use Rattle.plan_growth.specs.constraint_net.Networks.{AllConsistent}
+use Rattle.plan_growth.specs.constraint_net.Constraint.{Constraint}
 use Rattle.plan_defs.specs.Claims.{Claim, IsClaim}
 use Rattle.plan_defs.specs.Refusals.{IsAlreadyDecided, Decided}
 use Rattle.plan_defs.specs.Settling.{SettlesAfter, IsSettled}

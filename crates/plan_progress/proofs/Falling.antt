@@ -11,9 +11,9 @@ use Rattle.model_core.specs.declared.variable.Base.{Base}
 use Rattle.model_core.specs.declared.variable.Base.TheVariants.{Given, Void}
 use Rattle.model_core.specs.State.{Gives, IsBelow}
 use Rattle.model_core.specs.Variables.{IsInBase}
-use Rattle.narrow_core.specs.Laws.{LieWithin}
-use Rattle.narrow_core.specs.declared.field.Field.{Field}
-use Rattle.constraint_net.specs.declared.constraint.Constraint.{Constraint}
+use Rattle.plan_growth.specs.narrow_core.Laws.{LieWithin}
+use Rattle.plan_growth.specs.narrow_core.Field.{Field}
+use Rattle.plan_growth.specs.constraint_net.Constraint.{Constraint}
 use Rattle.plan_defs.proofs.Lower.{further_below, supported_further, block_further}
 use Rattle.plan_defs.proofs.Members.{get_below, get_within}
 use Rattle.plan_growth.specs.Content.{Content, shown, IsContent}

@@ -16,7 +16,7 @@ use Rattle.model_core.specs.Blocks.{TokenBlock, IsBlock, direct, OfSlot, OfBranc
 use Rattle.model_core.specs.Decided.{IsTaken}
 use Rattle.model_core.specs.Entries.{Entries}
 use Rattle.model_core.specs.Tokens.{slot_token}
-use Rattle.constraint_net.specs.declared.constraint.Constraint.{Constraint}
+use Rattle.plan_growth.specs.constraint_net.Constraint.{Constraint}
 use Rattle.plan_defs.specs.Claims.{Claim, IsOfProblem, IsOfBlock, IsOfMerge, IsOfOrder}
 use Rattle.plan_defs.specs.Closure.{IsRespected}
 use Rattle.plan_defs.specs.Laws.{HaveToTurn}

@@ -12,9 +12,9 @@ use Rattle.domain_core.proofs.Words.{IsWithin-refl, tested_least, tested_greates
 use Rattle.eu_name.specs.declared.name.VarName.{VarName}
 use Rattle.model_core.specs.declared.model.Model.{Model}
 use Rattle.model_core.specs.State.{Gives}
-use Rattle.constraint_net.specs.Arguments.{domain_of}
-use Rattle.constraint_net.specs.Limits.{LimitsAt}
-use Rattle.constraint_net.specs.declared.constraint.NetArg.TheVariants.{Var}
+use Rattle.plan_growth.specs.constraint_net.Arguments.{domain_of}
+use Rattle.plan_growth.specs.constraint_net.Limits.{LimitsAt}
+use Rattle.plan_growth.specs.constraint_net.NetArg.TheVariants.{Var}
 use Rattle.plan_defs.proofs.Members.{get_below, get_within, get_same}
 use Rattle.plan_growth.specs.Content.{Content, shown, IsContent}
 use Rattle.plan_growth.specs.Laws.{with_domains}

@@ -18,8 +18,8 @@ use Rattle.model_core.specs.State.{VarDomain, Gives, IsAbout, IsBlockOf, StandsO
 use Rattle.model_core.specs.Tokens.{HasToken}
 use Rattle.model_core.specs.Variables.{HasBase, HasPartBase}
 use Rattle.model_core.proofs.Leading.{token_once}
-use Rattle.narrow_core.specs.declared.field.Field.{Field}
-use Rattle.constraint_net.specs.declared.constraint.Constraint.{Constraint}
+use Rattle.plan_growth.specs.narrow_core.Field.{Field}
+use Rattle.plan_growth.specs.constraint_net.Constraint.{Constraint}
 use Rattle.plan_defs.specs.Claims.{Claim}
 use Rattle.plan_defs.specs.Closure.{AreInBase}
 use Rattle.plan_defs.specs.Situations.{situation_of}

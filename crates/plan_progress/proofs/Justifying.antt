@@ -18,15 +18,15 @@ use Rattle.model_core.specs.declared.variable.Base.TheVariants.{Given}
 use Rattle.model_core.specs.Decided.{IsActivated, IsTaken}
 use Rattle.model_core.specs.State.{State, Gives}
 use Rattle.model_core.specs.Variables.{HasBase}
-use Rattle.narrow_core.specs.declared.field.Field.{Field}
-use Rattle.constraint_net.specs.Arguments.{domain_of}
-use Rattle.constraint_net.specs.Limits.{LimitsAt}
-use Rattle.constraint_net.specs.Networks.{AllConsistent}
-use Rattle.constraint_net.specs.Steps.{SettlesTo}
-use Rattle.constraint_net.specs.declared.NetFault.{NetFault}
-use Rattle.constraint_net.specs.declared.NetFault.TheVariants.{Collapsed, Memory}
-use Rattle.constraint_net.specs.declared.constraint.Constraint.{Constraint}
-use Rattle.constraint_net.specs.declared.constraint.NetArg.TheVariants.{Var}
+use Rattle.plan_growth.specs.narrow_core.Field.{Field}
+use Rattle.plan_growth.specs.constraint_net.Arguments.{domain_of}
+use Rattle.plan_growth.specs.constraint_net.Limits.{LimitsAt}
+use Rattle.plan_growth.specs.constraint_net.Networks.{AllConsistent}
+use Rattle.plan_growth.specs.constraint_net.Steps.{SettlesTo}
+use Rattle.plan_growth.specs.constraint_net.NetFault.{NetFault}
+use Rattle.plan_growth.specs.constraint_net.NetFault.TheVariants.{Collapsed, Memory}
+use Rattle.plan_growth.specs.constraint_net.Constraint.{Constraint}
+use Rattle.plan_growth.specs.constraint_net.NetArg.TheVariants.{Var}
 use Rattle.plan_defs.specs.Claims.{Claim, IsClaim}
 use Rattle.plan_defs.specs.Closure.{IsConsistentState}
 use Rattle.plan_defs.specs.Laws.{HaveToTurn}

@@ -25,7 +25,7 @@ use Rattle.model_core.specs.Lawful.{IsLawful}
 use Rattle.model_core.specs.Numbers.{turned}
 use Rattle.model_core.specs.State.{VarDomain, Gives}
 use Rattle.model_core.specs.Tokens.{HasToken, IsRoot, root_token}
-use Rattle.constraint_net.specs.declared.constraint.Constraint.{Constraint}
+use Rattle.plan_growth.specs.constraint_net.Constraint.{Constraint}
 use Rattle.plan_defs.specs.Claims.{Claim, IsOfProblem, IsOfToken, lasts}
 use Rattle.plan_defs.specs.Closure.{IsRespected}
 use Rattle.plan_defs.specs.Laws.{HaveToTurn}

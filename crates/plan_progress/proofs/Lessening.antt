@@ -17,9 +17,9 @@ use Rattle.model_core.specs.declared.rule.Side.{Side}
 use Rattle.model_core.specs.Blocks.{TokenBlock, IsBlock}
 use Rattle.model_core.specs.Entries.{Entries}
 use Rattle.model_core.specs.State.{Gives}
-use Rattle.narrow_core.specs.Laws.{LieWithin}
-use Rattle.constraint_net.specs.Calls.{Notes}
-use Rattle.constraint_net.specs.declared.constraint.Constraint.{Constraint}
+use Rattle.plan_growth.specs.narrow_core.Laws.{LieWithin}
+use Rattle.plan_growth.specs.constraint_net.Calls.{Notes}
+use Rattle.plan_growth.specs.constraint_net.Constraint.{Constraint}
 use Rattle.plan_defs.specs.Closure.{IsRespected}
 use Rattle.plan_defs.specs.Laws.{HaveToTurn}
 use Rattle.plan_defs.specs.Refusals.{IsKnown}

@@ -7,8 +7,8 @@ use Rattle.eu_name.specs.declared.name.VarName.{VarName}
 use Rattle.model_core.specs.declared.rule.Guard.{Guard}
 use Rattle.model_core.specs.declared.rule.Side.{Side}
 use Rattle.model_core.specs.Blocks.{TokenBlock}
-use Rattle.constraint_net.specs.declared.constraint.Constraint.{Constraint}
-use Rattle.constraint_net.specs.declared.constraint.NetArg.{NetArg}
+use Rattle.plan_growth.specs.constraint_net.Constraint.{Constraint}
+use Rattle.plan_growth.specs.constraint_net.NetArg.{NetArg}
 use Rattle.plan_defs.specs.Claims.{Claim}
 use Rattle.plan_defs.specs.Terms.{Argument, Value, Variable}
 use Rattle.plan_growth.specs.Claims.{IsNamedArgument, SaysClaim, IsPostedIn}

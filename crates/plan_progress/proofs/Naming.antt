@@ -32,7 +32,7 @@ use Rattle.model_core.specs.Standing.{StandsAt, IsSeen, IsTermSeen}
 use Rattle.model_core.specs.State.{IsBlockOf, StandsOpen}
 use Rattle.model_core.specs.Tokens.{HasToken, root_token, slot_token, slot_of}
 use Rattle.model_core.specs.Variables.{HasPartBase}
-use Rattle.constraint_net.specs.declared.constraint.Constraint as posts
+use Rattle.plan_growth.specs.constraint_net.Constraint as posts
 use Rattle.plan_defs.specs.Terms.{InRule}
 use Rattle.plan_defs.proofs.Members.{get_below, get_all, get_same, contains_from_get}
 use Rattle.plan_growth.specs.Content.{Content, shown, IsContent}

@@ -21,7 +21,7 @@ use Rattle.model_core.specs.Entries.{Entries}
 use Rattle.model_core.specs.State.{VarDomain}
 use Rattle.model_core.specs.Tokens.{HasToken, IsRejectable, slot_token}
 use Rattle.model_core.specs.Variables.{HasBase, HasPartBase}
-use Rattle.constraint_net.specs.declared.constraint.Constraint as posts
+use Rattle.plan_growth.specs.constraint_net.Constraint as posts
 use Rattle.plan_defs.specs.Claims.{Claim, HasPart, IsOfProblem, IsOfBlock, at_most, equal, part_of}
 use Rattle.plan_defs.specs.Closure.{IsRespected}
 use Rattle.plan_defs.specs.Laws.{HaveToTurn}

@@ -25,15 +25,15 @@ use Rattle.model_core.specs.Numbers.{turned}
 use Rattle.model_core.specs.State.{State, Gives}
 use Rattle.model_core.specs.Tokens.{IsRoot, root_token, slot_token}
 use Rattle.model_core.specs.Variables.{HasBase}
-use Rattle.narrow_core.specs.Laws.{LieWithin}
-use Rattle.narrow_core.specs.declared.field.Field.{Field}
-use Rattle.constraint_net.specs.Calls.{Notes}
-use Rattle.constraint_net.specs.Limits.{LimitsAt}
-use Rattle.constraint_net.specs.Networks.{AllConsistent}
-use Rattle.constraint_net.specs.Steps.{SettlesTo}
-use Rattle.constraint_net.specs.declared.NetFault.{NetFault}
-use Rattle.constraint_net.specs.declared.NetFault.TheVariants.{Collapsed, Memory}
-use Rattle.constraint_net.specs.declared.constraint.Constraint.{Constraint}
+use Rattle.plan_growth.specs.narrow_core.Laws.{LieWithin}
+use Rattle.plan_growth.specs.narrow_core.Field.{Field}
+use Rattle.plan_growth.specs.constraint_net.Calls.{Notes}
+use Rattle.plan_growth.specs.constraint_net.Limits.{LimitsAt}
+use Rattle.plan_growth.specs.constraint_net.Networks.{AllConsistent}
+use Rattle.plan_growth.specs.constraint_net.Steps.{SettlesTo}
+use Rattle.plan_growth.specs.constraint_net.NetFault.{NetFault}
+use Rattle.plan_growth.specs.constraint_net.NetFault.TheVariants.{Collapsed, Memory}
+use Rattle.plan_growth.specs.constraint_net.Constraint.{Constraint}
 use Rattle.plan_defs.specs.Claims.{Claim, IsClaim, IsOfProblem, IsOfToken, ItemSays, lasts}
 use Rattle.plan_defs.specs.Closure.{IsRespected}
 use Rattle.plan_defs.specs.Laws.{HaveToTurn}

@@ -15,8 +15,8 @@ use Rattle.model_core.specs.Decided.{IsActivated, IsTaken}
 use Rattle.model_core.specs.Entries.{Entries}
 use Rattle.model_core.specs.Numbers.{turned}
 use Rattle.model_core.specs.Tokens.{IsRoot, root_token, slot_token}
-use Rattle.narrow_core.specs.declared.field.Field.{Field}
-use Rattle.constraint_net.specs.declared.constraint.Constraint.{Constraint}
+use Rattle.plan_growth.specs.narrow_core.Field.{Field}
+use Rattle.plan_growth.specs.constraint_net.Constraint.{Constraint}
 use Rattle.plan_defs.specs.Claims.{Claim, IsOfProblem, IsOfBlock, IsOfToken, IsOfMerge, IsOfOrder}
 use Rattle.plan_defs.specs.Closure.{IsRespected, AreInBase}
 use Rattle.plan_defs.specs.Laws.{HaveToTurn}

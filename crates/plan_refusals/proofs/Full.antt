@@ -15,7 +15,7 @@ use Rattle.model_core.specs.Decided.{IsActive}
 use Rattle.plan_defs.specs.Refusals.{AreActive}
 use Rattle.plan_defs.proofs.Members.{get_from_contains, contains_from_get, get_below, all_from_get}
 use Rattle.plan_defs.proofs.Ordered.{contains_head, contains_later, contains_cases, contains_none, ordered_head, ordered_tail, ordered_none, ordered_cons}
-use Rattle.plan_store.specs.Stores.{Snapshot}
+use Rattle.plan_opening.specs.plan_store.Stores.{Snapshot}
 use Rattle.timeline_core.specs.Unordered.{TakesPlace}
 use Rattle.token_store.specs.Tokens.{TokenList, token_names, token_states}
 use Rattle.token_store.specs.declared.trail.Token.{Token}

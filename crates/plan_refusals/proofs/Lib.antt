@@ -3,3 +3,5 @@ pub mod Told
 pub mod Full
 pub mod Undecided
 pub mod Resting
+pub mod plan_opening
+pub mod plan_view

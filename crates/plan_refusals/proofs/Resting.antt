@@ -5,8 +5,8 @@ use Rattle.model_core.specs.declared.decision.Decision.TheVariants.{Activate, Me
 use Rattle.model_core.specs.declared.model.Model.{Model}
 use Rattle.narrow_core.specs.declared.field.Field.{Field}
 use Rattle.plan_opening.specs.Underway.{IsAtRest}
-use Rattle.plan_progress.proofs.Naming.{active_there}
-use Rattle.plan_store.specs.Stores.{Snapshot, named_content}
+use Rattle.plan_opening.specs.plan_progress.Naming.{active_there}
+use Rattle.plan_opening.specs.plan_store.Stores.{Snapshot, named_content}
 use Rattle.timeline_core.specs.Unordered.{AreDecidedOnce}
 use Rattle.plan_refusals.specs.Judging.{AreTold}
 

@@ -14,9 +14,9 @@ use Rattle.model_core.specs.Tokens.{IsFact, IsRejectable}
 use Rattle.model_core.specs.TokenStates.{HasTokenState}
 use Rattle.plan_defs.specs.Terms.{Counts}
 use Rattle.plan_defs.proofs.Members.{contains_from_get}
-use Rattle.plan_growth.specs.Content.{shown}
-use Rattle.plan_posting.specs.Counting.{IsTakenState}
-use Rattle.plan_store.specs.Stores.{Snapshot, named_content}
+use Rattle.plan_opening.specs.plan_growth.Content.{shown}
+use Rattle.plan_opening.specs.plan_posting.Counting.{IsTakenState}
+use Rattle.plan_opening.specs.plan_store.Stores.{Snapshot, named_content}
 use Rattle.timeline_core.specs.Unordered.{AreDecidedOnce, TakesPlace}
 use Rattle.token_store.specs.Tokens.{TokenList, token_names}
 use Rattle.plan_refusals.specs.Judging.{IsKeptAs, AreTold}

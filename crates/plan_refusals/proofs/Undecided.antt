@@ -5,8 +5,8 @@ use Rattle.eu_name.specs.declared.name.TokenName.{TokenName}
 use Rattle.model_core.specs.declared.decision.Decision.{Decision}
 use Rattle.model_core.specs.declared.decision.Decision.TheVariants.{Activate, Merge, Reject}
 use Rattle.model_core.specs.declared.model.Model.{Model}
-use Rattle.plan_growth.specs.Content.{shown}
-use Rattle.plan_store.specs.Stores.{Snapshot, named_content}
+use Rattle.plan_opening.specs.plan_growth.Content.{shown}
+use Rattle.plan_opening.specs.plan_store.Stores.{Snapshot, named_content}
 use Rattle.token_store.specs.Tokens.{token_names}
 use Rattle.plan_refusals.specs.declared.reason.Reason.{Reason}
 use Rattle.plan_refusals.specs.declared.reason.Reason.TheVariants.{Unknown, Decided, NotInDomain, NotActive, NotSamePredicate, NotRejectable, SameToken, ActiveFull}

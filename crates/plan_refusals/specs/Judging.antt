@@ -9,8 +9,8 @@ use Rattle.model_core.specs.Decided.{IsTaken, IsDecided}
 use Rattle.model_core.specs.Tokens.{IsFact}
 use Rattle.timeline_core.specs.Unordered.{AreDecidedOnce}
 use Rattle.token_store.specs.Tokens.{TokenList, token_names, token_states}
-use Rattle.plan_store.specs.Stores.{Snapshot}
-use Rattle.plan_posting.specs.Counting.{AreTokenStates}
+use Rattle.plan_opening.specs.plan_store.Stores.{Snapshot}
+use Rattle.plan_opening.specs.plan_posting.Counting.{AreTokenStates}
 use Rattle.plan_refusals.specs.declared.reason.Reason.{Reason}
 use Rattle.plan_refusals.specs.declared.reason.Reason.TheVariants as reasons
 

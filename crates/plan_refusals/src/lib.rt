@@ -6,6 +6,10 @@
 
 mod checks;
 mod judge;
+pub mod passed_plan_opening;
+pub mod passed_plan_posting;
+pub mod passed_plan_view;
+pub mod passed_rule_engine;
 mod reason;
 mod tokens;
 

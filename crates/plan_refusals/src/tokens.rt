@@ -8,8 +8,8 @@ ghost use Rattle.model_core.specs.Decided.{IsTaken};
 ghost use Rattle.model_core.specs.Tokens.{IsRejectable};
 ghost use Rattle.plan_defs.specs.Refusals.{AreActive};
 ghost use Rattle.plan_defs.specs.Terms.{Counts};
-ghost use Rattle.plan_posting.specs.Counting.{IsTakenState};
-ghost use Rattle.plan_store.specs.Stores.{Snapshot};
+ghost use Rattle.plan_opening.specs.plan_posting.Counting.{IsTakenState};
+ghost use Rattle.plan_opening.specs.plan_store.Stores.{Snapshot};
 ghost use Rattle.token_store.specs.Tokens.{tokens_now, token_names, token_states};
 ghost use Rattle.plan_refusals.specs.Judging.{FindsState, AreTold, FindsUndecided, one_if_active, active_count};
 
@@ -17,7 +17,7 @@ use super::reason::Reason;
 use eu_name::name::{TokenName, VarName};
 use model_core::model::Model;
 use model_core::view::TokenState;
-use plan_posting::is_rejectable;
+use plan_opening::passed_plan_posting::is_rejectable;
 use token_store::Tokens;
 
 // How many tokens may be active.

@@ -4,6 +4,8 @@
 //! crates that are done with a database.
 #![tactic(auto)]
 
+pub mod passed_plan_db;
+
 use plan_db::Db;
 
 /// Lets the database go.

@@ -36,12 +36,12 @@ use Rattle.plan_defs.proofs.Members.{get_from_contains, get_same}
 use Rattle.plan_defs.proofs.Ordered.{contains_head, contains_later, contains_cases, ordered_cons}
 use Rattle.plan_defs.proofs.Saying.{own_or_merged, own_or_rejected, taken_or_rejected, fact_or_not}
 use Rattle.timeline_core.specs.Unordered.{AreUnordered}
-use Rattle.plan_states.specs.Flaws.{Flaw, Undecided, Undetermined, Unordered, Untimed, IsLeftOpen}
+use Rattle.least_states.specs.plan_states.Flaws.{Flaw, Undecided, Undetermined, Unordered, Untimed, IsLeftOpen}
 use Rattle.plan_swap.specs.SwapLaws.{MayChangePlaces, count_of_tokens}
 use Rattle.plan_swap.proofs.Agreeing.{swap_is_there, swaps_well}
 use Rattle.plan_swap.proofs.Mapping.{contains_map}
 use Rattle.plan_grounds.proofs.Grounding as grounds
-use Rattle.own_states.proofs.Owning.{plan_state}
+use Rattle.least_states.specs.own_states.Owning.{plan_state}
 use Rattle.least_states.proofs.Founding.{well_founded}
 use Rattle.plan_search.specs.Choices.{IsActivationLeft, IsRejectionLeft, AreTokenChoices, AreValueChoices, IsLeftOut}
 use Rattle.plan_search.specs.SearchLaws.{IsChoiceOf, IsPlanFor, AgreesWithSome, IsWithinBound}

@@ -17,7 +17,7 @@ use Rattle.plan_defs.specs.Settling.{IsSettled}
 use Rattle.plan_defs.proofs.Ordered.{contains_head, contains_later, same_members}
 use Rattle.plan_defs.proofs.Settling.{least_same, least_not_collapsed}
 use Rattle.plan_defs.proofs.States.{gives_same}
-use Rattle.plan_states.specs.Flaws.{Flaw, Undecided, Undetermined, Unordered, Untimed, HasFlaw}
+use Rattle.least_states.specs.plan_states.Flaws.{Flaw, Undecided, Undetermined, Unordered, Untimed, HasFlaw}
 use Rattle.plan_search.specs.Choices.{IsFlawBefore, IsFirstFlaw, AreTargets, IsActivationLeft, IsRejectionLeft, AreTokenChoices, AreValueChoices, AreChoices}
 use Rattle.plan_search.specs.Search.{SearchOutcome, Finds, Fails, VisitsEach, TellsLeftOut, LooksAtFlaw, IsVisitOf, also_left_out}
 use Rattle.plan_search.proofs.Searching.{choices_settled}

@@ -24,7 +24,7 @@ use Rattle.plan_defs.proofs.Ordered.{contains_cases, contains_none}
 use Rattle.std.proofs.lemmas.List.Elements.{All-contains}
 use Rattle.timeline_core.specs.Unordered.{AreUnordered}
 use Rattle.plan_defs.proofs.Filling.{same_some}
-use Rattle.plan_states.specs.Flaws.{Flaw, Undecided, Undetermined, Unordered, Untimed, IsLeftOpen}
+use Rattle.least_states.specs.plan_states.Flaws.{Flaw, Undecided, Undetermined, Unordered, Untimed, IsLeftOpen}
 use Rattle.plan_swap.proofs.Mapping.{map_contains}
 use Rattle.plan_search.specs.Choices.{IsFlawBefore, IsActivationLeft, IsRejectionLeft, AreTokenChoices, AreValueChoices}
 use Rattle.plan_search.specs.SearchLaws.{IsChoiceOf}

@@ -12,9 +12,9 @@ use Rattle.plan_defs.specs.Settling.{IsSettled}
 use Rattle.plan_defs.proofs.Completing.{closed_state}
 use Rattle.plan_defs.proofs.Ordered.{contains_head, contains_later, contains_cases, contains_none}
 use Rattle.plan_defs.proofs.Settling.{IsSettled-push}
-use Rattle.plan_states.specs.Flaws.{Flaw, HasFlaw}
+use Rattle.least_states.specs.plan_states.Flaws.{Flaw, HasFlaw}
 use Rattle.plan_swap.specs.SwapLaws.{count_of_tokens}
-use Rattle.own_states.proofs.Owning.{plan_state}
+use Rattle.least_states.specs.own_states.Owning.{plan_state}
 use Rattle.plan_search.specs.Choices.{IsFirstFlaw, AreChoices, IsLeftOut}
 use Rattle.plan_search.specs.Search.{Finds, Fails, Stops, SearchOutcome, VisitsEach, TellsLeftOut, LooksAtFlaw, IsVisitOf}
 use Rattle.plan_search.specs.SearchLaws.{IsChoiceOf, IsPlanFor, IsFoundList}

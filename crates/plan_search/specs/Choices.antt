@@ -12,7 +12,7 @@ use Rattle.model_core.specs.Decided.{IsActive}
 use Rattle.model_core.specs.State.{State, Gives}
 use Rattle.model_core.specs.Tokens.{IsRejectable}
 use Rattle.plan_defs.specs.Refusals.{HaveSamePredicate, AreActive}
-use Rattle.plan_states.specs.Flaws.{Flaw, Undecided, Undetermined, Unordered, Untimed, IsFlaw}
+use Rattle.least_states.specs.plan_states.Flaws.{Flaw, Undecided, Undetermined, Unordered, Untimed, IsFlaw}
 
 -- ---- the first flaw
 

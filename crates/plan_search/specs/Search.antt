@@ -4,7 +4,7 @@ use Rattle.model_core.specs.declared.decision.Decision.{Decision}
 use Rattle.model_core.specs.declared.model.Model.{Model}
 use Rattle.model_core.specs.State.{State}
 use Rattle.plan_defs.specs.Closure.{IsLeast, IsCollapsed}
-use Rattle.plan_states.specs.Flaws.{Flaw, HasFlaw}
+use Rattle.least_states.specs.plan_states.Flaws.{Flaw, HasFlaw}
 use Rattle.plan_search.specs.Choices.{IsFirstFlaw, AreChoices, IsLeftOut}
 
 -- how the search from a list ends: with a list that it finds, or without one, or without a unit for a further visit

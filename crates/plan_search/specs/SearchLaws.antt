@@ -11,7 +11,7 @@ use Rattle.plan_defs.specs.Plans.{IsPlanOf}
 use Rattle.plan_defs.specs.Refusals.{IsAdmissible}
 use Rattle.plan_defs.specs.Settling.{IsSettled}
 use Rattle.plan_defs.specs.Valid.{IsValid}
-use Rattle.plan_states.specs.Flaws.{Flaw, HasFlaw}
+use Rattle.least_states.specs.plan_states.Flaws.{Flaw, HasFlaw}
 use Rattle.plan_swap.specs.SwapLaws.{count_of_tokens}
 use Rattle.plan_search.specs.Choices.{IsFirstFlaw, AreChoices, IsLeftOut}
 use Rattle.plan_search.specs.Search.{SearchOutcome, Finds, Fails, Searches}

@@ -40,7 +40,7 @@ use Rattle.plan_defs.proofs.Lower.{HasBlock-map, Follows-map, says_further}
 use Rattle.plan_defs.proofs.Ordered.{contains_cases, contains_none}
 use Rattle.plan_states.specs.StatePlans.{GivesOnly, IsLineIn}
 use Rattle.plan_states.proofs.Stating.{takes_not_rejected}
-use Rattle.plan_values.proofs.Few.{few_rule}
+use Rattle.plan_states.specs.plan_values.Few.{few_rule}
 use Rattle.plan_soundness.specs.Soundness.{IsFlawlessPlan}
 use Rattle.plan_soundness.proofs.Agreeing.{surely_rejectable}
 use Rattle.plan_soundness.proofs.Deciding.{Becoming, IsAFact, IsActivatedOne, IsMergedOne, IsRejectedOne}

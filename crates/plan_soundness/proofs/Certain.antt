@@ -39,7 +39,7 @@ use Rattle.plan_defs.specs.Support.{MayBe, AsksFor, IsSupportedBlock}
 use Rattle.plan_defs.specs.Terms.{InRule, Argument, Value, Variable, Means}
 use Rattle.plan_defs.proofs.Lower.{HasBlock-map, Follows-map}
 use Rattle.plan_defs.proofs.Ordered.{contains_head, contains_later}
-use Rattle.plan_values.proofs.Few.{few_rule}
+use Rattle.plan_states.specs.plan_values.Few.{few_rule}
 use Rattle.plan_states.proofs.Determining.{same_number}
 use Rattle.plan_soundness.specs.Soundness.{IsFlawlessPlan}
 use Rattle.plan_soundness.proofs.Agreeing.{surely_rejectable, taken_not_rejected}

@@ -60,7 +60,7 @@ use Rattle.plan_soundness.specs.Soundness.{IsFlawlessPlan}
 use Rattle.plan_soundness.proofs.Agreeing.{agrees, surely_rejectable, taken_not_rejected}
 use Rattle.plan_soundness.proofs.Deciding.{Becoming, IsAFact, IsActivatedOne, IsMergedOne, IsRejectedOne, no_steps}
 use Rattle.plan_soundness.proofs.Having.{IsKept, IsKeptArgument, is_state, token_has, domain_of, value_of, becomes_of, takes_line, active_line, target_active, active_not_merged, gives_value, AreKept, claim_true}
-use Rattle.timeline_core.specs.Unordered.{MayOverrun}
+use Rattle.plan_states.specs.timeline_core.Unordered.{MayOverrun}
 
 -- ---- what is on lists can be found out
 

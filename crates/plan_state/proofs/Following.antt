@@ -18,8 +18,8 @@ use Rattle.plan_defs.proofs.Settling.{least_same}
 use Rattle.plan_growth.specs.Content.{shown, AreAlike}
 use Rattle.plan_store.specs.Stores.{Stored, snapshot_of, IsSnapshot, named_content}
 use Rattle.plan_store.proofs.Naming.{names_are_once}
-use Rattle.plan_view.specs.InOrder.{state_of}
-use Rattle.plan_view.proofs.Seen.{put_in_order}
+use Rattle.plan_fitting.specs.plan_view.InOrder.{state_of}
+use Rattle.plan_fitting.proofs.plan_view.Seen.{put_in_order}
 use Rattle.timeline_core.specs.Unordered.{AreDecidedOnce}
 use Rattle.plan_state.specs.Advancing.{IsLeastOf, CanFollow}
 

@@ -10,8 +10,8 @@ use Rattle.constraint_net.specs.declared.NetFault.{NetFault}
 use Rattle.constraint_net.specs.declared.NetFault.TheVariants.{Collapsed, Memory}
 use Rattle.plan_growth.specs.Growth.{LeaveNothing}
 use Rattle.plan_store.specs.Stores.{Stored}
-use Rattle.plan_posting.specs.Tables.{HaveTables}
-use Rattle.plan_opening.specs.Underway.{IsStoreUnderway}
+use Rattle.plan_fitting.specs.plan_posting.Tables.{HaveTables}
+use Rattle.plan_fitting.specs.plan_opening.Underway.{IsStoreUnderway}
 use Rattle.plan_beginning.specs.Beginning.{IsBeginning, BeginsFrom}
 use Rattle.plan_closing.specs.Looking.{IsOnWay}
 use Rattle.plan_closing.specs.Closing.{AreKnownDue, CanClose, BringsToRest}

@@ -8,10 +8,10 @@ use Rattle.model_core.specs.declared.model.Model.{Model}
 use Rattle.plan_defs.specs.Closure.{IsLeast, IsCollapsed}
 use Rattle.plan_defs.proofs.Members.{get_same}
 use Rattle.plan_growth.specs.Growth.{LeaveNothing}
-use Rattle.plan_posting.specs.Tables.{HaveTables}
+use Rattle.plan_fitting.specs.plan_posting.Tables.{HaveTables}
 use Rattle.plan_store.specs.Stores.{Stored, snapshot_of, IsSnapshot}
 use Rattle.constraint_net.specs.declared.NetFault.TheVariants.{Collapsed}
-use Rattle.plan_view.specs.Seeing.{seen_state}
+use Rattle.plan_fitting.specs.plan_view.Seeing.{seen_state}
 use Rattle.plan_defs.specs.Settling.{IsSettled}
 use Rattle.timeline_core.specs.Unordered.{AreDecidedOnce}
 use Rattle.timeline_core.proofs.Deciding.{settled_once}

@@ -6,7 +6,7 @@ use Rattle.std.proofs.lemmas.List.{length-take-le, length_push}
 use Rattle.model_core.specs.declared.decision.Decision.{Decision}
 use Rattle.model_core.specs.declared.model.Model.{Model}
 use Rattle.plan_defs.proofs.Members.{get_below}
-use Rattle.plan_progress.proofs.Places.{get_cases}
+use Rattle.plan_fitting.specs.plan_progress.Places.{get_cases}
 use Rattle.constraint_net.specs.Marks.{Returns}
 use Rattle.plan_closing.specs.Turns.{OnlyMarks}
 use Rattle.plan_closing.proofs.Sharing.{only_marked}

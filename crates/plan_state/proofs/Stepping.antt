@@ -2,7 +2,7 @@
 use Rattle.std.proofs.Common.{◌≡◌, ◌⊎◌, inl, inr, ℕ, zero, suc, ◌+◌, ◌<◌, ◌≤◌, List, [], ◌∷◌, ◌++◌, length, take, slice_get, slice_index_or, Option, None, Some, refl, sym, ap, ◌∙◌, subst, arith, length-append}
 use Rattle.std.proofs.lemmas.List.{length_push, length-take-le, take-append-le, take-take, take_all, take_at}
 use Rattle.std.proofs.lemmas.Option.{slice_get-get_or, slice_get_within}
-use Rattle.plan_progress.proofs.Places.{get_cases}
+use Rattle.plan_fitting.specs.plan_progress.Places.{get_cases}
 use Rattle.plan_store.specs.declared.store.Mark.{Mark}
 use Rattle.plan_store.specs.declared.watchers.Watch.{Watch}
 use Rattle.plan_store.specs.Stores.{Stored, Snapshot, snapshot_of}

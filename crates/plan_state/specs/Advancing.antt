@@ -10,10 +10,10 @@ use Rattle.plan_defs.specs.Closure.{IsLeast, IsCollapsed}
 use Rattle.plan_defs.specs.Refusals.{IsKnown, IsAlreadyDecided, HaveSamePredicate, IsAdmissible}
 use Rattle.plan_growth.specs.Content.{shown}
 use Rattle.plan_growth.specs.Growth.{LeaveNothing}
-use Rattle.plan_opening.specs.Underway.{IsAtRest}
+use Rattle.plan_fitting.specs.plan_opening.Underway.{IsAtRest}
 use Rattle.plan_store.specs.Stores.{Stored, Snapshot, snapshot_of, named_content}
-use Rattle.plan_posting.specs.Tables.{HaveTables}
-use Rattle.plan_view.specs.InOrder.{state_of}
+use Rattle.plan_fitting.specs.plan_posting.Tables.{HaveTables}
+use Rattle.plan_fitting.specs.plan_view.InOrder.{state_of}
 use Rattle.timeline_core.specs.Unordered.{AreDecidedOnce}
 
 -- the snapshot is at rest for the decisions

@@ -4,7 +4,7 @@ ghost use Rattle.std.specs.Prelude.{◌≡◌, ℕ, ◌<◌, [], List, length, C
 ghost use Rattle.model_core.specs.declared.decision.Decision.{Decision as Taken};
 ghost use Rattle.model_core.specs.Lawful.{IsLawful};
 ghost use Rattle.plan_defs.specs.Settling.{IsSettled};
-ghost use Rattle.plan_posting.specs.Tables.{HaveTables};
+ghost use Rattle.plan_fitting.specs.plan_posting.Tables.{HaveTables};
 ghost use Rattle.plan_store.specs.Stores.{snapshot_of};
 ghost use Rattle.plan_store.specs.declared.store.Mark.{Mark as Marked};
 ghost use Rattle.plan_store.specs.StoreMarks.{IsStoreMark, KeepStoreMarks};

@@ -4,6 +4,7 @@
 
 mod advance;
 pub mod footing;
+pub mod passed_plan_refusals;
 pub mod standing;
 
 pub use footing::Footing;

@@ -8,15 +8,15 @@ use Rattle.model_core.specs.State.{State}
 use Rattle.plan_defs.specs.Refusals.{Refusal, Unknown, Decided, NotInDomain, NotActive, NotSamePredicate, NotRejectable, SameToken, ActiveFull}
 use Rattle.plan_defs.specs.Refusals.{Hinders, IsRefused, IsAdmissible}
 use Rattle.plan_defs.proofs.Settling.{least_same, least_not_collapsed}
-use Rattle.plan_growth.specs.Content.{shown, AreAlike}
-use Rattle.plan_refusals.specs.declared.reason.Reason.{Reason}
-use Rattle.plan_refusals.specs.Reasons.{refusal_of, IsFirstReason}
+use Rattle.plan_store.specs.plan_growth.Content.{shown, AreAlike}
+use Rattle.plan_state.specs.plan_refusals.Reason.{Reason}
+use Rattle.plan_state.specs.plan_refusals.Reasons.{refusal_of, IsFirstReason}
 use Rattle.plan_state.specs.Advancing.{IsLeastOf}
 use Rattle.plan_state.proofs.Following.{known_alike}
 use Rattle.plan_store.specs.Stores.{Stored, snapshot_of, IsSnapshot, named_content}
 use Rattle.plan_store.proofs.Naming.{names_are_once}
-use Rattle.plan_view.specs.InOrder.{state_of}
-use Rattle.plan_view.proofs.Seen.{put_in_order}
+use Rattle.plan_state.specs.plan_view.InOrder.{state_of}
+use Rattle.plan_state.proofs.plan_view.Seen.{put_in_order}
 use Rattle.plan_steps.specs.declared.objection.Objection.{Objection}
 use Rattle.plan_steps.specs.declared.objection.Objection.TheVariants.{Collapsed, Refused}
 use Rattle.plan_steps.specs.Kept.{IsJudged}

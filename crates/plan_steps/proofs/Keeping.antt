@@ -23,7 +23,7 @@ use Rattle.plan_store.specs.Stamps.{FollowStamps}
 use Rattle.plan_state.specs.Standing.{Stood, KeepsList, KeepsListOn}
 use Rattle.plan_state.proofs.Returning.{take_whole}
 use Rattle.plan_store.specs.Stores.{snapshot_of, named_content}
-use Rattle.plan_view.specs.InOrder.{state_of}
+use Rattle.plan_state.specs.plan_view.InOrder.{state_of}
 use Rattle.plan_steps.specs.Kept.{KeepsHistory, LeaveState, WithdrawsLast}
 
 module _ (model : Model) (decisions : List Decision) (stood : Stood) (keeps : KeepsList model decisions stood) where

@@ -3,3 +3,4 @@ pub mod Keeping
 pub mod Fronts
 pub mod Overs
 pub mod Outs
+pub mod plan_deciding

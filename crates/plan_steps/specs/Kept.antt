@@ -7,7 +7,7 @@ use Rattle.model_core.specs.State.{State}
 use Rattle.plan_defs.specs.Closure.{IsLeast, IsCollapsed}
 use Rattle.plan_defs.specs.History.{IsHistory}
 use Rattle.plan_defs.specs.Refusals.{IsRefused, IsAdmissible}
-use Rattle.plan_refusals.specs.Reasons.{refusal_of}
+use Rattle.plan_state.specs.plan_refusals.Reasons.{refusal_of}
 use Rattle.plan_state.specs.Standing.{Stood, KeepsList}
 use Rattle.plan_store.specs.Stamps.{FollowStamps}
 use Rattle.plan_steps.specs.declared.objection.Objection.{Objection}

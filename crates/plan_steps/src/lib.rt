@@ -6,6 +6,7 @@
 mod forward;
 mod objection;
 mod parting;
+pub mod passed_plan_state;
 mod settle;
 pub mod subject;
 

@@ -12,7 +12,7 @@ use decision_log::Log;
 use model_core::decision::Decision;
 use model_core::model::Model;
 use plan_defs::laws::settled_lists_stay;
-use plan_refusals::{Reason, first_reason};
+use plan_state::passed_plan_refusals::{Reason, first_reason};
 use plan_state::{Footing, Standing};
 use plan_store::Store;
 

@@ -4,7 +4,7 @@ use Rattle.std.specs.Bool.{Decides}
 use Rattle.std.proofs.lemmas.Bool.Decides.{Decides-eqb, Decides-and, Decides-like}
 use Rattle.eu_name.specs.declared.name.Part.{Part as TokenPart}
 use Rattle.eu_name.specs.Laws.{DecidesEquality}
-use Rattle.model_core.specs.declared.rule.Turn.{Turn}
+use Rattle.plan_growth.specs.model_core.Turn.{Turn}
 use Rattle.plan_store.specs.declared.key.OpenBlock.{OpenBlock}
 use Rattle.plan_store.specs.declared.key.VarKey.TheVariants.{Global, Part, Local}
 

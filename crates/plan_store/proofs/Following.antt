@@ -15,14 +15,14 @@ use Rattle.domain_core.specs.declared.Change.{Change}
 use Rattle.domain_core.specs.declared.Change.TheVariants.{Same, Smaller, Empty}
 use Rattle.eu_name.specs.declared.name.TokenName.{TokenName}
 use Rattle.eu_name.specs.declared.name.VarName.{VarName}
-use Rattle.cell_store.specs.Cells.{domain_at, FollowsDomain}
-use Rattle.model_core.specs.declared.item.Kind.{Kind}
+use Rattle.plan_growth.specs.cell_store.Cells.{domain_at, FollowsDomain}
+use Rattle.plan_growth.specs.model_core.Kind.{Kind}
 use Rattle.token_store.specs.Tokens.{TokenPast, tokens_now, token_names, LeavesPast, NamesStay}
-use Rattle.constraint_net.specs.Calls.{AddsVar, Limits, Posts, GoesDown, TakesChanged}
-use Rattle.constraint_net.specs.Marks.{KeepMarks, Returns}
-use Rattle.constraint_net.specs.Networks.{Network}
-use Rattle.constraint_net.specs.declared.constraint.NetArg.{NetArg}
-use Rattle.constraint_net.specs.declared.network.Mark.{Mark as NetMark}
+use Rattle.plan_growth.specs.constraint_net.Calls.{AddsVar, Limits, Posts, GoesDown, TakesChanged}
+use Rattle.plan_growth.specs.constraint_net.Marks.{KeepMarks, Returns}
+use Rattle.plan_growth.specs.constraint_net.Networks.{Network}
+use Rattle.plan_growth.specs.constraint_net.NetArg.{NetArg}
+use Rattle.plan_growth.specs.constraint_net.Mark.{Mark as NetMark}
 use Rattle.plan_store.specs.Keys.{named_variable, IsKeyBelow}
 use Rattle.plan_store.specs.Stamps.{HasStamp, FollowStamps, FollowsLess, StampsGoOn}
 use Rattle.plan_store.specs.Stores.{Stored, Snapshot, snapshot_of, IsSnapshot, named_content, variable_names}

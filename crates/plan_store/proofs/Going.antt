@@ -4,13 +4,13 @@ use Rattle.std.specs.Prelude.{Contains}
 use Rattle.std.proofs.lemmas.Bool.{cases_lt}
 use Rattle.std.proofs.lemmas.List.{append-nil, take-append-drop, take-append-le, take-take, take_all, take_at, length-take-le}
 use Rattle.domain_core.specs.Domain.{Domain}
-use Rattle.cell_store.specs.Cells.{newest_of}
+use Rattle.plan_growth.specs.cell_store.Cells.{newest_of}
 use Rattle.eu_name.specs.declared.name.TokenName.{TokenName}
 use Rattle.token_store.specs.Tokens.{TokenList, TokenPast, tokens_now, token_names, LeavesPast, NamesStay}
-use Rattle.constraint_net.specs.Marks.{IsMark, IsLatest, CanReturn, KeepMarks, Returns, HaveChanged}
-use Rattle.constraint_net.specs.Networks.{Network, cells_of}
-use Rattle.constraint_net.specs.declared.constraint.Constraint.{Constraint}
-use Rattle.constraint_net.specs.declared.network.Mark.{Mark as NetMark}
+use Rattle.plan_growth.specs.constraint_net.Marks.{IsMark, IsLatest, CanReturn, KeepMarks, Returns, HaveChanged}
+use Rattle.plan_growth.specs.constraint_net.Networks.{Network, cells_of}
+use Rattle.plan_growth.specs.constraint_net.Constraint.{Constraint}
+use Rattle.plan_growth.specs.constraint_net.Mark.{Mark as NetMark}
 use Rattle.plan_store.specs.declared.key.OpenBlock.{OpenBlock}
 use Rattle.plan_store.specs.declared.key.VarKey.{VarKey}
 use Rattle.plan_store.specs.declared.store.Mark.{Mark}

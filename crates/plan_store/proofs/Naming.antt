@@ -10,8 +10,8 @@ use Rattle.domain_core.specs.Domain.{Domain}
 use Rattle.eu_name.specs.declared.name.TokenName.{TokenName}
 use Rattle.eu_name.specs.declared.name.VarName.{VarName}
 use Rattle.eu_name.specs.declared.name.VarName.TheVariants as name
-use Rattle.model_core.specs.State.{VarDomain}
-use Rattle.model_core.specs.Blocks.{TokenBlock}
+use Rattle.plan_growth.specs.model_core.State.{VarDomain}
+use Rattle.plan_growth.specs.model_core.Blocks.{TokenBlock}
 use Rattle.token_store.specs.Tokens.{TokenList, token_names, with_token}
 use Rattle.token_store.specs.Orders.{name_at}
 use Rattle.token_store.specs.declared.trail.Token.{Token}

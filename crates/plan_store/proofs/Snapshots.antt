@@ -5,10 +5,10 @@ use Rattle.std.proofs.lemmas.List.{length_push, length-map, map_push}
 use Rattle.std.proofs.lemmas.List.Elements.{All-push, All-weaker}
 use Rattle.domain_core.specs.Domain.{Domain, IsDomain}
 use Rattle.eu_name.specs.declared.name.TokenName.{TokenName}
-use Rattle.model_core.specs.declared.view.TokenState.{TokenState}
-use Rattle.model_core.specs.declared.view.TokenState.TheVariants.{Inactive}
-use Rattle.narrow_core.specs.declared.field.Field.{Field}
-use Rattle.constraint_net.specs.declared.constraint.Constraint.{Constraint}
+use Rattle.plan_growth.specs.model_core.TokenState.{TokenState}
+use Rattle.plan_growth.specs.model_core.TokenState.TheVariants.{Inactive}
+use Rattle.plan_growth.specs.narrow_core.Field.{Field}
+use Rattle.plan_growth.specs.constraint_net.Constraint.{Constraint}
 use Rattle.token_store.specs.Tokens.{TokenList, token_names, with_token, with_state, IsNewName}
 use Rattle.token_store.specs.declared.trail.Token.{Token}
 use Rattle.plan_store.specs.declared.key.OpenBlock.{OpenBlock}

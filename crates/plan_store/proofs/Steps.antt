@@ -7,17 +7,17 @@ use Rattle.std.proofs.lemmas.List.Elements.{All-set}
 use Rattle.domain_core.specs.Domain.{Domain, IsDomain}
 use Rattle.domain_core.specs.declared.Change.{Change}
 use Rattle.eu_name.specs.declared.name.TokenName.{TokenName}
-use Rattle.model_core.specs.declared.view.TokenState.{TokenState}
-use Rattle.narrow_core.specs.Laws.{LieWithin}
+use Rattle.plan_growth.specs.model_core.TokenState.{TokenState}
+use Rattle.plan_growth.specs.narrow_core.Laws.{LieWithin}
 use Rattle.token_store.specs.Tokens.{TokenPast, tokens_now, token_names, with_token, with_state, AddsToken}
 use Rattle.token_store.specs.declared.AddFault.{AddFault}
 use Rattle.token_store.specs.declared.AddFault.TheVariants.{Twice, Memory}
-use Rattle.constraint_net.specs.Calls.{AddsVar, Limits}
-use Rattle.constraint_net.specs.Networks.{Network}
-use Rattle.constraint_net.specs.Steps.{SettlesTo}
-use Rattle.constraint_net.specs.declared.NetFault.{NetFault}
-use Rattle.constraint_net.specs.declared.NetFault.TheVariants.{Collapsed}
-use Rattle.constraint_net.specs.declared.NetFault.TheVariants as fault
+use Rattle.plan_growth.specs.constraint_net.Calls.{AddsVar, Limits}
+use Rattle.plan_growth.specs.constraint_net.Networks.{Network}
+use Rattle.plan_growth.specs.constraint_net.Steps.{SettlesTo}
+use Rattle.plan_growth.specs.constraint_net.NetFault.{NetFault}
+use Rattle.plan_growth.specs.constraint_net.NetFault.TheVariants.{Collapsed}
+use Rattle.plan_growth.specs.constraint_net.NetFault.TheVariants as fault
 use Rattle.plan_store.specs.declared.key.VarKey.{VarKey}
 use Rattle.plan_store.specs.Keys.{IsKeyBelow}
 use Rattle.plan_store.specs.Stores.{Stored, snapshot_of, IsSnapshot}

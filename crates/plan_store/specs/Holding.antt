@@ -1,7 +1,7 @@
 -- How a store is held.
 use Rattle.std.specs.Prelude.{List}
 use Rattle.token_store.specs.Tokens.{TokenPast}
-use Rattle.constraint_net.specs.Networks.{Network}
+use Rattle.plan_growth.specs.constraint_net.Networks.{Network}
 use Rattle.plan_store.specs.Stores.{Stored}
 use Rattle.plan_store.specs.declared.key.OpenBlock.{OpenBlock}
 use Rattle.plan_store.specs.declared.key.VarKey.{VarKey}

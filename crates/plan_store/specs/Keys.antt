@@ -3,7 +3,7 @@ use Rattle.std.specs.Prelude.{ℕ, ◌<◌, ⊤, List}
 use Rattle.eu_name.specs.declared.name.TokenName.{TokenName}
 use Rattle.eu_name.specs.declared.name.VarName.{VarName}
 use Rattle.eu_name.specs.declared.name.VarName.TheVariants as name
-use Rattle.model_core.specs.Blocks.{TokenBlock}
+use Rattle.plan_growth.specs.model_core.Blocks.{TokenBlock}
 use Rattle.token_store.specs.Orders.{name_at}
 use Rattle.plan_store.specs.declared.key.OpenBlock.{OpenBlock}
 use Rattle.plan_store.specs.declared.key.VarKey.{VarKey}

@@ -8,3 +8,4 @@ pub mod Watching
 pub mod Holding
 pub mod Findable
 pub mod Finding
+pub mod plan_growth

@@ -5,7 +5,7 @@ use Rattle.std.specs.declared.alloc.AllocError.{AllocError}
 use Rattle.domain_core.specs.Domain.{Domain}
 use Rattle.eu_name.specs.declared.name.TokenName.{TokenName}
 use Rattle.token_store.specs.Tokens.{tokens_now, with_token, IsNamedAt, IsNewName}
-use Rattle.constraint_net.specs.Networks.{Network}
+use Rattle.plan_growth.specs.constraint_net.Networks.{Network}
 use Rattle.plan_store.specs.declared.key.OpenBlock.{OpenBlock}
 use Rattle.plan_store.specs.declared.key.VarKey.{VarKey}
 use Rattle.plan_store.specs.Stores.{Stored}

@@ -4,7 +4,7 @@ use Rattle.std.specs.Prelude.{slice_index_or, Some}
 use Rattle.domain_core.specs.Domain.{Domain, slack}
 use Rattle.eu_name.specs.declared.name.TokenName.{TokenName}
 use Rattle.eu_name.specs.declared.name.VarName.{VarName}
-use Rattle.cell_store.specs.Cells.{domain_at, FollowsDomain}
+use Rattle.plan_growth.specs.cell_store.Cells.{domain_at, FollowsDomain}
 use Rattle.token_store.specs.Tokens.{tokens_now, token_names}
 use Rattle.plan_store.specs.declared.key.VarKey.{VarKey}
 use Rattle.plan_store.specs.Stores.{Stored, snapshot_of, variable_names}

@@ -4,8 +4,8 @@ use Rattle.std.specs.Prelude.{Some}
 use Rattle.domain_core.specs.Domain.{Domain}
 use Rattle.eu_name.specs.declared.name.TokenName.{TokenName}
 use Rattle.eu_name.specs.declared.name.VarName.{VarName}
-use Rattle.model_core.specs.State.{Gives}
-use Rattle.model_core.specs.declared.view.TokenState.{TokenState}
+use Rattle.plan_growth.specs.model_core.State.{Gives}
+use Rattle.plan_growth.specs.model_core.TokenState.{TokenState}
 use Rattle.token_store.specs.Tokens.{token_names, with_token, with_state}
 use Rattle.plan_growth.specs.Content.{Content, shown}
 use Rattle.plan_store.specs.declared.key.OpenBlock.{OpenBlock}

@@ -1,8 +1,8 @@
 -- Marks of a store, and going back to one.
 use Rattle.std.specs.Prelude.{◌≡◌, ◌⊎◌, ℕ, ◌<◌, ◌≤◌, List, ◌∷◌, ◌++◌, length, take, Contains}
-use Rattle.cell_store.specs.Cells.{domain_at}
+use Rattle.plan_growth.specs.cell_store.Cells.{domain_at}
 use Rattle.token_store.specs.Tokens.{TokenPast}
-use Rattle.constraint_net.specs.Marks.{IsMark, Returns}
+use Rattle.plan_growth.specs.constraint_net.Marks.{IsMark, Returns}
 use Rattle.plan_store.specs.declared.store.Mark.{Mark}
 use Rattle.plan_store.specs.Stamps.{FollowStamps, StampsGoOn}
 use Rattle.plan_store.specs.Stores.{Stored, Snapshot, snapshot_of, IsSnapshot}

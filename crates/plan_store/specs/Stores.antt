@@ -3,9 +3,9 @@ use Rattle.std.specs.Prelude.{◌≡◌, ◌≢◌, ◌==◌, ℕ, ◌<◌, List
 use Rattle.domain_core.specs.Domain.{Domain, IsDomain}
 use Rattle.eu_name.specs.declared.name.VarName.{VarName}
 use Rattle.token_store.specs.Tokens.{TokenList, TokenPast, tokens_now, token_names}
-use Rattle.narrow_core.specs.declared.field.Field.{Field}
-use Rattle.constraint_net.specs.Networks.{Network}
-use Rattle.constraint_net.specs.declared.constraint.Constraint.{Constraint}
+use Rattle.plan_growth.specs.narrow_core.Field.{Field}
+use Rattle.plan_growth.specs.constraint_net.Networks.{Network}
+use Rattle.plan_growth.specs.constraint_net.Constraint.{Constraint}
 use Rattle.plan_growth.specs.Content.{Content}
 use Rattle.plan_store.specs.Keys.{named_variable, named_block, IsKeyBelow}
 use Rattle.plan_store.specs.declared.key.OpenBlock.{OpenBlock}

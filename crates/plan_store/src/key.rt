@@ -1,11 +1,11 @@
 //! What variables and open blocks go by in a store: the places of their tokens.
 
 ghost use Rattle.std.specs.Prelude.{◌≡◌, IfOk};
-ghost use Rattle.model_core.specs.Numbers.{turned};
+ghost use Rattle.plan_growth.specs.model_core.Numbers.{turned};
 
 use eu_name::name::Part;
 use eu_name::sequence::Sequence;
-use model_core::rule::Turn;
+use plan_growth::passed_model_core::Turn;
 use std::alloc::{AllocError, Global};
 
 /// A variable, by the place of the token that it belongs to.

@@ -12,9 +12,9 @@ ghost use Rattle.plan_store.specs.Findable.{AreFindable, AreInOrder, IsExpectedA
 
 use super::key::VarKey;
 use super::laws::keys_are_told_apart;
-use cell_store::numbers::short;
 use eu_name::name::Part;
 use indexmap::IndexMap;
+use plan_growth::passed_cell_store::short;
 use std::alloc::{AllocError, Global};
 use std::marker::Model;
 

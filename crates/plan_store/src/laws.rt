@@ -7,7 +7,7 @@ ghost use Rattle.plan_store.specs.StoreLaws.{DomainsAreReplaced, WatchersAreList
 
 use super::key::{OpenBlock, VarKey};
 use eu_name::laws::{names_are_told_apart, sequences_are_told_apart};
-use model_core::rule::Turn;
+use plan_growth::passed_model_core::Turn;
 
 /// A law: `==` of keys and of blocks tells whether the two are equal.
 pub fn keys_are_told_apart()

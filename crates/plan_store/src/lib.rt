@@ -16,6 +16,7 @@ mod items;
 pub mod key;
 mod keys;
 pub mod laws;
+pub mod passed_plan_growth;
 pub mod store;
 pub mod watchers;
 

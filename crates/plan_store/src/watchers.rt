@@ -4,7 +4,7 @@ ghost use Rattle.std.specs.Prelude.{◌≡◌, ◌≤◌, [], ◌∷◌, ◌++�
 ghost use Rattle.plan_store.specs.Stores.{blocks_watching};
 ghost use Rattle.plan_store.specs.Watching.{AreListedUnder};
 
-use cell_store::numbers::short;
+use plan_growth::passed_cell_store::short;
 use std::alloc::{AllocError, Global};
 use std::marker::Model;
 use token_store::lists::Lists;

@@ -5,3 +5,4 @@ pub mod Naming
 pub mod Asking
 pub mod Posting
 pub mod Whole
+pub mod plan_opening

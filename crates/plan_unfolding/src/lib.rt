@@ -9,6 +9,7 @@ mod branches;
 mod guards;
 mod items;
 pub mod laws;
+pub mod passed_plan_posting;
 mod reading;
 mod slots;
 mod unfolding;

@@ -24,16 +24,16 @@ use Rattle.token_store.specs.declared.trail.Token.{Token}
 use Rattle.token_store.proofs.Numbers.{in_order_at}
 use Rattle.plan_defs.proofs.Members.{get_from_contains, contains_from_get, get_below, get_within, get_same}
 use Rattle.plan_defs.proofs.Ordered.{same_members}
-use Rattle.plan_growth.specs.Content.{Content, shown, paired, IsContent}
-use Rattle.plan_growth.proofs.Alike.{in_order_alike, in_order_state}
-use Rattle.plan_growth.proofs.Blocks.{block_order}
-use Rattle.plan_growth.proofs.Showing.{pairs_apart}
+use Rattle.plan_posting.specs.plan_growth.Content.{Content, shown, paired, IsContent}
+use Rattle.plan_posting.specs.plan_growth.Alike.{in_order_alike, in_order_state}
+use Rattle.plan_posting.specs.plan_growth.Blocks.{block_order}
+use Rattle.plan_posting.specs.plan_growth.Showing.{pairs_apart}
 use Rattle.plan_posting.specs.Counting.{AreTokenStates}
-use Rattle.plan_store.specs.declared.key.VarKey.{VarKey}
-use Rattle.plan_store.specs.Keys.{named_variable, IsKeyBelow}
-use Rattle.plan_store.specs.Stores.{Snapshot, IsSnapshot, named_content}
-use Rattle.plan_store.specs.StoreLaws.{HasEachOnce}
-use Rattle.plan_store.proofs.Naming.{gives_by_number, names_are_once, same_key}
+use Rattle.plan_posting.specs.plan_store.VarKey.{VarKey}
+use Rattle.plan_posting.specs.plan_store.Keys.{named_variable, IsKeyBelow}
+use Rattle.plan_posting.specs.plan_store.Stores.{Snapshot, IsSnapshot, named_content}
+use Rattle.plan_posting.specs.plan_store.StoreLaws.{HasEachOnce}
+use Rattle.plan_posting.proofs.plan_store.Naming.{gives_by_number, names_are_once, same_key}
 use Rattle.plan_view.specs.InOrder.{tokens_in_order, blocks_in_order, entries_in_order, state_of}
 use Rattle.plan_view.specs.Seeing.{FindsRank, GivesKey, IsStateBelow, IsRankedState}
 use Rattle.plan_view.specs.ViewLaws.{ContentsArePutInOrder, ContentsHaveStates, ContentsHaveOneState}

@@ -6,8 +6,8 @@ use Rattle.eu_name.specs.NameOrder.{IsTokenBefore, IsVarBefore}
 use Rattle.eu_name.proofs.Orders.{token_order, var_order}
 use Rattle.model_core.specs.Blocks.{TokenBlock, IsBlockBefore}
 use Rattle.model_core.specs.State.{State, VarDomain}
-use Rattle.plan_growth.specs.Content.{Content, paired}
-use Rattle.plan_growth.proofs.Blocks.{block_order}
+use Rattle.plan_posting.specs.plan_growth.Content.{Content, paired}
+use Rattle.plan_posting.specs.plan_growth.Blocks.{block_order}
 
 module _ {X : Type 0} (Before Ties : X → X → Type 0) (compare : (x y : X) → Before x y ⊎ (Ties x y ⊎ Before y x)) where
   -- the item in front of the list's first, or of what becomes of the rest, or not at all, as the two compare

@@ -8,8 +8,8 @@ use Rattle.model_core.specs.declared.view.TokenState.{TokenState}
 use Rattle.model_core.specs.declared.view.TokenState.TheVariants.{Merged}
 use Rattle.model_core.specs.State.{State}
 use Rattle.token_store.specs.Orders.{HasRank}
-use Rattle.plan_store.specs.declared.key.VarKey.{VarKey}
-use Rattle.plan_store.specs.Stores.{Stored, snapshot_of, named_content}
+use Rattle.plan_posting.specs.plan_store.VarKey.{VarKey}
+use Rattle.plan_posting.specs.plan_store.Stores.{Stored, snapshot_of, named_content}
 use Rattle.plan_view.specs.InOrder.{state_of}
 
 -- a store of a model, and the decisions by which its tokens have their states

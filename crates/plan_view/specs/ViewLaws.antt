@@ -2,8 +2,8 @@
 use Rattle.std.specs.Prelude.{◌≡◌}
 use Rattle.model_core.specs.declared.model.Model.{Model}
 use Rattle.model_core.specs.State.{State, AreInOrder, IsState}
-use Rattle.plan_growth.specs.Content.{Content, shown, IsContent, AreAlike}
-use Rattle.plan_store.specs.StoreLaws.{HasEachOnce}
+use Rattle.plan_posting.specs.plan_growth.Content.{Content, shown, IsContent, AreAlike}
+use Rattle.plan_posting.specs.plan_store.StoreLaws.{HasEachOnce}
 use Rattle.plan_view.specs.InOrder.{state_of}
 
 -- the state of a content is in order and like the content

@@ -6,7 +6,7 @@ ghost use Rattle.model_core.specs.declared.decision.Decision.TheVariants.{Order}
 ghost use Rattle.model_core.specs.Views.{IsDomainIn, IsDomainAt};
 ghost use Rattle.token_store.specs.Orders.{HasRank};
 ghost use Rattle.token_store.specs.Tokens.{tokens_now, token_names};
-ghost use Rattle.plan_store.specs.Stores.{snapshot_of};
+ghost use Rattle.plan_posting.specs.plan_store.Stores.{snapshot_of};
 ghost use Rattle.plan_posting.specs.Counting.{AreTokenStates};
 ghost use Rattle.plan_view.specs.Seeing.{seen_state, FindsRank, GivesKey, IsStateBelow, IsRankedState};
 
@@ -16,8 +16,7 @@ use eu_name::name::{Part, TokenName, VarName};
 use model_core::decision::Decision;
 use model_core::model::Model;
 use model_core::view::{TokenState, View};
-use plan_store::laws::names_are_once;
-use plan_store::{Store, VarKey};
+use plan_posting::passed_plan_store::{Store, VarKey, names_are_once};
 use std::marker;
 use token_store::Tokens;
 use token_store::laws::ranks_are_inverse;
@@ -37,7 +36,7 @@ impl<'a> marker::Model for StoreView<'a> {
 
     ghost use Rattle.std.specs.Coded.{codes};
     ghost use Rattle.model_core.specs.contracts.model.Model as a_model;
-    ghost use Rattle.plan_store.specs.Stores.{snapshot_of};
+    ghost use Rattle.plan_posting.specs.plan_store.Stores.{snapshot_of};
     ghost use Rattle.plan_posting.specs.Counting.{AreTokenStates};
 
     ghost coded = { Prim.hlevel (codes, a_model.the_row.coded) };

@@ -22,8 +22,8 @@ use Rattle.nddl_problem.specs.Told.{IsCompiled, IsFirstFault}
 use Rattle.nddl_problem.proofs.OneAnswer.{one_answer}
 use Rattle.plan_defs.specs.Refusals.{Refusal, Hinders, IsRefused, IsAdmissible}
 use Rattle.plan_defs.proofs.Settling.{least_same, least_not_collapsed}
-use Rattle.plan_steps.proofs.Keeping.{accepted_is}
-use Rattle.plan_db.specs.Database.{Database, IsSound}
+use Rattle.plan_release.proofs.plan_steps.Keeping.{accepted_is}
+use Rattle.plan_release.specs.plan_db.Database.{Database, IsSound}
 use Rattle.posed_files.specs.Laws.{IsPosedOnce, PosedIsSound}
 use Rattle.posed_files.specs.Posing.{undecided, with_step, TakesText, MayNotTake, IsTextDecisionFault}
 use Rattle.posed_files.specs.Posing.{PosedFault, IsPosed, IsReadFault, IsModelFault, IsDecisionFault}

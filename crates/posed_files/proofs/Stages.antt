@@ -17,8 +17,8 @@ use Rattle.nddl_includes.specs.Visits.{ReadsAll}
 use Rattle.nddl_files.specs.Language.{ReadsAs}
 use Rattle.nddl_given.specs.Given.{AreGiven}
 use Rattle.nddl_problem.specs.Told.{IsCompiled, TellsFault}
-use Rattle.plan_db.specs.Answers.{Held}
-use Rattle.plan_db.specs.Database.{Database}
+use Rattle.plan_release.specs.plan_db.Answers.{Held}
+use Rattle.plan_release.specs.plan_db.Database.{Database}
 use Rattle.posed_files.specs.declared.fault.PoseFault.{PoseFault}
 use Rattle.posed_files.specs.declared.fault.PoseFault.TheVariants as pose
 use Rattle.posed_files.specs.Posing.{undecided, Poses}

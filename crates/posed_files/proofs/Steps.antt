@@ -11,11 +11,11 @@ use Rattle.nddl_ast.specs.declared.kind.TextKind.{TextKind}
 use Rattle.nddl_ast.specs.declared.kind.TextKind.TheVariants as kinds
 use Rattle.plan_defs.specs.Refusals.{Unknown, Decided, NotInDomain, NotActive, NotSamePredicate, NotRejectable}
 use Rattle.plan_defs.specs.Refusals.{SameToken, ActiveFull}
-use Rattle.plan_db.specs.declared.fault.DbFault.{DbFault}
-use Rattle.plan_db.specs.declared.fault.DbFault.TheVariants as fault
-use Rattle.plan_db.specs.declared.fault.Outcome.{Outcome}
-use Rattle.plan_db.specs.Answers.{Held, AnswersApply}
-use Rattle.plan_db.specs.Database.{Database}
+use Rattle.plan_release.specs.plan_db.DbFault.{DbFault}
+use Rattle.plan_release.specs.plan_db.DbFault.TheVariants as fault
+use Rattle.plan_release.specs.plan_db.Outcome.{Outcome}
+use Rattle.plan_release.specs.plan_db.Answers.{Held, AnswersApply}
+use Rattle.plan_release.specs.plan_db.Database.{Database}
 use Rattle.posed_files.specs.declared.fault.PoseFault.{PoseFault}
 use Rattle.posed_files.specs.declared.fault.PoseFault.TheVariants as pose
 use Rattle.posed_files.specs.Posing.{with_step, TakesText, MayNotTake}

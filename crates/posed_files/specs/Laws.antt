@@ -1,7 +1,7 @@
 -- Laws of what files pose.
 use Rattle.std.specs.Prelude.{◌≡◌, ℕ, List, Result}
 use Rattle.eu_io.specs.declared.shelf.FileEntry.{FileEntry}
-use Rattle.plan_db.specs.Database.{Database, IsSound}
+use Rattle.plan_release.specs.plan_db.Database.{Database, IsSound}
 use Rattle.posed_files.specs.Posing.{PosedFault, IsPosed, Poses}
 
 -- a file poses one database in the same files, or has one first fault, and not both

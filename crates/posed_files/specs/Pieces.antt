@@ -14,10 +14,10 @@ use Rattle.nddl_includes.specs.declared.fault.ReadAllFault.TheVariants as all
 use Rattle.nddl_includes.specs.Faults.{fault_kind, fault_file, fault_place}
 use Rattle.nddl_problem.specs.Told.{IsCompiled, IsFirstFault}
 use Rattle.plan_defs.specs.Refusals.{IsAdmissible}
-use Rattle.plan_db.specs.declared.fault.DbFault.{DbFault}
-use Rattle.plan_db.specs.declared.fault.DbFault.TheVariants as db
-use Rattle.plan_db.specs.Answers.{Held}
-use Rattle.plan_db.specs.Database.{Database}
+use Rattle.plan_release.specs.plan_db.DbFault.{DbFault}
+use Rattle.plan_release.specs.plan_db.DbFault.TheVariants as db
+use Rattle.plan_release.specs.plan_db.Answers.{Held}
+use Rattle.plan_release.specs.plan_db.Database.{Database}
 use Rattle.posed_files.specs.declared.fault.PoseFault.{PoseFault}
 use Rattle.posed_files.specs.declared.fault.PoseFault.TheVariants as pose
 use Rattle.posed_files.specs.Posing.{PosedFault, undecided, with_step, TakesText, MayNotTake, IsTextDecisionFault}

@@ -16,7 +16,7 @@ use Rattle.nddl_includes.specs.Visits.{ReadsAll}
 use Rattle.nddl_files.specs.Language.{ReadsAs}
 use Rattle.nddl_problem.specs.Told.{IsCompiled, IsFirstFault}
 use Rattle.plan_defs.specs.Refusals.{Refusal, IsAdmissible}
-use Rattle.plan_db.specs.Database.{Database, taken_in, HasCollapsed, RefusesFor}
+use Rattle.plan_release.specs.plan_db.Database.{Database, taken_in, HasCollapsed, RefusesFor}
 
 -- ---- the decisions of a text
 

@@ -4,6 +4,7 @@
 
 pub mod fault;
 pub mod laws;
+pub mod passed_plan_release;
 pub mod posing;
 pub mod taking;
 

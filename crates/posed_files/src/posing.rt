@@ -6,7 +6,7 @@ ghost use Rattle.eu_io.specs.Faults.{counted};
 ghost use Rattle.model_core.specs.declared.model.Model.{Model as Problem};
 ghost use Rattle.model_core.specs.Lawful.{IsLawful};
 ghost use Rattle.nddl_given.specs.Given.{AreGiven};
-ghost use Rattle.plan_db.specs.Database.{IsSound};
+ghost use Rattle.plan_release.specs.plan_db.Database.{IsSound};
 ghost use Rattle.posed_files.specs.Posing.{Poses, undecided};
 ghost use Rattle.posed_files.specs.Pieces.{TellsPosed, PosesModel, PosesRead, is_read_fault};
 
@@ -18,8 +18,8 @@ use model_core::model::Model;
 use nddl_ast::declaration::FileDecls;
 use nddl_files::read_all;
 use nddl_problem::compile;
-use plan_db::Db;
 use plan_release::let_go;
+use plan_release::passed_plan_db::Db;
 use std::alloc::Global;
 
 /// The database that the file of this name poses with those that it includes: that of their model, in which the decisions of

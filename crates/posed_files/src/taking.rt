@@ -2,14 +2,14 @@
 
 ghost use Rattle.std.specs.Prelude.{◌≡◌, ◌<◌, false, length, slice_get, Some, IfOk};
 ghost use Rattle.model_core.specs.declared.model.Placed.{Placed as ThePlaced};
-ghost use Rattle.plan_db.specs.Database.{IsSound};
+ghost use Rattle.plan_release.specs.plan_db.Database.{IsSound};
 ghost use Rattle.posed_files.specs.Pieces.{TakesUnless, TakesPlaced, TakesAll, IsFaultOr, IsSpokenBy};
 
 use super::fault::PoseFault;
 use model_core::decision::Decision;
 use model_core::model::Placed;
 use nddl_ast::kind::TextKind;
-use plan_db::{Db, DbFault};
+use plan_release::passed_plan_db::{Db, DbFault};
 use std::alloc::AllocError;
 
 // What kind of fault of a text it is, unless memory is wanting.

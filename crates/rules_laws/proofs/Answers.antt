@@ -12,9 +12,9 @@ use Rattle.nddl_scope.specs.Names.{scope_names}
 use Rattle.nddl_lines.specs.Facts.{Facts}
 use Rattle.nddl_known.specs.Known.{AreFacts}
 use Rattle.nddl_types.specs.Faults.{told_fault}
-use Rattle.nddl_table.specs.declared.table.TypeTable.{TypeTable}
+use Rattle.nddl_rules.specs.nddl_table.TypeTable.{TypeTable}
 use Rattle.nddl_trees.specs.PlainTree.{PlainTree}
-use Rattle.nddl_blocks.specs.Rules.{all_rule_faults}
+use Rattle.nddl_rules.specs.nddl_blocks.Rules.{all_rule_faults}
 use Rattle.nddl_rules.specs.Told.{AreFileTrees, IsFirstRuleFault}
 use Rattle.types_laws.proofs.Knowledge.{one_facts}
 use Rattle.rules_laws.specs.Outcomes.{TellsRules}

@@ -19,7 +19,7 @@ use Rattle.nddl_given.specs.Given.{AreGiven}
 use Rattle.nddl_given.specs.Nodes.{decl_nodes, member_nodes, parent_nodes, part_nodes, statements_nodes}
 use Rattle.nddl_given.specs.Trees.{IsJoinedDecl}
 use Rattle.nddl_given.proofs.Each.{each_joined}
-use Rattle.nddl_table.specs.declared.table.TypeTable.{TypeTable}
+use Rattle.nddl_rules.specs.nddl_table.TypeTable.{TypeTable}
 use Rattle.nddl_trees.specs.declared.tree.ReadName.{ReadName}
 use Rattle.nddl_trees.specs.PlainTree.{PlainTree}
 use Rattle.nddl_terms.specs.Names.{AreReadInOrder}
@@ -27,10 +27,10 @@ use Rattle.nddl_reads.specs.declared.sight.Tally.{Tally}
 use Rattle.nddl_reads.specs.Reads.{NameSources}
 use Rattle.nddl_reads.specs.Sight.{Sight, no_sight}
 use Rattle.nddl_reads.specs.Tally.{no_tally}
-use Rattle.nddl_names.specs.Blocks.{block_names}
+use Rattle.nddl_rules.specs.nddl_names.Blocks.{block_names}
 use Rattle.nddl_written.specs.declared.places.TextPlace.{TextPlace}
 use Rattle.nddl_written.specs.Written.{noted_preds, places_of, preds_above, texts_written}
-use Rattle.nddl_collected.specs.Collected.{RuleTexts, decl_statements, member_statements, text_head, text_statements, tree_at, tree_with, trees_from}
+use Rattle.nddl_rules.specs.nddl_collected.Collected.{RuleTexts, decl_statements, member_statements, text_head, text_statements, tree_at, tree_with, trees_from}
 use Rattle.nddl_rules.specs.Told.{AreFileTrees, file_texts}
 use Rattle.rules_laws.proofs.Reading.{AreReadAt, names_part, parts_part, read_before, read_behind}
 

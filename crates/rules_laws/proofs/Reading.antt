@@ -30,8 +30,8 @@ use Rattle.nddl_reads.specs.Reads.{NameSources, asked_read, base_read, bounds_re
 use Rattle.nddl_reads.specs.Sight.{Sight, with_label, with_rule_local, with_turn}
 use Rattle.nddl_reads.specs.declared.sight.Tally.{Tally}
 use Rattle.nddl_reads.specs.Tally.{local_more, slot_more, turn_more}
-use Rattle.nddl_names.specs.Blocks.{block_names, call_tally, tallied}
-use Rattle.nddl_collected.specs.Collected.{part_statements}
+use Rattle.nddl_rules.specs.nddl_names.Blocks.{block_names, call_tally, tallied}
+use Rattle.nddl_rules.specs.nddl_collected.Collected.{part_statements}
 
 -- ---- names at nodes
 

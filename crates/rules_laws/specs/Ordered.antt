@@ -2,7 +2,7 @@
 use Rattle.std.specs.Prelude.{List, All}
 use Rattle.nddl_ast.specs.declared.declaration.FileDecls.{FileDecls}
 use Rattle.nddl_given.specs.Given.{AreGiven}
-use Rattle.nddl_table.specs.declared.table.TypeTable.{TypeTable}
+use Rattle.nddl_rules.specs.nddl_table.TypeTable.{TypeTable}
 use Rattle.nddl_trees.specs.PlainTree.{PlainTree}
 use Rattle.nddl_terms.specs.Names.{AreReadInOrder}
 use Rattle.nddl_rules.specs.Told.{AreFileTrees}

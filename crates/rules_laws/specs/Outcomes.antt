@@ -3,7 +3,7 @@ use Rattle.std.specs.Prelude.{◌≡◌, List, Result, Err, MatchResult}
 use Rattle.nddl_ast.specs.declared.declaration.FileDecls.{FileDecls}
 use Rattle.nddl_ast.specs.declared.fault.TextFault.{TextFault}
 use Rattle.nddl_ast.specs.declared.fault.TextFault.TheVariants.{Memory}
-use Rattle.nddl_table.specs.declared.table.TypeTable.{TypeTable}
+use Rattle.nddl_rules.specs.nddl_table.TypeTable.{TypeTable}
 use Rattle.nddl_trees.specs.PlainTree.{PlainTree}
 use Rattle.nddl_rules.specs.Told.{AreFileTrees, TellsRuleFault}
 

@@ -1,2 +1,3 @@
 mod Posed
 mod Searched
+pub mod search_texts

@@ -1,7 +1,7 @@
 -- From the database that files pose to what is printed.
 use Rattle.std.proofs.Common.{ℕ, List, Result, Ok, Err, inr}
 use Rattle.eu_io.specs.declared.shelf.FileEntry.{FileEntry}
-use Rattle.plan_db.specs.Database.{Database}
+use Rattle.search_texts.specs.plan_db.Database.{Database}
 use Rattle.posed_files.specs.Posing.{Poses}
 use Rattle.run_printing.specs.declared.lines.Printed.{Printed}
 use Rattle.run_printing.specs.declared.status.RunEnd.{RunEnd}

@@ -5,3 +5,8 @@ pub mod Planning
 pub mod Posing
 pub mod Searching
 pub mod Showing
+pub mod flaw_core
+pub mod plan_db
+pub mod posed_files
+pub mod search_texts
+pub mod solver_core

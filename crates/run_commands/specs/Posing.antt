@@ -1,7 +1,7 @@
 -- What is printed of a file that poses a database with those that it includes, or poses none.
 use Rattle.std.specs.Prelude.{◌≡◌, ℕ, Bool, true, false, List, ◌⊎◌, Result, Ok, Err}
 use Rattle.eu_io.specs.declared.shelf.FileEntry.{FileEntry}
-use Rattle.plan_db.specs.Database.{Database}
+use Rattle.search_texts.specs.plan_db.Database.{Database}
 use Rattle.posed_files.specs.declared.fault.PoseFault.{PoseFault}
 use Rattle.posed_files.specs.declared.fault.PoseFault.TheVariants as pose
 use Rattle.posed_files.specs.Posing.{PosedFault, Poses}

@@ -2,12 +2,12 @@
 use Rattle.std.specs.Prelude.{◌≡◌, ℕ, false, List, Option, Some, None}
 use Rattle.model_core.specs.declared.model.Model.{Model}
 use Rattle.model_core.specs.History.{standing}
-use Rattle.plan_db.specs.Database.{Database}
+use Rattle.search_texts.specs.plan_db.Database.{Database}
 use Rattle.plan_search.specs.Search.{SearchOutcome, Searches}
 use Rattle.search_texts.specs.Texts.{TellsSearch}
-use Rattle.solver_core.specs.declared.ending.SearchEnd.{SearchEnd}
-use Rattle.solver_core.specs.declared.ending.SearchEnd.TheVariants.{Found, Exhausted, Budget}
-use Rattle.solver_core.specs.Solving.{TellsEnd}
+use Rattle.search_texts.specs.solver_core.SearchEnd.{SearchEnd}
+use Rattle.search_texts.specs.solver_core.SearchEnd.TheVariants.{Found, Exhausted, Budget}
+use Rattle.search_texts.specs.solver_core.Solving.{TellsEnd}
 use Rattle.run_printing.specs.declared.status.RunEnd.{RunEnd}
 use Rattle.run_printing.specs.declared.status.RunEnd.TheVariants as run
 

@@ -14,11 +14,11 @@ use super::posing::unposed;
 use eu_io::shelf::Shelf;
 use eu_name::text::Text;
 use model_core::model::Model;
-use plan_db::Db;
-use plan_release::let_go;
 use plan_verdicts::check_text;
+use posed_files::passed_plan_release::let_go;
 use posed_files::pose;
 use run_printing::{Printed, RunEnd, RunFault};
+use search_texts::passed_plan_db::Db;
 use std::alloc::Global;
 
 /// Checks whether the second file has the text of a valid plan of the problem in the first one. What is wrong with the problem comes

@@ -7,6 +7,11 @@
 pub mod checking;
 pub mod content;
 pub mod generating;
+pub mod passed_plan_db;
+pub mod passed_plan_release;
+pub mod passed_posed_files;
+pub mod passed_search_texts;
+pub mod passed_solver_core;
 pub mod planning;
 pub mod posing;
 pub mod searching;

@@ -8,7 +8,7 @@ use Rattle.model_core.specs.State.{State}
 use Rattle.plan_check.specs.declared.verdict.Verdict.{Verdict}
 use Rattle.plan_check.specs.declared.verdict.Verdict.TheVariants.{Valid, Invalid}
 use Rattle.plan_check.specs.Judged.{IsVerdict}
-use Rattle.plan_db.specs.Answers.{Held, IsSeen}
+use Rattle.run_commands.specs.plan_db.Answers.{Held, IsSeen}
 use Rattle.plan_defs.specs.declared.plan.Plan.{Plan}
 use Rattle.plan_defs.specs.Valid.{IsValid}
 use Rattle.plan_states.specs.StatePlans.{IsStatePlan}
@@ -16,7 +16,7 @@ use Rattle.plan_verdicts.specs.declared.counting.Counts.{Counts}
 use Rattle.plan_verdicts.specs.Counting.{AreCounts}
 use Rattle.plan_verdicts.specs.Verdicts.{IsVerdictText, IsCheckedAs}
 use Rattle.plan_view.specs.Seeing.{Seen, seen_state}
-use Rattle.solver_core.specs.declared.ending.SearchEnd.TheVariants.{Found}
+use Rattle.run_commands.specs.solver_core.SearchEnd.TheVariants.{Found}
 use Rattle.run_trials.specs.Trying.{IsFoundText, TellsState, TellsTrial, found_text}
 
 -- ---- a valid plan

@@ -1,11 +1,11 @@
 -- What is printed where a text poses a database, and where it poses none.
 use Rattle.std.proofs.Common.{ℕ, List, Result, Ok, Err, inl, inr, sym, subst}
 use Rattle.eu_io.specs.declared.shelf.FileEntry.{FileEntry}
-use Rattle.plan_db.specs.Database.{Database}
-use Rattle.posed_files.specs.declared.fault.PoseFault.{PoseFault}
-use Rattle.posed_files.specs.declared.fault.PoseFault.TheVariants as pose
-use Rattle.posed_files.specs.Pieces.{TellsPosed, fault_at}
-use Rattle.posed_files.specs.Posing.{Poses}
+use Rattle.run_commands.specs.plan_db.Database.{Database}
+use Rattle.run_commands.specs.posed_files.PoseFault.{PoseFault}
+use Rattle.run_commands.specs.posed_files.PoseFault.TheVariants as pose
+use Rattle.run_commands.specs.posed_files.Pieces.{TellsPosed, fault_at}
+use Rattle.run_commands.specs.posed_files.Posing.{Poses}
 use Rattle.run_commands.specs.Posing.{PosedOutput, IsUnposed}
 use Rattle.run_printing.specs.declared.lines.Printed.{Printed}
 use Rattle.run_printing.specs.declared.status.RunEnd.{RunEnd}

@@ -6,16 +6,16 @@ use Rattle.model_core.specs.declared.decision.Decision.{Decision}
 use Rattle.model_core.specs.declared.model.Model.{Model}
 use Rattle.model_core.specs.History.{standing}
 use Rattle.model_core.specs.State.{State}
-use Rattle.plan_db.specs.Database.{Database, HasLeast}
+use Rattle.run_commands.specs.plan_db.Database.{Database, HasLeast}
 use Rattle.plan_defs.specs.declared.plan.Plan.{Plan}
 use Rattle.plan_defs.specs.Valid.{IsValid}
 use Rattle.plan_states.specs.StatePlans.{IsStatePlan}
 use Rattle.plan_verdicts.specs.declared.counting.Counts.{Counts}
 use Rattle.plan_verdicts.specs.Counting.{AreCounts, counts_text}
 use Rattle.problem_gen.specs.Generated.{generated_text}
-use Rattle.search_texts.specs.Texts.{TellsSearch}
-use Rattle.solver_core.specs.declared.ending.SearchEnd.{SearchEnd}
-use Rattle.solver_core.specs.declared.ending.SearchEnd.TheVariants.{Found, Exhausted, Budget}
+use Rattle.run_commands.specs.search_texts.Texts.{TellsSearch}
+use Rattle.run_commands.specs.solver_core.SearchEnd.{SearchEnd}
+use Rattle.run_commands.specs.solver_core.SearchEnd.TheVariants.{Found, Exhausted, Budget}
 use Rattle.run_printing.specs.declared.status.RunEnd.{RunEnd}
 use Rattle.run_commands.specs.Posing.{PosedOutput}
 use Rattle.run_commands.specs.Searching.{EndOutput}

@@ -1,28 +1,28 @@
 //! What is told of a search, and of the plan that it finds.
 
 ghost use Rattle.std.specs.Prelude.{◌≡◌, false, IfOk};
-ghost use Rattle.flaw_core.specs.Rules.{IsLeastFor};
+ghost use Rattle.run_commands.specs.flaw_core.Rules.{IsLeastFor};
 ghost use Rattle.model_core.specs.Lawful.{IsLawful};
-ghost use Rattle.plan_db.specs.Database.{IsSound};
+ghost use Rattle.run_commands.specs.plan_db.Database.{IsSound};
 ghost use Rattle.plan_defs.specs.Plans.{IsPlanOf};
 ghost use Rattle.plan_defs.specs.Valid.{IsValid};
 ghost use Rattle.plan_states.specs.Flaws.{HasFlaw};
-ghost use Rattle.search_texts.specs.Texts.{IsFlawlessEnd};
-ghost use Rattle.solver_core.specs.declared.ending.SearchEnd.TheVariants.{Found};
+ghost use Rattle.run_commands.specs.search_texts.Texts.{IsFlawlessEnd};
+ghost use Rattle.run_commands.specs.solver_core.SearchEnd.TheVariants.{Found};
 ghost use Rattle.run_commands.specs.Searching.{end_of};
 ghost use Rattle.run_trials.specs.Trying.{IsFoundText, TellsState, TellsTrial, TrialOutput, found_text};
 
 use eu_name::bytes::Bytes;
 use model_core::model::Model;
 use model_core::view::View;
-use plan_db::Db;
 use plan_defs::plan::Plan;
 use plan_states::{PlanOfFault, plan_of};
 use plan_verdicts::{Counts, check_plan, count_lines, put_counts};
+use run_commands::passed_plan_db::Db;
+use run_commands::passed_search_texts::end_text;
+use run_commands::passed_solver_core::SearchEnd;
 use run_commands::searching::{end_of, search};
 use run_printing::Printed;
-use search_texts::end_text;
-use solver_core::SearchEnd;
 use std::alloc::{AllocError, Global};
 
 // The most tokens that may be active in a trial.

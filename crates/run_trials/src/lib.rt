@@ -4,6 +4,10 @@
 #![tactic(auto)]
 
 mod finding;
+pub mod passed_plan_db;
+pub mod passed_plan_release;
+pub mod passed_posed_files;
+pub mod passed_run_commands;
 mod trying;
 
 pub use trying::trial;

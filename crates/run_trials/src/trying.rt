@@ -2,7 +2,7 @@
 
 ghost use Rattle.std.specs.Prelude.{◌≡◌, ◌≤◌, ◌++◌, IfOk, codes, false};
 ghost use Rattle.std.specs.Fmt.{decimal};
-ghost use Rattle.plan_db.specs.Database.{IsSound};
+ghost use Rattle.run_commands.specs.plan_db.Database.{IsSound};
 ghost use Rattle.problem_gen.specs.Generated.{generated_text};
 ghost use Rattle.run_commands.specs.Posing.{PosedOutput};
 ghost use Rattle.run_printing.specs.Printed.{AnswersAs};
@@ -13,10 +13,10 @@ use super::finding::printed_trial;
 use eu_io::{CalmShelf, FileEntry};
 use eu_name::bytes::Bytes;
 use eu_name::text::Text;
-use plan_db::Db;
-use plan_release::let_go;
-use posed_files::pose;
 use problem_gen::{GenFault, generate};
+use run_commands::passed_plan_db::Db;
+use run_commands::passed_plan_release::let_go;
+use run_commands::passed_posed_files::pose;
 use run_commands::unposed;
 use run_printing::{Printed, RunFault};
 use std::alloc::{AllocError, Global};

@@ -22,14 +22,14 @@ use Rattle.plan_defs.specs.Claims.{Claim, relates}
 use Rattle.plan_defs.specs.Terms.{Context, InProblem, InRule, Argument, Variable}
 use Rattle.plan_defs.proofs.Members.{all_from_get, contains_from_get}
 use Rattle.plan_defs.proofs.Ordered.{contains_head, contains_later}
-use Rattle.plan_edges.specs.declared.edge.NamedEdge.{NamedEdge}
-use Rattle.plan_edges.specs.declared.edge.Point.{Point}
-use Rattle.plan_edges.specs.declared.edge.Point.TheVariants.{Origin, Start, End}
-use Rattle.plan_edges.specs.declared.walking.Sort.{Sort}
-use Rattle.plan_edges.specs.declared.walking.Sort.TheVariants.{Relations, Constraints}
-use Rattle.plan_edges.specs.Edges.{AppendsEach, HasLastingEdges, HasGivenEdges, HasTimesGiven, HasClaimEdges, HasRelationEdges, HasConstraintEdges, HasOrderEdges, comparing_edges, lasting_edges, edge_from, ComparesPoints}
-use Rattle.plan_edges.specs.Points.{ActsAs, IsMoment, IsPointOf, IsArgumentPoint}
-use Rattle.plan_edges.specs.Whole.{TokenItem, items_of_rules, HasSortEdges, HasOpenEdges, HasTokenEdges, AreTimeEdges}
+use Rattle.plan_cycles.specs.plan_edges.NamedEdge.{NamedEdge}
+use Rattle.plan_cycles.specs.plan_edges.Point.{Point}
+use Rattle.plan_cycles.specs.plan_edges.Point.TheVariants.{Origin, Start, End}
+use Rattle.plan_cycles.specs.plan_edges.Sort.{Sort}
+use Rattle.plan_cycles.specs.plan_edges.Sort.TheVariants.{Relations, Constraints}
+use Rattle.plan_cycles.specs.plan_edges.Edges.{AppendsEach, HasLastingEdges, HasGivenEdges, HasTimesGiven, HasClaimEdges, HasRelationEdges, HasConstraintEdges, HasOrderEdges, comparing_edges, lasting_edges, edge_from, ComparesPoints}
+use Rattle.plan_cycles.specs.plan_edges.Points.{ActsAs, IsMoment, IsPointOf, IsArgumentPoint}
+use Rattle.plan_cycles.specs.plan_edges.Whole.{TokenItem, items_of_rules, HasSortEdges, HasOpenEdges, HasTokenEdges, AreTimeEdges}
 use Rattle.plan_cycles.specs.TimeCycle.{LeavesBy, IsTimeCycle}
 use Rattle.script_lines.specs.Writable.{IsWritable, IsPointWritable, IsEdgeWritable}
 

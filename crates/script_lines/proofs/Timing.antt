@@ -14,9 +14,9 @@ use Rattle.model_core.specs.declared.variable.Base.{Base}
 use Rattle.model_core.specs.Lawful.{IsLawful, IsToken}
 use Rattle.model_core.specs.Names.{NamesVariable}
 use Rattle.model_core.specs.Variables.{HasBase}
-use Rattle.plan_edges.specs.declared.edge.NamedEdge.{NamedEdge}
-use Rattle.plan_edges.specs.declared.edge.Point.{Point}
-use Rattle.plan_edges.specs.declared.edge.Point.TheVariants as points
+use Rattle.plan_cycles.specs.plan_edges.NamedEdge.{NamedEdge}
+use Rattle.plan_cycles.specs.plan_edges.Point.{Point}
+use Rattle.plan_cycles.specs.plan_edges.Point.TheVariants as points
 use Rattle.script_lines.specs.Lines.{IsVariableWord, IsPointWord, IsEdgeLine}
 use Rattle.script_lines.specs.Writable.{IsPointWritable}
 use Rattle.script_lines.specs.Written.{Writes, WritesBehind}

@@ -22,9 +22,9 @@ use Rattle.model_core.specs.Tokens.{HasToken}
 use Rattle.model_core.specs.TokenStates.{HasTokenState}
 use Rattle.plan_core.specs.Subjects.{IsPredicateText}
 use Rattle.plan_core.specs.Values.{IsValueText}
-use Rattle.plan_edges.specs.declared.edge.NamedEdge.{NamedEdge}
-use Rattle.plan_edges.specs.declared.edge.Point.{Point}
-use Rattle.plan_edges.specs.declared.edge.Point.TheVariants as points
+use Rattle.plan_cycles.specs.plan_edges.NamedEdge.{NamedEdge}
+use Rattle.plan_cycles.specs.plan_edges.Point.{Point}
+use Rattle.plan_cycles.specs.plan_edges.Point.TheVariants as points
 use Rattle.plan_states.specs.Flaws.{Flaw, Undecided, Undetermined, Unordered, Untimed}
 use Rattle.script_names.specs.Naming.{IsVariableOfKind}
 

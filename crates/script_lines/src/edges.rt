@@ -13,7 +13,7 @@ use super::counting::{put_count_line, put_line_feed};
 use eu_name::name::{Part, TokenName, VarName};
 use model_core::model::Model;
 use plan_core::writing::{put_number, put_variable, put_word};
-use plan_edges::edge::{NamedEdge, Point};
+use plan_cycles::passed_plan_edges::{NamedEdge, Point};
 use std::alloc::{AllocError, Global};
 
 // The name of the part of the token, behind the gap.

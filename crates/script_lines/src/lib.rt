@@ -6,6 +6,7 @@ pub mod decisions;
 pub mod domains;
 pub mod edges;
 pub mod flaws;
+pub mod passed_flaw_core;
 mod places;
 pub mod replies;
 pub mod tokens;

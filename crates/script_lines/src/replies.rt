@@ -24,7 +24,7 @@ use flaw_core::flaw::Flaw;
 use model_core::decision::Decision;
 use model_core::model::Model;
 use model_core::view::View;
-use plan_edges::edge::NamedEdge;
+use plan_cycles::passed_plan_edges::NamedEdge;
 use std::alloc::{AllocError, Global};
 
 /// The variable with its domain.

@@ -15,9 +15,9 @@ use Rattle.plan_defs.proofs.Settling.{IsSettled-push}
 use Rattle.plan_states.specs.Flaws.{HasFlaw}
 use Rattle.plan_swap.specs.SwapLaws.{count_of_tokens}
 use Rattle.own_states.proofs.Owning.{plan_state}
-use Rattle.plan_search.specs.Search.{SearchOutcome, Finds, Fails}
-use Rattle.plan_search.specs.SearchLaws.{IsPlanFor, IsFoundList, AgreesWithSome}
-use Rattle.plan_search.proofs.Searching.{fails_not_finds, stops_not_finds, stops_not_fails, finds_not_fails, finds_same, found_each, none_each, left_before}
+use Rattle.flaw_core.specs.plan_search.Search.{SearchOutcome, Finds, Fails}
+use Rattle.flaw_core.specs.plan_search.SearchLaws.{IsPlanFor, IsFoundList, AgreesWithSome}
+use Rattle.flaw_core.specs.plan_search.Searching.{fails_not_finds, stops_not_finds, stops_not_fails, finds_not_fails, finds_same, found_each, none_each, left_before}
 use Rattle.flaw_core.specs.declared.flaw.Flaw.{Flaw}
 use Rattle.flaw_core.specs.Rules.{IsLeastFor, LeavesOut, IsCoveredBy}
 use Rattle.search_steps.specs.ByRule.{ReadsFlaw, IsVisitBy}

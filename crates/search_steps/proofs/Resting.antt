@@ -4,8 +4,8 @@ use Rattle.model_core.specs.declared.decision.Decision.{Decision}
 use Rattle.model_core.specs.declared.model.Model.{Model}
 use Rattle.model_core.specs.State.{State}
 use Rattle.plan_defs.specs.Closure.{IsLeast, IsCollapsed}
-use Rattle.plan_search.specs.Search.{SearchOutcome, Finds, Fails, Stops, VisitsEach, also_left_out}
-use Rattle.plan_search.proofs.Searching.{stops_not_fails, finds_not_fails}
+use Rattle.flaw_core.specs.plan_search.Search.{SearchOutcome, Finds, Fails, Stops, VisitsEach, also_left_out}
+use Rattle.flaw_core.specs.plan_search.Searching.{stops_not_fails, finds_not_fails}
 use Rattle.flaw_core.specs.declared.flaw.Flaw.{Flaw}
 use Rattle.flaw_core.specs.Rules.{LeavesOut}
 use Rattle.search_steps.specs.ByRule.{IsVisitBy}

@@ -4,8 +4,8 @@ use Rattle.model_core.specs.declared.decision.Decision.{Decision}
 use Rattle.model_core.specs.declared.model.Model.{Model}
 use Rattle.model_core.specs.State.{State}
 use Rattle.plan_states.specs.Flaws as named
-use Rattle.plan_search.specs.Choices.{IsLeftOut}
-use Rattle.plan_search.specs.Search.{SearchOutcome, VisitsEach, TellsLeftOut, LooksAtFlaw, IsVisitOf}
+use Rattle.flaw_core.specs.plan_search.Choices.{IsLeftOut}
+use Rattle.flaw_core.specs.plan_search.Search.{SearchOutcome, VisitsEach, TellsLeftOut, LooksAtFlaw, IsVisitOf}
 use Rattle.flaw_core.specs.declared.flaw.Flaw.{Flaw}
 use Rattle.flaw_core.specs.declared.flaw.Flaw.TheVariants.{Token, Value, Pair, Time}
 use Rattle.flaw_core.specs.Places.{IsFlawAt}

@@ -4,7 +4,7 @@ use Rattle.model_core.specs.declared.decision.Decision.{Decision}
 use Rattle.model_core.specs.declared.model.Model.{Model}
 use Rattle.model_core.specs.State.{State}
 use Rattle.plan_defs.specs.Closure.{IsLeast, IsCollapsed}
-use Rattle.plan_search.specs.Search.{SearchOutcome, Finds, Fails, Stops, VisitsEach}
+use Rattle.flaw_core.specs.plan_search.Search.{SearchOutcome, Finds, Fails, Stops, VisitsEach}
 use Rattle.flaw_core.specs.declared.flaw.Flaw.{Flaw}
 use Rattle.flaw_core.specs.Rules.{LeavesOut}
 

@@ -1,7 +1,7 @@
 -- What is left of a search that stands somewhere inside.
 use Rattle.std.specs.Prelude.{◌≡◌, ℕ, suc, ◌⊎◌, Bool, ◌||◌, List, [], ◌∷◌}
 use Rattle.model_core.specs.declared.decision.Decision.{Decision}
-use Rattle.plan_search.specs.Search.{SearchOutcome, Fails, VisitsEach, also_left_out}
+use Rattle.flaw_core.specs.plan_search.Search.{SearchOutcome, Fails, VisitsEach, also_left_out}
 
 -- a list that was visited, and those choices of its flaw that weren't yet
 pub record LeftOver : Type 0 where

@@ -2,7 +2,7 @@
 use Rattle.std.specs.Prelude.{ℕ, List}
 use Rattle.model_core.specs.declared.decision.Decision.{Decision}
 use Rattle.model_core.specs.declared.model.Model.{Model}
-use Rattle.plan_search.specs.Search.{SearchOutcome, Searches}
+use Rattle.flaw_core.specs.plan_search.Search.{SearchOutcome, Searches}
 use Rattle.flaw_core.specs.Rules.{IsFirstAt, AreChoicesAt}
 use Rattle.search_steps.specs.ByRule.{SearchesBy}
 

@@ -7,17 +7,17 @@ use Rattle.model_core.specs.declared.model.Model.{Model}
 use Rattle.model_core.specs.History.{standing}
 use Rattle.model_core.specs.Lawful.{IsLawful}
 use Rattle.model_core.specs.State.{State}
-use Rattle.flaw_core.specs.Rules.{IsLeastFor}
-use Rattle.plan_db.specs.Answers.{Held, IsSeen, IsUnseen}
-use Rattle.plan_db.specs.Database.{IsSound}
-use Rattle.plan_db.specs.declared.fault.QueryFault.{QueryFault}
-use Rattle.plan_db.specs.declared.fault.QueryFault.TheVariants as query
+use Rattle.solver_core.specs.flaw_core.Rules.{IsLeastFor}
+use Rattle.solver_core.specs.plan_db.Answers.{Held, IsSeen, IsUnseen}
+use Rattle.solver_core.specs.plan_db.Database.{IsSound}
+use Rattle.solver_core.specs.plan_db.QueryFault.{QueryFault}
+use Rattle.solver_core.specs.plan_db.QueryFault.TheVariants as query
 use Rattle.plan_defs.specs.Closure.{IsLeast}
 use Rattle.plan_defs.specs.Settling.{IsSettled}
 use Rattle.plan_defs.proofs.Settling.{least_same, least_not_collapsed}
 use Rattle.plan_states.specs.Flaws.{HasFlaw}
-use Rattle.plan_steps.proofs.Keeping.{standing_settled}
-use Rattle.plan_view.specs.Seeing.{Seen, seen_state}
+use Rattle.solver_core.proofs.plan_steps.Keeping.{standing_settled}
+use Rattle.solver_core.specs.plan_view.Seeing.{Seen, seen_state}
 use Rattle.solver_core.specs.declared.ending.SearchEnd.TheVariants.{Found}
 use Rattle.search_texts.specs.Texts.{IsFlawlessEnd, IsFoundReply, TellsSearch}
 

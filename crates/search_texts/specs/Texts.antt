@@ -6,9 +6,9 @@ use Rattle.model_core.specs.declared.model.Model.{Model}
 use Rattle.model_core.specs.History.{standing}
 use Rattle.model_core.specs.State.{State}
 use Rattle.plan_core.specs.PlanTexts.{IsPlanText}
-use Rattle.plan_db.specs.Database.{Database, HasLeast}
+use Rattle.solver_core.specs.plan_db.Database.{Database, HasLeast}
 use Rattle.plan_defs.specs.declared.plan.Plan.{Plan}
-use Rattle.plan_search.specs.SearchLaws.{IsFoundList}
+use Rattle.solver_core.specs.plan_search.SearchLaws.{IsFoundList}
 use Rattle.plan_states.specs.StatePlans.{IsStatePlan}
 use Rattle.solver_core.specs.declared.ending.SearchEnd.{SearchEnd}
 use Rattle.solver_core.specs.declared.ending.SearchEnd.TheVariants.{Found, Exhausted, Budget}

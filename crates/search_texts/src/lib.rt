@@ -4,6 +4,10 @@
 #![tactic(auto)]
 
 pub mod line;
+pub mod passed_flaw_core;
+pub mod passed_plan_db;
+pub mod passed_search_steps;
+pub mod passed_solver_core;
 pub mod texts;
 
 pub use line::one_line;

@@ -2,7 +2,7 @@
 
 ghost use Rattle.std.specs.Prelude.{◌≡◌, ◌++◌, List, ℕ, false, IfOk, codes};
 ghost use Rattle.std.specs.Fmt.{decimal};
-ghost use Rattle.flaw_core.specs.Rules.{IsLeastFor};
+ghost use Rattle.solver_core.specs.flaw_core.Rules.{IsLeastFor};
 ghost use Rattle.model_core.specs.Lawful.{IsLawful};
 ghost use Rattle.plan_core.specs.PlanTexts.{IsPlanText};
 ghost use Rattle.plan_defs.specs.Plans.{IsPlanOf};
@@ -15,10 +15,10 @@ use eu_name::bytes::Bytes;
 use model_core::model::Model;
 use model_core::view::View;
 use plan_core::write_plan;
-use plan_db::Db;
 use plan_defs::plan::Plan;
 use plan_states::{PlanOfFault, plan_of};
 use solver_core::SearchEnd;
+use solver_core::passed_plan_db::Db;
 use std::alloc::{AllocError, Global};
 
 // The line of a search that found a plan, and the text of the plan.

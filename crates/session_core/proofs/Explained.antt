@@ -9,15 +9,15 @@ use Rattle.model_core.specs.History.{standing}
 use Rattle.conflict_core.specs.declared.fault.WhyFault.{WhyFault}
 use Rattle.conflict_core.specs.declared.fault.WhyFault.TheVariants as why
 use Rattle.conflict_core.specs.Answers.{AnswersConflict, AnswersCycle, AnswersNoReason}
-use Rattle.plan_db.specs.Answers.{Held}
-use Rattle.plan_db.specs.Database.{Database, IsSound}
-use Rattle.plan_db.specs.Edges.{AreStandingEdges}
-use Rattle.plan_edges.specs.declared.edge.NamedEdge.{NamedEdge}
+use Rattle.conflict_core.specs.plan_db.Answers.{Held}
+use Rattle.conflict_core.specs.plan_db.Database.{Database, IsSound}
+use Rattle.conflict_core.specs.plan_db.Edges.{AreStandingEdges}
+use Rattle.conflict_core.specs.plan_edges.NamedEdge.{NamedEdge}
 use Rattle.script_commands.specs.declared.command.Command.TheVariants as commands
-use Rattle.script_lines.proofs.Pointing.{edges_writable}
-use Rattle.script_lines.proofs.Settled.{standing_writable}
-use Rattle.script_lines.specs.Writable.{IsEdgeWritable}
-use Rattle.script_lines.specs.Lines.{counted_lines, IsEdgeLine}
+use Rattle.session_steps.specs.script_lines.Pointing.{edges_writable}
+use Rattle.session_steps.specs.script_lines.Settled.{standing_writable}
+use Rattle.session_steps.specs.script_lines.Writable.{IsEdgeWritable}
+use Rattle.session_steps.specs.script_lines.Lines.{counted_lines, IsEdgeLine}
 use Rattle.session_steps.specs.declared.reason.RefusalReason.TheVariants.{Consistent}
 use Rattle.session_steps.specs.Reasons.{refusal}
 use Rattle.session_steps.specs.Replies.{TellsCollapse, TellsDecisions, TellsConflict, TellsCycle}

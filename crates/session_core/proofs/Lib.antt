@@ -4,3 +4,4 @@ mod Told
 mod Choices
 mod Flaws
 mod Explained
+pub mod plan_deciding

@@ -4,7 +4,7 @@ use Rattle.std.specs.Prelude.{true, IfOk, OnErr}
 use Rattle.std.specs.declared.alloc.AllocError.{AllocError}
 use Rattle.line_session.specs.declared.reply.Answer.{Answer}
 use Rattle.line_session.specs.Answering.{LeavesUnanswered}
-use Rattle.plan_db.specs.Database.{Database, IsSound}
+use Rattle.conflict_core.specs.plan_db.Database.{Database, IsSound}
 use Rattle.script_commands.specs.declared.command.Command.{Command}
 use Rattle.script_commands.specs.declared.command.Command.TheVariants as commands
 use Rattle.script_commands.specs.declared.command.LineFault.TheVariants as line

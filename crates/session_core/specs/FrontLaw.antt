@@ -1,7 +1,7 @@
 -- A line is answered as its front is: the law that the session asks for, with its proof.
 use Rattle.std.specs.Prelude.{ℕ, List, take}
 use Rattle.line_session.specs.declared.reply.Answer.{Answer}
-use Rattle.plan_db.specs.Database.{Database}
+use Rattle.conflict_core.specs.plan_db.Database.{Database}
 use Rattle.script_lang.proofs.Commands.{front_decides}
 use Rattle.session_core.specs.Replies.{AnswersLine}
 

@@ -1,7 +1,7 @@
 -- What the lines of a script are answered, and the database afterwards.
 use Rattle.std.specs.Prelude.{◌≡◌, ℕ, Bool, true, false, List, Result, Ok, Err}
 use Rattle.line_session.specs.declared.reply.Answer.{Answer}
-use Rattle.plan_db.specs.Database.{Database, IsSound}
+use Rattle.conflict_core.specs.plan_db.Database.{Database, IsSound}
 use Rattle.script_commands.specs.declared.command.Command.{Command}
 use Rattle.script_commands.specs.declared.command.Command.TheVariants as commands
 use Rattle.script_commands.specs.declared.command.LineFault.{LineFault}

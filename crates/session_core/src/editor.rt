@@ -2,7 +2,7 @@
 
 ghost use Rattle.std.specs.Prelude.{◌≡◌, ℕ, true, false, List, Ok, IfOk, OnErr, MatchBool};
 ghost use Rattle.line_session.specs.Answering.{LeavesUnanswered};
-ghost use Rattle.plan_db.specs.Database.{IsSound};
+ghost use Rattle.conflict_core.specs.plan_db.Database.{IsSound};
 ghost use Rattle.plan_words.specs.Indexing.{IsModelIndex};
 ghost use Rattle.script_commands.specs.Line.{IsCommand};
 ghost use Rattle.session_core.specs.Replies.{AnswersLine, AnswersRead, goes_on_behind};
@@ -12,9 +12,9 @@ ghost use Rattle.session_steps.specs.Steps.{AnswersCommand};
 
 use super::explaining::{why_cycle, why_reply};
 use super::telling::{tell_decisions, tell_domain, tell_flaw, tell_tokens};
+use conflict_core::passed_plan_db::Db;
 use eu_name::bytes::Bytes;
 use line_session::reply::{Answer, Responder};
-use plan_db::Db;
 use plan_release::let_go;
 use plan_words::indexed::ModelIndex;
 use script_commands::{Command, LineFault};
@@ -36,7 +36,7 @@ pub struct Editor {
 }
 
 impl Model for Editor {
-    ghost use Rattle.plan_db.specs.Database.{Database};
+    ghost use Rattle.conflict_core.specs.plan_db.Database.{Database};
     ghost use Rattle.plan_words.specs.Indexing.{IsModelIndex};
 
     ghost Value = { Database };

@@ -7,11 +7,11 @@ ghost use Rattle.session_steps.specs.declared.reason.RefusalReason.TheVariants.{
 ghost use Rattle.session_steps.specs.Reasons.{refusal};
 ghost use Rattle.session_steps.specs.Steps.{AnswersCommand};
 
+use conflict_core::passed_plan_db::Db;
 use conflict_core::{WhyFault, time_cycle, why};
 use eu_name::bytes::Bytes;
-use plan_db::Db;
-use script_lines::replies::{cycle_reply, decisions_reply};
 use session_steps::RefusalReason;
+use session_steps::passed_script_lines::{cycle_reply, decisions_reply};
 use session_steps::replies::refused;
 use std::alloc::{AllocError, Global};
 

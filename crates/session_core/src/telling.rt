@@ -1,7 +1,7 @@
 //! What is told of the database.
 
 ghost use Rattle.std.specs.Prelude.{◌≡◌, false, List, Some, IfOk};
-ghost use Rattle.flaw_core.specs.Rules.{AreChoicesAt, IsFirstAt, IsLeastFor};
+ghost use Rattle.session_steps.specs.flaw_core.Rules.{AreChoicesAt, IsFirstAt, IsLeastFor};
 ghost use Rattle.model_core.specs.declared.decision.Decision.{Decision};
 ghost use Rattle.plan_words.specs.Indexing.{IsModelIndex};
 ghost use Rattle.script_commands.specs.declared.command.Command.TheVariants as commands;
@@ -10,18 +10,18 @@ ghost use Rattle.session_steps.specs.Replies.{TellsFlaw, TellsState};
 ghost use Rattle.session_steps.specs.Steps.{AnswersCommand};
 
 use super::counting::{MOST_ACTIVE, count_choices};
+use conflict_core::passed_plan_db::{Db, Outcome, QueryFault};
 use eu_name::bytes::Bytes;
 use eu_name::name::VarName;
 use eu_name::name_text::NameText;
-use flaw_core::{Flaw, FlawRule, Plain};
 use model_core::model::Model;
 use model_core::view::View;
-use plan_db::{Db, Outcome, QueryFault};
 use plan_words::indexed::ModelIndex;
-use script_lines::replies::{
+use session_steps::RefusalReason;
+use session_steps::passed_flaw_core::{Flaw, FlawRule, Plain};
+use session_steps::passed_script_lines::{
     decisions_reply, domain_reply, flaw_reply, no_flaw_reply, tokens_reply,
 };
-use session_steps::RefusalReason;
 use session_steps::replies::{outcome_reply, refused};
 use session_steps::resetting::variable_in;
 use std::alloc::{AllocError, Global};

@@ -7,9 +7,9 @@ use Rattle.model_core.specs.declared.model.Model.{Model}
 use Rattle.model_core.specs.History.{History, standing}
 use Rattle.model_core.specs.Lawful.{IsLawful}
 use Rattle.model_core.specs.State.{State}
-use Rattle.plan_db.specs.Database.{Database, HasLeast, HasCollapsed}
-use Rattle.plan_db.specs.declared.fault.Outcome.{Outcome}
-use Rattle.plan_db.specs.declared.fault.Outcome.TheVariants as outcome
+use Rattle.session_core.specs.plan_db.Database.{Database, HasLeast, HasCollapsed}
+use Rattle.session_core.specs.plan_db.Outcome.{Outcome}
+use Rattle.session_core.specs.plan_db.Outcome.TheVariants as outcome
 use Rattle.plan_defs.specs.History.{IsHistory}
 use Rattle.plan_defs.specs.Settling.{IsSettled}
 use Rattle.plan_defs.proofs.Ordered.{contains_head}
@@ -21,10 +21,10 @@ use Rattle.script_commands.specs.declared.command.Command.TheVariants as command
 use Rattle.script_commands.specs.declared.command.LineFault.{LineFault}
 use Rattle.script_commands.specs.declared.command.LineFault.TheVariants as line
 use Rattle.script_commands.specs.Line.{IsCommand, ReadsLine}
-use Rattle.session_steps.specs.declared.reason.RefusalReason.{RefusalReason}
-use Rattle.session_steps.specs.Reasons.{step_text, outcome_text}
-use Rattle.session_steps.specs.Replies.{UnlessFull, RepliesStep, TakesAsked, ResetsAsked, UndoesLast, TellsState, TellsCollapse, TellsDomain, TellsTokens, TellsFlaw, TellsConflict, TellsCycle}
-use Rattle.session_steps.specs.Replies.{RepliesSearch, Keeping, RepliesTo}
+use Rattle.session_core.specs.session_steps.RefusalReason.{RefusalReason}
+use Rattle.session_core.specs.session_steps.Reasons.{step_text, outcome_text}
+use Rattle.session_core.specs.session_steps.Replies.{UnlessFull, RepliesStep, TakesAsked, ResetsAsked, UndoesLast, TellsState, TellsCollapse, TellsDomain, TellsTokens, TellsFlaw, TellsConflict, TellsCycle}
+use Rattle.session_core.specs.session_steps.Replies.{RepliesSearch, Keeping, RepliesTo}
 use Rattle.session_core.specs.Replies.{AnswersRead, AnswersLine}
 use Rattle.session_laws.proofs.Resetting.{resetting_one, undoing_one}
 use Rattle.session_laws.proofs.Searching.{search_one}

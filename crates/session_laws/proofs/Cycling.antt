@@ -1,8 +1,8 @@
 -- Time edges have one cycle.
 use Rattle.std.proofs.Common.{◌≡◌, ◌⊎◌, List, [], ◌∷◌, ◌++◌, refl, sym, ap, ◌∙◌, subst, inl, inr}
 use Rattle.std.specs.Prelude.{◌≢◌, Contains}
-use Rattle.plan_cycles.specs.TimeCycle.{LeavesBy, LeadsAlong, LeadsRound, PassesOnce, IsPointBefore, BeginsFirst, IsTimeCycle}
-use Rattle.plan_cycles.proofs.Ordering.{point_irreflexive, point_transitive}
+use Rattle.session_core.specs.plan_cycles.TimeCycle.{LeavesBy, LeadsAlong, LeadsRound, PassesOnce, IsPointBefore, BeginsFirst, IsTimeCycle}
+use Rattle.session_core.specs.plan_cycles.Ordering.{point_irreflexive, point_transitive}
 use Rattle.plan_defs.proofs.Ordered.{contains_head, contains_later, contains_cases, contains_none, ordered_head, ordered_tail}
 use Rattle.plan_edges.specs.declared.edge.NamedEdge.{NamedEdge}
 use Rattle.plan_edges.specs.declared.edge.Point.{Point}

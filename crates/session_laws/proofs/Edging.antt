@@ -17,8 +17,8 @@ use Rattle.model_core.specs.Decided.{IsActive}
 use Rattle.model_core.specs.History.{standing}
 use Rattle.model_core.specs.State.{State, AreInOrder}
 use Rattle.model_core.specs.Tokens.{slot_token}
-use Rattle.plan_db.specs.Database.{Database}
-use Rattle.plan_db.specs.Edges.{AreStandingEdges}
+use Rattle.session_core.specs.plan_db.Database.{Database}
+use Rattle.session_core.specs.plan_db.Edges.{AreStandingEdges}
 use Rattle.plan_defs.specs.Claims.{Claim, relates}
 use Rattle.plan_defs.specs.Settling.{IsSettled}
 use Rattle.plan_defs.specs.Terms.{Context, InProblem, InRule, Argument, Variable, Means}
@@ -35,7 +35,7 @@ use Rattle.plan_edges.specs.Edges.{AppendsEach, LastsBetween, HasLastingEdges, l
 use Rattle.plan_edges.specs.Edges.{ComparesPoints, HasClaimEdges, HasRelationEdges, HasConstraintEdges, HasOrderEdges}
 use Rattle.plan_edges.specs.Points.{ActsAs, IsMoment, IsPointOf, IsArgumentPoint}
 use Rattle.plan_edges.specs.Whole.{TokenItem, items_of_rules, AreRulesOf, HasSortEdges, HasOpenEdges, HasTokenEdges, AreTimeEdges}
-use Rattle.plan_state.specs.Advancing.{but_last}
+use Rattle.session_core.specs.plan_state.Advancing.{but_last}
 use Rattle.plan_states.proofs.Deciding.{DecidesOnce, decides_once}
 use Rattle.session_laws.proofs.Resetting.{specified_one}
 use Rattle.session_laws.proofs.Words.{zip_one}

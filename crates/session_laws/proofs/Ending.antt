@@ -6,7 +6,7 @@ use Rattle.model_core.specs.declared.decision.Decision.{Decision}
 use Rattle.model_core.specs.History.{standing}
 use Rattle.model_core.specs.Lawful.{IsLawful}
 use Rattle.least_states.proofs.Founding.{plan_is_valid}
-use Rattle.plan_db.specs.Database.{Database, taken_in}
+use Rattle.session_core.specs.plan_db.Database.{Database, taken_in}
 use Rattle.plan_defs.specs.Settling.{IsSettled}
 use Rattle.plan_defs.proofs.Settling.{least_same}
 use Rattle.plan_search.specs.Search.{SearchOutcome, Searches}
@@ -16,11 +16,11 @@ use Rattle.script_commands.specs.declared.command.Command.{Command}
 use Rattle.script_commands.specs.declared.command.Command.TheVariants.{Solve}
 use Rattle.script_commands.specs.declared.command.LineFault.{LineFault}
 use Rattle.script_commands.specs.declared.command.LineFault.TheVariants as line
-use Rattle.session_steps.specs.Replies.{IsStandingPlan, TellsSearch, RepliesTo}
+use Rattle.session_core.specs.session_steps.Replies.{IsStandingPlan, TellsSearch, RepliesTo}
 use Rattle.session_core.specs.Replies.{AnswersRead}
-use Rattle.solver_core.specs.declared.ending.SearchEnd.{SearchEnd}
-use Rattle.solver_core.specs.declared.ending.SearchEnd.TheVariants.{Found, Exhausted, Budget}
-use Rattle.solver_core.specs.Solving.{TellsEnd}
+use Rattle.session_core.specs.solver_core.SearchEnd.{SearchEnd}
+use Rattle.session_core.specs.solver_core.SearchEnd.TheVariants.{Found, Exhausted, Budget}
+use Rattle.session_core.specs.solver_core.Solving.{TellsEnd}
 use Rattle.session_laws.specs.Laws.{ProvesPlan, ProvesNone, TellsBudget, ProvesEnd, PrintedEndsProve}
 use Rattle.session_laws.proofs.Answering.{ReadOnce, not_memory, standing_settled}
 

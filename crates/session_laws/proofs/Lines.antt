@@ -22,15 +22,15 @@ use Rattle.model_core.specs.TokenStates.{HasTokenState, IsMergedAt}
 use Rattle.model_core.proofs.Leading.{token_once}
 use Rattle.plan_core.specs.Subjects.{IsPredicateText}
 use Rattle.plan_core.specs.Values.{IsValueText}
-use Rattle.plan_deciding.proofs.Placing.{place_once}
+use Rattle.session_core.proofs.plan_deciding.Placing.{place_once}
 use Rattle.plan_defs.proofs.Members.{get_same}
 use Rattle.plan_edges.specs.declared.edge.NamedEdge.{NamedEdge}
 use Rattle.plan_edges.specs.declared.edge.Point.{Point}
 use Rattle.plan_edges.specs.declared.edge.Point.TheVariants as points
 use Rattle.plan_states.specs.Flaws.{Flaw, Undecided, Undetermined, Unordered, Untimed}
 use Rattle.plan_states.proofs.Deciding.{DecidesOnce}
-use Rattle.script_lines.specs.Lines.{spaced, IsTokenWord, IsDomainText, IsDomainLine, IsStateText, IsTokenLine, IsLineOnToken, IsLineOnTokens, IsLineOnVariable, IsDecisionLine}
-use Rattle.script_lines.specs.Lines.{IsPointWord, IsEdgeLine, IsFlawText, IsFlawLine}
+use Rattle.session_core.specs.script_lines.Lines.{spaced, IsTokenWord, IsDomainText, IsDomainLine, IsStateText, IsTokenLine, IsLineOnToken, IsLineOnTokens, IsLineOnVariable, IsDecisionLine}
+use Rattle.session_core.specs.script_lines.Lines.{IsPointWord, IsEdgeLine, IsFlawText, IsFlawLine}
 use Rattle.session_laws.proofs.Words.{zip_one, kind_one, value_text_one, token_word_one, variable_word_one}
 
 module _ (model : Model) where

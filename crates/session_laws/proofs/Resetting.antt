@@ -10,19 +10,19 @@ use Rattle.model_core.specs.declared.model.Model.{Model}
 use Rattle.model_core.specs.Decided.{IsDecided}
 use Rattle.model_core.specs.History.{standing}
 use Rattle.model_core.specs.Lawful.{IsLawful}
-use Rattle.plan_db.specs.Database.{Database, OutcomeIs, Resets, TakesOutOn, HasDecisionOn}
-use Rattle.plan_db.specs.declared.fault.Outcome.{Outcome}
+use Rattle.session_core.specs.plan_db.Database.{Database, OutcomeIs, Resets, TakesOutOn, HasDecisionOn}
+use Rattle.session_core.specs.plan_db.Outcome.{Outcome}
 use Rattle.plan_defs.specs.Refusals.{IsAlreadyDecided, Decided}
 use Rattle.plan_defs.specs.Settling.{SettlesAfter, Settles, IsSettled}
 use Rattle.plan_defs.proofs.Ordered.{contains_head, contains_later, contains_cases, contains_none}
-use Rattle.plan_steps.specs.declared.subject.Subject.{Subject}
-use Rattle.plan_steps.specs.declared.subject.Subject.TheVariants as subjects
-use Rattle.plan_steps.specs.Subjects.{IsOfSubject}
+use Rattle.session_core.specs.plan_steps.Subject.{Subject}
+use Rattle.session_core.specs.plan_steps.Subject.TheVariants as subjects
+use Rattle.session_core.specs.plan_steps.Subjects.{IsOfSubject}
 use Rattle.conflict_laws.proofs.Splitting.{settles_same}
 use Rattle.script_commands.specs.declared.command.Command.{Command}
-use Rattle.session_steps.specs.declared.reason.RefusalReason.{RefusalReason}
-use Rattle.session_steps.specs.declared.reason.RefusalReason.TheVariants as reason
-use Rattle.session_steps.specs.Replies.{ResetsAsked, UndoesLast}
+use Rattle.session_core.specs.session_steps.RefusalReason.{RefusalReason}
+use Rattle.session_core.specs.session_steps.RefusalReason.TheVariants as reason
+use Rattle.session_core.specs.session_steps.Replies.{ResetsAsked, UndoesLast}
 use Rattle.session_laws.proofs.Taking.{outcome_one}
 use Rattle.session_laws.proofs.Words.{subject_one}
 

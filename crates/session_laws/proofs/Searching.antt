@@ -7,7 +7,7 @@ use Rattle.model_core.specs.declared.decision.Decision.{Decision}
 use Rattle.model_core.specs.History.{History, standing, accepted}
 use Rattle.model_core.specs.Lawful.{IsLawful}
 use Rattle.plan_core.specs.PlanTexts.{IsPlanText}
-use Rattle.plan_db.specs.Database.{Database}
+use Rattle.session_core.specs.plan_db.Database.{Database}
 use Rattle.plan_defs.specs.Settling.{IsSettled}
 use Rattle.plan_defs.proofs.Settling.{least_same}
 use Rattle.plan_reader.proofs.Spelled.{text_once}
@@ -16,11 +16,11 @@ use Rattle.plan_search.proofs.Once.{visits_once}
 use Rattle.plan_search.proofs.Searching.{fails_not_finds, stops_not_finds, stops_not_fails, finds_same}
 use Rattle.plan_soundness.specs.Soundness.{StatesHaveOnePlan}
 use Rattle.plan_states.specs.StatePlans.{IsStatePlan}
-use Rattle.script_lines.specs.Lines.{with_line_feed}
-use Rattle.session_steps.specs.Replies.{IsStandingPlan, TellsSearch, RepliesSearch}
-use Rattle.solver_core.specs.declared.ending.SearchEnd.{SearchEnd}
-use Rattle.solver_core.specs.declared.ending.SearchEnd.TheVariants.{Found, Exhausted, Budget}
-use Rattle.solver_core.specs.Solving.{TakesMore, TellsEnd}
+use Rattle.session_core.specs.script_lines.Lines.{with_line_feed}
+use Rattle.session_core.specs.session_steps.Replies.{IsStandingPlan, TellsSearch, RepliesSearch}
+use Rattle.session_core.specs.solver_core.SearchEnd.{SearchEnd}
+use Rattle.session_core.specs.solver_core.SearchEnd.TheVariants.{Found, Exhausted, Budget}
+use Rattle.session_core.specs.solver_core.Solving.{TakesMore, TellsEnd}
 
 -- ---- histories
 

@@ -4,17 +4,17 @@ use Rattle.model_core.specs.declared.decision.Decision.{Decision}
 use Rattle.model_core.specs.History.{standing, accepted}
 use Rattle.model_core.specs.Lawful.{IsLawful}
 use Rattle.model_core.specs.State.{State}
-use Rattle.plan_db.specs.Database.{Database, taken_in, HasLeast, HasCollapsed, OutcomeIs, Applies}
-use Rattle.plan_db.specs.declared.fault.Outcome.{Outcome}
-use Rattle.plan_db.specs.declared.fault.Outcome.TheVariants as outcome
+use Rattle.session_core.specs.plan_db.Database.{Database, taken_in, HasLeast, HasCollapsed, OutcomeIs, Applies}
+use Rattle.session_core.specs.plan_db.Outcome.{Outcome}
+use Rattle.session_core.specs.plan_db.Outcome.TheVariants as outcome
 use Rattle.plan_defs.specs.Refusals.{Refusal, IsFirstRefusal, IsAdmissible, Decided}
 use Rattle.plan_defs.specs.Refusals as refusals
 use Rattle.plan_defs.proofs.Reasons.{refusal_same}
 use Rattle.plan_defs.proofs.Settling.{least_same, least_not_collapsed}
 use Rattle.script_commands.specs.declared.command.Command.{Command}
-use Rattle.session_steps.specs.declared.reason.RefusalReason.{RefusalReason}
-use Rattle.session_steps.specs.declared.reason.RefusalReason.TheVariants as reason
-use Rattle.session_steps.specs.Replies.{RefusesAsked, AsksInVain, TakesAsked}
+use Rattle.session_core.specs.session_steps.RefusalReason.{RefusalReason}
+use Rattle.session_core.specs.session_steps.RefusalReason.TheVariants as reason
+use Rattle.session_core.specs.session_steps.Replies.{RefusesAsked, AsksInVain, TakesAsked}
 use Rattle.script_names.specs.Naming.{AsksDecision}
 use Rattle.session_laws.proofs.Words.{asked_one}
 

@@ -33,14 +33,14 @@ use Rattle.model_core.proofs.WellFormed.{token_text_well_formed}
 use Rattle.plan_core.specs.Values.{IsValueText}
 use Rattle.plan_defs.proofs.Members.{get_same}
 use Rattle.plan_words.proofs.Telling.{value_told}
-use Rattle.plan_steps.specs.declared.subject.Subject.{Subject}
-use Rattle.plan_steps.specs.declared.subject.Subject.TheVariants as subjects
+use Rattle.session_core.specs.plan_steps.Subject.{Subject}
+use Rattle.session_core.specs.plan_steps.Subject.TheVariants as subjects
 use Rattle.plan_words.proofs.Naming.{one_name}
 use Rattle.script_commands.specs.declared.command.Command.{Command}
 use Rattle.script_commands.specs.declared.command.Command.TheVariants.{Specify, Activate, Merge, Reject, Order, Reset, ResetOrder}
-use Rattle.script_lines.specs.Lines.{IsTokenWord, IsVariableWord}
+use Rattle.session_core.specs.script_lines.Lines.{IsTokenWord, IsVariableWord}
 use Rattle.script_names.specs.Naming.{IsVariableOfKind, SaysValue, AsksDecision}
-use Rattle.session_steps.specs.Replies.{AsksSubject}
+use Rattle.session_core.specs.session_steps.Replies.{AsksSubject}
 
 -- lists of what each thing has are one, where each thing has one
 pub zip_one : {X Y : Type 0} (Has : X → Y → Type 0) → ((x : X) (y z : Y) → Has x y → Has x z → y ≡ z)

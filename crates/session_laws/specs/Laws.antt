@@ -4,7 +4,7 @@ use Rattle.std.specs.Fmt.{decimal}
 use Rattle.line_session.specs.declared.reply.Answer.{Answer}
 use Rattle.model_core.specs.History.{standing}
 use Rattle.plan_core.specs.PlanTexts.{IsPlanText}
-use Rattle.plan_db.specs.Database.{Database}
+use Rattle.session_core.specs.plan_db.Database.{Database}
 use Rattle.plan_defs.specs.declared.plan.Plan.{Plan}
 use Rattle.plan_defs.specs.Broken.{AgreesWith}
 use Rattle.plan_defs.specs.Valid.{IsValid}
@@ -13,8 +13,8 @@ use Rattle.plan_search.specs.SearchLaws.{IsPlanFor}
 use Rattle.plan_swap.specs.SwapLaws.{count_of_tokens}
 use Rattle.script_commands.specs.declared.command.Command.TheVariants.{Solve}
 use Rattle.script_commands.specs.Line.{ReadsLine}
-use Rattle.script_lines.specs.Lines.{with_line_feed}
-use Rattle.session_steps.specs.Replies.{bound_text}
+use Rattle.session_core.specs.script_lines.Lines.{with_line_feed}
+use Rattle.session_core.specs.session_steps.Replies.{bound_text}
 use Rattle.session_core.specs.Replies.{AnswersLine}
 
 -- `found V` and the text of a plan that is valid, and agrees with the decisions that stood and with those that stand now

@@ -4,3 +4,4 @@
 #![tactic(auto)]
 
 pub mod laws;
+pub mod passed_session_core;

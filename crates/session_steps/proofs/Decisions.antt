@@ -3,11 +3,11 @@ use Rattle.std.proofs.Common.{Result, Ok, Err, inr, ap, subst}
 use Rattle.model_core.specs.declared.decision.Decision.{Decision}
 use Rattle.model_core.specs.Lawful.{IsLawful}
 use Rattle.model_core.specs.History.{standing}
-use Rattle.plan_db.specs.Answers.{Held, AnswersApply}
-use Rattle.plan_db.specs.Database.{Applies, RefusesFor}
-use Rattle.plan_db.specs.declared.fault.DbFault.{DbFault}
-use Rattle.plan_db.specs.declared.fault.DbFault.TheVariants as fault
-use Rattle.plan_db.specs.declared.fault.Outcome.{Outcome}
+use Rattle.search_texts.specs.plan_db.Answers.{Held, AnswersApply}
+use Rattle.search_texts.specs.plan_db.Database.{Applies, RefusesFor}
+use Rattle.search_texts.specs.plan_db.DbFault.{DbFault}
+use Rattle.search_texts.specs.plan_db.DbFault.TheVariants as fault
+use Rattle.search_texts.specs.plan_db.Outcome.{Outcome}
 use Rattle.plan_defs.specs.Refusals.{Refusal}
 use Rattle.script_commands.specs.declared.command.Command.{Command}
 use Rattle.script_names.specs.Naming.{AsksDecision, StandsForDecision}

@@ -1,3 +1,4 @@
 mod Stepping
 mod Decisions
 mod Searches
+pub mod search_texts

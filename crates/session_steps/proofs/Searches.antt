@@ -6,19 +6,19 @@ use Rattle.model_core.specs.declared.decision.Decision.{Decision}
 use Rattle.model_core.specs.declared.model.Model.{Model}
 use Rattle.model_core.specs.History.{History, standing, accepted}
 use Rattle.model_core.specs.State.{State}
-use Rattle.flaw_core.specs.Rules.{IsFirstAt, AreChoicesAt}
-use Rattle.plan_db.specs.Answers.{Held, AnswersBacktrack}
-use Rattle.plan_db.specs.Database.{Database, EndsAccepted, HasLeast}
-use Rattle.plan_db.specs.declared.fault.DbFault.{DbFault}
-use Rattle.plan_db.specs.declared.fault.DbFault.TheVariants as fault
-use Rattle.plan_db.specs.declared.fault.Outcome.TheVariants.{Inconsistent}
+use Rattle.script_lines.specs.flaw_core.Rules.{IsFirstAt, AreChoicesAt}
+use Rattle.search_texts.specs.plan_db.Answers.{Held, AnswersBacktrack}
+use Rattle.search_texts.specs.plan_db.Database.{Database, EndsAccepted, HasLeast}
+use Rattle.search_texts.specs.plan_db.DbFault.{DbFault}
+use Rattle.search_texts.specs.plan_db.DbFault.TheVariants as fault
+use Rattle.search_texts.specs.plan_db.Outcome.TheVariants.{Inconsistent}
 use Rattle.plan_search.specs.Search.{SearchOutcome, Searches}
 use Rattle.plan_search.specs.SearchLaws.{IsFoundList}
-use Rattle.solver_core.specs.declared.ending.SearchEnd.{SearchEnd}
-use Rattle.solver_core.specs.declared.ending.SearchEnd.TheVariants.{Found, Exhausted, Budget}
-use Rattle.solver_core.specs.declared.ending.SolveFault.{SolveFault}
-use Rattle.solver_core.specs.declared.ending.SolveFault.TheVariants as solve
-use Rattle.solver_core.specs.Solving.{TakesMore, TellsEnd, Solves, ProvesPlans}
+use Rattle.search_texts.specs.solver_core.SearchEnd.{SearchEnd}
+use Rattle.search_texts.specs.solver_core.SearchEnd.TheVariants.{Found, Exhausted, Budget}
+use Rattle.search_texts.specs.solver_core.SolveFault.{SolveFault}
+use Rattle.search_texts.specs.solver_core.SolveFault.TheVariants as solve
+use Rattle.search_texts.specs.solver_core.Solving.{TakesMore, TellsEnd, Solves, ProvesPlans}
 use Rattle.session_steps.specs.Reasons.{outcome_text}
 use Rattle.session_steps.specs.Replies.{TellsSearch}
 use Rattle.session_steps.specs.Steps.{Answers, IsTakenSince, RepliesSolve}

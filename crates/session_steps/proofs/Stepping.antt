@@ -10,14 +10,14 @@ use Rattle.model_core.specs.History.{History, standing}
 use Rattle.model_core.specs.Lawful.{IsLawful}
 use Rattle.model_core.specs.Names.{NamesToken, NamesVariable}
 use Rattle.model_core.proofs.Naming.{names_one_token, names_one_variable}
-use Rattle.plan_db.specs.Answers.{Held, AnswersUndo, AnswersReset}
-use Rattle.plan_db.specs.Database.{Database, IsSound, HasFormer, HasDecisionOn}
-use Rattle.plan_db.specs.declared.fault.DbFault.{DbFault}
-use Rattle.plan_db.specs.declared.fault.DbFault.TheVariants as fault
-use Rattle.plan_db.specs.declared.fault.Outcome.{Outcome}
+use Rattle.search_texts.specs.plan_db.Answers.{Held, AnswersUndo, AnswersReset}
+use Rattle.search_texts.specs.plan_db.Database.{Database, IsSound, HasFormer, HasDecisionOn}
+use Rattle.search_texts.specs.plan_db.DbFault.{DbFault}
+use Rattle.search_texts.specs.plan_db.DbFault.TheVariants as fault
+use Rattle.search_texts.specs.plan_db.Outcome.{Outcome}
 use Rattle.plan_defs.specs.History.{IsHistory}
-use Rattle.plan_steps.specs.declared.subject.Subject.{Subject}
-use Rattle.plan_steps.specs.declared.subject.Subject.TheVariants as subjects
+use Rattle.search_texts.specs.plan_steps.Subject.{Subject}
+use Rattle.search_texts.specs.plan_steps.Subject.TheVariants as subjects
 use Rattle.script_commands.specs.declared.command.Command.{Command}
 use Rattle.script_commands.specs.declared.command.Command.TheVariants.{Specify, Activate, Merge, Reject, Order, Reset, ResetOrder}
 use Rattle.session_steps.specs.declared.reason.RefusalReason.{RefusalReason}

@@ -1,8 +1,8 @@
 -- The reasons for which a line is refused, and how a step is answered.
 use Rattle.std.specs.Prelude.{ℕ, List, ◌++◌, codes, Result, Ok, Err}
-use Rattle.plan_db.specs.declared.fault.Outcome.{Outcome}
-use Rattle.plan_db.specs.declared.fault.Outcome.TheVariants.{Consistent}
-use Rattle.plan_db.specs.declared.fault.Outcome.TheVariants as outcome
+use Rattle.search_texts.specs.plan_db.Outcome.{Outcome}
+use Rattle.search_texts.specs.plan_db.Outcome.TheVariants.{Consistent}
+use Rattle.search_texts.specs.plan_db.Outcome.TheVariants as outcome
 use Rattle.script_lines.specs.Lines.{with_line_feed}
 use Rattle.session_steps.specs.declared.reason.RefusalReason.{RefusalReason}
 use Rattle.session_steps.specs.declared.reason.RefusalReason.TheVariants as reason

@@ -10,27 +10,27 @@ use Rattle.model_core.specs.declared.model.Model.{Model}
 use Rattle.model_core.specs.History.{standing}
 use Rattle.model_core.specs.Names.{NamesToken, NamesVariable}
 use Rattle.model_core.specs.State.{State, Gives}
-use Rattle.plan_cycles.specs.TimeCycle.{IsTimeCycle}
-use Rattle.plan_db.specs.Database.{Database, HasLeast, HasCollapsed, Applies, Resets, TakesBack, RefusesFor, HasFormer, HasDecisionOn}
-use Rattle.plan_db.specs.declared.fault.Outcome.{Outcome}
-use Rattle.plan_db.specs.declared.fault.Outcome.TheVariants as outcome
-use Rattle.plan_db.specs.Edges.{AreStandingEdges}
+use Rattle.script_lines.specs.plan_cycles.TimeCycle.{IsTimeCycle}
+use Rattle.search_texts.specs.plan_db.Database.{Database, HasLeast, HasCollapsed, Applies, Resets, TakesBack, RefusesFor, HasFormer, HasDecisionOn}
+use Rattle.search_texts.specs.plan_db.Outcome.{Outcome}
+use Rattle.search_texts.specs.plan_db.Outcome.TheVariants as outcome
+use Rattle.search_texts.specs.plan_db.Edges.{AreStandingEdges}
 use Rattle.plan_defs.specs.Refusals.{Refusal}
 use Rattle.plan_defs.specs.Refusals as refusals
 use Rattle.plan_defs.specs.Settling.{IsConflict}
-use Rattle.plan_edges.specs.declared.edge.NamedEdge.{NamedEdge}
+use Rattle.script_lines.specs.plan_edges.NamedEdge.{NamedEdge}
 use Rattle.plan_search.specs.Choices.{IsFirstFlaw, AreChoices}
 use Rattle.plan_search.specs.Search.{SearchOutcome, Searches}
 use Rattle.plan_states.specs.Flaws.{Flaw, HasFlaw}
-use Rattle.plan_steps.specs.declared.subject.Subject.{Subject}
-use Rattle.plan_steps.specs.declared.subject.Subject.TheVariants as subjects
+use Rattle.search_texts.specs.plan_steps.Subject.{Subject}
+use Rattle.search_texts.specs.plan_steps.Subject.TheVariants as subjects
 use Rattle.script_commands.specs.declared.command.Command.{Command}
 use Rattle.script_commands.specs.declared.command.Command.TheVariants.{Empty, Specify, Activate, Merge, Reject, Order, Reset, ResetOrder}
 use Rattle.script_commands.specs.declared.command.Command.TheVariants as commands
 use Rattle.script_lines.specs.Lines.{with_line_feed, counted_lines, IsDomainLine, IsTokenLine, IsDecisionLine, IsEdgeLine, IsFlawLine}
 use Rattle.script_names.specs.Naming.{AsksDecision, AsksNothing}
-use Rattle.solver_core.specs.declared.ending.SearchEnd.{SearchEnd}
-use Rattle.solver_core.specs.Solving.{TellsEnd}
+use Rattle.search_texts.specs.solver_core.SearchEnd.{SearchEnd}
+use Rattle.search_texts.specs.solver_core.Solving.{TellsEnd}
 pub use Rattle.search_texts.specs.Texts.{bound_text, IsStandingPlan, TellsSearch}
 use Rattle.session_steps.specs.declared.reason.RefusalReason.{RefusalReason}
 use Rattle.session_steps.specs.declared.reason.RefusalReason.TheVariants as reason

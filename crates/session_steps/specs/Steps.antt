@@ -5,16 +5,16 @@ use Rattle.eu_name.specs.declared.name_text.NameText.{NameText}
 use Rattle.model_core.specs.declared.model.Model.{Model}
 use Rattle.model_core.specs.Names.{NamesToken, NamesVariable}
 use Rattle.model_core.specs.State.{State}
-use Rattle.plan_db.specs.Database.{Database, HasLeast, HasCollapsed, Resets, HasDecisionOn}
-use Rattle.plan_db.specs.declared.fault.DbFault.{DbFault}
-use Rattle.plan_db.specs.declared.fault.DbFault.TheVariants as fault
-use Rattle.plan_db.specs.declared.fault.Outcome.{Outcome}
-use Rattle.plan_db.specs.declared.fault.Outcome.TheVariants as outcome
-use Rattle.plan_steps.specs.declared.subject.Subject.{Subject}
-use Rattle.plan_steps.specs.declared.subject.Subject.TheVariants as subjects
+use Rattle.search_texts.specs.plan_db.Database.{Database, HasLeast, HasCollapsed, Resets, HasDecisionOn}
+use Rattle.search_texts.specs.plan_db.DbFault.{DbFault}
+use Rattle.search_texts.specs.plan_db.DbFault.TheVariants as fault
+use Rattle.search_texts.specs.plan_db.Outcome.{Outcome}
+use Rattle.search_texts.specs.plan_db.Outcome.TheVariants as outcome
+use Rattle.search_texts.specs.plan_steps.Subject.{Subject}
+use Rattle.search_texts.specs.plan_steps.Subject.TheVariants as subjects
 use Rattle.script_commands.specs.declared.command.Command.{Command}
 use Rattle.script_commands.specs.declared.command.Command.TheVariants.{Specify, Activate, Merge, Reject, Order}
-use Rattle.solver_core.specs.Solving.{TakesMore}
+use Rattle.search_texts.specs.solver_core.Solving.{TakesMore}
 use Rattle.session_steps.specs.declared.reason.RefusalReason.{RefusalReason}
 use Rattle.session_steps.specs.declared.reason.RefusalReason.TheVariants as reason
 use Rattle.session_steps.specs.declared.reason.StepStop.{StepStop}

@@ -2,7 +2,7 @@
 
 ghost use Rattle.std.specs.Prelude.{◌≡◌, false, IfOk};
 ghost use Rattle.model_core.specs.declared.decision.Decision.{Decision as Taken};
-ghost use Rattle.plan_db.specs.Database.{IsSound};
+ghost use Rattle.search_texts.specs.plan_db.Database.{IsSound};
 ghost use Rattle.plan_words.specs.Indexing.{IsModelIndex};
 ghost use Rattle.script_commands.specs.declared.command.Command.{Command as Wanted};
 ghost use Rattle.script_names.specs.Naming.{AsksDecision, FindsDecision, StandsForDecision};
@@ -14,10 +14,10 @@ use super::replies::{refused, step_reply};
 use super::undoing::is_full;
 use eu_name::bytes::Bytes;
 use model_core::decision::Decision;
-use plan_db::{Db, Outcome};
 use plan_words::indexed::ModelIndex;
 use script_commands::Command;
 use script_names::decision_asked;
+use search_texts::passed_plan_db::{Db, Outcome};
 use std::alloc::{AllocError, Global};
 
 // Takes a decision that stands for one that is asked for.

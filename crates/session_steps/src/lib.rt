@@ -5,6 +5,8 @@
 #![tactic(auto)]
 
 pub mod deciding;
+pub mod passed_flaw_core;
+pub mod passed_script_lines;
 pub mod reason;
 pub mod replies;
 pub mod resetting;

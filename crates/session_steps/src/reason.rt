@@ -4,7 +4,7 @@ ghost use Rattle.std.specs.Prelude.{◌≡◌};
 ghost use Rattle.session_steps.specs.Reasons.{reason_word};
 ghost use Rattle.session_steps.specs.Steps.{step_for, stop_for};
 
-use plan_db::{DbFault, Outcome};
+use search_texts::passed_plan_db::{DbFault, Outcome};
 
 /// Why a line is refused, in the order in which the reasons are looked for.
 #[derive(Clone, Copy, Debug, PartialEq, Eq)]

@@ -6,8 +6,8 @@ ghost use Rattle.session_steps.specs.Steps.{SaysStep};
 
 use super::reason::{RefusalReason, StepStop, word_of};
 use eu_name::bytes::Bytes;
-use plan_db::Outcome;
 use search_texts::one_line;
+use search_texts::passed_plan_db::Outcome;
 use std::alloc::{AllocError, Global};
 
 /// The reply that says nothing.

@@ -16,10 +16,10 @@ use super::undoing::is_full;
 use eu_name::bytes::Bytes;
 use eu_name::name::{TokenName, VarName};
 use eu_name::name_text::NameText;
-use plan_db::{Db, Outcome, Subject};
 use plan_words::indexed::ModelIndex;
 use plan_words::resolving::{token_named, variable_named};
 use script_names::asking::tokens_named;
+use search_texts::passed_plan_db::{Db, Outcome, Subject};
 use std::alloc::{AllocError, Global};
 
 // Takes the decision on the subject out.

@@ -3,24 +3,24 @@
 ghost use Rattle.std.specs.Prelude.{◌≡◌, ◌+◌, ◌≤◌, false, length, IfOk, MatchResult};
 ghost use Rattle.model_core.specs.declared.decision.Decision.{Decision as Taken};
 ghost use Rattle.model_core.specs.History.{accepted};
-ghost use Rattle.plan_db.specs.Database.{Database, EndsAccepted};
+ghost use Rattle.search_texts.specs.plan_db.Database.{Database, EndsAccepted};
 ghost use Rattle.script_commands.specs.declared.command.Command.TheVariants as commands;
-ghost use Rattle.solver_core.specs.declared.ending.SolveFault.TheVariants.{InInconsistent};
+ghost use Rattle.search_texts.specs.solver_core.SolveFault.TheVariants.{InInconsistent};
 ghost use Rattle.session_steps.specs.Reasons.{outcome_text};
 ghost use Rattle.session_steps.specs.Replies.{TellsSearch};
 ghost use Rattle.session_steps.specs.Steps.{Answers, AnswersCommand, IsTakenSince, RepliesSolve};
 ghost use Rattle.search_texts.specs.Texts.{IsFlawlessEnd};
-ghost use Rattle.plan_db.specs.declared.fault.Outcome.TheVariants.{Inconsistent};
+ghost use Rattle.search_texts.specs.plan_db.Outcome.TheVariants.{Inconsistent};
 
 use super::reason::RefusalReason;
 use super::replies::{outcome_reply, refused};
 use super::undoing::is_full;
 use eu_name::bytes::Bytes;
-use flaw_core::Plain;
-use plan_db::{Db, Outcome};
-use search_steps::laws::plain_searches_are_searches;
+use script_lines::passed_flaw_core::Plain;
 use search_texts::end_text;
-use solver_core::{SearchEnd, SolveFault, solve};
+use search_texts::passed_plan_db::{Db, Outcome};
+use search_texts::passed_search_steps::plain_searches_are_searches;
+use search_texts::passed_solver_core::{SearchEnd, SolveFault, solve};
 use std::alloc::{AllocError, Global};
 
 // Takes the last decision back.

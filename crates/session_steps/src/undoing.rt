@@ -8,7 +8,7 @@ ghost use Rattle.session_steps.specs.Steps.{AnswersCommand, StepsOr};
 use super::reason::{StepStop, step_of};
 use super::replies::step_reply;
 use eu_name::bytes::Bytes;
-use plan_db::{Db, Outcome};
+use search_texts::passed_plan_db::{Db, Outcome};
 use std::alloc::{AllocError, Global};
 
 /// So many steps can be taken back at most.

@@ -12,10 +12,10 @@ use Rattle.model_core.specs.State.{State}
 use Rattle.plan_defs.specs.Closure.{IsLeast, IsCollapsed}
 use Rattle.plan_defs.specs.Refusals.{IsAdmissible}
 use Rattle.plan_defs.specs.Settling.{IsSettled}
-use Rattle.plan_steps.proofs.Keeping.{standing_settled}
-use Rattle.plan_search.specs.Search.{SearchOutcome, Finds, Fails, Stops}
-use Rattle.flaw_core.specs.declared.flaw.Flaw.{Flaw}
-use Rattle.flaw_core.specs.Rules.{IsLeastFor, LeavesOut}
+use Rattle.plan_db.proofs.plan_steps.Keeping.{standing_settled}
+use Rattle.search_steps.specs.plan_search.Search.{SearchOutcome, Finds, Fails, Stops}
+use Rattle.search_steps.specs.flaw_core.Flaw.{Flaw}
+use Rattle.search_steps.specs.flaw_core.Rules.{IsLeastFor, LeavesOut}
 use Rattle.search_steps.specs.ByRule.{IsVisitBy}
 use Rattle.search_steps.specs.Rest.{LeftOver, SearchesOn, VisitsFirst}
 use Rattle.search_steps.proofs.Resting.{takes_choice, leaves_flaw, begins, visits_collapsed, visits_flaw, visits_found, visits_none}

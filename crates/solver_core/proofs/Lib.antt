@@ -2,3 +2,4 @@ mod Granting
 mod Seeing
 mod Coming
 mod Resulting
+pub mod plan_steps

@@ -12,10 +12,10 @@ use Rattle.plan_defs.specs.Refusals.{IsAdmissible}
 use Rattle.plan_defs.specs.Settling.{IsSettled}
 use Rattle.plan_states.specs.Flaws.{HasFlaw}
 use Rattle.plan_swap.specs.SwapLaws.{count_of_tokens}
-use Rattle.plan_search.specs.Search.{Finds, Fails, Stops}
-use Rattle.plan_search.specs.SearchLaws.{IsPlanFor, AgreesWithSome}
-use Rattle.flaw_core.specs.declared.flaw.Flaw.{Flaw}
-use Rattle.flaw_core.specs.Rules.{IsLeastFor, IsCoveredBy}
+use Rattle.search_steps.specs.plan_search.Search.{Finds, Fails, Stops}
+use Rattle.search_steps.specs.plan_search.SearchLaws.{IsPlanFor, AgreesWithSome}
+use Rattle.search_steps.specs.flaw_core.Flaw.{Flaw}
+use Rattle.search_steps.specs.flaw_core.Rules.{IsLeastFor, IsCoveredBy}
 use Rattle.search_steps.proofs.Proving.{found_by_rule, none_by_rule}
 use Rattle.plan_db.specs.Database.{HasLeast}
 use Rattle.plan_db.specs.Answers.{Held}

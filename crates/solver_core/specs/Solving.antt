@@ -6,9 +6,9 @@ use Rattle.model_core.specs.History.{History, standing, accepted}
 use Rattle.model_core.specs.State.{State}
 use Rattle.plan_defs.specs.declared.plan.Plan.{Plan}
 use Rattle.plan_swap.specs.SwapLaws.{count_of_tokens}
-use Rattle.plan_search.specs.Search.{SearchOutcome, Finds, Fails, Stops}
-use Rattle.plan_search.specs.SearchLaws.{IsPlanFor, IsFoundList}
-use Rattle.flaw_core.specs.declared.flaw.Flaw.{Flaw}
+use Rattle.search_steps.specs.plan_search.Search.{SearchOutcome, Finds, Fails, Stops}
+use Rattle.search_steps.specs.plan_search.SearchLaws.{IsPlanFor, IsFoundList}
+use Rattle.search_steps.specs.flaw_core.Flaw.{Flaw}
 use Rattle.search_steps.specs.ByRule.{SearchesBy}
 use Rattle.plan_db.specs.Database.{Database, HasLeast, HasCollapsed}
 use Rattle.plan_db.specs.Answers.{Held, StaysReady, StaysBehind, StaysSame}

@@ -6,8 +6,8 @@ use Rattle.model_core.specs.declared.model.Model.{Model}
 use Rattle.model_core.specs.History.{History, standing, accepted}
 use Rattle.model_core.specs.State.{State}
 use Rattle.plan_defs.specs.Closure.{IsLeast}
-use Rattle.plan_search.specs.Search.{SearchOutcome, SearchEnding, Finds, Fails}
-use Rattle.flaw_core.specs.declared.flaw.Flaw.{Flaw}
+use Rattle.search_steps.specs.plan_search.Search.{SearchOutcome, SearchEnding, Finds, Fails}
+use Rattle.search_steps.specs.flaw_core.Flaw.{Flaw}
 use Rattle.search_steps.specs.ByRule.{IsVisitBy, SearchesBy}
 use Rattle.search_steps.specs.Rest.{LeftOver, SearchesOn, VisitsFirst}
 use Rattle.plan_db.specs.Database.{Database}

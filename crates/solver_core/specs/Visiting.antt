@@ -7,8 +7,8 @@ use Rattle.model_core.specs.declared.model.Model.{Model}
 use Rattle.model_core.specs.History.{History, accepted}
 use Rattle.model_core.specs.State.{State}
 use Rattle.plan_defs.specs.Closure.{IsLeast, IsCollapsed}
-use Rattle.flaw_core.specs.declared.flaw.Flaw.{Flaw}
-use Rattle.flaw_core.specs.Rules.{LeavesOut}
+use Rattle.search_steps.specs.flaw_core.Flaw.{Flaw}
+use Rattle.search_steps.specs.flaw_core.Rules.{LeavesOut}
 use Rattle.plan_db.specs.Database.{taken_in}
 use Rattle.plan_db.specs.Answers.{Held}
 use Rattle.solver_core.specs.declared.course.Branch.{Branch}

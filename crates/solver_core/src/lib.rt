@@ -7,6 +7,9 @@
 
 mod course;
 mod ending;
+pub mod passed_flaw_core;
+pub mod passed_plan_db;
+pub mod passed_search_steps;
 mod solving;
 mod stepping;
 mod taking;

@@ -10,8 +10,8 @@ use super::course::Course;
 use super::ending::{SearchEnd, SolveFault};
 use super::stepping::{Step, advance};
 use super::taking::take_back;
-use flaw_core::FlawRule;
 use plan_db::Db;
+use search_steps::passed_flaw_core::FlawRule;
 use std::alloc::{AllocError, Global};
 
 // Visits lists up to the end, or until no unit is left.

@@ -6,8 +6,8 @@ ghost use Rattle.solver_core.specs.Underway.{Task, IsAbove, IsLooking, HasFailed
 use super::course::{Branch, Course};
 use super::taking::{put_found, take_back};
 use super::visiting::{Visited, next_choice, visit};
-use flaw_core::{Flaw, FlawRule};
 use plan_db::Db;
+use search_steps::passed_flaw_core::{Flaw, FlawRule};
 use std::alloc::AllocError;
 
 /// What a step of a search comes to.

@@ -7,8 +7,8 @@ use Rattle.model_core.specs.Lawful.{IsLawful}
 use Rattle.plan_defs.specs.Closure.{IsLeast}
 use Rattle.plan_defs.specs.Settling.{IsSettled}
 use Rattle.plan_view.specs.Seeing.{Seen, seen_state}
-use Rattle.plan_steps.proofs.Keeping.{standing_settled}
-use Rattle.plan_db.specs.Database.{Database, IsSound}
+use Rattle.solver_core.proofs.plan_steps.Keeping.{standing_settled}
+use Rattle.solver_core.specs.plan_db.Database.{Database, IsSound}
 use Rattle.state_tests.specs.Seen.{IsSeenOf}
 
 pub lawful_of : (database : Database) (model : Model) → model ≡ database.model → IsSound database → IsLawful model

@@ -2,8 +2,8 @@
 use Rattle.std.specs.Prelude.{◌≡◌}
 use Rattle.model_core.specs.declared.model.Model.{Model}
 use Rattle.plan_view.specs.Seeing.{Seen}
-use Rattle.plan_db.specs.Answers.{Held, IsSeen}
-use Rattle.plan_db.specs.Database.{IsSound}
+use Rattle.solver_core.specs.plan_db.Answers.{Held, IsSeen}
+use Rattle.solver_core.specs.plan_db.Database.{IsSound}
 
 -- a database of the model shows this
 pub record IsSeenOf (model : Model) (view : Seen) : Type 0 where

@@ -2,7 +2,7 @@
 
 ghost use Rattle.std.specs.Prelude.{◌≡◌, IfOk};
 ghost use Rattle.model_core.specs.Lawful.{IsLawful};
-ghost use Rattle.plan_db.specs.Database.{IsSound};
+ghost use Rattle.solver_core.specs.plan_db.Database.{IsSound};
 ghost use Rattle.plan_defs.specs.Plans.{IsPlanOf};
 ghost use Rattle.state_tests.specs.Seen.{IsSeenOf};
 
@@ -14,9 +14,9 @@ use model_core::decision::Decision;
 use model_core::model::Model;
 use model_core::view::{TokenState, View};
 use plan_core::write_plan;
-use plan_db::{Db, QueryFault, StoreView};
 use plan_defs::plan::Plan;
 use plan_states::{PlanOfFault, plan_of};
+use solver_core::passed_plan_db::{Db, QueryFault, StoreView};
 use std::alloc::Global;
 
 /// The model of the database.

@@ -5,7 +5,7 @@ use super::deciding::take;
 use super::names::variable;
 use super::steps::is_taken;
 use super::trial::{Trial, told_on_rounds};
-use plan_db::{Db, NamedEdge, Point};
+use solver_core::passed_plan_db::{Db, NamedEdge, Point};
 use std::alloc::{AllocError, Global};
 
 // What was written how often, or nothing of what is asked.

@@ -8,7 +8,7 @@ use super::names::{decision, parts, subject};
 use super::reasons::{has_no_reason, is_conflict, is_cycle};
 use super::steps::Said;
 use super::trial::Trial;
-use plan_db::{Db, DbFault, Outcome, QueryFault};
+use solver_core::passed_plan_db::{Db, DbFault, Outcome, QueryFault};
 use std::alloc::{AllocError, Global};
 
 /// The plan of the mission where `here` is merged.

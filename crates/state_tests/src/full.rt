@@ -6,7 +6,7 @@ use super::trial::{Trial, told_on_rounds};
 use eu_name::name::{Step, TokenName};
 use eu_name::sequence::Sequence;
 use model_core::decision::Decision;
-use plan_db::{Db, DbFault};
+use solver_core::passed_plan_db::{Db, DbFault};
 use std::alloc::{AllocError, Global};
 
 // The token to which so many steps lead from the link, each to one more of the same.

@@ -7,7 +7,7 @@ use eu_name::name_text::NameText;
 use eu_name::reading::read_name;
 use model_core::decision::Decision;
 use model_core::model::Model;
-use plan_db::Subject;
+use solver_core::passed_plan_db::Subject;
 use std::alloc::Global;
 
 // The token of this name.

@@ -7,7 +7,7 @@ use super::names::{parts, variable};
 use conflict_core::{WhyFault, time_cycle, why};
 use eu_name::name::{Part, TokenName, VarName};
 use model_core::model::Model;
-use plan_db::{Db, NamedEdge, Point};
+use solver_core::passed_plan_db::{Db, NamedEdge, Point};
 use std::alloc::Global;
 
 /// Whether the conflict is these decisions, as they are named between commas.

@@ -6,7 +6,7 @@ use super::asking::model_of;
 use super::names::{decision, parts};
 use super::trial::{Trial, told_on_rounds};
 use flaw_core::Plain;
-use plan_db::Db;
+use solver_core::passed_plan_db::Db;
 use solver_core::{SearchEnd, SolveFault, solve};
 use std::alloc::{AllocError, Global};
 use std::process::Abort;

@@ -1,6 +1,6 @@
 //! What steps on a database answer, in plain values.
 
-use plan_db::DbFault;
+use solver_core::passed_plan_db::DbFault;
 
 /// What a call that changes decisions answers.
 #[derive(Clone, Copy, Debug, PartialEq, Eq)]

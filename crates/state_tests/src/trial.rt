@@ -3,10 +3,10 @@
 ghost use Rattle.model_core.specs.Lawful.{IsLawful};
 
 use model_core::model::Model;
-use plan_db::Db;
 use plan_release::let_go;
 use sample_models::mission::mission;
 use sample_models::rounds::rounds;
+use solver_core::passed_plan_db::Db;
 use std::alloc::{AllocError, Global};
 
 /// What is done with a database, and told of it in plain values. None of these owns one, since a proof goes through all that

@@ -3,7 +3,7 @@
 use super::deciding::take;
 use super::steps::is_taken;
 use super::trial::{Trial, told_on_rounds};
-use plan_db::Db;
+use solver_core::passed_plan_db::Db;
 use std::alloc::Global;
 use std::test::Fail;
 

@@ -1,4 +1,4 @@
-use Rattle.nddl_lines.specs.Facts.{facts_of}
+use Rattle.nddl_known.specs.nddl_lines.Facts.{facts_of}
 use Rattle.nddl_classes.proofs.Steps.{class_step}
 use Rattle.nddl_classes.proofs.classes.note_class.Goals as goal
 

@@ -1,7 +1,7 @@
 use Rattle.std.proofs.Common.{◌≡◌, drop}
 use Rattle.std.specs.List.{flat_map}
 use Rattle.nddl_scope.specs.Finding.{earliest_fault}
-use Rattle.nddl_lines.specs.Facts.{facts_of}
+use Rattle.nddl_known.specs.nddl_lines.Facts.{facts_of}
 use Rattle.nddl_classes.specs.Members.{member_faults}
 use Rattle.nddl_classes.proofs.members.note_members.Given as goal
 

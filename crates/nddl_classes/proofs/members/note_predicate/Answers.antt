@@ -1,4 +1,4 @@
-use Rattle.nddl_lines.specs.Facts.{facts_of}
+use Rattle.nddl_known.specs.nddl_lines.Facts.{facts_of}
 use Rattle.nddl_classes.proofs.Steps.{predicate_step}
 use Rattle.nddl_classes.proofs.members.note_predicate.Goals as goal
 

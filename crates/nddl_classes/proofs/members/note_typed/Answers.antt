@@ -1,6 +1,6 @@
 use Rattle.std.proofs.Common.{map}
 use Rattle.nddl_scope.specs.Finding.{earliest_fault}
-use Rattle.nddl_lines.specs.Facts.{facts_of}
+use Rattle.nddl_known.specs.nddl_lines.Facts.{facts_of}
 use Rattle.nddl_classes.specs.Members.{typed_faults}
 use Rattle.nddl_classes.proofs.Steps.{typed_step}
 use Rattle.nddl_classes.proofs.members.note_typed.Goals as goal

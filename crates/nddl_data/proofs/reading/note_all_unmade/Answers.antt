@@ -1,5 +1,5 @@
 use Rattle.nddl_scope.specs.Finding.{earliest_fault}
-use Rattle.nddl_classes.proofs.Steps.{flat_step}
+use Rattle.nddl_constructors.specs.nddl_classes.Steps.{flat_step}
 use Rattle.nddl_data.specs.Reading.{all_unmade_faults, unmade_faults}
 use Rattle.nddl_data.specs.Scene.{grounds_of, scenery_of}
 use Rattle.nddl_data.proofs.reading.note_all_unmade.Goals as goal

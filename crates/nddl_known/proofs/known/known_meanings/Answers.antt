@@ -2,7 +2,7 @@ use Rattle.std.proofs.Common.{ℕ, ◌+◌, List, [], length, get_or, replicate,
 use Rattle.std.specs.Prelude.{Option, None}
 use Rattle.std.proofs.lemmas.Option.{slice_get-get_or}
 use Rattle.lineage.specs.Lines.{IsLineageOf, ParentsComeFirst}
-use Rattle.nddl_sorts.specs.declared.kind.TypeMeaning.{TypeMeaning}
+use Rattle.nddl_lines.specs.nddl_sorts.TypeMeaning.{TypeMeaning}
 use Rattle.nddl_lines.specs.Facts.{Facts}
 use Rattle.nddl_known.specs.Known.{known_meaning}
 use Rattle.nddl_known.proofs.Depends.{with_known}

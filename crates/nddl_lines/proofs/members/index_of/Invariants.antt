@@ -1,4 +1,4 @@
-use Rattle.nddl_scope.proofs.Firsts.{HasFirstsTo}
+use Rattle.nddl_sorts.specs.nddl_scope.Firsts.{HasFirstsTo}
 use Rattle.nddl_lines.specs.Members.{is_field_named, is_predicate_named}
 use Rattle.nddl_lines.proofs.members.index_of.Given as goal
 

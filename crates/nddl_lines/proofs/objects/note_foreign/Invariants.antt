@@ -1,5 +1,5 @@
 use Rattle.std.proofs.Common.{◌≡◌, drop}
-use Rattle.nddl_scope.specs.Finding.{earliest_fault}
+use Rattle.nddl_sorts.specs.nddl_scope.Finding.{earliest_fault}
 use Rattle.nddl_lines.specs.Facts.{faults_of_foreign}
 use Rattle.nddl_lines.proofs.objects.note_foreign.Given as goal
 

@@ -3,7 +3,7 @@ use Rattle.std.proofs.lemmas.Result.{IfOk-weaker}
 use Rattle.nddl_lines.specs.Ancestors.{ancestry}
 use Rattle.nddl_lines.specs.Facts.{facts_of}
 use Rattle.nddl_lines.specs.Shorter.{adds_members}
-use Rattle.nddl_constructors.specs.Wants.{builtin_along}
+use Rattle.nddl_data.specs.nddl_constructors.Wants.{builtin_along}
 use Rattle.nddl_passed.specs.Classes.{behind_all}
 use Rattle.nddl_passed.proofs.Keeping.{same_behind}
 use Rattle.nddl_passed.proofs.classes.adding_above.Goals as goal

@@ -1,5 +1,5 @@
 use Rattle.std.proofs.Common.{◌≡◌, drop}
-use Rattle.nddl_classes.specs.Members.{parameters_of}
+use Rattle.nddl_schema.specs.nddl_classes.Members.{parameters_of}
 use Rattle.nddl_lines.specs.Members.{named_typed}
 use Rattle.nddl_paths.proofs.predicates.parameter_named.Given as goal
 

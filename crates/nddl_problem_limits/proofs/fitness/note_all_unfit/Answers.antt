@@ -1,6 +1,6 @@
 use Rattle.std.proofs.Common.{map, refl}
 use Rattle.nddl_scope.specs.Finding.{earliest_fault}
-use Rattle.nddl_constructors.proofs.Noting.{numbered_step}
+use Rattle.nddl_problem_texts.specs.nddl_constructors.Noting.{numbered_step}
 use Rattle.nddl_problem_limits.specs.Fitness.{outset_at, unfit_decl_faults, unfit_faults_from}
 use Rattle.nddl_problem_limits.proofs.fitness.note_all_unfit.Goals as goal
 

@@ -1,6 +1,6 @@
 -- The levels that are left fall, or what is run is a part of what was run.
 use Rattle.std.proofs.Common.{◌≡◌, ◌*◌, ◌+◌, drop}
-use Rattle.nddl_data.specs.Scene.{scenery_of}
+use Rattle.nddl_field_types.specs.nddl_data.Scene.{scenery_of}
 use Rattle.nddl_running.specs.Blueprints.{grounds_in}
 use Rattle.nddl_running.specs.Construction.{construction_of, subject_of}
 use Rattle.nddl_running.specs.Made.{classes_run, made_by, parts_run}

@@ -4,9 +4,9 @@ use Rattle.std.proofs.lemmas.List.{take_more, take_all}
 use Rattle.std.proofs.lemmas.List.Elements.{Contains-get_or}
 use Rattle.model_core.specs.declared.item.Item.{Item}
 use Rattle.plan_defs.specs.Terms.{InProblem}
-use Rattle.plan_posting.specs.Origins.{content_now}
-use Rattle.plan_posting.specs.Postable.{CanPostItem, IsItemNamed}
-use Rattle.plan_posting.proofs.Storing.{only_both}
+use Rattle.plan_opening.specs.plan_posting.Origins.{content_now}
+use Rattle.plan_opening.specs.plan_posting.Postable.{CanPostItem, IsItemNamed}
+use Rattle.plan_opening.specs.plan_posting.Storing.{only_both}
 use Rattle.plan_beginning.specs.Beginning.{AreItemsSaid}
 use Rattle.plan_beginning.proofs.Beginning.{roots_stay, tables_stay, item_begun, items_more, item_postable, item_named}
 use Rattle.plan_beginning.proofs.problem.post_problem.Goals as goal

@@ -1,5 +1,5 @@
 use Rattle.std.proofs.Common.{take}
-use Rattle.plan_posting.specs.Posted.{OnlyPosts}
+use Rattle.plan_opening.specs.plan_posting.Posted.{OnlyPosts}
 use Rattle.plan_opening.specs.Begun.{IsBegun}
 use Rattle.plan_beginning.specs.Beginning.{AreItemsSaid}
 use Rattle.plan_beginning.proofs.problem.post_problem.Given as goal

@@ -1,8 +1,8 @@
 use Rattle.std.proofs.Common.{sym, subst}
 use Rattle.std.proofs.lemmas.Result.{err_from_is_err_and}
-use Rattle.plan_posting.specs.Tables.{HaveTables}
+use Rattle.plan_unfolding.specs.plan_posting.Tables.{HaveTables}
 use Rattle.plan_closing.proofs.Resting.{close_fails, close_way, closes_on}
-use Rattle.plan_posting.proofs.Storing.{marks_both}
+use Rattle.plan_unfolding.specs.plan_posting.Storing.{marks_both}
 use Rattle.plan_closing.proofs.Seated.{kept_both}
 use Rattle.plan_closing.proofs.closing.close.Goals as goal
 

@@ -1,7 +1,7 @@
 use Rattle.std.proofs.Common.{◌∙◌}
 use Rattle.std.proofs.lemmas.Result.{err_from_is_err_and}
 use Rattle.plan_closing.proofs.Resting.{taken_way, taken_tables, heeds_some, heeds_fails, heeds_none}
-use Rattle.plan_posting.proofs.Storing.{marks_both}
+use Rattle.plan_unfolding.specs.plan_posting.Storing.{marks_both}
 use Rattle.plan_closing.proofs.Seated.{kept_on, seating_on}
 use Rattle.plan_closing.proofs.closing.heed_next.Goals as goal
 

@@ -2,7 +2,7 @@ use Rattle.std.proofs.Common.{refl, slice_index_or, ◌∙◌}
 use Rattle.std.proofs.lemmas.List.{drop_all}
 use Rattle.std.proofs.lemmas.Result.{err_from_is_err_and}
 use Rattle.plan_closing.proofs.Resting.{looked_way, looked_more, looked_fails, looked_all}
-use Rattle.plan_posting.proofs.Storing.{marks_same, marks_both}
+use Rattle.plan_unfolding.specs.plan_posting.Storing.{marks_same, marks_both}
 use Rattle.plan_closing.proofs.Seated.{kept_same, kept_both}
 use Rattle.plan_closing.proofs.closing.look_at_all.Goals as goal
 

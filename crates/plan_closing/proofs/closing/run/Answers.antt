@@ -1,9 +1,9 @@
 use Rattle.std.proofs.Common.{refl, sym, ◌∙◌, subst}
 use Rattle.std.proofs.lemmas.Result.{err_from_is_err_and}
-use Rattle.plan_posting.specs.Tables.{HaveTables}
+use Rattle.plan_unfolding.specs.plan_posting.Tables.{HaveTables}
 use Rattle.plan_closing.specs.Closing.{StepLeaves}
 use Rattle.plan_closing.proofs.Resting.{run_fails, run_ends}
-use Rattle.plan_posting.proofs.Storing.{marks_same, marks_both}
+use Rattle.plan_unfolding.specs.plan_posting.Storing.{marks_same, marks_both}
 use Rattle.plan_closing.proofs.Seated.{kept_same, kept_both}
 use Rattle.plan_closing.proofs.closing.run.Goals as goal
 

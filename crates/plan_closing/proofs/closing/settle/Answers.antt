@@ -1,6 +1,6 @@
 use Rattle.std.proofs.lemmas.Result.{err_from_is_err_and}
 use Rattle.plan_closing.proofs.Resting.{settle_fails, settled_way, behind_fails, behind_on, behind_rest}
-use Rattle.plan_posting.proofs.Storing.{marks_both}
+use Rattle.plan_unfolding.specs.plan_posting.Storing.{marks_both}
 use Rattle.plan_closing.proofs.Seated.{kept_on, seating_on}
 use Rattle.plan_closing.proofs.closing.settle.Goals as goal
 

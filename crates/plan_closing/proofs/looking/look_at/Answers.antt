@@ -2,7 +2,7 @@ use Rattle.std.proofs.Common.{ap, ◌∙◌}
 use Rattle.std.proofs.lemmas.Result.{err_from_is_err_and}
 use Rattle.plan_store.specs.Stores.{Stored}
 use Rattle.plan_closing.proofs.Heeding.{keep_way, look_fails, looked}
-use Rattle.plan_posting.proofs.Storing.{marks_both}
+use Rattle.plan_unfolding.specs.plan_posting.Storing.{marks_both}
 use Rattle.plan_closing.proofs.Seated.{kept_on, seating_on}
 use Rattle.plan_closing.proofs.looking.look_at.Goals as goal
 

@@ -1,7 +1,7 @@
 use Rattle.std.proofs.Common.{length, Err, ap, arith}
 use Rattle.std.proofs.lemmas.Result.{err_from_is_err_and}
 use Rattle.plan_closing.proofs.Heeding.{keep_way, watcher_at, heeded_none, heeded_more, heeded_fails}
-use Rattle.plan_posting.proofs.Storing.{marks_both}
+use Rattle.plan_unfolding.specs.plan_posting.Storing.{marks_both}
 use Rattle.plan_closing.proofs.looking.look_at_watchers.Goals as goal
 
 pub loop-place-init : goal.loop-place-init

@@ -4,7 +4,7 @@ use Rattle.plan_store.specs.Stores.{Stored, snapshot_of, IsSnapshot}
 use Rattle.plan_closing.specs.Turns.{FindsTimeline}
 use Rattle.plan_closing.proofs.Seated.{kept_same, kept_later}
 use Rattle.plan_closing.proofs.Sharing.{marks_alone, posts_then, finds_on, times_on, place_on, no_turns, turns_all, turns_marked}
-use Rattle.plan_posting.proofs.Storing.{marks_both}
+use Rattle.plan_unfolding.specs.plan_posting.Storing.{marks_both}
 use Rattle.plan_closing.proofs.turns.look_at_turns.Goals as goal
 
 pub returns-in_default-clause-turns : goal.returns-in_default-clause-turns

@@ -1,5 +1,5 @@
 use Rattle.token_store.specs.Orders.{name_at}
-use Rattle.plan_posting.specs.Origins.{content_now}
+use Rattle.plan_unfolding.specs.plan_posting.Origins.{content_now}
 use Rattle.plan_closing.proofs.Sharing.{object_told}
 use Rattle.plan_closing.proofs.turns.object_of.Goals as goal
 

@@ -1,6 +1,6 @@
 use Rattle.std.proofs.Common.{refl}
 use Rattle.token_store.specs.Orders.{name_at}
-use Rattle.plan_posting.specs.Origins.{content_now}
+use Rattle.plan_unfolding.specs.plan_posting.Origins.{content_now}
 use Rattle.plan_closing.proofs.Sharing.{turn_known, turn_posted}
 use Rattle.plan_closing.proofs.turns.post_turn.Goals as goal
 

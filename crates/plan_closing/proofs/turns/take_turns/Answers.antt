@@ -1,6 +1,6 @@
 use Rattle.std.proofs.Common.{◌≡◌, Some, subst, arith}
 use Rattle.std.proofs.lemmas.Int.{ints}
-use Rattle.plan_posting.proofs.Storing.{times_stay}
+use Rattle.plan_unfolding.specs.plan_posting.Storing.{times_stay}
 use Rattle.plan_closing.specs.Turns.{FindsTimeline}
 use Rattle.plan_closing.proofs.Sharing.{loose_turns, other_turns, turns_taken}
 use Rattle.plan_closing.proofs.turns.take_turns.Goals as goal

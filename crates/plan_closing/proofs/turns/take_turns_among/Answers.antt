@@ -1,6 +1,6 @@
 use Rattle.std.proofs.Common.{Some, refl, sym, subst, w32}
 use Rattle.std.proofs.lemmas.Int.{to_z-of_z}
-use Rattle.plan_posting.proofs.Storing.{only_both, marks_same, marks_both}
+use Rattle.plan_unfolding.specs.plan_posting.Storing.{only_both, marks_same, marks_both}
 use Rattle.plan_closing.specs.Turns.{FindsTimeline}
 use Rattle.plan_closing.proofs.Sharing.{posts_alone, finds_on, times_on, place_on, turns_begin, turns_next, turns_end}
 use Rattle.plan_closing.proofs.turns.take_turns_among.Goals as goal

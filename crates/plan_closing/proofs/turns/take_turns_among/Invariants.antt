@@ -1,6 +1,6 @@
 use Rattle.std.proofs.Common.{take}
 use Rattle.plan_store.specs.StoreMarks.{KeepStoreMarks}
-use Rattle.plan_posting.specs.Posted.{OnlyPosts}
+use Rattle.plan_unfolding.specs.plan_posting.Posted.{OnlyPosts}
 use Rattle.plan_closing.specs.Turns.{TakesTurnsAmong}
 use Rattle.plan_closing.proofs.turns.take_turns_among.Given as goal
 

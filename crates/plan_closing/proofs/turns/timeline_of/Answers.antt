@@ -2,7 +2,7 @@ use Rattle.std.proofs.Common.{◌≡◌, false, true, subst, to_z, of_z, w32, ar
 use Rattle.std.proofs.lemmas.Int.{ints}
 use Rattle.plan_defs.specs.Timelines.{IsTimeline}
 use Rattle.token_store.specs.Orders.{name_at}
-use Rattle.plan_posting.specs.Origins.{content_now}
+use Rattle.plan_unfolding.specs.plan_posting.Origins.{content_now}
 use Rattle.plan_closing.proofs.Sharing.{one_object}
 use Rattle.plan_closing.proofs.turns.timeline_of.Goals as goal
 

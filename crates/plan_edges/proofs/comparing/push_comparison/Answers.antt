@@ -1,7 +1,7 @@
 use Rattle.std.proofs.Common.{sym, subst}
 use Rattle.std.specs.Prelude.{OnOk}
 use Rattle.model_core.specs.declared.item.Kind.TheVariants.{Eq, Leq}
-use Rattle.plan_posting.specs.Posted.{compares}
+use Rattle.plan_fitting.specs.plan_posting.Posted.{compares}
 use Rattle.plan_edges.specs.Adding.{AddsEdges}
 use Rattle.plan_edges.specs.Edges.{HasClaimEdges}
 use Rattle.plan_edges.proofs.Pointing.{claim_renamed}

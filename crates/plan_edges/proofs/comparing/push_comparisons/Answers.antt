@@ -1,6 +1,6 @@
-use Rattle.plan_posting.specs.declared.relations.Comparison.TheVariants.{AtMost}
-use Rattle.plan_posting.specs.declared.relations.Moment.TheVariants.{Start}
-use Rattle.plan_posting.specs.Posted.{compares, comparisons_claim}
+use Rattle.plan_fitting.specs.plan_posting.Comparison.TheVariants.{AtMost}
+use Rattle.plan_fitting.specs.plan_posting.Moment.TheVariants.{Start}
+use Rattle.plan_fitting.specs.plan_posting.Posted.{compares, comparisons_claim}
 use Rattle.plan_edges.specs.Edges.{AppendsEach, HasClaimEdges}
 use Rattle.plan_edges.proofs.Appending.{appends_none, appends_at, appends_all, appends_mapped, adds_so}
 use Rattle.plan_edges.proofs.comparing.push_comparisons.Goals as goal

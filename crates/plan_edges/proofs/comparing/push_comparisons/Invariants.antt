@@ -1,5 +1,5 @@
 use Rattle.std.proofs.Common.{take}
-use Rattle.plan_posting.specs.Posted.{compares}
+use Rattle.plan_fitting.specs.plan_posting.Posted.{compares}
 use Rattle.plan_edges.specs.Adding.{AddsEdges}
 use Rattle.plan_edges.specs.Edges.{AppendsEach, HasClaimEdges}
 use Rattle.plan_edges.proofs.comparing.push_comparisons.Given as goal

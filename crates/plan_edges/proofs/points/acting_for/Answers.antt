@@ -1,5 +1,5 @@
 use Rattle.std.specs.Prelude.{option_copied}
-use Rattle.plan_refusals.proofs.Told.{isnt}
+use Rattle.plan_fitting.proofs.plan_refusals.Told.{isnt}
 use Rattle.plan_edges.proofs.Pointing.{acts_merged}
 use Rattle.plan_edges.proofs.points.acting_for.Goals as goal
 

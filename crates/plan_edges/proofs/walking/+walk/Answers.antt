@@ -4,7 +4,7 @@ use Rattle.model_core.specs.declared.rule.Side.TheVariants.{Then, Otherwise}
 use Rattle.model_core.specs.Block.{plain_entries}
 use Rattle.plan_store.specs.declared.key.OpenBlock.{OpenBlock}
 use Rattle.plan_values.specs.Walks.{items_of}
-use Rattle.plan_view.specs.Seeing.{seen_state}
+use Rattle.plan_fitting.specs.plan_view.Seeing.{seen_state}
 use Rattle.plan_edges.specs.Walking.{IsEntryOfRule}
 use Rattle.plan_edges.specs.Whole.{HasOpenEdges}
 use Rattle.plan_edges.proofs.Falling.{entry_within, side_within}

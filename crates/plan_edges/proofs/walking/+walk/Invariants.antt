@@ -1,4 +1,4 @@
-use Rattle.plan_view.specs.Seeing.{seen_state}
+use Rattle.plan_fitting.specs.plan_view.Seeing.{seen_state}
 use Rattle.plan_edges.specs.Whole.{HasOpenEdges}
 use Rattle.plan_edges.proofs.Going.{GoneTo}
 use Rattle.plan_edges.proofs.walking.+walk.Given as goal

@@ -1,6 +1,6 @@
 use Rattle.std.proofs.Common.{inl, inr, refl}
 use Rattle.std.proofs.lemmas.Result.{on_ok_weaker}
-use Rattle.plan_view.specs.Seeing.{seen_state}
+use Rattle.plan_fitting.specs.plan_view.Seeing.{seen_state}
 use Rattle.plan_edges.specs.Whole.{HasSortEdges, HasOpenEdges, TokenItem}
 use Rattle.plan_edges.proofs.Appending.{adds_none, adds_so}
 use Rattle.plan_edges.proofs.Going.{item_short}

@@ -3,7 +3,7 @@ use Rattle.std.specs.Prelude.{OnOk}
 use Rattle.model_core.specs.Block.{plain_entries}
 use Rattle.model_core.specs.Numbers.{PlacedItem, items_from, rule_items}
 use Rattle.plan_store.specs.declared.key.OpenBlock.{OpenBlock}
-use Rattle.plan_view.specs.Seeing.{seen_state}
+use Rattle.plan_fitting.specs.plan_view.Seeing.{seen_state}
 use Rattle.plan_edges.specs.Adding.{AddsEdges}
 use Rattle.plan_edges.specs.Edges.{AppendsEach}
 use Rattle.plan_edges.specs.Walking.{of_rule}

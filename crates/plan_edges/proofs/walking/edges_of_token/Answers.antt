@@ -1,5 +1,5 @@
 use Rattle.std.proofs.Common.{[], refl, arith}
-use Rattle.plan_view.specs.Seeing.{seen_state}
+use Rattle.plan_fitting.specs.plan_view.Seeing.{seen_state}
 use Rattle.plan_edges.specs.Edges.{AppendsEach}
 use Rattle.plan_edges.specs.Whole.{HasOpenEdges, HasTokenEdges, items_of_rules}
 use Rattle.plan_edges.proofs.Appending.{adds_none, adds_so}

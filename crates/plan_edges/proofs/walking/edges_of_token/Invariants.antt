@@ -1,6 +1,6 @@
 use Rattle.std.proofs.Common.{List, take}
 use Rattle.model_core.specs.declared.rule.Rule.{Rule}
-use Rattle.plan_view.specs.Seeing.{seen_state}
+use Rattle.plan_fitting.specs.plan_view.Seeing.{seen_state}
 use Rattle.plan_edges.specs.Adding.{AddsEdges}
 use Rattle.plan_edges.specs.Edges.{AppendsEach}
 use Rattle.plan_edges.specs.Whole.{AreRulesOf, HasOpenEdges, items_of_rules}

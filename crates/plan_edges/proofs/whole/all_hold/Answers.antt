@@ -4,7 +4,7 @@ use Rattle.std.proofs.lemmas.Result.{on_ok_weaker}
 use Rattle.model_core.specs.declared.item.Item.{Item}
 use Rattle.plan_defs.specs.Terms.{InProblem}
 use Rattle.plan_store.specs.Stores.{Stored}
-use Rattle.plan_view.specs.Seeing.{seen_state}
+use Rattle.plan_fitting.specs.plan_view.Seeing.{seen_state}
 use Rattle.plan_edges.specs.Adding.{AddsEdges, HaveDurations}
 use Rattle.plan_edges.specs.Edges.{AppendsEach, HasLastingEdges, HasTimesGiven, HasConstraintEdges}
 use Rattle.plan_edges.specs.Sites.{HasShortSlots}

@@ -6,7 +6,7 @@ use Rattle.model_core.specs.declared.rule.Slot.{Slot}
 use Rattle.model_core.specs.Tokens.{HasToken}
 use Rattle.plan_defs.proofs.Members.{contains_from_get}
 use Rattle.plan_store.specs.Stores.{Stored}
-use Rattle.plan_view.specs.Seeing.{seen_state}
+use Rattle.plan_fitting.specs.plan_view.Seeing.{seen_state}
 use Rattle.plan_edges.specs.Whole.{HasTokenEdges}
 use Rattle.plan_edges.proofs.Appending.{appends_none, appends_next, appends_all}
 use Rattle.plan_edges.proofs.whole.blocks_hold.Goals as goal

@@ -1,6 +1,6 @@
 use Rattle.std.proofs.Common.{take}
 use Rattle.std.specs.Prelude.{length, ◌-◌}
-use Rattle.plan_view.specs.Seeing.{seen_state}
+use Rattle.plan_fitting.specs.plan_view.Seeing.{seen_state}
 use Rattle.plan_edges.proofs.Joining.{have_durations, rests_as_state}
 use Rattle.plan_edges.proofs.Settled.{settled_values}
 use Rattle.plan_edges.proofs.whole.time_edges.Goals as goal

@@ -2,7 +2,7 @@ use Rattle.std.proofs.Common.{◌≡◌, Some, true, false, subst, arith}
 use Rattle.std.specs.Prelude.{slice_get, MatchBool}
 use Rattle.model_core.specs.declared.rule.Entry.{Entry}
 use Rattle.plan_defs.proofs.Members.{get_below, get_same}
-use Rattle.plan_values.proofs.Matching.{read_item}
+use Rattle.plan_refusals.specs.plan_values.Matching.{read_item}
 use Rattle.plan_fitting.specs.Completeness.{IsSettledEntry}
 use Rattle.plan_fitting.proofs.Branching.{entries_settled, settled_entry}
 use Rattle.plan_fitting.proofs.Looping.{up_to}

@@ -8,7 +8,7 @@ use Rattle.model_core.specs.Blocks.{direct}
 use Rattle.model_core.specs.Entries.{Entries}
 use Rattle.plan_defs.proofs.Members.{get_within}
 use Rattle.plan_store.specs.Keys.{named_block}
-use Rattle.rule_engine.proofs.Limits.{as_many}
+use Rattle.plan_refusals.specs.rule_engine.Limits.{as_many}
 use Rattle.token_store.specs.Tokens.{TokenPast, tokens_now, token_names}
 use Rattle.token_store.specs.declared.trail.Token.{Token}
 use Rattle.plan_fitting.specs.Completeness.{AreSettledIn, HasOpenEntries}

@@ -1,7 +1,7 @@
 use Rattle.std.proofs.Common.{inl, ⊎_elim}
 use Rattle.std.specs.Prelude.{MatchBool}
 use Rattle.std.proofs.lemmas.Result.{IfOk-weaker}
-use Rattle.plan_values.proofs.Matching.{match_bool}
+use Rattle.plan_refusals.specs.plan_values.Matching.{match_bool}
 use Rattle.plan_fitting.specs.Completeness.{IsOneOpen, IsSettledBranch}
 use Rattle.plan_fitting.proofs.complete.is_settled.Goals as goal
 

@@ -4,7 +4,7 @@ use Rattle.std.proofs.lemmas.Result.{IfOk-weaker}
 use Rattle.model_core.specs.Entries.{Entries}
 use Rattle.plan_defs.proofs.Members.{get_within, get_same}
 use Rattle.plan_store.specs.declared.key.OpenBlock.{OpenBlock}
-use Rattle.plan_values.proofs.Matching.{match_bool}
+use Rattle.plan_refusals.specs.plan_values.Matching.{match_bool}
 use Rattle.plan_fitting.specs.Completeness.{AreSettledIn, AreSettledAt, HasOpenEntries}
 use Rattle.plan_fitting.proofs.Looping.{told_whatever}
 use Rattle.plan_fitting.proofs.complete.is_settled_block.Goals as goal

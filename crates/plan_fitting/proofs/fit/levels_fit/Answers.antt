@@ -3,7 +3,7 @@ use Rattle.std.specs.Prelude.{IsTrue, ◌↔◌}
 use Rattle.plan_resources.specs.Actors.{IsSoundView}
 use Rattle.plan_resources.specs.Fits.{FitLevels}
 use Rattle.plan_resources.proofs.Fitting.{none_reservoir}
-use Rattle.plan_view.specs.Seeing.{Seen, seen_state}
+use Rattle.plan_refusals.specs.plan_view.Seeing.{Seen, seen_state}
 use Rattle.token_store.specs.Tokens.{TokenPast, tokens_now}
 use Rattle.plan_refusals.proofs.Told.{isnt}
 use Rattle.plan_fitting.specs.Completeness.{AreAllDecided}

@@ -1,7 +1,7 @@
 use Rattle.std.proofs.Common.{◌∙◌}
 use Rattle.plan_resources.proofs.Fitting.{none_reservoir}
 use Rattle.plan_store.specs.Stores.{snapshot_of}
-use Rattle.plan_view.specs.Seeing.{seen_state}
+use Rattle.plan_refusals.specs.plan_view.Seeing.{seen_state}
 use Rattle.plan_fitting.proofs.Fitting.{levels_hold}
 use Rattle.plan_fitting.proofs.Levels.{all_first, levels_still}
 use Rattle.plan_fitting.proofs.fit.levels_fit_since.Goals as goal

@@ -3,7 +3,7 @@ use Rattle.std.specs.Prelude.{MatchBool}
 use Rattle.std.proofs.lemmas.Result.{IfOk-weaker}
 use Rattle.plan_defs.specs.Closure.{IsLeast, IsCollapsed}
 use Rattle.plan_defs.specs.Resources.{FitReusables, FitReservoirs}
-use Rattle.plan_view.specs.Seeing.{seen_state}
+use Rattle.plan_refusals.specs.plan_view.Seeing.{seen_state}
 use Rattle.plan_fitting.proofs.Fitting.{least_told, unfit_uses}
 use Rattle.plan_fitting.proofs.fit.resources_fit.Goals as goal
 

@@ -3,7 +3,7 @@ use Rattle.std.specs.Prelude.{MatchBool, IsTrue, ◌↔◌, IfOk}
 use Rattle.std.proofs.lemmas.Result.{IfOk-weaker}
 use Rattle.plan_defs.specs.Resources.{FitReusables}
 use Rattle.plan_resources.specs.Actors.{IsSoundView}
-use Rattle.plan_view.specs.Seeing.{Seen, seen_state}
+use Rattle.plan_refusals.specs.plan_view.Seeing.{Seen, seen_state}
 use Rattle.plan_fitting.proofs.Fitting.{sound}
 use Rattle.plan_fitting.proofs.Looping.{told_bool}
 use Rattle.plan_fitting.proofs.fit.uses_fit.Goals as goal

@@ -1,7 +1,7 @@
 use Rattle.std.proofs.Common.{refl, sym, slice_index_or, arith}
 use Rattle.std.proofs.lemmas.Option.{get_or_from_slice_get, slice_get-get_or}
 use Rattle.plan_defs.proofs.Members.{all_from_get, get_below}
-use Rattle.plan_values.proofs.Matching.{one_more}
+use Rattle.plan_refusals.specs.plan_values.Matching.{one_more}
 use Rattle.plan_fitting.specs.Touching.{IsOfIdle}
 use Rattle.plan_fitting.proofs.touched.is_one_of_actor.Goals as goal
 

@@ -2,7 +2,7 @@ use Rattle.std.proofs.Common.{slice_get, sym, ap, ◌∙◌, subst}
 use Rattle.std.specs.Prelude.{All}
 use Rattle.token_store.specs.Orders.{name_at}
 use Rattle.token_store.specs.Tokens.{TokenPast, tokens_now, token_names, token_preds}
-use Rattle.plan_store.specs.Keys.{named_block}
+use Rattle.plan_posting.specs.plan_store.Keys.{named_block}
 use Rattle.plan_opening.specs.Opened.{AreLocalsOf}
 use Rattle.plan_opening.specs.Wanted.{IsNamedLocal}
 use Rattle.plan_opening.proofs.Opening.{pred_is, locals_are, brings_block}

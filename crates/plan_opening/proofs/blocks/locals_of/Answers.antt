@@ -2,7 +2,7 @@ use Rattle.std.proofs.Common.{List, sym, subst}
 use Rattle.model_core.specs.declared.rule.Turn.{Turn}
 use Rattle.model_core.specs.Blocks.{IsBlock}
 use Rattle.model_core.specs.Entries.{Entries}
-use Rattle.rule_engine.specs.Contents.{AreAdditions}
+use Rattle.plan_posting.specs.rule_engine.Contents.{AreAdditions}
 use Rattle.token_store.specs.Tokens.{tokens_now, token_names}
 use Rattle.plan_opening.proofs.Opening.{there_named, locals_named}
 use Rattle.plan_opening.proofs.blocks.locals_of.Goals as goal

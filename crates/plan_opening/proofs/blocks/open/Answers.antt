@@ -1,4 +1,4 @@
-use Rattle.plan_store.proofs.Lists.{found_there}
+use Rattle.plan_posting.proofs.plan_store.Lists.{found_there}
 use Rattle.plan_opening.proofs.Opening.{opened_stays, opened_there, opened_adds}
 use Rattle.plan_opening.proofs.blocks.open.Goals as goal
 

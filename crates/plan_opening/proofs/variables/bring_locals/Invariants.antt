@@ -1,5 +1,5 @@
 use Rattle.std.proofs.Common.{take}
-use Rattle.plan_store.specs.StoreMarks.{KeepStoreMarks}
+use Rattle.plan_posting.specs.plan_store.StoreMarks.{KeepStoreMarks}
 use Rattle.plan_opening.specs.Bringing.{BringsKeys}
 use Rattle.plan_opening.specs.Wanted.{WantsLocals}
 use Rattle.plan_opening.proofs.variables.bring_locals.Given as goal

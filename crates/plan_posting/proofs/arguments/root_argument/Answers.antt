@@ -3,7 +3,7 @@ use Rattle.std.specs.Prelude.{Contains}
 use Rattle.model_core.specs.Tokens.{root_token}
 use Rattle.token_store.specs.Tokens.{TokenPast, tokens_now, token_names, IsNamedAt}
 use Rattle.plan_defs.specs.Claims.{part_of}
-use Rattle.plan_growth.specs.Claims.{IsNamedArgument}
+use Rattle.plan_progress.specs.plan_growth.Claims.{IsNamedArgument}
 use Rattle.plan_posting.specs.Origins.{content_now}
 use Rattle.plan_posting.proofs.Naming.{token_there, has_part_at, name_is}
 use Rattle.plan_posting.proofs.arguments.root_argument.Goals as goal

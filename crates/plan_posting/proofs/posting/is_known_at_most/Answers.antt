@@ -1,8 +1,8 @@
 use Rattle.std.proofs.Common.{[], ◌∷◌, refl, subst}
 use Rattle.std.specs.Prelude.{Contains}
 use Rattle.model_core.specs.declared.item.Kind.TheVariants.{Leq}
-use Rattle.constraint_net.specs.Networks.{Network}
-use Rattle.constraint_net.specs.declared.constraint.Constraint.{Constraint}
+use Rattle.plan_progress.specs.constraint_net.Networks.{Network}
+use Rattle.plan_progress.specs.constraint_net.Constraint.{Constraint}
 use Rattle.plan_posting.proofs.posting.is_known_at_most.Goals as goal
 
 pub returns : goal.returns

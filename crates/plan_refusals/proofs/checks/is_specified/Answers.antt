@@ -2,7 +2,7 @@ use Rattle.std.proofs.Common.{◌≡◌, ℤ, Some, refl, ap, ◌∙◌, arith}
 use Rattle.model_core.specs.declared.decision.Decision.{Decision}
 use Rattle.model_core.specs.declared.decision.Decision.TheVariants.{Specify}
 use Rattle.plan_defs.proofs.Members.{get_from_contains, contains_from_get, get_below}
-use Rattle.plan_values.proofs.Matching.{one_more, read_item}
+use Rattle.plan_bases.specs.plan_values.Matching.{one_more, read_item}
 use Rattle.plan_refusals.proofs.checks.is_specified.Goals as goal
 
 pub returns-then-specifies : goal.returns-then-specifies

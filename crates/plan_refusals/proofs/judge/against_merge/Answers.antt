@@ -1,6 +1,6 @@
 use Rattle.std.proofs.Common.{None, sym, subst}
-use Rattle.plan_growth.specs.Content.{shown}
-use Rattle.plan_store.specs.Stores.{snapshot_of, named_content}
+use Rattle.plan_opening.specs.plan_growth.Content.{shown}
+use Rattle.plan_opening.specs.plan_store.Stores.{snapshot_of, named_content}
 use Rattle.token_store.specs.Tokens.{TokenPast, tokens_now}
 use Rattle.plan_refusals.specs.Judging.{IsKeptAs, FindsUndecided}
 use Rattle.plan_refusals.proofs.First.{merge_inactive, merge_unlike, merge_free}

@@ -1,5 +1,5 @@
 use Rattle.std.proofs.Common.{Some, sym, subst}
-use Rattle.plan_store.specs.Stores.{snapshot_of}
+use Rattle.plan_opening.specs.plan_store.Stores.{snapshot_of}
 use Rattle.token_store.specs.Tokens.{TokenPast, tokens_now}
 use Rattle.plan_refusals.specs.Judging.{FindsUndecided}
 use Rattle.plan_refusals.proofs.Undecided.{reject_refused}

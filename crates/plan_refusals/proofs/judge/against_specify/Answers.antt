@@ -2,8 +2,8 @@ use Rattle.std.proofs.Common.{◌≡◌, w32, to_z, of_z, sym, subst, arith}
 use Rattle.std.proofs.lemmas.Int.{ints}
 use Rattle.plan_defs.specs.Refusals.{IsDeclared}
 use Rattle.model_core.specs.declared.decision.Decision.TheVariants.{Specify}
-use Rattle.plan_growth.specs.Content.{shown}
-use Rattle.plan_store.specs.Stores.{snapshot_of, named_content}
+use Rattle.plan_opening.specs.plan_growth.Content.{shown}
+use Rattle.plan_opening.specs.plan_store.Stores.{snapshot_of, named_content}
 use Rattle.token_store.specs.Tokens.{tokens_now}
 use Rattle.plan_refusals.proofs.First.{unknown_first, decided_first, specify_undeclared, specify_inactive, specify_free}
 use Rattle.plan_refusals.proofs.Told.{isnt, is_so}

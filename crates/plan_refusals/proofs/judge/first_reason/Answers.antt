@@ -2,8 +2,8 @@ use Rattle.std.proofs.Common.{◌≡◌, w32, to_z, of_z, sym, ap, ◌∙◌, su
 use Rattle.std.proofs.lemmas.Int.{ints}
 use Rattle.model_core.specs.declared.decision.Decision.{Decision}
 use Rattle.model_core.specs.declared.decision.Decision.TheVariants.{Specify}
-use Rattle.plan_growth.specs.Content.{shown}
-use Rattle.plan_store.specs.Stores.{snapshot_of, named_content}
+use Rattle.plan_opening.specs.plan_growth.Content.{shown}
+use Rattle.plan_opening.specs.plan_store.Stores.{snapshot_of, named_content}
 use Rattle.plan_refusals.specs.Reasons.{IsFirstReason}
 use Rattle.plan_refusals.proofs.Resting.{rest_told}
 use Rattle.plan_refusals.proofs.judge.first_reason.Goals as goal

@@ -1,6 +1,6 @@
-use Rattle.plan_store.specs.Stores.{snapshot_of, named_content}
-use Rattle.plan_store.proofs.Naming.{names_are_once}
-use Rattle.plan_growth.proofs.Showing.{has_domain, is_named}
+use Rattle.plan_opening.specs.plan_store.Stores.{snapshot_of, named_content}
+use Rattle.plan_opening.proofs.plan_store.Naming.{names_are_once}
+use Rattle.plan_opening.specs.plan_growth.Showing.{has_domain, is_named}
 use Rattle.plan_defs.proofs.Members.{contains_from_get}
 use Rattle.plan_refusals.proofs.judge.has_variable.Goals as goal
 

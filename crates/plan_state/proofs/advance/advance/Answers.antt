@@ -1,10 +1,10 @@
 use Rattle.std.proofs.Common.{sym, subst}
 use Rattle.std.proofs.lemmas.Result.{err_from_is_err_and}
-use Rattle.plan_posting.specs.Tables.{HaveTables}
+use Rattle.plan_fitting.specs.plan_posting.Tables.{HaveTables}
 use Rattle.std.specs.Prelude.{length}
 use Rattle.plan_store.specs.Stores.{snapshot_of}
 use Rattle.plan_closing.specs.Closing.{BringsToRest}
-use Rattle.plan_posting.proofs.Storing.{marks_both}
+use Rattle.plan_fitting.specs.plan_posting.Storing.{marks_both}
 use Rattle.plan_state.proofs.Going.{may_follow, taking_fails, can_close, advances}
 use Rattle.plan_closing.proofs.Seated.{seating_on, kept_on}
 use Rattle.plan_state.proofs.advance.advance.Goals as goal

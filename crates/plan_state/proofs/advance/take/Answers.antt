@@ -6,7 +6,7 @@ use Rattle.plan_defs.specs.Closure.{IsLeast, IsCollapsed}
 use Rattle.plan_values.proofs.Matching.{read_item}
 use Rattle.plan_store.specs.Stores.{snapshot_of}
 use Rattle.plan_store.proofs.Following.{goes_on_same}
-use Rattle.plan_view.specs.Seeing.{seen_state}
+use Rattle.plan_fitting.specs.plan_view.Seeing.{seen_state}
 use Rattle.plan_state.specs.Advancing.{AdvancesBy, LeavesLeast, but_last}
 use Rattle.plan_state.proofs.Resting.{last_within, ends_with, follows, rests_for_all, nothing_for_all, fit_least}
 use Rattle.plan_state.proofs.advance.take.Goals as goal

@@ -7,7 +7,7 @@ use Rattle.plan_state.specs.Advancing.{LeavesLeast, but_last}
 use Rattle.plan_state.specs.Standing.{StandsForList}
 use Rattle.plan_state.proofs.Resting.{one_less, before_again}
 use Rattle.plan_state.proofs.Returning.{marked_here, stands_marked, stands_caught, pushed, kept_back, on_err}
-use Rattle.plan_posting.proofs.Storing.{marks_both}
+use Rattle.plan_fitting.specs.plan_posting.Storing.{marks_both}
 use Rattle.plan_state.proofs.Stepping.{seated_on, seated_same, seated_begun, seated_given_up}
 use Rattle.plan_state.proofs.standing.push.Goals as goal
 

@@ -1,6 +1,6 @@
 use Rattle.std.proofs.Common.{List, take, sym, subst, arith}
 use Rattle.plan_values.proofs.Matching.{read_item}
-use Rattle.plan_posting.proofs.Storing.{marks_same}
+use Rattle.plan_fitting.specs.plan_posting.Storing.{marks_same}
 use Rattle.plan_state.specs.Standing.{StandsForList}
 use Rattle.plan_state.proofs.Returning.{gone_back}
 use Rattle.plan_store.specs.declared.store.Mark.{Mark}

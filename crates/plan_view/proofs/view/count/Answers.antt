@@ -3,8 +3,8 @@ use Rattle.std.proofs.lemmas.List.{length-map}
 use Rattle.eu_name.specs.declared.name.TokenName.{TokenName}
 use Rattle.token_store.specs.Tokens.{TokenPast, tokens_now}
 use Rattle.token_store.specs.declared.trail.Token.{Token}
-use Rattle.plan_store.specs.Stores.{snapshot_of, named_content}
-use Rattle.plan_store.proofs.Naming.{names_are_once}
+use Rattle.plan_posting.specs.plan_store.Stores.{snapshot_of, named_content}
+use Rattle.plan_posting.proofs.plan_store.Naming.{names_are_once}
 use Rattle.plan_view.proofs.Seen.{count_same}
 use Rattle.plan_view.proofs.view.count.Goals as goal
 

@@ -1,7 +1,7 @@
 use Rattle.std.proofs.Common.{◌≡◌, ◌≤◌, length, Some, MatchOption, subst}
 use Rattle.std.specs.Prelude.{slice_get}
-use Rattle.constraint_net.specs.Networks.{Network}
-use Rattle.plan_store.specs.Stores.{snapshot_of}
+use Rattle.plan_posting.specs.constraint_net.Networks.{Network}
+use Rattle.plan_posting.specs.plan_store.Stores.{snapshot_of}
 use Rattle.plan_view.proofs.Seen.{named_told, unnamed_told}
 use Rattle.plan_view.proofs.view.domain.Goals as goal
 

@@ -1,8 +1,8 @@
 use Rattle.std.proofs.Common.{Some, None, refl, subst}
 use Rattle.eu_name.specs.declared.name.VarName.TheVariants.{Token}
 use Rattle.token_store.specs.Tokens.{TokenPast, tokens_now, token_names}
-use Rattle.plan_store.specs.declared.key.VarKey.TheVariants.{Part}
-use Rattle.plan_store.specs.Stores.{snapshot_of}
+use Rattle.plan_posting.specs.plan_store.VarKey.TheVariants.{Part}
+use Rattle.plan_posting.specs.plan_store.Stores.{snapshot_of}
 use Rattle.plan_view.specs.Seeing.{FindsRank}
 use Rattle.plan_view.proofs.Seen.{at_told, at_nowhere}
 use Rattle.plan_view.proofs.view.part_at.Goals as goal

@@ -1,7 +1,7 @@
 use Rattle.std.proofs.Common.{◌≡◌, Some, None, subst}
 use Rattle.std.specs.Prelude.{slice_get, option_copied}
 use Rattle.token_store.specs.Tokens.{TokenPast, tokens_now, token_names}
-use Rattle.plan_store.specs.Stores.{snapshot_of}
+use Rattle.plan_posting.specs.plan_store.Stores.{snapshot_of}
 use Rattle.plan_view.specs.Seeing.{FindsRank}
 use Rattle.plan_view.proofs.Seen.{name_told, none_told}
 use Rattle.plan_view.proofs.view.token_at.Goals as goal

@@ -1,6 +1,6 @@
 use Rattle.std.proofs.Common.{◌≡◌, false}
-use Rattle.plan_db.specs.Answers.{Held}
-use Rattle.plan_db.specs.Database.{IsSound}
+use Rattle.plan_release.specs.plan_db.Answers.{Held}
+use Rattle.plan_release.specs.plan_db.Database.{IsSound}
 use Rattle.posed_files.proofs.Stages.{model_posed, answered, none_failed}
 use Rattle.posed_files.proofs.posing.pose_new.Goals as goal
 

@@ -1,5 +1,5 @@
 use Rattle.std.proofs.Common.{◌≡◌, false, take}
-use Rattle.plan_db.specs.Database.{IsSound}
+use Rattle.plan_release.specs.plan_db.Database.{IsSound}
 use Rattle.posed_files.specs.Posing.{TakesText}
 use Rattle.posed_files.proofs.taking.take_text.Given as goal
 

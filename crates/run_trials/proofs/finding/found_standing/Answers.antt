@@ -1,5 +1,5 @@
 use Rattle.std.proofs.Common.{sym, ◌∙◌}
-use Rattle.search_texts.proofs.Seen.{found_seen, seen_flawless, seen_least}
+use Rattle.run_commands.proofs.search_texts.Seen.{found_seen, seen_flawless, seen_least}
 use Rattle.run_trials.proofs.Found.{standing_told}
 use Rattle.run_trials.proofs.finding.found_standing.Goals as goal
 

@@ -1,4 +1,4 @@
-use Rattle.plan_edges.specs.declared.edge.Point.TheVariants as points
+use Rattle.plan_cycles.specs.plan_edges.Point.TheVariants as points
 use Rattle.script_lines.proofs.Timing.{start_base, end_base, origin_put, point_put}
 use Rattle.script_lines.proofs.edges.put_point.Goals as goal
 

@@ -1,5 +1,5 @@
 use Rattle.std.proofs.Common.{refl}
-use Rattle.plan_steps.specs.declared.subject.Subject.TheVariants as subjects
+use Rattle.search_texts.specs.plan_steps.Subject.TheVariants as subjects
 use Rattle.script_commands.specs.declared.command.Command.TheVariants.{ResetOrder}
 use Rattle.session_steps.specs.Replies.{AsksSubject}
 use Rattle.session_steps.proofs.Stepping.{resets_only, only_order, no_order}

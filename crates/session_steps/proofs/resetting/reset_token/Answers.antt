@@ -1,5 +1,5 @@
 use Rattle.std.proofs.Common.{refl}
-use Rattle.plan_steps.specs.declared.subject.Subject.TheVariants as subjects
+use Rattle.search_texts.specs.plan_steps.Subject.TheVariants as subjects
 use Rattle.session_steps.specs.Steps.{IsTokenNamed}
 use Rattle.session_steps.proofs.Stepping.{resets_only, only_token, no_token}
 use Rattle.session_steps.proofs.resetting.reset_token.Goals as goal

@@ -1,6 +1,6 @@
 use Rattle.std.proofs.Common.{Ok, refl, ap, subst}
 use Rattle.std.specs.Prelude.{Contains}
-use Rattle.constraint_net.specs.Networks.{Network}
+use Rattle.plan_growth.specs.constraint_net.Networks.{Network}
 use Rattle.plan_store.specs.Stores.{Stored}
 use Rattle.plan_store.proofs.Following.{net_added}
 use Rattle.plan_store.proofs.Going.{key_marks}

@@ -4,7 +4,7 @@ use Rattle.eu_name.specs.declared.name.TokenName.{TokenName}
 use Rattle.model_core.specs.TokenStates.{HasTokenState}
 use Rattle.model_core.specs.Views.{IsTokenAt}
 use Rattle.token_store.specs.Tokens.{TokenPast, tokens_now, token_names, token_states}
-use Rattle.plan_store.specs.Stores.{snapshot_of}
+use Rattle.plan_posting.specs.plan_store.Stores.{snapshot_of}
 use Rattle.plan_view.specs.Seeing.{Seen, seen_state, FindsRank, IsStateBelow, IsRankedState}
 use Rattle.plan_view.proofs.Seen.{count_told, state_somewhere, state_at_below, state_at_told}
 use Rattle.plan_view.proofs.view.StoreViewView.state_at.Goals as goal

@@ -1,0 +1,3 @@
+//! What is passed on of plan_db.
+
+pub use plan_db::{Db, Outcome, QueryFault};

@@ -1,0 +1,2 @@
+-- What is passed on of cell_store.
+pub use Rattle.cell_store.specs.Cells

@@ -1,0 +1,3 @@
+//! What is passed on of cell_store.
+
+pub use cell_store::numbers::short;

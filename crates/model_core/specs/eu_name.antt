@@ -1,0 +1,2 @@
+-- What is passed on of eu_name.
+pub use Rattle.eu_name.specs.NameOrder

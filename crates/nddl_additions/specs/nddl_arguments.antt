@@ -1,0 +1,2 @@
+-- What is passed on of nddl_arguments.
+pub use Rattle.nddl_arguments.specs.Constraints

@@ -1,0 +1,3 @@
+//! What is passed on of nddl_roots.
+
+pub use nddl_roots::{Outside, posted_roots};

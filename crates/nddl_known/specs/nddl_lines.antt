@@ -1,0 +1,2 @@
+-- What is passed on of nddl_lines.
+pub use Rattle.nddl_lines.specs.Facts

@@ -1,0 +1,3 @@
+//! What is passed on of nddl_schema.
+
+pub use nddl_schema::numbers::class_number;

@@ -1,0 +1,3 @@
+//! What is passed on of plan_steps.
+
+pub use plan_steps::{accept, fits, judge, withdraw};

@@ -1,0 +1,3 @@
+//! What is passed on of plan_refusals.
+
+pub use plan_refusals::{Reason, first_reason};

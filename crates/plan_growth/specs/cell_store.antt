@@ -1,0 +1,2 @@
+-- What is passed on of cell_store.
+pub use Rattle.constraint_net.specs.cell_store.Cells

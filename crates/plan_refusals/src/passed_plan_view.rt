@@ -1,0 +1,3 @@
+//! What is passed on of plan_view.
+
+pub use plan_view::{StoreView, domain};

@@ -1,0 +1,3 @@
+//! What is passed on of plan_state.
+
+pub use plan_state::{Footing, Standing};

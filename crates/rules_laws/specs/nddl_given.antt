@@ -1,0 +1,2 @@
+-- What is passed on of nddl_given.
+pub use Rattle.nddl_given.specs.Given

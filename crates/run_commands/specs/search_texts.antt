@@ -1,0 +1,2 @@
+-- What is passed on of search_texts.
+pub use Rattle.search_texts.specs.Texts

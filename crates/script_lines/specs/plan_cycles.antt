@@ -1,0 +1,2 @@
+-- What is passed on of plan_cycles.
+pub use Rattle.plan_cycles.specs.TimeCycle

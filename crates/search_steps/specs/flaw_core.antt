@@ -1,0 +1,3 @@
+-- What is passed on of flaw_core.
+pub use Rattle.flaw_core.specs.Rules
+pub use Rattle.flaw_core.specs.declared.flaw.Flaw

@@ -1,0 +1,3 @@
+//! What is passed on of solver_core.
+
+pub use solver_core::{SearchEnd, SolveFault, solve};

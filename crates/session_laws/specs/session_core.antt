@@ -1,0 +1,2 @@
+-- What is passed on of session_core.
+pub use Rattle.session_core.specs.Replies

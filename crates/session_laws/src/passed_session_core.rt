@@ -1,0 +1,3 @@
+//! What is passed on of session_core.
+
+pub use session_core::Editor;
