@@ -1,5 +1,5 @@
 -- Terms that are compared.
-use Rattle.std.proofs.Common.{ℕ, ◌≤◌, ℤ, pos, Bool, false, get_or, List, Some, None, Option, ◌↔◌, IsTrue, All, Contains, inl, inr, sym, subst, arith}
+use Rattle.std.proofs.Common.{ℕ, ◌≤◌, ℤ, pos, Bool, false, get_or, List, Some, None, ◌↔◌, IsTrue, All, Contains, inl, inr, sym, subst, arith}
 use Rattle.std.proofs.lemmas.Int.{ints}
 use Rattle.std.proofs.lemmas.List.Elements.{All-contains}
 use Rattle.eu_name.proofs.Members.{get_below, get_all}
@@ -11,6 +11,7 @@ use Rattle.model_core.specs.declared.variable.ValueKind.{ValueKind}
 use Rattle.model_core.specs.declared.variable.ValueKind.TheVariants as kinds
 use Rattle.model_core.specs.Kinds.{Scope, IsOfKind, IsValueOf, AreOfKind, AreComparable}
 use Rattle.model_core.specs.Lawful.{IsLawfulEnum}
+use Rattle.lawful_kinds.specs.declared.table.Classes.{Classes}
 use Rattle.lawful_kinds.specs.Ground.{IsGround}
 use Rattle.lawful_kinds.specs.Terms.{IsJust, IsNamed}
 use Rattle.lawful_kinds.proofs.Telling.{told_as, told_not, some_same}
@@ -31,29 +32,29 @@ module _ (model : Model) (scope : Scope) (list : List Term) where
   small_value n small = (omega (arith, ints), omega (arith, ints, small))
 
   -- a value that is of any kind is a whole number
-  value_int : (parents : List (Option ℕ)) → IsGround model parents → (kind : ValueKind) (value : ℤ) → IsValueOf model kind value → IsValue value
-  value_int parents ground kinds.Int value is = is
-  value_int parents ground kinds.Bool value (inl is) = subst IsValue (sym is) (small_value 0 (omega arith))
-  value_int parents ground kinds.Bool value (inr is) = subst IsValue (sym is) (small_value 1 (omega arith))
-  value_int parents ground (kinds.Enum number) value is =
+  value_int : (classes : Classes) → IsGround model classes → (kind : ValueKind) (value : ℤ) → IsValueOf model kind value → IsValue value
+  value_int classes ground kinds.Int value is = is
+  value_int classes ground kinds.Bool value (inl is) = subst IsValue (sym is) (small_value 0 (omega arith))
+  value_int classes ground kinds.Bool value (inr is) = subst IsValue (sym is) (small_value 1 (omega arith))
+  value_int classes ground (kinds.Enum number) value is =
       let few = (get_all IsLawfulEnum model.enums number is.found ground.enums is.is_enum).few in
       let below = get_below is.found.members is.place is.member is.is_member in
       subst IsValue (sym is.is_place) (small_value is.place (omega (arith, few, below)))
-  value_int parents ground kinds.Object value (object, (number, at, is)) =
+  value_int classes ground kinds.Object value (object, (number, at, is)) =
       let below = get_below model.objects number object is in
       let few = ground.few_objects in
       subst IsValue (sym at) (small_value number (omega (arith, few, below)))
 
-  term_int : (parents : List (Option ℕ)) → IsGround model parents → (term : Term) → (IsNamed term → ⊥) → (kind : ValueKind) → IsOfKind model scope kind term → IsOfKind model scope kinds.Int term
-  term_int parents ground (terms.Lit value) plain kind is = value_int parents ground kind value is
-  term_int parents ground (terms.Here part) plain kind is = absurd (plain tt)
-  term_int parents ground (terms.Slot number part) plain kind is = absurd (plain tt)
-  term_int parents ground (terms.Local number) plain kind is = absurd (plain tt)
-  term_int parents ground (terms.Global number) plain kind is = absurd (plain tt)
-  term_int parents ground (terms.Root number part) plain kind is = absurd (plain tt)
+  term_int : (classes : Classes) → IsGround model classes → (term : Term) → (IsNamed term → ⊥) → (kind : ValueKind) → IsOfKind model scope kind term → IsOfKind model scope kinds.Int term
+  term_int classes ground (terms.Lit value) plain kind is = value_int classes ground kind value is
+  term_int classes ground (terms.Here part) plain kind is = absurd (plain tt)
+  term_int classes ground (terms.Slot number part) plain kind is = absurd (plain tt)
+  term_int classes ground (terms.Local number) plain kind is = absurd (plain tt)
+  term_int classes ground (terms.Global number) plain kind is = absurd (plain tt)
+  term_int classes ground (terms.Root number part) plain kind is = absurd (plain tt)
 
-  pub compared_values : (parents : List (Option ℕ)) → IsGround model parents → All (λ term. IsNamed term → ⊥) list → (answer : Bool)
+  pub compared_values : (classes : Classes) → IsGround model classes → All (λ term. IsNamed term → ⊥) list → (answer : Bool)
       → IsTrue answer ↔ AreOfKind model scope kinds.Int list → IsTrue answer ↔ AreComparable model scope list
-  compared_values parents ground plain answer told =
+  compared_values classes ground plain answer told =
       told_as answer (AreOfKind model scope kinds.Int list) (AreComparable model scope list) (λ all. (kinds.Int, all))
-      (λ any k d below. term_int parents ground (get_or list k d) (plain k d below) any.0 (any.1 k d below)) told
+      (λ any k d below. term_int classes ground (get_or list k d) (plain k d below) any.0 (any.1 k d below)) told

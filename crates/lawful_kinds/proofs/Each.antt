@@ -1,6 +1,7 @@
 -- What is so of each value of a domain.
 use Rattle.std.proofs.Common.{◌≡◌, ℕ, ℤ, ◌+◌, ◌<◌, ◌≤◌, sym, ◌∙◌, subst, inl, inr, arith}
 use Rattle.std.proofs.lemmas.Bool.{cases_lt}
+use Rattle.std.proofs.lemmas.Int.{ints}
 use Rattle.std.proofs.lemmas.List.{get_or_default}
 use Rattle.domain_core.specs.Domain.{Domain, Range, Set, IsDomain, Has, IsNth, count_of}
 use Rattle.domain_core.proofs.Words.{has_value, place_of, at_place}
@@ -10,9 +11,14 @@ use Rattle.model_core.specs.declared.variable.ValueKind.TheVariants.{Int}
 use Rattle.model_core.specs.Kinds.{IsInKind, IsValueOf}
 
 -- one value stands at a place
-nth_once : (domain : Domain) (place : ℕ) (one other : ℤ) → IsNth domain place one → IsNth domain place other → one ≡ other
+pub nth_once : (domain : Domain) (place : ℕ) (one other : ℤ) → IsNth domain place one → IsNth domain place other → one ≡ other
 nth_once (Range lo hi) place one other is are = is.0 ∙ sym are.0
 nth_once (Set members) place one other is are = sym is.1 ∙ (get_or_default members place one other is.0 ∙ are.1)
+
+-- no value stands behind the last one
+pub nth_below : (domain : Domain) (place : ℕ) (value : ℤ) → IsNth domain place value → count_of domain ≤ place → ⊥
+nth_below (Range lo hi) place value at past = omega (arith, ints, at.0, at.1, past)
+nth_below (Set members) place value at past = omega (arith, at.0, past)
 
 -- it is so of the values at the first places
 abbrev pub AreSoUpTo : Domain → (ℤ → Type 0) → ℕ → Type 0
@@ -29,6 +35,20 @@ module _ (domain : Domain) (P : ℤ → Type 0) where
         let same : place ≡ count = omega arith in
         subst P (nth_once domain count here value at (subst (λ (n : ℕ). IsNth domain n value) same is)) so)
   ]
+
+  pub so_less : (count : ℕ) → AreSoUpTo domain P (count + 1) → AreSoUpTo domain P count
+  so_less count so place value below is = so place value (omega arith) is
+
+  pub so_more : (count : ℕ) → AreSoUpTo domain P count → ((value : ℤ) → IsNth domain count value → P value) → AreSoUpTo domain P (count + 1)
+  so_more count before here place value below is = elim (cases_lt place count) [
+    | inl less ↦ before place value less is
+    | inr past ↦ (
+        let same : place ≡ count = omega arith in
+        here value (subst (λ (n : ℕ). IsNth domain n value) same is))
+  ]
+
+  pub so_all : (count : ℕ) → IsDomain domain → ((value : ℤ) → Has domain value → P value) → AreSoUpTo domain P count
+  so_all count lawful all place value below is = all value (at_place domain place value lawful is).0
 
   pub all_so : (count : ℕ) → IsDomain domain → count_of domain ≤ count → AreSoUpTo domain P count → (value : ℤ) → Has domain value → P value
   all_so count lawful past before value has =

@@ -1,13 +1,7 @@
--- Classes that are passed over.
-use Rattle.std.proofs.Common.{ℕ, ℤ, List, [], ◌∷◌, ◌++◌, ◌⊎◌, inl, inr, sym, subst}
-use Rattle.eu_name.specs.declared.name.Part.{Part}
-use Rattle.eu_name.specs.declared.name.Part.TheVariants as parts
-use Rattle.model_core.specs.declared.item.Term.{Term}
-use Rattle.model_core.specs.declared.item.Term.TheVariants as terms
+-- Classes that are over others.
+use Rattle.std.proofs.Common.{ℕ, List, [], ◌∷◌, ◌++◌, ◌⊎◌, ◌↔◌, inl, inr, sym, subst}
 use Rattle.model_core.specs.declared.model.Model.{Model}
-use Rattle.model_core.specs.declared.variable.Base.{Base}
-use Rattle.model_core.specs.declared.variable.Base.TheVariants.{Given, Void}
-use Rattle.model_core.specs.Kinds.{AreObjectsOf, Climbs, IsObjectOf, IsOfClass, IsPartOfClass, IsUnder, OfProblem, OfRule, Scope}
+use Rattle.model_core.specs.Kinds.{Climbs, IsUnder}
 use Rattle.lawful_kinds.proofs.Under.{one_parent}
 
 module _ (model : Model) where
@@ -28,41 +22,23 @@ module _ (model : Model) where
       two_above parent path one way other up.1
       (subst (λ (n : ℕ). Climbs model n way other) (one_parent model class next parent more.0 up.0) more.1)
 
-  -- what is of a class is of those above it
-  module _ (class top : ℕ) (under : IsUnder model class top) where
-    object_above : (value : ℤ) → IsObjectOf model class value → IsObjectOf model top value
-    object_above value is = (is.0, is.1, under_on is.0.class class top is.2 under)
-
-    objects_above : (base : Base) → AreObjectsOf model class base → AreObjectsOf model top base
-    objects_above (Given domain) are = λ value has. object_above value (are value has)
-    objects_above Void are = tt
-
-    part_above : (pred : ℕ) (part : Part) → IsPartOfClass model pred class part → IsPartOfClass model pred top part
-    part_above pred parts.Object is = (is.0, is.1, under_on is.0.class class top is.2 under)
-    part_above pred (parts.Param number) is = (is.0, is.1, objects_above is.0.base is.2)
-    part_above pred parts.Start is = is
-    part_above pred parts.End is = is
-    part_above pred parts.Duration is = is
-
-    pub term_above : (scope : Scope) (term : Term) → IsOfClass model scope class term → IsOfClass model scope top term
-    term_above scope (terms.Lit value) is = object_above value is
-    term_above scope (terms.Global number) is = (is.0, is.1, objects_above is.0.base is.2)
-    term_above scope (terms.Root number part) is = (is.0, is.1, part_above is.0.pred part is.2)
-    term_above (OfRule pred rule) (terms.Here part) is = part_above pred part is
-    term_above (OfRule pred rule) (terms.Slot number part) is = (is.0, is.1, part_above is.0.pred part is.2)
-    term_above (OfRule pred rule) (terms.Local number) is = (is.0, is.1, objects_above is.0.base is.2)
-    term_above OfProblem (terms.Here part) is = absurd is
-    term_above OfProblem (terms.Slot number part) is = absurd is
-    term_above OfProblem (terms.Local number) is = absurd is
-
-  -- a class further up that isn't over all of them may be gone on from
-  pub goes_up : (scope : Scope) (term : Term) (first here next : ℕ)
-      → ((class : ℕ) → IsUnder model first class → IsOfClass model scope class term → IsUnder model here class)
-      → IsUnder model here next → (IsOfClass model scope next term → ⊥)
-      → (class : ℕ) → IsUnder model first class → IsOfClass model scope class term → IsUnder model next class
-  goes_up scope term first here next so_far up none class under is =
-      let over = so_far class under is in
-      elim (two_above here up.0 next over.0 class up.1 over.1) [
-        | inl above ↦ above
-        | inr below ↦ absurd (none (term_above class next below scope term is))
+  -- a class further up that isn't over the other one may be gone on from
+  pub goes_up : (first other here next : ℕ)
+      → ((class : ℕ) → IsUnder model first class → IsUnder model other class → IsUnder model here class)
+      → IsUnder model here next → (IsUnder model other next → ⊥)
+      → (class : ℕ) → IsUnder model first class → IsUnder model other class → IsUnder model next class
+  goes_up first other here next so_far up none class under over =
+      let above = so_far class under over in
+      elim (two_above here up.0 next above.0 class up.1 above.1) [
+        | inl higher ↦ higher
+        | inr lower ↦ absurd (none (under_on other class next over lower))
       ]
+
+  -- what is over the lowest class over both is over both
+  pub over_both : (first other both : ℕ) → IsUnder model first both → IsUnder model other both
+      → ((class : ℕ) → IsUnder model first class → IsUnder model other class → IsUnder model both class)
+      → (class : ℕ) → (IsUnder model first class × IsUnder model other class) ↔ IsUnder model both class
+  over_both first other both one two lowest class = (
+    λ over. lowest class over.0 over.1,
+    λ under. (under_on first both class one under, under_on other both class two under),
+  )

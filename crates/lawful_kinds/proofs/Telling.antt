@@ -4,11 +4,8 @@ use Rattle.std.proofs.Common.{nat_lt}
 use Rattle.std.specs.Prelude.{IfOk, slice_get}
 use Rattle.std.proofs.lemmas.Bool.Decides.{Decides-ltb}
 use Rattle.eu_name.proofs.Members.{get_below, get_within}
-use Rattle.model_core.specs.declared.model.Model.{Model}
 use Rattle.model_core.specs.declared.variable.ValueKind.{ValueKind}
-use Rattle.lawful_kinds.specs.declared.lines.Line.{Line}
-use Rattle.lawful_kinds.specs.declared.lines.Line.TheVariants as lines
-use Rattle.lawful_kinds.specs.Terms.{IsJust, HasAll}
+use Rattle.lawful_kinds.specs.Terms.{IsJust}
 
 -- an answer that says whether the one is so says whether the other is
 pub told_as : (answer : Bool) (P Q : Type 0) → (P → Q) → (Q → P) → IsTrue answer ↔ P → IsTrue answer ↔ Q
@@ -61,16 +58,6 @@ just_found answer Is P one is only just kind = (
 
 pub just_none : {A : Type 0} (Is : A → Type 0) (P : ValueKind → A → Type 0) → ((a : A) → Is a → ⊥) → IsJust None (λ kind. (a : A) × Is a × P kind a)
 just_none Is P none kind = (λ all. absurd (none all.0 all.1), λ same. cc)
-
--- lines that have all of which something is so have all of which more is so
-pub has_less : (model : Model) (line : Line) (P Q : ℕ → Type 0) → ((class : ℕ) → Q class → P class) → HasAll model line P → HasAll model line Q
-has_less model (lines.From first) P Q less has = λ class q. has class (less class q)
-has_less model lines.Every P Q less has = tt
-has_less model lines.Nothing P Q less has = λ class q. has class (less class q)
-
-pub has_found : {A : Type 0} (model : Model) (line : Line) (Is : A → Type 0) (P : ℕ → A → Type 0) (one : A) → ((other : A) → Is other → other ≡ one)
-    → HasAll model line (λ class. P class one) → HasAll model line (λ class. (a : A) × Is a × P class a)
-has_found {A = A} model line Is P one only has = has_less model line (λ class. P class one) (λ class. (a : A) × Is a × P class a) (λ class all. subst (P class) (only all.0 all.1) all.2) has
 
 -- the same of an answer for which memory may be wanting
 pub ok_as : {E : Type 0} (result : Result Bool E) (P Q : Type 0) → (P → Q) → (Q → P) → IfOk result (λ answer. IsTrue answer ↔ P) → IfOk result (λ answer. IsTrue answer ↔ Q)

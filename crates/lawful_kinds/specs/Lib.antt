@@ -1,3 +1,4 @@
 pub mod Ground
-pub mod Terms
+pub mod Lines
 pub mod Members
+pub mod Terms

@@ -1,17 +1,19 @@
 //! Constraints on fields of objects.
 
 ghost use Rattle.std.specs.Prelude.{◌↔◌, IsTrue, MatchOption};
+ghost use Rattle.model_core.specs.declared.variable.ValueKind.TheVariants as value_kinds;
 ghost use Rattle.model_core.specs.declared.variable.VarDecl.{VarDecl};
-ghost use Rattle.model_core.specs.Kinds.{AccessesField};
-ghost use Rattle.lawful_kinds.specs.Ground.{AreClassParents, IsGround};
-ghost use Rattle.lawful_kinds.specs.Terms.{AccessesAbove, AccessesAny, AccessesIn, HasField, scope_of};
+ghost use Rattle.model_core.specs.Kinds.{AccessesField, IsOfKind};
+ghost use Rattle.lawful_kinds.specs.declared.line.Line.TheVariants as lines;
+ghost use Rattle.lawful_kinds.specs.Ground.{AreClasses, AreClassParents, IsGround};
+ghost use Rattle.lawful_kinds.specs.Terms.{FieldFits, FitsOnLine, HasField, IsPlaced, scope_of};
 
 use super::classes::parent_of;
 use super::kinds::is_of_kind;
-use super::lines::{Line, term_line};
-use super::memberships::is_of_class;
+use super::line::Line;
+use super::lines::term_line;
 use super::scope::Place;
-use super::skipping::lowest_over;
+use super::table::Classes;
 use lineage::Parents;
 use model_core::item::Term;
 use model_core::model::Model;
@@ -37,28 +39,18 @@ fn field_at(model: &Model, class: u32, number: u32) -> Option<&VarDecl>
     }
 }
 
-// Whether the object is of the class, which has the field, and the value of its kind.
-fn accesses_in(
-    model: &Model,
-    parents: &Parents,
-    place: Place<'_>,
-    class: u32,
-    access: Access,
-) -> bool
-    requires { AreClassParents model.now parents.now }
-    ensures { IsTrue result ↔ AccessesIn model.now (scope_of place.entry) class access.field access.object access.value }
+// Whether the class has the field, and the value is of its kind.
+fn field_fits(model: &Model, place: Place<'_>, class: u32, access: Access) -> bool
+    ensures { IsTrue result ↔ FieldFits model.now (scope_of place.entry) class access.field access.value }
 {
     match field_at(model, class, access.field) {
-        Some(variable) => {
-            is_of_class(model, parents, place, class, access.object)
-                && is_of_kind(model, place, variable.kind, access.value)
-        }
+        Some(variable) => is_of_kind(model, place, variable.kind, access.value),
         None => false,
     }
 }
 
 // Whether it is so of the class or of one that it extends.
-fn accesses_above(
+fn fits_above(
     model: &Model,
     parents: &Parents,
     place: Place<'_>,
@@ -66,10 +58,10 @@ fn accesses_above(
     access: Access,
 ) -> bool
     requires { AreClassParents model.now parents.now }
-    ensures { IsTrue result ↔ AccessesAbove model.now (scope_of place.entry) first access.field access.object access.value }
+    ensures { IsTrue result ↔ FitsOnLine model.now (scope_of place.entry) (lines.From first) access.field access.value }
 {
     let mut class = first;
-    while !accesses_in(model, parents, place, class, access) {
+    while !field_fits(model, place, class, access) {
         match parent_of(model, class) {
             Some(parent) => class = parent,
             None => return false,
@@ -79,42 +71,53 @@ fn accesses_above(
 }
 
 // Whether it is so of any class.
-fn accesses_any(model: &Model, parents: &Parents, place: Place<'_>, access: Access) -> bool
-    requires { IsGround model.now parents.now }
-    ensures { IsTrue result ↔ AccessesAny model.now (scope_of place.entry) access.field access.object access.value }
+fn fits_any(model: &Model, classes: &Classes, place: Place<'_>, access: Access) -> bool
+    requires { IsGround model.now classes.now }
+    ensures { IsTrue result ↔ FitsOnLine model.now (scope_of place.entry) lines.Every access.field access.value }
 {
     for class in 0..model.classes.len() {
-        if accesses_in(model, parents, place, class as u32, access) {
+        if field_fits(model, place, class as u32, access) {
             return true;
         }
     }
     false
 }
 
-// Whether it is so of any class, of which only those are tried of which the object may be.
-fn accesses_some(model: &Model, parents: &Parents, place: Place<'_>, access: Access) -> bool
-    requires { IsGround model.now parents.now }
-    ensures { IsTrue result ↔ AccessesAny model.now (scope_of place.entry) access.field access.object access.value }
+// Whether it is so of a class of the line.
+fn fits_on_line(
+    model: &Model,
+    classes: &Classes,
+    place: Place<'_>,
+    line: Line,
+    access: Access,
+) -> bool
+    requires { IsGround model.now classes.now }
+    ensures { IsTrue result ↔ FitsOnLine model.now (scope_of place.entry) line access.field access.value }
 {
-    match term_line(model, place, access.object) {
-        Line::From(first) => {
-            // Mostly all the objects are of the class of the first one.
-            if accesses_in(model, parents, place, first, access) {
-                return true;
-            }
-            let class = lowest_over(model, parents, place, first, access.object);
-            accesses_above(model, parents, place, class, access)
-        }
-        Line::Every => accesses_any(model, parents, place, access),
+    match line {
+        Line::From(first) => fits_above(model, &classes.parents, place, first, access),
+        Line::Every => fits_any(model, classes, place, access),
         Line::Nothing => false,
     }
 }
 
+// The same of what is accessed, which is an object.
+fn accesses_object(model: &Model, classes: &Classes, place: Place<'_>, access: Access) -> bool
+    requires ground { IsGround model.now classes.now }
+    requires placed { IsPlaced model.now place }
+    ensures { IsOfKind model.now (scope_of place.entry) value_kinds.Object access.object
+        → (IsTrue result ↔ AccessesField model.now (scope_of place.entry) access.field access.object access.value) }
+{
+    let line = term_line(model, classes, place, access.object);
+    fits_on_line(model, classes, place, line, access)
+}
+
 /// Whether the object has the field, and the value is of its kind.
-pub fn accesses_field(model: &Model, parents: &Parents, place: Place<'_>, access: Access) -> bool
-    requires { IsGround model.now parents.now }
+pub fn accesses_field(model: &Model, classes: &Classes, place: Place<'_>, access: Access) -> bool
+    requires ground { IsGround model.now classes.now }
+    requires placed { IsPlaced model.now place }
     ensures { IsTrue result ↔ AccessesField model.now (scope_of place.entry) access.field access.object access.value }
 {
     is_of_kind(model, place, ValueKind::Object, access.object)
-        && accesses_some(model, parents, place, access)
+        && accesses_object(model, classes, place, access)
 }

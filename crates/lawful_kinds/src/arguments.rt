@@ -5,13 +5,13 @@ ghost use Rattle.model_core.specs.Constraints.{arity_of};
 ghost use Rattle.model_core.specs.declared.item.Kind.TheVariants as constraints;
 ghost use Rattle.model_core.specs.Kinds.{AreArguments};
 ghost use Rattle.lawful_kinds.specs.Ground.{IsGround};
-ghost use Rattle.lawful_kinds.specs.Terms.{IsFactor, scope_of};
+ghost use Rattle.lawful_kinds.specs.Terms.{IsFactor, IsPlaced, scope_of};
 
 use super::accesses::{Access, accesses_field};
 use super::kinds::is_of_kind;
 use super::scope::Place;
+use super::table::Classes;
 use super::terms::{are_comparable, are_of_kind};
-use lineage::Parents;
 use model_core::item::{Kind, Term};
 use model_core::model::Model;
 use model_core::variable::ValueKind;
@@ -52,14 +52,14 @@ fn are_product(model: &Model, place: Place<'_>, terms: &[Term]) -> bool
 }
 
 // Whether the terms may be a truth and what is compared with another.
-fn are_equality(model: &Model, parents: &Parents, place: Place<'_>, terms: &[Term]) -> bool
-    requires { IsGround model.now parents.now }
+fn are_equality(model: &Model, classes: &Classes, place: Place<'_>, terms: &[Term]) -> bool
+    requires { IsGround model.now classes.now }
     ensures { IsTrue result ↔ AreArguments model.now (scope_of place.entry) constraints.TestEq terms.now }
 {
     match terms {
         [truth, compared @ ..] => {
             is_of_kind(model, place, ValueKind::Bool, *truth)
-                && are_comparable(model, parents, place, compared)
+                && are_comparable(model, classes, place, compared)
         }
         [] => false,
     }
@@ -81,12 +81,13 @@ fn are_ordering(model: &Model, place: Place<'_>, terms: &[Term]) -> bool
 // Whether the terms may be an object and what is in its field.
 fn are_access(
     model: &Model,
-    parents: &Parents,
+    classes: &Classes,
     place: Place<'_>,
     field: u32,
     terms: &[Term],
 ) -> bool
-    requires { IsGround model.now parents.now }
+    requires ground { IsGround model.now classes.now }
+    requires placed { IsPlaced model.now place }
     ensures { IsTrue result ↔ AreArguments model.now (scope_of place.entry) (constraints.Field field) terms.now }
 {
     match terms {
@@ -96,7 +97,7 @@ fn are_access(
                 object: *object,
                 value: *value,
             };
-            accesses_field(model, parents, place, access)
+            accesses_field(model, classes, place, access)
         }
         _ => false,
     }
@@ -105,24 +106,25 @@ fn are_access(
 /// Whether the terms may be the arguments of the constraint.
 pub fn are_arguments(
     model: &Model,
-    parents: &Parents,
+    classes: &Classes,
     place: Place<'_>,
     kind: Kind,
     terms: &[Term],
 ) -> bool
-    requires { IsGround model.now parents.now }
+    requires ground { IsGround model.now classes.now }
+    requires placed { IsPlaced model.now place }
     ensures { IsTrue result ↔ AreArguments model.now (scope_of place.entry) kind terms.now }
 {
     match kind {
-        Kind::Eq => are_comparable(model, parents, place, terms),
-        Kind::Neq => are_comparable(model, parents, place, terms),
+        Kind::Eq => are_comparable(model, classes, place, terms),
+        Kind::Neq => are_comparable(model, classes, place, terms),
         Kind::Lt => are_of_kind(model, place, ValueKind::Int, terms),
         Kind::Leq => are_of_kind(model, place, ValueKind::Int, terms),
         Kind::AddEq => are_of_kind(model, place, ValueKind::Int, terms),
         Kind::MulEq => are_product(model, place, terms),
-        Kind::TestEq => are_equality(model, parents, place, terms),
+        Kind::TestEq => are_equality(model, classes, place, terms),
         Kind::TestLeq => are_ordering(model, place, terms),
-        Kind::Field(field) => are_access(model, parents, place, field, terms),
+        Kind::Field(field) => are_access(model, classes, place, field, terms),
         Kind::AllDiff => false,
     }
 }

@@ -120,7 +120,7 @@ fn placed_kind(model: &Model, place: Place<'_>, term: Term) -> Option<ValueKind>
     ensures { IsInner term → IsJust result (λ kind. IsOfKind model.now (scope_of place.entry) kind term) }
 {
     match place {
-        Place::InRule(pred, rule) => inner_kind(model, pred, rule, term),
+        Place::InRule(pred, rule, _) => inner_kind(model, pred, rule, term),
         Place::InProblem => None,
     }
 }

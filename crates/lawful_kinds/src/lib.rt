@@ -1,7 +1,7 @@
 //! Of which kind values, variables and terms are, and whether the arguments of constraints are of the kinds that these take.
 //!
-//! `items::is_lawful_item(&model, &parents, place, &item)` tells whether a constraint may stand at the place. The parents are what the classes
-//! extend, without a circle, and by them it is found in few steps whether one class is under another.
+//! `items::is_lawful_item(&model, &classes, place, &item)` tells whether a constraint may stand at the place. `Classes::of` finds once of which
+//! classes the model's variables are, so that an access to a field asks one class for it, whatever the object may be.
 #![tactic(auto)]
 
 pub mod accesses;
@@ -9,10 +9,11 @@ pub mod arguments;
 pub mod classes;
 pub mod finding;
 pub mod items;
+pub mod joining;
 pub mod kinds;
+pub mod line;
 pub mod lines;
-pub mod memberships;
 pub mod scope;
-pub mod skipping;
+pub mod table;
 pub mod terms;
 pub mod values;

@@ -7,7 +7,7 @@ ghost use Rattle.lawful_kinds.specs.Terms.{IsNamed, scope_of};
 
 use super::kinds::{is_of_kind, named_kind};
 use super::scope::Place;
-use lineage::Parents;
+use super::table::Classes;
 use model_core::item::Term;
 use model_core::model::Model;
 use model_core::variable::ValueKind;
@@ -62,8 +62,8 @@ fn are_of_its_kind(model: &Model, place: Place<'_>, term: Term, terms: &[Term]) 
 }
 
 // Whether values as they are written are of one kind; then they are whole numbers too.
-fn are_comparable_values(model: &Model, parents: &Parents, place: Place<'_>, terms: &[Term]) -> bool
-    requires ground { IsGround model.now parents.now }
+fn are_comparable_values(model: &Model, classes: &Classes, place: Place<'_>, terms: &[Term]) -> bool
+    requires ground { IsGround model.now classes.now }
     requires values { All (λ term. IsNamed term → ⊥) terms.now }
     ensures { IsTrue result ↔ AreComparable model.now (scope_of place.entry) terms.now }
 {
@@ -71,12 +71,12 @@ fn are_comparable_values(model: &Model, parents: &Parents, place: Place<'_>, ter
 }
 
 /// Whether the terms are all of one kind.
-pub fn are_comparable(model: &Model, parents: &Parents, place: Place<'_>, terms: &[Term]) -> bool
-    requires { IsGround model.now parents.now }
+pub fn are_comparable(model: &Model, classes: &Classes, place: Place<'_>, terms: &[Term]) -> bool
+    requires { IsGround model.now classes.now }
     ensures { IsTrue result ↔ AreComparable model.now (scope_of place.entry) terms.now }
 {
     match first_named(terms) {
         Some(term) => are_of_its_kind(model, place, term, terms),
-        None => are_comparable_values(model, parents, place, terms),
+        None => are_comparable_values(model, classes, place, terms),
     }
 }

@@ -6,7 +6,8 @@ use Rattle.model_core.specs.declared.class.Pred.{Pred}
 use Rattle.model_core.specs.declared.model.Model.{Model}
 use Rattle.model_core.specs.Naming.{names_of}
 use Rattle.model_core.specs.Lawful.{IsLawful, IsLawfulClass, IsLawfulPred}
-use Rattle.lawful_kinds.specs.Ground.{AreClassParents, IsGround}
+use Rattle.lawful_kinds.specs.declared.table.Classes.{Classes}
+use Rattle.lawful_kinds.specs.Ground.{AreClasses, IsGround}
 use Rattle.lawful_models.specs.Classes.{AreInLine, HasLawfulMembers}
 use Rattle.lawful_names.specs.Distinct.{AreFree, HasFieldNamed}
 use Rattle.lawful_models.specs.Preds.{AreLawfulPreds}
@@ -141,5 +142,5 @@ module _ (model : Model) where
       problem = record { preds = lawful_all; roots = lawful.roots; items = lawful.items };
     }
 
-  pub ground_is : (parents : List (Option ℕ)) → IsSmallModel model → HasLawfulBasis model → AreClassParents model parents → IsGround model parents
-  ground_is parents small basis are = record { enums = basis.enums; few_objects = small.few_objects; few_classes = small.few_classes; parents_are = are }
+  pub ground_is : (classes : Classes) → IsSmallModel model → HasLawfulBasis model → AreClasses model classes → IsGround model classes
+  ground_is classes small basis are = record { enums = basis.enums; few_objects = small.few_objects; few_classes = small.few_classes; classes_are = are }

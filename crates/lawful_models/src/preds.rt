@@ -14,13 +14,13 @@ use domain_core::domain::Dom;
 use eu_name::is_name;
 use lawful_kinds::finding::class_at;
 use lawful_kinds::kinds::is_same_kind;
+use lawful_kinds::table::{Classes, variable_lines};
 use lawful_kinds::values::are_lawful_variables;
 use lawful_names::distinct::are_distinct;
 use lawful_names::forms::{Form, have_form};
 use lawful_rules::amounts::are_few;
 use lawful_rules::judge::Judge;
 use lawful_rules::rules::is_lawful_rule;
-use lineage::Parents;
 use model_core::class::{Pred, PredKind};
 use model_core::model::Model;
 use model_core::rule::Rule;
@@ -207,18 +207,20 @@ fn rules_at<'a>(
 fn is_lawful_as(
     alloc: Global,
     model: &Model,
-    parents: &Parents,
+    classes: &Classes,
     number: u32,
     rule: &Rule,
 ) -> Result<bool, AllocError>
-    requires { IsGround model.now parents.now }
+    requires { IsGround model.now classes.now }
     ensures { IfOk result (λ answer. IsTrue answer ↔ IsLawfulRule model.now number rule.now) }
 {
+    let locals = variable_lines(alloc, model, &classes.parents, rule.locals.as_slice())?;
     let judge = Judge {
         model,
-        parents,
+        classes,
         pred: number,
         rule,
+        locals: locals.as_slice(),
     };
     is_lawful_rule(alloc, judge)
 }
@@ -227,15 +229,15 @@ fn is_lawful_as(
 fn are_lawful_each(
     alloc: Global,
     model: &Model,
-    parents: &Parents,
+    classes: &Classes,
     number: u32,
     rules: &[&Rule],
 ) -> Result<bool, AllocError>
-    requires { IsGround model.now parents.now }
+    requires { IsGround model.now classes.now }
     ensures { IfOk result (λ answer. IsTrue answer ↔ All (IsLawfulRule model.now number) (map (λ rule. rule.now) rules.now)) }
 {
     for rule in rules {
-        if !is_lawful_as(alloc, model, parents, number, rule)? {
+        if !is_lawful_as(alloc, model, classes, number, rule)? {
             return Ok(false);
         }
     }
@@ -246,33 +248,33 @@ fn are_lawful_each(
 fn are_lawful_rules(
     alloc: Global,
     model: &Model,
-    parents: &Parents,
+    classes: &Classes,
     number: u32,
     rules: &[&Rule],
 ) -> Result<bool, AllocError>
-    requires { IsGround model.now parents.now }
+    requires { IsGround model.now classes.now }
     ensures { IfOk result (λ answer. IsTrue answer ↔ AreLawfulRules model.now number (map (λ rule. rule.now) rules.now)) }
 {
     if !are_few(rules) {
         return Ok(false);
     }
-    are_lawful_each(alloc, model, parents, number, rules)
+    are_lawful_each(alloc, model, classes, number, rules)
 }
 
 // Whether the predicate has rules that are few and lawful.
 fn has_lawful_rules(
     alloc: Global,
     model: &Model,
-    parents: &Parents,
+    classes: &Classes,
     number: u32,
     pred: &Pred,
 ) -> Result<bool, AllocError>
-    requires { IsGround model.now parents.now }
+    requires { IsGround model.now classes.now }
     ensures { IfOk result (λ answer. IsTrue answer ↔ HasLawfulRules model.now number pred.now) }
 {
     let found = rules_at(alloc, model, pred.rules.as_slice())?;
     match found {
-        Some(rules) => are_lawful_rules(alloc, model, parents, number, rules.as_slice()),
+        Some(rules) => are_lawful_rules(alloc, model, classes, number, rules.as_slice()),
         None => Ok(false),
     }
 }
@@ -281,15 +283,15 @@ fn has_lawful_rules(
 fn has_all(
     alloc: Global,
     model: &Model,
-    parents: &Parents,
+    classes: &Classes,
     number: u32,
     pred: &Pred,
 ) -> Result<bool, AllocError>
-    requires { IsGround model.now parents.now }
+    requires { IsGround model.now classes.now }
     ensures { IfOk result (λ answer. IsTrue answer ↔ HasAllLawful model.now number pred.now) }
 {
     let params = has_lawful_params(alloc, model, pred)?;
-    let rules = has_lawful_rules(alloc, model, parents, number, pred)?;
+    let rules = has_lawful_rules(alloc, model, classes, number, pred)?;
     Ok(params && rules && is_of_a_class(model, pred))
 }
 
@@ -297,15 +299,15 @@ fn has_all(
 fn are_lawful_in_order(
     alloc: Global,
     model: &Model,
-    parents: &Parents,
+    classes: &Classes,
     preds: &[Pred],
 ) -> Result<bool, AllocError>
-    requires ground { IsGround model.now parents.now }
+    requires ground { IsGround model.now classes.now }
     requires few { length preds.now < 2 ^ 32 }
     ensures { IfOk result (λ answer. IsTrue answer ↔ AreLawfulInOrder model.now preds.now) }
 {
     for (number, pred) in preds.iter().enumerate() {
-        if !has_all(alloc, model, parents, number as u32, pred)? {
+        if !has_all(alloc, model, classes, number as u32, pred)? {
             return Ok(false);
         }
     }
@@ -313,10 +315,10 @@ fn are_lawful_in_order(
 }
 
 /// Whether all is lawful of the predicates but perhaps that fields have their names.
-pub fn are_lawful_preds(alloc: Global, model: &Model, parents: &Parents) -> Result<bool, AllocError>
-    requires ground { IsGround model.now parents.now }
+pub fn are_lawful_preds(alloc: Global, model: &Model, classes: &Classes) -> Result<bool, AllocError>
+    requires ground { IsGround model.now classes.now }
     requires few { length model.now.preds < 2 ^ 32 }
     ensures { IfOk result (λ answer. IsTrue answer ↔ AreLawfulPreds model.now) }
 {
-    are_lawful_in_order(alloc, model, parents, model.preds.as_slice())
+    are_lawful_in_order(alloc, model, classes, model.preds.as_slice())
 }

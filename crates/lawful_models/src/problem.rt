@@ -14,8 +14,8 @@ use lawful_kinds::classes::are_objects_in;
 use lawful_kinds::finding::pred_at;
 use lawful_kinds::items::is_lawful_item;
 use lawful_kinds::scope::Place;
+use lawful_kinds::table::Classes;
 use lawful_kinds::values::is_in_kind;
-use lineage::Parents;
 use model_core::class::Pred;
 use model_core::item::Item;
 use model_core::model::{Model, Problem, Root, RootKind};
@@ -92,8 +92,8 @@ fn has_given_params(pred: &Pred) -> bool
 }
 
 // Whether the root is lawful as one of the predicate.
-fn is_root_of(model: &Model, parents: &Parents, pred: &Pred, root: &Root) -> bool
-    requires { IsGround model.now parents.now }
+fn is_root_of(model: &Model, classes: &Classes, pred: &Pred, root: &Root) -> bool
+    requires { IsGround model.now classes.now }
     ensures { IsTrue result ↔ IsRootOf model.now pred.now root.now }
 {
     if !is_labelled(root) {
@@ -105,34 +105,37 @@ fn is_root_of(model: &Model, parents: &Parents, pred: &Pred, root: &Root) -> boo
     if !is_in_kind(model, ValueKind::Object, &root.object) {
         return false;
     }
-    are_objects_in(model, parents, pred.class, &root.object)
+    are_objects_in(model, &classes.parents, pred.class, &root.object)
 }
 
 // Whether the root is of a predicate that there is, none of whose parameters is void, on objects of its class.
-fn is_lawful_root(model: &Model, parents: &Parents, root: &Root) -> bool
-    requires { IsGround model.now parents.now }
+fn is_lawful_root(model: &Model, classes: &Classes, root: &Root) -> bool
+    requires { IsGround model.now classes.now }
     ensures { IsTrue result ↔ IsLawfulRoot model.now root.now }
 {
     match pred_at(model, root.pred) {
-        Some(pred) => is_root_of(model, parents, pred, root),
+        Some(pred) => is_root_of(model, classes, pred, root),
         None => false,
     }
 }
 
 /// Whether the roots are all lawful.
-pub fn are_lawful_roots(model: &Model, parents: &Parents, roots: &[Root]) -> bool
-    requires { IsGround model.now parents.now }
+pub fn are_lawful_roots(model: &Model, classes: &Classes, roots: &[Root]) -> bool
+    requires { IsGround model.now classes.now }
     ensures { IsTrue result ↔ All (IsLawfulRoot model.now) roots.now }
 {
-    roots
-        .iter()
-        .all(|root| is_lawful_root(model, parents, root))
+    for root in roots {
+        if !is_lawful_root(model, classes, root) {
+            return false;
+        }
+    }
+    true
 }
 
 /// Whether the items of the problem are all lawful.
-pub fn are_lawful_items(model: &Model, parents: &Parents, items: &[Item]) -> bool
-    requires { IsGround model.now parents.now }
+pub fn are_lawful_items(model: &Model, classes: &Classes, items: &[Item]) -> bool
+    requires { IsGround model.now classes.now }
     ensures { IsTrue result ↔ All (IsLawfulItem model.now OfProblem) items.now }
 {
-    items.iter().all(|item| is_lawful_item(model, parents, Place::InProblem, item))
+    items.iter().all(|item| is_lawful_item(model, classes, Place::InProblem, item))
 }

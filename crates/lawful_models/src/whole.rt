@@ -17,6 +17,7 @@ use super::objects::are_lawful_objects;
 use super::parents::class_parents;
 use super::preds::are_lawful_preds;
 use super::problem::{are_lawful_items, are_lawful_roots, has_few_facts, is_horizon};
+use lawful_kinds::table::Classes;
 use lawful_kinds::values::are_lawful_variables;
 use lawful_names::distinct::are_apart as are_preds_apart;
 use lineage::Parents;
@@ -91,35 +92,46 @@ fn are_named(alloc: Global, model: &Model) -> Result<bool, AllocError>
 }
 
 // Whether the roots are lawful.
-fn has_lawful_roots(model: &Model, parents: &Parents) -> bool
-    requires { IsGround model.now parents.now }
+fn has_lawful_roots(model: &Model, classes: &Classes) -> bool
+    requires { IsGround model.now classes.now }
     ensures { IsTrue result ↔ All (IsLawfulRoot model.now) model.now.problem.roots }
 {
-    are_lawful_roots(model, parents, model.problem.roots.as_slice())
+    are_lawful_roots(model, classes, model.problem.roots.as_slice())
 }
 
 // Whether the items of the problem are lawful.
-fn has_lawful_items(model: &Model, parents: &Parents) -> bool
-    requires { IsGround model.now parents.now }
+fn has_lawful_items(model: &Model, classes: &Classes) -> bool
+    requires { IsGround model.now classes.now }
     ensures { IsTrue result ↔ All (IsLawfulItem model.now OfProblem) model.now.problem.items }
 {
-    are_lawful_items(model, parents, model.problem.items.as_slice())
+    are_lawful_items(model, classes, model.problem.items.as_slice())
 }
 
-// Whether the roots, the items and the predicates are lawful of a model whose classes extend these.
-fn has_lawful_problem(alloc: Global, model: &Model, parents: &Parents) -> Result<bool, AllocError>
-    requires ground { IsGround model.now parents.now }
+// Whether they are, where this is known of the classes.
+fn has_lawful_problem(alloc: Global, model: &Model, classes: &Classes) -> Result<bool, AllocError>
+    requires ground { IsGround model.now classes.now }
     requires small { IsSmallModel model.now }
     ensures { IfOk result (λ answer. IsTrue answer ↔ HasLawfulProblem model.now) }
 {
-    let preds = are_lawful_preds(alloc, model, parents)?;
+    let preds = are_lawful_preds(alloc, model, classes)?;
     if !preds {
         return Ok(false);
     }
-    if !has_lawful_roots(model, parents) {
+    if !has_lawful_roots(model, classes) {
         return Ok(false);
     }
-    Ok(has_lawful_items(model, parents))
+    Ok(has_lawful_items(model, classes))
+}
+
+// Whether the roots, the items and the predicates are lawful of a model whose classes extend these.
+fn has_lawful_rest(alloc: Global, model: &Model, parents: Parents) -> Result<bool, AllocError>
+    requires parents { AreClassParents model.now parents }
+    requires small { IsSmallModel model.now }
+    requires basis { HasLawfulBasis model.now }
+    ensures { IfOk result (λ answer. IsTrue answer ↔ HasLawfulProblem model.now) }
+{
+    let classes = Classes::of(alloc, model, parents)?;
+    has_lawful_problem(alloc, model, &classes)
 }
 
 // Whether the classes are in line, and what stands on them is lawful.
@@ -130,7 +142,7 @@ fn is_lawful_above(alloc: Global, model: &Model) -> Result<bool, AllocError>
 {
     let found = class_parents(alloc, model)?;
     match found {
-        Some(parents) => has_lawful_problem(alloc, model, &parents),
+        Some(parents) => has_lawful_rest(alloc, model, parents),
         None => Ok(false),
     }
 }

@@ -4,6 +4,7 @@ ghost use Rattle.std.specs.Prelude.{◌≡◌, ◌↔◌, ◌<◌, ◌∷◌, �
 ghost use Rattle.model_core.specs.Block.{plain_entries, with_entry};
 ghost use Rattle.model_core.specs.Entries.{NoEntry};
 ghost use Rattle.lawful_kinds.specs.Ground.{IsGround};
+ghost use Rattle.lawful_kinds.specs.Lines.{AreLinesOf};
 ghost use Rattle.lawful_rules.specs.Nested.{AreLawfulEntries, AreSides, IsGuardAmong, IsLawfulAmong, IsLawfulBlock, IsSmall, names_of};
 
 use super::judge::Judge;
@@ -29,17 +30,17 @@ pub fn contents(block: &Block) -> &[Entry]
 
 // Whether the two sides are of one kind, and name no slot or local but these.
 fn are_sides(judge: Judge<'_>, seen: &[Name], left: Term, right: Term) -> bool
-    requires { IsGround judge.model.now judge.parents.now }
+    requires { IsGround judge.model.now judge.classes.now }
     ensures { IsTrue result ↔ AreSides judge.entry.model.now judge.entry.pred judge.entry.rule.now seen.now (left ∷ right ∷ []) }
 {
     let sides = [left, right];
-    are_comparable(judge.model, judge.parents, judge.place(), &sides)
+    are_comparable(judge.model, judge.classes, judge.place(), &sides)
         && are_terms_among(seen, &sides)
 }
 
 // Whether the guard has such sides.
 fn is_guard_among(judge: Judge<'_>, seen: &[Name], guard: Guard) -> bool
-    requires { IsGround judge.model.now judge.parents.now }
+    requires { IsGround judge.model.now judge.classes.now }
     ensures { IsTrue result ↔ IsGuardAmong judge.entry.model.now judge.entry.pred judge.entry.rule.now seen.now guard }
 {
     match guard {
@@ -80,10 +81,11 @@ fn has_local(judge: Judge<'_>, number: u32) -> bool
 
 // Whether the item is lawful, and names no slot or local but these.
 fn is_lawful_among(judge: Judge<'_>, seen: &[Name], item: &Item) -> bool
-    requires { IsGround judge.model.now judge.parents.now }
+    requires ground { IsGround judge.model.now judge.classes.now }
+    requires lines { AreLinesOf judge.model.now judge.rule.now.locals judge.locals.now }
     ensures { IsTrue result ↔ IsLawfulAmong judge.entry.model.now judge.entry.pred judge.entry.rule.now seen.now item.now }
 {
-    is_lawful_item(judge.model, judge.parents, judge.place(), item) && is_item_among(seen, item)
+    is_lawful_item(judge.model, judge.classes, judge.place(), item) && is_item_among(seen, item)
 }
 
 // Whether all three are so.
@@ -102,7 +104,8 @@ pub fn is_lawful_block(
     outer: &[Name],
     entries: &[Entry],
 ) -> Result<bool, AllocError>
-    requires { IsGround judge.model.now judge.parents.now }
+    requires ground { IsGround judge.model.now judge.classes.now }
+    requires lines { AreLinesOf judge.model.now judge.rule.now.locals judge.locals.now }
     ensures { IfOk result (λ answer. IsTrue answer ↔ IsLawfulBlock judge.entry.model.now judge.entry.pred judge.entry.rule.now
         depth outer.now (plain_entries entries.now)) }
 {
@@ -127,7 +130,8 @@ fn is_lawful_entry(
     seen: &[Name],
     entry: &Entry,
 ) -> Result<bool, AllocError>
-    requires ground { IsGround judge.model.now judge.parents.now }
+    requires ground { IsGround judge.model.now judge.classes.now }
+    requires lines { AreLinesOf judge.model.now judge.rule.now.locals judge.locals.now }
     requires deep { depth < 16 }
     ensures { IfOk result (λ answer. IsTrue answer ↔ AreLawfulEntries judge.entry.model.now judge.entry.pred judge.entry.rule.now
         depth seen.now (with_entry entry.now NoEntry)) }

@@ -3,25 +3,27 @@
 ghost use Rattle.std.specs.Prelude.{◌≡◌};
 ghost use Rattle.lawful_kinds.specs.declared.scope.Place.TheVariants.{InRule};
 
+use lawful_kinds::line::Line;
 use lawful_kinds::scope::Place;
-use lineage::Parents;
+use lawful_kinds::table::Classes;
 use model_core::model::Model;
 use model_core::rule::Rule;
 
-/// A rule as one of the predicate of this number, with what the model's classes extend.
+/// A rule as one of the predicate of this number, with what is known of the model's classes, and the lines of its locals.
 #[derive(Clone, Copy)]
 pub struct Judge<'a> {
     pub model: &'a Model,
-    pub parents: &'a Parents,
+    pub classes: &'a Classes,
     pub pred: u32,
     pub rule: &'a Rule,
+    pub locals: &'a [Line],
 }
 
 impl<'a> Judge<'a> {
     /// Where what stands in the rule stands.
     pub fn place(self) -> Place<'a>
-        ensures { result ≡ InRule self.entry.pred self.entry.rule }
+        ensures { result ≡ InRule self.entry.pred self.entry.rule self.entry.locals }
     {
-        Place::InRule(self.pred, self.rule)
+        Place::InRule(self.pred, self.rule, self.locals)
     }
 }

@@ -3,6 +3,7 @@
 ghost use Rattle.std.specs.Prelude.{◌≡◌, ◌↔◌, [], All, IfOk, IsTrue};
 ghost use Rattle.model_core.specs.Lawful.{IsLawfulRule, IsLawfulSlot};
 ghost use Rattle.lawful_kinds.specs.Ground.{IsGround};
+ghost use Rattle.lawful_kinds.specs.Lines.{AreLinesOf};
 ghost use Rattle.lawful_rules.specs.Numbered.{AreOnce, numbers_of};
 ghost use Rattle.lawful_rules.specs.Rules.{HasLawfulParts, IsBaseOfClass, StandsNested};
 
@@ -11,40 +12,41 @@ use super::judge::Judge;
 use super::numbers::{Sort, are_once, numbers_in};
 use lawful_kinds::classes::are_objects_of;
 use lawful_kinds::finding::pred_at;
+use lawful_kinds::table::Classes;
 use lawful_kinds::values::{are_lawful_variables, is_base_of};
-use lineage::Parents;
 use model_core::model::Model;
 use model_core::rule::{Rule, Slot};
 use model_core::variable::{Base, ValueKind, VarDecl};
 use std::alloc::{AllocError, Global};
 
 // Whether the base is lawful, and of objects of the class.
-fn is_base_of_class(model: &Model, parents: &Parents, class: u32, base: &Base) -> bool
-    requires { IsGround model.now parents.now }
+fn is_base_of_class(model: &Model, classes: &Classes, class: u32, base: &Base) -> bool
+    requires { IsGround model.now classes.now }
     ensures { IsTrue result ↔ IsBaseOfClass model.now class base.now }
 {
-    is_base_of(model, ValueKind::Object, base) && are_objects_of(model, parents, class, base)
+    is_base_of(model, ValueKind::Object, base)
+        && are_objects_of(model, &classes.parents, class, base)
 }
 
 // Whether the slot asks for a token of a predicate that there is, on objects of the predicate's class.
-fn is_lawful_slot(model: &Model, parents: &Parents, slot: &Slot) -> bool
-    requires { IsGround model.now parents.now }
+fn is_lawful_slot(model: &Model, classes: &Classes, slot: &Slot) -> bool
+    requires { IsGround model.now classes.now }
     ensures { IsTrue result ↔ IsLawfulSlot model.now slot.now }
 {
     match pred_at(model, slot.pred) {
-        Some(pred) => is_base_of_class(model, parents, pred.class, &slot.object),
+        Some(pred) => is_base_of_class(model, classes, pred.class, &slot.object),
         None => false,
     }
 }
 
 // Whether the slots are all lawful.
-fn are_lawful_slots(model: &Model, parents: &Parents, slots: &[Slot]) -> bool
-    requires { IsGround model.now parents.now }
+fn are_lawful_slots(model: &Model, classes: &Classes, slots: &[Slot]) -> bool
+    requires { IsGround model.now classes.now }
     ensures { IsTrue result ↔ All (IsLawfulSlot model.now) slots.now }
 {
     slots
         .iter()
-        .all(|slot| is_lawful_slot(model, parents, slot))
+        .all(|slot| is_lawful_slot(model, classes, slot))
 }
 
 // Whether the variables have no names.
@@ -57,11 +59,11 @@ fn are_unnamed(variables: &[VarDecl]) -> bool
 }
 
 // Whether the slots and the locals of the rule are lawful.
-fn has_lawful_parts(model: &Model, parents: &Parents, rule: &Rule) -> bool
-    requires { IsGround model.now parents.now }
+fn has_lawful_parts(model: &Model, classes: &Classes, rule: &Rule) -> bool
+    requires { IsGround model.now classes.now }
     ensures { IsTrue result ↔ HasLawfulParts model.now rule.now }
 {
-    are_lawful_slots(model, parents, rule.slots.as_slice())
+    are_lawful_slots(model, classes, rule.slots.as_slice())
         && are_lawful_variables(model, rule.locals.as_slice())
         && are_unnamed(rule.locals.as_slice())
 }
@@ -77,7 +79,8 @@ fn stand_once(alloc: Global, sort: Sort, count: usize, rule: &Rule) -> Result<bo
 // Whether the blocks of the rule are lawful, and each slot and local stands in them once. It is this that is told first, since names
 // are then few in each block.
 fn stands_nested(alloc: Global, judge: Judge<'_>) -> Result<bool, AllocError>
-    requires { IsGround judge.model.now judge.parents.now }
+    requires ground { IsGround judge.model.now judge.classes.now }
+    requires lines { AreLinesOf judge.model.now judge.rule.now.locals judge.locals.now }
     ensures { IfOk result (λ answer. IsTrue answer ↔ StandsNested judge.entry.model.now judge.entry.pred judge.entry.rule.now) }
 {
     let slots = stand_once(alloc, Sort::Slots, judge.rule.slots.len(), judge.rule)?;
@@ -93,10 +96,11 @@ fn stands_nested(alloc: Global, judge: Judge<'_>) -> Result<bool, AllocError>
 
 /// Whether the rule is lawful as one of the predicate.
 pub fn is_lawful_rule(alloc: Global, judge: Judge<'_>) -> Result<bool, AllocError>
-    requires { IsGround judge.model.now judge.parents.now }
+    requires ground { IsGround judge.model.now judge.classes.now }
+    requires lines { AreLinesOf judge.model.now judge.rule.now.locals judge.locals.now }
     ensures { IfOk result (λ answer. IsTrue answer ↔ IsLawfulRule judge.entry.model.now judge.entry.pred judge.entry.rule.now) }
 {
-    if !has_lawful_parts(judge.model, judge.parents, judge.rule) {
+    if !has_lawful_parts(judge.model, judge.classes, judge.rule) {
         return Ok(false);
     }
     stands_nested(alloc, judge)

@@ -1,11 +1,11 @@
-use Rattle.eu_name.proofs.Members.{get_same}
-use Rattle.model_core.specs.declared.variable.VarDecl.{VarDecl}
-use Rattle.model_core.specs.Kinds.{AreObjectsOf}
-use Rattle.model_core.specs.Variables.{IsGlobal}
-use Rattle.lawful_kinds.proofs.Telling.{has_found}
+use Rattle.std.proofs.Common.{List, ap, ◌∙◌}
+use Rattle.lawful_kinds.specs.declared.line.Line.{Line}
+use Rattle.lawful_kinds.specs.Lines.{line_in}
+use Rattle.lawful_kinds.specs.Terms.{scope_of}
+use Rattle.lawful_kinds.proofs.Lined.{global_lined}
 use Rattle.lawful_kinds.proofs.lines.global_line.Goals as goal
 
-pub returns-in-Some : goal.returns-in-Some
-returns-in-Some c =
-    has_found c.args.model.now c.base_line.result (IsGlobal c.args.model.now c.args.number) (λ class (a : VarDecl). AreObjectsOf c.args.model.now class a.base) c.in-Some.variable.now
-    (λ other at. get_same c.args.model.now.problem.globals c.args.number other c.in-Some.variable.now at c.in-Some.ensures) c.base_line.ensures
+pub returns : goal.returns
+returns c =
+    global_lined c.args.model.now c.line_in.result (scope_of c.args.place) c.args.classes.now.globals.items c.requires.globals_are c.args.number
+    (c.line_in.ensures ∙ ap (λ (listed : List Line). line_in listed c.args.number) c.as_slice.ensures.value)

@@ -1,12 +1,5 @@
-use Rattle.eu_name.proofs.Members.{get_same}
-use Rattle.model_core.specs.declared.variable.VarDecl.{VarDecl}
-use Rattle.std.proofs.Common.{◌≡◌, Some}
-use Rattle.std.specs.Prelude.{slice_get}
-use Rattle.model_core.specs.Kinds.{AreObjectsOf}
-use Rattle.lawful_kinds.proofs.Telling.{has_found}
+use Rattle.lawful_kinds.proofs.Lined.{local_lined}
 use Rattle.lawful_kinds.proofs.lines.local_line.Goals as goal
 
-pub returns-in-Some : goal.returns-in-Some
-returns-in-Some c =
-    has_found c.args.model.now c.base_line.result (λ (v : VarDecl). slice_get c.args.rule.now.locals c.args.number ≡ Some v) (λ class (a : VarDecl). AreObjectsOf c.args.model.now class a.base) c.in-Some.variable.now
-    (λ other at. get_same c.args.rule.now.locals c.args.number other c.in-Some.variable.now at c.in-Some.ensures) c.base_line.ensures
+pub returns : goal.returns
+returns c = local_lined c.args.model.now c.line_in.result c.args.pred c.args.rule.now c.args.locals.now c.requires c.args.number c.line_in.ensures

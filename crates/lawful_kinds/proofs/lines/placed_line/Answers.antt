@@ -1,10 +1,18 @@
 use Rattle.std.proofs.Common.{sym, subst}
-use Rattle.model_core.specs.Kinds.{IsOfClass}
 use Rattle.lawful_kinds.specs.declared.scope.Place.{Place}
-use Rattle.lawful_kinds.specs.Terms.{HasAll, IsInner, scope_of}
+use Rattle.lawful_kinds.specs.declared.line.Line.TheVariants.{Nothing}
+use Rattle.lawful_kinds.specs.Terms.{IsInner, IsPlaced, IsTermLine, scope_of}
+use Rattle.lawful_kinds.proofs.Lined.{nowhere_inner}
 use Rattle.lawful_kinds.proofs.lines.placed_line.Goals as goal
+
+pub inner_line-requires-clause-locals : goal.inner_line-requires-clause-locals
+inner_line-requires-clause-locals c = subst (IsPlaced c.args.model.now) c.in-InRule.is c.requires.placed
 
 pub returns-in-InRule : goal.returns-in-InRule
 returns-in-InRule c =
-    subst (λ (p : Place). IsInner c.args.term → HasAll c.args.model.now c.inner_line.result (λ class. IsOfClass c.args.model.now (scope_of p) class c.args.term)) (sym c.in-InRule.is)
-    c.inner_line.ensures
+    subst (λ (p : Place). IsInner c.args.term → IsTermLine c.args.model.now (scope_of p) c.args.term c.inner_line.result) (sym c.in-InRule.is) c.inner_line.ensures
+
+pub returns-in-InProblem : goal.returns-in-InProblem
+returns-in-InProblem c =
+    subst (λ (p : Place). IsInner c.args.term → IsTermLine c.args.model.now (scope_of p) c.args.term Nothing) (sym c.in-InProblem.is)
+    (λ inner kind. absurd (nowhere_inner c.args.model.now c.args.term inner kind))

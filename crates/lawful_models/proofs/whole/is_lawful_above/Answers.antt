@@ -4,20 +4,19 @@ use Rattle.lawful_kinds.specs.Ground.{AreClassParents}
 use Rattle.lawful_kinds.proofs.Telling.{ok_as, told_not}
 use Rattle.lawful_models.specs.Classes.{AreInLine}
 use Rattle.lawful_models.specs.Wholes.{HasLawfulProblem, IsLawfulAbove}
-use Rattle.lawful_models.proofs.Joining.{ground_is}
 use Rattle.lawful_models.proofs.whole.is_lawful_above.Goals as goal
 
-pub has_lawful_problem-requires-clause-ground : goal.has_lawful_problem-requires-clause-ground
-has_lawful_problem-requires-clause-ground c =
+pub has_lawful_rest-requires-clause-parents : goal.has_lawful_rest-requires-clause-parents
+has_lawful_rest-requires-clause-parents c =
     let model = c.args.model.now in
     let line = subst (λ found. MatchOption found (AreInLine model → ⊥) (λ parents. AreInLine model × AreClassParents model parents)) c.in-Some.is c.in_ok-found.ensures in
-    ground_is model c.in-Some.parents c.requires.small c.requires.basis line.1
+    line.1
 
 pub returns-in-Some : goal.returns-in-Some
 returns-in-Some c =
     let model = c.args.model.now in
     let line = subst (λ found. MatchOption found (AreInLine model → ⊥) (λ parents. AreInLine model × AreClassParents model parents)) c.in-Some.is c.in_ok-found.ensures in
-    ok_as c.has_lawful_problem.result (HasLawfulProblem model) (IsLawfulAbove model) (λ problem. record { line = line.0; problem = problem }) (λ above. above.problem) c.has_lawful_problem.ensures
+    ok_as c.has_lawful_rest.result (HasLawfulProblem model) (IsLawfulAbove model) (λ problem. record { line = line.0; problem = problem }) (λ above. above.problem) c.has_lawful_rest.ensures
 
 pub returns-in-None : goal.returns-in-None
 returns-in-None c =
