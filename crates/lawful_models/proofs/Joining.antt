@@ -1,5 +1,5 @@
 -- A model is lawful if all that is told of it is so, and only then.
-use Rattle.std.proofs.Common.{◌≡◌, ℕ, zero, suc, List, [], ◌∷◌, get_or, slice_get, Option, Some, All, Contains, sym, subst, arith}
+use Rattle.std.proofs.Common.{◌≡◌, ℕ, zero, suc, List, [], ◌∷◌, get_or, slice_get, Some, All, Contains, sym, subst, arith}
 use Rattle.eu_name.proofs.Members.{get_same, get_below, get_all, get_within}
 use Rattle.model_core.specs.declared.class.Class.{Class}
 use Rattle.model_core.specs.declared.class.Pred.{Pred}

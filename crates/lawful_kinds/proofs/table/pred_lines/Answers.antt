@@ -1,6 +1,5 @@
-use Rattle.std.proofs.Common.{◌≡◌, ◌+◌, List, [], Some, Vec, Global, sym, ap, ◌∙◌, subst}
+use Rattle.std.proofs.Common.{◌≡◌, ◌+◌, List, [], Some, Vec, Global, sym, subst}
 use Rattle.std.specs.Prelude.{slice_get}
-use Rattle.std.proofs.lemmas.Option.{slice_get-get_or}
 use Rattle.model_core.specs.declared.class.Pred.{Pred}
 use Rattle.model_core.specs.declared.variable.VarDecl.{VarDecl}
 use Rattle.lawful_kinds.specs.declared.line.Line.{Line}
@@ -12,7 +11,7 @@ pub loop-pred-init : goal.loop-pred-init
 loop-pred-init c =
     let fits = λ (pred : Pred) (listed : List Line). AreLinesOf c.args.model.now pred.params listed in
     let kept = λ (listed : Vec Line Global). listed.items in
-    subst (AreKeptTo fits kept [] c.args.preds.now 0) (sym {A = List (Vec Line Global)} c.new-table.ensures.items) (kept_none fits kept [] c.args.preds.now)
+    subst (AreKeptTo fits kept [] c.args.preds.now 0) (sym c.new-table.ensures.items) (kept_none fits kept [] c.args.preds.now)
 
 pub loop-pred-preserved : goal.loop-pred-preserved
 loop-pred-preserved c =
@@ -24,7 +23,7 @@ loop-pred-preserved c =
     let lines = c.in_ok-variable_lines.field-0 in
     let at : slice_get preds loop.pred-index ≡ Some item = read_at preds loop.pred-index item c.loop-pred-test.true c.pred-item.is in
     let are : AreLinesOf c.args.model.now item.params lines.items = subst (λ (list : List VarDecl). AreLinesOf c.args.model.now list lines.items) c.as_slice.ensures c.in_ok-variable_lines.ensures in
-    subst (AreKeptTo fits kept [] preds (loop.pred-index + 1)) (sym {A = List (Vec Line Global)} c.in_ok-push.ensures.items)
+    subst (AreKeptTo fits kept [] preds (loop.pred-index + 1)) (sym c.in_ok-push.ensures.items)
     (kept_more fits kept [] preds loop.pred-index loop.table.items item lines at are loop.invariant)
 
 pub returns : goal.returns

@@ -1,6 +1,5 @@
-use Rattle.std.proofs.Common.{◌≡◌, ◌+◌, Some, sym, ap, ◌∙◌, subst}
+use Rattle.std.proofs.Common.{◌≡◌, ◌+◌, Some, sym, subst}
 use Rattle.std.specs.Prelude.{slice_get}
-use Rattle.std.proofs.lemmas.Option.{slice_get-get_or}
 use Rattle.lawful_kinds.specs.declared.line.Line.{Line}
 use Rattle.lawful_kinds.specs.declared.line.Line.TheVariants.{Nothing}
 use Rattle.lawful_kinds.specs.Lines.{AreLinesOf, HasLine}
@@ -9,7 +8,7 @@ use Rattle.lawful_kinds.proofs.table.variable_lines.Goals as goal
 
 pub loop-variable-init : goal.loop-variable-init
 loop-variable-init c =
-    subst (AreKeptTo (HasLine c.args.model.now) (λ (line : Line). line) Nothing c.args.variables.now 0) (sym {A = List Line} c.new-lines.ensures.items)
+    subst (AreKeptTo (HasLine c.args.model.now) (λ (line : Line). line) Nothing c.args.variables.now 0) (sym c.new-lines.ensures.items)
     (kept_none (HasLine c.args.model.now) (λ (line : Line). line) Nothing c.args.variables.now)
 
 pub loop-variable-preserved : goal.loop-variable-preserved
@@ -18,7 +17,7 @@ loop-variable-preserved c =
     let loop = c.loop-variable in
     let item = c.variable-item.result in
     let at : slice_get variables loop.variable-index ≡ Some item = read_at variables loop.variable-index item c.loop-variable-test.true c.variable-item.is in
-    subst (AreKeptTo (HasLine c.args.model.now) (λ (line : Line). line) Nothing variables (loop.variable-index + 1)) (sym {A = List Line} c.in_ok-push.ensures.items)
+    subst (AreKeptTo (HasLine c.args.model.now) (λ (line : Line). line) Nothing variables (loop.variable-index + 1)) (sym c.in_ok-push.ensures.items)
     (kept_more (HasLine c.args.model.now) (λ (line : Line). line) Nothing variables loop.variable-index loop.lines.items item c.variable_line.result at c.variable_line.ensures loop.invariant)
 
 pub returns : goal.returns

@@ -1,6 +1,5 @@
 use Rattle.std.proofs.Common.{List, sym, subst}
 use Rattle.model_core.specs.declared.variable.VarDecl.{VarDecl}
-use Rattle.lawful_kinds.specs.declared.line.Line.{Line}
 use Rattle.lawful_kinds.specs.Lines.{AreLinesOf}
 use Rattle.lawful_models.proofs.preds.is_lawful_as.Goals as goal
 
