@@ -1,11 +1,11 @@
 //! Constraints on fields of objects.
 
-ghost use Rattle.std.specs.Prelude.{◌↔◌, IsTrue, MatchOption};
+ghost use Rattle.std.specs.Prelude.{◌↔◌, ◌<◌, ◌^◌, IsTrue, MatchOption, length};
 ghost use Rattle.model_core.specs.declared.variable.ValueKind.TheVariants as value_kinds;
 ghost use Rattle.model_core.specs.declared.variable.VarDecl.{VarDecl};
 ghost use Rattle.model_core.specs.Kinds.{AccessesField, IsOfKind};
 ghost use Rattle.lawful_kinds.specs.declared.line.Line.TheVariants as lines;
-ghost use Rattle.lawful_kinds.specs.Ground.{AreClasses, AreClassParents, IsGround};
+ghost use Rattle.lawful_kinds.specs.Ground.{AreClassParents, IsGround};
 ghost use Rattle.lawful_kinds.specs.Terms.{FieldFits, FitsOnLine, HasField, IsPlaced, scope_of};
 
 use super::classes::parent_of;
@@ -71,8 +71,8 @@ fn fits_above(
 }
 
 // Whether it is so of any class.
-fn fits_any(model: &Model, classes: &Classes, place: Place<'_>, access: Access) -> bool
-    requires { IsGround model.now classes.now }
+fn fits_any(model: &Model, place: Place<'_>, access: Access) -> bool
+    requires { length model.now.classes < 2 ^ 32 }
     ensures { IsTrue result ↔ FitsOnLine model.now (scope_of place.entry) lines.Every access.field access.value }
 {
     for class in 0..model.classes.len() {
@@ -96,7 +96,7 @@ fn fits_on_line(
 {
     match line {
         Line::From(first) => fits_above(model, &classes.parents, place, first, access),
-        Line::Every => fits_any(model, classes, place, access),
+        Line::Every => fits_any(model, place, access),
         Line::Nothing => false,
     }
 }
