@@ -3,6 +3,7 @@
 ghost use Rattle.nddl_lines.specs.Facts.{facts_of};
 ghost use Rattle.nddl_field_types.specs.Kept.{AreFieldTypes};
 ghost use Rattle.nddl_passed.specs.Builders.{AreBuilders};
+ghost use Rattle.nddl_passed.proofs.Props.{builders_prop};
 
 use nddl_field_types::FieldTypes;
 use nddl_field_types::passed_nddl_data::Ground;
@@ -17,7 +18,7 @@ pub struct Groundwork<'a> {
     pub types: &'a FieldTypes,
     pub builders: &'a Builders<'a>,
     ghost are_types: { AreFieldTypes (facts_of basis) types.now },
-    ghost are_builders: { AreBuilders (facts_of basis) builders.now },
+    ghost are_builders: { AreBuilders (facts_of basis) builders.now } by { builders_prop (facts_of basis) builders.now },
 }
 
 /// The same where objects are made, with what the names of the program stand for by now.
@@ -27,5 +28,5 @@ pub struct Blueprint<'a> {
     pub types: &'a FieldTypes,
     pub builders: &'a Builders<'a>,
     ghost are_types: { AreFieldTypes (facts_of footing.basis) types.now },
-    ghost are_builders: { AreBuilders (facts_of footing.basis) builders.now },
+    ghost are_builders: { AreBuilders (facts_of footing.basis) builders.now } by { builders_prop (facts_of footing.basis) builders.now },
 }
