@@ -199,9 +199,7 @@ fn declare(
         ≡ one_declared (facts_of groundwork.now.basis) number decl.now (progress_of program.old)) }
 {
     match decl {
-        Decl::Variable(variable) => declare_variable(
-            alloc, groundwork, number, variable, program,
-        ),
+        Decl::Variable(variable) => declare_variable(alloc, groundwork, number, variable, program),
         _ => Ok(()),
     }
 }
@@ -242,20 +240,24 @@ pub fn make_objects(alloc: Global, basis: &Basis<'_>) -> Result<Program, AllocEr
 }
 
 // The same, where this is what the types of its fields mean.
-fn make_typed(alloc: Global, basis: &Basis<'_>, types: &FieldTypes) -> Result<Program, AllocError>
+fn make_typed<'a>(
+    alloc: Global,
+    basis: &'a Basis<'a>,
+    types: &'a FieldTypes,
+) -> Result<Program, AllocError>
     requires { AreFieldTypes (facts_of basis.now) types.now }
     ensures { IfOk result (λ program. progress_of program ≡ last_progress (facts_of basis.now)) }
 {
-    let builders = Builders::of(alloc, basis)?;
-    make_grounded(alloc, &*basis, types, &builders)
+    let builders = Builders::of(alloc, &*basis)?;
+    make_grounded(alloc, &*basis, &*types, &builders)
 }
 
 // The same, where this is what is found of its constructors as well.
-fn make_grounded<'a>(
+fn make_grounded(
     alloc: Global,
-    basis: &Basis<'a>,
-    types: &'a FieldTypes,
-    builders: &'a Builders<'a>,
+    basis: &Basis<'_>,
+    types: &FieldTypes,
+    builders: &Builders<'_>,
 ) -> Result<Program, AllocError>
     requires types { AreFieldTypes (facts_of basis.now) types.now }
     requires builders { AreBuilders (facts_of basis.now) builders.now }
