@@ -6,6 +6,7 @@ ghost use Rattle.nddl_lines.specs.Facts.{facts_of};
 ghost use Rattle.nddl_running.specs.nddl_data.Standing.TheVariants.{Unmade};
 ghost use Rattle.nddl_running.specs.nddl_data.Scene.{scenery_of};
 ghost use Rattle.nddl_running.specs.nddl_field_types.Kept.{AreFieldTypes};
+ghost use Rattle.nddl_running.specs.nddl_passed.Builders.{AreBuilders};
 ghost use Rattle.nddl_running.specs.Construction.{construction_of};
 ghost use Rattle.nddl_running.specs.Made.{made_by, new_datum, new_made};
 ghost use Rattle.nddl_objects.specs.Objects.{all_declared, bare_scene, one_declared, last_progress, init_declared, most_levels, new_declared, object_declared, settings_declared, progress_of, stood};
@@ -20,7 +21,8 @@ use nddl_running::making::DEEPEST;
 use nddl_running::passed_nddl_constructors::note_written;
 use nddl_running::passed_nddl_data::{Datum, Ground, Scene, Standing};
 use nddl_running::passed_nddl_field_types::FieldTypes;
-use nddl_running::{Blueprint, Making, make_new};
+use nddl_running::passed_nddl_passed::Builders;
+use nddl_running::{Blueprint, Groundwork, Making, make_new};
 use nddl_scope::Declared;
 use nddl_scope::declared::variable_sort;
 use std::alloc::{AllocError, Global};
@@ -58,22 +60,19 @@ fn stand(standing: &mut Vec<Standing>, entry: Option<usize>, datum: Option<Datum
 // Makes the object of the name.
 fn declare_object(
     alloc: Global,
-    basis: &Basis<'_>,
-    types: &FieldTypes,
+    groundwork: &Groundwork<'_>,
     decl: usize,
     variable: &Variable,
     creation: &Creation,
     program: &mut Program,
 ) -> Result<(), AllocError>
-    requires { AreFieldTypes (facts_of basis.now) types.now }
     ensures { OnOk result (progress_of program.new
-        ≡ object_declared (facts_of basis.now) decl variable.now creation.now (progress_of program.old)) }
+        ≡ object_declared (facts_of groundwork.now.basis) decl variable.now creation.now (progress_of program.old)) }
 {
-    let entry = basis.types.scope.entry(&variable.name.text);
+    let entry = groundwork.basis.types.scope.entry(&variable.name.text);
     let datum = make_declared(
         alloc,
-        basis,
-        types,
+        groundwork,
         program.standing.as_slice(),
         decl,
         variable,
@@ -87,29 +86,31 @@ fn declare_object(
 // The same, where the names stand for this.
 fn make_declared(
     alloc: Global,
-    basis: &Basis<'_>,
-    types: &FieldTypes,
+    groundwork: &Groundwork<'_>,
     standing: &[Standing],
     decl: usize,
     variable: &Variable,
     creation: &Creation,
     making: &mut Making,
 ) -> Result<Option<Datum>, AllocError>
-    requires { AreFieldTypes (facts_of basis.now) types.now }
     ensures datum { IfOk result (λ datum.
-        datum ≡ new_datum most_levels (facts_of basis.now) creation.now (construction_of making.old)) }
+        datum ≡ new_datum most_levels (facts_of groundwork.now.basis) creation.now (construction_of making.old)) }
     ensures made { OnOk result (construction_of making.new
-        ≡ new_made (made_by most_levels (record { facts = facts_of basis.now; standing = standing.now }))
-        (record { facts = facts_of basis.now; standing = standing.now }) (bare_scene decl) variable.now.name.text
-        (named_number false basis.now.types.scope.now variable.now.name.text) creation.now (construction_of making.old)) }
+        ≡ new_made (made_by most_levels (record { facts = facts_of groundwork.now.basis; standing = standing.now }))
+        (record { facts = facts_of groundwork.now.basis; standing = standing.now }) (bare_scene decl) variable.now.name.text
+        (named_number false groundwork.now.basis.types.scope.now variable.now.name.text) creation.now (construction_of making.old)) }
 {
     let name = &variable.name.text;
-    let entry = basis.types.scope.entry(name);
+    let entry = groundwork.basis.types.scope.entry(name);
     let footing = Ground {
-        basis: *basis,
+        basis: groundwork.basis,
         standing,
     };
-    let blueprint = Blueprint { footing, types };
+    let blueprint = Blueprint {
+        footing,
+        types: groundwork.types,
+        builders: groundwork.builders,
+    };
     make_new(
         alloc,
         &blueprint,
@@ -151,40 +152,36 @@ fn declare_settings(
 // Makes what the variable is made by.
 fn declare_new(
     alloc: Global,
-    basis: &Basis<'_>,
-    types: &FieldTypes,
+    groundwork: &Groundwork<'_>,
     decl: usize,
     variable: &Variable,
     creation: &Creation,
     program: &mut Program,
 ) -> Result<(), AllocError>
-    requires { AreFieldTypes (facts_of basis.now) types.now }
     ensures { OnOk result (progress_of program.new
-        ≡ new_declared (facts_of basis.now) decl variable.now creation.now (progress_of program.old)) }
+        ≡ new_declared (facts_of groundwork.now.basis) decl variable.now creation.now (progress_of program.old)) }
 {
     if variable_sort(variable).is_config() {
-        declare_settings(alloc, basis, decl, creation, program)
+        declare_settings(alloc, &groundwork.basis, decl, creation, program)
     } else {
-        declare_object(alloc, basis, types, decl, variable, creation, program)
+        declare_object(alloc, groundwork, decl, variable, creation, program)
     }
 }
 
 // Makes what the variable is made by, if it is made.
 fn declare_variable(
     alloc: Global,
-    basis: &Basis<'_>,
-    types: &FieldTypes,
+    groundwork: &Groundwork<'_>,
     decl: usize,
     variable: &Variable,
     program: &mut Program,
 ) -> Result<(), AllocError>
-    requires { AreFieldTypes (facts_of basis.now) types.now }
     ensures { OnOk result (progress_of program.new
-        ≡ init_declared (facts_of basis.now) decl variable.now variable.now.init (progress_of program.old)) }
+        ≡ init_declared (facts_of groundwork.now.basis) decl variable.now variable.now.init (progress_of program.old)) }
 {
     match &variable.init {
         Some(Init::New(creation)) => declare_new(
-            alloc, basis, types, decl, variable, creation, program,
+            alloc, groundwork, decl, variable, creation, program,
         ),
         _ => Ok(()),
     }
@@ -193,20 +190,16 @@ fn declare_variable(
 // Makes what the declaration of this number asks for.
 fn declare(
     alloc: Global,
-    basis: &Basis<'_>,
-    types: &FieldTypes,
+    groundwork: &Groundwork<'_>,
     number: usize,
     decl: &Decl,
     program: &mut Program,
 ) -> Result<(), AllocError>
-    requires { AreFieldTypes (facts_of basis.now) types.now }
     ensures { OnOk result (progress_of program.new
-        ≡ one_declared (facts_of basis.now) number decl.now (progress_of program.old)) }
+        ≡ one_declared (facts_of groundwork.now.basis) number decl.now (progress_of program.old)) }
 {
     match decl {
-        Decl::Variable(variable) => declare_variable(
-            alloc, basis, types, number, variable, program,
-        ),
+        Decl::Variable(variable) => declare_variable(alloc, groundwork, number, variable, program),
         _ => Ok(()),
     }
 }
@@ -214,17 +207,15 @@ fn declare(
 // Makes what the declarations ask for, one after another.
 fn declare_all(
     alloc: Global,
-    basis: &Basis<'_>,
-    types: &FieldTypes,
+    groundwork: &Groundwork<'_>,
     decls: &[&Decl],
     program: &mut Program,
 ) -> Result<(), AllocError>
-    requires { AreFieldTypes (facts_of basis.now) types.now }
     ensures { OnOk result (progress_of program.new
-        ≡ all_declared (facts_of basis.now) 0 (map (λ decl. decl.now) decls.now) (progress_of program.old)) }
+        ≡ all_declared (facts_of groundwork.now.basis) 0 (map (λ decl. decl.now) decls.now) (progress_of program.old)) }
 {
     for (number, decl) in decls.iter().enumerate() {
-        declare(alloc, basis, types, number, *decl, program)?;
+        declare(alloc, groundwork, number, *decl, program)?;
     }
     Ok(())
 }
@@ -249,19 +240,50 @@ pub fn make_objects(alloc: Global, basis: &Basis<'_>) -> Result<Program, AllocEr
 }
 
 // The same, where this is what the types of its fields mean.
-#[tactic(auto, unfolding(crate::specs::Objects::last_progress))]
-fn make_typed(alloc: Global, basis: &Basis<'_>, types: &FieldTypes) -> Result<Program, AllocError>
+fn make_typed<'a>(
+    alloc: Global,
+    basis: &'a Basis<'a>,
+    types: &'a FieldTypes,
+) -> Result<Program, AllocError>
     requires { AreFieldTypes (facts_of basis.now) types.now }
     ensures { IfOk result (λ program. progress_of program ≡ last_progress (facts_of basis.now)) }
 {
+    let builders = Builders::of(alloc, &*basis)?;
+    make_grounded(alloc, &*basis, &*types, &builders)
+}
+
+// The same, where this is what is found of its constructors as well.
+fn make_grounded(
+    alloc: Global,
+    basis: &Basis<'_>,
+    types: &FieldTypes,
+    builders: &Builders<'_>,
+) -> Result<Program, AllocError>
+    requires types { AreFieldTypes (facts_of basis.now) types.now }
+    requires builders { AreBuilders (facts_of basis.now) builders.now }
+    ensures { IfOk result (λ program. progress_of program ≡ last_progress (facts_of basis.now)) }
+{
+    let groundwork = Groundwork {
+        basis: *basis,
+        types,
+        builders,
+    };
+    make_all(alloc, &groundwork)
+}
+
+// The same, where all of this is at hand.
+#[tactic(auto, unfolding(crate::specs::Objects::last_progress))]
+fn make_all(alloc: Global, groundwork: &Groundwork<'_>) -> Result<Program, AllocError>
+    ensures { IfOk result (λ program. progress_of program ≡ last_progress (facts_of groundwork.now.basis)) }
+{
     let mut first = None;
-    note_written(alloc, basis, &mut first)?;
-    let standing = unmade(alloc, basis.types.scope.names())?;
+    note_written(alloc, &groundwork.basis, &mut first)?;
+    let standing = unmade(alloc, groundwork.basis.types.scope.names())?;
     let mut program = Program {
         making: Making::new(alloc, first),
         standing,
         settings: Sequence::new(alloc),
     };
-    declare_all(alloc, basis, types, basis.decls, &mut program)?;
+    declare_all(alloc, groundwork, groundwork.basis.decls, &mut program)?;
     Ok(program)
 }

@@ -1,2 +1,4 @@
 mod Building
+pub mod Finding
 mod Keeping
+pub mod Props

@@ -1,23 +1,21 @@
 //! The constructors of classes, and the line of classes to which an object belongs.
 
-ghost use Rattle.std.specs.Prelude.{◌≡◌, ◌∷◌, [], IfOk, map, slice_get};
-ghost use Rattle.std.specs.Option.{option_copied, option_map_or};
+ghost use Rattle.std.specs.Prelude.{◌≡◌, ◌∷◌, [], IfOk, map};
+ghost use Rattle.std.specs.Option.{option_copied};
 ghost use Rattle.nddl_lines.specs.Ancestors.{ancestry};
 ghost use Rattle.nddl_lines.specs.Facts.{facts_of};
 ghost use Rattle.nddl_lines.specs.Shorter.{KeepTheSame};
-ghost use Rattle.nddl_passed.specs.Classes.{behind_all, body_decl, class_taking, constructor_at, constructor_formals, constructor_sets, entries_alone, is_adding, is_building, line_up, made_class, own_constructor, with_builtin};
+ghost use Rattle.nddl_passed.specs.Classes.{behind_all, class_taking, constructor_formals, constructor_sets, entries_alone, is_adding, is_building, line_up, made_class, own_constructor, with_builtin};
 
-use nddl_ast::declaration::{Decl, Member, Set, Typed};
+use nddl_ast::declaration::{Member, Set, Typed};
 use nddl_ast::expression::Creation;
 use nddl_data::passed_nddl_constructors::{builtin_above, class_alone, class_wants};
-use nddl_lines::decls::members_of;
-use nddl_lines::shorter::builds;
 use nddl_lines::{Basis, adding_line, building_line};
-use nddl_scope::{Meaning, Scope};
+use nddl_scope::Meaning;
 use std::alloc::{AllocError, Global};
 
-// The first constructor among the members.
-fn own_constructor(members: &[Member]) -> Option<&Member>
+/// The first constructor among the members.
+pub fn own_constructor(members: &[Member]) -> Option<&Member>
     ensures { option_copied result ≡ own_constructor members.now }
 {
     for member in members {
@@ -26,13 +24,6 @@ fn own_constructor(members: &[Member]) -> Option<&Member>
         }
     }
     None
-}
-
-/// The constructor of the class of this number, if it has one.
-pub fn constructor_at<'a>(scope: &Scope, decls: &[&'a Decl], entry: usize) -> Option<&'a Member>
-    ensures { option_copied result ≡ constructor_at scope.now (map (λ decl. decl.now) decls.now) entry }
-{
-    own_constructor(members_of(scope, decls, entry))
 }
 
 /// The formals of the constructor.
@@ -52,29 +43,6 @@ pub fn constructor_sets(constructor: &Member) -> &[Set]
     match constructor {
         Member::Constructor { sets, .. } => sets.as_slice(),
         _ => &[],
-    }
-}
-
-/// The number of the declaration in which the members of the class of this number stand.
-pub fn body_decl(scope: &Scope, entry: usize) -> usize
-    ensures { result ≡ body_decl scope.now entry }
-{
-    match scope.names().get(entry) {
-        Some(declared) => match scope.body(&declared.name) {
-            Some(number) => decl_of_name(scope, number),
-            None => 0,
-        },
-        None => 0,
-    }
-}
-
-// The number of the declaration in which the name of this number stands.
-fn decl_of_name(scope: &Scope, number: usize) -> usize
-    ensures { result ≡ option_map_or (λ body. body.place.decl) (slice_get scope.now number) 0 }
-{
-    match scope.names().get(number) {
-        Some(body) => body.place.decl,
-        None => 0,
     }
 }
 
@@ -128,16 +96,6 @@ fn building_above(
     let number = builtin_above(alloc, basis, entry)?;
     let line = building_line(alloc, basis, entry)?;
     behind_all(alloc, number, line.as_slice())
-}
-
-/// Whether the class has a constructor, as each built-in one has.
-pub fn is_building(basis: &Basis<'_>, class: Meaning) -> bool
-    ensures { result ≡ is_building (facts_of basis.now) class }
-{
-    match class {
-        Meaning::BuiltIn(_) => true,
-        Meaning::Entry(entry) => builds(basis.types.scope, basis.decls, entry),
-    }
 }
 
 fn alone(alloc: Global, class: Meaning) -> Result<Vec<Meaning>, AllocError>

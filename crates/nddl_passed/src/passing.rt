@@ -1,29 +1,28 @@
 //! Which constructors run where an object is made, and which values each of them is passed.
 
-ghost use Rattle.std.specs.Prelude.{◌≡◌, ◌++◌, IfOk, OnOk, Some};
-ghost use Rattle.std.specs.Option.{option_copied};
+ghost use Rattle.std.specs.Prelude.{◌≡◌, ◌++◌, IfOk, None, OnOk, Some};
+ghost use Rattle.std.specs.Option.{option_copied, option_map_or};
 ghost use Rattle.nddl_scope.specs.Finding.{earliest_fault};
 ghost use Rattle.nddl_lines.specs.Facts.{facts_of};
+ghost use Rattle.nddl_data.specs.Reading.{settled_data};
 ghost use Rattle.nddl_data.specs.Scene.{grounds_of, scenery_of};
-ghost use Rattle.nddl_passed.specs.Passing.{constructor_scene, data_above, handed_arguments, handed_data, has_foreign_from, has_late_super, has_super, is_foreign_formal, is_super, is_wrong_super, passed_above, passed_down, passed_from, passed_here, passing_faults, read_faults, silent_arguments, super_arguments, super_data, wants_above};
+ghost use Rattle.nddl_passed.specs.Builders.{AreBuilders, IsBuilderAt};
+ghost use Rattle.nddl_passed.specs.Passing.{constructor_scene, data_above, has_foreign_from, is_foreign_formal, passed_above, passed_down, passed_from, passed_here, passing_faults, read_faults, super_data};
 
-use super::classes::{
-    body_decl, building_up, constructor_at, constructor_formals, constructor_sets, is_building,
-};
+use super::builders::{Builder, Builders};
+use super::classes::{building_up, constructor_formals, constructor_sets};
+use super::handing::super_arguments;
 use eu_name::sequence::Sequence;
 use nddl_ast::TextKind;
-use nddl_ast::declaration::{Member, Set, Typed};
+use nddl_ast::declaration::Typed;
 use nddl_ast::expression::Expr;
-use nddl_data::passed_nddl_constructors::{formals_seen, meaning_wants};
 use nddl_data::reading::{datum_at, note_all_unmade, settled_data};
 use nddl_data::{Datum, Ground, MadeObject, Scene, is_foreign_datum};
 use nddl_joined::Place;
 use nddl_lines::Basis;
-use nddl_lines::lines::above;
 use nddl_scope::fault::note_at;
 use nddl_scope::twice::kind_if;
 use nddl_scope::{Fault, Meaning};
-use nddl_sorts::TypeKind;
 use nddl_sorts::base::base_kind;
 use std::alloc::{AllocError, Global};
 
@@ -34,99 +33,20 @@ pub struct Passed {
     pub values: Sequence<Option<Datum>>,
 }
 
-fn is_super(set: &Set) -> bool
-    ensures { result ≡ is_super set.now }
-{
-    match set {
-        Set::Super { .. } => true,
-        Set::Field { .. } => false,
-    }
-}
-
-fn has_super(body: &[Set]) -> bool
-    ensures { result ≡ has_super body.now }
-{
-    for set in body {
-        if is_super(set) {
-            return true;
-        }
-    }
-    false
-}
-
-// Whether there is one behind the first part of the body.
-fn has_late_super(body: &[Set]) -> bool
-    ensures { result ≡ has_late_super body.now }
-{
-    match body {
-        [] => false,
-        [_, more @ ..] => has_super(more),
-    }
-}
-
-// Nothing is handed up where there is no `super`.
-fn silent_arguments(body: &[Set]) -> Option<&[Expr]>
-    ensures { option_copied result ≡ silent_arguments body.now }
-{
-    if has_super(body) { None } else { Some(&[]) }
-}
-
-// The arguments that a body hands to what the class extends.
-fn super_arguments(body: &[Set]) -> Option<&[Expr]>
-    ensures { option_copied result ≡ super_arguments body.now }
-{
-    match body {
-        [] => Some(&[]),
-        [Set::Super { arguments, .. }, ..] => Some(arguments.as_slice()),
-        [Set::Field { .. }, more @ ..] => silent_arguments(more),
-    }
-}
-
-// The same, if they are as many as are wanted.
-fn handed_arguments<'a>(wants: &[Option<TypeKind>], body: &'a [Set]) -> Option<&'a [Expr]>
-    ensures { option_copied result ≡ handed_arguments wants.now body.now }
-{
-    let arguments = super_arguments(body)?;
-    if wants.len() == arguments.len() {
-        Some(arguments)
-    } else {
-        None
-    }
-}
-
-// Whether `super` isn't as it should be.
-fn is_wrong_super(wants: &[Option<TypeKind>], body: &[Set]) -> bool
-    ensures { result ≡ is_wrong_super wants.now body.now }
-{
-    handed_arguments(wants, body).is_none() || has_late_super(body)
-}
-
-// The kinds of arguments that what the class of this number extends wants.
-fn wants_above(
-    alloc: Global,
-    basis: &Basis<'_>,
-    entry: usize,
-) -> Result<Vec<Option<TypeKind>>, AllocError>
-    ensures { IfOk result (λ wants. wants.items ≡ wants_above (facts_of basis.now) entry) }
-{
-    let parent = above(basis.types.scope, basis.decls, entry);
-    meaning_wants(alloc, basis, parent)
-}
-
-// What the arguments stand for that a body hands on.
+// What the arguments stand for that a constructor hands on.
 fn handed_data(
     alloc: Global,
     footing: &Ground<'_>,
     scene: &Scene<'_>,
     objects: &[MadeObject],
-    wants: &[Option<TypeKind>],
-    body: &[Set],
+    builder: &Builder<'_>,
 ) -> Result<Option<Sequence<Option<Datum>>>, AllocError>
-    ensures { IfOk result (λ found.
-        found ≡ handed_data (grounds_of footing.now) (scenery_of scene.now) objects.now wants.now body.now) }
+    ensures { IfOk result (λ found. found ≡ option_map_or (λ arguments. Some (settled_data (grounds_of footing.now)
+        (scenery_of scene.now) objects.now builder.now.wants.items 0 arguments)) (option_copied builder.now.handed) None) }
 {
-    match handed_arguments(wants, body) {
+    match builder.handed {
         Some(arguments) => {
+            let wants = builder.wants.as_slice();
             let found = settled_data(alloc, footing, scene, objects, wants, arguments)?;
             Ok(Some(Sequence::from_vec(found)))
         }
@@ -141,17 +61,14 @@ fn super_data(
     objects: &[MadeObject],
     entry: usize,
     values: &[Option<Datum>],
-    constructor: &Member,
+    builder: &Builder<'_>,
 ) -> Result<Option<Sequence<Option<Datum>>>, AllocError>
+    requires { IsBuilderAt (facts_of footing.now.basis) entry (Some builder.now) }
     ensures { IfOk result (λ found.
-        found ≡ super_data (grounds_of footing.now) objects.now entry values.now constructor.now) }
+        found ≡ super_data (grounds_of footing.now) objects.now entry values.now builder.now.constructor.now) }
 {
-    let basis = &footing.basis;
-    let wants = wants_above(alloc, basis, entry)?;
-    let formals = formals_seen(alloc, basis, constructor_formals(constructor))?;
-    let scene = Scene::in_body(body_decl(basis.types.scope, entry), &formals, values);
-    let body = constructor_sets(constructor);
-    handed_data(alloc, footing, &scene, objects, wants.as_slice(), body)
+    let scene = Scene::in_body(builder.decl, &builder.formals, values);
+    handed_data(alloc, footing, &scene, objects, builder)
 }
 
 fn copied(alloc: Global, values: &[Option<Datum>]) -> Result<Sequence<Option<Datum>>, AllocError>
@@ -168,28 +85,20 @@ fn copied(alloc: Global, values: &[Option<Datum>]) -> Result<Sequence<Option<Dat
 fn data_above(
     alloc: Global,
     footing: &Ground<'_>,
+    builders: &Builders<'_>,
     objects: &[MadeObject],
     values: &[Option<Datum>],
     class: Meaning,
 ) -> Result<Option<Sequence<Option<Datum>>>, AllocError>
+    requires { AreBuilders (facts_of footing.now.basis) builders.now }
     ensures { IfOk result (λ found. found ≡ data_above (grounds_of footing.now) objects.now values.now class) }
 {
     match class {
         Meaning::BuiltIn(_) => Ok(None),
-        Meaning::Entry(entry) => {
-            let basis = &footing.basis;
-            match constructor_at(basis.types.scope, basis.decls, entry) {
-                Some(constructor) => super_data(
-                    alloc,
-                    footing,
-                    objects,
-                    entry,
-                    values,
-                    constructor,
-                ),
-                None => Ok(Some(copied(alloc, values)?)),
-            }
-        }
+        Meaning::Entry(entry) => match builders.find(entry) {
+            Some(builder) => super_data(alloc, footing, objects, entry, values, builder),
+            None => Ok(Some(copied(alloc, values)?)),
+        },
     }
 }
 
@@ -197,14 +106,16 @@ fn data_above(
 fn passed_above(
     alloc: Global,
     footing: &Ground<'_>,
+    builders: &Builders<'_>,
     objects: &[MadeObject],
     class: Meaning,
     values: &Option<Sequence<Option<Datum>>>,
 ) -> Result<Option<Sequence<Option<Datum>>>, AllocError>
+    requires { AreBuilders (facts_of footing.now.basis) builders.now }
     ensures { IfOk result (λ found. found ≡ passed_above (grounds_of footing.now) objects.now class values.now) }
 {
     match values {
-        Some(values) => data_above(alloc, footing, objects, values.as_slice(), class),
+        Some(values) => data_above(alloc, footing, builders, objects, values.as_slice(), class),
         None => Ok(None),
     }
 }
@@ -212,14 +123,16 @@ fn passed_above(
 // Puts the class with what it is passed at the end, if it has a constructor and is passed anything.
 fn push_passed(
     basis: &Basis<'_>,
+    builders: &Builders<'_>,
     class: Meaning,
     values: Option<Sequence<Option<Datum>>>,
     found: &mut Vec<Passed>,
 ) -> Result<(), AllocError>
+    requires { AreBuilders (facts_of basis.now) builders.now }
     ensures { OnOk result (found.new.items ≡ found.old.items ++ passed_here (facts_of basis.now) class values) }
 {
     match values {
-        Some(values) => push_building(basis, class, values, found),
+        Some(values) => push_building(basis, builders, class, values, found),
         None => Ok(()),
     }
 }
@@ -227,13 +140,15 @@ fn push_passed(
 // The same, where it is passed these values.
 fn push_building(
     basis: &Basis<'_>,
+    builders: &Builders<'_>,
     class: Meaning,
     values: Sequence<Option<Datum>>,
     found: &mut Vec<Passed>,
 ) -> Result<(), AllocError>
+    requires { AreBuilders (facts_of basis.now) builders.now }
     ensures { OnOk result (found.new.items ≡ found.old.items ++ passed_here (facts_of basis.now) class (Some values)) }
 {
-    if is_building(basis, class) {
+    if builders.is_building(basis, class) {
         found.push(Passed { class, values })?;
     }
     Ok(())
@@ -244,18 +159,20 @@ fn push_building(
 fn passed_from(
     alloc: Global,
     footing: &Ground<'_>,
+    builders: &Builders<'_>,
     objects: &[MadeObject],
     line: &[Meaning],
     values: Sequence<Option<Datum>>,
 ) -> Result<Vec<Passed>, AllocError>
+    requires { AreBuilders (facts_of footing.now.basis) builders.now }
     ensures { IfOk result (λ found.
         found.items ≡ passed_from (grounds_of footing.now) objects.now line.now (Some values)) }
 {
     let mut found = Vec::new(alloc);
     let mut here = Some(values);
     for class in line {
-        let next = passed_above(alloc, footing, objects, *class, &here)?;
-        push_passed(&footing.basis, *class, here, &mut found)?;
+        let next = passed_above(alloc, footing, builders, objects, *class, &here)?;
+        push_passed(&footing.basis, builders, *class, here, &mut found)?;
         here = next;
     }
     Ok(found)
@@ -266,16 +183,18 @@ fn passed_from(
 pub fn passed_down(
     alloc: Global,
     footing: &Ground<'_>,
+    builders: &Builders<'_>,
     objects: &[MadeObject],
     class: Meaning,
     values: &[Option<Datum>],
 ) -> Result<Vec<Passed>, AllocError>
+    requires { AreBuilders (facts_of footing.now.basis) builders.now }
     ensures { IfOk result (λ found.
         found.items ≡ passed_down (grounds_of footing.now) objects.now class values.now) }
 {
     let line = building_up(alloc, &footing.basis, class)?;
     let values = copied(alloc, values)?;
-    let mut found = passed_from(alloc, footing, objects, line.as_slice(), values)?;
+    let mut found = passed_from(alloc, footing, builders, objects, line.as_slice(), values)?;
     found.reverse();
     Ok(found)
 }
@@ -330,7 +249,7 @@ fn note_read(
     }
 }
 
-/// Notes all that is wrong with what a constructor of the class of this number is passed, and with what it hands on. In its
+/// Notes all that is wrong with what the constructor of the class of this number is passed, and with what it hands on. In its
 /// scene the values are known that it is passed. The object is made by the `new` before the name at the place.
 #[tactic(auto, using(nddl_scope::proofs::Earliest::earliest_append))]
 pub fn note_passing(
@@ -340,15 +259,16 @@ pub fn note_passing(
     objects: &[MadeObject],
     place: Place,
     entry: usize,
-    constructor: &Member,
+    builder: &Builder<'_>,
     first: &mut Option<Fault>,
 ) -> Result<(), AllocError>
-    requires { scenery_of scene.now ≡ constructor_scene (facts_of footing.now.basis) entry constructor.now scene.now.values.now }
+    requires builder { IsBuilderAt (facts_of footing.now.basis) entry (Some builder.now) }
+    requires scene { scenery_of scene.now
+        ≡ constructor_scene (facts_of footing.now.basis) entry builder.now.constructor.now scene.now.values.now }
     ensures { OnOk result (first.new ≡ earliest_fault first.old
-        (passing_faults (grounds_of footing.now) objects.now place entry scene.now.values.now constructor.now)) }
+        (passing_faults (grounds_of footing.now) objects.now place entry scene.now.values.now builder.now.constructor.now)) }
 {
-    let formals = constructor_formals(constructor);
-    let body = constructor_sets(constructor);
+    let formals = constructor_formals(builder.constructor);
     let is_foreign = has_foreign(alloc, footing, objects, scene.values, formals)?;
     note_at(
         first,
@@ -356,14 +276,13 @@ pub fn note_passing(
         place.at,
         kind_if(is_foreign, TextKind::NotInDomain),
     );
-    let wants = wants_above(alloc, &footing.basis, entry)?;
-    let is_wrong = is_wrong_super(wants.as_slice(), body);
     note_at(
         first,
         place.decl,
         place.at,
-        kind_if(is_wrong, TextKind::WrongCount),
+        kind_if(builder.is_wrong(), TextKind::WrongCount),
     );
+    let body = constructor_sets(builder.constructor);
     note_read(footing, scene, super_arguments(body), first);
     Ok(())
 }

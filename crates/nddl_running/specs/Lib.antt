@@ -5,4 +5,5 @@ pub mod Made
 pub mod nddl_constructors
 pub mod nddl_data
 pub mod nddl_field_types
+pub mod nddl_passed
 pub mod nddl_schema

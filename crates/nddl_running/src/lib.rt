@@ -8,9 +8,10 @@ pub mod making;
 pub mod passed_nddl_constructors;
 pub mod passed_nddl_data;
 pub mod passed_nddl_field_types;
+pub mod passed_nddl_passed;
 pub mod passed_nddl_schema;
 pub mod running;
 
-pub use blueprint::Blueprint;
+pub use blueprint::{Blueprint, Groundwork};
 pub use making::{Making, Request};
 pub use running::make_new;

@@ -1,9 +1,10 @@
 //! What a `new` makes: the object, and those that its constructors make in turn.
 
-ghost use Rattle.std.specs.Prelude.{◌≡◌, [], None, IfOk, OnOk};
+ghost use Rattle.std.specs.Prelude.{◌≡◌, [], None, IfOk, OnOk, Some};
 ghost use Rattle.std.specs.Option.{option_map_or};
 ghost use Rattle.nddl_lines.specs.Facts.{facts_of};
 ghost use Rattle.nddl_field_types.specs.nddl_data.Scene.{scenery_of};
+ghost use Rattle.nddl_passed.specs.Builders.{IsBuilderAt};
 ghost use Rattle.nddl_passed.specs.Passing.{constructor_scene, passing_faults};
 ghost use Rattle.nddl_running.specs.Blueprints.{grounds_in};
 ghost use Rattle.nddl_running.specs.Construction.{asked_of, construction_of, noted, subject_of};
@@ -14,20 +15,18 @@ use super::finished::note_finished;
 use super::making::{Making, Request, Subject};
 use eu_name::text::Text;
 use nddl_ast::TextKind;
-use nddl_ast::declaration::{Member, Set};
+use nddl_ast::declaration::Set;
 use nddl_ast::expression::{Creation, Expr, Init};
 use nddl_ast::name::Name;
 use nddl_field_types::is_outside_field;
-use nddl_field_types::passed_nddl_constructors::{
-    class_wants, field_in_line, field_kind, formals_seen,
-};
+use nddl_field_types::passed_nddl_constructors::{class_wants, field_in_line, field_kind};
 use nddl_field_types::passed_nddl_data::{
     Datum, MadeObject, Scene, SetFields, datum_at, note_all_unmade, note_unmade, settled_data,
     settled_datum,
 };
 use nddl_joined::Place;
-use nddl_passed::classes::{body_decl, constructor_formals, constructor_sets};
-use nddl_passed::{Passed, adding_up, constructor_at, made_class, note_passing, passed_down};
+use nddl_passed::classes::constructor_sets;
+use nddl_passed::{Builder, Passed, adding_up, made_class, note_passing, passed_down};
 use nddl_scope::Meaning;
 use nddl_scope::fault::note_at;
 use nddl_scope::twice::kind_if;
@@ -303,6 +302,7 @@ fn run_object(
     let passed = passed_down(
         alloc,
         &blueprint.footing,
+        blueprint.builders,
         making.objects.as_slice(),
         request.class,
         request.values,
@@ -354,25 +354,12 @@ fn run_class(
 {
     match class {
         Meaning::BuiltIn(number) => run_builtin(alloc, subject, number, values, making),
-        Meaning::Entry(entry) => {
-            match constructor_at(
-                blueprint.footing.basis.types.scope,
-                blueprint.footing.basis.decls,
-                entry,
-            ) {
-                Some(constructor) => run_body(
-                    alloc,
-                    blueprint,
-                    subject,
-                    entry,
-                    values,
-                    constructor,
-                    levels,
-                    making,
-                ),
-                None => Ok(()),
-            }
-        }
+        Meaning::Entry(entry) => match blueprint.builders.find(entry) {
+            Some(builder) => run_body(
+                alloc, blueprint, subject, entry, values, builder, levels, making,
+            ),
+            None => Ok(()),
+        },
     }
 }
 
@@ -384,25 +371,18 @@ fn run_body(
     subject: &Subject<'_>,
     entry: usize,
     values: &[Option<Datum>],
-    constructor: &Member,
+    builder: &Builder<'_>,
     levels: usize,
     making: &mut Making,
 ) -> Result<(), AllocError>
+    requires { IsBuilderAt (facts_of blueprint.now.footing.basis) entry (Some builder.now) }
     ensures { OnOk result (construction_of making.new ≡ body_run (made_by levels (grounds_in blueprint.now)) levels
-        (grounds_in blueprint.now) (subject_of subject.now) entry values.now constructor.now (construction_of making.old)) }
+        (grounds_in blueprint.now) (subject_of subject.now) entry values.now builder.now.constructor.now
+        (construction_of making.old)) }
 {
-    let basis = &blueprint.footing.basis;
-    let formals = formals_seen(alloc, basis, constructor_formals(constructor))?;
-    let scene = Scene::in_body(body_decl(basis.types.scope, entry), &formals, values);
+    let scene = Scene::in_body(builder.decl, &builder.formals, values);
     run_scene(
-        alloc,
-        blueprint,
-        &scene,
-        subject,
-        entry,
-        constructor,
-        levels,
-        making,
+        alloc, blueprint, &scene, subject, entry, builder, levels, making,
     )
 }
 
@@ -414,23 +394,25 @@ fn run_scene(
     scene: &Scene<'_>,
     subject: &Subject<'_>,
     entry: usize,
-    constructor: &Member,
+    builder: &Builder<'_>,
     levels: usize,
     making: &mut Making,
 ) -> Result<(), AllocError>
-    requires { scenery_of scene.now ≡ constructor_scene (facts_of blueprint.now.footing.basis) entry constructor.now scene.now.values.now }
+    requires builder { IsBuilderAt (facts_of blueprint.now.footing.basis) entry (Some builder.now) }
+    requires scene { scenery_of scene.now ≡ constructor_scene (facts_of blueprint.now.footing.basis) entry
+        builder.now.constructor.now scene.now.values.now }
     ensures { OnOk result (construction_of making.new ≡ body_run (made_by levels (grounds_in blueprint.now)) levels
-        (grounds_in blueprint.now) (subject_of subject.now) entry scene.now.values.now constructor.now
+        (grounds_in blueprint.now) (subject_of subject.now) entry scene.now.values.now builder.now.constructor.now
         (construction_of making.old)) }
 {
-    note_passed(alloc, blueprint, scene, subject, entry, constructor, making)?;
+    note_passed(alloc, blueprint, scene, subject, entry, builder, making)?;
     run_parts(
         alloc,
         blueprint,
         scene,
         subject,
         entry,
-        constructor_sets(constructor),
+        constructor_sets(builder.constructor),
         levels,
         making,
     )
@@ -443,13 +425,15 @@ fn note_passed(
     scene: &Scene<'_>,
     subject: &Subject<'_>,
     entry: usize,
-    constructor: &Member,
+    builder: &Builder<'_>,
     making: &mut Making,
 ) -> Result<(), AllocError>
-    requires { scenery_of scene.now ≡ constructor_scene (facts_of blueprint.now.footing.basis) entry constructor.now scene.now.values.now }
+    requires builder { IsBuilderAt (facts_of blueprint.now.footing.basis) entry (Some builder.now) }
+    requires scene { scenery_of scene.now ≡ constructor_scene (facts_of blueprint.now.footing.basis) entry
+        builder.now.constructor.now scene.now.values.now }
     ensures { OnOk result (construction_of making.new ≡ noted (construction_of making.old)
         (passing_faults (grounds_in blueprint.now) (construction_of making.old).objects subject.now.place entry
-        scene.now.values.now constructor.now)) }
+        scene.now.values.now builder.now.constructor.now)) }
 {
     note_passing(
         alloc,
@@ -458,7 +442,7 @@ fn note_passed(
         making.objects.as_slice(),
         subject.place,
         entry,
-        constructor,
+        builder,
         &mut making.first,
     )
 }

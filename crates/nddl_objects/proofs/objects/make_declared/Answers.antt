@@ -10,7 +10,7 @@ use Rattle.nddl_objects.proofs.objects.make_declared.Goals as goal
 
 pub returns-clause-made : goal.returns-clause-made
 returns-clause-made c =
-    let facts = facts_of c.args.basis.now in
+    let facts = facts_of c.args.groundwork.now.basis in
     let grounds : Grounds = record { facts = facts; standing = c.args.standing.now } in
     placed (made_by most_levels grounds) grounds (scenery_of c.scene_of.result) (bare_scene c.args.decl)
     c.args.variable.now.name.text c.entry-entry.result (named_number false facts.names c.args.variable.now.name.text)

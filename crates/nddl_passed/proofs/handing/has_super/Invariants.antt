@@ -1,6 +1,6 @@
 use Rattle.std.proofs.Common.{◌≡◌, drop}
 use Rattle.nddl_passed.specs.Passing.{has_super}
-use Rattle.nddl_passed.proofs.passing.has_super.Given as goal
+use Rattle.nddl_passed.proofs.handing.has_super.Given as goal
 
 -- one of those that are left is one of all
 abbrev pub invariant-loop-set : goal.invariant-loop-set

@@ -1,0 +1,2 @@
+-- What is passed on of nddl_passed.
+pub use Rattle.nddl_passed.specs.Builders
