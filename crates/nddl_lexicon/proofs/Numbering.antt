@@ -1,12 +1,15 @@
 -- The typedefs among the names so far, with one name more.
-use Rattle.std.proofs.Common.{◌≡◌, ℕ, zero, suc, ◌+◌, List, [], ◌∷◌, ◌++◌, length, ◌⊎◌, inl, inr, refl, sym, ◌∙◌, ap, arith}
-use Rattle.std.specs.Prelude.{Option, Some, None, Result, Ok, Err, IfSome, OnOk, slice_get}
-use Rattle.std.specs.Option.{option_and_then, option_map}
+use Rattle.std.proofs.Common.{◌≡◌, ℕ, zero, suc, ◌+◌, false, List, [], ◌∷◌, ◌++◌, length, ◌⊎◌, inl, inr, refl, sym, ◌∙◌, ap, arith}
+use Rattle.std.specs.Prelude.{Option, Some, None, Result, Ok, Err, IfSome, OnOk, slice_get, if◌then◌else◌}
+use Rattle.std.specs.Option.{option_map}
 use Rattle.std.proofs.lemmas.List.{append-nil, length-append}
 use Rattle.std.proofs.lemmas.Option.{same_Some}
+use Rattle.nddl_scope.specs.declared.declared.Declared.{Declared}
 use Rattle.nddl_sorts.specs.declared.kind.TypeMeaning.{TypeMeaning}
 use Rattle.nddl_sorts.specs.Bases.{typedef_meaning}
+use Rattle.nddl_schema.specs.Classes.{is_first}
 use Rattle.nddl_terms.specs.declared.lexicon.Shape.{Shape}
+use Rattle.nddl_lexicon.specs.Lexicons.{sort_shape, type_if_first}
 use Rattle.nddl_lexicon.specs.Shapes.{World, shape_with}
 use Rattle.nddl_lexicon.specs.Sharing.{Adds, AreNumbered, IsAlike, typedef_shape}
 
@@ -40,9 +43,9 @@ adds world entry more old new numbers all found so_far is are here = record {
   types = is;
   numbered = record {
     count = (let long : length all ≡ length (numbers ++ found ∷ []) = ap length are in
-      let joined : length (numbers ++ found ∷ []) ≡ length numbers + 1 = length-append numbers (found ∷ []) in
-      let count = so_far.count in
-      omega (arith, long, joined, count));
+        let joined : length (numbers ++ found ∷ []) ≡ length numbers + 1 = length-append numbers (found ∷ []) in
+        let count = so_far.count in
+        omega (arith, long, joined, count));
     each = λ other number at. elim (at_more numbers found (Some number) other (ap (λ some. slice_get some other) (sym are) ∙ at)) [
       | inl before ↦ ap (λ some. slice_get some number) is ∙ behind old more number (typedef_shape world other) (so_far.each other number before)
       | inr last ↦ here number last.1 ∙ ap (λ e. Some (typedef_shape world e)) (sym (last.0 ∙ so_far.count))
@@ -58,10 +61,12 @@ adds_none world entry more old new numbers all (Ok x) so_far is are =
     adds world entry more old new numbers all None so_far is are (λ number e. absurd (cc))
 
 -- that is declared under a name which has come already
-pub adds_nothing : {A E : Type 0} (world : World) (entry : ℕ) (old : List (Option Shape)) (numbers all : List (Option ℕ)) (done : Result A E)
-    → AreNumbered world entry old numbers → OnOk done (all ≡ numbers ++ None ∷ []) → OnOk done (Adds world entry [] old old all)
-adds_nothing world entry old numbers all done so_far are =
-    adds_none world entry [] old old numbers all done so_far (sym (append-nil old)) are
+pub adds_nothing : {A E : Type 0} (world : World) (entry : ℕ) (declared : Declared) (old : List (Option Shape)) (numbers all : List (Option ℕ))
+    (done : Result A E) → is_first world.facts.names entry declared ≡ false → AreNumbered world entry old numbers
+    → OnOk done (all ≡ numbers ++ None ∷ []) → OnOk done (Adds world entry (type_if_first world entry declared) old old all)
+adds_nothing world entry declared old numbers all done later so_far are =
+    adds_none world entry (type_if_first world entry declared) old old numbers all done so_far
+    (sym (append-nil old) ∙ ap (λ first. old ++ (if first then sort_shape world entry declared.sort ∷ [] else [])) (sym later)) are
 
 -- that is a typedef and means this
 pub adds_known : {A E : Type 0} (world : World) (entry number : ℕ) (meaning : TypeMeaning) (old new : List (Option Shape)) (numbers all : List (Option ℕ))

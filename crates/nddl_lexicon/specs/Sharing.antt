@@ -16,8 +16,8 @@ IsAlike known numbers meaning number =
     (entry : ℕ) × (slice_get numbers entry ≡ Some (Some number)) × (typedef_meaning known entry ≡ Some meaning)
 
 -- Of so many names, those that have a number are typedefs, and what a variable of one may be has this number.
-pub record AreNumbered (world : World) (count : ℕ) (types : List (Option Shape)) (numbers : List (Option ℕ)) : Type 0 where
-  pub count : length numbers ≡ count
+pub record AreNumbered (world : World) (many : ℕ) (types : List (Option Shape)) (numbers : List (Option ℕ)) : Type 0 where
+  pub count : length numbers ≡ many
   pub each : (entry number : ℕ) → slice_get numbers entry ≡ Some (Some number)
       → slice_get types number ≡ Some (typedef_shape world entry)
 
