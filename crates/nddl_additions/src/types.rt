@@ -78,9 +78,9 @@ fn copy_shape(shape: &Shape) -> Result<Shape, AllocError>
 fn file_shape(alloc: Global, lexicon: &Lexicon, place: u32) -> Result<Shape, AllocError>
     ensures { IfOk result (λ shape. shape ≡ file_shape lexicon.now place) }
 {
-    match lexicon.types.as_slice().get(place as usize) {
-        Some(Some(shape)) => copy_shape(shape),
-        _ => stand_shape(alloc, lexicon, file_stand(lexicon, place)),
+    match lexicon.types.named(place as usize) {
+        Some(shape) => copy_shape(shape),
+        None => stand_shape(alloc, lexicon, file_stand(lexicon, place)),
     }
 }
 

@@ -1,17 +1,18 @@
 //! The lexicon of a program.
 
-ghost use Rattle.std.specs.Prelude.{◌≡◌, [], IfOk, MatchResult, OnOk, Ok, Err};
+ghost use Rattle.std.specs.Prelude.{◌≡◌, [], IfOk, OnOk};
 ghost use Rattle.nddl_lexicon.specs.Lexicons.{lexicon_of, pred_shapes};
 ghost use Rattle.nddl_lexicon.specs.Shapes.{world_of};
 
 use super::classes::class_shapes;
+use super::ending::when;
 use super::names::scope_stands;
 use super::predicates::pred_shapes;
 use super::premises::Premises;
 use super::types::scope_types;
 use eu_name::sequence::Sequence;
 use nddl_terms::lexicon::Lexicon;
-use nddl_terms::{Populations, PredShapes};
+use nddl_terms::{Populations, PredShapes, TypeShapes};
 use std::alloc::{AllocError, Global};
 
 // A lexicon of nothing.
@@ -23,7 +24,7 @@ fn nothing(alloc: Global) -> Lexicon
         populations: Populations::new(Vec::new(alloc), Vec::new(alloc)),
         preds: PredShapes::new(alloc),
         scope: Sequence::new(alloc),
-        types: Sequence::new(alloc),
+        types: TypeShapes::new(alloc),
     }
 }
 
@@ -45,16 +46,6 @@ fn fill(alloc: Global, premises: &Premises<'_>, lexicon: &mut Lexicon) -> Result
     lexicon.populations = premises.by_class.copy(alloc)?;
     lexicon.types = scope_types(alloc, premises)?;
     Ok(())
-}
-
-// The value, if that is done.
-fn when<T: Drop>(done: Result<(), AllocError>, value: T) -> Result<T, AllocError>
-    ensures { MatchResult done (λ unit. result ≡ Ok value) (λ fault. result ≡ Err fault) }
-{
-    match done {
-        Ok(()) => Ok(value),
-        Err(fault) => Err(fault),
-    }
 }
 
 /// What is known of the program where its rules are unrolled.

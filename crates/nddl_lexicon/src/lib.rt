@@ -1,8 +1,10 @@
 //! What is known of a program where its rules are unrolled: `lexicon(alloc, &premises)?`, once its objects are made.
 #![tactic(auto)]
 
+pub mod alike;
 pub mod attributes;
 pub mod classes;
+pub mod ending;
 pub mod filling;
 pub mod listing;
 pub mod names;
@@ -11,6 +13,7 @@ pub mod passed_nddl_data;
 pub mod predicates;
 pub mod premises;
 pub mod shapes;
+pub mod typedefs;
 pub mod types;
 
 pub use filling::lexicon;

@@ -7,3 +7,4 @@ pub mod Populations
 pub mod Preds
 pub mod Readings
 pub mod Stands
+pub mod TypeShapes

@@ -7,6 +7,7 @@ use super::attributes::Attributes;
 use super::populations::Populations;
 use super::preds::PredShapes;
 use super::stands::Stand;
+use super::type_shapes::TypeShapes;
 use eu_name::name::Part;
 use eu_name::sequence::Sequence;
 use eu_name::text::Text;
@@ -53,7 +54,7 @@ pub struct Lexicon {
     pub preds: PredShapes,
     pub scope: Sequence<Stand>,
     /// What a variable may be whose type is the name; no name but those of enums and typedefs is one here.
-    pub types: Sequence<Option<Shape>>,
+    pub types: TypeShapes,
 }
 
 /// The number of the one of this name, which is looked for one after another: for a few, as the parameters of a predicate.

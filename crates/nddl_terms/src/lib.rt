@@ -11,6 +11,7 @@ pub mod paths;
 pub mod populations;
 pub mod preds;
 pub mod stands;
+pub mod type_shapes;
 
 pub use attributes::Attributes;
 pub use growth::Growth;
@@ -20,3 +21,4 @@ pub use paths::path_stand;
 pub use populations::Populations;
 pub use preds::PredShapes;
 pub use stands::{Made, Reading, Stand, TextPlaces};
+pub use type_shapes::TypeShapes;
