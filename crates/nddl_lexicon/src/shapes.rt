@@ -47,24 +47,6 @@ pub fn kind_class(premises: &Premises<'_>, kind: TypeKind) -> u32
     }
 }
 
-/// What a variable of a type of this kind and these values may be.
-pub fn shape_of(
-    alloc: Global,
-    premises: &Premises<'_>,
-    kind: TypeKind,
-    extent: &Extent,
-) -> Result<Shape, AllocError>
-    ensures { IfOk result (λ shape. shape
-        ≡ shape_with (world_of premises.now) (record { kind = kind; extent = extent.now })) }
-{
-    let base = kind_base(alloc, premises, kind, extent)?;
-    Ok(Shape {
-        kind: value_kind(kind),
-        base,
-        class: kind_class(premises, kind),
-    })
-}
-
 /// What a variable of a type may be that means this.
 pub fn shape_with(
     alloc: Global,
@@ -73,5 +55,10 @@ pub fn shape_with(
 ) -> Result<Shape, AllocError>
     ensures { IfOk result (λ shape. shape ≡ shape_with (world_of premises.now) meaning.now) }
 {
-    shape_of(alloc, premises, meaning.kind, &meaning.extent)
+    let base = kind_base(alloc, premises, meaning.kind, &meaning.extent)?;
+    Ok(Shape {
+        kind: value_kind(meaning.kind),
+        base,
+        class: kind_class(premises, meaning.kind),
+    })
 }

@@ -11,11 +11,11 @@ ghost use Rattle.nddl_lexicon.specs.Sharing.{Adds, AreNumbered, typedef_shape};
 
 use super::ending::when;
 use super::premises::Premises;
-use super::shapes::{shape_of, shape_with};
+use super::shapes::shape_with;
 use super::typedefs::Typedefs;
 use nddl_schema::numbers::is_first;
 use nddl_scope::{Declared, Sort};
-use nddl_sorts::{TypeKind, TypeMeaning};
+use nddl_sorts::{Extent, TypeKind, TypeMeaning};
 use nddl_terms::TypeShapes;
 use nddl_terms::lexicon::Shape;
 use std::alloc::{AllocError, Global};
@@ -25,12 +25,11 @@ fn enum_shape(alloc: Global, premises: &Premises<'_>, number: u32) -> Result<Sha
     ensures { IfOk result (λ shape. shape
         ≡ shape_with (world_of premises.now) (record { kind = kinds.Enum number; extent = extents.Whole })) }
 {
-    shape_of(
-        alloc,
-        premises,
-        TypeKind::Enum(number),
-        premises.sources.basis.types.whole,
-    )
+    let meaning = TypeMeaning {
+        kind: TypeKind::Enum(number),
+        extent: Extent::Whole,
+    };
+    shape_with(alloc, premises, &meaning)
 }
 
 // Puts what a variable may be whose type means this behind the others. If one of the same meaning has this number, the two
