@@ -5,6 +5,7 @@ ghost use Rattle.std.specs.List.{filter_map, flat_map};
 ghost use Rattle.nddl_schema.specs.Classes.{given_fields};
 ghost use Rattle.nddl_lexicon.specs.Shapes.{attribute_with, attributes_at, entry_attributes, member_attribute, number_attribute, part_attribute, typed_attribute, world_of};
 
+use super::ending::{both, when};
 use super::premises::Premises;
 use super::shapes::shape_with;
 use eu_name::sequence::Sequence;
@@ -29,11 +30,9 @@ fn attribute_with(
 ) -> Result<Attribute, AllocError>
     ensures { IfOk result (λ attribute. attribute ≡ attribute_with (world_of premises.now) typed.now meaning.now) }
 {
-    let shape = shape_with(alloc, premises, meaning)?;
-    Ok(Attribute {
-        name: typed.name.text.copy()?,
-        shape,
-    })
+    let name = typed.name.text.copy();
+    let (name, shape) = both(name, shape_with(alloc, premises, meaning))?;
+    Ok(Attribute { name, shape })
 }
 
 // What is declared, if nothing is wrong with its type.
@@ -149,8 +148,8 @@ pub fn number_attributes(
     ensures { IfOk result (λ fields. fields ≡ map number_attribute variables.now) }
 {
     let mut fields = Sequence::new(alloc);
-    push_number_attributes(variables, &mut fields)?;
-    Ok(fields)
+    let done = push_number_attributes(variables, &mut fields);
+    when(done, fields)
 }
 
 /// Puts the fields of what is extended at the end, if it is a built-in class.

@@ -6,6 +6,7 @@ ghost use Rattle.nddl_lexicon.specs.Lexicons.{builtin_shapes, class_attributes, 
 ghost use Rattle.nddl_lexicon.specs.Shapes.{number_attribute, world_of};
 
 use super::attributes::{entry_attributes, push_given_attributes};
+use super::ending::when;
 use super::premises::Premises;
 use eu_name::sequence::Sequence;
 use nddl_scope::Meaning;
@@ -32,8 +33,8 @@ fn builtin_attributes(alloc: Global, class: Meaning) -> Result<Sequence<Attribut
     ensures { IfOk result (λ fields. fields ≡ map number_attribute (given_fields (Some class))) }
 {
     let mut fields = Sequence::new(alloc);
-    push_given_attributes(alloc, Some(class), &mut fields)?;
-    Ok(fields)
+    let done = push_given_attributes(alloc, Some(class), &mut fields);
+    when(done, fields)
 }
 
 // What is known of the class.

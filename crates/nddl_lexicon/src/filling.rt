@@ -5,7 +5,7 @@ ghost use Rattle.nddl_lexicon.specs.Lexicons.{lexicon_of, pred_shapes};
 ghost use Rattle.nddl_lexicon.specs.Shapes.{world_of};
 
 use super::classes::class_shapes;
-use super::ending::when;
+use super::ending::{put, when};
 use super::names::scope_stands;
 use super::predicates::pred_shapes;
 use super::premises::Premises;
@@ -40,12 +40,11 @@ fn indexed_preds(alloc: Global, premises: &Premises<'_>) -> Result<PredShapes, A
 fn fill(alloc: Global, premises: &Premises<'_>, lexicon: &mut Lexicon) -> Result<(), AllocError>
     ensures { OnOk result (lexicon.new ≡ lexicon_of (world_of premises.now)) }
 {
-    lexicon.preds = indexed_preds(alloc, premises)?;
-    lexicon.scope = scope_stands(alloc, premises, &*lexicon)?;
-    lexicon.classes = class_shapes(alloc, premises)?;
-    lexicon.populations = premises.by_class.copy(alloc)?;
-    lexicon.types = scope_types(alloc, premises)?;
-    Ok(())
+    put(indexed_preds(alloc, premises), &mut lexicon.preds)?;
+    put(scope_stands(alloc, premises, &*lexicon), &mut lexicon.scope)?;
+    put(class_shapes(alloc, premises), &mut lexicon.classes)?;
+    put(premises.by_class.copy(alloc), &mut lexicon.populations)?;
+    put(scope_types(alloc, premises), &mut lexicon.types)
 }
 
 /// What is known of the program where its rules are unrolled.

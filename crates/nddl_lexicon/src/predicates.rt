@@ -7,6 +7,7 @@ ghost use Rattle.nddl_lexicon.specs.Lexicons.{builtin_pred_shapes, entry_pred_sh
 ghost use Rattle.nddl_lexicon.specs.Shapes.{part_attribute, world_of};
 
 use super::attributes::{number_attributes, part_attributes};
+use super::ending::both;
 use super::premises::Premises;
 use eu_name::sequence::Sequence;
 use model_core::class::Pred;
@@ -25,8 +26,8 @@ use std::alloc::{AllocError, Global};
 fn given_shape(alloc: Global, pred: &Pred) -> Result<PredShape, AllocError>
     ensures { IfOk result (λ shape. shape ≡ given_shape pred.now) }
 {
-    let name = pred.name.copy()?;
-    let params = number_attributes(alloc, pred.params.as_slice())?;
+    let name = pred.name.copy();
+    let (name, params) = both(name, number_attributes(alloc, pred.params.as_slice()))?;
     Ok(PredShape {
         class: pred.class,
         name,
@@ -86,8 +87,8 @@ fn shape_with_parts(
       params = filter_map (part_attribute (world_of premises.now)) parts.now;
     }) }
 {
-    let name = name.text.copy()?;
-    let params = part_attributes(alloc, premises, parts)?;
+    let name = name.text.copy();
+    let (name, params) = both(name, part_attributes(alloc, premises, parts))?;
     Ok(PredShape {
         class,
         name,

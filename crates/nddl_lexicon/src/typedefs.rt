@@ -9,12 +9,12 @@ use nddl_lines::Basis;
 use nddl_sorts::TypeMeaning;
 use std::alloc::{AllocError, Global};
 
-/// The first names of the files, so many.
+/// What is known of the typedefs among the names so far.
 #[derive(Drop)]
 pub struct Typedefs {
-    /// Of each that is a typedef and means something, where it stands among the names that are kept.
+    /// The number of each name among those that types are kept for, if it is a typedef that means something.
     pub numbers: Vec<Option<usize>>,
-    /// The last of these that means something else than those with which it was compared. It is only a hint.
+    /// The last typedef that shares with none before it. It is a hint: what it means is looked at.
     pub last: usize,
 }
 
@@ -37,7 +37,7 @@ impl Typedefs {
         Ok(())
     }
 
-    /// One more name, which is a typedef of this number.
+    /// One more name, which is a typedef of this number, and may share with one before it.
     pub fn push(&mut self, number: usize, shares: bool) -> Result<(), AllocError>
         ensures { OnOk result (self.new.numbers.items ≡ self.old.numbers.items ++ Some number ∷ []) }
     {
@@ -48,7 +48,8 @@ impl Typedefs {
         Ok(())
     }
 
-    /// The number of a typedef that means this, which this one may be known to share. That each is found isn't promised.
+    /// The number of a typedef before this one that means this: of the one under which it stands, or else of the last that
+    /// shares with none. That one is found wherever there is one isn't promised.
     pub fn alike(&self, basis: &Basis<'_>, entry: usize, meaning: &TypeMeaning) -> Option<usize>
         ensures { IfSome result (IsAlike basis.now.types.known.now self.now.numbers.items meaning.now) }
     {
