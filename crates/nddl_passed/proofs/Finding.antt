@@ -6,19 +6,25 @@ use Rattle.std.proofs.lemmas.Option.{slice_get-map}
 use Rattle.nddl_ast.specs.declared.declaration.Decl.{Decl}
 use Rattle.nddl_ast.specs.declared.declaration.Member.{Member}
 use Rattle.nddl_ast.specs.declared.declaration.Member.TheVariants as members
+use Rattle.nddl_ast.specs.declared.declaration.Set.{Set}
+use Rattle.nddl_ast.specs.declared.expression.Expr.{Expr}
 use Rattle.nddl_scope.specs.declared.declared.Declared.{Declared}
-use Rattle.nddl_scope.specs.Scope.{named_number}
-use Rattle.nddl_lines.specs.Decls.{decl_members, decl_of_name, declaration_with_body, members_of, number_with_body}
+use Rattle.nddl_scope.specs.Scope.{meaning_of, named_number}
+use Rattle.nddl_sorts.specs.declared.kind.TypeKind.{TypeKind}
+use Rattle.nddl_lines.specs.Decls.{class_parent, decl_members, decl_of_name, declaration_with_body, members_of, number_with_body}
 use Rattle.nddl_lines.specs.Facts.{Facts}
 use Rattle.nddl_lines.specs.Shorter.{builds, has_constructor}
 use Rattle.nddl_constructors.specs.nddl_paths.SeenType.{Seen}
+use Rattle.nddl_data.specs.nddl_constructors.Creations.{meaning_wants}
 use Rattle.nddl_data.specs.declared.made.Datum.{Datum}
-use Rattle.nddl_data.specs.Scene.{Scenery}
+use Rattle.nddl_data.specs.declared.made.MadeObject.{MadeObject}
+use Rattle.nddl_data.specs.Reading.{settled_data}
+use Rattle.nddl_data.specs.Scene.{Grounds, Scenery}
 use Rattle.nddl_passed.specs.declared.builders.Builder.{Builder}
 use Rattle.nddl_passed.specs.declared.builders.Builders as code
-use Rattle.nddl_passed.specs.Builders.{AreBuilders, AreEntries, IsBuilder, IsBuilderAt, body_numbers, builder_at, constructor_in, entry_at}
+use Rattle.nddl_passed.specs.Builders.{AreBuilders, AreEntries, IsBuilder, IsBuilderAt, body_numbers, builder_at, constructor_in, entry_at, wants_handed, wants_in, wants_over}
 use Rattle.nddl_passed.specs.Classes.{body_decl, own_constructor}
-use Rattle.nddl_passed.specs.Passing.{constructor_scene}
+use Rattle.nddl_passed.specs.Passing.{constructor_scene, handed_arguments, handed_data}
 
 -- ---- lists
 
@@ -47,19 +53,22 @@ none_past (x ∷ one) (y ∷ other) (suc place) same none = none_past one other 
 
 -- what is found of the next declaration comes behind what is found of the others
 pub entries_more : (facts : Facts) (number : ℕ) (found : Option Builder) (old new : List (Option Builder)) → length old ≡ number
-    → new ≡ old ++ found ∷ [] → IsBuilder facts number (constructor_in facts.program number) found
+    → new ≡ old ++ found ∷ [] → IsBuilder facts number (wants_in facts number) (constructor_in facts.program number) found
     → AreEntries facts old → AreEntries facts new
 entries_more facts number found old new long more is were = λ other builder there.
     elim (get_cases old found other builder (sym (ap (λ all. slice_get all other) more) ∙ there)) [
       | inl h ↦ were other builder h
       | inr h ↦
-          let At : ℕ → Type 0 = λ n. IsBuilder facts n (constructor_in facts.program n) builder in
-          let Of : Option Builder → Type 0 = λ b. IsBuilder facts number (constructor_in facts.program number) b in
+          let At : ℕ → Type 0 = λ n. IsBuilder facts n (wants_in facts n) (constructor_in facts.program n) builder in
+          let Of : Option Builder → Type 0 = λ b. IsBuilder facts number (wants_in facts number) (constructor_in facts.program number) b in
           subst At (sym (h.0 ∙ long)) (subst Of (sym h.1) is)
     ]
 
 module _ (facts : Facts) (entries : List (Option Builder)) where
-  -- the constructor of a class and the number of a declaration, where its members stand in this one
+  -- what is wanted of a class, its constructor and the number of a declaration, where its members stand in this one
+  abbrev wants_by : Option Decl → List (Option TypeKind)
+  wants_by decl = meaning_wants facts (option_and_then (λ name. meaning_of facts.names name.text) (option_and_then class_parent decl))
+
   abbrev constructor_by : Option Decl → Option Member
   constructor_by decl = own_constructor (option_map_or decl_members decl [])
 
@@ -67,10 +76,10 @@ module _ (facts : Facts) (entries : List (Option Builder)) where
   number_by body = option_map_or (λ body. body.place.decl) body 0
 
   abbrev IsBy : ℕ → Option Decl → Option Builder → Type 0
-  IsBy number decl found = IsBuilder facts number (constructor_by decl) found
+  IsBy number decl found = IsBuilder facts number (wants_by decl) (constructor_by decl) found
 
   from_decl : (number : ℕ) (decl : Option Decl) (found : Option Builder)
-      → IsBuilder facts number (option_and_then (λ decl. own_constructor (decl_members decl)) decl) found
+      → IsBuilder facts number (option_map_or (wants_over facts) decl []) (option_and_then (λ decl. own_constructor (decl_members decl)) decl) found
       → IsBy number decl found
   from_decl number None found is = is
   from_decl number (Some decl) found is = is
@@ -101,6 +110,9 @@ module _ (facts : Facts) (entries : List (Option Builder)) where
   at_declared : length entries ≡ length facts.program → AreEntries facts entries → (declared : Option Declared)
       → IsBuilder facts
       (number_by (option_and_then (slice_get facts.names) (option_and_then (λ declared. named_number true facts.names declared.name) declared)))
+      (meaning_wants facts (option_and_then
+      (λ declared. option_and_then (λ name. meaning_of facts.names name.text)
+      (option_and_then class_parent (declaration_with_body facts.names facts.program declared))) declared))
       (constructor_by (option_and_then (declaration_with_body facts.names facts.program) declared))
       (option_and_then (entry_at entries) (option_and_then (λ number. number) (option_map (number_with_body facts.names) declared)))
   at_declared long are None = refl
@@ -146,3 +158,23 @@ pub scene_there : (facts : Facts) (entry : ℕ) (builder : Builder) (values : Li
 scene_there facts entry builder values is =
     let around : ℕ → List Seen → Scenery = λ decl formals. record { decl = decl; formals = formals; values = values } in
     ap (λ decl. around decl builder.formals) is.1 ∙ ap (around (body_decl facts.names entry)) is.2
+
+-- ---- what is handed on
+
+-- what is handed on is read in the same scene, and the kinds that are kept are those that are wanted
+pub handed_over : (grounds : Grounds) (scene one : Scenery) (objects : List MadeObject) (wants kept : List (Option TypeKind))
+    (body : List Set) (handed : Option (List Expr)) → scene ≡ one → handed ≡ handed_arguments wants body
+    → kept ≡ wants_handed wants body
+    → option_map_or (λ arguments. Some (settled_data grounds scene objects kept 0 arguments)) handed None
+    ≡ handed_data grounds one objects wants body
+handed_over grounds scene one objects wants kept body handed scenes is are =
+    ap (λ given. option_map_or (λ arguments. Some (settled_data grounds scene objects kept 0 arguments)) given None) is
+    ∙ by (handed_arguments wants body) are
+  where
+    by : (given : Option (List Expr)) → kept ≡ option_map_or (λ arguments. wants) given []
+        → option_map_or (λ arguments. Some (settled_data grounds scene objects kept 0 arguments)) given None
+        ≡ option_map_or (λ arguments. Some (settled_data grounds one objects wants 0 arguments)) given None
+    by None same = refl
+    by (Some arguments) same =
+        ap (λ wanted. Some (settled_data grounds scene objects wanted 0 arguments)) same
+        ∙ ap (λ around. Some (settled_data grounds around objects wants 0 arguments)) scenes

@@ -1,16 +1,17 @@
 -- What is found of constructors is so in one way.
-use Rattle.std.proofs.Common.{ℕ, Option, Some, None}
+use Rattle.std.proofs.Common.{ℕ, List, Option, Some, None}
 use Rattle.std.proofs.Props.{props}
 use Rattle.nddl_ast.specs.declared.declaration.Member.{Member}
+use Rattle.nddl_sorts.specs.declared.kind.TypeKind.{TypeKind}
 use Rattle.nddl_lines.specs.Facts.{Facts}
 use Rattle.nddl_passed.specs.declared.builders.Builder.{Builder}
 use Rattle.nddl_passed.specs.declared.builders.Builders as code
 use Rattle.nddl_passed.specs.Builders.{AreBuilders, IsBuilder, IsBuilderAt, builder_at}
 
-builder_prop : (facts : Facts) (decl : ℕ) (constructor : Option Member) (found : Option Builder)
-    → IsProp (IsBuilder facts decl constructor found)
-builder_prop facts decl constructor None = hlevel props
-builder_prop facts decl constructor (Some builder) = hlevel props
+builder_prop : (facts : Facts) (decl : ℕ) (wants : List (Option TypeKind)) (constructor : Option Member) (found : Option Builder)
+    → IsProp (IsBuilder facts decl wants constructor found)
+builder_prop facts decl wants constructor None = hlevel props
+builder_prop facts decl wants constructor (Some builder) = hlevel props
 
 builder_at_prop : (facts : Facts) (entry : ℕ) (found : Option Builder) → IsProp (IsBuilderAt facts entry found)
 builder_at_prop facts entry None = hlevel props

@@ -1,18 +1,24 @@
 //! What of the constructors of classes is the same for all objects, found once for each class.
 
-ghost use Rattle.std.specs.Prelude.{◌≡◌, ◌+◌, [], IfOk, OnOk, Some, length, map, slice_get};
-ghost use Rattle.std.specs.Option.{option_and_then, option_copied};
+ghost use Rattle.std.specs.Prelude.{◌≡◌, ◌+◌, ◌||◌, [], IfOk, OnOk, Some, is_none, length, slice_get};
+ghost use Rattle.std.specs.Option.{option_and_then, option_copied, option_map_or};
+ghost use Rattle.nddl_scope.specs.Scope.{meaning_of};
+ghost use Rattle.nddl_lines.specs.Decls.{class_parent, decl_members};
 ghost use Rattle.nddl_lines.specs.Facts.{facts_of};
-ghost use Rattle.nddl_passed.specs.Builders.{AreBuilders, AreEntries, IsBuilder, body_numbers, builder_at, constructor_in, entry_at};
-ghost use Rattle.nddl_passed.specs.Classes.{is_building};
+ghost use Rattle.nddl_passed.specs.Builders.{AreBuilders, AreEntries, IsBuilder, body_numbers, builder_at, constructor_in, entry_at, wants_in, wants_over};
+ghost use Rattle.nddl_passed.specs.Classes.{constructor_sets, is_building, own_constructor};
+ghost use Rattle.nddl_passed.specs.Passing.{has_late_super};
 
-use super::classes::{constructor_formals, own_constructor};
+use super::classes::{constructor_formals, constructor_sets, own_constructor};
+use super::handing::{handed_arguments, has_late_super};
 use nddl_ast::declaration::{Decl, Member};
+use nddl_ast::expression::Expr;
 use nddl_constructors::Formals;
-use nddl_data::passed_nddl_constructors::formals_seen;
+use nddl_data::passed_nddl_constructors::{formals_seen, meaning_wants};
 use nddl_lines::Basis;
-use nddl_lines::decls::{decl_at, decl_members, number_with_body};
+use nddl_lines::decls::{class_parent, decl_at, decl_members, number_with_body};
 use nddl_scope::{Meaning, Scope};
+use nddl_sorts::TypeKind;
 use std::alloc::{AllocError, Global};
 
 /// A constructor, and what is so of it whatever it is passed.
@@ -22,6 +28,10 @@ pub struct Builder<'a> {
     /// The number of the declaration in which it stands.
     pub decl: usize,
     pub formals: Formals,
+    /// The arguments that it hands to what its class extends, if they are as many as are wanted there.
+    pub handed: Option<&'a [Expr]>,
+    /// Of which kinds these have to be.
+    pub wants: Vec<Option<TypeKind>>,
 }
 
 /// What is found of the constructors of a program's classes.
@@ -32,6 +42,16 @@ pub struct Builders<'a> {
     pub bodies: Vec<Option<usize>>,
     // For each declaration, what is found of the constructor in it.
     pub entries: Vec<Option<Builder<'a>>>,
+}
+
+impl<'a> Builder<'a> {
+    /// Whether `super` isn't as it should be.
+    pub fn is_wrong(&self) -> bool
+        ensures { result ≡ (is_none (option_copied self.now.handed)
+            || has_late_super (constructor_sets self.now.constructor.now)) }
+    {
+        self.handed.is_none() || has_late_super(constructor_sets(self.constructor))
+    }
 }
 
 impl<'a> Builders<'a> {
@@ -153,37 +173,73 @@ fn found_in<'a>(
     basis: &Basis<'a>,
     number: usize,
 ) -> Result<Option<Builder<'a>>, AllocError>
-    ensures { IfOk result (IsBuilder (facts_of basis.now) number (constructor_in (facts_of basis.now).program number)) }
+    ensures { IfOk result (IsBuilder (facts_of basis.now) number (wants_in (facts_of basis.now) number)
+        (constructor_in (facts_of basis.now).program number)) }
 {
-    match constructor_in(basis.decls, number) {
-        Some(constructor) => found_by(alloc, basis, number, constructor),
+    match decl_at(basis.decls, number) {
+        Some(decl) => found_of(alloc, basis, number, decl),
         None => Ok(None),
     }
 }
 
-// The constructor in the declaration of this number.
-fn constructor_in<'a>(decls: &[&'a Decl], number: usize) -> Option<&'a Member>
-    ensures { option_copied result ≡ constructor_in (map (λ decl. decl.now) decls.now) number }
+// The same, where this is the declaration.
+fn found_of<'a>(
+    alloc: Global,
+    basis: &Basis<'a>,
+    number: usize,
+    decl: &'a Decl,
+) -> Result<Option<Builder<'a>>, AllocError>
+    ensures { IfOk result (IsBuilder (facts_of basis.now) number (wants_over (facts_of basis.now) decl.now)
+        (own_constructor (decl_members decl.now))) }
 {
-    match decl_at(decls, number) {
-        Some(decl) => own_constructor(decl_members(decl)),
-        None => None,
+    match own_constructor(decl_members(decl)) {
+        Some(constructor) => found_by(alloc, basis, number, decl, constructor),
+        None => Ok(None),
     }
 }
 
-// What is found of this constructor.
+// The same, where this is the constructor.
 fn found_by<'a>(
     alloc: Global,
     basis: &Basis<'a>,
     number: usize,
+    decl: &'a Decl,
     constructor: &'a Member,
 ) -> Result<Option<Builder<'a>>, AllocError>
-    ensures { IfOk result (IsBuilder (facts_of basis.now) number (Some constructor.now)) }
+    ensures { IfOk result (IsBuilder (facts_of basis.now) number (wants_over (facts_of basis.now) decl.now)
+        (Some constructor.now)) }
 {
+    let wants = meaning_wants(alloc, basis, extended(basis.types.scope, decl))?;
+    let handed = handed_arguments(wants.as_slice(), constructor_sets(constructor));
+    let wants = wants_handed(alloc, wants, handed);
     let formals = formals_seen(alloc, basis, constructor_formals(constructor))?;
     Ok(Some(Builder {
         constructor,
         decl: number,
         formals,
+        handed,
+        wants,
     }))
+}
+
+// What the class extends that is declared so.
+fn extended(scope: &Scope, decl: &Decl) -> Option<Meaning>
+    ensures { result ≡ option_and_then (λ name. meaning_of scope.now name.text) (class_parent decl.now) }
+{
+    let name = class_parent(decl)?;
+    scope.meaning(&name.text)
+}
+
+// The kinds that are wanted, if arguments are handed on. Many classes that hand on nothing may extend one that wants much.
+fn wants_handed(
+    alloc: Global,
+    wants: Vec<Option<TypeKind>>,
+    handed: Option<&[Expr]>,
+) -> Vec<Option<TypeKind>>
+    ensures { result.items ≡ option_map_or (λ arguments. wants.items) (option_copied handed.entry) [] }
+{
+    match handed {
+        Some(_) => wants,
+        None => Vec::new(alloc),
+    }
 }

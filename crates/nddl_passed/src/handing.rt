@@ -2,7 +2,7 @@
 
 ghost use Rattle.std.specs.Prelude.{◌≡◌};
 ghost use Rattle.std.specs.Option.{option_copied};
-ghost use Rattle.nddl_passed.specs.Passing.{handed_arguments, has_late_super, has_super, is_super, is_wrong_super, silent_arguments, super_arguments};
+ghost use Rattle.nddl_passed.specs.Passing.{handed_arguments, has_late_super, has_super, is_super, silent_arguments, super_arguments};
 
 use nddl_ast::declaration::Set;
 use nddl_ast::expression::Expr;
@@ -28,8 +28,8 @@ fn has_super(body: &[Set]) -> bool
     false
 }
 
-// Whether `super` stands behind the first part of the body.
-fn has_late_super(body: &[Set]) -> bool
+/// Whether `super` stands behind the first part of the body.
+pub fn has_late_super(body: &[Set]) -> bool
     ensures { result ≡ has_late_super body.now }
 {
     match body {
@@ -66,11 +66,4 @@ pub fn handed_arguments<'a>(wants: &[Option<TypeKind>], body: &'a [Set]) -> Opti
     } else {
         None
     }
-}
-
-/// Whether `super` isn't as it should be.
-pub fn is_wrong_super(wants: &[Option<TypeKind>], body: &[Set]) -> bool
-    ensures { result ≡ is_wrong_super wants.now body.now }
-{
-    handed_arguments(wants, body).is_none() || has_late_super(body)
 }

@@ -1,30 +1,28 @@
 //! Which constructors run where an object is made, and which values each of them is passed.
 
-ghost use Rattle.std.specs.Prelude.{◌≡◌, ◌++◌, IfOk, OnOk, Some};
-ghost use Rattle.std.specs.Option.{option_copied};
+ghost use Rattle.std.specs.Prelude.{◌≡◌, ◌++◌, IfOk, None, OnOk, Some};
+ghost use Rattle.std.specs.Option.{option_copied, option_map_or};
 ghost use Rattle.nddl_scope.specs.Finding.{earliest_fault};
 ghost use Rattle.nddl_lines.specs.Facts.{facts_of};
+ghost use Rattle.nddl_data.specs.Reading.{settled_data};
 ghost use Rattle.nddl_data.specs.Scene.{grounds_of, scenery_of};
 ghost use Rattle.nddl_passed.specs.Builders.{AreBuilders, IsBuilderAt};
-ghost use Rattle.nddl_passed.specs.Passing.{constructor_scene, data_above, handed_data, has_foreign_from, is_foreign_formal, passed_above, passed_down, passed_from, passed_here, passing_faults, read_faults, super_data, wants_above};
+ghost use Rattle.nddl_passed.specs.Passing.{constructor_scene, data_above, has_foreign_from, is_foreign_formal, passed_above, passed_down, passed_from, passed_here, passing_faults, read_faults, super_data};
 
 use super::builders::{Builder, Builders};
 use super::classes::{building_up, constructor_formals, constructor_sets};
-use super::handing::{handed_arguments, is_wrong_super, super_arguments};
+use super::handing::super_arguments;
 use eu_name::sequence::Sequence;
 use nddl_ast::TextKind;
-use nddl_ast::declaration::{Set, Typed};
+use nddl_ast::declaration::Typed;
 use nddl_ast::expression::Expr;
-use nddl_data::passed_nddl_constructors::meaning_wants;
 use nddl_data::reading::{datum_at, note_all_unmade, settled_data};
 use nddl_data::{Datum, Ground, MadeObject, Scene, is_foreign_datum};
 use nddl_joined::Place;
 use nddl_lines::Basis;
-use nddl_lines::lines::above;
 use nddl_scope::fault::note_at;
 use nddl_scope::twice::kind_if;
 use nddl_scope::{Fault, Meaning};
-use nddl_sorts::TypeKind;
 use nddl_sorts::base::base_kind;
 use std::alloc::{AllocError, Global};
 
@@ -35,32 +33,20 @@ pub struct Passed {
     pub values: Sequence<Option<Datum>>,
 }
 
-// The kinds of arguments that what the class of this number extends wants.
-fn wants_above(
-    alloc: Global,
-    basis: &Basis<'_>,
-    entry: usize,
-) -> Result<Vec<Option<TypeKind>>, AllocError>
-    ensures { IfOk result (λ wants. wants.items ≡ wants_above (facts_of basis.now) entry) }
-{
-    let parent = above(basis.types.scope, basis.decls, entry);
-    meaning_wants(alloc, basis, parent)
-}
-
-// What the arguments stand for that a body hands on.
+// What the arguments stand for that a constructor hands on.
 fn handed_data(
     alloc: Global,
     footing: &Ground<'_>,
     scene: &Scene<'_>,
     objects: &[MadeObject],
-    wants: &[Option<TypeKind>],
-    body: &[Set],
+    builder: &Builder<'_>,
 ) -> Result<Option<Sequence<Option<Datum>>>, AllocError>
-    ensures { IfOk result (λ found.
-        found ≡ handed_data (grounds_of footing.now) (scenery_of scene.now) objects.now wants.now body.now) }
+    ensures { IfOk result (λ found. found ≡ option_map_or (λ arguments. Some (settled_data (grounds_of footing.now)
+        (scenery_of scene.now) objects.now builder.now.wants.items 0 arguments)) (option_copied builder.now.handed) None) }
 {
-    match handed_arguments(wants, body) {
+    match builder.handed {
         Some(arguments) => {
+            let wants = builder.wants.as_slice();
             let found = settled_data(alloc, footing, scene, objects, wants, arguments)?;
             Ok(Some(Sequence::from_vec(found)))
         }
@@ -81,10 +67,8 @@ fn super_data(
     ensures { IfOk result (λ found.
         found ≡ super_data (grounds_of footing.now) objects.now entry values.now builder.now.constructor.now) }
 {
-    let wants = wants_above(alloc, &footing.basis, entry)?;
     let scene = Scene::in_body(builder.decl, &builder.formals, values);
-    let body = constructor_sets(builder.constructor);
-    handed_data(alloc, footing, &scene, objects, wants.as_slice(), body)
+    handed_data(alloc, footing, &scene, objects, builder)
 }
 
 fn copied(alloc: Global, values: &[Option<Datum>]) -> Result<Sequence<Option<Datum>>, AllocError>
@@ -285,7 +269,6 @@ pub fn note_passing(
         (passing_faults (grounds_of footing.now) objects.now place entry scene.now.values.now builder.now.constructor.now)) }
 {
     let formals = constructor_formals(builder.constructor);
-    let body = constructor_sets(builder.constructor);
     let is_foreign = has_foreign(alloc, footing, objects, scene.values, formals)?;
     note_at(
         first,
@@ -293,14 +276,13 @@ pub fn note_passing(
         place.at,
         kind_if(is_foreign, TextKind::NotInDomain),
     );
-    let wants = wants_above(alloc, &footing.basis, entry)?;
-    let is_wrong = is_wrong_super(wants.as_slice(), body);
     note_at(
         first,
         place.decl,
         place.at,
-        kind_if(is_wrong, TextKind::WrongCount),
+        kind_if(builder.is_wrong(), TextKind::WrongCount),
     );
+    let body = constructor_sets(builder.constructor);
     note_read(footing, scene, super_arguments(body), first);
     Ok(())
 }

@@ -1,26 +1,21 @@
-use Rattle.std.proofs.Common.{List, Option, ap, ◌∙◌}
+use Rattle.std.proofs.Common.{◌∙◌}
+use Rattle.std.specs.Option.{option_copied}
 use Rattle.std.proofs.lemmas.Result.{IfOk-weaker}
-use Rattle.nddl_ast.specs.declared.declaration.Set.{Set}
-use Rattle.nddl_sorts.specs.declared.kind.TypeKind.{TypeKind}
 use Rattle.nddl_lines.specs.Facts.{facts_of}
-use Rattle.nddl_data.specs.Scene.{Scenery, grounds_of}
-use Rattle.nddl_passed.specs.Passing.{constructor_scene, handed_data, wants_above}
-use Rattle.nddl_passed.proofs.Finding.{scene_there}
+use Rattle.nddl_data.specs.Scene.{grounds_of, scenery_of}
+use Rattle.nddl_passed.specs.Classes.{constructor_sets}
+use Rattle.nddl_passed.specs.Passing.{constructor_scene, wants_above}
+use Rattle.nddl_passed.proofs.Finding.{handed_over, scene_there}
 use Rattle.nddl_passed.proofs.passing.super_data.Goals as goal
 
 pub returns : goal.returns
 returns c =
     let facts = facts_of c.args.footing.now.basis in
-    let grounds = grounds_of c.args.footing.now in
-    let objects = c.args.objects.now in
     let builder = c.args.builder.now in
-    let scene = constructor_scene facts c.args.entry builder.constructor.now c.args.values.now in
-    let wants = c.as_slice.result.now in
-    let body = c.constructor_sets-body.result.now in
+    let values = c.args.values.now in
     IfOk-weaker c.handed_data.result _ _ (λ found is.
     is
-    ∙ (ap (λ (around : Scenery). handed_data grounds around objects wants body)
-    (c.in_body-scene.ensures ∙ scene_there facts c.args.entry builder c.args.values.now c.requires)
-    ∙ (ap (λ (kinds : List (Option TypeKind)). handed_data grounds scene objects kinds body) (c.as_slice.ensures.value ∙ c.in_ok-wants.ensures)
-    ∙ ap (λ (sets : List Set). handed_data grounds scene objects (wants_above facts c.args.entry) sets) c.constructor_sets-body.ensures)))
-    c.handed_data.ensures
+    ∙ handed_over (grounds_of c.args.footing.now) (scenery_of c.in_body-scene.result)
+    (constructor_scene facts c.args.entry builder.constructor.now values) c.args.objects.now (wants_above facts c.args.entry)
+    builder.wants.items (constructor_sets builder.constructor.now) (option_copied builder.handed)
+    (c.in_body-scene.ensures ∙ scene_there facts c.args.entry builder values c.requires) c.requires.3 c.requires.4) c.handed_data.ensures
