@@ -28,14 +28,6 @@ module _ (domain : Domain) (P : ℤ → Type 0) where
   pub none_yet : AreSoUpTo domain P 0
   none_yet place value below is = absurd (omega arith)
 
-  pub one_more : (count : ℕ) (here : ℤ) → IsNth domain count here → P here → AreSoUpTo domain P count → AreSoUpTo domain P (count + 1)
-  one_more count here at so before place value below is = elim (cases_lt place count) [
-    | inl less ↦ before place value less is
-    | inr past ↦ (
-        let same : place ≡ count = omega arith in
-        subst P (nth_once domain count here value at (subst (λ (n : ℕ). IsNth domain n value) same is)) so)
-  ]
-
   pub so_less : (count : ℕ) → AreSoUpTo domain P (count + 1) → AreSoUpTo domain P count
   so_less count so place value below is = so place value (omega arith) is
 

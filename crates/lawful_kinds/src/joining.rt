@@ -103,7 +103,7 @@ fn line_over(model: &Model, parents: &Parents, first: u32, other: u32) -> Line
     }
 }
 
-/// The classes of the line that are over the class of this number too.
+// The classes of the line that are over the class of this number too.
 fn line_with(model: &Model, parents: &Parents, line: Line, other: u32) -> Line
     requires { AreClassParents model.now parents.now }
     ensures { (class : ℕ) → (IsOnLine model.now line class × IsUnder model.now other class) ↔ IsOnLine model.now result class }

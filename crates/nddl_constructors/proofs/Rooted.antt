@@ -1,5 +1,5 @@
 -- The built-in class that a class leads up to is what the last class of its line extends.
-use Rattle.std.proofs.Common.{◌≡◌, ℕ, true, List, [], ◌∷◌, refl, sym, ◌∙◌, ap, subst}
+use Rattle.std.proofs.Common.{◌≡◌, ℕ, true, List, [], ◌∷◌, sym, ◌∙◌, ap, subst}
 use Rattle.std.specs.Prelude.{Option, Some, None, slice_get}
 use Rattle.lineage.specs.Lines.{LeadsUp}
 use Rattle.nddl_ast.specs.declared.declaration.Decl.{Decl}

@@ -1,7 +1,6 @@
 -- What is wrong with values that have to be constants of some kind.
 use Rattle.std.specs.Prelude.{ℕ, ◌+◌, Bool, false, ◌||◌, not, List, [], ◌∷◌, ◌++◌, Option, Some, None}
-use Rattle.std.specs.Prelude.{Ok, Err, is_none, slice_get}
-use Rattle.std.specs.Option.{option_and_then}
+use Rattle.std.specs.Prelude.{Ok, Err, is_none}
 use Rattle.nddl_ast.specs.declared.expression.Expr.{Expr}
 use Rattle.nddl_ast.specs.declared.kind.TextKind.{TextKind}
 use Rattle.nddl_ast.specs.declared.kind.TextKind.TheVariants as faults
@@ -16,6 +15,7 @@ use Rattle.nddl_paths.specs.declared.denoted.Denoted.{Denoted}
 use Rattle.nddl_paths.specs.declared.denoted.Denoted.TheVariants as denoted
 use Rattle.nddl_paths.specs.Paths.{Surroundings, expr_denoted}
 use Rattle.nddl_paths.specs.Steps.{Understood}
+use Rattle.nddl_constructors.specs.Wants.{wanted_at}
 
 -- another kind is wanted; where it isn't known which, nothing is said
 abbrev pub is_unwanted : Option TypeKind → TypeKind → Bool
@@ -43,10 +43,6 @@ constant_faults decl wanted at (Err fault) = faults_here decl fault.at (Some fau
 unfoldable pub value_faults : Facts → Surroundings → ℕ → Option TypeKind → Expr → List Fault
 value_faults facts around decl wanted expr =
     constant_faults decl wanted (expr_place expr) (expr_denoted facts around expr)
-
--- the kind that is wanted at this place, if it is known
-abbrev pub wanted_at : List (Option TypeKind) → ℕ → Option TypeKind
-wanted_at wants number = option_and_then (λ kind. kind) (slice_get wants number)
 
 -- All that is wrong with arguments by themselves, of which the first has this number. More than are wanted may be of any
 -- kind.

@@ -3,6 +3,7 @@ pub mod Constants
 pub mod Creations
 pub mod Formals
 pub mod Objects
+pub mod Wanted
 pub mod Wants
 pub mod nddl_classes
 pub mod nddl_lines

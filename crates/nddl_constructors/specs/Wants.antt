@@ -1,6 +1,6 @@
 -- Which arguments a class wants where an object of it is made.
-use Rattle.std.specs.Prelude.{ℕ, ◌==◌, List, [], ◌∷◌, Option, Some, None, map, if◌then◌else◌}
-use Rattle.std.specs.Option.{option_map_or, option_or}
+use Rattle.std.specs.Prelude.{ℕ, ◌==◌, List, [], ◌∷◌, Option, Some, None, map, slice_get, if◌then◌else◌}
+use Rattle.std.specs.Option.{option_and_then, option_map_or, option_or}
 use Rattle.nddl_ast.specs.declared.declaration.Decl.{Decl}
 use Rattle.nddl_ast.specs.declared.declaration.Member.{Member}
 use Rattle.nddl_ast.specs.declared.declaration.Member.TheVariants as members
@@ -68,3 +68,7 @@ line_wants facts line =
 unfoldable pub class_wants : Facts → Meaning → List (Option TypeKind)
 class_wants facts (meanings.BuiltIn number) = builtin_wants number
 class_wants facts (meanings.Entry entry) = line_wants facts (ancestry facts.parents entry)
+
+-- the kind that is wanted at this place, if it is known
+abbrev pub wanted_at : List (Option TypeKind) → ℕ → Option TypeKind
+wanted_at wants number = option_and_then (λ kind. kind) (slice_get wants number)

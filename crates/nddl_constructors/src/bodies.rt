@@ -9,8 +9,9 @@ ghost use Rattle.nddl_constructors.specs.Formals.{around_formals, formal_seen};
 ghost use Rattle.nddl_constructors.specs.Bodies.{bodies_faults, body_faults, field_in_line, field_kind, named_bodies_faults, set_faults_in, sets_faults, super_faults};
 
 use super::constants::note_arguments;
-use super::creations::{meaning_wants, note_init};
+use super::creations::note_init;
 use super::formals::{around_formals, formals_seen};
+use super::wanted::meaning_wanted;
 use eu_name::text::Text;
 use nddl_ast::TextKind;
 use nddl_ast::declaration::{Member, Set, Typed};
@@ -218,14 +219,6 @@ fn note_super(
         (super_faults (facts_of basis.now) (around_of around.now) decl entry arguments.now)) }
 {
     let parent = above(basis.types.scope, basis.decls, entry);
-    let wants = meaning_wants(alloc, basis, parent)?;
-    note_arguments(
-        alloc,
-        basis,
-        around,
-        decl,
-        wants.as_slice(),
-        arguments,
-        first,
-    )
+    let wanted = meaning_wanted(alloc, basis, parent)?;
+    note_arguments(alloc, basis, around, decl, &wanted, arguments, first)
 }

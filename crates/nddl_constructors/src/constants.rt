@@ -4,8 +4,10 @@ ghost use Rattle.std.specs.Prelude.{◌≡◌, OnOk};
 ghost use Rattle.nddl_scope.specs.Finding.{earliest_fault};
 ghost use Rattle.nddl_lines.specs.Facts.{facts_of};
 ghost use Rattle.nddl_paths.specs.Paths.{around_of};
-ghost use Rattle.nddl_constructors.specs.Constants.{constant_fault, constant_faults, constants_faults, is_understood, is_unwanted, value_faults, wanted_at};
+ghost use Rattle.nddl_constructors.specs.Wanted.{wanted_kinds};
+ghost use Rattle.nddl_constructors.specs.Constants.{constant_fault, constant_faults, constants_faults, is_understood, is_unwanted, value_faults};
 
+use super::wanted::Wanted;
 use nddl_ast::TextKind;
 use nddl_ast::expression::Expr;
 use nddl_lines::Basis;
@@ -87,30 +89,24 @@ pub fn note_value(
     Ok(())
 }
 
-/// Notes all that is wrong with arguments by themselves, where these kinds are wanted.
+/// Notes all that is wrong with arguments by themselves, where these are wanted.
 #[tactic(auto, using(nddl_scope::proofs::Earliest::earliest_append))]
 pub fn note_arguments(
     alloc: Global,
     basis: &Basis<'_>,
     around: &Around<'_>,
     decl: usize,
-    wants: &[Option<TypeKind>],
+    wanted: &Wanted<'_>,
     arguments: &[Expr],
     first: &mut Option<Fault>,
 ) -> Result<(), AllocError>
     ensures { OnOk result (first.new ≡ earliest_fault first.old
-        (constants_faults (facts_of basis.now) (around_of around.now) decl wants.now 0 arguments.now)) }
+        (constants_faults (facts_of basis.now) (around_of around.now) decl
+        (wanted_kinds (facts_of basis.now) wanted.now) 0 arguments.now)) }
 {
     for (number, argument) in arguments.iter().enumerate() {
-        let wanted = wanted_at(wants, number);
-        note_value(alloc, basis, around, decl, wanted, argument, first)?;
+        let kind = wanted.kind(basis, number);
+        note_value(alloc, basis, around, decl, kind, argument, first)?;
     }
     Ok(())
-}
-
-/// The kind that is wanted at this place.
-pub fn wanted_at(wants: &[Option<TypeKind>], number: usize) -> Option<TypeKind>
-    ensures { result ≡ wanted_at wants.now number }
-{
-    *wants.get(number)?
 }

@@ -5,10 +5,11 @@ ghost use Rattle.nddl_ast.specs.declared.expression.Init.TheVariants.{New};
 ghost use Rattle.nddl_scope.specs.Finding.{earliest_fault};
 ghost use Rattle.nddl_lines.specs.Facts.{facts_of};
 ghost use Rattle.nddl_paths.specs.Paths.{around_of};
-ghost use Rattle.nddl_constructors.specs.Creations.{class_alone, creation_faults, creation_faults_by, set_to_faults, is_no_object, is_of_class, made_fault, meaning_wants};
+ghost use Rattle.nddl_constructors.specs.Wanted.{wanted_kinds};
+ghost use Rattle.nddl_constructors.specs.Creations.{class_alone, creation_faults, creation_faults_by, set_to_faults, is_no_object, is_of_class, made_fault};
 
 use super::constants::{note_arguments, note_value};
-use super::wants::class_wants;
+use super::wanted::{Wanted, meaning_wanted};
 use nddl_ast::TextKind;
 use nddl_ast::expression::{Creation, Init};
 use nddl_lines::Basis;
@@ -33,20 +34,6 @@ pub fn class_alone(scope: &Scope, meaning: Option<Meaning>) -> Option<Meaning>
     }
 }
 
-/// The kinds of the arguments that are wanted of what means this.
-pub fn meaning_wants(
-    alloc: Global,
-    basis: &Basis<'_>,
-    meaning: Option<Meaning>,
-) -> Result<Vec<Option<TypeKind>>, AllocError>
-    ensures { IfOk result (λ wants. wants.items ≡ meaning_wants (facts_of basis.now) meaning) }
-{
-    match meaning {
-        Some(class) => class_wants(alloc, basis, class),
-        None => Ok(Vec::new(alloc)),
-    }
-}
-
 /// Whether what is of the second class is of the first one, too.
 pub fn is_of_class(
     alloc: Global,
@@ -65,18 +52,18 @@ pub fn is_of_class(
     }
 }
 
-/// What is wrong with what stands behind `new`, where it means this.
-pub fn made_fault(
-    scope: &Scope,
+// What is wrong with what stands behind `new`, where it means this.
+fn made_fault(
+    basis: &Basis<'_>,
     meaning: Option<Meaning>,
-    wants: &[Option<TypeKind>],
+    wanted: &Wanted<'_>,
     count: usize,
 ) -> Option<TextKind>
-    ensures { result ≡ made_fault scope.now meaning wants.now count }
+    ensures { result ≡ made_fault (facts_of basis.now).names meaning (wanted_kinds (facts_of basis.now) wanted.now) count }
 {
-    match class_fault(scope, meaning) {
+    match class_fault(basis.types.scope, meaning) {
         Some(fault) => Some(fault),
-        None => kind_if(wants.len() != count, TextKind::WrongCount),
+        None => kind_if(wanted.count() != count, TextKind::WrongCount),
     }
 }
 
@@ -95,16 +82,9 @@ pub fn note_creation(
 {
     let scope = basis.types.scope;
     let meaning = scope.meaning(&creation.class.text);
-    let wants = meaning_wants(alloc, basis, class_alone(scope, meaning))?;
+    let wanted = meaning_wanted(alloc, basis, class_alone(scope, meaning))?;
     note_creation_by(
-        alloc,
-        basis,
-        around,
-        decl,
-        creation,
-        meaning,
-        wants.as_slice(),
-        first,
+        alloc, basis, around, decl, creation, meaning, &wanted, first,
     )
 }
 
@@ -117,16 +97,17 @@ fn note_creation_by(
     decl: usize,
     creation: &Creation,
     meaning: Option<Meaning>,
-    wants: &[Option<TypeKind>],
+    wanted: &Wanted<'_>,
     first: &mut Option<Fault>,
 ) -> Result<(), AllocError>
     ensures { OnOk result (first.new ≡ earliest_fault first.old
-        (creation_faults_by (facts_of basis.now) (around_of around.now) decl creation.now meaning wants.now)) }
+        (creation_faults_by (facts_of basis.now) (around_of around.now) decl creation.now meaning
+        (wanted_kinds (facts_of basis.now) wanted.now))) }
 {
     let arguments = creation.arguments.as_slice();
-    let fault = made_fault(basis.types.scope, meaning, wants, arguments.len());
+    let fault = made_fault(basis, meaning, wanted, arguments.len());
     note_at(first, decl, creation.class.at, fault);
-    note_arguments(alloc, basis, around, decl, wants, arguments, first)
+    note_arguments(alloc, basis, around, decl, wanted, arguments, first)
 }
 
 /// Whether something else than an object is wanted.

@@ -1,6 +1,6 @@
 //! What is wrong with the text of what makes the objects of a program: `note_written(alloc, basis, &mut first)?` notes it
 //! of the bodies of constructors, whether they are ever run or not, and of each `new` outside of them. Which arguments a
-//! class wants is `class_wants(alloc, basis, class)?`. No object is made here.
+//! class wants is `class_wanted(alloc, basis, class)?`. No object is made here.
 #![tactic(auto)]
 
 pub mod bodies;
@@ -11,8 +11,9 @@ pub mod objects;
 pub mod passed_nddl_lines;
 pub mod passed_nddl_paths;
 pub mod passed_nddl_schema;
+pub mod wanted;
 pub mod wants;
 
 pub use formals::Formals;
 pub use objects::note_written;
-pub use wants::class_wants;
+pub use wanted::{Wanted, class_wants};

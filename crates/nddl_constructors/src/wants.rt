@@ -1,13 +1,12 @@
-//! Which arguments a class wants where an object of it is made.
+//! Which class of a line says which arguments are wanted where an object is made.
 
-ghost use Rattle.std.specs.Prelude.{◌≡◌, ◌++◌, ◌∷◌, [], Some, IfOk, IfSome, OnOk, map, true};
-ghost use Rattle.nddl_sorts.specs.declared.kind.TypeKind.TheVariants.{Int};
+ghost use Rattle.std.specs.Prelude.{◌≡◌, IfOk, IfSome, map, true};
 ghost use Rattle.std.specs.Option.{option_copied};
 ghost use Rattle.nddl_scope.specs.Scope.{is_class_at};
 ghost use Rattle.nddl_lines.specs.Ancestors.{ancestry};
 ghost use Rattle.nddl_lines.specs.Facts.{facts_of};
 ghost use Rattle.nddl_lines.specs.Decls.{members_of};
-ghost use Rattle.nddl_constructors.specs.Wants.{builtin_along, builtin_or, builtin_wants, class_wants, formal_kind, line_formals, member_formals, own_formals};
+ghost use Rattle.nddl_constructors.specs.Wants.{builtin_along, builtin_or, line_formals, member_formals, own_formals};
 
 use eu_name::sequence::Sequence;
 use nddl_ast::declaration::{Decl, Member, Typed};
@@ -17,82 +16,12 @@ use nddl_lines::lines::{above, ancestry};
 use nddl_lines::parents::parent_in;
 use nddl_lines::shorter::builders_over;
 use nddl_scope::{Meaning, Scope};
-use nddl_sorts::TypeKind;
-use nddl_sorts::base::base_kind;
 use std::alloc::{AllocError, Global};
 
-/// The kinds of the arguments that the class wants, each if it is known.
-#[tactic(auto, unfolding(crate::specs::Wants::class_wants))]
-pub fn class_wants(
-    alloc: Global,
-    basis: &Basis<'_>,
-    class: Meaning,
-) -> Result<Vec<Option<TypeKind>>, AllocError>
-    ensures { IfOk result (λ wants. wants.items ≡ class_wants (facts_of basis.now) class) }
-{
-    match class {
-        Meaning::BuiltIn(number) => builtin_wants(alloc, number),
-        Meaning::Entry(entry) => match formals_above(basis, entry) {
-            Some(formals) => formal_kinds(alloc, basis, formals.as_slice()),
-            None => builtin_wants_above(alloc, basis, entry),
-        },
-    }
-}
-
-// Those that the built-in class wants that the class of this number leads up to.
-fn builtin_wants_above(
-    alloc: Global,
-    basis: &Basis<'_>,
-    entry: usize,
-) -> Result<Vec<Option<TypeKind>>, AllocError>
-    ensures { IfOk result (λ wants. wants.items ≡ builtin_wants (builtin_along (facts_of basis.now).names
-        (facts_of basis.now).program (ancestry (facts_of basis.now).parents entry))) }
-{
-    let number = builtin_above(alloc, basis, entry)?;
-    builtin_wants(alloc, number)
-}
-
-// The kinds of these formals.
-fn formal_kinds(
-    alloc: Global,
-    basis: &Basis<'_>,
-    formals: &[Typed],
-) -> Result<Vec<Option<TypeKind>>, AllocError>
-    ensures { IfOk result (λ wants. wants.items ≡ map (formal_kind (facts_of basis.now)) formals.now) }
-{
-    let mut wants = Vec::new(alloc);
-    for typed in formals {
-        wants.push(base_kind(&basis.types, &typed.declared.base))?;
-    }
-    Ok(wants)
-}
-
-// Those that the built-in class of this number wants.
-fn builtin_wants(alloc: Global, number: u32) -> Result<Vec<Option<TypeKind>>, AllocError>
-    ensures { IfOk result (λ wants. wants.items ≡ builtin_wants number) }
-{
-    let mut wants = Vec::new(alloc);
-    if number == 2 {
-        wants.push(Some(TypeKind::Int))?;
-    } else if number == 3 {
-        push_levels(&mut wants)?;
-    }
-    Ok(wants)
-}
-
-// The three numbers of a reservoir.
-fn push_levels(wants: &mut Vec<Option<TypeKind>>) -> Result<(), AllocError>
-    ensures { OnOk result (wants.new.items ≡ wants.old.items ++ Some Int ∷ Some Int ∷ Some Int ∷ []) }
-{
-    wants.push(Some(TypeKind::Int))?;
-    wants.push(Some(TypeKind::Int))?;
-    wants.push(Some(TypeKind::Int))?;
-    Ok(())
-}
-
-// The formals of the first class that has a constructor, from the class of this number up. Those between that have none are
-// passed over, and the line isn't gathered, since this is asked of each class of it, and each may have a constructor.
-fn formals_above<'a>(basis: &Basis<'a>, entry: usize) -> Option<&'a Sequence<Typed>>
+/// The formals of the first class that has a constructor, from the class of this number up.
+// Those between that have none are passed over, and the line isn't gathered, since this is asked of each class of it, and each
+// may have a constructor.
+pub fn formals_above<'a>(basis: &Basis<'a>, entry: usize) -> Option<&'a Sequence<Typed>>
     ensures { option_copied result ≡ line_formals (facts_of basis.now).names (facts_of basis.now).program
         (ancestry (facts_of basis.now).parents entry) }
 {

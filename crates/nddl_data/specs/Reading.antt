@@ -20,7 +20,8 @@ use Rattle.nddl_scope.specs.Finding.{faults_here}
 use Rattle.nddl_scope.specs.Scope.{fault_if, meaning_of}
 use Rattle.nddl_sorts.specs.declared.kind.TypeKind.{TypeKind}
 use Rattle.nddl_constructors.specs.nddl_paths.Paths.{expr_denoted}
-use Rattle.nddl_constructors.specs.Constants.{is_understood, wanted_at}
+use Rattle.nddl_constructors.specs.Constants.{is_understood}
+use Rattle.nddl_constructors.specs.Wants.{wanted_at}
 use Rattle.nddl_constructors.specs.Formals.{around_formals, formal_number}
 use Rattle.nddl_data.specs.declared.made.Datum.{Datum}
 use Rattle.nddl_data.specs.declared.made.Datum.TheVariants as datums

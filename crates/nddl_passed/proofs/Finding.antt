@@ -2,6 +2,7 @@
 use Rattle.std.proofs.Common.{◌≡◌, ℕ, zero, suc, true, List, [], ◌∷◌, ◌++◌, length, Option, Some, None, ◌⊎◌, inl, inr, refl, sym, ◌∙◌, ap, subst, arith}
 use Rattle.std.specs.Prelude.{is_some, slice_get}
 use Rattle.std.specs.Option.{option_and_then, option_map, option_map_or}
+use Rattle.std.proofs.lemmas.List.{length-map}
 use Rattle.std.proofs.lemmas.Option.{slice_get-map}
 use Rattle.nddl_ast.specs.declared.declaration.Decl.{Decl}
 use Rattle.nddl_ast.specs.declared.declaration.Member.{Member}
@@ -14,7 +15,11 @@ use Rattle.nddl_sorts.specs.declared.kind.TypeKind.{TypeKind}
 use Rattle.nddl_lines.specs.Decls.{class_parent, decl_members, decl_of_name, declaration_with_body, members_of, number_with_body}
 use Rattle.nddl_lines.specs.Facts.{Facts}
 use Rattle.nddl_lines.specs.Shorter.{builds, has_constructor}
+use Rattle.nddl_constructors.specs.declared.wanted.Wanted.{Wanted}
+use Rattle.nddl_constructors.specs.declared.wanted.Wanted.TheVariants as wanted
 use Rattle.nddl_constructors.specs.nddl_paths.SeenType.{Seen}
+use Rattle.nddl_constructors.specs.Wanted.{wanted_count, wanted_kinds}
+use Rattle.nddl_constructors.specs.Wants.{formal_kind}
 use Rattle.nddl_data.specs.nddl_constructors.Creations.{meaning_wants}
 use Rattle.nddl_data.specs.declared.made.Datum.{Datum}
 use Rattle.nddl_data.specs.declared.made.MadeObject.{MadeObject}
@@ -48,6 +53,13 @@ none_past [] (y ∷ other) place same none = absurd (omega (arith, same))
 none_past (x ∷ one) [] place same none = refl
 none_past (x ∷ one) (y ∷ other) zero same none = absurd (let e : Some x ≡ None = none in cc)
 none_past (x ∷ one) (y ∷ other) (suc place) same none = none_past one other place (omega (arith, same)) none
+
+-- ---- what is wanted
+
+-- there are as many as there are kinds of them
+pub counted : (facts : Facts) (wanted : Wanted) → wanted_count wanted ≡ length (wanted_kinds facts wanted)
+counted facts (wanted.Formals formals) = sym (length-map formals.now (formal_kind facts))
+counted facts (wanted.BuiltIn kinds) = refl
 
 -- ---- the table
 
@@ -163,13 +175,13 @@ scene_there facts entry builder values is =
 
 -- what is handed on is read in the same scene, and the kinds that are kept are those that are wanted
 pub handed_over : (grounds : Grounds) (scene one : Scenery) (objects : List MadeObject) (wants kept : List (Option TypeKind))
-    (body : List Set) (handed : Option (List Expr)) → scene ≡ one → handed ≡ handed_arguments wants body
+    (body : List Set) (handed : Option (List Expr)) → scene ≡ one → handed ≡ handed_arguments (length wants) body
     → kept ≡ wants_handed wants body
     → option_map_or (λ arguments. Some (settled_data grounds scene objects kept 0 arguments)) handed None
     ≡ handed_data grounds one objects wants body
 handed_over grounds scene one objects wants kept body handed scenes is are =
     ap (λ given. option_map_or (λ arguments. Some (settled_data grounds scene objects kept 0 arguments)) given None) is
-    ∙ by (handed_arguments wants body) are
+    ∙ by (handed_arguments (length wants) body) are
   where
     by : (given : Option (List Expr)) → kept ≡ option_map_or (λ arguments. wants) given []
         → option_map_or (λ arguments. Some (settled_data grounds scene objects kept 0 arguments)) given None

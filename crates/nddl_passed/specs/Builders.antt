@@ -1,5 +1,5 @@
 -- What of the constructors of classes is the same for all objects.
-use Rattle.std.specs.Prelude.{◌≡◌, ℕ, List, [], Option, Some, None, map, slice_get}
+use Rattle.std.specs.Prelude.{◌≡◌, ℕ, List, [], Option, Some, None, map, length, slice_get}
 use Rattle.std.specs.Option.{option_and_then, option_copied, option_map_or}
 use Rattle.nddl_ast.specs.declared.declaration.Decl.{Decl}
 use Rattle.nddl_ast.specs.declared.declaration.Member.{Member}
@@ -18,7 +18,7 @@ use Rattle.nddl_passed.specs.Passing.{handed_arguments, wants_above}
 
 -- the kinds that are wanted of the arguments that a body hands on; none, if it hands on none that are as many
 abbrev pub wants_handed : List (Option TypeKind) → List Set → List (Option TypeKind)
-wants_handed wants body = option_map_or (λ arguments. wants) (handed_arguments wants body) []
+wants_handed wants body = option_map_or (λ arguments. wants) (handed_arguments (length wants) body) []
 
 -- This is found of the constructor that stands in the declaration of this number, where what its class extends wants
 -- arguments of these kinds: the constructor itself, the number, what its formals mean, and what it hands on. Nothing is found
@@ -29,7 +29,7 @@ IsBuilder facts decl wants constructor (Some builder) =
     (constructor ≡ Some builder.constructor.now)
     × (builder.decl ≡ decl)
     × (builder.formals ≡ map (formal_seen facts) (constructor_formals builder.constructor.now))
-    × (option_copied builder.handed ≡ handed_arguments wants (constructor_sets builder.constructor.now))
+    × (option_copied builder.handed ≡ handed_arguments (length wants) (constructor_sets builder.constructor.now))
     × (builder.wants.items ≡ wants_handed wants (constructor_sets builder.constructor.now))
 
 -- this is found of the constructor of the class of this number, or nothing if it has none

@@ -1,5 +1,5 @@
 -- Which constructors run where an object is made, and which values each of them is passed.
-use Rattle.std.specs.Prelude.{ℕ, ◌+◌, Bool, true, false, ◌||◌, List, [], ◌∷◌, ◌++◌, Option, Some, None, map, length}
+use Rattle.std.specs.Prelude.{ℕ, ◌+◌, ◌==◌, Bool, true, false, ◌||◌, List, [], ◌∷◌, ◌++◌, Option, Some, None, map, length}
 use Rattle.std.specs.Prelude.{if◌then◌else◌, is_none, reverse}
 use Rattle.std.specs.List.{list_any}
 use Rattle.std.specs.Option.{option_and_then, option_map_or}
@@ -18,7 +18,7 @@ use Rattle.nddl_scope.specs.Scope.{fault_if}
 use Rattle.nddl_sorts.specs.declared.kind.TypeKind.{TypeKind}
 use Rattle.nddl_lines.specs.Ancestors.{above}
 use Rattle.nddl_lines.specs.Facts.{Facts}
-use Rattle.nddl_data.specs.nddl_constructors.Creations.{is_wrong_count, meaning_wants}
+use Rattle.nddl_data.specs.nddl_constructors.Creations.{meaning_wants}
 use Rattle.nddl_data.specs.nddl_constructors.Formals.{formal_seen}
 use Rattle.nddl_data.specs.nddl_constructors.Wants.{formal_kind}
 use Rattle.nddl_data.specs.declared.made.Datum.{Datum}
@@ -55,15 +55,15 @@ super_arguments (sets.Super at arguments ∷ more) = Some arguments
 super_arguments (sets.Field name value ∷ more) = silent_arguments more
 
 -- they are handed if they are as many as are wanted
-abbrev pub fitting_arguments : List (Option TypeKind) → List Expr → Option (List Expr)
-fitting_arguments wants arguments = if is_wrong_count wants (length arguments) then None else Some arguments
+abbrev pub fitting_arguments : ℕ → List Expr → Option (List Expr)
+fitting_arguments count arguments = if count == length arguments then Some arguments else None
 
-abbrev pub handed_arguments : List (Option TypeKind) → List Set → Option (List Expr)
-handed_arguments wants body = option_and_then (fitting_arguments wants) (super_arguments body)
+abbrev pub handed_arguments : ℕ → List Set → Option (List Expr)
+handed_arguments count body = option_and_then (fitting_arguments count) (super_arguments body)
 
 -- `super` isn't as it should be
 abbrev pub is_wrong_super : List (Option TypeKind) → List Set → Bool
-is_wrong_super wants body = is_none (handed_arguments wants body) || has_late_super body
+is_wrong_super wants body = is_none (handed_arguments (length wants) body) || has_late_super body
 
 -- ---- values
 
@@ -83,7 +83,7 @@ wants_above facts entry = meaning_wants facts (above facts.names facts.program e
 -- what those arguments stand for
 abbrev pub handed_data : Grounds → Scenery → List MadeObject → List (Option TypeKind) → List Set → Option (List (Option Datum))
 handed_data grounds scene objects wants body =
-    option_map_or (λ arguments. Some (settled_data grounds scene objects wants 0 arguments)) (handed_arguments wants body) None
+    option_map_or (λ arguments. Some (settled_data grounds scene objects wants 0 arguments)) (handed_arguments (length wants) body) None
 
 -- the values that the constructor of the class of this number passes on, where it is passed these
 abbrev pub super_data : Grounds → List MadeObject → ℕ → List (Option Datum) → Member → Option (List (Option Datum))

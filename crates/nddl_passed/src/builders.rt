@@ -5,6 +5,7 @@ ghost use Rattle.std.specs.Option.{option_and_then, option_copied, option_map_or
 ghost use Rattle.nddl_scope.specs.Scope.{meaning_of};
 ghost use Rattle.nddl_lines.specs.Decls.{class_parent, decl_members};
 ghost use Rattle.nddl_lines.specs.Facts.{facts_of};
+ghost use Rattle.nddl_constructors.specs.Wanted.{wanted_kinds};
 ghost use Rattle.nddl_passed.specs.Builders.{AreBuilders, AreEntries, IsBuilder, body_numbers, builder_at, constructor_in, entry_at, wants_in, wants_over};
 ghost use Rattle.nddl_passed.specs.Classes.{constructor_sets, is_building, own_constructor};
 ghost use Rattle.nddl_passed.specs.Passing.{has_late_super};
@@ -13,8 +14,8 @@ use super::classes::{constructor_formals, constructor_sets, own_constructor};
 use super::handing::{handed_arguments, has_late_super};
 use nddl_ast::declaration::{Decl, Member};
 use nddl_ast::expression::Expr;
-use nddl_constructors::Formals;
-use nddl_data::passed_nddl_constructors::{formals_seen, meaning_wants};
+use nddl_constructors::formals::{Formals, formals_seen};
+use nddl_constructors::wanted::{Wanted, meaning_wanted};
 use nddl_lines::Basis;
 use nddl_lines::decls::{class_parent, decl_at, decl_members, number_with_body};
 use nddl_scope::{Meaning, Scope};
@@ -209,9 +210,9 @@ fn found_by<'a>(
     ensures { IfOk result (IsBuilder (facts_of basis.now) number (wants_over (facts_of basis.now) decl.now)
         (Some constructor.now)) }
 {
-    let wants = meaning_wants(alloc, basis, extended(basis.types.scope, decl))?;
-    let handed = handed_arguments(wants.as_slice(), constructor_sets(constructor));
-    let wants = wants_handed(alloc, wants, handed);
+    let wanted = meaning_wanted(alloc, basis, extended(basis.types.scope, decl))?;
+    let handed = handed_arguments(wanted.count(), constructor_sets(constructor));
+    let wants = wants_handed(alloc, basis, &wanted, handed)?;
     let formals = formals_seen(alloc, basis, constructor_formals(constructor))?;
     Ok(Some(Builder {
         constructor,
@@ -230,16 +231,18 @@ fn extended(scope: &Scope, decl: &Decl) -> Option<Meaning>
     scope.meaning(&name.text)
 }
 
-// The kinds that are wanted, if arguments are handed on. Many classes that hand on nothing may extend one that wants much.
+// The kinds of what is wanted, if arguments are handed on. Many classes that hand on nothing may extend one that wants much.
 fn wants_handed(
     alloc: Global,
-    wants: Vec<Option<TypeKind>>,
+    basis: &Basis<'_>,
+    wanted: &Wanted<'_>,
     handed: Option<&[Expr]>,
-) -> Vec<Option<TypeKind>>
-    ensures { result.items ≡ option_map_or (λ arguments. wants.items) (option_copied handed.entry) [] }
+) -> Result<Vec<Option<TypeKind>>, AllocError>
+    ensures { IfOk result (λ wants. wants.items
+        ≡ option_map_or (λ arguments. wanted_kinds (facts_of basis.now) wanted.now) (option_copied handed.entry) []) }
 {
     match handed {
-        Some(_) => wants,
-        None => Vec::new(alloc),
+        Some(_) => wanted.kinds(alloc, basis),
+        None => Ok(Vec::new(alloc)),
     }
 }

@@ -9,7 +9,8 @@ ghost use Rattle.nddl_passed.specs.Classes.{behind_all, class_taking, constructo
 
 use nddl_ast::declaration::{Member, Set, Typed};
 use nddl_ast::expression::Creation;
-use nddl_data::passed_nddl_constructors::{builtin_above, class_alone, class_wants};
+use nddl_constructors::wanted::class_wanted;
+use nddl_data::passed_nddl_constructors::{builtin_above, class_alone};
 use nddl_lines::{Basis, adding_line, building_line};
 use nddl_scope::Meaning;
 use std::alloc::{AllocError, Global};
@@ -149,8 +150,8 @@ fn class_taking(
 ) -> Result<Option<Meaning>, AllocError>
     ensures { IfOk result (λ found. found ≡ class_taking (facts_of basis.now) count class) }
 {
-    let wants = class_wants(alloc, basis, class)?;
-    Ok(if wants.len() == count {
+    let wanted = class_wanted(alloc, basis, class)?;
+    Ok(if wanted.count() == count {
         Some(class)
     } else {
         None

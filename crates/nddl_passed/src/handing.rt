@@ -6,7 +6,6 @@ ghost use Rattle.nddl_passed.specs.Passing.{handed_arguments, has_late_super, ha
 
 use nddl_ast::declaration::Set;
 use nddl_ast::expression::Expr;
-use nddl_sorts::TypeKind;
 
 fn is_super(set: &Set) -> bool
     ensures { result ≡ is_super set.now }
@@ -57,11 +56,11 @@ pub fn super_arguments(body: &[Set]) -> Option<&[Expr]>
 }
 
 /// The same, if they are as many as are wanted.
-pub fn handed_arguments<'a>(wants: &[Option<TypeKind>], body: &'a [Set]) -> Option<&'a [Expr]>
-    ensures { option_copied result ≡ handed_arguments wants.now body.now }
+pub fn handed_arguments<'a>(count: usize, body: &'a [Set]) -> Option<&'a [Expr]>
+    ensures { option_copied result ≡ handed_arguments count body.now }
 {
     let arguments = super_arguments(body)?;
-    if wants.len() == arguments.len() {
+    if count == arguments.len() {
         Some(arguments)
     } else {
         None

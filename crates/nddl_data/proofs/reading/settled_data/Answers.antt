@@ -1,5 +1,5 @@
 use Rattle.std.proofs.Common.{refl, ap, ◌∙◌}
-use Rattle.nddl_constructors.specs.Constants.{wanted_at}
+use Rattle.nddl_constructors.specs.Wants.{wanted_at}
 use Rattle.nddl_data.specs.Reading.{settled_data, settled_datum}
 use Rattle.nddl_data.specs.Scene.{grounds_of, scenery_of}
 use Rattle.nddl_data.proofs.Filling.{numbered_fill}

@@ -1,7 +1,7 @@
 use Rattle.std.proofs.Common.{◌≡◌, ◌++◌, drop, map}
 use Rattle.nddl_lines.specs.Facts.{facts_of}
 use Rattle.nddl_constructors.specs.Wants.{formal_kind}
-use Rattle.nddl_constructors.proofs.wants.formal_kinds.Given as goal
+use Rattle.nddl_constructors.proofs.wanted.formal_kinds.Given as goal
 
 -- those so far and those of the formals that are left are all
 abbrev pub invariant-loop-typed : goal.invariant-loop-typed
