@@ -7,7 +7,7 @@ use eu_io::adapters::std_sink::StdSink;
 use eu_io::adapters::std_source::StdSource;
 use eu_name::text::Text;
 use europa_run::run::europa;
-use run_printing::Status;
+use run_commands::Status;
 use std::io::ErrorKind;
 use std::process::ExitCode;
 use std::{env, io};

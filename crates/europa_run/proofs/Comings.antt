@@ -1,23 +1,23 @@
 -- What a request comes to, from what its command answers.
 use Rattle.std.proofs.Common.{◌≡◌, ℕ, false, List, [], Option, Result, Ok, Err, refl, sym, ◌∙◌, subst, inl}
-use Rattle.command_words.specs.declared.request.Request.{Request}
-use Rattle.command_words.specs.declared.request.Request.TheVariants.{Plan, Script, Check, Show, Try}
+use Rattle.run_words.specs.declared.request.Request.{Request}
+use Rattle.run_words.specs.declared.request.Request.TheVariants.{Plan, Script, Check, Show, Try}
 use Rattle.eu_io.specs.Files.{file_named}
 use Rattle.eu_io.specs.declared.shelf.FileEntry.{FileEntry}
-use Rattle.run_trials.specs.posed_files.PoseFault.{PoseFault}
-use Rattle.run_trials.specs.posed_files.PoseFault.TheVariants as pose
-use Rattle.run_trials.specs.posed_files.Pieces.{TellsPosed, fault_at}
-use Rattle.run_trials.specs.posed_files.Posing.{PosedFault, Poses}
-use Rattle.run_trials.specs.run_commands.Checking.{CheckOutput}
-use Rattle.run_trials.specs.run_commands.Planning.{PlanOutput}
-use Rattle.run_trials.specs.run_commands.Posing.{IsUnposed}
-use Rattle.run_trials.specs.run_commands.Showing.{ShowOutput}
-use Rattle.run_printing.specs.declared.lines.Printed.{Printed}
-use Rattle.run_printing.specs.declared.status.RunEnd.TheVariants.{Done, Text}
-use Rattle.run_printing.specs.declared.status.RunFault.{RunFault}
-use Rattle.run_printing.specs.declared.status.RunFault.TheVariants.{Read, Write, Memory}
-use Rattle.run_printing.specs.Printed.{AnswersAs, FaultOutput}
-use Rattle.run_trials.specs.Trying.{TryOutput}
+use Rattle.run_load.specs.declared.fault.PoseFault.{PoseFault}
+use Rattle.run_load.specs.declared.fault.PoseFault.TheVariants as pose
+use Rattle.run_load.specs.Pieces.{TellsPosed, fault_at}
+use Rattle.run_load.specs.Posing.{PosedFault, Poses}
+use Rattle.run_commands.specs.Checking.{CheckOutput}
+use Rattle.run_commands.specs.Planning.{PlanOutput}
+use Rattle.run_commands.specs.Posing.{IsUnposed}
+use Rattle.run_commands.specs.Showing.{ShowOutput}
+use Rattle.run_commands.specs.declared.lines.Printed.{Printed}
+use Rattle.run_commands.specs.declared.status.RunEnd.TheVariants.{Done, Text}
+use Rattle.run_commands.specs.declared.status.RunFault.{RunFault}
+use Rattle.run_commands.specs.declared.status.RunFault.TheVariants.{Read, Write, Memory}
+use Rattle.run_commands.specs.Printed.{AnswersAs, FaultOutput}
+use Rattle.run_commands.specs.Trying.{TryOutput}
 use Rattle.europa_run.specs.Output.{given_by, is_script, RequestOutput}
 use Rattle.europa_run.specs.Pieces.{Comes, told_answer}
 

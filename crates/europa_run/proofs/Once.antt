@@ -1,19 +1,19 @@
 -- Words have one output, and what was written before a fault comes first in it.
 use Rattle.std.proofs.Common.{◌≡◌, ℕ, List, [], ◌++◌, inl, inr, sym, ap, ◌∙◌, subst}
-use Rattle.command_words.specs.declared.request.Request.TheVariants.{Script}
-use Rattle.line_session.specs.declared.fault.SessionFault.{SessionFault}
-use Rattle.line_session.specs.declared.fault.SessionFault.TheVariants as fault
-use Rattle.line_session.specs.Ends.{begun}
-use Rattle.line_session.specs.Laws.{HasOneReply, IsFront}
-use Rattle.line_session.specs.Lines.{lines_of}
-use Rattle.line_session.specs.Sessions.{Session}
-use Rattle.line_session.proofs.LawLemmas.{fault_writes_front}
+use Rattle.run_words.specs.declared.request.Request.TheVariants.{Script}
+use Rattle.session_loop.specs.declared.fault.SessionFault.{SessionFault}
+use Rattle.session_loop.specs.declared.fault.SessionFault.TheVariants as fault
+use Rattle.session_loop.specs.Ends.{begun}
+use Rattle.session_loop.specs.Laws.{HasOneReply, IsFront}
+use Rattle.session_loop.specs.Lines.{lines_of}
+use Rattle.session_loop.specs.Sessions.{Session}
+use Rattle.session_loop.proofs.LawLemmas.{fault_writes_front}
 use Rattle.plan_soundness.specs.Soundness.{StatesHaveOnePlan}
 use Rattle.plan_verdicts.specs.Laws.{TextsAreCheckedOnce}
-use Rattle.run_trials.specs.posed_files.Laws.{IsPosedOnce, PosedIsSound}
-use Rattle.run_printing.specs.declared.status.RunEnd.{RunEnd}
-use Rattle.run_printing.specs.declared.status.RunFault.TheVariants.{Read, Write, Memory}
-use Rattle.session_laws.specs.session_core.Replies.{AnswersLine}
+use Rattle.run_load.specs.Laws.{IsPosedOnce, PosedIsSound}
+use Rattle.run_commands.specs.declared.status.RunEnd.{RunEnd}
+use Rattle.run_commands.specs.declared.status.RunFault.TheVariants.{Read, Write, Memory}
+use Rattle.session_core.specs.LineReplies.{AnswersLine}
 use Rattle.europa_run.specs.Laws.{HasOneOutput, FaultLeavesFront}
 use Rattle.europa_run.specs.Output.{Given, SessionOutput, Output}
 use Rattle.europa_run.specs.Runs.{Leavings, StopsScript}

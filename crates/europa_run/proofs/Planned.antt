@@ -1,18 +1,18 @@
 -- What the output of words that ask for a plan proves.
 use Rattle.std.proofs.Common.{ℕ, ◌≤◌, List, sym, subst}
-use Rattle.command_words.specs.declared.request.Request.TheVariants.{Plan}
+use Rattle.run_words.specs.declared.request.Request.TheVariants.{Plan}
 use Rattle.model_core.specs.History.{standing}
-use Rattle.run_trials.specs.plan_db.Database.{Database, IsSound}
+use Rattle.plan_db.specs.Database.{Database, IsSound}
 use Rattle.plan_search.specs.Search.{SearchOutcome, Searches}
-use Rattle.run_trials.specs.posed_files.Laws.{IsPosedOnce, PosedIsSound}
-use Rattle.run_trials.specs.run_commands.Searching.{SearchOutput, end_of, visits_of}
-use Rattle.run_printing.specs.declared.status.RunEnd.{RunEnd}
-use Rattle.run_trials.specs.search_texts.Texts.{TellsSearch}
-use Rattle.session_laws.proofs.Answering.{standing_settled}
-use Rattle.session_laws.proofs.Ending.{found_proves, exhausted_proves, budget_tells}
-use Rattle.run_trials.specs.solver_core.SearchEnd.{SearchEnd}
-use Rattle.run_trials.specs.solver_core.SearchEnd.TheVariants.{Found, Exhausted, Budget}
-use Rattle.run_trials.specs.solver_core.Solving.{TellsEnd}
+use Rattle.run_load.specs.Laws.{IsPosedOnce, PosedIsSound}
+use Rattle.run_commands.specs.Searching.{SearchOutput, end_of, visits_of}
+use Rattle.run_commands.specs.declared.status.RunEnd.{RunEnd}
+use Rattle.session_replies.specs.Texts.{TellsSearch}
+use Rattle.session_core.proofs.Answering.{standing_settled}
+use Rattle.session_core.proofs.Ending.{found_proves, exhausted_proves, budget_tells}
+use Rattle.solver_core.specs.declared.ending.SearchEnd.{SearchEnd}
+use Rattle.solver_core.specs.declared.ending.SearchEnd.TheVariants.{Found, Exhausted, Budget}
+use Rattle.solver_core.specs.Solving.{TellsEnd}
 use Rattle.europa_run.specs.Laws.{ProvesSearch, PlannedEndsProve}
 use Rattle.europa_run.proofs.Printing.{posed_output}
 use Rattle.europa_run.proofs.Ranging.{asked_in_range}

@@ -5,18 +5,18 @@ use Rattle.model_core.specs.declared.model.Model.{Model}
 use Rattle.model_core.specs.Lawful.{IsLawful}
 use Rattle.nddl_ast.specs.declared.declaration.Decl.{Decl}
 use Rattle.nddl_ast.specs.declared.kind.TextKind.{TextKind}
-use Rattle.nddl_includes.specs.declared.fault.TextFail.{TextFail}
-use Rattle.nddl_files.proofs.OneReading.{read_once}
-use Rattle.run_trials.specs.plan_db.Database.{Database}
+use Rattle.nddl_parser.specs.declared.fault.TextFail.{TextFail}
+use Rattle.nddl_parser.proofs.OneReading.{read_once}
+use Rattle.plan_db.specs.Database.{Database}
 use Rattle.plan_verdicts.specs.Laws.{TextsAreCheckedOnce}
-use Rattle.run_trials.specs.posed_files.Laws.{IsPosedOnce}
-use Rattle.run_trials.specs.posed_files.Posing.{PosedFault, IsPosed}
-use Rattle.run_trials.specs.run_commands.Checking.{CheckedOutput, checked_end}
-use Rattle.run_trials.specs.run_commands.Contents.{IsFaulty, HasBytes, ContentOutput}
-use Rattle.run_trials.specs.run_commands.Posing.{PosedOutput}
-use Rattle.run_trials.specs.run_commands.Showing.{ReadingOutput, TextOutput, ShowOutput}
-use Rattle.run_printing.specs.declared.status.RunEnd.{RunEnd}
-use Rattle.run_printing.specs.Printed.{FaultOutput, fault_line}
+use Rattle.run_load.specs.Laws.{IsPosedOnce}
+use Rattle.run_load.specs.Posing.{PosedFault, IsPosed}
+use Rattle.run_commands.specs.Checking.{CheckedOutput, checked_end}
+use Rattle.run_commands.specs.Contents.{IsFaulty, HasBytes, ContentOutput}
+use Rattle.run_commands.specs.Posing.{PosedOutput}
+use Rattle.run_commands.specs.Showing.{ReadingOutput, TextOutput, ShowOutput}
+use Rattle.run_commands.specs.declared.status.RunEnd.{RunEnd}
+use Rattle.run_commands.specs.Printed.{FaultOutput, fault_line}
 
 -- one text is printed, and the run ends in one way
 abbrev pub IsOne : (List ℕ → RunEnd → Type 0) → Type 0

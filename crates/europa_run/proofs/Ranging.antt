@@ -1,9 +1,9 @@
 -- What words ask for lies in its range.
 use Rattle.std.proofs.Common.{ℕ, ◌<◌, ◌≤◌, List, [], ◌∷◌, Option, Some, None, sym, subst, arith}
 use Rattle.std.specs.Prelude.{IfSome}
-use Rattle.command_words.specs.declared.request.Request.{Request}
-use Rattle.command_words.specs.declared.request.Request.TheVariants.{Plan, Script, Check, Show, Generate, Try}
-use Rattle.command_words.specs.Requests.{Asks, AreStepsOf, AreTokensOf}
+use Rattle.run_words.specs.declared.request.Request.{Request}
+use Rattle.run_words.specs.declared.request.Request.TheVariants.{Plan, Script, Check, Show, Generate, Try}
+use Rattle.run_words.specs.Requests.{Asks, AreStepsOf, AreTokensOf}
 use Rattle.europa_run.specs.Pieces.{IsInRange}
 
 abbrev AreSome : Option ℕ → Type 0

@@ -1,23 +1,23 @@
 -- The words ask for one thing, so that their output is what that gives, and what a request gives is one.
 use Rattle.std.proofs.Common.{ℕ, List, sym, ap, ◌∙◌, subst, inl, inr}
-use Rattle.command_words.specs.declared.request.Request.{Request}
-use Rattle.command_words.specs.declared.request.Request.TheVariants.{Plan, Script, Check, Show, Generate, Try}
-use Rattle.command_words.specs.Requests.{Asks}
-use Rattle.command_words.proofs.Asking.{asks_once}
+use Rattle.run_words.specs.declared.request.Request.{Request}
+use Rattle.run_words.specs.declared.request.Request.TheVariants.{Plan, Script, Check, Show, Generate, Try}
+use Rattle.run_words.specs.Requests.{Asks}
+use Rattle.run_words.proofs.Asking.{asks_once}
 use Rattle.eu_io.specs.Files.{file_named}
-use Rattle.line_session.specs.Ends.{begun}
-use Rattle.line_session.specs.Laws.{HasOneReply}
-use Rattle.line_session.specs.Lines.{lines_of}
-use Rattle.line_session.specs.Sessions.{Course}
-use Rattle.line_session.proofs.LawLemmas.{session_is_one}
-use Rattle.run_trials.specs.plan_db.Database.{Database}
+use Rattle.session_loop.specs.Ends.{begun}
+use Rattle.session_loop.specs.Laws.{HasOneReply}
+use Rattle.session_loop.specs.Lines.{lines_of}
+use Rattle.session_loop.specs.Sessions.{Course}
+use Rattle.session_loop.proofs.LawLemmas.{session_is_one}
+use Rattle.plan_db.specs.Database.{Database}
 use Rattle.plan_soundness.specs.Soundness.{StatesHaveOnePlan}
 use Rattle.plan_verdicts.specs.Laws.{TextsAreCheckedOnce}
-use Rattle.run_trials.specs.posed_files.Laws.{IsPosedOnce, PosedIsSound}
-use Rattle.run_trials.specs.run_commands.Checking.{PlanFileOutput}
-use Rattle.run_trials.specs.run_commands.Searching.{SearchOutput, visits_of}
-use Rattle.run_printing.specs.declared.status.RunEnd.{RunEnd}
-use Rattle.session_laws.specs.session_core.Replies.{AnswersLine}
+use Rattle.run_load.specs.Laws.{IsPosedOnce, PosedIsSound}
+use Rattle.run_commands.specs.Checking.{PlanFileOutput}
+use Rattle.run_commands.specs.Searching.{SearchOutput, visits_of}
+use Rattle.run_commands.specs.declared.status.RunEnd.{RunEnd}
+use Rattle.session_core.specs.LineReplies.{AnswersLine}
 use Rattle.europa_run.specs.Output.{Given, end_of, SessionOutput, RequestOutput, Output}
 use Rattle.europa_run.specs.Pieces.{IsInRange}
 use Rattle.europa_run.proofs.Printing.{IsOne, posed_one, show_one, plan_file_one}

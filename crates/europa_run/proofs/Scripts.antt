@@ -1,22 +1,22 @@
 -- What the session of a script leaves is what the run of the words leaves.
 use Rattle.std.proofs.Common.{◌≡◌, ℕ, List, [], ◌++◌, Some, Result, Ok, Err, inl, inr, refl, sym, ap, ◌∙◌, subst, append-nil}
-use Rattle.command_words.specs.declared.request.Request.{Request}
-use Rattle.command_words.specs.declared.request.Request.TheVariants.{Script}
-use Rattle.command_words.specs.Requests.{Asks}
+use Rattle.run_words.specs.declared.request.Request.{Request}
+use Rattle.run_words.specs.declared.request.Request.TheVariants.{Script}
+use Rattle.run_words.specs.Requests.{Asks}
 use Rattle.eu_io.specs.declared.shelf.FileEntry.{FileEntry}
-use Rattle.line_session.specs.declared.fault.SessionFault.{SessionFault}
-use Rattle.line_session.specs.declared.fault.SessionFault.TheVariants as fault
-use Rattle.line_session.specs.declared.talk.SessionEnd.{SessionEnd}
-use Rattle.line_session.specs.declared.talk.SessionEnd.TheVariants.{OfInput, ByAnswer}
-use Rattle.line_session.specs.Ends.{Passage, input_of, course_of, begun, Ends}
-use Rattle.line_session.specs.Lines.{lines_of}
-use Rattle.line_session.specs.Sessions.{Ending, AtEnd, AtAnswer, AtLimit, Session}
-use Rattle.run_trials.specs.plan_db.Answers.{Held}
-use Rattle.run_trials.specs.plan_db.Database.{Database}
-use Rattle.run_printing.specs.declared.status.RunEnd.{RunEnd}
-use Rattle.run_printing.specs.declared.status.RunEnd.TheVariants.{Done, LinesSpent}
-use Rattle.run_printing.specs.declared.status.RunFault.{RunFault}
-use Rattle.session_laws.specs.session_core.Replies.{AnswersLine}
+use Rattle.session_loop.specs.declared.fault.SessionFault.{SessionFault}
+use Rattle.session_loop.specs.declared.fault.SessionFault.TheVariants as fault
+use Rattle.session_loop.specs.declared.talk.SessionEnd.{SessionEnd}
+use Rattle.session_loop.specs.declared.talk.SessionEnd.TheVariants.{OfInput, ByAnswer}
+use Rattle.session_loop.specs.Ends.{Passage, input_of, course_of, begun, Ends}
+use Rattle.session_loop.specs.Lines.{lines_of}
+use Rattle.session_loop.specs.Sessions.{Ending, AtEnd, AtAnswer, AtLimit, Session}
+use Rattle.plan_db.specs.Answers.{Held}
+use Rattle.plan_db.specs.Database.{Database}
+use Rattle.run_commands.specs.declared.status.RunEnd.{RunEnd}
+use Rattle.run_commands.specs.declared.status.RunEnd.TheVariants.{Done, LinesSpent}
+use Rattle.run_commands.specs.declared.status.RunFault.{RunFault}
+use Rattle.session_core.specs.LineReplies.{AnswersLine}
 use Rattle.europa_run.specs.declared.answering.Answer.TheVariants as answer
 use Rattle.europa_run.specs.Output.{Given, given_by, end_of, Output}
 use Rattle.europa_run.specs.Pieces.{Comes, ended_by, Streams, EditTells, RunsRequest}

@@ -1,17 +1,17 @@
 -- What is printed is the output of the words, or a front of it.
 use Rattle.std.proofs.Common.{◌≡◌, ℕ, true, false, List, [], ◌++◌, Option, Some, None, Result, Ok, Err, refl, sym, ap, ◌∙◌, subst, inl, inr, append-nil}
 use Rattle.std.specs.Io.KnownBytes.{Appends}
-use Rattle.command_words.specs.declared.request.Request.{Request}
-use Rattle.command_words.specs.declared.request.Request.TheVariants.{Script}
-use Rattle.command_words.specs.Requests.{Asks, AreNoCommand}
-use Rattle.command_words.proofs.Asking.{asks_once}
+use Rattle.run_words.specs.declared.request.Request.{Request}
+use Rattle.run_words.specs.declared.request.Request.TheVariants.{Script}
+use Rattle.run_words.specs.Requests.{Asks, AreNoCommand}
+use Rattle.run_words.proofs.Asking.{asks_once}
 use Rattle.eu_io.specs.declared.shelf.FileEntry.{FileEntry}
-use Rattle.run_printing.specs.declared.lines.Printed.{Printed}
-use Rattle.run_printing.specs.declared.status.RunEnd.{RunEnd}
-use Rattle.run_printing.specs.declared.status.RunEnd.TheVariants.{Done, Usage}
-use Rattle.run_printing.specs.declared.status.RunFault.{RunFault}
-use Rattle.run_printing.specs.declared.status.RunFault.TheVariants.{Read, Write, Memory}
-use Rattle.run_printing.specs.Printed.{Prints}
+use Rattle.run_commands.specs.declared.lines.Printed.{Printed}
+use Rattle.run_commands.specs.declared.status.RunEnd.{RunEnd}
+use Rattle.run_commands.specs.declared.status.RunEnd.TheVariants.{Done, Usage}
+use Rattle.run_commands.specs.declared.status.RunFault.{RunFault}
+use Rattle.run_commands.specs.declared.status.RunFault.TheVariants.{Read, Write, Memory}
+use Rattle.run_commands.specs.Printed.{Prints}
 use Rattle.europa_run.specs.declared.answering.Answer.TheVariants as answer
 use Rattle.europa_run.specs.Output.{given_by, is_script, RequestOutput, Output}
 use Rattle.europa_run.specs.Pieces.{Comes, RunsRequest, UsagePrints}

@@ -1,15 +1,15 @@
 -- Laws of runs.
 use Rattle.std.specs.Prelude.{◌≡◌, ℕ, List, Option, Err}
-use Rattle.command_words.specs.declared.request.Request.TheVariants.{Plan}
-use Rattle.command_words.specs.Requests.{Asks}
-use Rattle.line_session.specs.Laws.{IsFront}
-use Rattle.run_trials.specs.plan_db.Database.{Database}
-use Rattle.run_trials.specs.posed_files.Posing.{IsPosed}
-use Rattle.run_trials.specs.run_commands.Searching.{visits_of}
-use Rattle.run_printing.specs.declared.status.RunEnd.{RunEnd}
-use Rattle.run_printing.specs.declared.status.RunEnd.TheVariants.{Done, Exhausted, Budget}
-use Rattle.run_printing.specs.declared.status.RunFault.{RunFault}
-use Rattle.session_laws.specs.Laws.{ProvesPlan, ProvesNone, TellsBudget}
+use Rattle.run_words.specs.declared.request.Request.TheVariants.{Plan}
+use Rattle.run_words.specs.Requests.{Asks}
+use Rattle.session_loop.specs.Laws.{IsFront}
+use Rattle.plan_db.specs.Database.{Database}
+use Rattle.run_load.specs.Posing.{IsPosed}
+use Rattle.run_commands.specs.Searching.{visits_of}
+use Rattle.run_commands.specs.declared.status.RunEnd.{RunEnd}
+use Rattle.run_commands.specs.declared.status.RunEnd.TheVariants.{Done, Exhausted, Budget}
+use Rattle.run_commands.specs.declared.status.RunFault.{RunFault}
+use Rattle.session_core.specs.Laws.{ProvesPlan, ProvesNone, TellsBudget}
 use Rattle.europa_run.specs.Output.{Given, Output}
 use Rattle.europa_run.specs.Runs.{Leavings, RunLeaves}
 

@@ -1,24 +1,24 @@
 -- What the program prints and how its run ends, as a relation between what is asked for, the files, the input and the output.
 use Rattle.std.specs.Prelude.{◌≡◌, ℕ, Bool, true, false, List, ◌⊎◌}
-use Rattle.command_words.specs.declared.request.Request.{Request}
-use Rattle.command_words.specs.declared.request.Request.TheVariants.{Plan, Script, Check, Show, Generate, Try}
-use Rattle.command_words.specs.Requests.{Asks, AreNoCommand}
+use Rattle.run_words.specs.declared.request.Request.{Request}
+use Rattle.run_words.specs.declared.request.Request.TheVariants.{Plan, Script, Check, Show, Generate, Try}
+use Rattle.run_words.specs.Requests.{Asks, AreNoCommand}
 use Rattle.eu_io.specs.Files.{file_named}
 use Rattle.eu_io.specs.declared.shelf.FileEntry.{FileEntry}
-use Rattle.line_session.specs.Ends.{begun}
-use Rattle.line_session.specs.Lines.{lines_of}
-use Rattle.line_session.specs.Sessions.{Ending, AtEnd, AtAnswer, AtLimit, Course, Session}
-use Rattle.run_trials.specs.plan_db.Database.{Database}
-use Rattle.run_trials.specs.run_commands.Checking.{CheckOutput}
-use Rattle.run_trials.specs.run_commands.Generating.{GenerateOutput}
-use Rattle.run_trials.specs.run_commands.Planning.{PlanOutput}
-use Rattle.run_trials.specs.run_commands.Posing.{PosedOutput}
-use Rattle.run_trials.specs.run_commands.Showing.{ShowOutput}
-use Rattle.run_printing.specs.declared.status.RunEnd.{RunEnd}
-use Rattle.run_printing.specs.declared.status.RunEnd.TheVariants.{Done, LinesSpent}
-use Rattle.run_printing.specs.Printed.{UsageOutput}
-use Rattle.run_trials.specs.Trying.{TryOutput}
-use Rattle.session_laws.specs.session_core.Replies.{AnswersLine}
+use Rattle.session_loop.specs.Ends.{begun}
+use Rattle.session_loop.specs.Lines.{lines_of}
+use Rattle.session_loop.specs.Sessions.{Ending, AtEnd, AtAnswer, AtLimit, Course, Session}
+use Rattle.plan_db.specs.Database.{Database}
+use Rattle.run_commands.specs.Checking.{CheckOutput}
+use Rattle.run_commands.specs.Generating.{GenerateOutput}
+use Rattle.run_commands.specs.Planning.{PlanOutput}
+use Rattle.run_commands.specs.Posing.{PosedOutput}
+use Rattle.run_commands.specs.Showing.{ShowOutput}
+use Rattle.run_commands.specs.declared.status.RunEnd.{RunEnd}
+use Rattle.run_commands.specs.declared.status.RunEnd.TheVariants.{Done, LinesSpent}
+use Rattle.run_commands.specs.Printed.{UsageOutput}
+use Rattle.run_commands.specs.Trying.{TryOutput}
+use Rattle.session_core.specs.LineReplies.{AnswersLine}
 
 -- what a run may read: the files, and the bytes of its input
 pub record Given : Type 0 where

@@ -1,23 +1,23 @@
 -- What the parts of a run do. The public call promises none of it.
 use Rattle.std.specs.Prelude.{◌≡◌, ℕ, ◌<◌, ◌≤◌, ⊤, Bool, true, false, List, ◌++◌, Option, Result, Ok, Err, IfSome}
 use Rattle.std.specs.Io.KnownBytes.{Appends}
-use Rattle.command_words.specs.declared.request.Request.{Request}
-use Rattle.command_words.specs.declared.request.Request.TheVariants.{Plan, Script, Check, Show, Generate, Try}
-use Rattle.command_words.specs.Requests.{Asks}
+use Rattle.run_words.specs.declared.request.Request.{Request}
+use Rattle.run_words.specs.declared.request.Request.TheVariants.{Plan, Script, Check, Show, Generate, Try}
+use Rattle.run_words.specs.Requests.{Asks}
 use Rattle.eu_io.specs.declared.shelf.FileEntry.{FileEntry}
-use Rattle.line_session.specs.declared.fault.SessionFault.{SessionFault}
-use Rattle.line_session.specs.declared.fault.SessionFault.TheVariants as session
-use Rattle.line_session.specs.declared.talk.SessionEnd.{SessionEnd}
-use Rattle.line_session.specs.Ends.{SessionTells}
-use Rattle.run_trials.specs.plan_db.Database.{Database}
-use Rattle.run_trials.specs.posed_files.Posing.{Poses}
-use Rattle.run_printing.specs.declared.lines.Printed.{Printed as Line}
-use Rattle.run_printing.specs.declared.status.RunEnd.{RunEnd}
-use Rattle.run_printing.specs.declared.status.RunEnd.TheVariants.{Done, LinesSpent}
-use Rattle.run_printing.specs.declared.status.RunFault.{RunFault}
-use Rattle.run_printing.specs.declared.status.RunFault.TheVariants as run
-use Rattle.run_printing.specs.Printed.{UsageOutput}
-use Rattle.session_laws.specs.session_core.Replies.{AnswersLine}
+use Rattle.session_loop.specs.declared.fault.SessionFault.{SessionFault}
+use Rattle.session_loop.specs.declared.fault.SessionFault.TheVariants as session
+use Rattle.session_loop.specs.declared.talk.SessionEnd.{SessionEnd}
+use Rattle.session_loop.specs.Ends.{SessionTells}
+use Rattle.plan_db.specs.Database.{Database}
+use Rattle.run_load.specs.Posing.{Poses}
+use Rattle.run_commands.specs.declared.lines.Printed.{Printed as Line}
+use Rattle.run_commands.specs.declared.status.RunEnd.{RunEnd}
+use Rattle.run_commands.specs.declared.status.RunEnd.TheVariants.{Done, LinesSpent}
+use Rattle.run_commands.specs.declared.status.RunFault.{RunFault}
+use Rattle.run_commands.specs.declared.status.RunFault.TheVariants as run
+use Rattle.run_commands.specs.Printed.{UsageOutput}
+use Rattle.session_core.specs.LineReplies.{AnswersLine}
 use Rattle.europa_run.specs.declared.answering.Answer.{Answer}
 use Rattle.europa_run.specs.declared.answering.Answer.TheVariants as answer
 use Rattle.europa_run.specs.Output.{given_by, is_script, RequestOutput}

@@ -1,23 +1,23 @@
 -- What a run of the program leaves: its output or, after a fault, what was written of it and what was lost.
 use Rattle.std.specs.Prelude.{◌≡◌, ℕ, Bool, true, false, List, [], ◌++◌, ◌⊎◌, Option, Some, Result, Ok, Err}
-use Rattle.command_words.specs.declared.request.Request.TheVariants.{Script}
-use Rattle.command_words.specs.Requests.{Asks}
+use Rattle.run_words.specs.declared.request.Request.TheVariants.{Script}
+use Rattle.run_words.specs.Requests.{Asks}
 use Rattle.eu_io.specs.Faults.{raised}
 use Rattle.eu_io.specs.declared.shelf.FileEntry.{FileEntry}
-use Rattle.line_session.specs.declared.fault.SessionFault.{SessionFault}
-use Rattle.line_session.specs.declared.fault.SessionFault.TheVariants as session
-use Rattle.line_session.specs.Ends.{Passage, input_of, begun, Ends}
-use Rattle.line_session.specs.Lines.{lines_of}
-use Rattle.line_session.specs.Sessions.{AtAnswer, Course, Session}
-use Rattle.run_trials.specs.plan_db.Database.{Database}
-use Rattle.run_trials.specs.posed_files.Posing.{IsPosed}
-use Rattle.run_printing.specs.declared.status.RunEnd.{RunEnd}
-use Rattle.run_printing.specs.declared.status.RunEnd.TheVariants.{Done}
-use Rattle.run_printing.specs.declared.status.RunFault.{RunFault}
-use Rattle.run_printing.specs.declared.status.RunFault.TheVariants.{Read, Write, Memory}
-use Rattle.run_printing.specs.declared.status.Status.{Status}
-use Rattle.run_printing.specs.Statuses.{status_of}
-use Rattle.session_laws.specs.session_core.Replies.{AnswersLine}
+use Rattle.session_loop.specs.declared.fault.SessionFault.{SessionFault}
+use Rattle.session_loop.specs.declared.fault.SessionFault.TheVariants as session
+use Rattle.session_loop.specs.Ends.{Passage, input_of, begun, Ends}
+use Rattle.session_loop.specs.Lines.{lines_of}
+use Rattle.session_loop.specs.Sessions.{AtAnswer, Course, Session}
+use Rattle.plan_db.specs.Database.{Database}
+use Rattle.run_load.specs.Posing.{IsPosed}
+use Rattle.run_commands.specs.declared.status.RunEnd.{RunEnd}
+use Rattle.run_commands.specs.declared.status.RunEnd.TheVariants.{Done}
+use Rattle.run_commands.specs.declared.status.RunFault.{RunFault}
+use Rattle.run_commands.specs.declared.status.RunFault.TheVariants.{Read, Write, Memory}
+use Rattle.run_commands.specs.declared.status.Status.{Status}
+use Rattle.run_commands.specs.Statuses.{status_of}
+use Rattle.session_core.specs.LineReplies.{AnswersLine}
 use Rattle.europa_run.specs.Output.{Given, given_by, Output}
 
 -- the bytes of its input that a run left, and what it wrote

@@ -3,19 +3,17 @@
 ghost use Rattle.std.specs.Prelude.{◌≡◌, List, Some, true, false, IfOk};
 ghost use Rattle.eu_io.specs.declared.shelf.FileEntry.{FileEntry};
 ghost use Rattle.eu_io.specs.Faults.{counted};
-ghost use Rattle.command_words.specs.declared.request.Request.TheVariants.{Script as AskedScript};
+ghost use Rattle.run_words.specs.declared.request.Request.TheVariants.{Script as AskedScript};
 ghost use Rattle.europa_run.specs.Output.{asks_files, is_script};
 ghost use Rattle.europa_run.specs.Pieces.{Comes, IsInRange, is_session, told_answer};
-ghost use Rattle.run_printing.specs.Statuses.{is_read, is_write};
+ghost use Rattle.run_commands.specs.Statuses.{is_read, is_write};
 
-use command_words::request::Request;
 use eu_io::shelf::Shelf;
 use eu_name::text::Text;
-use run_printing::{Printed, RunFault};
-use run_trials::passed_plan_db::Db;
-use run_trials::passed_posed_files::pose;
-use run_trials::passed_run_commands::{check, generated, plan, show, unposed};
-use run_trials::trial;
+use plan_db::Db;
+use run_commands::{Printed, RunFault, check, generated, plan, show, trial, unposed};
+use run_load::pose;
+use run_words::request::Request;
 use std::alloc::Global;
 
 /// What a request comes to.

@@ -4,8 +4,8 @@ ghost use Rattle.europa_run.specs.Laws.{HasOneOutput, FaultLeavesFront, PlannedE
 
 use plan_soundness::a_state_has_one_plan;
 use plan_verdicts::laws::texts_are_checked_once;
-use run_trials::passed_posed_files::{posed_databases_are_sound, posed_once};
-use session_laws::laws::each_line_has_one_reply;
+use run_load::laws::{posed_databases_are_sound, posed_once};
+use session_core::laws::each_line_has_one_reply;
 
 /// A law: over the same files and input words have one output, and one end.
 pub fn words_have_one_output()

@@ -5,16 +5,16 @@ ghost use Rattle.eu_io.specs.Faults.{counted};
 ghost use Rattle.europa_run.specs.Output.{AsksNoFile, AsksNoScript, asks_files, is_script};
 ghost use Rattle.europa_run.specs.Pieces.{IsInRange, RunsRequest, UsagePrints};
 ghost use Rattle.europa_run.specs.Runs.{Runs, RunsTo, RaisesReads};
-ghost use Rattle.run_printing.specs.Statuses.{is_read, is_write, is_read_status, is_write_status};
+ghost use Rattle.run_commands.specs.Statuses.{is_read, is_write, is_read_status, is_write_status};
 
 use super::answering::{Answer, answer_request};
 use super::talking::talk;
-use command_words::request::{Request, read_words};
 use eu_io::shelf::Shelf;
 use eu_io::sink::Sink;
 use eu_io::source::Source;
 use eu_name::text::Text;
-use run_printing::{RunEnd, RunFault, Status, print, status_of, usage};
+use run_commands::{RunEnd, RunFault, Status, print, status_of, usage};
+use run_words::request::{Request, read_words};
 use std::alloc::Global;
 
 /// Runs the program on the words after its name: carries out the command that they ask for, over the files that they name, and says

@@ -3,16 +3,16 @@
 ghost use Rattle.std.specs.Prelude.{◌≡◌};
 ghost use Rattle.eu_io.specs.Faults.{counted};
 ghost use Rattle.europa_run.specs.Pieces.{EditTells, ended_by};
-ghost use Rattle.run_printing.specs.Statuses.{is_read, is_write};
+ghost use Rattle.run_commands.specs.Statuses.{is_read, is_write};
 
 use eu_io::sink::Sink;
 use eu_io::source::Source;
-use line_session::fault::SessionFault;
-use line_session::talk::{SessionEnd, session};
-use run_printing::{RunEnd, RunFault};
-use run_trials::passed_plan_db::Db;
-use run_trials::passed_plan_release::let_go;
-use session_laws::passed_session_core::Editor;
+use plan_db::Db;
+use plan_release::let_go;
+use run_commands::{RunEnd, RunFault};
+use session_core::Editor;
+use session_loop::fault::SessionFault;
+use session_loop::talk::{SessionEnd, session};
 use std::alloc::Global;
 
 /// Answers the input's lines over the database.

@@ -1,3 +1,4 @@
 pub mod Lists
 pub mod Blocks
 pub mod Equal
+pub mod Paths

@@ -7,4 +7,4 @@ pub mod SameStatement
 pub mod Places
 pub mod Unplaced
 pub mod Kinds
-pub mod eu_name
+pub mod Path

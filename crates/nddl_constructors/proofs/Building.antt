@@ -5,10 +5,10 @@ use Rattle.std.specs.Option.{option_or}
 use Rattle.nddl_ast.specs.declared.declaration.Decl.{Decl}
 use Rattle.nddl_ast.specs.declared.declaration.Member.{Member}
 use Rattle.nddl_ast.specs.declared.declaration.Member.TheVariants as members
-use Rattle.nddl_scope.specs.declared.declared.Declared.{Declared}
-use Rattle.nddl_lines.specs.Decls.{members_of}
-use Rattle.nddl_lines.specs.Shorter.{BuildTheSame, builds, has_constructor}
-use Rattle.nddl_lines.proofs.Keeping.{found_kept}
+use Rattle.nddl_symbols.specs.declared.declared.Declared.{Declared}
+use Rattle.nddl_hierarchy.specs.Decls.{members_of}
+use Rattle.nddl_hierarchy.specs.Shorter.{BuildTheSame, builds, has_constructor}
+use Rattle.nddl_hierarchy.proofs.Keeping.{found_kept}
 use Rattle.nddl_constructors.specs.Wants.{line_formals, own_formals}
 
 no_formals : (some : List Member) → has_constructor some ≡ false → own_formals some ≡ None

@@ -2,9 +2,9 @@
 use Rattle.std.proofs.Common.{◌≡◌, ℕ, ◌+◌, ◌<◌, List, ◌∷◌, ◌++◌, length, drop, get_or, sym, ◌∙◌, ap}
 use Rattle.std.specs.Prelude.{Option}
 use Rattle.std.proofs.lemmas.List.{drop_more}
-use Rattle.nddl_scope.specs.declared.fault.Fault.{Fault}
-use Rattle.nddl_scope.specs.Finding.{earliest_fault}
-use Rattle.nddl_scope.proofs.Earliest.{earliest_append}
+use Rattle.nddl_symbols.specs.declared.fault.Fault.{Fault}
+use Rattle.nddl_symbols.specs.Finding.{earliest_fault}
+use Rattle.nddl_symbols.proofs.Earliest.{earliest_append}
 
 -- one thing more has been dealt with
 pub numbered_step : {X : Type 0} (f : ℕ → X → List Fault) (all : ℕ → List X → List Fault)

@@ -3,9 +3,9 @@ use Rattle.std.proofs.Common.{◌≡◌, ℕ, ◌+◌, Bool, cond, List, [], ◌
 use Rattle.std.specs.List.{position_from}
 use Rattle.std.specs.Str.{bytes_eq}
 use Rattle.nddl_ast.specs.declared.declaration.Typed.{Typed}
-use Rattle.nddl_scope.specs.Index.{Noted, noted_number}
-use Rattle.nddl_lines.specs.Facts.{Facts}
-use Rattle.nddl_paths.specs.declared.denoted.Seen.{Seen}
+use Rattle.nddl_symbols.specs.Index.{Noted, noted_number}
+use Rattle.nddl_hierarchy.specs.Facts.{Facts}
+use Rattle.nddl_resolve.specs.declared.denoted.Seen.{Seen}
 use Rattle.nddl_constructors.specs.Formals.{AreNumbered, formal_number, formal_seen, typed_number}
 
 abbrev pub is_typed_named : List ℕ → Typed → Bool

@@ -1,14 +1,15 @@
 -- The built-in class that a class leads up to is what the last class of its line extends.
 use Rattle.std.proofs.Common.{◌≡◌, ℕ, true, List, [], ◌∷◌, sym, ◌∙◌, ap, subst}
 use Rattle.std.specs.Prelude.{Option, Some, None, slice_get}
-use Rattle.lineage.specs.Lines.{LeadsUp}
+use Rattle.eu_forest.specs.Lines.{LeadsUp}
 use Rattle.nddl_ast.specs.declared.declaration.Decl.{Decl}
-use Rattle.nddl_scope.specs.declared.declared.Declared.{Declared}
-use Rattle.nddl_scope.specs.Scope.{is_class_at}
-use Rattle.nddl_lines.specs.Ancestors.{above, ancestry}
-use Rattle.nddl_lines.specs.Lines.{parents_of}
-use Rattle.nddl_lines.proofs.Extending.{on_the_way}
-use Rattle.lineage.proofs.Ways.{ancestry_is}
+use Rattle.nddl_symbols.specs.declared.declared.Declared.{Declared}
+use Rattle.nddl_symbols.specs.Scope.{is_class_at}
+use Rattle.nddl_hierarchy.specs.Ancestors.{above}
+use Rattle.eu_forest.specs.Ancestors.{ancestry}
+use Rattle.nddl_hierarchy.specs.Lines.{parents_of}
+use Rattle.nddl_hierarchy.proofs.Extending.{on_the_way}
+use Rattle.eu_forest.proofs.Ways.{ancestry_is}
 use Rattle.nddl_constructors.specs.Wants.{builtin_along, builtin_or}
 
 module _ (names : List Declared) (program : List Decl) where

@@ -4,9 +4,9 @@ use Rattle.std.specs.Prelude.{Option, Some, None}
 use Rattle.std.specs.Option.{option_or}
 use Rattle.nddl_ast.specs.declared.declaration.Decl.{Decl}
 use Rattle.nddl_ast.specs.declared.declaration.Typed.{Typed}
-use Rattle.nddl_scope.specs.declared.declared.Declared.{Declared}
-use Rattle.nddl_lines.specs.Ancestors.{line_from, parent_in}
-use Rattle.nddl_lines.specs.Decls.{members_of}
+use Rattle.nddl_symbols.specs.declared.declared.Declared.{Declared}
+use Rattle.eu_forest.specs.Ancestors.{line_from, parent_in}
+use Rattle.nddl_hierarchy.specs.Decls.{members_of}
 use Rattle.nddl_constructors.specs.Wants.{line_formals, own_formals}
 
 module _ (names : List Declared) (program : List Decl) (parents : List (Option ℕ)) where

@@ -8,17 +8,17 @@ use Rattle.nddl_ast.specs.declared.declaration.Set.{Set}
 use Rattle.nddl_ast.specs.declared.declaration.Set.TheVariants as sets
 use Rattle.nddl_ast.specs.declared.expression.Expr.{Expr}
 use Rattle.nddl_ast.specs.declared.kind.TextKind.TheVariants as faults
-use Rattle.nddl_scope.specs.declared.fault.Fault.{Fault}
-use Rattle.nddl_scope.specs.declared.scope.Meaning.TheVariants as meanings
-use Rattle.nddl_scope.specs.Finding.{faults_here}
-use Rattle.nddl_scope.specs.Scope.{fault_if, named_number}
-use Rattle.nddl_sorts.specs.declared.kind.TypeKind.{TypeKind}
-use Rattle.nddl_lines.specs.Ancestors.{above}
-use Rattle.nddl_lines.specs.Facts.{Facts}
-use Rattle.nddl_paths.specs.declared.denoted.Denoted.{Denoted}
-use Rattle.nddl_paths.specs.declared.denoted.Denoted.TheVariants as denoted
-use Rattle.nddl_paths.specs.Fields.{class_field}
-use Rattle.nddl_paths.specs.Paths.{Surroundings}
+use Rattle.nddl_symbols.specs.declared.fault.Fault.{Fault}
+use Rattle.nddl_symbols.specs.declared.scope.Meaning.TheVariants as meanings
+use Rattle.nddl_symbols.specs.Finding.{faults_here}
+use Rattle.nddl_symbols.specs.Scope.{fault_if, named_number}
+use Rattle.nddl_typeexpr.specs.declared.kind.TypeKind.{TypeKind}
+use Rattle.nddl_hierarchy.specs.Ancestors.{above}
+use Rattle.nddl_hierarchy.specs.Facts.{Facts}
+use Rattle.nddl_resolve.specs.declared.denoted.Denoted.{Denoted}
+use Rattle.nddl_resolve.specs.declared.denoted.Denoted.TheVariants as denoted
+use Rattle.nddl_resolve.specs.Fields.{class_field}
+use Rattle.nddl_resolve.specs.Paths.{Surroundings}
 use Rattle.nddl_constructors.specs.Constants.{constants_faults}
 use Rattle.nddl_constructors.specs.Creations.{set_to_faults, meaning_wants}
 use Rattle.nddl_constructors.specs.Formals.{around_formals, formal_seen}

@@ -5,16 +5,16 @@ use Rattle.nddl_ast.specs.declared.expression.Expr.{Expr}
 use Rattle.nddl_ast.specs.declared.kind.TextKind.{TextKind}
 use Rattle.nddl_ast.specs.declared.kind.TextKind.TheVariants as faults
 use Rattle.nddl_ast.specs.Places.{expr_place}
-use Rattle.nddl_scope.specs.declared.fault.Fault.{Fault}
-use Rattle.nddl_scope.specs.Finding.{faults_here}
-use Rattle.nddl_scope.specs.Scope.{fault_if}
-use Rattle.nddl_sorts.specs.declared.kind.TypeKind.{TypeKind}
-use Rattle.nddl_sorts.specs.Kinds.{are_one_kind}
-use Rattle.nddl_lines.specs.Facts.{Facts}
-use Rattle.nddl_paths.specs.declared.denoted.Denoted.{Denoted}
-use Rattle.nddl_paths.specs.declared.denoted.Denoted.TheVariants as denoted
-use Rattle.nddl_paths.specs.Paths.{Surroundings, expr_denoted}
-use Rattle.nddl_paths.specs.Steps.{Understood}
+use Rattle.nddl_symbols.specs.declared.fault.Fault.{Fault}
+use Rattle.nddl_symbols.specs.Finding.{faults_here}
+use Rattle.nddl_symbols.specs.Scope.{fault_if}
+use Rattle.nddl_typeexpr.specs.declared.kind.TypeKind.{TypeKind}
+use Rattle.nddl_typeexpr.specs.Kinds.{are_one_kind}
+use Rattle.nddl_hierarchy.specs.Facts.{Facts}
+use Rattle.nddl_resolve.specs.declared.denoted.Denoted.{Denoted}
+use Rattle.nddl_resolve.specs.declared.denoted.Denoted.TheVariants as denoted
+use Rattle.nddl_resolve.specs.Paths.{Surroundings, expr_denoted}
+use Rattle.nddl_resolve.specs.Steps.{Understood}
 use Rattle.nddl_constructors.specs.Wants.{wanted_at}
 
 -- another kind is wanted; where it isn't known which, nothing is said

@@ -7,18 +7,18 @@ use Rattle.nddl_ast.specs.declared.expression.Init.{Init}
 use Rattle.nddl_ast.specs.declared.expression.Init.TheVariants as inits
 use Rattle.nddl_ast.specs.declared.kind.TextKind.{TextKind}
 use Rattle.nddl_ast.specs.declared.kind.TextKind.TheVariants as faults
-use Rattle.nddl_scope.specs.declared.declared.Declared.{Declared}
-use Rattle.nddl_scope.specs.declared.fault.Fault.{Fault}
-use Rattle.nddl_scope.specs.declared.scope.Meaning.{Meaning}
-use Rattle.nddl_scope.specs.declared.scope.Meaning.TheVariants as meanings
-use Rattle.nddl_scope.specs.Finding.{faults_here}
-use Rattle.nddl_scope.specs.Scope.{fault_if, meaning_of}
-use Rattle.nddl_sorts.specs.declared.kind.TypeKind.{TypeKind}
-use Rattle.nddl_sorts.specs.declared.kind.TypeKind.TheVariants as kinds
-use Rattle.nddl_lines.specs.Ancestors.{is_every, is_same_meaning, is_under}
-use Rattle.nddl_lines.specs.Facts.{Facts}
-use Rattle.nddl_paths.specs.nddl_classes.Classes.{class_meaning_fault}
-use Rattle.nddl_paths.specs.Paths.{Surroundings}
+use Rattle.nddl_symbols.specs.declared.declared.Declared.{Declared}
+use Rattle.nddl_symbols.specs.declared.fault.Fault.{Fault}
+use Rattle.nddl_symbols.specs.declared.scope.Meaning.{Meaning}
+use Rattle.nddl_symbols.specs.declared.scope.Meaning.TheVariants as meanings
+use Rattle.nddl_symbols.specs.Finding.{faults_here}
+use Rattle.nddl_symbols.specs.Scope.{fault_if, meaning_of}
+use Rattle.nddl_typeexpr.specs.declared.kind.TypeKind.{TypeKind}
+use Rattle.nddl_typeexpr.specs.declared.kind.TypeKind.TheVariants as kinds
+use Rattle.nddl_hierarchy.specs.Ancestors.{is_every, is_same_meaning, is_under}
+use Rattle.nddl_hierarchy.specs.Facts.{Facts}
+use Rattle.nddl_declarations.specs.Classes.{class_meaning_fault}
+use Rattle.nddl_resolve.specs.Paths.{Surroundings}
 use Rattle.nddl_constructors.specs.Constants.{constants_faults, value_faults}
 use Rattle.nddl_constructors.specs.Wants.{class_wants}
 

@@ -5,7 +5,3 @@ pub mod Formals
 pub mod Objects
 pub mod Wanted
 pub mod Wants
-pub mod nddl_classes
-pub mod nddl_lines
-pub mod nddl_paths
-pub mod nddl_schema

@@ -14,17 +14,17 @@ use Rattle.nddl_ast.specs.declared.kind.TextKind.{TextKind}
 use Rattle.nddl_ast.specs.declared.kind.TextKind.TheVariants as faults
 use Rattle.nddl_ast.specs.declared.name.Name.{Name}
 use Rattle.nddl_ast.specs.declared.statement.Variable.{Variable}
-use Rattle.nddl_scope.specs.declared.fault.Fault.{Fault}
-use Rattle.nddl_scope.specs.declared.scope.Meaning.{Meaning}
-use Rattle.nddl_scope.specs.Finding.{faults_here}
-use Rattle.nddl_scope.specs.Names.{is_config_sort, sort_of_variable}
-use Rattle.nddl_scope.specs.Scope.{fault_if, meaning_of}
-use Rattle.nddl_sorts.specs.declared.kind.TypeKind.{TypeKind}
-use Rattle.nddl_sorts.specs.declared.kind.TypeKind.TheVariants as kinds
-use Rattle.nddl_sorts.specs.Bases.{base_kind}
-use Rattle.nddl_lines.specs.Facts.{Facts}
-use Rattle.nddl_paths.specs.Paths.{Surroundings, expr_denoted}
-use Rattle.nddl_paths.specs.Steps.{Understood}
+use Rattle.nddl_symbols.specs.declared.fault.Fault.{Fault}
+use Rattle.nddl_symbols.specs.declared.scope.Meaning.{Meaning}
+use Rattle.nddl_symbols.specs.Finding.{faults_here}
+use Rattle.nddl_symbols.specs.Names.{is_config_sort, sort_of_variable}
+use Rattle.nddl_symbols.specs.Scope.{fault_if, meaning_of}
+use Rattle.nddl_typeexpr.specs.declared.kind.TypeKind.{TypeKind}
+use Rattle.nddl_typeexpr.specs.declared.kind.TypeKind.TheVariants as kinds
+use Rattle.nddl_typeexpr.specs.Bases.{base_kind}
+use Rattle.nddl_hierarchy.specs.Facts.{Facts}
+use Rattle.nddl_resolve.specs.Paths.{Surroundings, expr_denoted}
+use Rattle.nddl_resolve.specs.Steps.{Understood}
 use Rattle.nddl_constructors.specs.Bodies.{named_bodies_faults}
 use Rattle.nddl_constructors.specs.Constants.{value_faults}
 use Rattle.nddl_constructors.specs.Creations.{class_alone, set_to_faults, is_of_class}

@@ -1,7 +1,7 @@
 -- The arguments that a class wants, as they are found where they are declared.
 use Rattle.std.specs.Prelude.{ℕ, List, Option, map, length}
-use Rattle.nddl_sorts.specs.declared.kind.TypeKind.{TypeKind}
-use Rattle.nddl_lines.specs.Facts.{Facts}
+use Rattle.nddl_typeexpr.specs.declared.kind.TypeKind.{TypeKind}
+use Rattle.nddl_hierarchy.specs.Facts.{Facts}
 use Rattle.nddl_constructors.specs.declared.wanted.Wanted.{Wanted}
 use Rattle.nddl_constructors.specs.declared.wanted.Wanted.TheVariants as wanted
 use Rattle.nddl_constructors.specs.Wants.{formal_kind}

@@ -5,15 +5,16 @@ use Rattle.nddl_ast.specs.declared.declaration.Decl.{Decl}
 use Rattle.nddl_ast.specs.declared.declaration.Member.{Member}
 use Rattle.nddl_ast.specs.declared.declaration.Member.TheVariants as members
 use Rattle.nddl_ast.specs.declared.declaration.Typed.{Typed}
-use Rattle.nddl_scope.specs.declared.declared.Declared.{Declared}
-use Rattle.nddl_scope.specs.declared.scope.Meaning.{Meaning}
-use Rattle.nddl_scope.specs.declared.scope.Meaning.TheVariants as meanings
-use Rattle.nddl_sorts.specs.declared.kind.TypeKind.{TypeKind}
-use Rattle.nddl_sorts.specs.declared.kind.TypeKind.TheVariants as kinds
-use Rattle.nddl_sorts.specs.Bases.{base_kind}
-use Rattle.nddl_lines.specs.Ancestors.{above, ancestry}
-use Rattle.nddl_lines.specs.Facts.{Facts}
-use Rattle.nddl_lines.specs.Decls.{members_of}
+use Rattle.nddl_symbols.specs.declared.declared.Declared.{Declared}
+use Rattle.nddl_symbols.specs.declared.scope.Meaning.{Meaning}
+use Rattle.nddl_symbols.specs.declared.scope.Meaning.TheVariants as meanings
+use Rattle.nddl_typeexpr.specs.declared.kind.TypeKind.{TypeKind}
+use Rattle.nddl_typeexpr.specs.declared.kind.TypeKind.TheVariants as kinds
+use Rattle.nddl_typeexpr.specs.Bases.{base_kind}
+use Rattle.nddl_hierarchy.specs.Ancestors.{above}
+use Rattle.eu_forest.specs.Ancestors.{ancestry}
+use Rattle.nddl_hierarchy.specs.Facts.{Facts}
+use Rattle.nddl_hierarchy.specs.Decls.{members_of}
 
 -- ---- formals
 

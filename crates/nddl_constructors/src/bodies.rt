@@ -2,9 +2,9 @@
 
 ghost use Rattle.std.specs.Prelude.{◌≡◌, IfOk, OnOk, map};
 ghost use Rattle.nddl_ast.specs.declared.declaration.Set.TheVariants.{Field};
-ghost use Rattle.nddl_scope.specs.Finding.{earliest_fault};
-ghost use Rattle.nddl_lines.specs.Facts.{facts_of};
-ghost use Rattle.nddl_paths.specs.Paths.{around_of};
+ghost use Rattle.nddl_symbols.specs.Finding.{earliest_fault};
+ghost use Rattle.nddl_hierarchy.specs.Facts.{facts_of};
+ghost use Rattle.nddl_resolve.specs.Paths.{around_of};
 ghost use Rattle.nddl_constructors.specs.Formals.{around_formals, formal_seen};
 ghost use Rattle.nddl_constructors.specs.Bodies.{bodies_faults, body_faults, field_in_line, field_kind, named_bodies_faults, set_faults_in, sets_faults, super_faults};
 
@@ -17,14 +17,14 @@ use nddl_ast::TextKind;
 use nddl_ast::declaration::{Member, Set, Typed};
 use nddl_ast::expression::{Expr, Init};
 use nddl_ast::name::Name;
-use nddl_lines::Basis;
-use nddl_lines::lines::above;
-use nddl_paths::fields::class_field;
-use nddl_paths::{Around, Denoted};
-use nddl_scope::fault::note_at;
-use nddl_scope::twice::kind_if;
-use nddl_scope::{Fault, Meaning};
-use nddl_sorts::TypeKind;
+use nddl_hierarchy::Basis;
+use nddl_hierarchy::lines::above;
+use nddl_resolve::fields::class_field;
+use nddl_resolve::{Around, Denoted};
+use nddl_symbols::fault::note_at;
+use nddl_symbols::twice::kind_if;
+use nddl_symbols::{Fault, Meaning};
+use nddl_typeexpr::TypeKind;
 use std::alloc::{AllocError, Global};
 
 /// What the field of this name is, of the class of this number or of one that it extends.
@@ -68,7 +68,7 @@ pub fn note_bodies(
 }
 
 // Notes the same, of the class of this number.
-#[tactic(auto, using(nddl_scope::proofs::Earliest::earliest_append))]
+#[tactic(auto, using(nddl_symbols::proofs::Earliest::earliest_append))]
 fn note_all_bodies(
     alloc: Global,
     basis: &Basis<'_>,
@@ -132,7 +132,7 @@ fn note_body_of(
 }
 
 // Notes all that is wrong with the parts of a body.
-#[tactic(auto, using(nddl_scope::proofs::Earliest::earliest_append))]
+#[tactic(auto, using(nddl_symbols::proofs::Earliest::earliest_append))]
 fn note_sets(
     alloc: Global,
     basis: &Basis<'_>,
@@ -181,7 +181,7 @@ fn note_set(
 }
 
 // Notes all that is wrong where a field is set.
-#[tactic(auto, using(nddl_scope::proofs::Earliest::earliest_append))]
+#[tactic(auto, using(nddl_symbols::proofs::Earliest::earliest_append))]
 fn note_field(
     alloc: Global,
     basis: &Basis<'_>,

@@ -1,22 +1,22 @@
 //! What is wrong with values that have to be constants of some kind.
 
 ghost use Rattle.std.specs.Prelude.{◌≡◌, OnOk};
-ghost use Rattle.nddl_scope.specs.Finding.{earliest_fault};
-ghost use Rattle.nddl_lines.specs.Facts.{facts_of};
-ghost use Rattle.nddl_paths.specs.Paths.{around_of};
+ghost use Rattle.nddl_symbols.specs.Finding.{earliest_fault};
+ghost use Rattle.nddl_hierarchy.specs.Facts.{facts_of};
+ghost use Rattle.nddl_resolve.specs.Paths.{around_of};
 ghost use Rattle.nddl_constructors.specs.Wanted.{wanted_kinds};
 ghost use Rattle.nddl_constructors.specs.Constants.{constant_fault, constant_faults, constants_faults, is_understood, is_unwanted, value_faults};
 
 use super::wanted::Wanted;
 use nddl_ast::TextKind;
 use nddl_ast::expression::Expr;
-use nddl_lines::Basis;
-use nddl_paths::{Around, Denoted, PathFault, expr_denoted};
-use nddl_scope::Fault;
-use nddl_scope::fault::note_at;
-use nddl_scope::twice::kind_if;
-use nddl_sorts::TypeKind;
-use nddl_sorts::kind::are_one_kind;
+use nddl_hierarchy::Basis;
+use nddl_resolve::{Around, Denoted, PathFault, expr_denoted};
+use nddl_symbols::Fault;
+use nddl_symbols::fault::note_at;
+use nddl_symbols::twice::kind_if;
+use nddl_typeexpr::TypeKind;
+use nddl_typeexpr::kind::are_one_kind;
 use std::alloc::{AllocError, Global};
 
 // Whether another kind is wanted.
@@ -90,7 +90,7 @@ pub fn note_value(
 }
 
 /// Notes all that is wrong with arguments by themselves, where these are wanted.
-#[tactic(auto, using(nddl_scope::proofs::Earliest::earliest_append))]
+#[tactic(auto, using(nddl_symbols::proofs::Earliest::earliest_append))]
 pub fn note_arguments(
     alloc: Global,
     basis: &Basis<'_>,

@@ -2,9 +2,9 @@
 
 ghost use Rattle.std.specs.Prelude.{◌≡◌, IfOk, OnOk};
 ghost use Rattle.nddl_ast.specs.declared.expression.Init.TheVariants.{New};
-ghost use Rattle.nddl_scope.specs.Finding.{earliest_fault};
-ghost use Rattle.nddl_lines.specs.Facts.{facts_of};
-ghost use Rattle.nddl_paths.specs.Paths.{around_of};
+ghost use Rattle.nddl_symbols.specs.Finding.{earliest_fault};
+ghost use Rattle.nddl_hierarchy.specs.Facts.{facts_of};
+ghost use Rattle.nddl_resolve.specs.Paths.{around_of};
 ghost use Rattle.nddl_constructors.specs.Wanted.{wanted_kinds};
 ghost use Rattle.nddl_constructors.specs.Creations.{class_alone, creation_faults, creation_faults_by, set_to_faults, is_no_object, is_of_class, made_fault};
 
@@ -12,15 +12,15 @@ use super::constants::{note_arguments, note_value};
 use super::wanted::{Wanted, meaning_wanted};
 use nddl_ast::TextKind;
 use nddl_ast::expression::{Creation, Init};
-use nddl_lines::Basis;
-use nddl_lines::lines::is_same_meaning;
-use nddl_lines::under::is_under;
-use nddl_paths::Around;
-use nddl_paths::passed_nddl_classes::class_fault;
-use nddl_scope::fault::note_at;
-use nddl_scope::twice::kind_if;
-use nddl_scope::{Fault, Meaning, Scope};
-use nddl_sorts::TypeKind;
+use nddl_declarations::class_fault;
+use nddl_hierarchy::Basis;
+use nddl_hierarchy::lines::is_same_meaning;
+use nddl_hierarchy::under::is_under;
+use nddl_resolve::Around;
+use nddl_symbols::fault::note_at;
+use nddl_symbols::twice::kind_if;
+use nddl_symbols::{Fault, Meaning, Scope};
+use nddl_typeexpr::TypeKind;
 use std::alloc::{AllocError, Global};
 
 /// What means this, if it is a class.
@@ -89,7 +89,7 @@ pub fn note_creation(
 }
 
 // Notes the same, where its class means this, and wants these arguments.
-#[tactic(auto, using(nddl_scope::proofs::Earliest::earliest_append))]
+#[tactic(auto, using(nddl_symbols::proofs::Earliest::earliest_append))]
 fn note_creation_by(
     alloc: Global,
     basis: &Basis<'_>,
@@ -122,7 +122,7 @@ pub fn is_no_object(wanted: Option<TypeKind>) -> bool
 }
 
 /// Notes all that is wrong with what stands behind `=`, where this is wanted.
-#[tactic(auto, using(nddl_scope::proofs::Earliest::earliest_append))]
+#[tactic(auto, using(nddl_symbols::proofs::Earliest::earliest_append))]
 pub fn note_init(
     alloc: Global,
     basis: &Basis<'_>,
@@ -142,7 +142,7 @@ pub fn note_init(
 }
 
 /// Notes all that is wrong with a `new` behind `=`, where this is wanted.
-#[tactic(auto, using(nddl_scope::proofs::Earliest::earliest_append))]
+#[tactic(auto, using(nddl_symbols::proofs::Earliest::earliest_append))]
 pub fn note_made(
     alloc: Global,
     basis: &Basis<'_>,

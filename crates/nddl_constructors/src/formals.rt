@@ -1,18 +1,18 @@
 //! The formals of constructors, and what stands around in their bodies.
 
 ghost use Rattle.std.specs.Prelude.{◌≡◌, ℕ, List, IfOk, map};
-ghost use Rattle.nddl_scope.specs.Index.{noted_number};
-ghost use Rattle.nddl_lines.specs.Facts.{facts_of};
-ghost use Rattle.nddl_paths.specs.Paths.{around_of};
-ghost use Rattle.nddl_paths.specs.Seen.{seen_in};
+ghost use Rattle.nddl_symbols.specs.Index.{noted_number};
+ghost use Rattle.nddl_hierarchy.specs.Facts.{facts_of};
+ghost use Rattle.nddl_resolve.specs.Paths.{around_of};
+ghost use Rattle.nddl_resolve.specs.Seen.{seen_in};
 ghost use Rattle.nddl_constructors.specs.Formals.{around_formals, formal_number, formal_seen, typed_number};
 
 use eu_name::text::Text;
 use nddl_ast::declaration::Typed;
-use nddl_lines::Basis;
-use nddl_paths::fields::type_value;
-use nddl_paths::{Around, SeenNames};
-use nddl_scope::index::NameIndex;
+use nddl_hierarchy::Basis;
+use nddl_resolve::fields::type_value;
+use nddl_resolve::{Around, SeenNames};
+use nddl_symbols::index::NameIndex;
 use std::alloc::{AllocError, Global};
 use std::marker::Model;
 
@@ -26,7 +26,7 @@ pub struct Formals {
 
 impl Model for Formals {
     ghost use Rattle.std.specs.Prelude.{List};
-    ghost use Rattle.nddl_paths.specs.declared.denoted.Seen.{Seen};
+    ghost use Rattle.nddl_resolve.specs.declared.denoted.Seen.{Seen};
     ghost use Rattle.nddl_constructors.specs.Formals.{AreNumbered};
 
     ghost Value = { List Seen };

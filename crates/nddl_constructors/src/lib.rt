@@ -8,9 +8,6 @@ pub mod constants;
 pub mod creations;
 pub mod formals;
 pub mod objects;
-pub mod passed_nddl_lines;
-pub mod passed_nddl_paths;
-pub mod passed_nddl_schema;
 pub mod wanted;
 pub mod wants;
 

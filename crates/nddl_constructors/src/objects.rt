@@ -1,9 +1,9 @@
 //! What is wrong with the text of what makes the objects of a program, before any is made.
 
 ghost use Rattle.std.specs.Prelude.{◌≡◌, IfOk, OnOk, map};
-ghost use Rattle.nddl_scope.specs.Finding.{earliest_fault};
-ghost use Rattle.nddl_lines.specs.Facts.{facts_of};
-ghost use Rattle.nddl_paths.specs.Paths.{around_of};
+ghost use Rattle.nddl_symbols.specs.Finding.{earliest_fault};
+ghost use Rattle.nddl_hierarchy.specs.Facts.{facts_of};
+ghost use Rattle.nddl_resolve.specs.Paths.{around_of};
 ghost use Rattle.nddl_constructors.specs.Formals.{around_formals};
 ghost use Rattle.nddl_constructors.specs.Objects.{creation_of_faults, first_close, foreign_fault, is_alone, is_close, is_closed, is_foreign_class, is_wrong_number, new_faults, object_faults, setting_faults, settings_faults, settings_faults_from, unfound_faults, variable_faults_by, writing_faults, writing_faults_from, written_faults};
 
@@ -16,14 +16,14 @@ use nddl_ast::declaration::Decl;
 use nddl_ast::expression::{Creation, Expr, Init};
 use nddl_ast::name::Name;
 use nddl_ast::statement::Variable;
-use nddl_lines::Basis;
-use nddl_paths::{Around, Denoted, PathFault, expr_denoted};
-use nddl_scope::declared::variable_sort;
-use nddl_scope::fault::note_at;
-use nddl_scope::twice::kind_if;
-use nddl_scope::{Fault, Meaning};
-use nddl_sorts::TypeKind;
-use nddl_sorts::base::base_kind;
+use nddl_hierarchy::Basis;
+use nddl_resolve::{Around, Denoted, PathFault, expr_denoted};
+use nddl_symbols::declared::variable_sort;
+use nddl_symbols::fault::note_at;
+use nddl_symbols::twice::kind_if;
+use nddl_symbols::{Fault, Meaning};
+use nddl_typeexpr::TypeKind;
+use nddl_typeexpr::base::base_kind;
 use std::alloc::{AllocError, Global};
 
 /// Notes all that is wrong with the text of what makes the objects of the program: with the bodies of constructors, and
@@ -77,7 +77,7 @@ pub fn is_closed(closed: Option<usize>, decl: usize) -> bool
 }
 
 // Notes what is wrong with how objects are made in each of the declarations.
-#[tactic(auto, using(nddl_scope::proofs::Earliest::earliest_append))]
+#[tactic(auto, using(nddl_symbols::proofs::Earliest::earliest_append))]
 fn note_writing(
     alloc: Global,
     basis: &Basis<'_>,
@@ -141,7 +141,7 @@ fn note_variable(
 }
 
 // Notes the same of a `new` behind a variable.
-#[tactic(auto, using(nddl_scope::proofs::Earliest::earliest_append))]
+#[tactic(auto, using(nddl_symbols::proofs::Earliest::earliest_append))]
 fn note_new(
     alloc: Global,
     basis: &Basis<'_>,
@@ -184,7 +184,7 @@ fn note_made_by(
 }
 
 // Notes what is wrong with a `new` behind a variable of this kind.
-#[tactic(auto, using(nddl_scope::proofs::Earliest::earliest_append))]
+#[tactic(auto, using(nddl_symbols::proofs::Earliest::earliest_append))]
 fn note_object(
     alloc: Global,
     basis: &Basis<'_>,
@@ -237,7 +237,7 @@ pub fn is_foreign_class(
 }
 
 // Notes what is wrong with the settings of a search.
-#[tactic(auto, using(nddl_scope::proofs::Earliest::earliest_append))]
+#[tactic(auto, using(nddl_symbols::proofs::Earliest::earliest_append))]
 fn note_settings(
     alloc: Global,
     basis: &Basis<'_>,
@@ -267,7 +267,7 @@ fn is_wrong_number(count: usize) -> bool
 }
 
 // Notes what is wrong with the arguments of the settings.
-#[tactic(auto, using(nddl_scope::proofs::Earliest::earliest_append))]
+#[tactic(auto, using(nddl_symbols::proofs::Earliest::earliest_append))]
 fn note_setting_values(
     alloc: Global,
     basis: &Basis<'_>,

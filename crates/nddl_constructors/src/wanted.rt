@@ -1,17 +1,17 @@
 //! Which arguments a class wants where an object of it is made.
 
 ghost use Rattle.std.specs.Prelude.{◌≡◌, IfOk, map};
-ghost use Rattle.nddl_lines.specs.Facts.{facts_of};
+ghost use Rattle.nddl_hierarchy.specs.Facts.{facts_of};
 ghost use Rattle.nddl_constructors.specs.Creations.{meaning_wants};
 ghost use Rattle.nddl_constructors.specs.Wanted.{wanted_count, wanted_kinds};
 ghost use Rattle.nddl_constructors.specs.Wants.{builtin_wants, class_wants, formal_kind, wanted_at};
 
 use super::wants::{builtin_above, formals_above};
 use nddl_ast::declaration::Typed;
-use nddl_lines::Basis;
-use nddl_scope::Meaning;
-use nddl_sorts::TypeKind;
-use nddl_sorts::base::base_kind;
+use nddl_hierarchy::Basis;
+use nddl_symbols::Meaning;
+use nddl_typeexpr::TypeKind;
+use nddl_typeexpr::base::base_kind;
 use std::alloc::{AllocError, Global};
 
 /// The arguments that a class wants. Many classes may extend one that wants many, so the kind of each is found where it is

@@ -2,20 +2,20 @@
 
 ghost use Rattle.std.specs.Prelude.{◌≡◌, IfOk, IfSome, map, true};
 ghost use Rattle.std.specs.Option.{option_copied};
-ghost use Rattle.nddl_scope.specs.Scope.{is_class_at};
-ghost use Rattle.nddl_lines.specs.Ancestors.{ancestry};
-ghost use Rattle.nddl_lines.specs.Facts.{facts_of};
-ghost use Rattle.nddl_lines.specs.Decls.{members_of};
+ghost use Rattle.nddl_symbols.specs.Scope.{is_class_at};
+ghost use Rattle.eu_forest.specs.Ancestors.{ancestry};
+ghost use Rattle.nddl_hierarchy.specs.Facts.{facts_of};
+ghost use Rattle.nddl_hierarchy.specs.Decls.{members_of};
 ghost use Rattle.nddl_constructors.specs.Wants.{builtin_along, builtin_or, line_formals, member_formals, own_formals};
 
+use eu_forest::parent_in;
 use eu_name::sequence::Sequence;
 use nddl_ast::declaration::{Decl, Member, Typed};
-use nddl_lines::Basis;
-use nddl_lines::decls::members_of;
-use nddl_lines::lines::{above, ancestry};
-use nddl_lines::parents::parent_in;
-use nddl_lines::shorter::builders_over;
-use nddl_scope::{Meaning, Scope};
+use nddl_hierarchy::Basis;
+use nddl_hierarchy::decls::members_of;
+use nddl_hierarchy::lines::{above, ancestry};
+use nddl_hierarchy::shorter::builders_over;
+use nddl_symbols::{Meaning, Scope};
 use std::alloc::{AllocError, Global};
 
 /// The formals of the first class that has a constructor, from the class of this number up.

@@ -1,2 +1,4 @@
+pub mod Deeper
+mod Setting
 pub mod Going
 pub mod Placing

@@ -3,13 +3,13 @@ use Rattle.std.proofs.Common.{◌≡◌, ℕ, false, List, ◌∙◌, ap}
 use Rattle.std.specs.Prelude.{Option, Result, Ok, Err, OnOk}
 use Rattle.nddl_ast.specs.declared.expression.Creation.{Creation}
 use Rattle.nddl_ast.specs.declared.statement.Variable.{Variable}
-use Rattle.nddl_scope.specs.Scope.{named_number}
-use Rattle.nddl_lines.specs.Facts.{Facts}
-use Rattle.nddl_running.specs.nddl_data.Datum.{Datum}
-use Rattle.nddl_running.specs.nddl_data.Standing.{Standing}
-use Rattle.nddl_running.specs.nddl_data.Scene.{Grounds, Scenery}
-use Rattle.nddl_running.specs.Construction.{Construction}
-use Rattle.nddl_running.specs.Made.{Makes, made_by, new_datum, new_made}
+use Rattle.nddl_symbols.specs.Scope.{named_number}
+use Rattle.nddl_hierarchy.specs.Facts.{Facts}
+use Rattle.nddl_construction.specs.declared.made.Datum.{Datum}
+use Rattle.nddl_construction.specs.declared.made.Standing.{Standing}
+use Rattle.nddl_construction.specs.Scene.{Grounds, Scenery}
+use Rattle.nddl_objects.specs.Construction.{Construction}
+use Rattle.nddl_objects.specs.Made.{Makes, made_by, new_datum, new_made}
 use Rattle.nddl_objects.specs.Objects.{Progress, bare_scene, most_levels, object_declared, stood}
 
 -- a `new` in this scene, for the name of this number

@@ -1,4 +1,7 @@
+pub mod Blueprints
+pub mod Construction
+pub mod Finished
+pub mod Made
 pub mod Modelled
 pub mod Objects
 pub mod Settings
-pub mod nddl_data

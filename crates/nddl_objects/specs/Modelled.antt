@@ -6,20 +6,20 @@ use Rattle.model_core.specs.declared.class.Object.{Object}
 use Rattle.model_core.specs.declared.class.ObjectKind.{ObjectKind}
 use Rattle.model_core.specs.declared.class.ObjectKind.TheVariants as object_kinds
 use Rattle.model_core.specs.declared.variable.VarDecl.{VarDecl}
-use Rattle.nddl_scope.specs.declared.declared.Declared.{Declared}
-use Rattle.nddl_scope.specs.declared.declared.Sort.{Sort}
-use Rattle.nddl_scope.specs.declared.declared.Sort.TheVariants as sorts
-use Rattle.nddl_scope.specs.declared.scope.Meaning.{Meaning}
-use Rattle.nddl_scope.specs.declared.scope.Meaning.TheVariants as meanings
-use Rattle.nddl_lines.specs.Ancestors.{ancestry}
-use Rattle.nddl_lines.specs.Facts.{Facts}
-use Rattle.nddl_running.specs.nddl_schema.Classes.{class_number}
-use Rattle.nddl_running.specs.nddl_constructors.Wants.{builtin_along}
-use Rattle.nddl_running.specs.nddl_data.Datum.{Datum}
-use Rattle.nddl_running.specs.nddl_data.Datum.TheVariants as datums
-use Rattle.nddl_running.specs.nddl_data.FieldValue.{FieldValue}
-use Rattle.nddl_running.specs.nddl_data.MadeObject.{MadeObject}
-use Rattle.nddl_running.specs.nddl_data.Fields.{field_datum}
+use Rattle.nddl_symbols.specs.declared.declared.Declared.{Declared}
+use Rattle.nddl_symbols.specs.declared.declared.Sort.{Sort}
+use Rattle.nddl_symbols.specs.declared.declared.Sort.TheVariants as sorts
+use Rattle.nddl_symbols.specs.declared.scope.Meaning.{Meaning}
+use Rattle.nddl_symbols.specs.declared.scope.Meaning.TheVariants as meanings
+use Rattle.eu_forest.specs.Ancestors.{ancestry}
+use Rattle.nddl_hierarchy.specs.Facts.{Facts}
+use Rattle.nddl_types.specs.Classes.{class_number}
+use Rattle.nddl_constructors.specs.Wants.{builtin_along}
+use Rattle.nddl_construction.specs.declared.made.Datum.{Datum}
+use Rattle.nddl_construction.specs.declared.made.Datum.TheVariants as datums
+use Rattle.nddl_construction.specs.declared.made.FieldValue.{FieldValue}
+use Rattle.nddl_construction.specs.declared.made.MadeObject.{MadeObject}
+use Rattle.nddl_construction.specs.Fields.{field_datum}
 
 -- ---- values
 

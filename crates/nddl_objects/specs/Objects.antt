@@ -6,17 +6,17 @@ use Rattle.nddl_ast.specs.declared.expression.Creation.{Creation}
 use Rattle.nddl_ast.specs.declared.expression.Init.{Init}
 use Rattle.nddl_ast.specs.declared.expression.Init.TheVariants as inits
 use Rattle.nddl_ast.specs.declared.statement.Variable.{Variable}
-use Rattle.nddl_scope.specs.Finding.{earliest_fault}
-use Rattle.nddl_scope.specs.Names.{is_config_sort, sort_of_variable}
-use Rattle.nddl_scope.specs.Scope.{named_number}
-use Rattle.nddl_lines.specs.Facts.{Facts}
-use Rattle.nddl_running.specs.nddl_constructors.Objects.{written_faults}
-use Rattle.nddl_running.specs.nddl_data.Datum.{Datum}
-use Rattle.nddl_running.specs.nddl_data.Standing.{Standing}
-use Rattle.nddl_running.specs.nddl_data.Standing.TheVariants as standings
-use Rattle.nddl_running.specs.nddl_data.Scene.{Grounds, Scenery}
-use Rattle.nddl_running.specs.Construction.{Construction, construction_of, noted}
-use Rattle.nddl_running.specs.Made.{made_by, new_datum, new_made}
+use Rattle.nddl_symbols.specs.Finding.{earliest_fault}
+use Rattle.nddl_symbols.specs.Names.{is_config_sort, sort_of_variable}
+use Rattle.nddl_symbols.specs.Scope.{named_number}
+use Rattle.nddl_hierarchy.specs.Facts.{Facts}
+use Rattle.nddl_constructors.specs.Objects.{written_faults}
+use Rattle.nddl_construction.specs.declared.made.Datum.{Datum}
+use Rattle.nddl_construction.specs.declared.made.Standing.{Standing}
+use Rattle.nddl_construction.specs.declared.made.Standing.TheVariants as standings
+use Rattle.nddl_construction.specs.Scene.{Grounds, Scenery}
+use Rattle.nddl_objects.specs.Construction.{Construction, construction_of, noted}
+use Rattle.nddl_objects.specs.Made.{made_by, new_datum, new_made}
 use Rattle.nddl_objects.specs.declared.objects.Program as code
 use Rattle.nddl_objects.specs.Settings.{setting_data, setting_faults_of}
 

@@ -2,17 +2,17 @@
 use Rattle.std.specs.Prelude.{Bool, false, ◌||◌, not, ℤ, pos, int_lt, List, [], ◌∷◌, ◌++◌, Option, Some}
 use Rattle.nddl_ast.specs.declared.expression.Creation.{Creation}
 use Rattle.nddl_ast.specs.declared.kind.TextKind.TheVariants as faults
-use Rattle.nddl_scope.specs.declared.fault.Fault.{Fault}
-use Rattle.nddl_scope.specs.Finding.{faults_here}
-use Rattle.nddl_scope.specs.Scope.{fault_if}
-use Rattle.nddl_sorts.specs.declared.kind.TypeKind.{TypeKind}
-use Rattle.nddl_sorts.specs.declared.kind.TypeKind.TheVariants as kinds
-use Rattle.nddl_running.specs.nddl_data.Datum.{Datum}
-use Rattle.nddl_running.specs.nddl_data.Datum.TheVariants as datums
-use Rattle.nddl_running.specs.nddl_data.MadeObject.{MadeObject}
-use Rattle.nddl_running.specs.nddl_data.Reading.{all_unmade_faults, datum_at, settled_data}
-use Rattle.nddl_running.specs.nddl_data.Scene.{Grounds, Scenery}
-use Rattle.nddl_running.specs.Finished.{datum_below}
+use Rattle.nddl_symbols.specs.declared.fault.Fault.{Fault}
+use Rattle.nddl_symbols.specs.Finding.{faults_here}
+use Rattle.nddl_symbols.specs.Scope.{fault_if}
+use Rattle.nddl_typeexpr.specs.declared.kind.TypeKind.{TypeKind}
+use Rattle.nddl_typeexpr.specs.declared.kind.TypeKind.TheVariants as kinds
+use Rattle.nddl_construction.specs.declared.made.Datum.{Datum}
+use Rattle.nddl_construction.specs.declared.made.Datum.TheVariants as datums
+use Rattle.nddl_construction.specs.declared.made.MadeObject.{MadeObject}
+use Rattle.nddl_construction.specs.Reading.{all_unmade_faults, datum_at, settled_data}
+use Rattle.nddl_construction.specs.Scene.{Grounds, Scenery}
+use Rattle.nddl_objects.specs.Finished.{datum_below}
 
 -- the first three are whole numbers
 abbrev pub setting_wants : List (Option TypeKind)

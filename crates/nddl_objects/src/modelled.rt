@@ -1,22 +1,22 @@
 //! Objects as a model has them.
 
 ghost use Rattle.std.specs.Prelude.{◌≡◌, ◌++◌, ◌∷◌, [], IfOk, OnOk};
-ghost use Rattle.nddl_lines.specs.Facts.{facts_of};
-ghost use Rattle.nddl_running.specs.nddl_schema.Classes.{class_numbers};
+ghost use Rattle.nddl_hierarchy.specs.Facts.{facts_of};
+ghost use Rattle.nddl_types.specs.Classes.{class_numbers};
 ghost use Rattle.nddl_objects.specs.Modelled.{builtin_of, datum_value, field_value, field_values, fields_of_class, member_value, modelled_object, modelled_objects, object_kind};
-ghost use Rattle.nddl_running.specs.nddl_data.Datum.TheVariants.{Member};
+ghost use Rattle.nddl_construction.specs.declared.made.Datum.TheVariants.{Member};
 ghost use Rattle.std.specs.Prelude.{Some};
 
 use eu_name::sequence::Sequence;
 use eu_name::text::Text;
 use model_core::class::{Class, Object, ObjectKind};
 use model_core::variable::VarDecl;
-use nddl_lines::Basis;
-use nddl_running::passed_nddl_constructors::builtin_above;
-use nddl_running::passed_nddl_data::{Datum, MadeObject, SetFields};
-use nddl_running::passed_nddl_schema::class_number;
-use nddl_scope::{Meaning, Scope, Sort};
-use nddl_variables::values::value_at;
+use nddl_construction::{Datum, MadeObject, SetFields};
+use nddl_constructors::wants::builtin_above;
+use nddl_declarations::values::value_at;
+use nddl_hierarchy::Basis;
+use nddl_symbols::{Meaning, Scope, Sort};
+use nddl_types::numbers::class_number;
 use std::alloc::{AllocError, Global};
 
 // A member is its place in its enum.

@@ -1,30 +1,28 @@
 //! The objects of a program, made in the order in which they are declared.
 
 ghost use Rattle.std.specs.Prelude.{◌≡◌, false, IfOk, OnOk, map};
-ghost use Rattle.nddl_scope.specs.Scope.{named_number};
-ghost use Rattle.nddl_lines.specs.Facts.{facts_of};
-ghost use Rattle.nddl_running.specs.nddl_data.Standing.TheVariants.{Unmade};
-ghost use Rattle.nddl_running.specs.nddl_data.Scene.{scenery_of};
-ghost use Rattle.nddl_running.specs.nddl_field_types.Kept.{AreFieldTypes};
-ghost use Rattle.nddl_running.specs.nddl_passed.Builders.{AreBuilders};
-ghost use Rattle.nddl_running.specs.Construction.{construction_of};
-ghost use Rattle.nddl_running.specs.Made.{made_by, new_datum, new_made};
+ghost use Rattle.nddl_symbols.specs.Scope.{named_number};
+ghost use Rattle.nddl_hierarchy.specs.Facts.{facts_of};
+ghost use Rattle.nddl_construction.specs.declared.made.Standing.TheVariants.{Unmade};
+ghost use Rattle.nddl_construction.specs.Scene.{scenery_of};
+ghost use Rattle.nddl_construction.specs.Kept.{AreFieldTypes};
+ghost use Rattle.nddl_construction.specs.Builders.{AreBuilders};
+ghost use Rattle.nddl_objects.specs.Construction.{construction_of};
+ghost use Rattle.nddl_objects.specs.Made.{made_by, new_datum, new_made};
 ghost use Rattle.nddl_objects.specs.Objects.{all_declared, bare_scene, one_declared, last_progress, init_declared, most_levels, new_declared, object_declared, settings_declared, progress_of, stood};
 
 use super::settings::read_settings;
+use crate::making::DEEPEST;
+use crate::{Blueprint, Groundwork, Making, make_new};
 use eu_name::sequence::Sequence;
 use nddl_ast::declaration::Decl;
 use nddl_ast::expression::{Creation, Init};
 use nddl_ast::statement::Variable;
-use nddl_lines::Basis;
-use nddl_running::making::DEEPEST;
-use nddl_running::passed_nddl_constructors::note_written;
-use nddl_running::passed_nddl_data::{Datum, Ground, Scene, Standing};
-use nddl_running::passed_nddl_field_types::FieldTypes;
-use nddl_running::passed_nddl_passed::Builders;
-use nddl_running::{Blueprint, Groundwork, Making, make_new};
-use nddl_scope::Declared;
-use nddl_scope::declared::variable_sort;
+use nddl_construction::{Builders, Datum, FieldTypes, Ground, Scene, Standing};
+use nddl_constructors::note_written;
+use nddl_hierarchy::Basis;
+use nddl_symbols::Declared;
+use nddl_symbols::declared::variable_sort;
 use std::alloc::{AllocError, Global};
 
 /// The objects of a program so far, what each of its names stands for, and the values of the settings, none where there are

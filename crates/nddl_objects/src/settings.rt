@@ -1,20 +1,19 @@
 //! The settings of a search.
 
 ghost use Rattle.std.specs.Prelude.{◌≡◌, IfOk, OnOk};
-ghost use Rattle.nddl_scope.specs.Finding.{earliest_fault};
-ghost use Rattle.nddl_running.specs.nddl_data.Scene.{grounds_of, scenery_of};
+ghost use Rattle.nddl_symbols.specs.Finding.{earliest_fault};
+ghost use Rattle.nddl_construction.specs.Scene.{grounds_of, scenery_of};
 ghost use Rattle.nddl_objects.specs.Settings.{are_crossed, are_wrong_settings, is_below, is_over, setting_data, setting_faults_of};
 
 use eu_name::sequence::Sequence;
 use nddl_ast::TextKind;
 use nddl_ast::expression::Creation;
-use nddl_running::passed_nddl_data::{
-    Datum, Ground, MadeObject, Scene, datum_at, note_all_unmade, settled_data,
-};
-use nddl_scope::Fault;
-use nddl_scope::fault::note_at;
-use nddl_scope::twice::kind_if;
-use nddl_sorts::TypeKind;
+use nddl_construction::reading::{datum_at, note_all_unmade};
+use nddl_construction::{Datum, Ground, MadeObject, Scene, settled_data};
+use nddl_symbols::Fault;
+use nddl_symbols::fault::note_at;
+use nddl_symbols::twice::kind_if;
+use nddl_typeexpr::TypeKind;
 use std::alloc::{AllocError, Global};
 
 const WANTS: [Option<TypeKind>; 3] = [
@@ -63,7 +62,7 @@ fn are_wrong_settings(values: &[Option<Datum>]) -> bool
 }
 
 /// Reads the settings, and notes all that is wrong with what they stand for.
-#[tactic(auto, using(nddl_scope::proofs::Earliest::earliest_append))]
+#[tactic(auto, using(nddl_symbols::proofs::Earliest::earliest_append))]
 pub fn read_settings(
     alloc: Global,
     footing: &Ground<'_>,

@@ -1,16 +1,16 @@
 -- What the readers of declarations find is exactly what the grammar has.
 use Rattle.std.proofs.Common.{◌≡◌, ℕ, Bool, true, false, ◌⊎◌, inl, inr, List, [], ◌∷◌, refl, sym, ap, subst, ◌∙◌}
-use Rattle.nddl_reading.specs.declared.sort.Sort.{Sort}
+use Rattle.nddl_grammar.specs.declared.sort.Sort.{Sort}
 use Rattle.eu_name.specs.declared.word.Reserved.TheVariants as keywords
-use Rattle.nddl_reading.specs.declared.sort.Sort.TheVariants as sorts
-use Rattle.nddl_reading.specs.Sorts.{same}
-use Rattle.nddl_reading.specs.Symbols.{PlainSymbol}
-use Rattle.nddl_reading.specs.Readers.{begins, is}
-use Rattle.nddl_reading.specs.Exact.{◌·◌, IsPlaced, IsMark, AreMany, AreListed, BeginsWith, IsExact}
-use Rattle.nddl_reading.proofs.Sequence.{Paired}
-use Rattle.nddl_reading.proofs.Combine.{no_more, no_blocks, mark_exact, place_exact, mark_begins, place_begins, pair_begins, relabelled_exact, widened_exact, choice_exact, MarkOf}
-use Rattle.nddl_reading.proofs.Many.{wider, many_exact}
-use Rattle.nddl_reading.proofs.Choices.{Image, image_exact, image_begins, either_begins, Bound, bound_exact, bound_begins, Beside, beside_exact, some_still, May, may_mark_exact, listed_exact, follows_none}
+use Rattle.nddl_grammar.specs.declared.sort.Sort.TheVariants as sorts
+use Rattle.nddl_grammar.specs.Sorts.{same}
+use Rattle.nddl_grammar.specs.Symbols.{PlainSymbol}
+use Rattle.nddl_grammar.specs.Readers.{begins, is}
+use Rattle.nddl_grammar.specs.Exact.{◌·◌, IsPlaced, IsMark, AreMany, AreListed, BeginsWith, IsExact}
+use Rattle.nddl_grammar.proofs.Sequence.{Paired}
+use Rattle.nddl_grammar.proofs.Combine.{no_more, no_blocks, mark_exact, place_exact, mark_begins, place_begins, pair_begins, relabelled_exact, widened_exact, choice_exact, MarkOf}
+use Rattle.nddl_grammar.proofs.Many.{wider, many_exact}
+use Rattle.nddl_grammar.proofs.Choices.{Image, image_exact, image_begins, either_begins, Bound, bound_exact, bound_begins, Beside, beside_exact, some_still, May, may_mark_exact, listed_exact, follows_none}
 use Rattle.nddl_ast.specs.declared.name.Name.{Name}
 use Rattle.nddl_ast.specs.declared.expression.Expr.{Expr}
 use Rattle.nddl_ast.specs.declared.expression.BaseType.{BaseType}
@@ -24,14 +24,14 @@ use Rattle.nddl_ast.specs.declared.declaration.Set.{Set}
 use Rattle.nddl_ast.specs.declared.declaration.Set.TheVariants as sets
 use Rattle.nddl_ast.specs.declared.declaration.Member.{Member}
 use Rattle.nddl_ast.specs.declared.declaration.Member.TheVariants as members
-use Rattle.nddl_statements.specs.Grammar.{IsWrittenName, IsPath, IsInit, IsBase, IsBounds, IsType, IsTyped, IsCall}
+use Rattle.nddl_grammar.specs.Grammar.{IsWrittenName, IsPath, IsInit, IsBase, IsBounds, IsType, IsTyped, IsCall}
 use Rattle.nddl_parser.specs.Grammar.{IsPredicatePart, IsSet, IsMember}
-use Rattle.nddl_statements.specs.Productions.{begins_type}
+use Rattle.nddl_grammar.specs.Productions.{begins_type}
 use Rattle.nddl_parser.specs.Productions.{part_after, part_named, part, field_set, super_set, set_item, begins_set, predicate, constructor_after, member_after, member_named, member}
-use Rattle.nddl_statements.proofs.Flat.{front_starts, flat, refuses, apart, ◌>>◌, closed}
-use Rattle.nddl_statements.proofs.ExactExpressions.{name_exact, name_begins, path_begins, more_path, init_exact}
-use Rattle.nddl_statements.proofs.ExactStatements.{to_left, to_right, in_front, typed_exact, typed_begins, IsField, field_exact, field_begins, FieldParts, field_with, field_after_exact, field_after_begins, IsCallEnd, call_end_exact, call_end_begins, DottedParts, dotted_with, dotted_after_exact, dotted_begins, call_with, call_after_exact, path_of_name, name_of_path, call_to, call_from}
-use Rattle.nddl_statements.proofs.ExactPlain.{any, starts_not}
+use Rattle.nddl_grammar.proofs.Flat.{front_starts, flat, refuses, apart, ◌>>◌, closed}
+use Rattle.nddl_grammar.proofs.ExactExpressions.{name_exact, name_begins, path_begins, more_path, init_exact}
+use Rattle.nddl_grammar.proofs.ExactStatements.{to_left, to_right, in_front, typed_exact, typed_begins, IsField, field_exact, field_begins, FieldParts, field_with, field_after_exact, field_after_begins, IsCallEnd, call_end_exact, call_end_begins, DottedParts, dotted_with, dotted_after_exact, dotted_begins, call_with, call_after_exact, path_of_name, name_of_path, call_to, call_from}
+use Rattle.nddl_grammar.proofs.ExactPlain.{any, starts_not}
 
 -- ---- fields behind a name
 

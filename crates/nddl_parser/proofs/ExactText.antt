@@ -1,32 +1,32 @@
 -- What the reader of a text finds is exactly what the grammar has.
 use Rattle.std.proofs.Common.{◌≡◌, ℕ, Bool, true, Option, Some, None, ◌⊎◌, inl, inr, List, ◌++◌, refl, sym, ap, subst, ◌∙◌}
-use Rattle.nddl_reading.specs.declared.sort.Sort.{Sort}
+use Rattle.nddl_grammar.specs.declared.sort.Sort.{Sort}
 use Rattle.eu_name.specs.declared.word.Reserved.TheVariants as keywords
-use Rattle.nddl_reading.specs.declared.sort.Sort.TheVariants as sorts
-use Rattle.nddl_reading.specs.Sorts.{same}
-use Rattle.nddl_reading.specs.Symbols.{PlainSymbol}
-use Rattle.nddl_reading.specs.Readers.{is}
-use Rattle.nddl_reading.specs.Exact.{◌·◌, IsPlaced, IsMark, AreMany, AreSeparated, BeginsWith, IsExact}
-use Rattle.nddl_reading.proofs.Sequence.{Paired}
-use Rattle.nddl_reading.proofs.Combine.{no_more, no_blocks, symbol_exact, mark_exact, place_exact, mark_begins, place_begins, pair_begins, mapped_exact, relabelled_exact, widened_exact, choice_exact, EmptyFor, nothing_exact, MarkOf}
-use Rattle.nddl_reading.proofs.Many.{wider, many_exact}
-use Rattle.nddl_reading.proofs.Choices.{Image, image_exact, image_begins, either_begins, Bound, bound_exact, bound_begins, Beside, beside_exact, some_still, May, may_mark_exact, after_exact, after_begins, separated_exact, follows_none}
+use Rattle.nddl_grammar.specs.declared.sort.Sort.TheVariants as sorts
+use Rattle.nddl_grammar.specs.Sorts.{same}
+use Rattle.nddl_grammar.specs.Symbols.{PlainSymbol}
+use Rattle.nddl_grammar.specs.Readers.{is}
+use Rattle.nddl_grammar.specs.Exact.{◌·◌, IsPlaced, IsMark, AreMany, AreSeparated, BeginsWith, IsExact}
+use Rattle.nddl_grammar.proofs.Sequence.{Paired}
+use Rattle.nddl_grammar.proofs.Combine.{no_more, no_blocks, symbol_exact, mark_exact, place_exact, mark_begins, place_begins, pair_begins, mapped_exact, relabelled_exact, widened_exact, choice_exact, EmptyFor, nothing_exact, MarkOf}
+use Rattle.nddl_grammar.proofs.Many.{wider, many_exact}
+use Rattle.nddl_grammar.proofs.Choices.{Image, image_exact, image_begins, either_begins, Bound, bound_exact, bound_begins, Beside, beside_exact, some_still, May, may_mark_exact, after_exact, after_begins, separated_exact, follows_none}
 use Rattle.nddl_ast.specs.declared.name.Name.{Name}
 use Rattle.nddl_ast.specs.declared.expression.Type as types
 use Rattle.nddl_ast.specs.declared.declaration.Member.{Member}
 use Rattle.nddl_ast.specs.declared.declaration.Decl.{Decl}
 use Rattle.nddl_ast.specs.declared.declaration.Decl.TheVariants as decls
 use Rattle.nddl_ast.specs.Tree.{Braces}
-use Rattle.nddl_statements.specs.declared.statements.SimpleStmt.{SimpleStmt}
-use Rattle.nddl_statements.specs.declared.statements.SimpleStmt.TheVariants as plains
-use Rattle.nddl_statements.specs.Grammar.{IsWrittenName, IsType, IsVariable, IsBraced}
+use Rattle.nddl_grammar.specs.declared.statements.SimpleStmt.{SimpleStmt}
+use Rattle.nddl_grammar.specs.declared.statements.SimpleStmt.TheVariants as plains
+use Rattle.nddl_grammar.specs.Grammar.{IsWrittenName, IsType, IsVariable, IsBraced}
 use Rattle.nddl_parser.specs.Grammar.{IsMember, IsFile, IsParent, IsDecl, IsText, deep_decl, deep_text}
 use Rattle.nddl_parser.specs.Productions.{begins_member, file, include, enumeration, typedef, parent, class_body, class_after, class, rule_after, decl_of, decl_after, decl_named, decl, begins_decl, text}
-use Rattle.nddl_statements.proofs.Flat.{Starts, front_starts, flat, refuses, apart, ◌>>◌, closed}
-use Rattle.nddl_statements.proofs.ExactExpressions.{name_exact, name_begins}
-use Rattle.nddl_statements.proofs.ExactStatements.{aside_empty, more_bounds, type_exact, variable_exact, variable_begins, PlainAfter, plain_after_exact, plain_after_begins, IsPlain}
-use Rattle.nddl_statements.proofs.ExactPlain.{any, plain_to, plain_from}
-use Rattle.nddl_statements.proofs.ExactNested.{nested_exact, not_that}
+use Rattle.nddl_grammar.proofs.Flat.{Starts, front_starts, flat, refuses, apart, ◌>>◌, closed}
+use Rattle.nddl_grammar.proofs.ExactExpressions.{name_exact, name_begins}
+use Rattle.nddl_grammar.proofs.ExactStatements.{aside_empty, more_bounds, type_exact, variable_exact, variable_begins, PlainAfter, plain_after_exact, plain_after_begins, IsPlain}
+use Rattle.nddl_grammar.proofs.ExactPlain.{any, plain_to, plain_from}
+use Rattle.nddl_grammar.proofs.ExactNested.{nested_exact, not_that}
 use Rattle.nddl_parser.proofs.ExactDeclarations.{member_exact, member_begins}
 
 -- ---- includes, enums, typedefs

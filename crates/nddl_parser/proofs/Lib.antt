@@ -3,4 +3,8 @@ pub mod ExactText
 pub mod Outcomes
 pub mod SymbolTexts
 pub mod SymbolsOnce
+pub mod OneTree
 pub mod OneOutcome
+pub mod ReadFiles
+pub mod VisitLemmas
+pub mod OneReading

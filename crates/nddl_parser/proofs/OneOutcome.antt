@@ -1,214 +1,231 @@
--- A text has one outcome.
-use Rattle.std.proofs.Common.{◌≡◌, ℕ, zero, suc, ◌+◌, ◌<◌, ◌≤◌, Option, Some, None, Result, Ok, Err, List, [], ◌∷◌, ◌++◌, length, refl, sym, ap, subst, ◌∙◌, arith}
-use Rattle.nddl_lexer.specs.declared.kinds.Lexeme.{Lexeme}
-use Rattle.nddl_lexer.specs.Reading.{AreLexemesOf}
-use Rattle.nddl_lexer.proofs.Laws.{lie_in_order}
-use Rattle.nddl_reading.specs.declared.sort.Sort.TheVariants as sorts
-use Rattle.nddl_reading.specs.Symbols.{PlainSymbol}
-use Rattle.nddl_reading.specs.Readers.{Outcome, got, stuck, deep, next_place, is}
-use Rattle.nddl_reading.specs.Exact.{Agrees, FindsExactly, earlier}
-use Rattle.nddl_reading.proofs.Lists.{append_none, regroup}
-use Rattle.nddl_reading.proofs.Many.{wider}
+-- Where each text is read in one way, each file is with those that it includes.
+use Rattle.std.proofs.Common.{◌≡◌, ℕ, zero, suc, ◌+◌, ◌<◌, ◌≤◌, Bool, true, false, List, [], ◌∷◌, length, refl, sym, ◌∙◌, ap, subst, inl, inr, arith}
+use Rattle.std.specs.Prelude.{◌⊎◌, Option, Some, None, Result, Ok, Err, MatchResult, MatchBool, IfErr, IsSome}
+use Rattle.std.specs.Str.{is_utf8}
+use Rattle.std.proofs.lemmas.Bool.{cases_lt}
+use Rattle.std.proofs.lemmas.Str.{IsUtf8-from_is_utf8, is_utf8-from_IsUtf8}
+use Rattle.eu_io.specs.Files.{file_named}
+use Rattle.eu_io.specs.declared.shelf.FileEntry.{FileEntry}
 use Rattle.nddl_ast.specs.declared.declaration.Decl.{Decl}
-use Rattle.nddl_ast.specs.declared.declaration.Decl.TheVariants as decls
-use Rattle.nddl_ast.specs.Tree.{Statements, Nothing, Declares, Calls, Asks, Tests, Chooses, Repeats, count}
-use Rattle.nddl_parser.specs.declared.parsing.ParseFault.{ParseFault}
-use Rattle.nddl_parser.specs.declared.parsing.ParseFault.TheVariants.{Syntax, TooDeep, Memory}
-use Rattle.nddl_parser.specs.Symbols.{AreSymbols}
-use Rattle.nddl_statements.specs.Grammar.{deep_statements}
-use Rattle.nddl_parser.specs.Grammar.{IsText, most_nested, deep_decl, deep_text}
-use Rattle.nddl_parser.specs.Derives.{IsNotBefore, IsSyntax, IsTooDeep, IsParseOutcome, HasOneParse, HasOneTree}
-use Rattle.nddl_parser.specs.Productions.{text, begins_decl}
-use Rattle.nddl_parser.proofs.SymbolsOnce.{symbols_once}
-use Rattle.nddl_parser.proofs.ExactText.{text_exact}
+use Rattle.nddl_ast.specs.declared.declaration.FileDecls.{FileDecls}
+use Rattle.nddl_parser.specs.declared.include.Ask.{Ask}
+use Rattle.nddl_parser.specs.declared.include.Include.{Include}
+use Rattle.nddl_parser.specs.declared.fault.Refusal.{Refusal}
+use Rattle.nddl_parser.specs.declared.fault.Refusal.TheVariants as refused
+use Rattle.nddl_parser.specs.declared.fault.TextFail.{TextFail}
+use Rattle.nddl_parser.specs.declared.fault.ReadAllFault.{ReadAllFault}
+use Rattle.nddl_parser.specs.declared.fault.ReadAllFault.TheVariants as all
+use Rattle.nddl_parser.specs.Faults.{fail_kind, faulty, fault_at}
+use Rattle.nddl_parser.specs.Includes.{includes_of, is_skipped, ask_in}
+use Rattle.nddl_parser.specs.Laws.{TextsHaveOneReading, FilesHaveOneOutcome}
+use Rattle.nddl_parser.specs.Limits.{most_bytes, most_files, deepest}
+use Rattle.nddl_parser.specs.Outcomes.{Reading, FilesOutcome}
+use Rattle.nddl_parser.specs.Visits.{Loads, Stops, Takes, Visit, Enters, FollowsIncludes, VisitsBy, Visits, first_ask, with_file}
 
-agrees_self : (symbols used rest : List PlainSymbol) → symbols ≡ used ++ rest → Agrees symbols used rest
-agrees_self symbols used [] split = split ∙ append_none used
-agrees_self symbols used (c ∷ rest) split = (rest, split)
+-- no visit has two outcomes
+abbrev pub IsSingle : Visit → Type 0
+IsSingle visit = (ask : Ask) (read : List FileDecls) (one other : FilesOutcome) → visit ask read one → visit ask read other → other ≡ one
 
-none_is_some : {at : ℕ} {o : Option ℕ} → o ≡ None → o ≡ Some at → ⊥
-none_is_some p q = let e = sym p ∙ q in cc
+there_is : (held : Option (List ℕ)) (text : List ℕ) → None ≡ held → Some text ≡ held → ⊥
+there_is held text none some = cc
 
--- two trees of the same symbols are one, unless a block is nested too deep in both
-same_tree : (left : ℕ) (symbols : List PlainSymbol) (one other : List Decl) → IsText one symbols → deep_text left one ≡ None → IsText other symbols
-    → (o : Outcome (List Decl)) → FindsExactly IsText (deep_text left) (wider begins_decl (is sorts.Semicolon)) symbols o → one ≡ other
-same_tree left symbols one other h shallow g (got x rest) a =
-    let split = agrees_self symbols a.used rest a.split in
-    let again = subst (λ (l : List PlainSymbol). Agrees l a.used rest) (sym (append_none symbols)) split in
-    (a.only one symbols [] h refl again).0 ∙ sym (a.only other symbols [] g refl again).0
-same_tree left symbols one other h shallow g (stuck rest) a =
-    absurd (a.none one symbols [] h refl (subst (λ (l : List PlainSymbol). Agrees l a.used rest) (sym (append_none symbols)) (agrees_self symbols a.used rest a.split)))
-same_tree left symbols one other h shallow g (deep rest) a =
-    absurd (none_is_some shallow (a.all one symbols [] h refl (subst (λ (l : List PlainSymbol). Agrees l a.used rest) (sym (append_none symbols)) (agrees_self symbols a.used rest a.split))))
+same_text : (held : Option (List ℕ)) (text other : List ℕ) → Some text ≡ held → Some other ≡ held → other ≡ text
+same_text held text other one two = cc
 
-tree_once : (left : ℕ) (symbols : List PlainSymbol) (one other : List Decl) → IsText one symbols → deep_text left one ≡ None → IsText other symbols → one ≡ other
-tree_once left symbols one other h shallow g = same_tree left symbols one other h shallow g (text left symbols) ((text_exact left).answers symbols)
+same_len : (held : Option (List ℕ)) (text other : List ℕ) → Some text ≡ held → Some other ≡ held → length other ≡ length text
+same_len held text other one two = ap length (same_text held text other one two)
 
--- two ways to split a list: at one place, or at an earlier and a later one
-data Meet (one left other right : List PlainSymbol) : Type 0 where
-  alike : one ≡ other → left ≡ right → Meet one left other right
-  before : (c : PlainSymbol) (between : List PlainSymbol) → other ≡ one ++ c ∷ between → left ≡ c ∷ (between ++ right) → Meet one left other right
-  behind : (c : PlainSymbol) (between : List PlainSymbol) → one ≡ other ++ c ∷ between → right ≡ c ∷ (between ++ left) → Meet one left other right
+-- what a file's name leads to is one
+pub one_load : (files : List FileEntry) (count levels : ℕ) (name : List ℕ) (one other : Result (List ℕ) Refusal)
+    → Loads (Some files) count levels name one → Loads (Some files) count levels name other → other ≡ one
+one_load files count levels name (Err refused.Absent) (Err refused.Absent) p q = refl
+one_load files count levels name (Err refused.Absent) (Err refused.TooLong) p q = absurd (there_is (file_named name files) q.0 p q.1)
+one_load files count levels name (Err refused.Absent) (Err refused.TooManyFiles) p q = absurd (there_is (file_named name files) q.0 p q.1)
+one_load files count levels name (Err refused.Absent) (Err refused.TooDeep) p q = absurd (there_is (file_named name files) q.0 p q.1)
+one_load files count levels name (Err refused.Absent) (Ok more) p q = absurd (there_is (file_named name files) more p q.0)
+one_load files count levels name (Err refused.TooLong) (Err refused.Absent) p q = absurd (there_is (file_named name files) p.0 q p.1)
+one_load files count levels name (Err refused.TooLong) (Err refused.TooLong) p q = refl
+one_load files count levels name (Err refused.TooLong) (Err refused.TooManyFiles) p q = let same = same_len (file_named name files) p.0 q.0 p.1 q.1 in absurd (omega (arith, same))
+one_load files count levels name (Err refused.TooLong) (Err refused.TooDeep) p q = let same = same_len (file_named name files) p.0 q.0 p.1 q.1 in absurd (omega (arith, same))
+one_load files count levels name (Err refused.TooLong) (Ok more) p q = let same = same_len (file_named name files) p.0 more p.1 q.0 in absurd (omega (arith, same))
+one_load files count levels name (Err refused.TooManyFiles) (Err refused.Absent) p q = absurd (there_is (file_named name files) p.0 q p.1)
+one_load files count levels name (Err refused.TooManyFiles) (Err refused.TooLong) p q = let same = same_len (file_named name files) p.0 q.0 p.1 q.1 in absurd (omega (arith, same))
+one_load files count levels name (Err refused.TooManyFiles) (Err refused.TooManyFiles) p q = refl
+one_load files count levels name (Err refused.TooManyFiles) (Err refused.TooDeep) p q = let same = same_len (file_named name files) p.0 q.0 p.1 q.1 in absurd (omega (arith, same))
+one_load files count levels name (Err refused.TooManyFiles) (Ok more) p q = let same = same_len (file_named name files) p.0 more p.1 q.0 in absurd (omega (arith, same))
+one_load files count levels name (Err refused.TooDeep) (Err refused.Absent) p q = absurd (there_is (file_named name files) p.0 q p.1)
+one_load files count levels name (Err refused.TooDeep) (Err refused.TooLong) p q = let same = same_len (file_named name files) p.0 q.0 p.1 q.1 in absurd (omega (arith, same))
+one_load files count levels name (Err refused.TooDeep) (Err refused.TooManyFiles) p q = let same = same_len (file_named name files) p.0 q.0 p.1 q.1 in absurd (omega (arith, same))
+one_load files count levels name (Err refused.TooDeep) (Err refused.TooDeep) p q = refl
+one_load files count levels name (Err refused.TooDeep) (Ok more) p q = let same = same_len (file_named name files) p.0 more p.1 q.0 in absurd (omega (arith, same))
+one_load files count levels name (Ok text) (Err refused.Absent) p q = absurd (there_is (file_named name files) text q p.0)
+one_load files count levels name (Ok text) (Err refused.TooLong) p q = let same = same_len (file_named name files) text q.0 p.0 q.1 in absurd (omega (arith, same))
+one_load files count levels name (Ok text) (Err refused.TooManyFiles) p q = let same = same_len (file_named name files) text q.0 p.0 q.1 in absurd (omega (arith, same))
+one_load files count levels name (Ok text) (Err refused.TooDeep) p q = let same = same_len (file_named name files) text q.0 p.0 q.1 in absurd (omega (arith, same))
+one_load files count levels name (Ok text) (Ok more) p q = ap Ok (same_text (file_named name files) text more p.0 q.0)
 
-meet_more : (d : PlainSymbol) (one left other right : List PlainSymbol) → Meet one left other right → Meet (d ∷ one) left (d ∷ other) right
-meet_more d one left other right (alike p q) = alike (ap (λ (l : List PlainSymbol). d ∷ l) p) q
-meet_more d one left other right (before c between p q) = before c between (ap (λ (l : List PlainSymbol). d ∷ l) p) q
-meet_more d one left other right (behind c between p q) = behind c between (ap (λ (l : List PlainSymbol). d ∷ l) p) q
+module _ (reads : Reading) (has_one : TextsHaveOneReading reads) (files : List FileEntry) where
+  single : (text : List ℕ) → length text ≤ most_bytes → (one other : Result (List Decl) TextFail) → reads text one → reads text other → other ≡ one
+  single text short one other p q = (has_one text short).1.only other q ∙ sym ((has_one text short).1.only one p)
 
-meet : (one left other right : List PlainSymbol) → one ++ left ≡ other ++ right → Meet one left other right
-meet [] left [] right same = alike refl same
-meet [] left (c ∷ other) right same = before c other refl same
-meet (c ∷ one) left [] right same = behind c one refl (sym same)
-meet (c ∷ one) left (d ∷ other) right same =
-    let head : c ≡ d = cc in
-    let rest : one ++ left ≡ other ++ right = cc in
-    subst (λ (e : PlainSymbol). Meet (c ∷ one) left (e ∷ other) right) head (meet_more c one left other right (meet one left other right rest))
+  one_stop : (count levels : ℕ) (ask : Ask) (one other : ReadAllFault) → Stops reads (Some files) count levels ask one → Stops reads (Some files) count levels ask other → other ≡ one
+  one_stop count levels ask one other (inl p) (inl q) =
+      let same = one_load files count levels ask.name (Err p.0) (Err q.0) p.1 q.1 in
+      let refusal : q.0 ≡ p.0 = cc in
+      q.2 ∙ (ap (λ r. fault_at r ask) refusal ∙ sym p.2)
+  one_stop count levels ask one other (inl p) (inr q) =
+      let same = one_load files count levels ask.name (Err p.0) (Ok q.0) p.1 q.1 in
+      absurd (let no : ⊥ = cc in no)
+  one_stop count levels ask one other (inr p) (inl q) =
+      let same = one_load files count levels ask.name (Ok p.0) (Err q.0) p.1 q.1 in
+      absurd (let no : ⊥ = cc in no)
+  one_stop count levels ask one other (inr p) (inr q) =
+      let same = one_load files count levels ask.name (Ok p.0) (Ok q.0) p.1 q.1 in
+      let text : q.0 ≡ p.0 = cc in
+      let P : List ℕ → Type 0 = λ t. reads t (Err q.2.0) in
+      let read = single p.0 p.1.1 (Err p.2.0) (Err q.2.0) p.2.1 (subst P text q.2.1) in
+      let wrong : q.2.0 ≡ p.2.0 = cc in
+      q.2.3 ∙ (ap (λ w. faulty ask.name w) wrong ∙ sym p.2.3)
 
--- what begins past a split agrees with it
-past : (one : List PlainSymbol) (c : PlainSymbol) (between left right other after : List PlainSymbol) → other ≡ one ++ c ∷ between → left ≡ c ∷ (between ++ right) → Agrees (other ++ after) one left
-past one c between left right other after is begins =
-    subst (Agrees (other ++ after) one) (sym begins) (between ++ after, ap (λ (l : List PlainSymbol). l ++ after) is ∙ regroup one (c ∷ between) after)
-
-syntax_once : (end : ℕ) (symbols : List PlainSymbol) (p q : ℕ) → IsSyntax end symbols p → IsSyntax end symbols q → p ≡ q
-syntax_once end symbols p q one other = by (meet one.before one.rest other.before other.rest (sym one.split ∙ other.split)) where
-  by : Meet one.before one.rest other.before other.rest → p ≡ q
-  by (alike b r) = one.at ∙ (ap (next_place end) r ∙ sym other.at)
-  by (before c between b r) = absurd (one.none other.begun.tree (other.before ++ other.begun.after) other.begun.derived (past one.before c between one.rest other.rest other.before other.begun.after b r))
-  by (behind c between b r) = absurd (other.none one.begun.tree (one.before ++ one.begun.after) one.begun.derived (past other.before c between other.rest one.rest one.before one.begun.after b r))
-
--- ---- places rise
-
-abbrev AreRising : ℕ → List PlainSymbol → Type 0
-AreRising end [] = Unit {0}
-AreRising end (c ∷ rest) = (c.at < next_place end rest) × AreRising end rest
-
-rise_behind : (end : ℕ) (front rest : List PlainSymbol) → AreRising end (front ++ rest) → AreRising end rest
-rise_behind end [] rest rise = rise
-rise_behind end (c ∷ front) rest rise = rise_behind end front rest rise.1
-
-rise_to : (end : ℕ) (c : PlainSymbol) (between rest : List PlainSymbol) → AreRising end (c ∷ (between ++ rest)) → c.at < next_place end rest
-rise_to end c [] rest rise = rise.0
-rise_to end c (d ∷ between) rest rise = let later = rise_to end d between rest rise.1 in let first : c.at < d.at = rise.0 in omega arith
-
-rising : (text : List ℕ) (from : ℕ) (lexemes : List Lexeme) (symbols : List PlainSymbol) → AreLexemesOf text from lexemes → AreSymbols text lexemes symbols → AreRising (length text) symbols
-rising text from [] [] are is = tt
-rising text from [] (c ∷ symbols) are is = absurd is
-rising text from (l ∷ lexemes) [] are is = absurd is
-rising text from (l ∷ []) (c ∷ []) are is = (let at : c.at ≡ l.at = is.0.at in omega (arith, are.1.within, are.1.some), tt)
-rising text from (l ∷ k ∷ lexemes) (c ∷ []) are is = absurd is.1
-rising text from (l ∷ []) (c ∷ d ∷ symbols) are is = absurd is.1
-rising text from (l ∷ k ∷ lexemes) (c ∷ d ∷ symbols) are is =
-    (let at : c.at ≡ l.at = is.0.at in let next : d.at ≡ k.at = is.1.0.at in let after : l.at + l.len ≤ k.at = are.2.0 in omega (arith, are.1.some), rising text (l.at + l.len) (k ∷ lexemes) (d ∷ symbols) are.2 is.1)
-
-too_late : (place at : ℕ) (o : Option ℕ) → IsNotBefore place o → o ≡ Some at → at < place → ⊥
-too_late place at o h is early = let later : IsNotBefore place (Some at) = subst (IsNotBefore place) is h in omega (arith, later)
-
-syntax_or_deep : (end : ℕ) (symbols : List PlainSymbol) (p q : ℕ) → AreRising end symbols → IsSyntax end symbols p → IsTooDeep symbols q → ⊥
-syntax_or_deep end symbols p q rise one other = by (meet one.before one.rest other.before (other.symbol ∷ other.rest) (sym one.split ∙ other.split)) where
-  by : Meet one.before one.rest other.before (other.symbol ∷ other.rest) → ⊥
-  by (alike b r) = one.none other.tree (other.before ++ other.symbol ∷ other.after) other.derived
-      (subst (Agrees (other.before ++ other.symbol ∷ other.after) one.before) (sym r) (other.after, ap (λ (l : List PlainSymbol). l ++ other.symbol ∷ other.after) (sym b)))
-  by (before c between b r) =
-      one.none other.tree (other.before ++ other.symbol ∷ other.after) other.derived (past one.before c between one.rest (other.symbol ∷ other.rest) other.before (other.symbol ∷ other.after) b r)
-  by (behind c between b r) =
-      let head : other.symbol ≡ c = cc in
-      let whole : one.before ++ one.begun.after ≡ other.before ++ other.symbol ∷ (between ++ one.begun.after) =
-      ap (λ (l : List PlainSymbol). l ++ one.begun.after) b ∙ (regroup other.before (c ∷ between) one.begun.after ∙ ap (λ (x : PlainSymbol). other.before ++ x ∷ (between ++ one.begun.after)) (sym head)) in
-      let first = other.all one.begun.tree (between ++ one.begun.after) (subst (IsText one.begun.tree) whole one.begun.derived) in
-      let list : symbols ≡ other.before ++ c ∷ (between ++ one.rest) = one.split ∙ (ap (λ (l : List PlainSymbol). l ++ one.rest) b ∙ regroup other.before (c ∷ between) one.rest) in
-      let up = rise_to end c between one.rest (rise_behind end other.before (c ∷ (between ++ one.rest)) (subst (AreRising end) list rise)) in
-      let at : q ≡ c.at = other.at ∙ ap (λ (x : PlainSymbol). x.at) head in
-      let early : q < p = omega (arith, at, one.at, up) in
-      too_late p q (deep_text most_nested one.begun.tree) one.begun.shallow first early
-
-deep_once : (symbols : List PlainSymbol) (p q : ℕ) → IsTooDeep symbols p → IsTooDeep symbols q → p ≡ q
-deep_once symbols p q one other = by (meet one.before (one.symbol ∷ one.rest) other.before (other.symbol ∷ other.rest) (sym one.split ∙ other.split)) where
-  by : Meet one.before (one.symbol ∷ one.rest) other.before (other.symbol ∷ other.rest) → p ≡ q
-  by (alike b r) = let head : one.symbol ≡ other.symbol = cc in one.at ∙ (ap (λ (x : PlainSymbol). x.at) head ∙ sym other.at)
-  by (before c between b r) =
-      let head : one.symbol ≡ c = cc in
-      let whole : other.before ++ other.symbol ∷ other.after ≡ one.before ++ one.symbol ∷ (between ++ other.symbol ∷ other.after) =
-      ap (λ (l : List PlainSymbol). l ++ other.symbol ∷ other.after) b ∙ (regroup one.before (c ∷ between) (other.symbol ∷ other.after) ∙ ap (λ (x : PlainSymbol). one.before ++ x ∷ (between ++ other.symbol ∷ other.after)) (sym head)) in
-      let first = one.all other.tree (between ++ other.symbol ∷ other.after) (subst (IsText other.tree) whole other.derived) in
-      let e : Some p ≡ Some q = sym first ∙ other.first in
-      cc
-  by (behind c between b r) =
-      let head : other.symbol ≡ c = cc in
-      let whole : one.before ++ one.symbol ∷ one.after ≡ other.before ++ other.symbol ∷ (between ++ one.symbol ∷ one.after) =
-      ap (λ (l : List PlainSymbol). l ++ one.symbol ∷ one.after) b ∙ (regroup other.before (c ∷ between) (one.symbol ∷ one.after) ∙ ap (λ (x : PlainSymbol). other.before ++ x ∷ (between ++ one.symbol ∷ one.after)) (sym head)) in
-      let first = other.all one.tree (between ++ one.symbol ∷ one.after) (subst (IsText one.tree) whole one.derived) in
-      let e : Some q ≡ Some p = sym first ∙ one.first in
+  one_take : (count levels : ℕ) (ask : Ask) (one other : List Decl) → Takes reads (Some files) count levels ask one → Takes reads (Some files) count levels ask other → other ≡ one
+  one_take count levels ask one other p q =
+      let same = one_load files count levels ask.name (Ok p.0) (Ok q.0) p.1 q.1 in
+      let text : q.0 ≡ p.0 = cc in
+      let P : List ℕ → Type 0 = λ t. reads t (Ok other) in
+      let read = single p.0 p.1.1 (Ok one) (Ok other) p.2 (subst P text q.2) in
       cc
 
-tree_or_syntax : (end : ℕ) (symbols : List PlainSymbol) (tree : List Decl) (p : ℕ) → IsText tree symbols → IsSyntax end symbols p → ⊥
-tree_or_syntax end symbols tree p h fault = fault.none tree symbols h (agrees_self symbols fault.before fault.rest fault.split)
+  stop_or_take : (count levels : ℕ) (ask : Ask) (fault : ReadAllFault) (decls : List Decl) → Stops reads (Some files) count levels ask fault → Takes reads (Some files) count levels ask decls → ⊥
+  stop_or_take count levels ask fault decls (inl p) q =
+      let same = one_load files count levels ask.name (Err p.0) (Ok q.0) p.1 q.1 in
+      cc
+  stop_or_take count levels ask fault decls (inr p) q =
+      let same = one_load files count levels ask.name (Ok p.0) (Ok q.0) p.1 q.1 in
+      let text : q.0 ≡ p.0 = cc in
+      let P : List ℕ → Type 0 = λ t. reads t (Ok decls) in
+      let read = single p.0 p.1.1 (Err p.2.0) (Ok decls) p.2.1 (subst P text q.2) in
+      cc
 
-tree_or_deep : (symbols : List PlainSymbol) (tree : List Decl) (p : ℕ) → IsText tree symbols → deep_text most_nested tree ≡ None → IsTooDeep symbols p → ⊥
-tree_or_deep symbols tree p h shallow fault = none_is_some shallow (fault.all tree fault.rest (subst (IsText tree) fault.split h))
+  one_enter : (visit : Visit) → IsSingle visit → IsSingle (Enters visit)
+  one_enter visit only ask read one other (inl p) (inl q) = only ask read one other p.1 q.1
+  one_enter visit only ask read one other (inl p) (inr q) = absurd (q.0 p.0)
+  one_enter visit only ask read one other (inr p) (inl q) = absurd (p.0 q.0)
+  one_enter visit only ask read one other (inr p) (inr q) = q.1 ∙ sym p.1
 
-same_outcome : (end : ℕ) (symbols : List PlainSymbol) (one other : Result (List Decl) ParseFault) → AreRising end symbols → IsParseOutcome end symbols one → IsParseOutcome end symbols other → one ≡ other
-same_outcome end symbols (Ok one) (Ok other) rise h g = ap Ok (tree_once most_nested symbols one other h.0 h.1 g.0)
-same_outcome end symbols (Ok one) (Err (Syntax q)) rise h g = absurd (tree_or_syntax end symbols one q h.0 g)
-same_outcome end symbols (Ok one) (Err (TooDeep q)) rise h g = absurd (tree_or_deep symbols one q h.0 h.1 g)
-same_outcome end symbols (Ok one) (Err Memory) rise h g = absurd g
-same_outcome end symbols (Err (Syntax p)) (Ok other) rise h g = absurd (tree_or_syntax end symbols other p g.0 h)
-same_outcome end symbols (Err (Syntax p)) (Err (Syntax q)) rise h g = ap (λ (n : ℕ). Err (Syntax n)) (syntax_once end symbols p q h g)
-same_outcome end symbols (Err (Syntax p)) (Err (TooDeep q)) rise h g = absurd (syntax_or_deep end symbols p q rise h g)
-same_outcome end symbols (Err (Syntax p)) (Err Memory) rise h g = absurd g
-same_outcome end symbols (Err (TooDeep p)) (Ok other) rise h g = absurd (tree_or_deep symbols other p g.0 g.1 h)
-same_outcome end symbols (Err (TooDeep p)) (Err (Syntax q)) rise h g = absurd (syntax_or_deep end symbols q p rise g h)
-same_outcome end symbols (Err (TooDeep p)) (Err (TooDeep q)) rise h g = ap (λ (n : ℕ). Err (TooDeep n)) (deep_once symbols p q h g)
-same_outcome end symbols (Err (TooDeep p)) (Err Memory) rise h g = absurd g
-same_outcome end symbols (Err Memory) other rise h g = absurd h
+  one_end : (go_on : List FileDecls → FilesOutcome → Type 0) → ((read : List FileDecls) (one other : FilesOutcome) → go_on read one → go_on read other → other ≡ one)
+      → (met one other : FilesOutcome) → MatchResult met (λ between. go_on between one) (λ fault. one ≡ Err fault)
+      → MatchResult met (λ between. go_on between other) (λ fault. other ≡ Err fault) → other ≡ one
+  one_end go_on only (Ok between) one other p q = only between one other p q
+  one_end go_on only (Err fault) one other p q = q ∙ sym p
 
-pub one_outcome : HasOneParse
-one_outcome bytes lexemes one other lexes h g =
-    let same = symbols_once bytes lexemes g.symbols h.symbols g.read h.read in
-    same_outcome (length bytes) h.symbols one other (rising bytes 0 lexemes h.symbols (lie_in_order bytes lexemes lexes) h.read) h.ends
-    (subst (λ (symbols : List PlainSymbol). IsParseOutcome (length bytes) symbols other) same g.ends)
+  one_step : (visit : Visit) → IsSingle visit → (go_on : List FileDecls → FilesOutcome → Type 0) → ((read : List FileDecls) (one other : FilesOutcome) → go_on read one → go_on read other → other ≡ one)
+      → (skipped : Bool) (ask : Ask) (read : List FileDecls) (one other : FilesOutcome)
+      → MatchBool skipped (go_on read one) ((met : FilesOutcome) × Enters visit ask read met × MatchResult met (λ between. go_on between one) (λ fault. one ≡ Err fault))
+      → MatchBool skipped (go_on read other) ((met : FilesOutcome) × Enters visit ask read met × MatchResult met (λ between. go_on between other) (λ fault. other ≡ Err fault))
+      → other ≡ one
+  one_step visit only go_on goes true ask read one other p q = goes read one other p q
+  one_step visit only go_on goes false ask read one other p q =
+      let P : FilesOutcome → Type 0 = λ met. MatchResult met (λ between. go_on between other) (λ fault. other ≡ Err fault) in
+      one_end go_on goes p.0 one other p.2 (subst P (one_enter visit only ask read p.0 q.0 p.1 q.1) q.2)
 
--- ---- one tree, however deep its blocks are nested
+  one_following : (visit : Visit) → IsSingle visit → (file : List ℕ) (includes : List Include) (read : List FileDecls) (one other : FilesOutcome)
+      → FollowsIncludes visit file includes read one → FollowsIncludes visit file includes read other → other ≡ one
+  one_following visit only file [] read one other p q = q ∙ sym p
+  one_following visit only file (include ∷ includes) read one other p q =
+      one_step visit only (FollowsIncludes visit file includes) (one_following visit only file includes) (is_skipped include.name read) (ask_in file include) read one other p q
 
-neither : (one other : Option ℕ) → one ≡ None → other ≡ None → earlier one other ≡ None
-neither one other p q = ap (λ (o : Option ℕ). earlier o other) p ∙ q
+  one_by : (visit : Visit) → IsSingle visit → (levels : ℕ) → IsSingle (VisitsBy visit reads (Some files) levels)
+  one_by visit only levels ask read one other (inl p) (inl q) =
+      q.2 ∙ (ap Err (one_stop (length read) levels ask p.0 q.0 p.1 q.1) ∙ sym p.2)
+  one_by visit only levels ask read one other (inl p) (inr q) = absurd (stop_or_take (length read) levels ask p.0 q.0 p.1 q.1)
+  one_by visit only levels ask read one other (inr p) (inl q) = absurd (stop_or_take (length read) levels ask q.0 p.0 q.1 p.1)
+  one_by visit only levels ask read one other (inr p) (inr q) =
+      let P : List Decl → Type 0 = λ decls. FollowsIncludes visit ask.name (includes_of decls) (with_file read ask decls) other in
+      one_following visit only ask.name (includes_of p.0) (with_file read ask p.0) one other p.2
+      (subst P (one_take (length read) levels ask p.0 q.0 p.1 q.1) q.2)
 
--- blocks aren't nested deeper than there are statements
-statements_within : (statements : Statements) (left : ℕ) → count statements ≤ left → deep_statements statements left ≡ None
-statements_within Nothing left within = refl
-statements_within (Declares variable more) left within = statements_within more left (omega arith)
-statements_within (Calls call more) left within = statements_within more left (omega arith)
-statements_within (Asks ask more) left within = statements_within more left (omega arith)
-statements_within (Tests at condition then_at then more) zero within = absurd (omega arith)
-statements_within (Tests at condition then_at then more) (suc left) within =
-    neither (deep_statements then left) (deep_statements more (suc left)) (statements_within then left (omega arith)) (statements_within more (suc left) (omega arith))
-statements_within (Chooses at condition then_at then else_at else more) zero within = absurd (omega arith)
-statements_within (Chooses at condition then_at then else_at else more) (suc left) within =
-    neither (earlier (deep_statements then left) (deep_statements else left)) (deep_statements more (suc left))
-    (neither (deep_statements then left) (deep_statements else left) (statements_within then left (omega arith)) (statements_within else left (omega arith)))
-    (statements_within more (suc left) (omega arith))
-statements_within (Repeats at name class body_at body more) zero within = absurd (omega arith)
-statements_within (Repeats at name class body_at body more) (suc left) within =
-    neither (deep_statements body left) (deep_statements more (suc left)) (statements_within body left (omega arith)) (statements_within more (suc left) (omega arith))
+  one_visit : (levels : ℕ) → IsSingle (Visits reads (Some files) levels)
+  unfolding Visits
+  one_visit zero = one_by (λ _ _ _. ⊥) (λ ask read one other p q. absurd p) zero
+  one_visit (suc levels) = one_by (Visits reads (Some files) levels) (one_visit levels) (suc levels)
 
-abbrev decl_size : Decl → ℕ
-decl_size (decls.Rule class predicate body) = count body.statements + 1
-decl_size other = 0
+  -- a text by its length, the files before it and the levels left
+  some_text : (count levels : ℕ) (name text : List ℕ) → Some text ≡ file_named name files
+      → (most_bytes < length text) ⊎ (length text ≤ most_bytes) → (count < most_files) ⊎ (most_files ≤ count) → (0 < levels) ⊎ (levels ≤ 0)
+      → (loaded : Result (List ℕ) Refusal) × Loads (Some files) count levels name loaded
+  some_text count levels name text is (inl long) many deep = (Err refused.TooLong, (text, is, long))
+  some_text count levels name text is (inr short) (inr many) deep = (Err refused.TooManyFiles, (text, is, short, many))
+  some_text count levels name text is (inr short) (inl few) (inr deep) = (Err refused.TooDeep, (text, is, short, few, omega arith))
+  some_text count levels name text is (inr short) (inl few) (inl left) = (Ok text, (is, short, few, left))
 
-decl_within : (decl : Decl) (left : ℕ) → decl_size decl ≤ left → deep_decl left decl ≡ None
-decl_within (decls.Rule class predicate body) zero within = absurd (omega arith)
-decl_within (decls.Rule class predicate body) (suc left) within = statements_within body.statements left (omega arith)
-decl_within other left within = refl
+  -- the answer to each name
+  some_load : (count levels : ℕ) (name : List ℕ) (held : Option (List ℕ)) → held ≡ file_named name files
+      → (loaded : Result (List ℕ) Refusal) × Loads (Some files) count levels name loaded
+  some_load count levels name None is = (Err refused.Absent, is)
+  some_load count levels name (Some text) is =
+      some_text count levels name text is (cases_lt most_bytes (length text)) (cases_lt count most_files) (cases_lt 0 levels)
 
-abbrev text_size : List Decl → ℕ
-text_size [] = 0
-text_size (decl ∷ tree) = decl_size decl + text_size tree
+  some_enter : (visit : Visit) → ((ask : Ask) (read : List FileDecls) → (outcome : FilesOutcome) × visit ask read outcome)
+      → (ask : Ask) (read : List FileDecls) (text : Bool) → is_utf8 ask.name ≡ text → (outcome : FilesOutcome) × Enters visit ask read outcome
+  some_enter visit has ask read true is = ((has ask read).0, inl (IsUtf8-from_is_utf8 ask.name is, (has ask read).1))
+  some_enter visit has ask read false is =
+      (Err (all.Absent ask.file ask.at), inr ((λ utf8. let yes = is_utf8-from_IsUtf8 ask.name utf8 in cc), refl))
 
-text_within : (tree : List Decl) (left : ℕ) → text_size tree ≤ left → deep_text left tree ≡ None
-text_within [] left within = refl
-text_within (decl ∷ tree) left within =
-    neither (deep_decl left decl) (deep_text left tree) (decl_within decl left (omega arith)) (text_within tree left (omega arith))
+  some_end : (go_on : List FileDecls → FilesOutcome → Type 0) → ((read : List FileDecls) → (outcome : FilesOutcome) × go_on read outcome)
+      → (met : FilesOutcome) → (outcome : FilesOutcome) × MatchResult met (λ between. go_on between outcome) (λ fault. outcome ≡ Err fault)
+  some_end go_on goes (Ok between) = goes between
+  some_end go_on goes (Err fault) = (Err fault, refl)
 
-pub one_tree : HasOneTree
-one_tree bytes lexemes one other h g =
-    let same = symbols_once bytes lexemes g.0 h.0 g.1 h.1 in
-    tree_once (text_size one) h.0 one other h.2 (text_within one (text_size one) (omega arith)) (subst (IsText other) same g.2)
+  some_step : (visit : Visit) → ((ask : Ask) (read : List FileDecls) → (outcome : FilesOutcome) × visit ask read outcome)
+      → (go_on : List FileDecls → FilesOutcome → Type 0) → ((read : List FileDecls) → (outcome : FilesOutcome) × go_on read outcome)
+      → (skipped : Bool) (ask : Ask) (read : List FileDecls) → (outcome : FilesOutcome)
+      × MatchBool skipped (go_on read outcome) ((met : FilesOutcome) × Enters visit ask read met × MatchResult met (λ between. go_on between outcome) (λ fault. outcome ≡ Err fault))
+  some_step visit has go_on goes true ask read = goes read
+  some_step visit has go_on goes false ask read =
+      let entered = some_enter visit has ask read (is_utf8 ask.name) refl in
+      let ended = some_end go_on goes entered.0 in
+      (ended.0, (entered.0, entered.1, ended.1))
+
+  some_following : (visit : Visit) → ((ask : Ask) (read : List FileDecls) → (outcome : FilesOutcome) × visit ask read outcome)
+      → (file : List ℕ) (includes : List Include) (read : List FileDecls) → (outcome : FilesOutcome) × FollowsIncludes visit file includes read outcome
+  some_following visit has file [] read = (Ok read, refl)
+  some_following visit has file (include ∷ includes) read =
+      some_step visit has (FollowsIncludes visit file includes) (some_following visit has file includes) (is_skipped include.name read) (ask_in file include) read
+
+  some_read : (inner : Visit) → ((ask : Ask) (read : List FileDecls) → (outcome : FilesOutcome) × inner ask read outcome)
+      → (levels : ℕ) (ask : Ask) (read : List FileDecls) (text : List ℕ) → Loads (Some files) (length read) levels ask.name (Ok text)
+      → (result : Result (List Decl) TextFail) → reads text result → IfErr result (λ fail. IsSome (fail_kind fail))
+      → (outcome : FilesOutcome) × VisitsBy inner reads (Some files) levels ask read outcome
+  some_read inner has levels ask read text loaded (Ok decls) is told =
+      let followed = some_following inner has ask.name (includes_of decls) (with_file read ask decls) in
+      (followed.0, inr (decls, (text, loaded, is), followed.1))
+  some_read inner has levels ask read text loaded (Err wrong) is told =
+      (Err (faulty ask.name wrong), inl (faulty ask.name wrong, inr (text, loaded, (wrong, is, told, refl)), refl))
+
+  some_by : (inner : Visit) → ((ask : Ask) (read : List FileDecls) → (outcome : FilesOutcome) × inner ask read outcome)
+      → (levels : ℕ) (ask : Ask) (read : List FileDecls) (loaded : Result (List ℕ) Refusal) → Loads (Some files) (length read) levels ask.name loaded
+      → (outcome : FilesOutcome) × VisitsBy inner reads (Some files) levels ask read outcome
+  some_by inner has levels ask read (Ok text) loads =
+      let one = has_one text loads.1 in some_read inner has levels ask read text loads one.0 one.1.is one.2
+  some_by inner has levels ask read (Err refusal) loads =
+      (Err (fault_at refusal ask), inl (fault_at refusal ask, inl (refusal, loads, refl), refl))
+
+  -- with no level left the file isn't read
+  some_last : (ask : Ask) (read : List FileDecls) (loaded : Result (List ℕ) Refusal) → Loads (Some files) (length read) 0 ask.name loaded
+      → (outcome : FilesOutcome) × VisitsBy (λ _ _ _. ⊥) reads (Some files) 0 ask read outcome
+  some_last ask read (Ok text) loads = absurd (let none : 0 < 0 = loads.3 in omega arith)
+  some_last ask read (Err refusal) loads =
+      (Err (fault_at refusal ask), inl (fault_at refusal ask, inl (refusal, loads, refl), refl))
+
+  some_visit : (levels : ℕ) (ask : Ask) (read : List FileDecls) → (outcome : FilesOutcome) × Visits reads (Some files) levels ask read outcome
+  unfolding Visits
+  some_visit zero ask read =
+      let loaded = some_load (length read) 0 ask.name (file_named ask.name files) refl in some_last ask read loaded.0 loaded.1
+  some_visit (suc levels) ask read =
+      let loaded = some_load (length read) (suc levels) ask.name (file_named ask.name files) refl in
+      some_by (Visits reads (Some files) levels) (some_visit levels) (suc levels) ask read loaded.0 loaded.1
+
+pub one_outcome : (reads : Reading) → FilesHaveOneOutcome reads
+one_outcome reads = λ has_one files name.
+    let some = some_visit reads has_one files (deepest + 1) (first_ask name) [] in
+    (some.0, record { is = some.1; only = λ other q. one_visit reads has_one files (deepest + 1) (first_ask name) [] some.0 other some.1 q })

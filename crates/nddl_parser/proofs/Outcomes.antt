@@ -1,13 +1,13 @@
 -- What the reader of a text finds, as the outcome of a text.
 use Rattle.std.proofs.Common.{◌≡◌, ℕ, Option, Some, None, Ok, List, [], ◌∷◌, ◌++◌, refl, sym, ap, subst, ◌∙◌, arith}
-use Rattle.nddl_reading.specs.Symbols.{PlainSymbol}
-use Rattle.nddl_reading.specs.Readers.{Outcome, got, stuck, deep, next_place, next_sort}
-use Rattle.nddl_reading.specs.declared.sort.Sort.{Sort}
-use Rattle.nddl_reading.specs.Exact.{Agrees, IfAt, FindsExactly}
-use Rattle.nddl_reading.proofs.Lists.{append_none, not_shorter}
-use Rattle.nddl_reading.proofs.Many.{wider}
-use Rattle.nddl_reading.specs.declared.sort.Sort.TheVariants as sorts
-use Rattle.nddl_reading.specs.Readers.{is}
+use Rattle.nddl_grammar.specs.Symbols.{PlainSymbol}
+use Rattle.nddl_grammar.specs.Readers.{Outcome, got, stuck, deep, next_place, next_sort}
+use Rattle.nddl_grammar.specs.declared.sort.Sort.{Sort}
+use Rattle.nddl_grammar.specs.Exact.{Agrees, IfAt, FindsExactly}
+use Rattle.nddl_grammar.proofs.Lists.{append_none, not_shorter}
+use Rattle.nddl_grammar.proofs.Many.{wider}
+use Rattle.nddl_grammar.specs.declared.sort.Sort.TheVariants as sorts
+use Rattle.nddl_grammar.specs.Readers.{is}
 use Rattle.nddl_ast.specs.declared.declaration.Decl.{Decl}
 use Rattle.nddl_parser.specs.Grammar.{IsText, most_nested, deep_text}
 use Rattle.nddl_parser.specs.Derives.{IsNotBefore, IsSyntax, IsTooDeep, IsParseOutcome}

@@ -12,8 +12,8 @@ use Rattle.nddl_lexer.specs.declared.kinds.LexKind.TheVariants as kinds
 use Rattle.nddl_lexer.specs.declared.kinds.Lexeme.{Lexeme}
 use Rattle.nddl_lexer.specs.Spelling.{IsSpelled}
 use Rattle.nddl_lexer.specs.Reading.{AreLexemesOf, IsLexemeOf}
-use Rattle.nddl_reading.specs.declared.sort.Sort.TheVariants as sorts
-use Rattle.nddl_reading.specs.Symbols.{PlainSymbol}
+use Rattle.nddl_grammar.specs.declared.sort.Sort.TheVariants as sorts
+use Rattle.nddl_grammar.specs.Symbols.{PlainSymbol}
 use Rattle.nddl_parser.specs.Symbols.{sort_of, KeepsBytes, IsSymbolOf, AreSymbols}
 
 word_byte_small : (byte : ℕ) → is_word_byte byte ≡ true → byte < 128

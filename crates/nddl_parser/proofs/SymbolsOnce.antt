@@ -8,8 +8,8 @@ use Rattle.nddl_lexer.specs.declared.kinds.LexKind.{LexKind}
 use Rattle.nddl_lexer.specs.declared.kinds.LexKind.TheVariants as kinds
 use Rattle.nddl_lexer.specs.declared.kinds.Lexeme.{Lexeme}
 use Rattle.nddl_lexer.specs.Reading.{bytes_of}
-use Rattle.nddl_reading.specs.declared.sort.Sort.{Sort}
-use Rattle.nddl_reading.specs.Symbols.{PlainSymbol}
+use Rattle.nddl_grammar.specs.declared.sort.Sort.{Sort}
+use Rattle.nddl_grammar.specs.Symbols.{PlainSymbol}
 use Rattle.nddl_parser.specs.Symbols.{KeepsBytes, HasValue, IsSymbolOf, AreSymbols}
 
 no_digits : (bytes : List ℕ) → AreDigits bytes → bytes ≡ codes "inf" → ⊥

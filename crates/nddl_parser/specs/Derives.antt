@@ -2,9 +2,9 @@
 use Rattle.std.specs.Prelude.{◌≡◌, ℕ, ◌≤◌, Option, Some, None, Result, Ok, Err, List, ◌∷◌, ◌++◌, length}
 use Rattle.nddl_lexer.specs.declared.kinds.Lexeme.{Lexeme}
 use Rattle.nddl_lexer.specs.Reading.{Lexes}
-use Rattle.nddl_reading.specs.Symbols.{PlainSymbol}
-use Rattle.nddl_reading.specs.Readers.{next_place}
-use Rattle.nddl_reading.specs.Exact.{Agrees}
+use Rattle.nddl_grammar.specs.Symbols.{PlainSymbol}
+use Rattle.nddl_grammar.specs.Readers.{next_place}
+use Rattle.nddl_grammar.specs.Exact.{Agrees}
 use Rattle.nddl_ast.specs.declared.declaration.Decl.{Decl}
 use Rattle.nddl_parser.specs.declared.parsing.ParseFault.{ParseFault}
 use Rattle.nddl_parser.specs.declared.parsing.ParseFault.TheVariants.{Syntax, TooDeep, Memory}

@@ -2,9 +2,9 @@
 -- grammar, places included.
 use Rattle.std.specs.Prelude.{◌≡◌, ℕ, Option, Some, None, List, [], ◌∷◌}
 use Rattle.eu_name.specs.declared.word.Reserved.TheVariants as keywords
-use Rattle.nddl_reading.specs.declared.sort.Sort.TheVariants as sorts
-use Rattle.nddl_reading.specs.Symbols.{PlainSymbol}
-use Rattle.nddl_reading.specs.Exact.{◌·◌, IsPlaced, IsMark, IsNothing, AreMany, AreSeparated, AreListed, MayMark, earliest}
+use Rattle.nddl_grammar.specs.declared.sort.Sort.TheVariants as sorts
+use Rattle.nddl_grammar.specs.Symbols.{PlainSymbol}
+use Rattle.nddl_grammar.specs.Exact.{◌·◌, IsPlaced, IsMark, IsNothing, AreMany, AreSeparated, AreListed, MayMark, earliest}
 use Rattle.nddl_ast.specs.declared.name.Name.{Name}
 use Rattle.nddl_ast.specs.declared.declaration.PredicatePart.{PredicatePart}
 use Rattle.nddl_ast.specs.declared.declaration.PredicatePart.TheVariants as parts
@@ -14,8 +14,8 @@ use Rattle.nddl_ast.specs.declared.declaration.Member.{Member}
 use Rattle.nddl_ast.specs.declared.declaration.Member.TheVariants as members
 use Rattle.nddl_ast.specs.declared.declaration.Decl.{Decl}
 use Rattle.nddl_ast.specs.declared.declaration.Decl.TheVariants as decls
-use Rattle.nddl_statements.specs.Grammar.{IsWrittenName, AreExpressions, IsInit, IsType, IsTyped}
-use Rattle.nddl_statements.specs.Grammar.{IsVariable, IsCall, IsAsk, IsBraced, deep_block}
+use Rattle.nddl_grammar.specs.Grammar.{IsWrittenName, AreExpressions, IsInit, IsType, IsTyped}
+use Rattle.nddl_grammar.specs.Grammar.{IsVariable, IsCall, IsAsk, IsBraced, deep_block}
 
 -- ---- declarations
 

@@ -2,4 +2,12 @@ pub mod Grammar
 pub mod Symbols
 pub mod Derives
 pub mod Productions
+pub mod GrammarFaults
 pub mod Faults
+pub mod Includes
+pub mod Laws
+pub mod Limits
+pub mod Outcomes
+pub mod Taking
+pub mod Visits
+pub mod Language

@@ -1,11 +1,11 @@
 -- What the functions that read declarations find at the front of a list of symbols. That they find exactly what the
 -- grammar has is proved of them.
 use Rattle.std.specs.Prelude.{ℕ, Bool, true, false, Option, Some, None, List}
-use Rattle.nddl_reading.specs.declared.sort.Sort.{Sort}
+use Rattle.nddl_grammar.specs.declared.sort.Sort.{Sort}
 use Rattle.eu_name.specs.declared.word.Reserved.TheVariants as keywords
-use Rattle.nddl_reading.specs.declared.sort.Sort.TheVariants as sorts
-use Rattle.nddl_reading.specs.Readers.{Reader, and_then, is, symbol_of, mark_place, mark, may_mark}
-use Rattle.nddl_reading.specs.Readers.{nothing, mapped, sequence, choice, many, after, separated, listed}
+use Rattle.nddl_grammar.specs.declared.sort.Sort.TheVariants as sorts
+use Rattle.nddl_grammar.specs.Readers.{Reader, and_then, is, symbol_of, mark_place, mark, may_mark}
+use Rattle.nddl_grammar.specs.Readers.{nothing, mapped, sequence, choice, many, after, separated, listed}
 use Rattle.nddl_ast.specs.declared.name.Name.{Name}
 use Rattle.nddl_ast.specs.Tree.{Braces}
 use Rattle.nddl_ast.specs.declared.declaration.Typed.{Typed}
@@ -17,10 +17,10 @@ use Rattle.nddl_ast.specs.declared.declaration.Member.{Member}
 use Rattle.nddl_ast.specs.declared.declaration.Member.TheVariants as members
 use Rattle.nddl_ast.specs.declared.declaration.Decl.{Decl}
 use Rattle.nddl_ast.specs.declared.declaration.Decl.TheVariants as decls
-use Rattle.nddl_statements.specs.declared.statements.SimpleStmt.{SimpleStmt}
-use Rattle.nddl_statements.specs.declared.statements.SimpleStmt.TheVariants as plains
-use Rattle.nddl_statements.specs.Productions.{name, init, begins_type, type_of, typed, field, variable, field_after}
-use Rattle.nddl_statements.specs.Productions.{call_end, dotted_after, call_after, plain_after, block}
+use Rattle.nddl_grammar.specs.declared.statements.SimpleStmt.{SimpleStmt}
+use Rattle.nddl_grammar.specs.declared.statements.SimpleStmt.TheVariants as plains
+use Rattle.nddl_grammar.specs.Productions.{name, init, begins_type, type_of, typed, field, variable, field_after}
+use Rattle.nddl_grammar.specs.Productions.{call_end, dotted_after, call_after, plain_after, block}
 
 unfoldable pub part_after : Name → Reader PredicatePart
 part_after first =

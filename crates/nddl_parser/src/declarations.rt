@@ -1,9 +1,9 @@
 //! Declarations.
 
 ghost use Rattle.std.specs.Prelude.{◌≡◌};
-ghost use Rattle.nddl_reading.specs.declared.sort.Sort.TheVariants as sorts;
-ghost use Rattle.nddl_reading.specs.Readers.{many, mark, may_mark, sequence, IsFound};
-ghost use Rattle.nddl_statements.specs.Productions.{init};
+ghost use Rattle.nddl_grammar.specs.declared.sort.Sort.TheVariants as sorts;
+ghost use Rattle.nddl_grammar.specs.Readers.{many, mark, may_mark, sequence, IsFound};
+ghost use Rattle.nddl_grammar.specs.Productions.{init};
 ghost use Rattle.nddl_parser.specs.Grammar.{most_nested};
 ghost use Rattle.nddl_parser.specs.Productions.{body_of, sets_behind, constructor_parts, enum_members, class_parts, rule_parts, part_after, part_named, part, field_set, super_set, set_item, begins_set, predicate, constructor_after, member_after, member_named, member, begins_member, file, include, enumeration, typedef, parent, class_body, class_after, class, rule_after, decl_of, decl_after, decl_named, decl, begins_decl, text};
 
@@ -14,17 +14,17 @@ use nddl_ast::declaration::{Decl, Member, PredicatePart, Set, Typed};
 use nddl_ast::expression::Init;
 use nddl_ast::name::Name;
 use nddl_ast::statement::StmtBlock;
-use nddl_reading::cursor::{Cursor, Stop};
-use nddl_reading::joining::{behind, joined};
-use nddl_reading::sort::Sort;
-use nddl_statements::blocks::block;
-use nddl_statements::expressions::{Names, init, name};
-use nddl_statements::list;
-use nddl_statements::list::Item;
-use nddl_statements::statements::{
+use nddl_grammar::blocks::block;
+use nddl_grammar::cursor::{Cursor, Stop};
+use nddl_grammar::expressions::{Names, init, name};
+use nddl_grammar::joining::{behind, joined};
+use nddl_grammar::list;
+use nddl_grammar::list::Item;
+use nddl_grammar::sort::Sort;
+use nddl_grammar::statements::{
     SimpleStmt, call_after, call_end, dotted_after, plain_after, variable,
 };
-use nddl_statements::types::{Formals, begins_type, field, field_after, named_end, type_of};
+use nddl_grammar::types::{Formals, begins_type, field, field_after, named_end, type_of};
 
 /// How deep blocks may be nested.
 pub const MOST_NESTED: u8 = 16;
@@ -68,7 +68,7 @@ struct Parts;
 impl Item for Parts {
     type Tree = PredicatePart;
 
-    ghost use Rattle.nddl_statements.specs.Productions.{begins_type};
+    ghost use Rattle.nddl_grammar.specs.Productions.{begins_type};
     ghost use Rattle.nddl_parser.specs.Productions.{part};
 
     ghost first = { begins_type };

@@ -4,16 +4,16 @@ ghost use Rattle.std.specs.Prelude.{◌≡◌, ◌≢◌, ◌<◌, ◌^◌, Ok, 
 ghost use Rattle.nddl_lexer.specs.Reading.{Lexes};
 ghost use Rattle.nddl_parser.specs.declared.parsing.ParseFault.TheVariants.{Memory};
 ghost use Rattle.nddl_parser.specs.Derives.{IsParseOutcome, Parses};
-ghost use Rattle.nddl_parser.specs.Faults.{parse_kind, parse_place};
+ghost use Rattle.nddl_parser.specs.GrammarFaults.{parse_kind, parse_place};
 
 use super::declarations::text;
 use super::symbols::symbols_of;
 use eu_name::sequence::Sequence;
 use nddl_ast::declaration::Decl;
 use nddl_ast::kind::TextKind;
+use nddl_grammar::cursor::{Cursor, Stop};
+use nddl_grammar::symbol::Symbol;
 use nddl_lexer::kinds::Lexeme;
-use nddl_reading::cursor::{Cursor, Stop};
-use nddl_reading::symbol::Symbol;
 use std::alloc::{AllocError, Global};
 
 /// Why a text has no tree, and at which byte.

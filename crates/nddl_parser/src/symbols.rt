@@ -7,10 +7,10 @@ ghost use Rattle.nddl_lexer.specs.Reading.{AreLexemesOf, IsLexemeOf};
 ghost use Rattle.nddl_parser.specs.Symbols.{word_sort, sort_of, KeepsBytes, HasValue, IsSymbolOf, AreSymbols};
 
 use eu_name::word::reserved_of;
+use nddl_grammar::sort::Sort;
+use nddl_grammar::symbol::Symbol;
 use nddl_lexer::kinds::{LexKind, Lexeme};
 use nddl_lexer::numbers::{decimal_value, number_value};
-use nddl_reading::sort::Sort;
-use nddl_reading::symbol::Symbol;
 use std::alloc::{AllocError, Global};
 
 // The sort of a word: a name unless it is reserved.

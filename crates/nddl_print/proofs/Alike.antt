@@ -1,8 +1,8 @@
 -- Trees that are the same have the same words, since places aren't printed.
 use Rattle.std.proofs.Common.{◌≡◌, Option, Some, None, List, [], ◌∷◌, ◌++◌, map, refl, sym, ap, ◌∙◌}
 use Rattle.std.specs.Option.{option_map}
-use Rattle.nddl_reading.specs.declared.sort.Sort.{Sort}
-use Rattle.nddl_reading.specs.declared.sort.Sort.TheVariants as sorts
+use Rattle.nddl_grammar.specs.declared.sort.Sort.{Sort}
+use Rattle.nddl_grammar.specs.declared.sort.Sort.TheVariants as sorts
 use Rattle.nddl_ast.specs.declared.name.Name.{Name}
 use Rattle.nddl_ast.specs.declared.expression.Expr.{Expr}
 use Rattle.nddl_ast.specs.declared.expression.Expr.TheVariants as exprs

@@ -10,9 +10,9 @@ use Rattle.nddl_lexer.specs.declared.kinds.Lexeme.{Lexeme}
 use Rattle.nddl_lexer.specs.Bytes.{is_quotable, AllPassing}
 use Rattle.nddl_lexer.specs.Spelling.{IsSpelled, IsInRange, IsString, IsNumberInRange}
 use Rattle.nddl_lexer.specs.Reading.{AreLexemesOf, bytes_of}
-use Rattle.nddl_reading.specs.declared.sort.Sort.{Sort}
-use Rattle.nddl_reading.specs.declared.sort.Sort.TheVariants as sorts
-use Rattle.nddl_reading.specs.Symbols.{PlainSymbol}
+use Rattle.nddl_grammar.specs.declared.sort.Sort.{Sort}
+use Rattle.nddl_grammar.specs.declared.sort.Sort.TheVariants as sorts
+use Rattle.nddl_grammar.specs.Symbols.{PlainSymbol}
 use Rattle.nddl_parser.specs.Symbols.{word_sort, sort_of, KeepsBytes, HasValue, AreSymbols}
 use Rattle.nddl_parser.proofs.SymbolsOnce.{number_once, decimal_once}
 use Rattle.nddl_print.proofs.Saying.{is_fixed, IsFine, AreFine}

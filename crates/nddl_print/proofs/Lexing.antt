@@ -7,7 +7,7 @@ use Rattle.nddl_lexer.specs.declared.kinds.Lexeme.{Lexeme}
 use Rattle.nddl_lexer.specs.Bytes.{is_blank}
 use Rattle.nddl_lexer.specs.Reading.{Piece, piece_of, Starts, Leads, lexemes_of, bytes_of}
 use Rattle.nddl_lexer.proofs.Laws.{blanks_separate}
-use Rattle.nddl_reading.specs.Symbols.{PlainSymbol}
+use Rattle.nddl_grammar.specs.Symbols.{PlainSymbol}
 use Rattle.nddl_parser.specs.Symbols.{sort_of, KeepsBytes, HasValue, AreSymbols}
 use Rattle.nddl_ast.specs.declared.declaration.Decl.{Decl}
 use Rattle.nddl_print.specs.Words.{Word, text_of, line_of}

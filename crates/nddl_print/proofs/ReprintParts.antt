@@ -1,9 +1,9 @@
 -- Names, values, expressions and types, read back from their words.
 use Rattle.std.proofs.Common.{◌≡◌, ℕ, true, false, List, [], ◌∷◌, refl, sym, ap, subst}
 use Rattle.eu_name.specs.declared.word.Reserved.TheVariants as keywords
-use Rattle.nddl_reading.specs.declared.sort.Sort.TheVariants as sorts
-use Rattle.nddl_reading.specs.Symbols.{PlainSymbol}
-use Rattle.nddl_reading.specs.Exact.{◌·◌, IsMark}
+use Rattle.nddl_grammar.specs.declared.sort.Sort.TheVariants as sorts
+use Rattle.nddl_grammar.specs.Symbols.{PlainSymbol}
+use Rattle.nddl_grammar.specs.Exact.{◌·◌, IsMark}
 use Rattle.nddl_ast.specs.declared.name.Name.{Name}
 use Rattle.nddl_ast.specs.declared.expression.Constant.{Constant}
 use Rattle.nddl_ast.specs.declared.expression.Constant.TheVariants as constants
@@ -19,7 +19,7 @@ use Rattle.nddl_ast.specs.declared.expression.Bounds.TheVariants as bounds
 use Rattle.nddl_ast.specs.declared.expression.Type as types
 use Rattle.nddl_ast.specs.declared.expression.Init.TheVariants as inits
 use Rattle.nddl_ast.specs.Same.{AllSame, SameName, SamePath, SameLiteral, SameExpr, SameValue, SameBase, SameBounds, SameType, SameCreation, SameInit, SameTyped}
-use Rattle.nddl_statements.specs.Grammar.{IsWrittenName, IsPath, Writes, IsLiteral, IsExpr, IsWrittenValue, AreExpressions, IsCreation, IsInit, IsBase, IsBounds, IsType, IsTyped}
+use Rattle.nddl_grammar.specs.Grammar.{IsWrittenName, IsPath, Writes, IsLiteral, IsExpr, IsWrittenValue, AreExpressions, IsCreation, IsInit, IsBase, IsBounds, IsType, IsTyped}
 use Rattle.nddl_print.specs.Words.{Fixed, Named, Number, Decimal}
 use Rattle.nddl_print.specs.Canonical.{name_words, path_words, constant_words, literal_words, expr_words, value_words, argument_words, creation_words, init_words, base_words, bounds_words, type_words, typed_words}
 use Rattle.nddl_print.proofs.Saying.{AreSound, AreFine, Say, one_said}

@@ -1,8 +1,8 @@
 -- Declarations read back from their words.
 use Rattle.std.proofs.Common.{◌≡◌, ℕ, Option, Some, None, List, [], ◌∷◌, refl, sym, subst}
 use Rattle.eu_name.specs.declared.word.Reserved.TheVariants as keywords
-use Rattle.nddl_reading.specs.declared.sort.Sort.TheVariants as sorts
-use Rattle.nddl_reading.specs.Symbols.{PlainSymbol}
+use Rattle.nddl_grammar.specs.declared.sort.Sort.TheVariants as sorts
+use Rattle.nddl_grammar.specs.Symbols.{PlainSymbol}
 use Rattle.nddl_ast.specs.declared.name.Name.{Name}
 use Rattle.nddl_ast.specs.declared.expression.Expr.{Expr}
 use Rattle.nddl_ast.specs.declared.expression.Type as types

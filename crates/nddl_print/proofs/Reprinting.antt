@@ -1,10 +1,10 @@
 -- From the words of a tree, a tree that is the same: by one lemma for each way to put languages together.
 use Rattle.std.proofs.Common.{◌≡◌, ℕ, true, inr, List, [], ◌∷◌, refl, sym, subst}
-use Rattle.nddl_reading.specs.declared.sort.Sort.{Sort}
-use Rattle.nddl_reading.specs.declared.sort.Sort.TheVariants as sorts
-use Rattle.nddl_reading.specs.Symbols.{PlainSymbol}
-use Rattle.nddl_reading.specs.Exact.{◌·◌, IsPlaced, IsMark, AreMany, AreFollowing, AreSeparated, AreListed, MayMark}
-use Rattle.nddl_reading.proofs.Lists.{append_none}
+use Rattle.nddl_grammar.specs.declared.sort.Sort.{Sort}
+use Rattle.nddl_grammar.specs.declared.sort.Sort.TheVariants as sorts
+use Rattle.nddl_grammar.specs.Symbols.{PlainSymbol}
+use Rattle.nddl_grammar.specs.Exact.{◌·◌, IsPlaced, IsMark, AreMany, AreFollowing, AreSeparated, AreListed, MayMark}
+use Rattle.nddl_grammar.proofs.Lists.{append_none}
 use Rattle.nddl_ast.specs.Same.{AllSame}
 use Rattle.nddl_print.specs.Words.{Word, Fixed}
 use Rattle.nddl_print.specs.Canonical.{◌⌢◌, fixed, many_words, following_words, listed_words}

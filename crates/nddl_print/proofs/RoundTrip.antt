@@ -6,7 +6,7 @@ use Rattle.nddl_lexer.proofs.Outcomes.{one_reading}
 use Rattle.nddl_ast.specs.declared.declaration.Decl.{Decl}
 use Rattle.nddl_parser.specs.Derives.{Parses}
 use Rattle.nddl_parser.specs.Grammar.{most_nested}
-use Rattle.nddl_parser.proofs.OneOutcome.{one_outcome}
+use Rattle.nddl_parser.proofs.OneTree.{one_outcome}
 use Rattle.nddl_print.specs.Canonical.{many_words, decl_words, spelling_of}
 use Rattle.nddl_print.specs.Laws.{IsReadable, PrintsAreReadBack, PrintsAreReadAsNoOther, SameTreesAreSpelledAlike, PrintsAreLasting}
 use Rattle.nddl_print.proofs.Saying.{AreSound}

@@ -1,8 +1,8 @@
 -- Symbols that are words, and words that can be spelled.
 use Rattle.std.proofs.Common.{◌≡◌, ℕ, Bool, true, false, List, [], ◌∷◌, ◌++◌, refl, ap, ◌∙◌}
-use Rattle.nddl_reading.specs.declared.sort.Sort.{Sort}
-use Rattle.nddl_reading.specs.declared.sort.Sort.TheVariants as sorts
-use Rattle.nddl_reading.specs.Symbols.{PlainSymbol}
+use Rattle.nddl_grammar.specs.declared.sort.Sort.{Sort}
+use Rattle.nddl_grammar.specs.declared.sort.Sort.TheVariants as sorts
+use Rattle.nddl_grammar.specs.Symbols.{PlainSymbol}
 use Rattle.eu_name.specs.Word.{IsWord, reserved_of}
 use Rattle.nddl_lexer.specs.Bytes.{is_quotable, AllPassing}
 use Rattle.nddl_lexer.specs.Spelling.{IsNumberInRange}

@@ -1,12 +1,12 @@
 -- Trees that are the same have blocks nested equally deep.
 use Rattle.std.proofs.Common.{◌≡◌, ℕ, zero, suc, Option, Some, None, List, [], ◌∷◌, refl}
-use Rattle.nddl_reading.specs.Exact.{earlier}
-use Rattle.nddl_reading.proofs.Lists.{earlier_none}
+use Rattle.nddl_grammar.specs.Exact.{earlier}
+use Rattle.nddl_grammar.proofs.Lists.{earlier_none}
 use Rattle.nddl_ast.specs.declared.declaration.Decl.{Decl}
 use Rattle.nddl_ast.specs.declared.declaration.Decl.TheVariants as decls
 use Rattle.nddl_ast.specs.Tree.{Statements, Nothing, Declares, Calls, Asks, Tests, Chooses, Repeats}
 use Rattle.nddl_ast.specs.Same.{AllSame, SameStatements, SameDecl}
-use Rattle.nddl_statements.specs.Grammar.{deep_enclosed, deep_statements}
+use Rattle.nddl_grammar.specs.Grammar.{deep_enclosed, deep_statements}
 use Rattle.nddl_parser.specs.Grammar.{deep_decl, deep_text}
 
 earlier_parts : (one other : Option ℕ) → earlier one other ≡ None → (one ≡ None) × (other ≡ None)

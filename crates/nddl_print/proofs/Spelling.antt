@@ -11,9 +11,9 @@ use Rattle.nddl_lexer.specs.declared.kinds.LexKind.{LexKind}
 use Rattle.nddl_lexer.specs.declared.kinds.LexKind.TheVariants as kinds
 use Rattle.nddl_lexer.specs.Bytes.{AllPassing}
 use Rattle.nddl_lexer.specs.Spelling.{IsSpelled, IsInRange, IsNumber, SpellsNumber}
-use Rattle.nddl_reading.specs.declared.sort.Sort.{Sort}
+use Rattle.nddl_grammar.specs.declared.sort.Sort.{Sort}
 use Rattle.eu_name.specs.declared.word.Reserved.TheVariants as keywords
-use Rattle.nddl_reading.specs.declared.sort.Sort.TheVariants as sorts
+use Rattle.nddl_grammar.specs.declared.sort.Sort.TheVariants as sorts
 use Rattle.nddl_parser.specs.Symbols.{word_sort, sort_of, KeepsBytes, HasValue}
 use Rattle.nddl_print.specs.Words.{Word, Fixed, Named, Number, Decimal, Quoted, fixed_text, decimal_text, text_of}
 use Rattle.nddl_print.proofs.Saying.{is_fixed, IsSound, Says}

@@ -3,8 +3,8 @@ use Rattle.std.specs.Prelude.{ℕ, suc, ◌+◌, ◌/◌, ◌%◌, ℤ, pos, neg
 use Rattle.std.specs.List.{join_by, flat_map}
 use Rattle.std.specs.Fmt.{decimal, signed_decimal}
 use Rattle.eu_name.specs.Word.{reserved_word}
-use Rattle.nddl_reading.specs.declared.sort.Sort.{Sort}
-use Rattle.nddl_reading.specs.declared.sort.Sort.TheVariants as sorts
+use Rattle.nddl_grammar.specs.declared.sort.Sort.{Sort}
+use Rattle.nddl_grammar.specs.declared.sort.Sort.TheVariants as sorts
 
 -- what stands between two blanks: a reserved word or a mark, by its sort; a name; a number; a decimal, by its
 -- thousandths; bytes between quotes

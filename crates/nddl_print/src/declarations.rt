@@ -2,7 +2,7 @@
 
 ghost use Rattle.std.specs.Prelude.{◌≡◌, ◌++◌, ◌∷◌, [], OnOk};
 ghost use Rattle.eu_name.specs.declared.word.Reserved.TheVariants as keywords;
-ghost use Rattle.nddl_reading.specs.declared.sort.Sort.TheVariants as sorts;
+ghost use Rattle.nddl_grammar.specs.declared.sort.Sort.TheVariants as sorts;
 ghost use Rattle.nddl_print.specs.Words.{spaced, Quoted};
 ghost use Rattle.nddl_print.specs.Canonical.{◌⌢◌, block_words, braced, decl_words, fixed, listed_words, name_words, type_words, formal_words, many_words, member_words, parent_words, part_words, set_words};
 
@@ -15,7 +15,7 @@ use nddl_ast::declaration::{Decl, Member, PredicatePart, Set, Typed};
 use nddl_ast::expression::Type;
 use nddl_ast::name::Name;
 use nddl_ast::statement::StmtBlock;
-use nddl_reading::sort::Sort;
+use nddl_grammar::sort::Sort;
 use std::alloc::AllocError;
 
 impl Print for PredicatePart {

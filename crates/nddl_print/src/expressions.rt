@@ -12,7 +12,7 @@ use nddl_ast::expression::{
     BaseType, Bounds, Constant, Creation, Expr, Init, Literal, Type, Value,
 };
 use nddl_ast::name::{Name, Path};
-use nddl_reading::sort::Sort;
+use nddl_grammar::sort::Sort;
 use std::alloc::AllocError;
 
 impl Print for Name {

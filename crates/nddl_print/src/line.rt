@@ -6,7 +6,7 @@ ghost use Rattle.nddl_print.specs.Words.{Word, Fixed, Named, Number, Decimal, Qu
 use eu_name::bytes::Bytes;
 use itoa::Buffer;
 use nddl_ast::name::Name;
-use nddl_reading::sort::Sort;
+use nddl_grammar::sort::Sort;
 use std::alloc::{AllocError, Global};
 use std::marker::Model;
 

@@ -5,7 +5,7 @@ ghost use Rattle.nddl_print.specs.Words.{spaced};
 ghost use Rattle.nddl_print.specs.Canonical.{many_words, following_words, listed_words};
 
 use super::line::Lines;
-use nddl_reading::sort::Sort;
+use nddl_grammar::sort::Sort;
 use std::alloc::AllocError;
 
 /// What can be printed.

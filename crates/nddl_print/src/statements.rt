@@ -13,7 +13,7 @@ use eu_name::word::Reserved;
 use nddl_ast::expression::Init;
 use nddl_ast::name::Name;
 use nddl_ast::statement::{Ask, Call, Condition, Stmt, StmtBlock, Variable};
-use nddl_reading::sort::Sort;
+use nddl_grammar::sort::Sort;
 use std::alloc::AllocError;
 
 // `=` and what a variable begins as, if anything.

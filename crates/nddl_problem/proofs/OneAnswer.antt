@@ -7,18 +7,18 @@ use Rattle.nddl_ast.specs.declared.declaration.FileDecls.{FileDecls}
 use Rattle.nddl_ast.specs.declared.fault.TextFault.{TextFault}
 use Rattle.nddl_ast.specs.declared.fault.TextFault.TheVariants as texts
 use Rattle.nddl_ast.specs.declared.kind.TextKind.{TextKind}
-use Rattle.nddl_joined.specs.Joined.{joined_decls}
-use Rattle.nddl_scope.specs.Names.{scope_names}
-use Rattle.nddl_lines.specs.Facts.{Facts}
-use Rattle.nddl_known.specs.Known.{AreFacts}
-use Rattle.nddl_types.specs.Faults.{TellsFirst, told_fault}
-use Rattle.rules_laws.specs.nddl_table.TypeTable.{TypeTable}
-use Rattle.rules_laws.specs.nddl_table.Table.{IsTable}
-use Rattle.nddl_trees.specs.PlainTree.{PlainTree}
-use Rattle.rules_laws.specs.nddl_rules.Told.{AreFileTrees, IsFirstRuleFault, file_trees}
-use Rattle.rules_laws.specs.types_laws.Answers as typed
-use Rattle.rules_laws.specs.types_laws.Knowledge.{one_facts}
-use Rattle.rules_laws.proofs.Answers as ruled
+use Rattle.nddl_symbols.specs.Joined.{joined_decls}
+use Rattle.nddl_symbols.specs.Names.{scope_names}
+use Rattle.nddl_hierarchy.specs.Facts.{Facts}
+use Rattle.nddl_declarations.specs.Known.{AreFacts}
+use Rattle.nddl_declarations.specs.Faults.{TellsFirst, told_fault}
+use Rattle.nddl_types.specs.declared.table.TypeTable.{TypeTable}
+use Rattle.nddl_types.specs.Table.{IsTable}
+use Rattle.nddl_terms.specs.PlainTree.{PlainTree}
+use Rattle.nddl_rules.specs.Told.{AreFileTrees, IsFirstRuleFault, file_trees}
+use Rattle.nddl_laws.proofs.TypeAnswers as typed
+use Rattle.nddl_laws.proofs.Knowledge.{one_facts}
+use Rattle.nddl_laws.proofs.RuleAnswers as ruled
 use Rattle.nddl_problem.specs.Compiled.{compiled_model, problem_fault}
 use Rattle.nddl_problem.specs.Known.{known_by}
 use Rattle.nddl_problem.specs.Told.{IsCompiled, IsFirstFault, IsFirstInProblem, TellsModel}

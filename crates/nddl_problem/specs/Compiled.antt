@@ -1,16 +1,16 @@
 -- The model of a program, and what is wrong first with its problem.
 use Rattle.std.specs.Prelude.{ℕ, List, ◌++◌, Option}
 use Rattle.model_core.specs.declared.model.Model.{Model}
-use Rattle.nddl_joined.specs.Joined.{joined_sites}
-use Rattle.nddl_scope.specs.declared.fault.Fault.{Fault}
-use Rattle.nddl_scope.specs.Finding.{earliest_fault}
-use Rattle.nddl_schema.specs.Classes.{enums_of}
-use Rattle.nddl_amounts.specs.Weighing.{tree_limits}
-use Rattle.nddl_modelled.specs.Modelled.{modelled_classes, modelled_preds}
-use Rattle.nddl_unrolling.specs.Rules.{tree_rules}
-use Rattle.nddl_problem_limits.specs.Limits.{problem_limit_faults}
-use Rattle.nddl_problem_limits.specs.nddl_problem_texts.Texts.{problem_text_faults}
-use Rattle.nddl_posed.specs.Posed.{Posing, posed_problem}
+use Rattle.nddl_symbols.specs.Joined.{joined_sites}
+use Rattle.nddl_symbols.specs.declared.fault.Fault.{Fault}
+use Rattle.nddl_symbols.specs.Finding.{earliest_fault}
+use Rattle.nddl_types.specs.Classes.{enums_of}
+use Rattle.nddl_unroll.specs.Weighing.{tree_limits}
+use Rattle.nddl_instance.specs.Modelled.{modelled_classes, modelled_preds}
+use Rattle.nddl_unroll.specs.Rules.{tree_rules}
+use Rattle.nddl_problem_check.specs.Limits.{problem_limit_faults}
+use Rattle.nddl_problem_check.specs.Texts.{problem_text_faults}
+use Rattle.nddl_instance.specs.Posed.{Posing, posed_problem}
 use Rattle.nddl_problem.specs.Known.{Known, lexicon_known, objects_known, progress_known, scope_known, world_known}
 
 -- ---- faults

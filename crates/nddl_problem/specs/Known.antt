@@ -2,16 +2,16 @@
 use Rattle.std.specs.Prelude.{List, []}
 use Rattle.model_core.specs.declared.class.Object.{Object}
 use Rattle.nddl_ast.specs.declared.declaration.FileDecls.{FileDecls}
-use Rattle.nddl_scope.specs.Index.{Noted}
-use Rattle.nddl_lines.specs.Facts.{Facts}
-use Rattle.rules_laws.specs.nddl_table.TypeTable.{TypeTable}
-use Rattle.nddl_trees.specs.PlainTree.{PlainTree}
-use Rattle.nddl_problem_limits.specs.nddl_objects.Modelled.{modelled_objects}
-use Rattle.nddl_problem_limits.specs.nddl_objects.Objects.{Progress, last_progress}
+use Rattle.nddl_symbols.specs.Index.{Noted}
+use Rattle.nddl_hierarchy.specs.Facts.{Facts}
+use Rattle.nddl_types.specs.declared.table.TypeTable.{TypeTable}
+use Rattle.nddl_terms.specs.PlainTree.{PlainTree}
+use Rattle.nddl_objects.specs.Modelled.{modelled_objects}
+use Rattle.nddl_objects.specs.Objects.{Progress, last_progress}
 use Rattle.nddl_terms.specs.declared.lexicon.Lexicon.{Lexicon}
-use Rattle.nddl_posed.specs.nddl_lexicon.Lexicons.{lexicon_of}
-use Rattle.nddl_posed.specs.nddl_lexicon.Shapes.{World}
-use Rattle.rules_laws.specs.nddl_rules.Told.{scope_places}
+use Rattle.nddl_env.specs.Lexicons.{lexicon_of}
+use Rattle.nddl_env.specs.Shapes.{World}
+use Rattle.nddl_rules.specs.Told.{scope_places}
 
 -- its files, what is known of their names and types, their table, and the trees of their rules
 pub record Known : Type 0 where

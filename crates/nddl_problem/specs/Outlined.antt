@@ -1,8 +1,8 @@
 -- What the code keeps of what is known.
 use Rattle.std.specs.Prelude.{◌≡◌}
-use Rattle.nddl_lines.specs.Facts.{facts_of}
-use Rattle.nddl_problem_limits.specs.nddl_objects.Objects.{progress_of}
-use Rattle.nddl_posed.specs.nddl_lexicon.Shapes.{world_of}
+use Rattle.nddl_hierarchy.specs.Facts.{facts_of}
+use Rattle.nddl_objects.specs.Objects.{progress_of}
+use Rattle.nddl_env.specs.Shapes.{world_of}
 use Rattle.nddl_problem.specs.declared.outline.Outline.{Outline}
 use Rattle.nddl_problem.specs.Known.{Known, known_by, lexicon_known, progress_known, scope_known, world_known}
 

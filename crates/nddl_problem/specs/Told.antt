@@ -6,15 +6,15 @@ use Rattle.model_core.specs.Lawful.{IsLawful}
 use Rattle.nddl_ast.specs.declared.declaration.FileDecls.{FileDecls}
 use Rattle.nddl_ast.specs.declared.fault.TextFault.{TextFault}
 use Rattle.nddl_ast.specs.declared.fault.TextFault.TheVariants as texts
-use Rattle.nddl_joined.specs.Joined.{joined_decls}
-use Rattle.nddl_scope.specs.Names.{scope_names}
-use Rattle.nddl_lines.specs.Facts.{Facts}
-use Rattle.nddl_known.specs.Known.{AreFacts}
-use Rattle.nddl_types.specs.Faults.{TellsFirst, told_fault}
-use Rattle.rules_laws.specs.nddl_table.TypeTable.{TypeTable}
-use Rattle.rules_laws.specs.nddl_table.Table.{IsTable}
-use Rattle.nddl_trees.specs.PlainTree.{PlainTree}
-use Rattle.rules_laws.specs.nddl_rules.Told.{AreFileTrees, IsFirstRuleFault}
+use Rattle.nddl_symbols.specs.Joined.{joined_decls}
+use Rattle.nddl_symbols.specs.Names.{scope_names}
+use Rattle.nddl_hierarchy.specs.Facts.{Facts}
+use Rattle.nddl_declarations.specs.Known.{AreFacts}
+use Rattle.nddl_declarations.specs.Faults.{TellsFirst, told_fault}
+use Rattle.nddl_types.specs.declared.table.TypeTable.{TypeTable}
+use Rattle.nddl_types.specs.Table.{IsTable}
+use Rattle.nddl_terms.specs.PlainTree.{PlainTree}
+use Rattle.nddl_rules.specs.Told.{AreFileTrees, IsFirstRuleFault}
 use Rattle.nddl_problem.specs.Compiled.{compiled_model, problem_fault}
 use Rattle.nddl_problem.specs.Known.{known_by}
 

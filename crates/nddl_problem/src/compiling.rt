@@ -1,22 +1,22 @@
 //! The model of files, or what is wrong first with them.
 
 ghost use Rattle.std.specs.Prelude.{◌≡◌, [], All, IfOk};
-ghost use Rattle.nddl_joined.specs.Joined.{joined_decls};
-ghost use Rattle.nddl_scope.specs.Names.{scope_names};
-ghost use Rattle.rules_laws.specs.nddl_given.Given.{AreGiven};
-ghost use Rattle.nddl_known.specs.Known.{AreFacts};
-ghost use Rattle.nddl_lines.specs.Facts.{facts_of};
-ghost use Rattle.nddl_problem_limits.specs.nddl_objects.Objects.{last_progress, progress_of};
-ghost use Rattle.rules_laws.specs.nddl_rules.Told.{AreFileTrees, scope_places};
-ghost use Rattle.rules_laws.specs.nddl_table.Table.{IsTable};
+ghost use Rattle.nddl_symbols.specs.Joined.{joined_decls};
+ghost use Rattle.nddl_symbols.specs.Names.{scope_names};
+ghost use Rattle.nddl_laws.specs.Given.{AreGiven};
+ghost use Rattle.nddl_declarations.specs.Known.{AreFacts};
+ghost use Rattle.nddl_hierarchy.specs.Facts.{facts_of};
+ghost use Rattle.nddl_objects.specs.Objects.{last_progress, progress_of};
+ghost use Rattle.nddl_rules.specs.Told.{AreFileTrees, scope_places};
+ghost use Rattle.nddl_types.specs.Table.{IsTable};
 ghost use Rattle.nddl_terms.specs.Names.{AreReadInOrder};
 ghost use Rattle.nddl_problem.specs.Told.{TellsModel, TellsProblem};
-ghost use Rattle.nddl_posed.specs.nddl_lexicon.Listing.{populations};
-ghost use Rattle.nddl_posed.specs.nddl_lexicon.Shapes.{world_of};
+ghost use Rattle.nddl_env.specs.Listing.{populations};
+ghost use Rattle.nddl_env.specs.Shapes.{world_of};
 ghost use Rattle.nddl_problem.specs.Known.{known_by, world_known};
 ghost use Rattle.nddl_problem.specs.Outlined.{IsOutlined};
-ghost use Rattle.nddl_posed.specs.nddl_lexicon.Lexicons.{lexicon_of};
-ghost use Rattle.nddl_schema.specs.Classes.{class_entries, class_numbers};
+ghost use Rattle.nddl_env.specs.Lexicons.{lexicon_of};
+ghost use Rattle.nddl_types.specs.Classes.{class_entries, class_numbers};
 
 use super::judging::problem_fault;
 use super::making::made_model;
@@ -24,17 +24,18 @@ use super::outline::Outline;
 use model_core::model::Model;
 use nddl_ast::TextFault;
 use nddl_ast::declaration::FileDecls;
-use nddl_lines::Basis;
-use nddl_posed::passed_nddl_lexicon::{Premises, lexicon, objects_by_class};
-use nddl_problem_limits::passed_nddl_objects::{Program as Made, make_objects};
-use nddl_schema::{Sources, class_entries, class_numbers};
-use nddl_scope::index::NameIndex;
-use nddl_terms::{Lexicon, Populations};
-use nddl_trees::RuleTree;
-use rules_laws::names_are_read_in_order;
-use rules_laws::passed_nddl_program::{Program, Question, ask, told};
-use rules_laws::passed_nddl_rules::{rules, scope_places};
-use rules_laws::passed_nddl_table::{TypeTable, types};
+use nddl_env::{Premises, lexicon, objects_by_class};
+use nddl_hierarchy::Basis;
+use nddl_laws::names_are_read_in_order;
+use nddl_objects::make_objects;
+use nddl_objects::objects::Program as Made;
+use nddl_rules::rules;
+use nddl_rules::scope::scope_places;
+use nddl_symbols::index::NameIndex;
+use nddl_terms::{Lexicon, Populations, RuleTree};
+use nddl_types::{
+    Program, Question, Sources, TypeTable, ask, class_entries, class_numbers, told, types,
+};
 use std::alloc::{AllocError, Global};
 
 /// The model of the files, which are in the order in which a shelf gave them, or what is wrong first with them: with their

@@ -1,19 +1,18 @@
 //! What is wrong first with a problem.
 
 ghost use Rattle.std.specs.Prelude.{◌≡◌, IfOk, OnOk};
-ghost use Rattle.nddl_scope.specs.Finding.{earliest_fault};
+ghost use Rattle.nddl_symbols.specs.Finding.{earliest_fault};
 ghost use Rattle.nddl_problem.specs.Compiled.{problem_fault, problem_faults};
 ghost use Rattle.nddl_problem.specs.Outlined.{IsOutlined, known_of};
 
 use super::outline::Outline;
-use nddl_amounts::note_tree_limits;
-use nddl_problem_limits::note_problem_limits;
-use nddl_problem_limits::passed_nddl_problem_texts::note_problem_texts;
-use nddl_scope::Fault;
+use nddl_problem_check::{note_problem_limits, note_problem_texts};
+use nddl_symbols::Fault;
+use nddl_unroll::note_tree_limits;
 use std::alloc::{AllocError, Global};
 
 // Notes all that is wrong with the problem beside its objects.
-#[tactic(auto, using(nddl_scope::proofs::Earliest::earliest_append))]
+#[tactic(auto, using(nddl_symbols::proofs::Earliest::earliest_append))]
 fn note_problem(
     alloc: Global,
     outline: &Outline<'_>,

@@ -6,6 +6,5 @@ pub mod judging;
 pub mod laws;
 pub mod making;
 pub mod outline;
-pub mod passed_nddl_rules;
 
 pub use compiling::compile;

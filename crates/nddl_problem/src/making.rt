@@ -2,21 +2,20 @@
 
 ghost use Rattle.std.specs.Prelude.{◌≡◌, ◌↔◌, ⊤, Err, IfOk, IsTrue, MatchResult, OnOk};
 ghost use Rattle.model_core.specs.Lawful.{IsLawful};
-ghost use Rattle.nddl_posed.specs.Posed.{posed_problem, posing_of};
+ghost use Rattle.nddl_instance.specs.Posed.{posed_problem, posing_of};
 ghost use Rattle.nddl_problem.specs.Compiled.{compiled_model, posing_known};
 ghost use Rattle.nddl_problem.specs.Known.{objects_known};
 ghost use Rattle.nddl_problem.specs.Outlined.{IsOutlined, known_of};
 
 use super::outline::Outline;
 use eu_name::sequence::Sequence;
-use lawful_models::is_lawful;
 use model_core::class::Object;
 use model_core::model::{Model, Problem};
-use nddl_modelled::{modelled_classes, modelled_preds};
-use nddl_posed::{Posing, problem_of};
-use nddl_problem_limits::passed_nddl_objects::modelled_objects;
-use nddl_schema::enums_of;
-use nddl_unrolling::unroll;
+use model_lawful::is_lawful;
+use nddl_instance::{Posing, modelled_classes, modelled_preds, problem_of};
+use nddl_objects::modelled_objects;
+use nddl_types::enums_of;
+use nddl_unroll::unroll;
 use std::alloc::{AllocError, Global};
 
 // A model of nothing.

@@ -1,17 +1,15 @@
 //! What is known of a program once its objects are made.
 
 ghost use Rattle.std.specs.Prelude.{◌≡◌, All};
-ghost use Rattle.nddl_lines.specs.Facts.{facts_of};
+ghost use Rattle.nddl_hierarchy.specs.Facts.{facts_of};
 ghost use Rattle.nddl_terms.specs.Names.{AreReadInOrder};
 ghost use Rattle.nddl_problem.specs.Known.{known_by, lexicon_known, progress_known, scope_known};
 
-use nddl_posed::passed_nddl_lexicon::Premises;
-use nddl_problem_limits::passed_nddl_objects::Program as Made;
-use nddl_scope::index::NameIndex;
-use nddl_terms::Lexicon;
-use nddl_trees::RuleTree;
-use rules_laws::passed_nddl_program::Program;
-use rules_laws::passed_nddl_table::TypeTable;
+use nddl_env::Premises;
+use nddl_objects::objects::Program as Made;
+use nddl_symbols::index::NameIndex;
+use nddl_terms::{Lexicon, RuleTree};
+use nddl_types::{Program, TypeTable};
 
 /// The files of a program with their joined declarations, its table and rule trees, the objects that were made, and what
 /// its names, classes and predicates stand for with these.

@@ -1,1 +1,4 @@
+pub mod Seeing
+pub mod Steps
+pub mod Putting
 pub mod Telling

@@ -5,17 +5,17 @@ use Rattle.std.specs.Option.{option_and_then}
 use Rattle.nddl_ast.specs.declared.declaration.FileDecls.{FileDecls}
 use Rattle.nddl_ast.specs.declared.fault.TextFault.{TextFault}
 use Rattle.nddl_ast.specs.declared.fault.TextFault.TheVariants as texts
-use Rattle.nddl_joined.specs.Joined.{joined_decls}
-use Rattle.nddl_scope.specs.declared.fault.Fault.{Fault}
-use Rattle.nddl_scope.specs.Finding.{earliest_fault}
-use Rattle.nddl_scope.specs.Names.{scope_names}
-use Rattle.nddl_lines.specs.Facts.{Facts}
-use Rattle.nddl_known.specs.Known.{AreFacts}
-use Rattle.nddl_types.specs.Faults.{told_fault}
-use Rattle.nddl_table.specs.declared.table.TypeTable.{TypeTable}
-use Rattle.nddl_table.proofs.Answering.{none_found}
-use Rattle.nddl_trees.specs.PlainTree.{PlainTree}
-use Rattle.nddl_blocks.specs.Rules.{all_rule_faults}
+use Rattle.nddl_symbols.specs.Joined.{joined_decls}
+use Rattle.nddl_symbols.specs.declared.fault.Fault.{Fault}
+use Rattle.nddl_symbols.specs.Finding.{earliest_fault}
+use Rattle.nddl_symbols.specs.Names.{scope_names}
+use Rattle.nddl_hierarchy.specs.Facts.{Facts}
+use Rattle.nddl_declarations.specs.Known.{AreFacts}
+use Rattle.nddl_declarations.specs.Faults.{told_fault}
+use Rattle.nddl_types.specs.declared.table.TypeTable.{TypeTable}
+use Rattle.nddl_types.proofs.Answering.{none_found}
+use Rattle.nddl_terms.specs.PlainTree.{PlainTree}
+use Rattle.nddl_rule_check.specs.Rules.{all_rule_faults}
 use Rattle.nddl_rules.specs.Told.{AreFileTrees, TellsRuleFault, file_trees}
 
 -- there is none

@@ -1,5 +1,8 @@
+pub mod Reads
+pub mod Sight
+pub mod Tally
+pub mod Blocks
+pub mod Lists
+pub mod Written
+pub mod Collected
 pub mod Told
-pub mod nddl_blocks
-pub mod nddl_collected
-pub mod nddl_names
-pub mod nddl_table

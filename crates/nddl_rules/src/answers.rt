@@ -4,15 +4,14 @@ ghost use Rattle.std.specs.Prelude.{◌≡◌, [], IfOk, MatchResult};
 ghost use Rattle.nddl_rules.specs.Told.{AreFileTrees, TellsRuleFault, file_trees, scope_places};
 
 use super::scope::scope_places;
+use crate::{RuleTexts, all_trees};
 use nddl_ast::TextFault;
 use nddl_ast::declaration::FileDecls;
-use nddl_blocks::first_rule_wrong;
-use nddl_collected::{RuleTexts, all_trees};
-use nddl_lines::Basis;
-use nddl_scope::index::NameIndex;
-use nddl_table::TypeTable;
-use nddl_table::passed_nddl_program::{Program, Question, ask, told};
-use nddl_trees::RuleTree;
+use nddl_hierarchy::Basis;
+use nddl_rule_check::first_rule_wrong;
+use nddl_symbols::index::NameIndex;
+use nddl_terms::RuleTree;
+use nddl_types::{Program, Question, TypeTable, ask, told};
 use std::alloc::{AllocError, Global};
 
 /// The rule trees of the files, which are in the order in which they were read and have this table, or what is wrong first

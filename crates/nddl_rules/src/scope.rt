@@ -3,8 +3,8 @@
 ghost use Rattle.std.specs.Prelude.{◌≡◌, [], IfOk};
 ghost use Rattle.nddl_rules.specs.Told.{scope_places};
 
-use nddl_scope::index::NameIndex;
-use nddl_table::table::Named;
+use nddl_symbols::index::NameIndex;
+use nddl_types::table::Named;
 use std::alloc::{AllocError, Global};
 
 /// The names, each with its place.

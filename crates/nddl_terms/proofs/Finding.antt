@@ -4,7 +4,7 @@ use Rattle.std.specs.Prelude.{Some, None, slice_get}
 use Rattle.std.proofs.Math.Seq.{get_or-append_seam}
 use Rattle.std.proofs.lemmas.List.{length-append, length-drop, take_all, take-append-drop}
 use Rattle.model_core.proofs.Distinct.{pairs_back}
-use Rattle.nddl_trees.specs.declared.tree.ReadName.{ReadName}
+use Rattle.nddl_terms.specs.declared.tree.ReadName.{ReadName}
 use Rattle.nddl_terms.specs.Names.{AreReadInOrder, name_read_at}
 
 later : (read : ReadName) (more : List ReadName) → AreReadInOrder (read ∷ more) → AreReadInOrder more

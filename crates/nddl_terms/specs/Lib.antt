@@ -1,3 +1,5 @@
+pub mod Code
+pub mod PlainTree
 pub mod Attributes
 pub mod Growth
 pub mod Lexicon

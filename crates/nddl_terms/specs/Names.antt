@@ -1,7 +1,7 @@
 -- What the names in a rule mean, by their places.
 use Rattle.std.specs.Prelude.{ℕ, ◌<◌, ◌==◌, List, [], ◌∷◌, Option, Some, None, AllPairs, if◌then◌else◌}
-use Rattle.nddl_trees.specs.declared.tree.Meaning.{Meaning}
-use Rattle.nddl_trees.specs.declared.tree.ReadName.{ReadName}
+use Rattle.nddl_terms.specs.declared.tree.Meaning.{Meaning}
+use Rattle.nddl_terms.specs.declared.tree.ReadName.{ReadName}
 
 -- each is read before those behind it
 abbrev pub AreReadInOrder : List ReadName → Type 0

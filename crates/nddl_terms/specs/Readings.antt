@@ -1,7 +1,7 @@
 -- What is known where a rule is unrolled.
 use Rattle.std.specs.Prelude.{ℕ, List}
 use Rattle.model_core.specs.declared.class.Object.{Object}
-use Rattle.nddl_trees.specs.declared.tree.ReadName.{ReadName}
+use Rattle.nddl_terms.specs.declared.tree.ReadName.{ReadName}
 use Rattle.nddl_terms.specs.declared.lexicon.Lexicon.{Lexicon}
 use Rattle.nddl_terms.specs.declared.stands.Reading as code
 use Rattle.nddl_terms.specs.declared.stands.TextPlaces.{TextPlaces}

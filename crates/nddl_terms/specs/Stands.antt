@@ -3,8 +3,8 @@ use Rattle.std.specs.Prelude.{ℕ, ◌==◌, List, [], ◌∷◌, Option, Some, 
 use Rattle.std.specs.Option.{option_and_then, option_or}
 use Rattle.eu_name.specs.declared.name.Part.{Part}
 use Rattle.model_core.specs.declared.item.Term.TheVariants as terms
-use Rattle.nddl_trees.specs.declared.tree.Meaning.{Meaning}
-use Rattle.nddl_trees.specs.declared.tree.Meaning.TheVariants as meanings
+use Rattle.nddl_terms.specs.declared.tree.Meaning.{Meaning}
+use Rattle.nddl_terms.specs.declared.tree.Meaning.TheVariants as meanings
 use Rattle.nddl_terms.specs.declared.growth.Growth.{Growth}
 use Rattle.nddl_terms.specs.declared.lexicon.Lexicon.{Lexicon}
 use Rattle.nddl_terms.specs.declared.stands.Made.{Made}

@@ -7,7 +7,7 @@ ghost use Rattle.nddl_terms.specs.Lexicon.{attribute_number};
 use super::lexicon::Attribute;
 use eu_name::sequence::Sequence;
 use eu_name::text::Text;
-use nddl_scope::index::NameIndex;
+use nddl_symbols::index::NameIndex;
 use std::alloc::{AllocError, Global};
 use std::marker::Model;
 

@@ -3,7 +3,7 @@
 ghost use Rattle.std.specs.Prelude.{◌≡◌, ◌<◌, length, AllPairs};
 ghost use Rattle.nddl_terms.specs.Names.{AreReadInOrder, name_read_at};
 
-use nddl_trees::{Meaning, ReadName};
+use crate::{Meaning, ReadName};
 
 /// The names that are read in a rule, in order of place.
 #[derive(Clone, Copy)]

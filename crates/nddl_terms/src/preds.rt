@@ -6,7 +6,7 @@ ghost use Rattle.nddl_terms.specs.Preds.{AreNotedByClass, class_named, is_pred_n
 use super::lexicon::PredShape;
 use eu_name::sequence::Sequence;
 use eu_name::text::Text;
-use nddl_scope::index::NameIndex;
+use nddl_symbols::index::NameIndex;
 use std::alloc::{AllocError, Global};
 use std::marker::Model;
 

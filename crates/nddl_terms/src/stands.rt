@@ -8,11 +8,11 @@ ghost use Rattle.nddl_terms.specs.Stands.{declared_stand, file_stand, first_stan
 use super::growth::Growth;
 use super::lexicon::Lexicon;
 use super::names::ReadNames;
+use crate::Meaning;
 use eu_name::name::Part;
 use eu_name::sequence::Sequence;
 use model_core::class::Object;
 use model_core::item::Term;
-use nddl_trees::Meaning;
 
 /// What a path stands for in a rule that is unrolled, as far as it is read.
 #[derive(Clone, Copy)]

@@ -1,1 +1,3 @@
-pub mod Telling
+pub mod Adding
+pub mod Splitting
+pub mod Answering

@@ -1,1 +1,4 @@
-pub mod Faults
+pub mod Classes
+pub mod Predicates
+pub mod Scoped
+pub mod Table

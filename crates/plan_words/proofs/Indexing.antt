@@ -14,8 +14,8 @@ use Rattle.model_core.specs.declared.variable.VarDecl.{VarDecl}
 use Rattle.model_core.specs.Naming.{labels, global_names}
 use Rattle.model_core.specs.Tokens.{IsRoot}
 use Rattle.model_core.specs.Variables.{IsGlobal}
-use Rattle.nddl_scope.specs.Index.{Noted, noted_number, with_noted}
-use Rattle.nddl_scope.proofs.Indexes.{noted_with}
+use Rattle.nddl_symbols.specs.Index.{Noted, noted_number, with_noted}
+use Rattle.nddl_symbols.proofs.Indexes.{noted_with}
 use Rattle.plan_defs.proofs.Ordered.{contains_none}
 use Rattle.eu_name.proofs.Members.{contains_from_get, get_below, get_within}
 use Rattle.plan_words.specs.Indexing.{IsIndexOf, object_names}

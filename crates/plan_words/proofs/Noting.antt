@@ -3,7 +3,7 @@ use Rattle.std.proofs.Common.{◌≡◌, ℕ, Bool, true, false, cond, List, [],
 use Rattle.std.specs.Map.{lookup}
 use Rattle.std.specs.Str.{bytes_eq}
 use Rattle.indexmap.specs.IndexMap.{insert_entry}
-use Rattle.nddl_scope.specs.Index.{noted_number}
+use Rattle.nddl_symbols.specs.Index.{noted_number}
 use Rattle.plan_words.specs.Noting.{noted_by}
 
 module _ {K : Type 0} (word : K → List ℕ) where

@@ -3,7 +3,7 @@ use Rattle.std.specs.Prelude.{◌≡◌, ℕ, List, Some, MatchOption, Contains,
 use Rattle.model_core.specs.declared.class.Object.{Object}
 use Rattle.model_core.specs.declared.model.Model.{Model}
 use Rattle.model_core.specs.Naming.{labels, global_names}
-use Rattle.nddl_scope.specs.Index.{Noted, noted_number}
+use Rattle.nddl_symbols.specs.Index.{Noted, noted_number}
 use Rattle.plan_words.specs.declared.indexed.ModelIndex.{ModelIndex}
 
 -- the index has each of the names at a place where it stands, and no other

@@ -1,6 +1,6 @@
 -- Words that are noted under other forms.
 use Rattle.std.specs.Prelude.{ℕ, List, map}
-use Rattle.nddl_scope.specs.Index.{Noted}
+use Rattle.nddl_symbols.specs.Index.{Noted}
 
 -- the numbers by the words that the keys stand for
 abbrev pub noted_by : {K : Type 0} → (K → List ℕ) → List (K × ℕ) → Noted

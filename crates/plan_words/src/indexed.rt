@@ -15,7 +15,7 @@ use eu_name::text::Text;
 use model_core::class::Object;
 use model_core::model::{Model, Root};
 use model_core::variable::VarDecl;
-use nddl_scope::index::NameIndex;
+use nddl_symbols::index::NameIndex;
 use std::alloc::{AllocError, Global};
 use std::marker;
 

@@ -1,7 +1,7 @@
 //! An index of words that are asked for by their bytes.
 
 ghost use Rattle.std.specs.Prelude.{◌≡◌, ◌++◌, ◌∷◌, [], None, OnOk, vec_items};
-ghost use Rattle.nddl_scope.specs.Index.{noted_number, with_noted};
+ghost use Rattle.nddl_symbols.specs.Index.{noted_number, with_noted};
 ghost use Rattle.plan_words.specs.Noting.{noted_by};
 
 use indexmap::IndexMap;
@@ -16,7 +16,7 @@ pub struct WordIndex {
 
 impl Model for WordIndex {
     ghost use Rattle.std.specs.Prelude.{vec_items};
-    ghost use Rattle.nddl_scope.specs.Index.{Noted};
+    ghost use Rattle.nddl_symbols.specs.Index.{Noted};
     ghost use Rattle.plan_words.specs.Noting.{noted_by};
 
     ghost Value = { Noted };

@@ -1,3 +1,4 @@
 mod Posed
 mod Searched
-pub mod search_texts
+mod Found
+mod PosedTrials

@@ -1,13 +1,13 @@
 -- From the database that files pose to what is printed.
 use Rattle.std.proofs.Common.{ℕ, List, Result, Ok, Err, inr}
 use Rattle.eu_io.specs.declared.shelf.FileEntry.{FileEntry}
-use Rattle.search_texts.specs.plan_db.Database.{Database}
-use Rattle.posed_files.specs.Posing.{Poses}
-use Rattle.run_printing.specs.declared.lines.Printed.{Printed}
-use Rattle.run_printing.specs.declared.status.RunEnd.{RunEnd}
-use Rattle.run_printing.specs.declared.status.RunFault.{RunFault}
-use Rattle.run_printing.specs.declared.status.RunFault.TheVariants.{Read, Write, Memory}
-use Rattle.run_printing.specs.Printed.{AnswersAs}
+use Rattle.plan_db.specs.Database.{Database}
+use Rattle.run_load.specs.Posing.{Poses}
+use Rattle.run_commands.specs.declared.lines.Printed.{Printed}
+use Rattle.run_commands.specs.declared.status.RunEnd.{RunEnd}
+use Rattle.run_commands.specs.declared.status.RunFault.{RunFault}
+use Rattle.run_commands.specs.declared.status.RunFault.TheVariants.{Read, Write, Memory}
+use Rattle.run_commands.specs.Printed.{AnswersAs}
 use Rattle.run_commands.specs.Posing.{PosedOutput}
 
 module _ (files : List FileEntry) (file : List ℕ) (DatabaseOutput : Database → List ℕ → RunEnd → Type 0) where

@@ -1,11 +1,11 @@
 -- The content of a single file, and what is printed where there is none that is taken.
 use Rattle.std.specs.Prelude.{◌≡◌, ℕ, ◌<◌, ◌≤◌, ⊤, List, ◌⊎◌, length, Option, Some, None, Result, Ok, Err}
 use Rattle.nddl_ast.specs.declared.kind.TextKind.TheVariants as kinds
-use Rattle.run_printing.specs.declared.lines.Printed.{Printed}
-use Rattle.run_printing.specs.declared.status.RunEnd.{RunEnd}
-use Rattle.run_printing.specs.declared.status.RunFault.{RunFault}
-use Rattle.run_printing.specs.declared.status.RunFault.TheVariants.{Read, Write, Memory}
-use Rattle.run_printing.specs.Printed.{FaultOutput, file_limit}
+use Rattle.run_commands.specs.declared.lines.Printed.{Printed}
+use Rattle.run_commands.specs.declared.status.RunEnd.{RunEnd}
+use Rattle.run_commands.specs.declared.status.RunFault.{RunFault}
+use Rattle.run_commands.specs.declared.status.RunFault.TheVariants.{Read, Write, Memory}
+use Rattle.run_commands.specs.Printed.{FaultOutput, file_limit}
 use Rattle.run_commands.specs.declared.content.Content.{Content}
 use Rattle.run_commands.specs.declared.content.Content.TheVariants.{Bytes, Faulty}
 

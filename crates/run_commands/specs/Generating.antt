@@ -1,8 +1,8 @@
 -- What `gen` prints.
 use Rattle.std.specs.Prelude.{◌≡◌, ℕ, List}
 use Rattle.problem_gen.specs.Generated.{generated_text}
-use Rattle.run_printing.specs.declared.status.RunEnd.{RunEnd}
-use Rattle.run_printing.specs.declared.status.RunEnd.TheVariants.{Done}
+use Rattle.run_commands.specs.declared.status.RunEnd.{RunEnd}
+use Rattle.run_commands.specs.declared.status.RunEnd.TheVariants.{Done}
 
 -- the text of the generated problem of so many goals
 abbrev pub GenerateOutput : ℕ → List ℕ → RunEnd → Type 0

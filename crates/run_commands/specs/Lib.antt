@@ -1,3 +1,5 @@
+pub mod Printed
+pub mod Statuses
 pub mod Checking
 pub mod Contents
 pub mod Generating
@@ -5,8 +7,4 @@ pub mod Planning
 pub mod Posing
 pub mod Searching
 pub mod Showing
-pub mod flaw_core
-pub mod plan_db
-pub mod posed_files
-pub mod search_texts
-pub mod solver_core
+pub mod Trying

@@ -1,7 +1,7 @@
 -- What `plan` prints: what is wrong with the problem, or the end of the search with the plan that it finds.
 use Rattle.std.specs.Prelude.{ℕ, List, Option}
 use Rattle.eu_io.specs.declared.shelf.FileEntry.{FileEntry}
-use Rattle.run_printing.specs.declared.status.RunEnd.{RunEnd}
+use Rattle.run_commands.specs.declared.status.RunEnd.{RunEnd}
 use Rattle.run_commands.specs.Posing.{PosedOutput}
 use Rattle.run_commands.specs.Searching.{SearchOutput, visits_of}
 

@@ -1,15 +1,15 @@
 -- What is printed of a file that poses a database with those that it includes, or poses none.
 use Rattle.std.specs.Prelude.{◌≡◌, ℕ, Bool, true, false, List, ◌⊎◌, Result, Ok, Err}
 use Rattle.eu_io.specs.declared.shelf.FileEntry.{FileEntry}
-use Rattle.search_texts.specs.plan_db.Database.{Database}
-use Rattle.posed_files.specs.declared.fault.PoseFault.{PoseFault}
-use Rattle.posed_files.specs.declared.fault.PoseFault.TheVariants as pose
-use Rattle.posed_files.specs.Posing.{PosedFault, Poses}
-use Rattle.run_printing.specs.declared.lines.Printed.{Printed}
-use Rattle.run_printing.specs.declared.status.RunEnd.{RunEnd}
-use Rattle.run_printing.specs.declared.status.RunFault.{RunFault}
-use Rattle.run_printing.specs.declared.status.RunFault.TheVariants as run
-use Rattle.run_printing.specs.Printed.{AnswersAs, FaultOutput}
+use Rattle.plan_db.specs.Database.{Database}
+use Rattle.run_load.specs.declared.fault.PoseFault.{PoseFault}
+use Rattle.run_load.specs.declared.fault.PoseFault.TheVariants as pose
+use Rattle.run_load.specs.Posing.{PosedFault, Poses}
+use Rattle.run_commands.specs.declared.lines.Printed.{Printed}
+use Rattle.run_commands.specs.declared.status.RunEnd.{RunEnd}
+use Rattle.run_commands.specs.declared.status.RunFault.{RunFault}
+use Rattle.run_commands.specs.declared.status.RunFault.TheVariants as run
+use Rattle.run_commands.specs.Printed.{AnswersAs, FaultOutput}
 
 -- what is wrong with the files first is printed, and else what is printed of the database that they pose
 abbrev pub PosedOutput : List FileEntry → List ℕ → (Database → List ℕ → RunEnd → Type 0) → List ℕ → RunEnd → Type 0

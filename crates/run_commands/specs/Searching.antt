@@ -2,14 +2,14 @@
 use Rattle.std.specs.Prelude.{◌≡◌, ℕ, false, List, Option, Some, None}
 use Rattle.model_core.specs.declared.model.Model.{Model}
 use Rattle.model_core.specs.History.{standing}
-use Rattle.search_texts.specs.plan_db.Database.{Database}
+use Rattle.plan_db.specs.Database.{Database}
 use Rattle.plan_search.specs.Search.{SearchOutcome, Searches}
-use Rattle.search_texts.specs.Texts.{TellsSearch}
-use Rattle.search_texts.specs.solver_core.SearchEnd.{SearchEnd}
-use Rattle.search_texts.specs.solver_core.SearchEnd.TheVariants.{Found, Exhausted, Budget}
-use Rattle.search_texts.specs.solver_core.Solving.{TellsEnd}
-use Rattle.run_printing.specs.declared.status.RunEnd.{RunEnd}
-use Rattle.run_printing.specs.declared.status.RunEnd.TheVariants as run
+use Rattle.session_replies.specs.Texts.{TellsSearch}
+use Rattle.solver_core.specs.declared.ending.SearchEnd.{SearchEnd}
+use Rattle.solver_core.specs.declared.ending.SearchEnd.TheVariants.{Found, Exhausted, Budget}
+use Rattle.solver_core.specs.Solving.{TellsEnd}
+use Rattle.run_commands.specs.declared.status.RunEnd.{RunEnd}
+use Rattle.run_commands.specs.declared.status.RunEnd.TheVariants as run
 
 -- the search from the decisions that stand, under the bound and with so many visits, ends so and leaves that database
 abbrev pub SearchesTo : ℕ → ℕ → Database → SearchEnd → Database → Type 0

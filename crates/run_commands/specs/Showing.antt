@@ -2,13 +2,13 @@
 use Rattle.std.specs.Prelude.{◌≡◌, ℕ, List, Option, Some, Result, Ok, Err}
 use Rattle.nddl_ast.specs.declared.declaration.Decl.{Decl}
 use Rattle.nddl_ast.specs.declared.kind.TextKind.{TextKind}
-use Rattle.nddl_includes.specs.declared.fault.TextFail.{TextFail}
-use Rattle.nddl_includes.specs.Faults.{fail_kind, fail_place}
-use Rattle.nddl_files.specs.Language.{ReadsAs}
+use Rattle.nddl_parser.specs.declared.fault.TextFail.{TextFail}
+use Rattle.nddl_parser.specs.Faults.{fail_kind, fail_place}
+use Rattle.nddl_parser.specs.Language.{ReadsAs}
 use Rattle.nddl_print.specs.Canonical.{spelling_of}
-use Rattle.run_printing.specs.declared.status.RunEnd.{RunEnd}
-use Rattle.run_printing.specs.declared.status.RunEnd.TheVariants.{Done}
-use Rattle.run_printing.specs.Printed.{FaultOutput}
+use Rattle.run_commands.specs.declared.status.RunEnd.{RunEnd}
+use Rattle.run_commands.specs.declared.status.RunEnd.TheVariants.{Done}
+use Rattle.run_commands.specs.Printed.{FaultOutput}
 use Rattle.run_commands.specs.Contents.{ContentOutput}
 
 -- the spelling of the tree is printed

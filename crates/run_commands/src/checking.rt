@@ -6,19 +6,19 @@ ghost use Rattle.eu_io.specs.Faults.{counted};
 ghost use Rattle.eu_io.specs.Files.{file_named};
 ghost use Rattle.model_core.specs.Lawful.{IsLawful};
 ghost use Rattle.run_commands.specs.Checking.{CheckOutput, CheckedOutput, PlanFileOutput, checked_end};
-ghost use Rattle.run_printing.specs.Printed.{AnswersAs};
-ghost use Rattle.run_printing.specs.Statuses.{is_read, is_write};
+ghost use Rattle.run_commands.specs.Printed.{AnswersAs};
+ghost use Rattle.run_commands.specs.Statuses.{is_read, is_write};
 
 use super::content::{Content, read_content};
 use super::posing::unposed;
+use crate::{Printed, RunEnd, RunFault};
 use eu_io::shelf::Shelf;
 use eu_name::text::Text;
 use model_core::model::Model;
+use plan_db::Db;
+use plan_release::let_go;
 use plan_verdicts::check_text;
-use posed_files::passed_plan_release::let_go;
-use posed_files::pose;
-use run_printing::{Printed, RunEnd, RunFault};
-use search_texts::passed_plan_db::Db;
+use run_load::pose;
 use std::alloc::Global;
 
 /// Checks whether the second file has the text of a valid plan of the problem in the first one. What is wrong with the problem comes

@@ -5,13 +5,13 @@ ghost use Rattle.eu_io.specs.declared.shelf.FileEntry.{FileEntry};
 ghost use Rattle.eu_io.specs.Faults.{counted};
 ghost use Rattle.eu_io.specs.Files.{file_named};
 ghost use Rattle.run_commands.specs.Contents.{IsContent, IsShort, told_content};
-ghost use Rattle.run_printing.specs.Statuses.{is_read, is_write};
+ghost use Rattle.run_commands.specs.Statuses.{is_read, is_write};
 
+use crate::{FILE_LIMIT, Printed, RunFault, faulty};
 use eu_io::shelf::{Shelf, ShelfFail};
 use eu_name::bytes::Bytes;
 use eu_name::text::Text;
 use nddl_ast::kind::TextKind;
-use run_printing::{FILE_LIMIT, Printed, RunFault, faulty};
 use std::alloc::Global;
 
 /// What there is under a file's name.

@@ -2,11 +2,11 @@
 
 ghost use Rattle.std.specs.Prelude.{◌≡◌, ◌≤◌, false};
 ghost use Rattle.run_commands.specs.Generating.{GenerateOutput};
-ghost use Rattle.run_printing.specs.Printed.{AnswersAs};
-ghost use Rattle.run_printing.specs.Statuses.{is_read, is_write};
+ghost use Rattle.run_commands.specs.Printed.{AnswersAs};
+ghost use Rattle.run_commands.specs.Statuses.{is_read, is_write};
 
+use crate::{Printed, RunEnd, RunFault};
 use problem_gen::{GenFault, generate};
-use run_printing::{Printed, RunEnd, RunFault};
 use std::alloc::Global;
 
 /// The generated problem of so many goals.

@@ -3,24 +3,24 @@
 ghost use Rattle.std.specs.Prelude.{◌≡◌, ◌<◌, ◌≤◌, List, Some, IfSome, false};
 ghost use Rattle.eu_io.specs.declared.shelf.FileEntry.{FileEntry};
 ghost use Rattle.eu_io.specs.Faults.{counted};
-ghost use Rattle.search_texts.specs.plan_db.Database.{IsSound};
-ghost use Rattle.search_texts.specs.Texts.{IsFlawlessEnd, TellsSearch};
+ghost use Rattle.plan_db.specs.Database.{IsSound};
+ghost use Rattle.session_replies.specs.Texts.{IsFlawlessEnd, TellsSearch};
 ghost use Rattle.run_commands.specs.Planning.{PlanOutput};
 ghost use Rattle.run_commands.specs.Searching.{SearchOutput, end_of, visits_of};
-ghost use Rattle.run_printing.specs.Printed.{AnswersAs};
-ghost use Rattle.run_printing.specs.Statuses.{is_read, is_write};
+ghost use Rattle.run_commands.specs.Printed.{AnswersAs};
+ghost use Rattle.run_commands.specs.Statuses.{is_read, is_write};
 
 use super::posing::unposed;
 use super::searching::{end_of, search};
+use crate::{Printed, RunFault};
 use eu_io::shelf::Shelf;
 use eu_name::text::Text;
 use model_core::model::Model;
-use posed_files::passed_plan_release::let_go;
-use posed_files::pose;
-use run_printing::{Printed, RunFault};
-use search_texts::end_text;
-use search_texts::passed_plan_db::Db;
-use search_texts::passed_solver_core::SearchEnd;
+use plan_db::Db;
+use plan_release::let_go;
+use run_load::pose;
+use session_replies::end_text;
+use solver_core::SearchEnd;
 use std::alloc::Global;
 
 /// Searches for a plan of the file's problem from the decisions of its text, with no more active tokens than the bound, and in so many

@@ -2,10 +2,10 @@
 
 ghost use Rattle.std.specs.Prelude.{◌≡◌, false};
 ghost use Rattle.run_commands.specs.Posing.{IsUnposed, is_read_fault};
-ghost use Rattle.run_printing.specs.Statuses.{is_read, is_write};
+ghost use Rattle.run_commands.specs.Statuses.{is_read, is_write};
 
-use posed_files::fault::PoseFault;
-use run_printing::{Printed, RunFault, faulty};
+use crate::{Printed, RunFault, faulty};
+use run_load::fault::PoseFault;
 use std::alloc::Global;
 
 /// What is printed where a file poses no database.

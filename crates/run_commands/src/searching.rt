@@ -1,14 +1,14 @@
 //! The search from the decisions that stand.
 
 ghost use Rattle.std.specs.Prelude.{◌≡◌, ◌<◌, ◌≤◌, false, IfOk};
-ghost use Rattle.search_texts.specs.Texts.{IsFlawlessEnd};
+ghost use Rattle.session_replies.specs.Texts.{IsFlawlessEnd};
 ghost use Rattle.run_commands.specs.Searching.{SearchesTo, collapsed_end, end_of};
 
-use run_printing::RunEnd;
-use search_texts::passed_flaw_core::Plain;
-use search_texts::passed_plan_db::Db;
-use search_texts::passed_search_steps::plain_searches_are_searches;
-use search_texts::passed_solver_core::{SearchEnd, SolveFault, solve};
+use crate::RunEnd;
+use flaw_core::Plain;
+use plan_db::Db;
+use search_steps::laws::plain_searches_are_searches;
+use solver_core::{SearchEnd, SolveFault, solve};
 use std::alloc::{AllocError, Global};
 
 // The search from decisions that leave nothing, which is exhausted at its first visit.

@@ -5,18 +5,18 @@ ghost use Rattle.eu_io.specs.declared.shelf.FileEntry.{FileEntry};
 ghost use Rattle.eu_io.specs.Faults.{counted};
 ghost use Rattle.eu_io.specs.Files.{file_named};
 ghost use Rattle.run_commands.specs.Showing.{FailOutput, TextOutput, ShowOutput, TreeOutput};
-ghost use Rattle.run_printing.specs.Printed.{AnswersAs, file_limit};
-ghost use Rattle.run_printing.specs.Statuses.{is_read, is_write};
+ghost use Rattle.run_commands.specs.Printed.{AnswersAs, file_limit};
+ghost use Rattle.run_commands.specs.Statuses.{is_read, is_write};
 
 use super::content::{Content, read_content};
+use crate::{Printed, RunEnd, RunFault, faulty};
 use eu_io::shelf::Shelf;
 use eu_name::text::Text;
 use nddl_ast::declaration::Decl;
-use nddl_files::language::Language;
-use nddl_includes::fault::TextFail;
-use nddl_includes::reader::TextReader;
+use nddl_parser::fault::TextFail;
+use nddl_parser::language::Language;
+use nddl_parser::reader::TextReader;
 use nddl_print::print;
-use run_printing::{Printed, RunEnd, RunFault, faulty};
 use std::alloc::Global;
 
 /// The file of this name in the canonical spelling, or what is wrong with it first. Its includes aren't followed.

@@ -11,12 +11,12 @@ use Rattle.std.proofs.lemmas.Slice.Eq.{bytes_eq-Decides}
 use Rattle.eu_name.specs.declared.name_text.NameText.{NameText}
 use Rattle.eu_name.specs.Spelling.{Spells}
 use Rattle.eu_name.proofs.Names.{spells_one_name}
-use Rattle.script_commands.specs.declared.command.Command.{Command}
-use Rattle.script_commands.specs.declared.command.Command.TheVariants as commands
-use Rattle.script_commands.specs.declared.command.LineFault.{LineFault}
-use Rattle.script_commands.specs.declared.command.LineFault.TheVariants.{TooLong, Syntax, Memory}
-use Rattle.script_commands.specs.Line.{IsCommand, KeepsWord, AnswersWords, ReadsLine}
-use Rattle.script_commands.specs.Words.{words_of}
+use Rattle.script_lang.specs.declared.command.Command.{Command}
+use Rattle.script_lang.specs.declared.command.Command.TheVariants as commands
+use Rattle.script_lang.specs.declared.command.LineFault.{LineFault}
+use Rattle.script_lang.specs.declared.command.LineFault.TheVariants.{TooLong, Syntax, Memory}
+use Rattle.script_lang.specs.Line.{IsCommand, KeepsWord, AnswersWords, ReadsLine}
+use Rattle.script_lang.specs.Words.{words_of}
 use Rattle.script_lang.specs.declared.verb.Verb.{Verb}
 use Rattle.script_lang.specs.declared.verb.Verb.TheVariants as verbs
 use Rattle.script_lang.specs.Laws.{WordsAskOnce, LinesAskOnce, LinesHaveOneAnswer, FrontDecides}

@@ -1,4 +1,10 @@
+pub mod Parts
+pub mod Ascii
+pub mod Numerals
 pub mod Commands
 pub mod Counting
 pub mod Low
 pub mod Naming
+pub mod Asked
+pub mod Kinding
+pub mod Sharing

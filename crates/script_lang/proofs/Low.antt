@@ -5,8 +5,8 @@ use Rattle.std.proofs.lemmas.Bool.Decides.{nat_tests}
 use Rattle.std.proofs.lemmas.List.Elements.{All-from_recursion, recursion_from_All}
 use Rattle.eu_name.specs.Word.{IsName, is_word_start, is_word_byte}
 use Rattle.plan_core.specs.Values.{is_point, IsTruthWord}
-use Rattle.script_commands.proofs.Ascii.{number_is_ascii}
-use Rattle.script_commands.specs.Line.{IsValueWord}
+use Rattle.script_lang.proofs.Ascii.{number_is_ascii}
+use Rattle.script_lang.specs.Line.{IsValueWord}
 
 abbrev AreLow : List ℕ → Type 0
 AreLow bytes = AllByRecursion (λ byte. byte < 128) bytes

@@ -1,9 +1,9 @@
 -- What names and values two words say.
 use Rattle.std.proofs.Common.{◌≡◌, ℕ, List, [], ◌∷◌, Result, Ok, Err, refl, sym, ◌∙◌, subst}
 use Rattle.std.specs.Prelude.{IfOk, IfErr}
-use Rattle.script_commands.specs.declared.command.LineFault.{LineFault}
-use Rattle.script_commands.specs.declared.command.LineFault.TheVariants.{TooLong, Syntax, Memory}
-use Rattle.script_commands.specs.Line.{IsValueWord}
+use Rattle.script_lang.specs.declared.command.LineFault.{LineFault}
+use Rattle.script_lang.specs.declared.command.LineFault.TheVariants.{TooLong, Syntax, Memory}
+use Rattle.script_lang.specs.Line.{IsValueWord}
 use Rattle.script_lang.specs.Operands.{Says, IsValueOf, AreTwo, joined}
 
 -- where one is missing, both are

@@ -1,9 +1,9 @@
 -- Laws of the lines of a script.
 use Rattle.std.specs.Prelude.{◌≡◌, ℕ, List, take, Result, Ok, Err}
-use Rattle.script_commands.specs.declared.command.Command.{Command}
-use Rattle.script_commands.specs.declared.command.LineFault.{LineFault}
-use Rattle.script_commands.specs.declared.command.LineFault.TheVariants.{Memory}
-use Rattle.script_commands.specs.Line.{IsCommand, ReadsLine}
+use Rattle.script_lang.specs.declared.command.Command.{Command}
+use Rattle.script_lang.specs.declared.command.LineFault.{LineFault}
+use Rattle.script_lang.specs.declared.command.LineFault.TheVariants.{Memory}
+use Rattle.script_lang.specs.Line.{IsCommand, ReadsLine}
 
 -- words ask for one command at most
 abbrev pub WordsAskOnce : Type 0

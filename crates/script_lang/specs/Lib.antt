@@ -1,3 +1,9 @@
+pub mod Words
+pub mod Number
+pub mod Line
+pub mod WordLaws
 pub mod Verbs
 pub mod Operands
 pub mod Laws
+pub mod CommandLaws
+pub mod Naming

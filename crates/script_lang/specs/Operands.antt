@@ -1,9 +1,9 @@
 -- What the words behind the first one say.
 use Rattle.std.specs.Prelude.{◌≡◌, ℕ, ◌<◌, ◌≤◌, List, [], ◌∷◌, Result, Ok, Err}
 use Rattle.std.specs.Fmt.{decimal}
-use Rattle.script_commands.specs.declared.command.LineFault.{LineFault}
-use Rattle.script_commands.specs.declared.command.LineFault.TheVariants.{TooLong, Syntax, Memory}
-use Rattle.script_commands.specs.Line.{IsValueWord}
+use Rattle.script_lang.specs.declared.command.LineFault.{LineFault}
+use Rattle.script_lang.specs.declared.command.LineFault.TheVariants.{TooLong, Syntax, Memory}
+use Rattle.script_lang.specs.Line.{IsValueWord}
 
 -- the answer where something is looked for: it, that there is none, or that memory ran out for it
 abbrev pub Says : {A : Type 0} → (A → Type 0) → Result A LineFault → Type 0

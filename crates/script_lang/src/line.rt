@@ -1,15 +1,15 @@
 //! Lines of a script, and what they ask for.
 
 ghost use Rattle.std.specs.Prelude.{◌∷◌, codes};
-ghost use Rattle.script_commands.specs.Words.{words_of};
-ghost use Rattle.script_commands.specs.Line.{AnswersWords, ReadsLine};
+ghost use Rattle.script_lang.specs.Words.{words_of};
+ghost use Rattle.script_lang.specs.Line.{AnswersWords, ReadsLine};
 ghost use Rattle.script_lang.specs.Verbs.{verb_word};
 
 use super::numbers::bounds;
 use super::operands::{name_and_value, no_word, one_name, two_names};
 use super::verb::{Verb, verb_of};
-use script_commands::command::{Command, LineFault};
-use script_commands::words::next_word;
+use crate::command::{Command, LineFault};
+use crate::words::next_word;
 use std::alloc::Global;
 
 /// The most bytes that a line may have, without its line feed.

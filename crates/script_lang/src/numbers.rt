@@ -2,11 +2,11 @@
 
 ghost use Rattle.std.specs.Prelude.{◌≡◌, ◌↔◌, ◌<◌, ◌≤◌, ◌^◌, ℕ, IsTrue, Some, MatchOption};
 ghost use Rattle.std.specs.Fmt.{decimal};
-ghost use Rattle.script_commands.specs.Words.{words_of};
+ghost use Rattle.script_lang.specs.Words.{words_of};
 ghost use Rattle.script_lang.specs.Operands.{AreBounds};
 
+use crate::words::two_words;
 use itoa::Buffer;
-use script_commands::words::two_words;
 
 /// The most visits that a search may be given.
 const STEPS_LIMIT: u32 = 1_000_000;

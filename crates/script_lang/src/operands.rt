@@ -2,18 +2,18 @@
 
 ghost use Rattle.std.specs.Prelude.{◌≡◌, ◌<◌, ◌↔◌, [], All, IsTrue, IfOk, IfErr};
 ghost use Rattle.eu_name.specs.Spelling.{Spells};
-ghost use Rattle.script_commands.specs.Line.{IsValueWord};
-ghost use Rattle.script_commands.specs.Words.{words_of};
-ghost use Rattle.script_commands.specs.declared.command.LineFault.TheVariants.{Memory};
+ghost use Rattle.script_lang.specs.Line.{IsValueWord};
+ghost use Rattle.script_lang.specs.Words.{words_of};
+ghost use Rattle.script_lang.specs.declared.command.LineFault.TheVariants.{Memory};
 ghost use Rattle.script_lang.specs.Operands.{Says, Tells, IsValueOf, IsOne, AreTwo, joined};
 
+use crate::command::LineFault;
+use crate::number::is_number;
+use crate::words::{next_word, only_word, two_words};
 use eu_name::name_text::{NameFault, NameText};
 use eu_name::reading::read_name;
 use eu_name::text::Text;
 use plan_core::value_words::{is_path_word, is_truth_word};
-use script_commands::command::LineFault;
-use script_commands::number::is_number;
-use script_commands::words::{next_word, only_word, two_words};
 use std::alloc::Global;
 
 // A text of the word.

@@ -9,19 +9,19 @@ use Rattle.model_core.specs.History.{standing}
 use Rattle.conflict_core.specs.declared.fault.WhyFault.{WhyFault}
 use Rattle.conflict_core.specs.declared.fault.WhyFault.TheVariants as why
 use Rattle.conflict_core.specs.Answers.{AnswersConflict, AnswersCycle, AnswersNoReason}
-use Rattle.conflict_core.specs.plan_db.Answers.{Held}
-use Rattle.conflict_core.specs.plan_db.Database.{Database, IsSound}
-use Rattle.conflict_core.specs.plan_db.Edges.{AreStandingEdges}
-use Rattle.conflict_core.specs.plan_edges.NamedEdge.{NamedEdge}
-use Rattle.script_commands.specs.declared.command.Command.TheVariants as commands
-use Rattle.session_steps.specs.script_lines.Pointing.{edges_writable}
-use Rattle.session_steps.specs.script_lines.Settled.{standing_writable}
-use Rattle.session_steps.specs.script_lines.Writable.{IsEdgeWritable}
-use Rattle.session_steps.specs.script_lines.Lines.{counted_lines, IsEdgeLine}
-use Rattle.session_steps.specs.declared.reason.RefusalReason.TheVariants.{Consistent}
-use Rattle.session_steps.specs.Reasons.{refusal}
-use Rattle.session_steps.specs.Replies.{TellsCollapse, TellsDecisions, TellsConflict, TellsCycle}
-use Rattle.session_steps.specs.Steps.{AnswersCommand}
+use Rattle.plan_db.specs.Answers.{Held}
+use Rattle.plan_db.specs.Database.{Database, IsSound}
+use Rattle.plan_db.specs.Edges.{AreStandingEdges}
+use Rattle.plan_edges.specs.declared.edge.NamedEdge.{NamedEdge}
+use Rattle.script_lang.specs.declared.command.Command.TheVariants as commands
+use Rattle.session_replies.proofs.Pointing.{edges_writable}
+use Rattle.session_replies.proofs.Settled.{standing_writable}
+use Rattle.session_replies.specs.Writable.{IsEdgeWritable}
+use Rattle.session_replies.specs.Lines.{counted_lines, IsEdgeLine}
+use Rattle.session_core.specs.declared.reason.RefusalReason.TheVariants.{Consistent}
+use Rattle.session_core.specs.Reasons.{refusal}
+use Rattle.session_core.specs.Replies.{TellsCollapse, TellsDecisions, TellsConflict, TellsCycle}
+use Rattle.session_core.specs.Steps.{AnswersCommand}
 use Rattle.session_core.proofs.Told.{kept_answers}
 
 -- the edges of the list that stands can be written

@@ -6,15 +6,15 @@ use Rattle.model_core.specs.declared.decision.Decision.{Decision}
 use Rattle.model_core.specs.declared.model.Model.{Model}
 use Rattle.model_core.specs.History.{standing}
 use Rattle.model_core.specs.State.{State}
-use Rattle.session_steps.specs.flaw_core.Flaw.{Flaw}
-use Rattle.session_steps.specs.flaw_core.Places.{IsFlawAt}
-use Rattle.session_steps.specs.flaw_core.Rules.{IsFirstAt, AreChoicesAt}
-use Rattle.conflict_core.specs.plan_db.Database.{Database}
+use Rattle.flaw_core.specs.declared.flaw.Flaw.{Flaw}
+use Rattle.flaw_core.specs.Places.{IsFlawAt}
+use Rattle.flaw_core.specs.Rules.{IsFirstAt, AreChoicesAt}
+use Rattle.plan_db.specs.Database.{Database}
 use Rattle.plan_states.specs.Flaws as named
-use Rattle.script_commands.specs.declared.command.Command.TheVariants as commands
-use Rattle.session_steps.specs.script_lines.Lines.{with_line_feed, IsFlawLine}
-use Rattle.session_steps.specs.Replies.{TellsDecisions, TellsFlaw}
-use Rattle.session_steps.specs.Steps.{AnswersCommand}
+use Rattle.script_lang.specs.declared.command.Command.TheVariants as commands
+use Rattle.session_replies.specs.Lines.{with_line_feed, IsFlawLine}
+use Rattle.session_core.specs.Replies.{TellsDecisions, TellsFlaw}
+use Rattle.session_core.specs.Steps.{AnswersCommand}
 
 pub decisions_told : (database : Database) (result : Result (List ℕ) AllocError)
     → IfOk result (TellsDecisions database.model (codes "decisions") (standing database.history)) → AnswersCommand database commands.Decisions result database

@@ -1,19 +1,19 @@
 -- The model of a database stays, whatever a command is answered.
 use Rattle.std.proofs.Common.{◌≡◌, ℕ, List, Result, Ok, Err, inl, inr, ap}
 use Rattle.std.specs.declared.alloc.AllocError.{AllocError}
-use Rattle.conflict_core.specs.plan_db.Database.{Database}
-use Rattle.conflict_core.specs.plan_db.Outcome.{Outcome}
+use Rattle.plan_db.specs.Database.{Database}
+use Rattle.plan_db.specs.declared.fault.Outcome.{Outcome}
 use Rattle.plan_search.specs.Search.{SearchOutcome}
-use Rattle.script_commands.specs.declared.command.Command.{Command}
-use Rattle.script_commands.specs.declared.command.Command.TheVariants.{Empty, Specify, Activate, Merge, Reject, Order, Reset, ResetOrder}
-use Rattle.script_commands.specs.declared.command.Command.TheVariants as commands
-use Rattle.session_steps.specs.solver_core.SearchEnd.{SearchEnd}
-use Rattle.session_steps.specs.solver_core.SearchEnd.TheVariants.{Found, Exhausted, Budget}
-use Rattle.session_steps.specs.solver_core.Solving.{TellsEnd}
-use Rattle.session_steps.specs.declared.reason.RefusalReason.{RefusalReason}
-use Rattle.session_steps.specs.declared.reason.RefusalReason.TheVariants as reason
-use Rattle.session_steps.specs.Replies.{UnlessFull, RepliesStep, TakesAsked, ResetsAsked, UndoesLast, RepliesTo}
-use Rattle.session_steps.specs.Steps.{AnswersCommand}
+use Rattle.script_lang.specs.declared.command.Command.{Command}
+use Rattle.script_lang.specs.declared.command.Command.TheVariants.{Empty, Specify, Activate, Merge, Reject, Order, Reset, ResetOrder}
+use Rattle.script_lang.specs.declared.command.Command.TheVariants as commands
+use Rattle.solver_core.specs.declared.ending.SearchEnd.{SearchEnd}
+use Rattle.solver_core.specs.declared.ending.SearchEnd.TheVariants.{Found, Exhausted, Budget}
+use Rattle.solver_core.specs.Solving.{TellsEnd}
+use Rattle.session_core.specs.declared.reason.RefusalReason.{RefusalReason}
+use Rattle.session_core.specs.declared.reason.RefusalReason.TheVariants as reason
+use Rattle.session_core.specs.Replies.{UnlessFull, RepliesStep, TakesAsked, ResetsAsked, UndoesLast, RepliesTo}
+use Rattle.session_core.specs.Steps.{AnswersCommand}
 
 module _ (old new : Database) where
   same_model : new ≡ old → new.model ≡ old.model

@@ -1,7 +1,19 @@
+mod Stepping
+mod Decisions
+mod Searches
 mod Keeping
-mod Lines
+mod LineAnswers
 mod Told
 mod Choices
 mod Flaws
 mod Explained
-pub mod plan_deciding
+pub mod Words
+pub mod OneLine
+pub mod Taking
+pub mod OneReset
+pub mod Cycling
+pub mod Edging
+pub mod OneTelling
+pub mod OneSearch
+pub mod Answering
+pub mod Ending

@@ -12,18 +12,18 @@ use Rattle.model_core.specs.Lawful.{IsLawful}
 use Rattle.model_core.specs.Names.{NamesVariable}
 use Rattle.model_core.specs.State.{State, Gives}
 use Rattle.model_core.proofs.Naming.{names_one_variable}
-use Rattle.conflict_core.specs.plan_db.Answers.{Held, AnswersDomain, AnswersNothing, IsSeen, IsUnseen}
-use Rattle.conflict_core.specs.plan_db.Database.{Database, HasLeast, HasCollapsed}
-use Rattle.conflict_core.specs.plan_db.Outcome.TheVariants.{Inconsistent}
-use Rattle.conflict_core.specs.plan_db.QueryFault.{QueryFault}
-use Rattle.conflict_core.specs.plan_db.QueryFault.TheVariants as query
+use Rattle.plan_db.specs.Answers.{Held, AnswersDomain, AnswersNothing, IsSeen, IsUnseen}
+use Rattle.plan_db.specs.Database.{Database, HasLeast, HasCollapsed}
+use Rattle.plan_db.specs.declared.fault.Outcome.TheVariants.{Inconsistent}
+use Rattle.plan_db.specs.declared.fault.QueryFault.{QueryFault}
+use Rattle.plan_db.specs.declared.fault.QueryFault.TheVariants as query
 use Rattle.plan_view.specs.Seeing.{Seen, seen_state}
-use Rattle.session_steps.specs.script_lines.Lines.{with_line_feed, IsDomainLine}
+use Rattle.session_replies.specs.Lines.{with_line_feed, IsDomainLine}
 use Rattle.session_core.specs.Telling.{SaysUntold, TellsVariable}
-use Rattle.session_steps.specs.declared.reason.RefusalReason.TheVariants.{Unknown}
-use Rattle.session_steps.specs.Reasons.{outcome_text, refusal}
-use Rattle.session_steps.specs.Replies.{Keeping, TellsState, TellsDomain}
-use Rattle.session_steps.specs.Steps.{Answers}
+use Rattle.session_core.specs.declared.reason.RefusalReason.TheVariants.{Unknown}
+use Rattle.session_core.specs.Reasons.{outcome_text, refusal}
+use Rattle.session_core.specs.Replies.{Keeping, TellsState, TellsDomain}
+use Rattle.session_core.specs.Steps.{Answers}
 
 -- nothing changes where something is only told
 pub kept_answers : (old : Database) (Tells : Database → List ℕ → Type 0) (result : Result (List ℕ) AllocError)

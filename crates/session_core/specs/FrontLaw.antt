@@ -1,9 +1,9 @@
 -- A line is answered as its front is: the law that the session asks for, with its proof.
 use Rattle.std.specs.Prelude.{ℕ, List, take}
-use Rattle.line_session.specs.declared.reply.Answer.{Answer}
-use Rattle.conflict_core.specs.plan_db.Database.{Database}
+use Rattle.session_loop.specs.declared.reply.Answer.{Answer}
+use Rattle.plan_db.specs.Database.{Database}
 use Rattle.script_lang.proofs.Commands.{front_decides}
-use Rattle.session_core.specs.Replies.{AnswersLine}
+use Rattle.session_core.specs.LineReplies.{AnswersLine}
 
 -- what the front of a line is answered is what the line is answered
 pub front_answers : (old : Database) (line : List ℕ) (answer : Answer) (new : Database)

@@ -1,10 +1,7 @@
+pub mod Reasons
 pub mod Replies
+pub mod Steps
+pub mod LineReplies
 pub mod Telling
 pub mod FrontLaw
-pub mod plan_cycles
-pub mod plan_db
-pub mod plan_state
-pub mod plan_steps
-pub mod script_lines
-pub mod session_steps
-pub mod solver_core
+pub mod Laws

@@ -4,12 +4,12 @@ use Rattle.domain_core.specs.Domain.{Domain}
 use Rattle.eu_name.specs.declared.name.VarName.{VarName}
 use Rattle.model_core.specs.declared.model.Model.{Model}
 use Rattle.model_core.specs.State.{State, Gives}
-use Rattle.conflict_core.specs.plan_db.Outcome.TheVariants as outcome
-use Rattle.conflict_core.specs.plan_db.QueryFault.{QueryFault}
-use Rattle.conflict_core.specs.plan_db.QueryFault.TheVariants as query
-use Rattle.session_steps.specs.script_lines.Lines.{with_line_feed, IsDomainLine}
-use Rattle.session_steps.specs.declared.reason.RefusalReason.TheVariants as reason
-use Rattle.session_steps.specs.Reasons.{outcome_text, refusal}
+use Rattle.plan_db.specs.declared.fault.Outcome.TheVariants as outcome
+use Rattle.plan_db.specs.declared.fault.QueryFault.{QueryFault}
+use Rattle.plan_db.specs.declared.fault.QueryFault.TheVariants as query
+use Rattle.session_replies.specs.Lines.{with_line_feed, IsDomainLine}
+use Rattle.session_core.specs.declared.reason.RefusalReason.TheVariants as reason
+use Rattle.session_core.specs.Reasons.{outcome_text, refusal}
 
 -- the reply says why nothing is told of a variable, or nothing is seen
 abbrev pub SaysUntold : QueryFault → List ℕ → Type 0

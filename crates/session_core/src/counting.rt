@@ -2,11 +2,11 @@
 
 ghost use Rattle.std.specs.Prelude.{◌≡◌, ◌<◌, ◌≤◌, List, Some, length, IfOk, MatchBool};
 ghost use Rattle.model_core.specs.declared.decision.Decision.{Decision};
-ghost use Rattle.session_steps.specs.flaw_core.Rules.{IsLeastFor, IsFirstAt, AreChoicesAt};
+ghost use Rattle.flaw_core.specs.Rules.{IsLeastFor, IsFirstAt, AreChoicesAt};
 
+use flaw_core::{Flaw, FlawRule, Plain};
 use model_core::model::Model;
 use model_core::view::View;
-use session_steps::passed_flaw_core::{Flaw, FlawRule, Plain};
 use std::alloc::AllocError;
 
 /// As many tokens may be active at most where choices are counted.

@@ -1,28 +1,25 @@
 //! Editing a plan by the lines of a script.
 
 ghost use Rattle.std.specs.Prelude.{◌≡◌, ℕ, true, false, List, Ok, IfOk, OnErr, MatchBool};
-ghost use Rattle.line_session.specs.Answering.{LeavesUnanswered};
-ghost use Rattle.conflict_core.specs.plan_db.Database.{IsSound};
+ghost use Rattle.session_loop.specs.Answering.{LeavesUnanswered};
+ghost use Rattle.plan_db.specs.Database.{IsSound};
 ghost use Rattle.plan_words.specs.Indexing.{IsModelIndex};
-ghost use Rattle.script_commands.specs.Line.{IsCommand};
-ghost use Rattle.session_core.specs.Replies.{AnswersLine, AnswersRead, goes_on_behind};
-ghost use Rattle.session_steps.specs.Reasons.{refusal};
-ghost use Rattle.session_steps.specs.Replies.{IsLost, RepliesTo};
-ghost use Rattle.session_steps.specs.Steps.{AnswersCommand};
+ghost use Rattle.script_lang.specs.Line.{IsCommand};
+ghost use Rattle.session_core.specs.LineReplies.{AnswersLine, AnswersRead, goes_on_behind};
+ghost use Rattle.session_core.specs.Reasons.{refusal};
+ghost use Rattle.session_core.specs.Replies.{IsLost, RepliesTo};
+ghost use Rattle.session_core.specs.Steps.{AnswersCommand};
 
 use super::explaining::{why_cycle, why_reply};
 use super::telling::{tell_decisions, tell_domain, tell_flaw, tell_tokens};
-use conflict_core::passed_plan_db::Db;
+use crate::replies::{no_reply, refused};
+use crate::{RefusalReason, decide_reply, reset_order_reply, reset_reply, search_reply, undo};
 use eu_name::bytes::Bytes;
-use line_session::reply::{Answer, Responder};
+use plan_db::Db;
 use plan_release::let_go;
 use plan_words::indexed::ModelIndex;
-use script_commands::{Command, LineFault};
-use script_lang::read_line;
-use session_steps::replies::{no_reply, refused};
-use session_steps::{
-    RefusalReason, decide_reply, reset_order_reply, reset_reply, search_reply, undo,
-};
+use script_lang::{Command, LineFault, read_line};
+use session_loop::reply::{Answer, Responder};
 use std::alloc::{AllocError, Global};
 use std::marker::Model;
 
@@ -36,7 +33,7 @@ pub struct Editor {
 }
 
 impl Model for Editor {
-    ghost use Rattle.conflict_core.specs.plan_db.Database.{Database};
+    ghost use Rattle.plan_db.specs.Database.{Database};
     ghost use Rattle.plan_words.specs.Indexing.{IsModelIndex};
 
     ghost Value = { Database };
@@ -75,7 +72,7 @@ impl Editor {
 }
 
 impl Responder for Editor {
-    ghost use Rattle.session_core.specs.Replies.{AnswersLine};
+    ghost use Rattle.session_core.specs.LineReplies.{AnswersLine};
     ghost use Rattle.session_core.specs.FrontLaw.{front_answers};
 
     ghost answers = { AnswersLine };

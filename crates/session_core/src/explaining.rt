@@ -2,17 +2,17 @@
 
 ghost use Rattle.std.specs.Prelude.{◌≡◌, IfOk};
 ghost use Rattle.conflict_core.specs.declared.fault.WhyFault.TheVariants as why;
-ghost use Rattle.script_commands.specs.declared.command.Command.TheVariants as commands;
-ghost use Rattle.session_steps.specs.declared.reason.RefusalReason.TheVariants.{Consistent};
-ghost use Rattle.session_steps.specs.Reasons.{refusal};
-ghost use Rattle.session_steps.specs.Steps.{AnswersCommand};
+ghost use Rattle.script_lang.specs.declared.command.Command.TheVariants as commands;
+ghost use Rattle.session_core.specs.declared.reason.RefusalReason.TheVariants.{Consistent};
+ghost use Rattle.session_core.specs.Reasons.{refusal};
+ghost use Rattle.session_core.specs.Steps.{AnswersCommand};
 
-use conflict_core::passed_plan_db::Db;
+use crate::RefusalReason;
+use crate::replies::refused;
 use conflict_core::{WhyFault, time_cycle, why};
 use eu_name::bytes::Bytes;
-use session_steps::RefusalReason;
-use session_steps::passed_script_lines::{cycle_reply, decisions_reply};
-use session_steps::replies::refused;
+use plan_db::Db;
+use session_replies::replies::{cycle_reply, decisions_reply};
 use std::alloc::{AllocError, Global};
 
 // Why there is nothing to explain.

@@ -1,29 +1,29 @@
 //! What is told of the database.
 
 ghost use Rattle.std.specs.Prelude.{◌≡◌, false, List, Some, IfOk};
-ghost use Rattle.session_steps.specs.flaw_core.Rules.{AreChoicesAt, IsFirstAt, IsLeastFor};
+ghost use Rattle.flaw_core.specs.Rules.{AreChoicesAt, IsFirstAt, IsLeastFor};
 ghost use Rattle.model_core.specs.declared.decision.Decision.{Decision};
 ghost use Rattle.plan_words.specs.Indexing.{IsModelIndex};
-ghost use Rattle.script_commands.specs.declared.command.Command.TheVariants as commands;
+ghost use Rattle.script_lang.specs.declared.command.Command.TheVariants as commands;
 ghost use Rattle.session_core.specs.Telling.{SaysUntold, TellsVariable};
-ghost use Rattle.session_steps.specs.Replies.{TellsFlaw, TellsState};
-ghost use Rattle.session_steps.specs.Steps.{AnswersCommand};
+ghost use Rattle.session_core.specs.Replies.{TellsFlaw, TellsState};
+ghost use Rattle.session_core.specs.Steps.{AnswersCommand};
 
 use super::counting::{MOST_ACTIVE, count_choices};
-use conflict_core::passed_plan_db::{Db, Outcome, QueryFault};
+use crate::RefusalReason;
+use crate::replies::{outcome_reply, refused};
+use crate::resetting::variable_in;
 use eu_name::bytes::Bytes;
 use eu_name::name::VarName;
 use eu_name::name_text::NameText;
+use flaw_core::{Flaw, FlawRule, Plain};
 use model_core::model::Model;
 use model_core::view::View;
+use plan_db::{Db, Outcome, QueryFault};
 use plan_words::indexed::ModelIndex;
-use session_steps::RefusalReason;
-use session_steps::passed_flaw_core::{Flaw, FlawRule, Plain};
-use session_steps::passed_script_lines::{
+use session_replies::replies::{
     decisions_reply, domain_reply, flaw_reply, no_flaw_reply, tokens_reply,
 };
-use session_steps::replies::{outcome_reply, refused};
-use session_steps::resetting::variable_in;
 use std::alloc::{AllocError, Global};
 
 // Why nothing is told.

@@ -1,5 +1,5 @@
 use Rattle.std.proofs.Common.{subst}
-use Rattle.run_trials.specs.plan_db.Database.{Database}
+use Rattle.plan_db.specs.Database.{Database}
 use Rattle.europa_run.specs.Pieces.{EditTells}
 use Rattle.europa_run.proofs.Scripts.{session_unbegun}
 use Rattle.europa_run.proofs.talking.talk.Goals as goal

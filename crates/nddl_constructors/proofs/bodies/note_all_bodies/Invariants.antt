@@ -1,6 +1,6 @@
 use Rattle.std.proofs.Common.{◌≡◌, drop}
-use Rattle.nddl_scope.specs.Finding.{earliest_fault}
-use Rattle.nddl_lines.specs.Facts.{facts_of}
+use Rattle.nddl_symbols.specs.Finding.{earliest_fault}
+use Rattle.nddl_hierarchy.specs.Facts.{facts_of}
 use Rattle.nddl_constructors.specs.Bodies.{bodies_faults}
 use Rattle.nddl_constructors.proofs.bodies.note_all_bodies.Given as goal
 

@@ -1,7 +1,7 @@
 use Rattle.std.proofs.Common.{◌≡◌, OnOk, ap, subst, ◌∙◌}
-use Rattle.nddl_scope.specs.Finding.{earliest_fault}
-use Rattle.nddl_lines.specs.Facts.{facts_of}
-use Rattle.nddl_paths.specs.Paths.{Surroundings}
+use Rattle.nddl_symbols.specs.Finding.{earliest_fault}
+use Rattle.nddl_hierarchy.specs.Facts.{facts_of}
+use Rattle.nddl_resolve.specs.Paths.{Surroundings}
 use Rattle.nddl_constructors.specs.Bodies.{sets_faults}
 use Rattle.nddl_constructors.specs.Formals.{around_formals}
 use Rattle.nddl_constructors.proofs.bodies.note_body_of.Goals as goal

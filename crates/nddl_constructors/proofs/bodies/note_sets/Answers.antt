@@ -1,7 +1,7 @@
-use Rattle.nddl_scope.specs.Finding.{earliest_fault}
-use Rattle.nddl_lines.specs.Facts.{facts_of}
-use Rattle.nddl_paths.specs.Paths.{around_of}
-use Rattle.nddl_paths.specs.nddl_classes.Steps.{flat_step}
+use Rattle.nddl_symbols.specs.Finding.{earliest_fault}
+use Rattle.nddl_hierarchy.specs.Facts.{facts_of}
+use Rattle.nddl_resolve.specs.Paths.{around_of}
+use Rattle.nddl_declarations.proofs.Steps.{flat_step}
 use Rattle.nddl_constructors.specs.Bodies.{set_faults_in, sets_faults}
 use Rattle.nddl_constructors.proofs.bodies.note_sets.Goals as goal
 

@@ -1,7 +1,7 @@
 use Rattle.std.proofs.Common.{refl, ap, ◌∙◌}
-use Rattle.nddl_scope.specs.Finding.{earliest_fault}
-use Rattle.nddl_lines.specs.Facts.{facts_of}
-use Rattle.nddl_paths.specs.Paths.{around_of}
+use Rattle.nddl_symbols.specs.Finding.{earliest_fault}
+use Rattle.nddl_hierarchy.specs.Facts.{facts_of}
+use Rattle.nddl_resolve.specs.Paths.{around_of}
 use Rattle.nddl_constructors.specs.Constants.{constants_faults, value_faults}
 use Rattle.nddl_constructors.specs.Wanted.{wanted_kinds}
 use Rattle.nddl_constructors.specs.Wants.{wanted_at}

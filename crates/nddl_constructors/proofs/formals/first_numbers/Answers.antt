@@ -1,5 +1,5 @@
 use Rattle.nddl_ast.specs.declared.declaration.Typed.{Typed}
-use Rattle.nddl_scope.proofs.Firsts.{firsts_step, firsts_whole, notes_name}
+use Rattle.nddl_symbols.proofs.Firsts.{firsts_step, firsts_whole, notes_name}
 use Rattle.nddl_constructors.proofs.Numbering.{is_typed_named}
 use Rattle.nddl_constructors.proofs.formals.first_numbers.Goals as goal
 

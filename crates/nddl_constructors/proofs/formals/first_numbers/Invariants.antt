@@ -1,4 +1,4 @@
-use Rattle.nddl_scope.proofs.Firsts.{HasFirstsTo}
+use Rattle.nddl_symbols.proofs.Firsts.{HasFirstsTo}
 use Rattle.nddl_constructors.proofs.Numbering.{is_typed_named}
 use Rattle.nddl_constructors.proofs.formals.first_numbers.Given as goal
 

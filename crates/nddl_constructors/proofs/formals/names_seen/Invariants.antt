@@ -1,5 +1,5 @@
 use Rattle.std.proofs.Common.{◌≡◌, ◌++◌, drop, map}
-use Rattle.nddl_lines.specs.Facts.{facts_of}
+use Rattle.nddl_hierarchy.specs.Facts.{facts_of}
 use Rattle.nddl_constructors.specs.Formals.{formal_seen}
 use Rattle.nddl_constructors.proofs.formals.names_seen.Given as goal
 

@@ -1,7 +1,7 @@
 use Rattle.std.proofs.Common.{refl}
-use Rattle.nddl_scope.specs.Finding.{earliest_fault}
-use Rattle.nddl_lines.specs.Facts.{facts_of}
-use Rattle.nddl_paths.specs.Paths.{around_of}
+use Rattle.nddl_symbols.specs.Finding.{earliest_fault}
+use Rattle.nddl_hierarchy.specs.Facts.{facts_of}
+use Rattle.nddl_resolve.specs.Paths.{around_of}
 use Rattle.nddl_constructors.specs.Objects.{setting_faults, settings_faults_from}
 use Rattle.nddl_constructors.proofs.Noting.{numbered_step}
 use Rattle.nddl_constructors.proofs.objects.note_setting_values.Goals as goal

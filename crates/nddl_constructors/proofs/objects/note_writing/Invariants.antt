@@ -1,6 +1,6 @@
 use Rattle.std.proofs.Common.{◌≡◌, drop, map}
-use Rattle.nddl_scope.specs.Finding.{earliest_fault}
-use Rattle.nddl_lines.specs.Facts.{facts_of}
+use Rattle.nddl_symbols.specs.Finding.{earliest_fault}
+use Rattle.nddl_hierarchy.specs.Facts.{facts_of}
 use Rattle.nddl_constructors.specs.Objects.{writing_faults_from}
 use Rattle.nddl_constructors.proofs.objects.note_writing.Given as goal
 

@@ -1,5 +1,5 @@
 use Rattle.std.proofs.Common.{◌≡◌, ◌++◌, drop, map}
-use Rattle.nddl_lines.specs.Facts.{facts_of}
+use Rattle.nddl_hierarchy.specs.Facts.{facts_of}
 use Rattle.nddl_constructors.specs.Wants.{formal_kind}
 use Rattle.nddl_constructors.proofs.wanted.formal_kinds.Given as goal
 

@@ -1,6 +1,6 @@
 use Rattle.std.proofs.Common.{◌∙◌}
-use Rattle.nddl_lines.specs.Ancestors.{ancestry}
-use Rattle.nddl_lines.specs.Facts.{facts_of}
+use Rattle.eu_forest.specs.Ancestors.{ancestry}
+use Rattle.nddl_hierarchy.specs.Facts.{facts_of}
 use Rattle.nddl_constructors.proofs.Building.{formals_same}
 use Rattle.nddl_constructors.proofs.wants.formals_above.Goals as goal
 

@@ -1,6 +1,6 @@
 use Rattle.std.proofs.Common.{◌-◌, ◌+◌, length, sym, ◌∙◌, ap, map}
 use Rattle.std.specs.Option.{option_copied}
-use Rattle.nddl_lines.specs.Ancestors.{ancestry, line_from}
+use Rattle.eu_forest.specs.Ancestors.{ancestry, line_from}
 use Rattle.nddl_constructors.specs.Wants.{line_formals}
 use Rattle.nddl_constructors.proofs.Seeking.{formals_end, formals_step}
 use Rattle.nddl_constructors.proofs.wants.formals_along.Goals as goal

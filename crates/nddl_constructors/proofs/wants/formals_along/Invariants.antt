@@ -1,5 +1,5 @@
 use Rattle.std.proofs.Common.{◌≡◌, ◌-◌, length, map}
-use Rattle.nddl_lines.specs.Ancestors.{ancestry, line_from}
+use Rattle.eu_forest.specs.Ancestors.{ancestry, line_from}
 use Rattle.nddl_constructors.specs.Wants.{line_formals}
 use Rattle.nddl_constructors.proofs.wants.formals_along.Given as goal
 

@@ -1,5 +1,5 @@
 use Rattle.std.proofs.Common.{◌≡◌, ◌++◌, drop}
-use Rattle.nddl_lines.specs.Facts.{facts_of}
+use Rattle.nddl_hierarchy.specs.Facts.{facts_of}
 use Rattle.nddl_objects.specs.Modelled.{modelled_objects}
 use Rattle.nddl_objects.proofs.modelled.modelled_objects.Given as goal
 

@@ -1,5 +1,5 @@
 use Rattle.std.proofs.Common.{◌≡◌, drop, map}
-use Rattle.nddl_lines.specs.Facts.{facts_of}
+use Rattle.nddl_hierarchy.specs.Facts.{facts_of}
 use Rattle.nddl_objects.specs.Objects.{all_declared, progress_of}
 use Rattle.nddl_objects.proofs.objects.declare_all.Given as goal
 

@@ -1,5 +1,5 @@
-use Rattle.nddl_lines.specs.Facts.{facts_of}
-use Rattle.nddl_running.specs.Construction.{construction_of}
+use Rattle.nddl_hierarchy.specs.Facts.{facts_of}
+use Rattle.nddl_objects.specs.Construction.{construction_of}
 use Rattle.nddl_objects.specs.Objects.{progress_of}
 use Rattle.nddl_objects.proofs.Placing.{object_placed}
 use Rattle.nddl_objects.proofs.objects.declare_object.Goals as goal

@@ -1,9 +1,9 @@
 use Rattle.std.specs.Prelude.{false}
-use Rattle.nddl_scope.specs.Scope.{named_number}
-use Rattle.nddl_lines.specs.Facts.{facts_of}
-use Rattle.nddl_running.specs.nddl_data.Scene.{Grounds, scenery_of}
-use Rattle.nddl_running.specs.Construction.{construction_of}
-use Rattle.nddl_running.specs.Made.{made_by}
+use Rattle.nddl_symbols.specs.Scope.{named_number}
+use Rattle.nddl_hierarchy.specs.Facts.{facts_of}
+use Rattle.nddl_construction.specs.Scene.{Grounds, scenery_of}
+use Rattle.nddl_objects.specs.Construction.{construction_of}
+use Rattle.nddl_objects.specs.Made.{made_by}
 use Rattle.nddl_objects.specs.Objects.{bare_scene, most_levels}
 use Rattle.nddl_objects.proofs.Placing.{placed}
 use Rattle.nddl_objects.proofs.objects.make_declared.Goals as goal

@@ -1,5 +1,5 @@
 use Rattle.std.proofs.Common.{◌≡◌, ◌++◌, drop, map}
-use Rattle.nddl_running.specs.nddl_data.Standing.TheVariants.{Unmade}
+use Rattle.nddl_construction.specs.declared.made.Standing.TheVariants.{Unmade}
 use Rattle.nddl_objects.proofs.objects.unmade.Given as goal
 
 -- those so far and those of the names that are left are all

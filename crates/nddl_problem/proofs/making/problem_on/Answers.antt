@@ -1,6 +1,6 @@
 use Rattle.std.proofs.Common.{◌≡◌, subst}
 use Rattle.std.specs.Prelude.{IfOk}
-use Rattle.nddl_posed.specs.Posed.{Posing, posed_problem}
+use Rattle.nddl_instance.specs.Posed.{Posing, posed_problem}
 use Rattle.nddl_problem.proofs.making.problem_on.Goals as goal
 
 pub returns : goal.returns

@@ -1,4 +1,4 @@
-use Rattle.nddl_scope.proofs.Firsts.{firsts_step, firsts_whole, notes_name}
+use Rattle.nddl_symbols.proofs.Firsts.{firsts_step, firsts_whole, notes_name}
 use Rattle.nddl_terms.specs.Attributes.{is_attribute_named}
 use Rattle.nddl_terms.proofs.attributes.first_numbers.Goals as goal
 

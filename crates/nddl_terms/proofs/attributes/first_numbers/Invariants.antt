@@ -1,4 +1,4 @@
-use Rattle.nddl_scope.proofs.Firsts.{HasFirstsTo}
+use Rattle.nddl_symbols.proofs.Firsts.{HasFirstsTo}
 use Rattle.nddl_terms.specs.Attributes.{is_attribute_named}
 use Rattle.nddl_terms.proofs.attributes.first_numbers.Given as goal
 

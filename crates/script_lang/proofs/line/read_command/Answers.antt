@@ -1,5 +1,5 @@
 use Rattle.std.proofs.Common.{rules}
-use Rattle.script_commands.specs.Words.{words_of}
+use Rattle.script_lang.specs.Words.{words_of}
 use Rattle.script_lang.specs.declared.verb.Verb.TheVariants as verbs
 use Rattle.script_lang.proofs.Commands.{keeps_for, told_for}
 use Rattle.script_lang.proofs.line.read_command.Goals as goal

@@ -1,5 +1,5 @@
 use Rattle.std.proofs.Common.{rules}
-use Rattle.script_commands.specs.Words.{words_of}
+use Rattle.script_lang.specs.Words.{words_of}
 use Rattle.script_lang.proofs.Commands.{reset_one, reset_two, none_two, reset_memory, never_long}
 use Rattle.script_lang.proofs.line.read_reset.Goals as goal
 

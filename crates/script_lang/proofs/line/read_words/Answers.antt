@@ -1,5 +1,5 @@
 use Rattle.std.proofs.Common.{sym, ◌∙◌}
-use Rattle.script_commands.specs.Words.{words_of}
+use Rattle.script_lang.specs.Words.{words_of}
 use Rattle.script_lang.proofs.Commands.{read_first, read_none}
 use Rattle.script_lang.proofs.line.read_words.Goals as goal
 

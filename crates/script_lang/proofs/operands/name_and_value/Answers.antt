@@ -1,5 +1,5 @@
 use Rattle.eu_name.specs.Spelling.{Spells}
-use Rattle.script_commands.specs.Words.{words_of}
+use Rattle.script_lang.specs.Words.{words_of}
 use Rattle.script_lang.specs.Operands.{IsValueOf}
 use Rattle.script_lang.proofs.Naming.{says_pair}
 use Rattle.script_lang.proofs.operands.name_and_value.Goals as goal

@@ -1,6 +1,6 @@
 use Rattle.std.proofs.Common.{◌-◌, ◌≤◌, List, length}
 use Rattle.model_core.specs.declared.decision.Decision.{Decision}
-use Rattle.session_steps.specs.flaw_core.Rules.{AreChoicesAt}
+use Rattle.flaw_core.specs.Rules.{AreChoicesAt}
 use Rattle.session_core.proofs.counting.count_choices.Given as goal
 
 abbrev pub invariant-loop-least : goal.invariant-loop-least

@@ -1,6 +1,6 @@
 use Rattle.std.proofs.Common.{inl, refl}
-use Rattle.script_commands.specs.Words.{words_of}
-use Rattle.session_core.proofs.Lines.{line_answered, line_lost, long_answered, wrong_answered, unchanged}
+use Rattle.script_lang.specs.Words.{words_of}
+use Rattle.session_core.proofs.LineAnswers.{line_answered, line_lost, long_answered, wrong_answered, unchanged}
 use Rattle.session_core.proofs.editor.answer_ready.Goals as goal
 
 pub answer_command-answer-requires-clause-words : goal.answer_command-answer-requires-clause-words

@@ -1,7 +1,7 @@
 use Rattle.std.proofs.Common.{sym, subst}
-use Rattle.script_commands.specs.declared.command.Command.{Command}
-use Rattle.session_steps.specs.Steps.{AnswersCommand}
-use Rattle.session_core.proofs.Lines.{few_tokens}
+use Rattle.script_lang.specs.declared.command.Command.{Command}
+use Rattle.session_core.specs.Steps.{AnswersCommand}
+use Rattle.session_core.proofs.LineAnswers.{few_tokens}
 use Rattle.session_core.proofs.editor.carry_out.Goals as goal
 
 pub search_reply-requires : goal.search_reply-requires

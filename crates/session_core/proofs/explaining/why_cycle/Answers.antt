@@ -1,4 +1,4 @@
-use Rattle.session_steps.specs.script_lines.Pointing.{cycle_writable}
+use Rattle.session_replies.proofs.Pointing.{cycle_writable}
 use Rattle.session_core.proofs.Explained.{cycle_told, edges_there, unexplained_cycle}
 use Rattle.session_core.proofs.explaining.why_cycle.Goals as goal
 

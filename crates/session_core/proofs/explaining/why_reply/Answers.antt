@@ -1,4 +1,4 @@
-use Rattle.session_steps.specs.script_lines.Settled.{conflict_writable}
+use Rattle.session_replies.proofs.Settled.{conflict_writable}
 use Rattle.model_core.specs.History.{standing}
 use Rattle.session_core.proofs.Explained.{conflict_told, unexplained_why}
 use Rattle.session_core.proofs.explaining.why_reply.Goals as goal

@@ -1,4 +1,4 @@
-use Rattle.session_steps.specs.script_lines.Settled.{standing_writable}
+use Rattle.session_replies.proofs.Settled.{standing_writable}
 use Rattle.session_core.proofs.Flaws.{decisions_told}
 use Rattle.session_core.proofs.telling.tell_decisions.Goals as goal
 

@@ -1,5 +1,5 @@
 use Rattle.std.proofs.Common.{inl, refl}
-use Rattle.session_steps.specs.Replies.{TellsState, TellsDomain}
+use Rattle.session_core.specs.Replies.{TellsState, TellsDomain}
 use Rattle.session_core.proofs.Told.{kept_answers, domain_told, domain_unknown, domain_collapsed}
 use Rattle.session_core.proofs.telling.tell_domain.Goals as goal
 

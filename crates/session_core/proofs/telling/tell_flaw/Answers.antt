@@ -1,7 +1,7 @@
 use Rattle.std.proofs.Common.{sym, ◌∙◌}
 use Rattle.model_core.specs.History.{standing}
-use Rattle.session_steps.specs.Replies.{TellsState, TellsFlaw}
-use Rattle.session_steps.proofs.search_texts.Seen.{seen_least}
+use Rattle.session_core.specs.Replies.{TellsState, TellsFlaw}
+use Rattle.session_replies.proofs.Seen.{seen_least}
 use Rattle.session_core.proofs.Told.{kept_answers, seen_told, unseen_told}
 use Rattle.session_core.proofs.telling.tell_flaw.Goals as goal
 

@@ -1,5 +1,5 @@
 use Rattle.std.proofs.Common.{◌∙◌, sym}
-use Rattle.nddl_lines.specs.Facts.{facts_of}
+use Rattle.nddl_hierarchy.specs.Facts.{facts_of}
 use Rattle.nddl_rules.proofs.Telling.{tells_trees}
 use Rattle.nddl_rules.proofs.answers.OfRulesQuestion.answer.Goals as goal
 

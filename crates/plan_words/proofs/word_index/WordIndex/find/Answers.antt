@@ -1,6 +1,6 @@
 use Rattle.std.proofs.Common.{◌∙◌, ap}
 use Rattle.std.specs.Prelude.{vec_items}
-use Rattle.nddl_scope.specs.Index.{Noted, noted_number}
+use Rattle.nddl_symbols.specs.Index.{Noted, noted_number}
 use Rattle.plan_words.proofs.Noting.{found_by}
 use Rattle.plan_words.proofs.word_index.WordIndex.find.Goals as goal
 

@@ -1,5 +1,0 @@
-use Rattle.command_words.proofs.Asking.{asks_once}
-use Rattle.command_words.proofs.laws.words_ask_once.Goals as goal
-
-pub returns : goal.returns
-returns c = asks_once

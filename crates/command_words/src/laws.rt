@@ -1,8 +1,0 @@
-//! Laws of command lines.
-
-ghost use Rattle.command_words.specs.Laws.{WordsAskOnce};
-
-/// The words ask for one request at most.
-pub fn words_ask_once()
-    ensures { WordsAskOnce }
-{}

@@ -1,4 +1,0 @@
-use Rattle.database_tests.proofs.networks.keep.Goals as goal
-
-pub returns : goal.returns
-returns c = c.marks_stay.ensures.limited c.args.net.now c.limit.new.self c.args.variable c.args.to.now c.limit.result c.limit.ensures

@@ -1,5 +1,0 @@
-use Rattle.database_tests.proofs.Lawfulness.{only_is}
-use Rattle.database_tests.proofs.sample.only.Goals as goal
-
-pub returns-in-Ok : goal.returns-in-Ok
-returns-in-Ok c = only_is c.in-Ok.domain c.in-Ok.ensures

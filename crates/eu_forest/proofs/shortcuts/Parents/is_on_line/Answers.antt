@@ -1,0 +1,16 @@
+use Rattle.std.proofs.Common.{ℕ, List, sym, subst, ◌∙◌}
+use Rattle.std.specs.Prelude.{Option, IfSome}
+use Rattle.eu_forest.specs.declared.shortcuts.Shortcut.{Shortcut}
+use Rattle.eu_forest.specs.Shortcuts.{AreShortcuts, TellsLine}
+use Rattle.eu_forest.proofs.shortcuts.Parents.is_on_line.Goals as goal
+
+pub climb-requires : goal.climb-requires
+climb-requires c =
+    let P : List (Option ℕ) → Type 0 = λ up. AreShortcuts up c.as_slice-2.result.now in
+    let Q : List (Option Shortcut) → Type 0 = λ list. AreShortcuts c.self.inside.up.items list in
+    subst P (sym c.as_slice.ensures.value) (subst Q (sym c.as_slice-2.ensures.value) c.self.invariant)
+
+pub returns : goal.returns
+returns c =
+    let P : List (Option ℕ) → Type 0 = λ up. IfSome c.climb.result (TellsLine up c.args.number c.args.other) in
+    subst P (c.as_slice.ensures.value ∙ c.self.view_is) c.climb.ensures

@@ -1,0 +1,5 @@
+pub mod Ancestors
+pub mod Lines
+pub mod Shortcuts
+pub mod Walks
+pub mod Members

@@ -1,6 +1,0 @@
-use Rattle.std.specs.Prelude.{ℕ, ◌<◌}
-use Rattle.lawful_kinds.specs.Terms.{FieldFits, scope_of}
-use Rattle.lawful_kinds.proofs.accesses.fits_any.Given as goal
-
-abbrev pub invariant-loop-class : goal.invariant-loop-class
-invariant-loop-class l = (class : ℕ) → class < l.class → FieldFits l.model (scope_of l.place) class l.access.field l.access.value → ⊥

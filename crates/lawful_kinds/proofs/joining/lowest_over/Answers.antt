@@ -1,9 +1,0 @@
-use Rattle.std.proofs.Common.{refl}
-use Rattle.lawful_kinds.proofs.Rising.{over_both}
-use Rattle.lawful_kinds.proofs.Under.{self_under}
-use Rattle.lawful_kinds.proofs.joining.lowest_over.Goals as goal
-
-pub returns-then-is_under : goal.returns-then-is_under
-returns-then-is_under c =
-    let model = c.args.model.now in
-    over_both model c.args.first c.args.other c.args.first (self_under model c.args.first c.args.first refl) (c.if-is_under.ensures.0 refl) (λ class under over. under)

@@ -1,6 +1,0 @@
-use Rattle.std.specs.Prelude.{take, All}
-use Rattle.lawful_kinds.specs.Terms.{IsNamed}
-use Rattle.lawful_kinds.proofs.terms.first_named.Given as goal
-
-abbrev pub invariant-loop-term : goal.invariant-loop-term
-invariant-loop-term l = All (λ term. IsNamed term → ⊥) (take l.term-index l.terms)

@@ -1,6 +1,0 @@
-use Rattle.std.specs.Prelude.{take, All}
-use Rattle.lawful_models.specs.Classes.{HasLawfulMembers}
-use Rattle.lawful_models.proofs.classes.have_lawful_members.Given as goal
-
-abbrev pub invariant-loop-class : goal.invariant-loop-class
-invariant-loop-class l = All (HasLawfulMembers l.model) (take l.class-index l.classes)

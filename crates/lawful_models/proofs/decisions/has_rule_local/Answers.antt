@@ -1,8 +1,0 @@
-use Rattle.lawful_kinds.proofs.Telling.{told_not, told_so}
-use Rattle.lawful_models.proofs.decisions.has_rule_local.Goals as goal
-
-pub returns-in-Some : goal.returns-in-Some
-returns-in-Some c = told_so _ (c.in-Some.ensures.0, _, c.in-Some.ensures.1, c.in-Some.ensures.2)
-
-pub returns-in-None : goal.returns-in-None
-returns-in-None c = told_not _ (λ has. c.in-None.ensures has.0 has.1 has.2 has.3)

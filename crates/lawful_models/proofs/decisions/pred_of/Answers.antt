@@ -1,8 +1,0 @@
-use Rattle.lawful_models.proofs.Tokening.{pred_told, no_root}
-use Rattle.lawful_models.proofs.decisions.pred_of.Goals as goal
-
-pub returns-in-Some : goal.returns-in-Some
-returns-in-Some c = pred_told c.args.model.now c.args.token.now c.in-Some.root.now c.in-Some.ensures c.as_slice.result.now c.as_slice.ensures c.pred_after.result c.pred_after.ensures
-
-pub returns-in-None : goal.returns-in-None
-returns-in-None c = no_root c.args.model.now c.args.token.now c.in-None.ensures

@@ -1,6 +1,0 @@
-use Rattle.model_core.specs.Naming.{file_names}
-use Rattle.lawful_models.proofs.Scoping.{apart_told}
-use Rattle.lawful_models.proofs.naming.are_apart.Goals as goal
-
-pub returns : goal.returns
-returns c = apart_told (file_names c.args.model.now) c.add_file.new.names c.add_file.result c.add_file.ensures

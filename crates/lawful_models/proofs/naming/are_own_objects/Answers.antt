@@ -1,7 +1,0 @@
-use Rattle.std.proofs.Common.{List, ◌↔◌, IsTrue, All, map, subst}
-use Rattle.model_core.specs.declared.class.Object.{Object}
-use Rattle.lawful_models.specs.Naming.{IsOwnName}
-use Rattle.lawful_models.proofs.naming.are_own_objects.Goals as goal
-
-pub returns : goal.returns
-returns c = subst (λ (list : List Object). IsTrue c.have_form.result ↔ All IsOwnName (map (λ (o : Object). o.name) list)) c.as_slice.ensures c.have_form.ensures

@@ -1,6 +1,0 @@
-use Rattle.model_core.specs.Naming.{IsGlobalName}
-use Rattle.lawful_models.proofs.Counting.{AreSoBelow}
-use Rattle.lawful_models.proofs.naming.have_global_names.Given as goal
-
-abbrev pub invariant-loop-number : goal.invariant-loop-number
-invariant-loop-number l = AreSoBelow (λ number variable. IsGlobalName number variable.name) l.globals l.number

@@ -1,7 +1,0 @@
-use Rattle.std.specs.Prelude.{◌≡◌, ◌<◌, ℕ, Some}
-use Rattle.lineage.specs.declared.lineage.Standing.TheVariants.{Rooted}
-use Rattle.lineage.specs.Lines.{standing_in}
-use Rattle.lawful_models.proofs.parents.are_rooted.Given as goal
-
-abbrev pub invariant-loop-number : goal.invariant-loop-number
-invariant-loop-number l = (number : ℕ) → number < l.number → standing_in l.lineage.marks.items number ≡ Some Rooted

@@ -1,8 +1,0 @@
-use Rattle.std.proofs.Common.{◌∙◌, sym, subst}
-use Rattle.lineage.specs.Lines.{AreParents}
-use Rattle.lawful_kinds.proofs.Telling.{never}
-use Rattle.lawful_models.proofs.parents.class_parents.Goals as goal
-
-pub returns-then-not-are_there : goal.returns-then-not-are_there
-returns-then-not-are_there c = λ line.
-    never _ c.if-not-are_there.ensures (subst AreParents (sym (c.as_slice.ensures.value ∙ c.in_ok-parents.ensures)) line.there)

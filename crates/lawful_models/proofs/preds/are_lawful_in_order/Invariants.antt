@@ -1,7 +1,0 @@
-use Rattle.lawful_models.specs.Preds.{HasAllLawful}
-use Rattle.lawful_models.proofs.Counting.{AreSoBelow}
-use Rattle.lawful_models.proofs.preds.are_lawful_in_order.Given as goal
-
--- the predicates so far are lawful
-abbrev pub invariant-loop-number : goal.invariant-loop-number
-invariant-loop-number l = AreSoBelow (HasAllLawful l.model) l.preds l.number

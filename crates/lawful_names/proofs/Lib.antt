@@ -1,4 +1,0 @@
-pub mod Adding
-pub mod Pathing
-pub mod Taking
-pub mod Fielding

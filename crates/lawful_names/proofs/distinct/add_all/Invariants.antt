@@ -1,5 +1,0 @@
-use Rattle.lawful_names.proofs.Adding.{AddedUpTo}
-use Rattle.lawful_names.proofs.distinct.add_all.Given as goal
-
-abbrev pub invariant-loop-item : goal.invariant-loop-item
-invariant-loop-item g l = AddedUpTo g.T.Named.named l.initial.names l.items l.item-index l.names

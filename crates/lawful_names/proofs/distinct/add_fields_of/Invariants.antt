@@ -1,6 +1,0 @@
-use Rattle.std.specs.Prelude.{map, take}
-use Rattle.lawful_names.specs.Distinct.{HasMore, field_key}
-use Rattle.lawful_names.proofs.distinct.add_fields_of.Given as goal
-
-abbrev pub invariant-loop-field : goal.invariant-loop-field
-invariant-loop-field l = HasMore l.initial.names (map (field_key l.class) (take l.field-index l.fields)) l.names

@@ -1,6 +1,0 @@
-use Rattle.lawful_names.specs.Distinct.{pred_key}
-use Rattle.lawful_names.proofs.Adding.{AddedUpTo}
-use Rattle.lawful_names.proofs.distinct.add_preds.Given as goal
-
-abbrev pub invariant-loop-pred : goal.invariant-loop-pred
-invariant-loop-pred l = AddedUpTo pred_key l.initial.names l.preds l.pred-index l.names

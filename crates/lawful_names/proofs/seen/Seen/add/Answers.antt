@@ -1,9 +1,0 @@
-use Rattle.std.proofs.Common.{subst}
-use Rattle.lawful_names.specs.Distinct.{AddsNew}
-use Rattle.lawful_names.proofs.Adding.{adds_new}
-use Rattle.lawful_names.proofs.seen.Seen.add.Goals as goal
-
-pub returns : goal.returns
-returns g c =
-    subst (λ old. AddsNew old c.args.key c.in_ok-_place.is_new c.insert_full.new.self.keys) c.self.view_is
-    (adds_new _ c.requires c.self.inside.keys.keys c.insert_full.new.self.keys c.args.key c.in_ok-_place.is_new c.in_ok-_place.ensures.added c.in_ok-_place.ensures.keys)

@@ -1,4 +1,0 @@
-pub mod Amounts
-pub mod Nested
-pub mod Numbered
-pub mod Rules

@@ -1,2 +1,0 @@
-pub mod Separated
-pub mod ReadBack

@@ -1,5 +1,0 @@
-use Rattle.line_laws.proofs.ReadBack.{lines_are_read_back}
-use Rattle.line_laws.proofs.laws.decision_lines_are_read_back.Goals as goal
-
-pub returns : goal.returns
-returns c = lines_are_read_back

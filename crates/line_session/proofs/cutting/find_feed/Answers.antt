@@ -1,6 +1,0 @@
-use Rattle.std.proofs.Common.{arith}
-use Rattle.line_session.proofs.Streams.{IsOneLine-more}
-use Rattle.line_session.proofs.cutting.find_feed.Goals as goal
-
-pub loop-i-preserved : goal.loop-i-preserved
-loop-i-preserved c = IsOneLine-more _ _ (omega arith) c.loop-i.invariant c.if-byte-eq10.false

@@ -1,6 +1,0 @@
-use Rattle.std.proofs.Common.{take}
-use Rattle.line_session.specs.Pieces.{IsOneLine}
-use Rattle.line_session.proofs.cutting.find_feed.Given as goal
-
-abbrev pub invariant-loop-i : goal.invariant-loop-i
-invariant-loop-i l = IsOneLine (take l.i l.bytes)

@@ -1,5 +1,0 @@
-use Rattle.line_session.proofs.LawLemmas.{fault_writes_front}
-use Rattle.line_session.proofs.laws.fault_writes_front.Goals as goal
-
-pub returns : goal.returns
-returns g c = fault_writes_front g.T.Responder.answers

@@ -1,5 +1,0 @@
-use Rattle.line_session.proofs.LawLemmas.{lines_have_a_session}
-use Rattle.line_session.proofs.laws.lines_have_a_session.Goals as goal
-
-pub returns : goal.returns
-returns g c = lines_have_a_session g.T.Responder.answers

@@ -1,5 +1,0 @@
-use Rattle.line_session.proofs.LawLemmas.{session_is_one}
-use Rattle.line_session.proofs.laws.session_is_one.Goals as goal
-
-pub returns : goal.returns
-returns g c = session_is_one g.T.Responder.answers

@@ -1,8 +1,0 @@
-use Rattle.std.proofs.Common.{take}
-use Rattle.lineage.specs.declared.lineage.Standing.TheVariants as standings
-use Rattle.lineage.specs.declared.walk.Mark.TheVariants as mark
-use Rattle.lineage.specs.Walks.{MarksAll}
-use Rattle.lineage.proofs.walk.settle_circle.Given as goal
-
-abbrev pub invariant-loop-number : goal.invariant-loop-number
-invariant-loop-number l = MarksAll (take l.number-index l.circle) (mark.Known standings.OnCircle) l.initial.marks l.marks

@@ -1,4 +1,0 @@
-pub mod Ancestors
-pub mod Lines
-pub mod Shortcuts
-pub mod Walks

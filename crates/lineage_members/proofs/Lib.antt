@@ -1,3 +1,0 @@
-pub mod Marking
-mod Sharing
-mod Handing

@@ -1,7 +1,0 @@
-use Rattle.std.proofs.Common.{◌≡◌, ◌++◌, drop, map}
-use Rattle.lineage_members.specs.Members.{is_owner}
-use Rattle.lineage_members.proofs.marks.own_marked.Given as goal
-
--- those so far and those that are left are all
-abbrev pub invariant-loop-owner : goal.invariant-loop-owner
-invariant-loop-owner l = l.marks ++ map (is_owner l.thing) (drop l.owner-index l.owners) ≡ map (is_owner l.thing) l.owners

@@ -1,8 +1,0 @@
-use Rattle.std.proofs.Common.{◌≡◌, ◌++◌, drop, map}
-use Rattle.lineage_members.specs.Members.{place_or_first}
-use Rattle.lineage_members.proofs.members.places_of.Given as goal
-
--- those so far and those that are left are all
-abbrev pub invariant-loop-thing : goal.invariant-loop-thing
-invariant-loop-thing l =
-    l.found.items ++ map (place_or_first l.places) (drop l.thing-index l.things) ≡ map (place_or_first l.places) l.things

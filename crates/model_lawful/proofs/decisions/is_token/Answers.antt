@@ -1,0 +1,9 @@
+use Rattle.std.proofs.Common.{refl}
+use Rattle.model_typing.proofs.Telling.{told_not, told_so}
+use Rattle.model_lawful.proofs.decisions.is_token.Goals as goal
+
+pub returns-in-Some : goal.returns-in-Some
+returns-in-Some c = told_so _ (c.in-Some.ensures.0, c.in-Some.ensures.1)
+
+pub returns-in-None : goal.returns-in-None
+returns-in-None c = told_not _ (λ has. c.in-None.ensures has.0.pred (has.0, has.1, refl))

@@ -1,0 +1,12 @@
+pub mod Adding
+pub mod Pathing
+pub mod Taking
+pub mod Fielding
+pub mod Ways
+pub mod Seeing
+pub mod Nesting
+pub mod Spots
+pub mod Listing
+pub mod Judging
+pub mod Splitting
+pub mod Marking

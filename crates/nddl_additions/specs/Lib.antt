@@ -1,5 +1,0 @@
-pub mod Arguments
-pub mod Calls
-pub mod Locals
-pub mod Slots
-pub mod nddl_arguments

@@ -1,2 +1,0 @@
--- What is passed on of nddl_arguments.
-pub use Rattle.nddl_arguments.specs.Constraints

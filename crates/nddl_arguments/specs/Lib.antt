@@ -1,5 +1,0 @@
-pub mod Arguments
-pub mod Calls
-pub mod Constraints
-pub mod Slots
-pub mod Values

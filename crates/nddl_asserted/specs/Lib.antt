@@ -1,4 +1,0 @@
-pub mod Asserted
-pub mod Constraints
-pub mod Decisions
-pub mod nddl_roots

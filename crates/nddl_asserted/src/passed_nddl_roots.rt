@@ -1,3 +1,0 @@
-//! What is passed on of nddl_roots.
-
-pub use nddl_roots::{Outside, posted_roots};

@@ -1,4 +1,0 @@
-//! What is passed on of eu_name.
-
-pub use eu_name::sequence::Sequence;
-pub use eu_name::text::Text;

@@ -1,9 +1,0 @@
-use Rattle.nddl_known.specs.nddl_lines.Facts.{facts_of}
-use Rattle.nddl_classes.proofs.Steps.{predicate_step}
-use Rattle.nddl_classes.proofs.members.note_predicate.Goals as goal
-
-pub returns : goal.returns
-returns c =
-    predicate_step (facts_of c.args.basis.now) c.args.decl c.args.name.now c.args.parameters.now c.args.first.now
-    c.note_typed.new.first c.note_names.new.first c.note_at.new.first c.in_ok-noted.noted c.kind_if.result
-    c.in_ok-note_typed.ensures c.in_ok-noted.ensures c.in_ok-note_names.ensures c.kind_if.ensures c.note_at.ensures

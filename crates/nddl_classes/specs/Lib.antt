@@ -1,3 +1,0 @@
-pub mod Classes
-pub mod Members
-pub mod nddl_known

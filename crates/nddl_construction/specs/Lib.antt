@@ -1,0 +1,9 @@
+pub mod Fields
+pub mod Fitting
+pub mod Reading
+pub mod Scene
+pub mod Kept
+pub mod Outside
+pub mod Builders
+pub mod Classes
+pub mod Passing

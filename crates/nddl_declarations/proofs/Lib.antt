@@ -1,0 +1,6 @@
+pub mod Depends
+pub mod Settled
+pub mod Counting
+pub mod Placing
+pub mod Steps
+pub mod Telling

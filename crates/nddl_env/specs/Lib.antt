@@ -1,0 +1,5 @@
+pub mod Listing
+pub mod Objects
+pub mod Shapes
+pub mod Sharing
+pub mod Lexicons

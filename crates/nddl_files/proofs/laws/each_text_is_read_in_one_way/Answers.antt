@@ -1,5 +1,0 @@
-use Rattle.nddl_files.proofs.OneReading.{one_reading}
-use Rattle.nddl_files.proofs.laws.each_text_is_read_in_one_way.Goals as goal
-
-pub returns : goal.returns
-returns c = one_reading

@@ -1,5 +1,0 @@
-use Rattle.nddl_given.proofs.Once.{stand_once}
-use Rattle.nddl_given.proofs.laws.each_declaration_stands_once.Goals as goal
-
-pub returns : goal.returns
-returns c = stand_once

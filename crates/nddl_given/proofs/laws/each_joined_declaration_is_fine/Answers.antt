@@ -1,5 +1,0 @@
-use Rattle.nddl_given.proofs.Each.{each_joined}
-use Rattle.nddl_given.proofs.laws.each_joined_declaration_is_fine.Goals as goal
-
-pub returns : goal.returns
-returns c = each_joined

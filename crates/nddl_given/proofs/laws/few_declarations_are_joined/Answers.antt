@@ -1,5 +1,0 @@
-use Rattle.nddl_given.proofs.Few.{joins_few}
-use Rattle.nddl_given.proofs.laws.few_declarations_are_joined.Goals as goal
-
-pub returns : goal.returns
-returns c = joins_few

@@ -1,4 +1,0 @@
-pub mod Fine
-pub mod Given
-pub mod Nodes
-pub mod Trees

@@ -1,3 +1,0 @@
-pub mod Globals
-pub mod nddl_data
-pub mod nddl_lexicon

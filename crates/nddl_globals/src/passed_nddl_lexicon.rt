@@ -1,3 +1,0 @@
-//! What is passed on of nddl_lexicon.
-
-pub use nddl_lexicon::{Premises, lexicon, objects_by_class};

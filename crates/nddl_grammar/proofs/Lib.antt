@@ -1,0 +1,16 @@
+pub mod OneSort
+pub mod Lists
+pub mod Sequence
+pub mod Combine
+pub mod Many
+pub mod Taking
+pub mod Choices
+pub mod Walking
+pub mod Named
+pub mod Depth
+pub mod Flat
+pub mod ExactExpressions
+pub mod ExactStatements
+pub mod ExactPlain
+pub mod ExactBlocks
+pub mod ExactNested

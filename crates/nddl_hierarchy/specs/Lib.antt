@@ -1,0 +1,7 @@
+pub mod Ancestors
+pub mod Decls
+pub mod Facts
+pub mod Lines
+pub mod Members
+pub mod Shorter
+pub mod Inherited

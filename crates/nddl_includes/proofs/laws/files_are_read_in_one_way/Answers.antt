@@ -1,5 +1,0 @@
-use Rattle.nddl_includes.proofs.OneOutcome.{one_outcome}
-use Rattle.nddl_includes.proofs.laws.files_are_read_in_one_way.Goals as goal
-
-pub returns : goal.returns
-returns g c = λ reader. one_outcome (g.R.TextReader.reads reader)

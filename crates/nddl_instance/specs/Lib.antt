@@ -1,0 +1,12 @@
+pub mod Modelled
+pub mod Numbers
+pub mod Putting
+pub mod Outside
+pub mod Roots
+pub mod Globals
+pub mod Asserted
+pub mod Constraints
+pub mod Decisions
+pub mod Posed
+pub mod Renumbered
+pub mod Settings

@@ -1,5 +1,0 @@
-pub mod Fills
-pub mod Order
-pub mod Sites
-pub mod Steps
-pub mod Stretches

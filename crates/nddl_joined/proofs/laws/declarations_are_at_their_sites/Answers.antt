@@ -1,5 +1,0 @@
-use Rattle.nddl_joined.proofs.Sites.{at_sites}
-use Rattle.nddl_joined.proofs.laws.declarations_are_at_their_sites.Goals as goal
-
-pub returns : goal.returns
-returns c = at_sites

@@ -1,5 +1,0 @@
-use Rattle.nddl_joined.proofs.Order.{places_ordered}
-use Rattle.nddl_joined.proofs.laws.places_are_in_order.Goals as goal
-
-pub returns : goal.returns
-returns c = places_ordered

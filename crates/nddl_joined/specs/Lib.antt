@@ -1,3 +1,0 @@
-pub mod Joined
-pub mod Place
-pub mod nddl_ast

@@ -1,3 +1,0 @@
-pub mod Depends
-pub mod Settled
-pub mod Passed

@@ -1,3 +1,0 @@
-//! What is passed on of nddl_lines.
-
-pub use nddl_lines::Basis;

@@ -1,0 +1,11 @@
+pub mod Fine
+pub mod Given
+pub mod Nodes
+pub mod Trees
+pub mod Lawful
+pub mod TypeOutcomes
+pub mod Declared
+pub mod Placed
+pub mod Tables
+pub mod RuleOutcomes
+pub mod Ordered

@@ -1,6 +1,0 @@
-pub mod Listing
-pub mod Objects
-pub mod Shapes
-pub mod Sharing
-pub mod Lexicons
-pub mod nddl_data

@@ -1,8 +1,0 @@
-pub mod Above
-pub mod Adding
-pub mod Climbing
-pub mod Extending
-pub mod Keeping
-pub mod Passing
-pub mod Placing
-pub mod Passed

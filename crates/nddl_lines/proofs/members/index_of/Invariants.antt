@@ -1,7 +1,0 @@
-use Rattle.nddl_sorts.specs.nddl_scope.Firsts.{HasFirstsTo}
-use Rattle.nddl_lines.specs.Members.{is_field_named, is_predicate_named}
-use Rattle.nddl_lines.proofs.members.index_of.Given as goal
-
-abbrev pub invariant-loop-place : goal.invariant-loop-place
-invariant-loop-place l =
-    HasFirstsTo is_field_named l.members l.place l.places.fields × HasFirstsTo is_predicate_named l.members l.place l.places.predicates

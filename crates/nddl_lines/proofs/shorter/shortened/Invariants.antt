@@ -1,7 +1,0 @@
-use Rattle.nddl_lines.specs.Shorter.{is_marked}
-use Rattle.nddl_lines.proofs.Passing.{ArePassed}
-use Rattle.nddl_lines.proofs.shorter.shortened.Given as goal
-
--- those that have been dealt with have what stands next on their lines
-abbrev pub invariant-loop-entry : goal.invariant-loop-entry
-invariant-loop-entry l = ArePassed (is_marked l.marks) l.parents l.order l.entry-index l.short.items

@@ -1,8 +1,0 @@
-pub mod Ancestors
-pub mod Decls
-pub mod Facts
-pub mod Lines
-pub mod Members
-pub mod Shorter
-pub mod nddl_scope
-pub mod nddl_sorts

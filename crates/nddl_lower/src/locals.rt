@@ -1,0 +1,84 @@
+//! What the locals of a rule stand for.
+
+ghost use Rattle.std.specs.Prelude.{◌≡◌, IfOk, OnOk, length};
+ghost use Rattle.nddl_terms.specs.Readings.{readings_of};
+ghost use Rattle.nddl_lower.specs.Locals.{with_begun, with_declared, with_text_local};
+
+use super::arguments::argument;
+use super::types::type_shape;
+use model_core::item::{Item, Kind, Term};
+use nddl_ast::expression::Init;
+use nddl_ast::statement::Variable;
+use nddl_terms::growth::{term_pair, unnamed};
+use nddl_terms::{Growth, Made, Reading, Shape, Stand};
+use std::alloc::{AllocError, Global};
+
+// The local of this shape that the text declares there. Answers its number.
+fn add_declared(
+    alloc: Global,
+    at: u32,
+    shape: &Shape,
+    growth: &mut Growth,
+) -> Result<u32, AllocError>
+    ensures grown { OnOk result (growth.new ≡ with_declared at shape.now growth.old) }
+    ensures number { IfOk result (λ number. number ≡ length growth.old.locals) }
+{
+    let local = unnamed(alloc, shape)?;
+    let number = growth.add_local(local)?;
+    let stand = Stand::Value {
+        term: Term::Local(number),
+        class: shape.class,
+    };
+    growth.named.push(Made { at, stand })?;
+    Ok(number)
+}
+
+// The same with what it begins as.
+fn add_begun(
+    alloc: Global,
+    reading: &Reading<'_>,
+    turns: &[Made],
+    at: u32,
+    shape: &Shape,
+    init: &Option<Init>,
+    growth: &mut Growth,
+) -> Result<(), AllocError>
+    ensures { OnOk result (growth.new
+        ≡ with_begun (readings_of reading.now) turns.now at shape.now init.now growth.old) }
+{
+    match init {
+        Some(Init::Expr(expr)) => {
+            let term = argument(alloc, reading, turns, expr, growth)?;
+            let number = add_declared(alloc, at, shape, growth)?;
+            let terms = term_pair(alloc, Term::Local(number), term)?;
+            growth.add_item(Item::Constraint(Kind::Eq, terms))
+        }
+        _ => {
+            add_declared(alloc, at, shape, growth)?;
+            Ok(())
+        }
+    }
+}
+
+/// A local of the text.
+pub fn add_variable(
+    alloc: Global,
+    reading: &Reading<'_>,
+    turns: &[Made],
+    variable: &Variable,
+    growth: &mut Growth,
+) -> Result<(), AllocError>
+    ensures { OnOk result (growth.new
+        ≡ with_text_local (readings_of reading.now) turns.now variable.now growth.old) }
+{
+    let shape = type_shape(alloc, reading, &variable.declared)?;
+    add_begun(
+        alloc,
+        reading,
+        turns,
+        variable.name.at,
+        &shape,
+        &variable.init,
+        growth,
+    )
+}

@@ -1,0 +1,239 @@
+//! What variables of a type may be.
+
+ghost use Rattle.std.specs.Prelude.{◌≡◌, IfOk};
+ghost use Rattle.std.specs.List.{filter_map};
+ghost use Rattle.nddl_terms.specs.Readings.{readings_of};
+ghost use Rattle.nddl_lower.specs.Locals.{range_base, set_base, base_shape, bounds_base, class_shape, constant_number, range_end, file_shape, known_number, meaning_number, meaning_shape, stand_shape, truth_shape, type_shape, value_number, whole_shape, with_base};
+
+use super::arguments::truth_value;
+use super::slots::class_base;
+use model_core::item::Term;
+use model_core::variable::{Base, ValueKind};
+use nddl_ast::expression::{BaseType, Bounds, Constant, Type, Value};
+use nddl_declarations::domains::{range, set_of_values};
+use nddl_terms::lexicon::copy_base;
+use nddl_terms::stands::file_stand;
+use nddl_terms::{Lexicon, Meaning, Reading, Shape, Stand};
+use std::alloc::{AllocError, Global};
+
+// An object of the class.
+fn class_shape(alloc: Global, lexicon: &Lexicon, class: u32) -> Result<Shape, AllocError>
+    ensures { IfOk result (λ shape. shape ≡ class_shape lexicon.now class) }
+{
+    let base = class_base(alloc, lexicon, class)?;
+    Ok(Shape {
+        kind: ValueKind::Object,
+        base,
+        class,
+    })
+}
+
+// Any whole number.
+fn whole_shape() -> Result<Shape, AllocError>
+    ensures { IfOk result (λ shape. shape ≡ whole_shape) }
+{
+    let domain = range(-1_000_000, 1_000_000)?;
+    Ok(Shape {
+        kind: ValueKind::Int,
+        base: Base::Given(domain),
+        class: 0,
+    })
+}
+
+fn truth_shape(alloc: Global) -> Result<Shape, AllocError>
+    ensures { IfOk result (λ shape. shape ≡ truth_shape) }
+{
+    let domain = set_of_values(alloc, &[0, 1])?;
+    Ok(Shape {
+        kind: ValueKind::Bool,
+        base: Base::Given(domain),
+        class: 0,
+    })
+}
+
+// An object of the class that a name stands for.
+fn stand_shape(alloc: Global, lexicon: &Lexicon, stand: Option<Stand>) -> Result<Shape, AllocError>
+    ensures { IfOk result (λ shape. shape ≡ stand_shape lexicon.now stand) }
+{
+    match stand {
+        Some(Stand::Class(class)) => class_shape(alloc, lexicon, class),
+        _ => whole_shape(),
+    }
+}
+
+// An equal shape in memory of its own.
+fn copy_shape(shape: &Shape) -> Result<Shape, AllocError>
+    ensures { IfOk result (λ copied. copied ≡ shape.now) }
+{
+    let base = copy_base(&shape.base)?;
+    Ok(Shape {
+        kind: shape.kind,
+        base,
+        class: shape.class,
+    })
+}
+
+// What the name of this place in the scope is as a type.
+fn file_shape(alloc: Global, lexicon: &Lexicon, place: u32) -> Result<Shape, AllocError>
+    ensures { IfOk result (λ shape. shape ≡ file_shape lexicon.now place) }
+{
+    match lexicon.types.named(place as usize) {
+        Some(shape) => copy_shape(shape),
+        None => stand_shape(alloc, lexicon, file_stand(lexicon, place)),
+    }
+}
+
+fn meaning_shape(
+    alloc: Global,
+    lexicon: &Lexicon,
+    meaning: Option<Meaning>,
+) -> Result<Shape, AllocError>
+    ensures { IfOk result (λ shape. shape ≡ meaning_shape lexicon.now meaning) }
+{
+    match meaning {
+        Some(Meaning::Scope(place)) => file_shape(alloc, lexicon, place),
+        Some(Meaning::BuiltIn(class)) => class_shape(alloc, lexicon, class),
+        _ => whole_shape(),
+    }
+}
+
+// What a variable may be, before the bounds of its type restrict it.
+fn base_shape(alloc: Global, reading: &Reading<'_>, base: &BaseType) -> Result<Shape, AllocError>
+    ensures { IfOk result (λ shape. shape ≡ base_shape (readings_of reading.now) base.now) }
+{
+    match base {
+        BaseType::Bool => truth_shape(alloc),
+        BaseType::Named(name) => {
+            let meaning = reading.names.meaning(name.at);
+            meaning_shape(alloc, reading.lexicon, meaning)
+        }
+        _ => whole_shape(),
+    }
+}
+
+// A value that is known.
+fn known_number(stand: Option<Stand>) -> Option<i32>
+    ensures { result ≡ known_number stand }
+{
+    match stand {
+        Some(
+            Stand::Value {
+                term: Term::Lit(value),
+                ..
+            },
+        ) => Some(value),
+        _ => None,
+    }
+}
+
+// What a name among the values of a set stands for.
+fn meaning_number(lexicon: &Lexicon, meaning: Option<Meaning>) -> Option<i32>
+    ensures { result ≡ meaning_number lexicon.now meaning }
+{
+    match meaning {
+        Some(Meaning::Scope(place)) => known_number(file_stand(lexicon, place)),
+        _ => None,
+    }
+}
+
+fn constant_number(constant: Constant) -> Option<i32>
+    ensures { result ≡ constant_number constant }
+{
+    match constant {
+        Constant::Number(number) => Some(number),
+        Constant::Truth(truth) => Some(truth_value(truth)),
+        Constant::Decimal(_) => None,
+    }
+}
+
+fn value_number(reading: &Reading<'_>, value: &Value) -> Option<i32>
+    ensures { result ≡ value_number (readings_of reading.now) value.now }
+{
+    match value {
+        Value::Name(name) => meaning_number(reading.lexicon, reading.names.meaning(name.at)),
+        Value::Literal(literal) => constant_number(literal.constant),
+    }
+}
+
+// An end of a range.
+fn end_number(reading: &Reading<'_>, value: &Value) -> i32
+    ensures { result ≡ range_end (readings_of reading.now) value.now }
+{
+    match value_number(reading, value) {
+        Some(number) => number,
+        None => 0,
+    }
+}
+
+// The numbers of these values.
+fn value_numbers(
+    alloc: Global,
+    reading: &Reading<'_>,
+    values: &[Value],
+) -> Result<Vec<i32>, AllocError>
+    ensures { IfOk result (λ numbers. numbers.items ≡ filter_map (value_number (readings_of reading.now)) values.now) }
+{
+    let mut numbers = Vec::new(alloc);
+    for value in values {
+        if let Some(number) = value_number(reading, value) {
+            numbers.push(number)?;
+        }
+    }
+    Ok(numbers)
+}
+
+fn range_base(reading: &Reading<'_>, least: &Value, greatest: &Value) -> Result<Base, AllocError>
+    ensures { IfOk result (λ base. base ≡ range_base (readings_of reading.now) least.now greatest.now) }
+{
+    let domain = range(end_number(reading, least), end_number(reading, greatest))?;
+    Ok(Base::Given(domain))
+}
+
+fn set_base(alloc: Global, reading: &Reading<'_>, values: &[Value]) -> Result<Base, AllocError>
+    ensures { IfOk result (λ base. base ≡ set_base (readings_of reading.now) values.now) }
+{
+    let numbers = value_numbers(alloc, reading, values)?;
+    Ok(Base::Given(set_of_values(alloc, numbers.as_slice())?))
+}
+
+// What the bounds of a type leave, if there are any.
+fn bounds_base(
+    alloc: Global,
+    reading: &Reading<'_>,
+    bounds: &Bounds,
+) -> Result<Option<Base>, AllocError>
+    ensures { IfOk result (λ base. base ≡ bounds_base (readings_of reading.now) bounds.now) }
+{
+    match bounds {
+        Bounds::All => Ok(None),
+        Bounds::Range {
+            least,
+            greatest,
+            ..
+        } => Ok(Some(range_base(reading, least, greatest)?)),
+        Bounds::Set { values, .. } => Ok(Some(set_base(alloc, reading, values.as_slice())?)),
+    }
+}
+
+// The shape with this base in place of its own, if there is one.
+fn with_base(shape: Shape, base: Option<Base>) -> Shape
+    ensures { result ≡ with_base shape base }
+{
+    match base {
+        Some(base) => Shape {
+            kind: shape.kind,
+            base,
+            class: shape.class,
+        },
+        None => shape,
+    }
+}
+
+/// What a variable of the type may be.
+pub fn type_shape(alloc: Global, reading: &Reading<'_>, written: &Type) -> Result<Shape, AllocError>
+    ensures { IfOk result (λ shape. shape ≡ type_shape (readings_of reading.now) written.now) }
+{
+    let base = bounds_base(alloc, reading, &written.bounds)?;
+    let shape = base_shape(alloc, reading, &written.base)?;
+    Ok(with_base(shape, base))
+}

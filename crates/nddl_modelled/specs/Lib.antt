@@ -1,3 +1,0 @@
-pub mod Modelled
-pub mod Numbers
-pub mod Putting

@@ -1,5 +1,0 @@
-use Rattle.nddl_parser.proofs.OneOutcome.{one_outcome}
-use Rattle.nddl_parser.proofs.laws.each_text_has_one_outcome.Goals as goal
-
-pub returns : goal.returns
-returns c = one_outcome

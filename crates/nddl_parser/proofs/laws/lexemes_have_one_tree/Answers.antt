@@ -1,5 +1,0 @@
-use Rattle.nddl_parser.proofs.OneOutcome.{one_tree}
-use Rattle.nddl_parser.proofs.laws.lexemes_have_one_tree.Goals as goal
-
-pub returns : goal.returns
-returns c = one_tree

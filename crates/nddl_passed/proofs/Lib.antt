@@ -1,4 +1,0 @@
-mod Building
-pub mod Finding
-mod Keeping
-pub mod Props

@@ -1,3 +1,0 @@
-pub mod Builders
-pub mod Classes
-pub mod Passing

@@ -1,9 +1,0 @@
-use Rattle.std.proofs.Common.{◌≡◌, drop, map}
-use Rattle.nddl_paths.specs.Predicates.{is_pred_given_along}
-use Rattle.nddl_paths.proofs.predicates.is_pred_given_along.Given as goal
-
--- it is so along those that are left where it is so along all
-abbrev pub invariant-loop-entry : goal.invariant-loop-entry
-invariant-loop-entry l =
-    is_pred_given_along l.scope (map (λ decl. decl.now) l.decls) l.name (drop l.entry-index l.line)
-    ≡ is_pred_given_along l.scope (map (λ decl. decl.now) l.decls) l.name l.line

@@ -1,9 +1,0 @@
-use Rattle.std.proofs.Common.{◌≡◌, drop}
-use Rattle.nddl_schema.specs.nddl_classes.Members.{parameters_of}
-use Rattle.nddl_lines.specs.Members.{named_typed}
-use Rattle.nddl_paths.proofs.predicates.parameter_named.Given as goal
-
--- what is found among those that are left is found among all
-abbrev pub invariant-loop-part : goal.invariant-loop-part
-invariant-loop-part l =
-    named_typed l.name (parameters_of (drop l.part-index l.parts)) ≡ named_typed l.name (parameters_of l.parts)

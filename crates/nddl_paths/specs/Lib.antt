@@ -1,8 +1,0 @@
-pub mod Fields
-pub mod Files
-pub mod Paths
-pub mod Predicates
-pub mod Seen
-pub mod Steps
-pub mod nddl_classes
-pub mod nddl_schema

@@ -1,3 +1,0 @@
-//! What is passed on of nddl_classes.
-
-pub use nddl_schema::passed_nddl_classes::class_fault;

@@ -1,8 +1,0 @@
-use Rattle.std.proofs.Common.{◌≡◌, ◌+◌, ◌++◌, drop}
-use Rattle.nddl_posed.specs.Renumbered.{field_globals}
-use Rattle.nddl_posed.proofs.renumbered.push_fields.Given as goal
-
--- the globals so far and those of the locals that are left are all
-abbrev pub invariant-loop-place : goal.invariant-loop-place
-invariant-loop-place l =
-    l.globals ++ field_globals (l.count + l.place) (drop l.place l.locals) ≡ l.initial.globals ++ field_globals l.count l.locals

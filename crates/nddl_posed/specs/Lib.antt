@@ -1,4 +1,0 @@
-pub mod Posed
-pub mod Renumbered
-pub mod Settings
-pub mod nddl_lexicon

@@ -1,4 +1,0 @@
-pub mod Acts
-pub mod Posted
-pub mod Texts
-pub mod nddl_constructors

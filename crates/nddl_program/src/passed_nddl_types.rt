@@ -1,3 +1,0 @@
-//! What is passed on of nddl_types.
-
-pub use nddl_types::first_wrong;

@@ -1,4 +1,0 @@
-pub mod Sorts
-pub mod Symbols
-pub mod Readers
-pub mod Exact

@@ -1,0 +1,6 @@
+pub mod Fields
+pub mod Files
+pub mod Paths
+pub mod Predicates
+pub mod Seen
+pub mod Steps

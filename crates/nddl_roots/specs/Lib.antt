@@ -1,4 +1,0 @@
-pub mod Outside
-pub mod Roots
-pub mod nddl_additions
-pub mod nddl_arguments

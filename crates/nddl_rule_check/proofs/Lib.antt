@@ -1,0 +1,4 @@
+pub mod Labels
+pub mod ArgumentSteps
+pub mod Seeing
+pub mod Steps

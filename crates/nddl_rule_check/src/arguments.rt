@@ -1,0 +1,189 @@
+//! What is wrong with arguments where they stand.
+
+ghost use Rattle.std.specs.Prelude.{◌≡◌, None, IfOk, OnOk};
+ghost use Rattle.nddl_symbols.specs.Finding.{earliest_fault};
+ghost use Rattle.nddl_hierarchy.specs.Facts.{facts_of};
+ghost use Rattle.nddl_resolve.specs.Paths.{around_of};
+ghost use Rattle.nddl_rule_check.specs.Arguments.{argument_faults, arguments_faults, asked_by_type, compared_faults, condition_faults, constraint_faults, init_faults, meant_by, understood_faults};
+
+use super::asked::{Asked, asked_at, takes};
+use super::values::{compared_with, is_unfit};
+use model_core::item::Kind;
+use nddl_ast::TextKind;
+use nddl_ast::expression::{Expr, Init, Type};
+use nddl_ast::statement::Condition;
+use nddl_hierarchy::Basis;
+use nddl_resolve::denoted::settled;
+use nddl_resolve::{Around, Denoted, PathFault, expr_denoted};
+use nddl_symbols::Fault;
+use nddl_symbols::fault::note_at;
+use nddl_symbols::twice::kind_if;
+use nddl_typeexpr::TypeKind;
+use nddl_typeexpr::base::base_kind;
+use std::alloc::{AllocError, Global};
+
+/// Notes what is wrong with what was to be understood in the declaration of this number.
+pub fn note_understood(decl: usize, found: Result<Denoted, PathFault>, first: &mut Option<Fault>)
+    ensures { first.new ≡ earliest_fault first.old (understood_faults decl found) }
+{
+    if let Err(fault) = found {
+        note_at(first, decl, fault.at, Some(fault.kind));
+    }
+}
+
+/// Notes what is wrong with the argument, of which this is asked, where those that are compared before it are of this
+/// kind. Answers what it means.
+#[tactic(auto, using(nddl_symbols::proofs::Earliest::earliest_append))]
+pub fn note_argument(
+    alloc: Global,
+    basis: &Basis<'_>,
+    around: &Around<'_>,
+    decl: usize,
+    asks: Asked,
+    compared: Option<TypeKind>,
+    expr: &Expr,
+    first: &mut Option<Fault>,
+) -> Result<Denoted, AllocError>
+    ensures faults { OnOk result (first.new ≡ earliest_fault first.old
+        (argument_faults (facts_of basis.now) (around_of around.now) decl asks compared expr.now)) }
+    ensures meant { IfOk result (λ meant. meant ≡ meant_by (facts_of basis.now) (around_of around.now) expr.now) }
+{
+    let found = expr_denoted(alloc, basis, around, expr)?;
+    note_understood(decl, found, first);
+    let meant = settled(found);
+    let is_wrong = is_unfit(asks, compared, expr, meant);
+    note_at(
+        first,
+        decl,
+        expr.place(),
+        kind_if(is_wrong, TextKind::WrongType),
+    );
+    Ok(meant)
+}
+
+/// Notes what is wrong with the arguments of a constraint whose name stands there.
+pub fn note_constraint(
+    alloc: Global,
+    basis: &Basis<'_>,
+    around: &Around<'_>,
+    decl: usize,
+    kind: Kind,
+    at: u32,
+    exprs: &[Expr],
+    first: &mut Option<Fault>,
+) -> Result<(), AllocError>
+    ensures { OnOk result (first.new ≡ earliest_fault first.old
+        (constraint_faults (facts_of basis.now) (around_of around.now) decl kind at exprs.now)) }
+{
+    if takes(kind, exprs.len()) {
+        note_arguments(alloc, basis, around, decl, kind, exprs, first)
+    } else {
+        note_at(first, decl, at, Some(TextKind::WrongCount));
+        Ok(())
+    }
+}
+
+// Notes what is wrong with the arguments.
+#[tactic(auto, using(nddl_symbols::proofs::Earliest::earliest_append))]
+fn note_arguments(
+    alloc: Global,
+    basis: &Basis<'_>,
+    around: &Around<'_>,
+    decl: usize,
+    kind: Kind,
+    exprs: &[Expr],
+    first: &mut Option<Fault>,
+) -> Result<(), AllocError>
+    ensures { OnOk result (first.new ≡ earliest_fault first.old
+        (arguments_faults (facts_of basis.now) (around_of around.now) decl kind 0 None exprs.now)) }
+{
+    let mut compared = None;
+    for (place, expr) in exprs.iter().enumerate() {
+        let asks = asked_at(kind, place);
+        let meant = note_argument(alloc, basis, around, decl, asks, compared, expr, first)?;
+        compared = compared_with(asks, compared, meant);
+    }
+    Ok(())
+}
+
+/// Notes what is wrong with what an `if` tests.
+pub fn note_condition(
+    alloc: Global,
+    basis: &Basis<'_>,
+    around: &Around<'_>,
+    decl: usize,
+    condition: &Condition,
+    first: &mut Option<Fault>,
+) -> Result<(), AllocError>
+    ensures { OnOk result (first.new ≡ earliest_fault first.old
+        (condition_faults (facts_of basis.now) (around_of around.now) decl condition.now)) }
+{
+    match condition {
+        Condition::Truth(expr) => {
+            let asks = Asked::Of(TypeKind::Bool);
+            note_argument(alloc, basis, around, decl, asks, None, expr, first)?;
+            Ok(())
+        }
+        Condition::Equal(one, other) | Condition::NotEqual(one, other) => {
+            note_compared(alloc, basis, around, decl, one, other, first)
+        }
+    }
+}
+
+// Notes what is wrong with two arguments that are compared.
+#[tactic(auto, using(nddl_symbols::proofs::Earliest::earliest_append))]
+fn note_compared(
+    alloc: Global,
+    basis: &Basis<'_>,
+    around: &Around<'_>,
+    decl: usize,
+    one: &Expr,
+    other: &Expr,
+    first: &mut Option<Fault>,
+) -> Result<(), AllocError>
+    ensures { OnOk result (first.new ≡ earliest_fault first.old
+        (compared_faults (facts_of basis.now) (around_of around.now) decl one.now other.now)) }
+{
+    let asks = Asked::Compared;
+    let meant = note_argument(alloc, basis, around, decl, asks, None, one, first)?;
+    let compared = compared_with(asks, None, meant);
+    note_argument(alloc, basis, around, decl, asks, compared, other, first)?;
+    Ok(())
+}
+
+/// Notes what is wrong with what a local variable of this type begins as.
+pub fn note_init(
+    alloc: Global,
+    basis: &Basis<'_>,
+    around: &Around<'_>,
+    decl: usize,
+    written: &Type,
+    init: &Option<Init>,
+    first: &mut Option<Fault>,
+) -> Result<(), AllocError>
+    ensures { OnOk result (first.new ≡ earliest_fault first.old
+        (init_faults (facts_of basis.now) (around_of around.now) decl written.now init.now)) }
+{
+    match init {
+        None => Ok(()),
+        Some(Init::New(creation)) => {
+            note_at(first, decl, creation.at, Some(TextKind::WrongType));
+            Ok(())
+        }
+        Some(Init::Expr(expr)) => {
+            let asks = asked_by_type(basis, written);
+            note_argument(alloc, basis, around, decl, asks, None, expr, first)?;
+            Ok(())
+        }
+    }
+}
+
+// What is asked of what a variable of this type begins as.
+fn asked_by_type(basis: &Basis<'_>, written: &Type) -> Asked
+    ensures { result ≡ asked_by_type (facts_of basis.now) written.now }
+{
+    match base_kind(&basis.types, &written.base) {
+        Some(kind) => Asked::Of(kind),
+        None => Asked::Compared,
+    }
+}

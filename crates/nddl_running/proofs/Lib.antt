@@ -1,2 +1,0 @@
-pub mod Deeper
-mod Setting

@@ -1,3 +1,0 @@
-//! What is passed on of nddl_passed.
-
-pub use nddl_passed::Builders;

@@ -1,3 +1,0 @@
-pub mod Classes
-pub mod Predicates
-pub mod nddl_classes

@@ -1,9 +1,0 @@
-pub mod Builtin
-pub mod Finding
-pub mod Index
-pub mod Names
-pub mod Scope
-pub mod Repeats
-pub mod model_core
-pub mod nddl_ast
-pub mod nddl_joined

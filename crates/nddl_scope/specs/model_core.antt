@@ -1,2 +1,0 @@
--- What is passed on of model_core.
-pub use Rattle.model_core.specs.Naming

@@ -1,3 +1,0 @@
-//! What is passed on of nddl_joined.
-
-pub use nddl_joined::Place;

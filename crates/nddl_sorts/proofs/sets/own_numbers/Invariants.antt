@@ -1,9 +1,0 @@
-use Rattle.std.proofs.Common.{◌≡◌, ◌++◌, drop}
-use Rattle.nddl_sorts.specs.Bounds.{own_numbers}
-use Rattle.nddl_sorts.proofs.sets.own_numbers.Given as goal
-
--- those so far and those of the values that are left are all
-abbrev pub invariant-loop-value : goal.invariant-loop-value
-invariant-loop-value l =
-    l.numbers.items ++ own_numbers l.scope l.kind l.extent (drop l.value-index l.values)
-    ≡ own_numbers l.scope l.kind l.extent l.values

@@ -1,8 +1,0 @@
-pub mod Bases
-pub mod Bounds
-pub mod Kinds
-pub mod Members
-pub mod Types
-pub mod Values
-pub mod nddl_joined
-pub mod nddl_scope

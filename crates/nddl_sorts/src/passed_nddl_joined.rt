@@ -1,3 +1,0 @@
-//! What is passed on of nddl_joined.
-
-pub use nddl_scope::passed_nddl_joined::Place;

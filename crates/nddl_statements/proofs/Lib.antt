@@ -1,9 +1,0 @@
-pub mod Walking
-pub mod Named
-pub mod Depth
-pub mod Flat
-pub mod ExactExpressions
-pub mod ExactStatements
-pub mod ExactPlain
-pub mod ExactBlocks
-pub mod ExactNested

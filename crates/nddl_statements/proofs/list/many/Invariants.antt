@@ -1,8 +1,0 @@
--- The items so far and those that follow are what is wanted.
-use Rattle.std.proofs.Common.{◌-◌}
-use Rattle.nddl_reading.specs.Readers.{many}
-use Rattle.nddl_statements.proofs.Walking.{Onward}
-use Rattle.nddl_statements.proofs.list.many.Given as goal
-
-abbrev pub invariant-loop-turn : goal.invariant-loop-turn
-invariant-loop-turn g l = Onward l.items g.T.Item.first g.T.Item.reader (l.turn-end - l.turn) l.cursor (many g.T.Item.first g.T.Item.reader l.fn.cursor)

@@ -1,3 +1,0 @@
-//! What is passed on of nddl_program.
-
-pub use nddl_program::{Program, Question, ask, told};

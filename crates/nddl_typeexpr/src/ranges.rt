@@ -1,0 +1,66 @@
+//! Ranges of types.
+
+ghost use Rattle.std.specs.Prelude.{◌≡◌};
+ghost use Rattle.nddl_symbols.specs.Finding.{earliest_fault};
+ghost use Rattle.nddl_typeexpr.specs.Values.{end_number};
+ghost use Rattle.nddl_typeexpr.specs.Bounds.{is_wrong_range, extent_between, range_faults};
+
+use super::kind::{Extent, TypeKind};
+use super::values::{end_fault, end_number, value_fault};
+use nddl_ast::TextKind;
+use nddl_ast::expression::Value;
+use nddl_symbols::fault::note_at;
+use nddl_symbols::twice::kind_if;
+use nddl_symbols::{Fault, Scope};
+
+/// Notes what is wrong with a range that stands behind a type of this kind and these values.
+pub fn note_range_faults(
+    scope: &Scope,
+    kind: TypeKind,
+    extent: &Extent,
+    decl: usize,
+    at: u32,
+    least: &Value,
+    greatest: &Value,
+    first: &mut Option<Fault>,
+)
+    ensures { first.new ≡ earliest_fault first.old
+        (range_faults scope.now kind extent.now decl at least.now greatest.now) }
+{
+    if extent.is_ranged(kind) {
+        let is_wrong = is_wrong_range(
+            extent,
+            end_number(scope, least),
+            end_number(scope, greatest),
+        );
+        note_at(first, decl, at, kind_if(is_wrong, TextKind::NotInDomain));
+        note_at(first, decl, least.place(), end_fault(scope, least));
+        note_at(first, decl, greatest.place(), end_fault(scope, greatest));
+    } else {
+        note_at(first, decl, least.place(), value_fault(scope, least));
+        note_at(first, decl, least.place(), Some(TextKind::WrongType));
+        note_at(first, decl, greatest.place(), value_fault(scope, greatest));
+    }
+}
+
+// Whether two ends are in the wrong order, or one of them lies outside.
+fn is_wrong_range(extent: &Extent, least: Option<i32>, greatest: Option<i32>) -> bool
+    ensures { result ≡ is_wrong_range extent.now least greatest }
+{
+    match (least, greatest) {
+        (Some(least), Some(greatest)) => {
+            !(least <= greatest && (extent.has(least) && extent.has(greatest)))
+        }
+        _ => false,
+    }
+}
+
+/// The range between two values.
+pub fn range_meaning(scope: &Scope, least: &Value, greatest: &Value) -> Extent
+    ensures { result ≡ extent_between (end_number scope.now least.now) (end_number scope.now greatest.now) }
+{
+    match (end_number(scope, least), end_number(scope, greatest)) {
+        (Some(least), Some(greatest)) => Extent::Range { least, greatest },
+        _ => Extent::Whole,
+    }
+}

@@ -1,0 +1,112 @@
+//! Sets of types.
+
+ghost use Rattle.std.specs.Prelude.{◌≡◌, [], IfOk, OnOk};
+ghost use Rattle.nddl_symbols.specs.Finding.{earliest_fault};
+ghost use Rattle.nddl_typeexpr.specs.declared.kind.Extent.TheVariants.{Set};
+ghost use Rattle.nddl_typeexpr.specs.Members.{distinct_from};
+ghost use Rattle.nddl_typeexpr.specs.Bounds.{has_too_many, members_faults, own_numbers, set_faults};
+
+use super::kind::{Extent, TypeKind};
+use super::members::Members;
+use super::values::{member_fault, own_number};
+use nddl_ast::TextKind;
+use nddl_ast::expression::Value;
+use nddl_symbols::fault::note_at;
+use nddl_symbols::twice::kind_if;
+use nddl_symbols::{Fault, Scope};
+use std::alloc::{AllocError, Global};
+
+/// Notes what is wrong with a set that stands behind a type of this kind and these values.
+#[tactic(auto, using(nddl_symbols::proofs::Earliest::earliest_append))]
+pub fn note_set_faults(
+    alloc: Global,
+    scope: &Scope,
+    kind: TypeKind,
+    extent: &Extent,
+    decl: usize,
+    at: u32,
+    values: &[Value],
+    first: &mut Option<Fault>,
+) -> Result<(), AllocError>
+    ensures { OnOk result (first.new ≡ earliest_fault first.old
+        (set_faults scope.now kind extent.now decl at values.now)) }
+{
+    let is_long = has_too_many(alloc, scope, kind, extent, values)?;
+    note_at(first, decl, at, kind_if(is_long, TextKind::LimitMembers));
+    note_members_faults(scope, kind, extent, decl, values, first);
+    Ok(())
+}
+
+// Notes what is wrong with each of the values.
+#[tactic(auto, using(nddl_symbols::proofs::Earliest::earliest_append))]
+fn note_members_faults(
+    scope: &Scope,
+    kind: TypeKind,
+    extent: &Extent,
+    decl: usize,
+    values: &[Value],
+    first: &mut Option<Fault>,
+)
+    ensures { first.new ≡ earliest_fault first.old (members_faults scope.now kind extent.now decl values.now) }
+{
+    for value in values {
+        note_at(
+            first,
+            decl,
+            value.place(),
+            member_fault(scope, kind, extent, value),
+        );
+    }
+}
+
+// Whether the values have too many distinct ones that may be members.
+#[tactic(auto, using(crate::proofs::Counts::few_values))]
+fn has_too_many(
+    alloc: Global,
+    scope: &Scope,
+    kind: TypeKind,
+    extent: &Extent,
+    values: &[Value],
+) -> Result<bool, AllocError>
+    ensures { IfOk result (λ many. many ≡ has_too_many scope.now kind extent.now values.now) }
+{
+    if values.len() <= 4096 {
+        return Ok(false);
+    }
+    let numbers = own_numbers(alloc, scope, kind, extent, values)?;
+    let members = Members::of(alloc, numbers.as_slice())?;
+    Ok(members.len() > 4096)
+}
+
+// The numbers of the values that may be members.
+fn own_numbers(
+    alloc: Global,
+    scope: &Scope,
+    kind: TypeKind,
+    extent: &Extent,
+    values: &[Value],
+) -> Result<Vec<i32>, AllocError>
+    ensures { IfOk result (λ numbers. numbers.items ≡ own_numbers scope.now kind extent.now values.now) }
+{
+    let mut numbers = Vec::new(alloc);
+    for value in values {
+        if let Some(number) = own_number(scope, kind, extent, value) {
+            numbers.push(number)?;
+        }
+    }
+    Ok(numbers)
+}
+
+/// The set of the values that may be members.
+pub fn set_meaning(
+    alloc: Global,
+    scope: &Scope,
+    kind: TypeKind,
+    extent: &Extent,
+    values: &[Value],
+) -> Result<Extent, AllocError>
+    ensures { IfOk result (λ set. set ≡ Set (distinct_from [] (own_numbers scope.now kind extent.now values.now))) }
+{
+    let numbers = own_numbers(alloc, scope, kind, extent, values)?;
+    Ok(Extent::Set(Members::of(alloc, numbers.as_slice())?))
+}

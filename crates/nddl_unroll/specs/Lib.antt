@@ -1,0 +1,10 @@
+pub mod Blocks
+pub mod Places
+pub mod Rules
+pub mod Amounts
+pub mod Counting
+pub mod Limits
+pub mod Reads
+pub mod Weighing
+pub mod Enough
+pub mod Unnamed

@@ -1,7 +1,0 @@
-use Rattle.std.proofs.Common.{◌≡◌, ◌++◌, drop}
-use Rattle.nddl_written.specs.Written.{none_written}
-use Rattle.nddl_written.proofs.written.none_written.Given as goal
-
--- none for those so far, and for those that are left
-abbrev pub invariant-loop : goal.invariant-loop
-invariant-loop l = l.written.items ++ none_written (drop l.index l.preds) ≡ none_written l.preds

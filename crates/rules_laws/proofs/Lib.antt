@@ -1,3 +1,0 @@
-pub mod Answers
-pub mod Ordered
-pub mod Reading

@@ -1,3 +1,0 @@
-//! What is passed on of run_commands.
-
-pub use run_commands::{check, generated, plan, show, unposed};

@@ -1,9 +1,0 @@
-//! Small models made by hand and proved lawful, for tests of what stands above models: the proof of each is made here once.
-//!
-//! `mission::mission(alloc)?` has a rule with a guard, a fact, a goal and rejectables, two timelines, a reusable and a reservoir, and
-//! `rounds::rounds(alloc)?` three tokens of one timeline, tokens that ask for more of the same, and one whose slot has no object.
-#![tactic(auto)]
-
-pub mod mission;
-mod pieces;
-pub mod rounds;

@@ -1,4 +1,0 @@
-pub mod Words
-pub mod Number
-pub mod Line
-pub mod Laws

@@ -1,7 +1,0 @@
-use Rattle.std.proofs.Common.{take}
-use Rattle.script_lines.specs.Lines.{IsDecisionLine}
-use Rattle.script_lines.specs.Written.{WritesLines}
-use Rattle.script_lines.proofs.decisions.put_decisions.Given as goal
-
-abbrev pub invariant-loop-decision : goal.invariant-loop-decision
-invariant-loop-decision l = WritesLines (IsDecisionLine l.initial.model) (take l.decision-index l.initial.decisions) l.initial.out.items l.out.items

@@ -1,2 +1,0 @@
--- What is passed on of plan_cycles.
-pub use Rattle.plan_cycles.specs.TimeCycle

@@ -1,3 +1,0 @@
-//! What is passed on of flaw_core.
-
-pub use solver_core::passed_flaw_core::Plain;

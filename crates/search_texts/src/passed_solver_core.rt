@@ -1,3 +1,0 @@
-//! What is passed on of solver_core.
-
-pub use solver_core::{SearchEnd, SolveFault, solve};

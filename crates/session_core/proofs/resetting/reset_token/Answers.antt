@@ -1,0 +1,18 @@
+use Rattle.std.proofs.Common.{refl}
+use Rattle.plan_steps.specs.declared.subject.Subject.TheVariants as subjects
+use Rattle.session_core.specs.Steps.{IsTokenNamed}
+use Rattle.session_core.proofs.Stepping.{resets_only, only_token, no_token}
+use Rattle.session_core.proofs.resetting.reset_token.Goals as goal
+
+pub returns-in-Ok-Some : goal.returns-in-Ok-Some
+returns-in-Ok-Some c =
+    let old = c.args.db.now.database in
+    let named = rw c.in-Ok-Some.field-0-is at c.in-Ok-Some.ensures.named in
+    resets_only old c.reset_on.new.db.database (IsTokenNamed old.model c.args.text.now) (subjects.Token c.in-Ok-Some.token) c.reset_on.result named
+    (only_token old.model c.args.text.now c.in-Ok-Some.token c.in-Ok-Some.ensures.lawful named) c.reset_on.ensures
+
+pub returns-in-Ok-None : goal.returns-in-Ok-None
+returns-in-Ok-None c =
+    let old = c.args.db.now.database in
+    let none = rw c.in-Ok-None.field-0-is at c.in-Ok-None.ensures.named in
+    (λ subject is stands. no_token old.model c.args.text.now none subject is, refl)

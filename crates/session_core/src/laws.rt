@@ -1,0 +1,24 @@
+//! Laws of the replies of a session, for whoever reads these by their definitions.
+
+ghost use Rattle.session_loop.specs.Laws.{HasOneReply};
+ghost use Rattle.session_core.specs.LineReplies.{AnswersLine};
+ghost use Rattle.session_core.specs.Laws.{PrintedEndsProve};
+
+use plan_soundness::a_state_has_one_plan;
+use script_lang::laws::lines_have_one_answer;
+
+/// A law: each line of a sound database has one answer, and leaves one database.
+pub fn each_line_has_one_reply()
+    ensures { HasOneReply AnswersLine }
+{
+    lines_have_one_answer();
+    a_state_has_one_plan();
+}
+
+/// A law: a plan that is printed as found is valid and agrees with the decisions, and where a search is told to be exhausted no
+/// valid plan agrees with them.
+pub fn printed_ends_prove()
+    ensures { PrintedEndsProve }
+{
+    lines_have_one_answer();
+}

@@ -1,5 +1,0 @@
-use Rattle.session_laws.proofs.Ending.{printed_ends}
-use Rattle.session_laws.proofs.laws.printed_ends_prove.Goals as goal
-
-pub returns : goal.returns
-returns c = printed_ends c.lines_have_one_answer.ensures.answers

@@ -1,2 +1,0 @@
--- What is passed on of session_core.
-pub use Rattle.session_core.specs.Replies

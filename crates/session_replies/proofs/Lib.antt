@@ -1,0 +1,13 @@
+pub mod Commanding
+pub mod Declaring
+pub mod Flawing
+pub mod Lining
+pub mod Pointing
+pub mod Replying
+pub mod Settled
+pub mod Spacing
+pub mod Timing
+pub mod Tokening
+pub mod Seen
+pub mod Separated
+pub mod ReadBack

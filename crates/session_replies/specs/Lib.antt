@@ -1,0 +1,5 @@
+pub mod Lines
+pub mod Writable
+pub mod Written
+pub mod Texts
+pub mod Reading

@@ -1,0 +1,126 @@
+//! The lines of decisions.
+
+ghost use Rattle.std.specs.Prelude.{◌≡◌, List, ℕ, All, OnOk, codes};
+ghost use Rattle.model_core.specs.Lawful.{IsLawful, IsToken};
+ghost use Rattle.plan_defs.specs.Refusals.{IsDeclared};
+ghost use Rattle.session_replies.specs.Lines.{IsDecisionLine, IsLineOnToken, IsLineOnTokens, IsLineOnVariable};
+ghost use Rattle.session_replies.specs.Writable.{IsWritable};
+ghost use Rattle.session_replies.specs.Written.{Writes, WritesCounted, WritesLines};
+
+use super::counting::{put_count_line, put_line_feed, put_text};
+use eu_name::name::{TokenName, VarName};
+use model_core::decision::Decision;
+use model_core::model::Model;
+use plan_core::writing::{put_shown, put_token, put_variable};
+use script_lang::kind_of;
+use std::alloc::{AllocError, Global};
+
+/// The word and the name of the token.
+pub fn put_on_token(
+    out: &mut Vec<u8>,
+    alloc: Global,
+    model: &Model,
+    first: &[u8],
+    token: &TokenName,
+) -> Result<(), AllocError>
+    requires lawful { IsLawful model.now }
+    requires there { IsToken model.now token.now }
+    ensures { OnOk result (Writes (IsLineOnToken model.now first.now token.now) out.old.items out.new.items) }
+{
+    put_text(out, first)?;
+    put_token(out, b" ", alloc, model, token)
+}
+
+/// The word and the names of the two tokens.
+pub fn put_on_tokens(
+    out: &mut Vec<u8>,
+    alloc: Global,
+    model: &Model,
+    first: &[u8],
+    one: &TokenName,
+    other: &TokenName,
+) -> Result<(), AllocError>
+    requires lawful { IsLawful model.now }
+    requires one { IsToken model.now one.now }
+    requires other { IsToken model.now other.now }
+    ensures { OnOk result (Writes (IsLineOnTokens model.now first.now one.now other.now) out.old.items out.new.items) }
+{
+    put_on_token(out, alloc, model, first, one)?;
+    put_token(out, b" ", alloc, model, other)
+}
+
+// The word, the name of the variable and the value, which is one that the variable is declared with.
+fn put_on_variable(
+    out: &mut Vec<u8>,
+    alloc: Global,
+    model: &Model,
+    first: &[u8],
+    name: &VarName,
+    value: i32,
+) -> Result<(), AllocError>
+    requires lawful { IsLawful model.now }
+    requires declared { IsDeclared model.now name.now value }
+    ensures { OnOk result (Writes (IsLineOnVariable model.now first.now name.now value) out.old.items out.new.items) }
+{
+    put_text(out, first)?;
+    put_variable(out, b" ", alloc, model, name)?;
+    put_shown(out, b" ", model, kind_of(model, name), value)
+}
+
+// The command that makes the decision.
+fn put_decision(
+    out: &mut Vec<u8>,
+    alloc: Global,
+    model: &Model,
+    decision: &Decision,
+) -> Result<(), AllocError>
+    requires lawful { IsLawful model.now }
+    requires writable { IsWritable model.now decision.now }
+    ensures { OnOk result (Writes (IsDecisionLine model.now decision.now) out.old.items out.new.items) }
+{
+    match decision {
+        Decision::Specify(name, value) => {
+            put_on_variable(out, alloc, model, b"specify", name, *value)
+        }
+        Decision::Activate(token) => put_on_token(out, alloc, model, b"activate", token),
+        Decision::Merge(token, target) => {
+            put_on_tokens(out, alloc, model, b"merge", token, target)
+        }
+        Decision::Reject(token) => put_on_token(out, alloc, model, b"reject", token),
+        Decision::Order(one, other) => put_on_tokens(out, alloc, model, b"order", one, other),
+    }
+}
+
+// A line for each decision.
+fn put_decisions(
+    out: &mut Vec<u8>,
+    alloc: Global,
+    model: &Model,
+    decisions: &[Decision],
+) -> Result<(), AllocError>
+    requires lawful { IsLawful model.now }
+    requires writable { All (IsWritable model.now) decisions.now }
+    ensures { OnOk result (WritesLines (IsDecisionLine model.now) decisions.now out.old.items out.new.items) }
+{
+    for decision in decisions {
+        put_decision(out, alloc, model, decision)?;
+        put_line_feed(out)?;
+    }
+    Ok(())
+}
+
+/// The line of the word and the number of decisions, and a line for each. Decisions of a settled list of a lawful model are writable (`settled_lists_are_writable`).
+pub fn put_decision_lines(
+    out: &mut Vec<u8>,
+    alloc: Global,
+    model: &Model,
+    word: &[u8],
+    decisions: &[Decision],
+) -> Result<(), AllocError>
+    requires lawful { IsLawful model.now }
+    requires writable { All (IsWritable model.now) decisions.now }
+    ensures { OnOk result (WritesCounted word.now (IsDecisionLine model.now) decisions.now out.old.items out.new.items) }
+{
+    put_count_line(out, word, decisions.len())?;
+    put_decisions(out, alloc, model, decisions)
+}

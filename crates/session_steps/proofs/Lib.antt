@@ -1,4 +1,0 @@
-mod Stepping
-mod Decisions
-mod Searches
-pub mod search_texts

@@ -1,4 +1,0 @@
-use Rattle.session_steps.proofs.searching.search.Given as goal
-
-abbrev pub ghost-told_or_back : goal.ghost-told_or_back
-ghost-told_or_back g a = g.former

@@ -1,4 +1,0 @@
-use Rattle.session_steps.proofs.searching.search_reply.Given as goal
-
-abbrev pub ghost-search : goal.ghost-search
-ghost-search a = a.db.now.database

@@ -1,3 +1,0 @@
-//! What is passed on of flaw_core.
-
-pub use script_lines::passed_flaw_core::{Flaw, FlawRule, Plain};

@@ -1,3 +1,0 @@
-pub mod Declared
-pub mod Placed
-pub mod Tables

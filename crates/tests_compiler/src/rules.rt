@@ -1,0 +1,61 @@
+//! Copies of rules.
+
+use super::rows::{Asked, assert_rows};
+use super::shelves::shelf;
+use nddl_ast::Copies;
+use nddl_ast::declaration::{Decl, FileDecls};
+use nddl_ast::same::Same;
+use nddl_ast::statement::StmtBlock;
+use nddl_parser::read_all;
+use std::alloc::{AllocError, Global};
+
+/// Whether a copy of the block is the same, at the same place.
+fn is_copied(body: &StmtBlock) -> Result<bool, AllocError> {
+    let copy = body.copied()?;
+    Ok(copy.is_same(body) && copy.at == body.at)
+}
+
+/// The same of the rule that the declaration is.
+fn rule_is_copied(decl: Option<&Decl>) -> Result<bool, AllocError> {
+    match decl {
+        Some(Decl::Rule { body, .. }) => is_copied(body),
+        _ => Ok(false),
+    }
+}
+
+fn first_is_copied(files: &[FileDecls]) -> Result<bool, AllocError> {
+    match files.first() {
+        Some(file) => rule_is_copied(file.decls.as_slice().first()),
+        None => Ok(false),
+    }
+}
+
+/// The same of the first declaration of this text.
+fn copied(alloc: Global, text: &str) -> Result<bool, AllocError> {
+    let mut files = shelf(alloc, text)?;
+    match read_all(alloc, &mut files, "m") {
+        Ok(read) => first_is_copied(read.as_slice()),
+        Err(_) => Ok(false),
+    }
+}
+
+/// Whether a copy of a rule is the same.
+struct RuleCopy;
+
+impl Asked for RuleCopy {
+    fn answer(&self, alloc: Global, given: &str) -> Result<String, AllocError> {
+        format!(in alloc; "{:?}", copied(alloc, given))
+    }
+}
+
+const RULES: &str = "
+A::P { } | Ok(true)
+A::P { int [0 5] x = y.z; bool {true, b} w; float f = 1.5; E e; string s = new C(1, d); } | Ok(true)
+A::P { if (b) { leq(x, 3); } else if (x != y.z) { any(object.Q q); } else { eq(true, q.end); } meets(q); } | Ok(true)
+A::P { foreach (o in C) { if (o == p) { } goal(o.Q g); int {1, 2} k; } before(o.Q, -4); } | Ok(true)
+";
+
+#[test]
+fn copies_of_rules_are_the_same(rt: HostRuntime) {
+    assert_rows(&rt, &RuleCopy, RULES);
+}

@@ -1,0 +1,130 @@
+//! What is wrong first with the rules of texts, and the trees of rules, by hand from what the language allows.
+
+use super::answers::{Sought, fault_words, told};
+use super::rows::{Asked, assert_rows};
+use eu_name::name::Part;
+use nddl_ast::declaration::FileDecls;
+use nddl_rules::rules;
+use nddl_terms::{Meaning, RuleTree};
+use nddl_types::TypeTable;
+use std::alloc::{AllocError, Global};
+
+fn meaning_words(alloc: Global, meaning: Meaning) -> Result<String, AllocError> {
+    match meaning {
+        Meaning::Turn(number) => format!(in alloc; "t{number}"),
+        Meaning::Local(number) => format!(in alloc; "l{number}"),
+        Meaning::Slot(number) => format!(in alloc; "s{number}"),
+        Meaning::Scope(number) => format!(in alloc; "f{number}"),
+        Meaning::BuiltIn(number) => format!(in alloc; "b{number}"),
+        Meaning::Here(Part::Start) => String::from_str(alloc, "start"),
+        Meaning::Here(Part::End) => String::from_str(alloc, "end"),
+        Meaning::Here(Part::Duration) => String::from_str(alloc, "duration"),
+        Meaning::Here(Part::Object) => String::from_str(alloc, "object"),
+        Meaning::Here(Part::Param(number)) => format!(in alloc; "p{number}"),
+    }
+}
+
+/// The predicate, the file, the place of the rule (its declaration and the byte of its name) and how many statements, and each
+/// name that is read, with its place and what it means.
+fn push_tree(alloc: Global, tree: &RuleTree, words: &mut String) -> Result<(), AllocError> {
+    write!(
+        words,
+        "{} {} {} {} {}:",
+        tree.pred,
+        tree.file.as_str(),
+        tree.place.decl,
+        tree.place.at,
+        tree.body.len()
+    )?;
+    for name in tree.names.as_slice() {
+        let meaning = meaning_words(alloc, name.meaning)?;
+        write!(words, " {} {}", name.at, meaning.as_str())?;
+    }
+    words.push_str("; ")
+}
+
+fn trees_words(alloc: Global, trees: &[RuleTree]) -> Result<String, AllocError> {
+    let mut words = String::new(alloc);
+    for tree in trees {
+        push_tree(alloc, tree, &mut words)?;
+    }
+    Ok(words)
+}
+
+/// What is wrong first with the rules of files with this table, or their trees.
+pub fn rules_words(
+    alloc: Global,
+    table: &TypeTable,
+    files: &[FileDecls],
+) -> Result<String, AllocError> {
+    match rules(alloc, table, files) {
+        Ok(trees) => trees_words(alloc, trees.as_slice()),
+        Err(fault) => fault_words(alloc, &fault),
+    }
+}
+
+/// A class with a field, two predicates, of which one has parameters, and an object of it.
+const CLASSES: &str =
+    "class A { int k; A() { k = 1; } predicate P { int v; bool b; } predicate Q { } } A r = new A();";
+
+/// The trees of a text beside the classes.
+struct OverClasses;
+
+impl Asked for OverClasses {
+    fn answer(&self, alloc: Global, given: &str) -> Result<String, AllocError> {
+        told(alloc, Sought::Trees, given, CLASSES)
+    }
+}
+
+const FAULTS: &str = "
+#include \"q\" A::P { eq(v, b); } | WrongType m 26
+#include \"q\" A::P { leq(v); } | WrongCount m 20
+#include \"q\" A::P { leq(v, w); } | Unknown m 27
+#include \"q\" A::P { mulEq(v, 0, v); } | WrongType m 29
+#include \"q\" A::P { testEQ(v, 1, 2); } | WrongType m 27
+#include \"q\" A::P { any(Q s); any(s); any(A.P s); } | Twice m 46
+#include \"q\" A::P { before(object.R); } | Unknown m 34
+#include \"q\" A::P { meets(v.Q); } | WrongType m 26
+#include \"q\" A::P { any(s); any(Q s); } | Unknown m 24
+#include \"q\" A::P { foreach (o in B) { } } | Unknown m 34
+#include \"q\" A::P { foreach (o in r) { } } | WrongType m 34
+#include \"q\" A::P { foreach (o in A) { int o; eq(o, 1); } } | WrongType m 52
+#include \"q\" A::P { if (v) { } } | WrongType m 24
+#include \"q\" A::P { if (v == b) { } else { eq(q, 1); } } | WrongType m 29
+#include \"q\" A::P { A n = new A(); } | WrongType m 26
+#include \"q\" A::P { int y = r; } | WrongType m 28
+#include \"q\" A::P { x.specify(3); } | Unknown m 20
+#include \"q\" A::P { r.specify(3); } | Unknown m 22
+#include \"q\" A::P { contains(3); } | WrongType m 29
+#include \"q\" A::P { eq(r.k.z, 1); } | WrongType m 23
+#include \"q\" A::R { eq(q, 1); } | Unknown m 16
+#include \"q\" B::P { eq(q, 1); } | Unknown m 13
+";
+
+#[test]
+fn rules_have_these_first_faults(rt: HostRuntime) {
+    assert_rows(&rt, &OverClasses, FAULTS);
+}
+
+/// A text, maybe that of the file `q`, and the trees of their rules: what each name means by its number, as a turn, a local, a
+/// slot, a name of the files or a built-in class, or as a part of the token.
+const TREES: &str = "
+class T { predicate P { bool b; } predicate Q { } predicate R { } } T::P { if (b) { any(object.Q q); } else { any(object.R r); } } | 3 \
+    m 1 68 1: 79 p0 88 object 114 object;
+class A { predicate P { int v; leq(v, 3); } } A::P { eq(v, start); } class B extends A { } B::P { } | 3 m 0 20 1: 35 p0; 3 m 1 46 1: 56 \
+    p0 59 start; 4 m 0 20 1: 35 p0; 4 m 1 46 1: 56 p0 59 start; 4 m 3 91 0:;
+N::P { any(object.P s); } class N { predicate P { int v; leq(v, 3); } } | 3 m 0 0 1: 11 object; 3 m 1 46 1: 61 p0;
+#include \"q\" N::P { before(N.P s); int x = s.start; if (x == 3) { int s; eq(s, x); } before(s); meets(P t); eq(t.end, end); } | class \
+    N { predicate P { } } | 3 m 1 13 6: 27 f0 43 s0 56 l0 76 l1 79 l0 92 s0 111 s1 118 end;
+class A { int k; A() { k = 1; } predicate P { } } enum E { a, b } A o = new A(); A::P { foreach (o in A) { int [0 3] o; eq(o.k, \
+    duration); E {a} e = b; any(object.P); any(A.P z); } A {o} w; eq(w, o); } | 3 m 3 81 3: 102 f0 123 t0 128 duration 139 f1 142 f2 \
+    149 f3 156 object 171 f0 181 f0 184 f4 193 l2 196 f4;
+class R extends Reusable { R() { super(3); } } Reusable::uses { eq(quantity, 1); } R::uses { foreach (r in Reusable) { } } | 0 m 1 47 \
+    1: 67 p0; 3 m 1 47 1: 67 p0; 3 m 2 83 1: 107 b2;
+class N; class N { predicate P { } } int z; N::P { eq(z, 1); Timeline t; N n; } | 3 m 3 44 3: 54 f1 61 b1 73 f0;
+";
+
+#[test]
+fn rules_have_these_trees(rt: HostRuntime) {
+    assert_rows(&rt, &Sought::Trees, TREES);
+}

@@ -1,0 +1,22 @@
+//! The tests of the crates that read and print texts: nddl_lexer, nddl_ast, nddl_parser, nddl_print, nddl_parser
+//! and nddl_parser, and of eu_name's words. Nothing here is called by others: `rt test` runs it.
+#![tactic(auto)]
+
+#[cfg(test)]
+mod faults;
+#[cfg(test)]
+mod files;
+#[cfg(test)]
+mod includes;
+#[cfg(test)]
+mod lexemes;
+#[cfg(test)]
+mod rows;
+#[cfg(test)]
+mod spellings;
+#[cfg(test)]
+mod texts;
+#[cfg(test)]
+mod trees;
+#[cfg(test)]
+mod words;

@@ -1,5 +1,0 @@
-use Rattle.types_laws.proofs.Circles.{no_circles}
-use Rattle.types_laws.proofs.lawful.classes_have_no_circles.Goals as goal
-
-pub returns : goal.returns
-returns c = no_circles

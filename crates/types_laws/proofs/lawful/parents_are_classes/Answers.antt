@@ -1,5 +1,0 @@
-use Rattle.types_laws.proofs.Circles.{parents_there}
-use Rattle.types_laws.proofs.lawful.parents_are_classes.Goals as goal
-
-pub returns : goal.returns
-returns c = parents_there
