@@ -1,7 +1,9 @@
-//! Things each of which may stand under another. `Lineage::of(alloc, parents)` tells which stand on a circle, and an order in
-//! which each comes after the one that it stands under. `Parents::of(alloc, parents, order)?` keeps what they stand under with
-//! shortcuts, by which `is_on_line` tells whether one stands on the line of another. `gather(alloc, parents, order, owners)?`
-//! finds the members of each, its own and those of all things under it; things with the same members share one list.
+//! Things by number, each of which may stand under another: `Lineage::of(alloc, parents)?` has the circles, and an order
+//! from the top.
+//! What each thing stands under comes in; standings, answers on lines (`Parents::is_on_line`) and members (`gather`) go
+//! out, or None where they aren't known.
+//! The judging of models and the compiler call it, for classes and typedefs.
+//! It knows nothing of what the things are. Shortcuts, shared marks and when `gather` has an answer may change.
 #![tactic(auto)]
 
 pub mod gathering;

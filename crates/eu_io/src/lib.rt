@@ -1,9 +1,10 @@
-//! Files, input and output behind the traits `Shelf`, `Source` and `Sink`: what each call does to the bytes, and a
-//! count of the calls that failed. What is written against the traits is proved for the system's files and streams
-//! (`adapters`), and tried over objects in memory, which fail where they are told to (`memory`) or never (`calm`).
-//!
-//! With `let mut input = StdSource::new(rt.stdin());` the call `input.read(&mut buffer)` answers how many bytes it
-//! put at the front of the buffer, or `Failed`, and then `input.faults()` is one more.
+//! Files, input and output behind the traits `Shelf`, `Source` and `Sink`: `input.read(&mut buffer)` answers how many bytes
+//! it put at the front.
+//! A name, a buffer or a piece comes in; bytes, a count or a fault goes out, and a failed call raises `input.faults()` by
+//! one.
+//! Whoever touches the outside calls it: over the system (`adapters`), or in memory with calls that fail by number
+//! (`memory`) or only for want of memory or room (`calm`).
+//! It knows nothing of what the bytes mean. How adapters call std and how memory objects keep bytes may change.
 #![tactic(auto)]
 
 pub mod adapters;

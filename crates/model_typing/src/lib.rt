@@ -1,7 +1,8 @@
-//! Of which kind values, variables and terms are, and whether the arguments of constraints are of the kinds that these take.
-//!
-//! `items::is_lawful_item(&model, &classes, place, &item)` tells whether a constraint may stand at the place. `Classes::of` finds once of which
-//! classes the model's variables are, so that an access to a field asks one class for it, whatever the object may be.
+//! Kinds and classes of values, variables and terms: `items::is_lawful_item(&model, &classes, place, &item)` tells whether
+//! an item may stand there.
+//! A model, what is known of its classes (`Classes::of`, found once) and a place come in; a truth value goes out.
+//! model_rules and model_lawful call it.
+//! It knows nothing of texts, whole rules and decisions. How the classes of a variable are found and kept may change.
 #![tactic(auto)]
 
 pub mod accesses;

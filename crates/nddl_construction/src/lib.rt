@@ -1,9 +1,8 @@
-//! What the constructors of classes give and pass on. `settled_datum(alloc, footing, scene, objects, wanted, expr)?` is what a
-//! value of a field or an argument stands for where it is written, `note_all_unmade` notes the names of objects that aren't
-//! there yet, and `is_outside_field` tells whether what is given to a field lies outside of its type (`FieldTypes`).
-//! `SetFields` are the fields of an object. `passed_down(alloc, footing, builders, objects, class, values)?` has each class of
-//! an object's line that has a constructor, with what it is passed, and `note_passing` notes what is wrong with that; what is
-//! the same for all objects of a class is in `Builders`. `made_class` is the class of which a `new` makes an object.
+//! What values stand for while objects are made: `settled_datum(alloc, footing, scene, objects, wanted, expr)?`.
+//! In come the facts, what names stand for by now, and the objects so far; out go values, what constructors pass on,
+//! faults.
+//! Called by nddl_objects; single values by nddl_problem_check, nddl_env and nddl_instance.
+//! Makes no object, and knows no order of making. What `Builders`, `FieldTypes` and `SetFields` keep may change.
 #![tactic(auto)]
 
 pub mod builders;

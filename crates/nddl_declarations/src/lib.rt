@@ -1,8 +1,7 @@
-//! Typedefs and declared variables, and what is wrong first with the names and types of a program: `first_wrong(alloc,
-//! &basis)?`. `known_meanings(alloc, ..)?` has what the typedefs mean, by the numbers of their names in the scope; with it
-//! `note_all_type_faults` notes all that is wrong with a type, and `fine_meaning` is what a type means. `push_variable(alloc,
-//! basis, enums, typed, &mut variables)?` puts a variable, with what it may be, behind others. `note_class(alloc, basis, decl,
-//! ..)?` notes what is wrong with one declaration.
+//! What typedefs mean, and the first fault of a program's names and types: `first_wrong(alloc, &basis)?`.
+//! In comes a `Basis`; out go meanings of typedefs (`known_meanings`), faults of types, and variables of the model.
+//! Called by nddl_types; for single types, values and domains also by later stages up to nddl_instance.
+//! Knows nothing of paths, rules and objects. The order of the walk may change: the earliest fault is kept.
 #![tactic(auto)]
 
 pub mod classes;

@@ -1,4 +1,7 @@
-//! What is known of a program where its rules are unrolled: `lexicon(alloc, &premises)?`, once its objects are made.
+//! What classes, predicates, types and names stand for once objects are made: `lexicon(alloc, &premises)?`.
+//! In come the facts, the enums and the objects (`Premises`); out goes a `Lexicon` of nddl_terms.
+//! Called by nddl_problem; `shape_with` by nddl_instance.
+//! Knows nothing of trees of rules and faults. Which typedefs share a shape, and how objects are listed, may change.
 #![tactic(auto)]
 
 pub mod alike;

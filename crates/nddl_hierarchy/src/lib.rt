@@ -1,10 +1,7 @@
-//! What the classes and the typedefs of a program stand under, and which members a class has from above. `parents_of(alloc,
-//! &scope, decls)?` has it by the numbers of their names in the scope, and `Parents`, of eu_forest, keeps it with shortcuts.
-//! `note_circles` tells which are their own ancestors, `ancestry` what classes lead up to, `is_under` whether one class stands
-//! under another, and `note_objects` which objects in the set of a type aren't of its class. `MemberIndex` finds fields and
-//! predicates of a class by their names, and `inherited(alloc, basis, parent)?` has the names of those of all its ancestors.
-//! `ShortLines::of(alloc, ..)?` passes over classes that add no members, or have no constructor, and `adding_line` and
-//! `building_line` go along what it makes. `Basis` has all of this.
+//! What classes and typedefs stand under, and which members a class inherits: `is_under(alloc, basis, class, entry)?`.
+//! In come the symbol table and the declarations; out go parents, lines of ancestors, member names and faults.
+//! Called by all stages from nddl_declarations on; the `Basis` that they read is made in nddl_types.
+//! Knows nothing of tables, rules and objects. `ShortLines` and `MemberIndex` may change inside: `Facts` has neither.
 #![tactic(auto)]
 
 pub mod basis;

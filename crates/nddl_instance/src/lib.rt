@@ -1,7 +1,7 @@
-//! The parts of a model that come of its objects: classes and predicates with what fields and parameters may be
-//! (`modelled_classes`, `modelled_preds`), the tokens that are posted (`posted_roots(alloc, &outside, decls)?`), the globals
-//! (`declared_globals(alloc, &premises)?`), what has to hold and what is decided (`assertions_of(alloc, &text, decls)?`), and
-//! the problem of them all (`problem_of(alloc, &posing)?`).
+//! The parts of the model that need objects, as the problem: `problem_of(alloc, &posing)?`.
+//! In come table, trees, lexicon and objects; out go classes, predicates, and roots, globals, items and decisions.
+//! Called by nddl_problem.
+//! Knows nothing of faults, limits and the model's rules. How each part is gathered may change.
 #![tactic(auto)]
 
 pub mod assertions;

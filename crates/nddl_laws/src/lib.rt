@@ -1,6 +1,7 @@
-//! Laws of files that were read, and of what is answered of their names, types and rules. `AreGiven` is the condition under
-//! which files are compiled: each has a text and a fine tree, and each declaration stands once among the joined ones. Each law
-//! is a function without a body that does something; there is nothing else to call.
+//! Laws of files that were read, and of the compiler's tables and trees of rules: `names_are_read_in_order()`.
+//! A law takes and gives nothing; its clause is what is proved. `AreGiven` says that some shelf gives the files.
+//! nddl_problem rests on one law, and takes its condition on files from here; the others are there to be read.
+//! Knows nothing of objects and the problem. All proofs may change, but not what `specs` claim.
 #![tactic(auto)]
 
 pub mod file_laws;

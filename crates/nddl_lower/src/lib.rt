@@ -1,5 +1,8 @@
-//! What the statements of a rule that have no blocks add to it: `add_call`, `add_ask` and `add_variable`, over what the rule has
-//! so far; and what the conditions of those with blocks stand for.
+//! Lowers a statement to what it adds to a rule: `add_call(alloc, reading, turns, call, &mut growth)?`.
+//! In come what is known of the rule, one statement, and the rule so far (`Growth`); the rule grows in the order of the
+//! text.
+//! Called by nddl_unroll for statements and guards, and by nddl_instance for constraints and posted tokens.
+//! Knows nothing of blocks and `foreach`, faults and limits. How each part is put together may change.
 #![tactic(auto)]
 
 pub mod arguments;

@@ -1,7 +1,7 @@
-//! The objects of a program: `make_objects(alloc, basis)?` makes them in the order in which they are declared, each with those
-//! that its constructors make, and finds what is wrong first. `make_new(alloc, blueprint, scene, name, entry, creation,
-//! levels, making)?` makes what one `new` asks for. `modelled_objects(alloc, basis, numbers, classes, objects)?` has them as a
-//! model has them.
+//! Makes the objects of a program by running its constructors: `make_objects(alloc, basis)?`.
+//! In comes a `Basis`; out go objects, what each name stands for, settings, and the earliest fault (`Program`).
+//! Called by nddl_problem, which takes the objects into the model by `modelled_objects`.
+//! Knows nothing of rules, the lexicon and the problem. How constructors are run may change.
 #![tactic(auto)]
 
 pub mod blueprint;

@@ -1,7 +1,7 @@
-//! Declarations, and files with those that they include. `parse(alloc, text, lex(alloc, text)?.as_slice())` answers the tree
-//! of a text from its lexemes, or the first place at which they make none. `read_all(alloc, &mut shelf, "rover.nddl")` answers
-//! the declarations of `rover.nddl` and of each file that it includes, or the first fault, with file and place. Which file
-//! comes when doesn't hang on the language: `includes::read_all` is over whatever reads one text.
+//! Reads declarations, and a file with those that it includes: `read_all(alloc, &mut shelf, "rover.nddl")`.
+//! In comes a shelf of files by name; out go `FileDecls` in the order of reading, or the first fault with file and byte.
+//! Called by run_load; run_commands reads one text by `Language`. Over any `TextReader` there is `includes::read_all`.
+//! Knows nothing of what names mean. How symbols are made and includes passed over may change.
 #![tactic(auto)]
 
 pub mod declarations;

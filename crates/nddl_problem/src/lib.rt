@@ -1,4 +1,8 @@
 //! Compiles the files of a program to its model: `compile(alloc, files)`.
+//! In come files as a shelf gives them (`AreGiven`); out goes a lawful model, or the first fault with file and byte.
+//! Called by run_load.
+//! Knows nothing of databases and plans. What is kept between the stages (`Outline`) may change, but not their order of
+//! faults.
 #![tactic(auto)]
 
 pub mod compiling;

@@ -1,7 +1,7 @@
-//! What is wrong with a problem, and which limits it passes. `note_problem_texts(alloc, basis, &mut first)?` notes what no
-//! object is needed to tell: of the constraints outside of rules, the posted tokens, the values with which globals begin, and
-//! the decisions. What a word behind a point asks for is an `Act`. `note_problem_limits(alloc, basis, &program, &lexicon,
-//! &scope, &mut first)?` notes what only objects tell, and the limits that roots, facts and globals pass.
+//! The faults of the problem, first those that need no object: `note_problem_texts(alloc, basis, &mut first)?`.
+//! In come a `Basis` and, for `note_problem_limits`, the objects and the lexicon; out goes the earliest fault.
+//! Called by nddl_problem.
+//! Knows nothing of limits on rules, and of how the problem is made. All behind the two calls may change.
 #![tactic(auto)]
 
 pub mod acts;

@@ -1,9 +1,7 @@
-//! What is wrong with the rules of a program, of which `first_rule_wrong(alloc, &basis)?` is the first, and with constraints,
-//! relations and guards wherever they stand. `note_block` notes it of the statements of one block, over what names mean there
-//! (`Visible`), `note_rule_call` and `note_ask` of a call in a rule, `note_body_call` of one in the body of a predicate,
-//! `note_constraint` of a constraint whose kind is known (`constraint_named`), `note_condition` of what an `if` tests, and
-//! `note_init` of what a local variable begins as. One argument is looked at by `note_argument`, which also answers what it
-//! means; what is asked of it is an `Asked`. `labelled_slot` is the token for which a labelled relation asks.
+//! The first fault of a program's rules: `first_rule_wrong(alloc, &basis)?`.
+//! In come a `Basis` and the statements of rules; out goes the earliest fault. `note_constraint` checks one constraint.
+//! Called by nddl_rules and, for constraints outside of rules, nddl_problem_check; `constraint_named` by later stages.
+//! Knows nothing of terms, trees of rules and objects. The walk over blocks, and `Visible`, may change.
 #![tactic(auto)]
 
 pub mod arguments;

@@ -1,7 +1,7 @@
-//! The rule trees of files, or what is wrong first with their rules: `rules(alloc, &table, files)`, where the table is that of
-//! the files. Which predicate has which rules is `places_of`, over `preds_above` and `texts_written`. What names mean is found
-//! by `push_block_names`, over what the text declares (`Sight`) and where other names come from (`NameSources`), and
-//! `all_trees` makes the trees.
+//! The trees of a program's rules, or their first fault: `rules(alloc, &table, files)`.
+//! In come files and their table; out goes a tree for each predicate that has a rule, with what each name means.
+//! Called by nddl_problem; `put_at` and `list_at` by nddl_instance.
+//! Knows nothing of objects and of the model's rules. How names are looked up (`Sight`) and trees gathered may change.
 #![tactic(auto)]
 
 pub mod answers;

@@ -1,9 +1,7 @@
-//! The declarations of all files as one list, and the names that they give to the scope. `join(alloc, files.as_slice())?`
-//! gives the sites of all declarations in their order, where those of an included file stand at the place of its include. A
-//! place in a program is the number of a declaration among them and a byte of its file. `declared_names(alloc, decls)?` lists
-//! the names in their order, `Scope::of(alloc, names)?` finds them by their spelling, and `note_second_names(&scope, &mut
-//! first)` tells which are declared a second time. What is wrong first: `note_at(&mut first, decl, at, kind)` keeps the first
-//! of the faults that are noted.
+//! The symbol table of a program: `Scope::of(alloc, declared_names(alloc, decls)?)?`; `join` makes one list of all files.
+//! In come files; out go sites, names, what each name means, and the first of the faults that stages note (`note_at`).
+//! Called by all stages of the compiler behind the parser; `NameIndex` also by plan_words.
+//! Knows nothing of types and members. How a name is found may change: to contracts a `Scope` is a list.
 #![tactic(auto)]
 
 pub mod builtin;

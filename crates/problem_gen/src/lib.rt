@@ -1,7 +1,7 @@
-//! A problem of any size, for trials of the solver: so many jobs on one line, each with a use of the one tool.
-//!
-//! `generate(alloc, 40)?` is its text with forty goals. Each goal starts at a time of its own, the first one last, so that no
-//! job can be merged into another, and a search tries each merge before it activates a token.
+//! A problem of any size for trials of the solver: `generate(alloc, 40)?` is its text with forty goals on one timeline.
+//! A number from 1 to 200 comes in; bytes of NDDL go out, exactly `generated_text`.
+//! run_commands calls it, for `gen` and `try`, and tests do.
+//! It knows nothing of the compiler and models. How the text is put together may change, the text may not.
 #![tactic(auto)]
 
 mod generating;

@@ -1,7 +1,9 @@
-//! A line of a script to a command, and a command to a decision. `read_line(alloc, b"specify x 4")` answers the command that
-//! gives `x` the value 4, or why the line asks for nothing: it is too long, or its words are no command. Which line is which
-//! command is defined in `specs/Line`. `decision_asked(&model, &command)?` is the decision for which the command asks, None
-//! where its words name nothing or say no value; the parts of it serve other commands too: `kind_of` and `value_said`.
+//! A line of a script to a command, and a command to a decision: `read_line(alloc, b"specify x 4")` is the command that
+//! gives `x` the value 4.
+//! Bytes of a line come in, and a `Command` or a `LineFault` goes out; `decision_asked(&indexed, &command)?` goes on to the
+//! decision, where a value outside the range may be another such value.
+//! session_core calls it; session_replies proves its lines of decisions by it.
+//! It knows nothing of the database. How words are cut and verbs recognised may change; `specs/Line` may not.
 #![tactic(auto)]
 
 pub mod asking;

@@ -1,6 +1,7 @@
-//! Replies as lines: domains, tokens, decisions, edges and flaws as a session prints them, and how a search ended, by a line
-//! and behind what was found by the text of the plan: `end_text(alloc, &db, end)?`, in whose database the decisions found
-//! stand. A law says that what is printed of a decision is read back as a command that asks for it.
+//! Replies as lines: `end_text(alloc, &db, end)?` is the line of how a search ended, and after a plan was found its text.
+//! A model with a domain, a view, decisions, edges or a flaw comes in; bytes go out, each line with its line feed.
+//! session_core and run_commands call it; what is printed of a decision is read back as its command (`laws`).
+//! It knows nothing of sessions, and changes no database. How lines are put together may change; `specs/Lines` may not.
 #![tactic(auto)]
 
 mod counting;

@@ -1,6 +1,5 @@
-//! The tests of the crates that compile texts: of what they rest on (nddl_symbols, nddl_ast and nddl_symbols), of the
-//! table of names and types, of rules, and of what is wrong first with whole programs. Nothing here is called by others:
-//! `rt test` runs it.
+//! Tests of the compiler's stages: nddl_ast and nddl_symbols, the table of names and types, rules, and first faults of
+//! whole programs. Nothing here is called by others.
 #![tactic(auto)]
 
 #[cfg(test)]

@@ -1,5 +1,4 @@
-//! The tests of the crates that read and print texts: nddl_lexer, nddl_ast, nddl_parser, nddl_print, nddl_parser
-//! and nddl_parser, and of eu_name's words. Nothing here is called by others: `rt test` runs it.
+//! Tests of nddl_lexer, nddl_ast, nddl_parser and nddl_print, and of eu_name's words. Nothing here is called by others.
 #![tactic(auto)]
 
 #[cfg(test)]

@@ -1,7 +1,8 @@
-//! Tokens on one timeline: which orders of two of them are left, and the first two that have none.
-//!
-//! `forced(a, b)` is `ForcedOrder::Second` where `a` can't end before `b` starts, so that only `b` before `a` is left.
-//! `first_unordered(model, view)` is the places of the first two active tokens on one timeline that have no order.
+//! Tokens on one timeline: `forced(a, b)` is which orders of two tokens with these ends are left, one, both or neither.
+//! Ends of two tokens come in, or a view of a state (`first_unordered`); an order goes out, or the places of the first two
+//! active tokens without one.
+//! The database, flaws and the plan of a state call it.
+//! It knows nothing of how states are stored. How pairs are gone through may change.
 #![tactic(auto)]
 
 pub mod order;
