@@ -24,8 +24,8 @@ BUILT_IN = ("Plasma.nddl", "PlannerConfig.nddl")
 MOST_BYTES, MOST_INPUT = 1_048_576, 64 << 20
 # How long the program may run once it is compiled, in seconds.
 SECONDS = 1800
-# What compiling takes, in GB.
-MEMORY = 4
+# What compiling takes, in GB, with the check that the kit makes beside it.
+MEMORY = 7
 # The program's status where a write to standard output fails.
 WRITE_FAILED = 21
 INCLUDE = re.compile(rb'//[^\n]*|/\*.*?\*/|#include(?:\s|//[^\n]*\n|/\*.*?\*/)*"([^"\n]*)"|"[^"\n]*"', re.S)
