@@ -1,11 +1,7 @@
-//! Domains in cells: a cell is narrowed in place, and what the cells were at a mark can be gone back to.
-//!
-//! ```text
-//! let cell = cells.new_cell(domain)?;
-//! let mark = cells.mark();
-//! cells.narrow(cell, &narrower, mark)?;
-//! cells.back_to(mark); // the cell has its domain again, and a greater stamp
-//! ```
+//! Domains in cells, narrowed in place by `cells.narrow(cell, &narrower, mark)?` and brought back by `cells.back_to(mark)`.
+//! In come the number of a cell and a domain; out go a `Change`, a domain, a stamp, or a `Mark`.
+//! Called by constraint_net, which keeps its domains here; db_store takes `short` alone, for numbers in 32 bits.
+//! Knows nothing of variables, constraints, and why a domain is narrowed. What the trail keeps of each write may change.
 #![tactic(auto)]
 
 pub mod cells;

@@ -43,7 +43,7 @@ impl Cell {
         change
     }
 
-    // The same, and where the cell was written it knows the length of the trail.
+    // Keeps what the other domain has too, and notes this length of the trail, if the cell was written.
     fn meet_behind(&mut self, to: &Dom, behind: usize) -> Change
         ensures { MeetsBehind behind to.now self.old result self.new }
     {

@@ -1,3 +1,5 @@
 pub mod Turning
 pub mod Telling
-pub mod plan_deciding
+pub mod Ordering
+pub mod Naming
+pub mod Copying

@@ -6,13 +6,13 @@ use Rattle.std.specs.declared.alloc.AllocError.{AllocError}
 use Rattle.model_core.specs.declared.decision.Decision.{Decision}
 use Rattle.model_core.specs.History.{standing}
 use Rattle.plan_defs.specs.Settling.{IsConflict}
-use Rattle.plan_db.proofs.plan_steps.Keeping.{standing_settled}
-use Rattle.plan_cycles.specs.plan_edges.NamedEdge.{NamedEdge}
-use Rattle.plan_cycles.specs.TimeCycle.{IsTimeCycle}
+use Rattle.plan_defs.proofs.Histories.{standing_settled}
+use Rattle.db_edges.specs.declared.edge.NamedEdge.{NamedEdge}
+use Rattle.db_edges.specs.TimeCycle.{IsTimeCycle}
 use Rattle.plan_db.specs.Answers.{Held}
 use Rattle.plan_db.specs.Database.{IsSound, HasCollapsed}
 use Rattle.plan_db.specs.Edges.{AnswersEdges}
-use Rattle.conflict_laws.specs.Conflicts.{IsMinimal, ConflictsAreMinimal}
+use Rattle.law_states.specs.Conflicts.{IsMinimal, ConflictsAreMinimal}
 use Rattle.conflict_core.specs.declared.fault.WhyFault.{WhyFault}
 use Rattle.conflict_core.specs.declared.fault.WhyFault.TheVariants as fault
 use Rattle.conflict_core.specs.Answers.{AnswersConflict, AnswersCycle, AnswersNoReason}

@@ -10,9 +10,9 @@ use Rattle.model_core.specs.declared.model.Model.{Model}
 use Rattle.model_core.specs.History.{History, standing, accepted}
 use Rattle.plan_defs.specs.Refusals.{IsAdmissible}
 use Rattle.plan_defs.specs.Settling.{SettlesAfter, Settles, SettlesToCollapse, SettlesToLeast, ReducesTo, IsConflict}
-use Rattle.plan_db.specs.plan_state.Standing.{Stood, KeepsList}
-use Rattle.plan_db.specs.plan_steps.Kept.{KeepsHistory, LeaveState, WithdrawsLast}
-use Rattle.plan_db.proofs.plan_steps.Fronts.{settles_both}
+use Rattle.db_history.specs.Standing.{Stood, KeepsList}
+use Rattle.db_history.specs.Kept.{KeepsHistory, LeaveState, WithdrawsLast}
+use Rattle.db_history.proofs.Fronts.{settles_both}
 use Rattle.conflict_core.specs.Turns.{GrownBy, GoesOnBy, LeavesBehind, ReducesTurn}
 
 -- ---- going on

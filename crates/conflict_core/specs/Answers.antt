@@ -7,8 +7,8 @@ use Rattle.plan_defs.specs.Settling.{IsConflict}
 use Rattle.plan_db.specs.Answers.{Held}
 use Rattle.plan_db.specs.Database.{HasLeast, HasCollapsed}
 use Rattle.plan_db.specs.Edges.{AreStandingEdges}
-use Rattle.plan_cycles.specs.plan_edges.NamedEdge.{NamedEdge}
-use Rattle.plan_cycles.specs.TimeCycle.{IsTimeCycle}
+use Rattle.db_edges.specs.declared.edge.NamedEdge.{NamedEdge}
+use Rattle.db_edges.specs.TimeCycle.{IsTimeCycle}
 use Rattle.conflict_core.specs.declared.fault.WhyFault.{WhyFault}
 use Rattle.conflict_core.specs.declared.fault.WhyFault.TheVariants as fault
 

@@ -1,7 +1,4 @@
 pub mod Turns
 pub mod Answers
-pub mod plan_cycles
-pub mod plan_db
-pub mod plan_edges
-pub mod plan_state
-pub mod plan_steps
+pub mod Points
+pub mod Walks

@@ -4,14 +4,14 @@ ghost use Rattle.std.specs.Prelude.{◌≡◌, ◌∷◌, [], IfOk, IsErr, OnOk,
 ghost use Rattle.model_core.specs.History.{standing};
 ghost use Rattle.model_core.specs.Lawful.{IsLawful};
 ghost use Rattle.plan_defs.specs.Settling.{IsConflict};
-ghost use Rattle.plan_db.specs.plan_steps.Kept.{KeepsHistory};
+ghost use Rattle.db_history.specs.Kept.{KeepsHistory};
 ghost use Rattle.conflict_core.specs.Turns.{ReducesTurn};
 
 use super::turns::{leave_something, take_if_admissible};
+use db_history::Standing;
 use decision_log::Log;
 use model_core::decision::Decision;
 use model_core::model::Model;
-use plan_db::passed_plan_state::Standing;
 use std::alloc::{AllocError, Global};
 
 // Takes the decision, unless what can be kept of those behind it leaves nothing without it too.

@@ -4,7 +4,7 @@ ghost use Rattle.std.specs.Prelude.{MatchResult};
 ghost use Rattle.conflict_core.specs.Answers.{AnswersCycle, AnswersNoReason};
 
 use super::fault::{WhyFault, or_memory};
-use plan_cycles::cycle_of;
+use crate::cycle_of;
 use plan_db::{Db, EdgeFault, NamedEdge};
 use std::alloc::Global;
 

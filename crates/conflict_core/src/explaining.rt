@@ -1,12 +1,12 @@
 //! Why the decisions of a database leave nothing.
 
 ghost use Rattle.std.specs.Prelude.{IfOk, MatchResult};
-ghost use Rattle.conflict_laws.specs.Conflicts.{IsMinimal};
+ghost use Rattle.law_states.specs.Conflicts.{IsMinimal};
 ghost use Rattle.conflict_core.specs.Answers.{AnswersConflict, AnswersNoReason};
 
 use super::conflict::conflict_of;
 use super::fault::{WhyFault, or_memory};
-use conflict_laws::laws::conflicts_are_minimal;
+use law_states::conflicts::conflicts_are_minimal;
 use model_core::decision::Decision;
 use plan_db::Db;
 use std::alloc::Global;

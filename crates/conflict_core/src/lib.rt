@@ -1,17 +1,18 @@
-//! Why decisions leave nothing possible: those of them that suffice for it, and the cycle of what they ask of points in time.
-//!
-//! Where the decisions of a database leave nothing, `why(alloc, &db)?` is their conflict: without any one of it something is
-//! possible again. `time_cycle(alloc, &db)?` is the cycle of their time edges, from its first point on. Neither touches the
-//! database.
+//! Why decisions leave nothing possible, by a conflict of them or by a cycle of time edges: `why(alloc, &db)?`.
+//! In comes a `Db` whose decisions leave nothing; out goes their conflict, or by `time_cycle` the cycle of their edges.
+//! Called by session_core. No call changes the database.
+//! Knows nothing of texts and of the search. How lists are tried and cycles turned may change.
 #![tactic(auto)]
 
 mod conflict;
 mod cycle;
+mod edge_cycle;
 mod explaining;
 pub mod fault;
-pub mod passed_plan_db;
+mod points;
 mod turns;
 
 pub use cycle::time_cycle;
+pub use edge_cycle::cycle_of;
 pub use explaining::why;
 pub use fault::WhyFault;

@@ -5,14 +5,13 @@ ghost use Rattle.model_core.specs.declared.model.Model.{Model as Problem};
 ghost use Rattle.model_core.specs.History.{History, standing};
 ghost use Rattle.model_core.specs.Lawful.{IsLawful};
 ghost use Rattle.plan_defs.specs.Settling.{SettlesAfter};
-ghost use Rattle.plan_db.specs.plan_steps.Kept.{KeepsHistory};
+ghost use Rattle.db_history.specs.Kept.{KeepsHistory};
 ghost use Rattle.conflict_core.specs.Turns.{GoesOnBy, GrownBy, LeavesBehind};
 
+use db_history::{Standing, accept, fits, judge, withdraw};
 use decision_log::Log;
 use model_core::decision::Decision;
 use model_core::model::Model;
-use plan_db::passed_plan_state::Standing;
-use plan_db::passed_plan_steps::{accept, fits, judge, withdraw};
 use std::alloc::AllocError;
 
 /// Takes the decision where it is admissible after those that stand.

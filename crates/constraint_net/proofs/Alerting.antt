@@ -11,8 +11,8 @@ use Rattle.domain_core.specs.Domain.{Domain, Range, slack}
 use Rattle.domain_core.specs.declared.Change.{Change}
 use Rattle.domain_core.specs.declared.Change.TheVariants.{Same, Smaller, Empty}
 use Rattle.cell_store.specs.Cells.{Celled, present, newest_of, domain_at, IsPlace, StepsFrom, IsStep}
-use Rattle.narrow_core.specs.model_core.Kind.TheVariants as kind
-use Rattle.narrow_core.specs.model_core.Constraints.{AgreeOn}
+use Rattle.domain_core.specs.declared.kind.Kind.TheVariants as kind
+use Rattle.domain_core.specs.Constraints.{AgreeOn}
 use Rattle.narrow_core.specs.declared.field.Field.{Field}
 use Rattle.constraint_net.specs.Agendas.{HasVariables, Waits, Stays, IsAlerted, Wakes, AlertsAfter, LimitAlerts, Alerts, TellsOfLoss, AlertsSince, IsStepped, SteppedFrom}
 use Rattle.constraint_net.specs.Arguments.{IsArgument, domains_of}

@@ -6,11 +6,11 @@ use Rattle.std.proofs.lemmas.List.{length_push, length-take, get_or_append_left}
 use Rattle.std.proofs.lemmas.List.Elements.{All-head, All-tail}
 use Rattle.std.proofs.lemmas.Option.{slice_get_within, get_or_from_slice_get}
 use Rattle.domain_core.specs.Domain.{Domain, Range}
-use Rattle.narrow_core.specs.model_core.Consistency.{Values, AreConsistent}
-use Rattle.narrow_core.specs.model_core.Constraints.{AgreeOn, IsFieldOf}
-use Rattle.narrow_core.specs.model_core.Kind.TheVariants as kinds
+use Rattle.domain_core.specs.Consistency.{Values, AreConsistent}
+use Rattle.domain_core.specs.Constraints.{AgreeOn, IsFieldOf}
+use Rattle.domain_core.specs.declared.kind.Kind.TheVariants as kinds
 use Rattle.narrow_core.specs.Meanings.{IsInTable}
-use Rattle.narrow_core.specs.model_core.Kind.{Kind}
+use Rattle.domain_core.specs.declared.kind.Kind.{Kind}
 use Rattle.narrow_core.specs.declared.field.Field.{Field}
 use Rattle.constraint_net.specs.Agendas.{HasVariables, Grows, Enrols, Forgets, Waits}
 use Rattle.constraint_net.specs.Arguments.{IsArgument, domains_of}

@@ -12,7 +12,7 @@ use Rattle.domain_core.specs.declared.Change.{Change}
 use Rattle.domain_core.specs.declared.Change.TheVariants.{Same, Smaller, Empty}
 use Rattle.domain_core.proofs.Words.{IsWithin-refl}
 use Rattle.cell_store.specs.Cells.{Celled, present, newest_of, domain_at, AddsCell, IsPlace, GoesBack, KeepsPast}
-use Rattle.narrow_core.specs.model_core.Kind.{Kind}
+use Rattle.domain_core.specs.declared.kind.Kind.{Kind}
 use Rattle.narrow_core.specs.Laws.{LieWithin}
 use Rattle.narrow_core.specs.declared.field.Field.{Field}
 use Rattle.constraint_net.specs.Agendas.{HasVariables, Grows, Enrols, AlertsAfter, LimitAlerts, Alerts, AlertsSince, Forgets}

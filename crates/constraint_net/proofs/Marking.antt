@@ -5,7 +5,7 @@ use Rattle.std.specs.declared.alloc.AllocError.{AllocError}
 use Rattle.std.proofs.Math.Seq.{take-append-add}
 use Rattle.domain_core.specs.Domain.{Domain}
 use Rattle.domain_core.specs.declared.Change.{Change}
-use Rattle.narrow_core.specs.model_core.Kind.{Kind}
+use Rattle.domain_core.specs.declared.kind.Kind.{Kind}
 use Rattle.constraint_net.specs.Calls.{AddsVar, Posts, Limits, GoesDown}
 use Rattle.constraint_net.specs.Marks.{IsMark, Returns}
 use Rattle.constraint_net.specs.Networks.{Network, cells_of}

@@ -6,10 +6,10 @@ use Rattle.std.proofs.lemmas.List.Elements.{All-head, All-tail}
 use Rattle.std.proofs.lemmas.Int.{ints}
 use Rattle.domain_core.specs.Domain.{Domain, Range, IsDomain, IsValue, IsSingle}
 use Rattle.domain_core.specs.declared.Change.{Change}
-use Rattle.narrow_core.specs.model_core.Consistency.{Values, Ends}
-use Rattle.narrow_core.specs.model_core.Constraints.{AgreeOn, HoldsOf, IsFieldOf}
-use Rattle.narrow_core.specs.model_core.Kind.{Kind}
-use Rattle.narrow_core.specs.model_core.Kind.TheVariants as kind
+use Rattle.domain_core.specs.Consistency.{Values, Ends}
+use Rattle.domain_core.specs.Constraints.{AgreeOn, HoldsOf, IsFieldOf}
+use Rattle.domain_core.specs.declared.kind.Kind.{Kind}
+use Rattle.domain_core.specs.declared.kind.Kind.TheVariants as kind
 use Rattle.narrow_core.specs.Meanings.{IsInTable, IsProduct}
 use Rattle.narrow_core.specs.declared.field.Field.{Field}
 use Rattle.narrow_core.proofs.Three.{like_three}

@@ -12,7 +12,7 @@ use Rattle.domain_core.specs.declared.Change.{Change}
 use Rattle.domain_core.specs.declared.Change.TheVariants.{Same, Smaller, Empty}
 use Rattle.domain_core.proofs.Words.{slack_within}
 use Rattle.domain_core.proofs.Keeping.{keeps_monotone}
-use Rattle.narrow_core.specs.model_core.Consistency.{Reach, IsSupported}
+use Rattle.domain_core.specs.Consistency.{Reach, IsSupported}
 use Rattle.narrow_core.specs.Laws.{LieWithin}
 use Rattle.narrow_core.proofs.Below.{are_domains, supported_along}
 use Rattle.narrow_core.proofs.Places.{all_before, same_split}

@@ -1,7 +1,7 @@
 -- The arguments of constraints.
 use Rattle.std.specs.Prelude.{ℕ, ◌<◌, ℤ, pos, List, map, slice_index_or}
 use Rattle.domain_core.specs.Domain.{Domain, Range, IsValue}
-use Rattle.narrow_core.specs.model_core.Consistency.{Reach, AreConsistent}
+use Rattle.domain_core.specs.Consistency.{Reach, AreConsistent}
 use Rattle.constraint_net.specs.declared.constraint.NetArg.{NetArg}
 use Rattle.constraint_net.specs.declared.constraint.NetArg.TheVariants.{Var, Lit}
 

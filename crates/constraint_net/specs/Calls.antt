@@ -6,7 +6,7 @@ use Rattle.domain_core.specs.Domain.{Domain}
 use Rattle.domain_core.specs.declared.Change.{Change}
 use Rattle.domain_core.specs.declared.Change.TheVariants.{Empty}
 use Rattle.cell_store.specs.Cells.{domain_at, KeepsPast, FollowsDomain}
-use Rattle.narrow_core.specs.model_core.Kind.{Kind}
+use Rattle.domain_core.specs.declared.kind.Kind.{Kind}
 use Rattle.narrow_core.specs.declared.field.Field.{Field}
 use Rattle.narrow_core.specs.declared.field.FieldEntry.{FieldEntry}
 use Rattle.constraint_net.specs.Networks.{Network}

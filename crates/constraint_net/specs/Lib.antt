@@ -11,5 +11,3 @@ pub mod Limits
 pub mod Calls
 pub mod Marks
 pub mod Kept
-pub mod cell_store
-pub mod narrow_core

@@ -2,9 +2,9 @@
 use Rattle.std.specs.Prelude.{◌≡◌, ◌≢◌, ℕ, ◌<◌, ℤ, pos, List, [], ◌∷◌, All, length, ⊤, slice_get, IsSomeAnd}
 use Rattle.domain_core.specs.Domain.{Domain}
 use Rattle.cell_store.specs.Cells.{Celled}
-use Rattle.narrow_core.specs.model_core.Constraints.{AgreeOn, arity_of}
-use Rattle.narrow_core.specs.model_core.Kind.{Kind}
-use Rattle.narrow_core.specs.model_core.Kind.TheVariants as kind
+use Rattle.domain_core.specs.Constraints.{AgreeOn, arity_of}
+use Rattle.domain_core.specs.declared.kind.Kind.{Kind}
+use Rattle.domain_core.specs.declared.kind.Kind.TheVariants as kind
 use Rattle.narrow_core.specs.Meanings.{IsInTable}
 use Rattle.narrow_core.specs.declared.field.Field.{Field}
 use Rattle.constraint_net.specs.Arguments.{IsArgument, domains_of}

@@ -4,7 +4,7 @@ use Rattle.std.specs.declared.alloc.AllocError.{AllocError}
 use Rattle.domain_core.specs.Domain.{Domain, Range, IsDomain}
 use Rattle.domain_core.specs.Narrowing.{Keeps}
 use Rattle.domain_core.specs.declared.Change.TheVariants as change
-use Rattle.narrow_core.specs.model_core.Consistency.{Reach, IsSupported}
+use Rattle.domain_core.specs.Consistency.{Reach, IsSupported}
 use Rattle.narrow_core.specs.Sweeps.{AllTested}
 use Rattle.constraint_net.specs.Arguments.{domains_of}
 use Rattle.constraint_net.specs.declared.constraint.NetArg.{NetArg}

@@ -1,7 +1,7 @@
 -- How the constraints of a network are stored.
 use Rattle.std.specs.Prelude.{◌≢◌, ℕ, List, [], map, All, AllPairs, Option, Some, None}
 use Rattle.slab.specs.Slab.{Slab, get, ContainsKey}
-use Rattle.narrow_core.specs.model_core.Kind.TheVariants as kind
+use Rattle.domain_core.specs.declared.kind.Kind.TheVariants as kind
 use Rattle.constraint_net.specs.declared.constraint.Constraint.{Constraint}
 
 -- what is stored, where something is

@@ -122,7 +122,7 @@ fn watch(watchers: &mut Watchers, number: usize, args: &[NetArg]) -> Result<(), 
     Ok(())
 }
 
-// The same for one argument.
+// Adds the number to the list of the argument, if it is a variable.
 fn watch_one(watchers: &mut Watchers, number: usize, arg: NetArg) -> Result<(), AllocError>
     requires { IsArgument (length watchers.old) arg }
     ensures { Joins number (arg ∷ []) watchers.old result watchers.new }
@@ -152,7 +152,7 @@ fn forget_all(watchers: &mut Watchers, args: &[NetArg], count: usize)
     }
 }
 
-// The same for one argument.
+// Takes the numbers from the count on off the list of the argument, if it is a variable.
 fn forget_one(watchers: &mut Watchers, arg: NetArg, count: usize)
     requires { IsArgument (length watchers.old) arg }
     ensures { KeepsBelow count watchers.old watchers.new }

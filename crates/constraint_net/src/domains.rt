@@ -221,7 +221,7 @@ fn keep_common(
     limit_cell(cells, agenda, variable, other, since)
 }
 
-// The same, as the cells say it.
+// Narrows the cell of the variable so, and tells who watches it, if it has changed.
 fn limit_cell(
     cells: &mut Cells,
     agenda: &mut Agenda,
@@ -242,7 +242,7 @@ fn limit_cell(
     Ok(change)
 }
 
-// The same, and nobody is told.
+// Narrows the cell so, and tells nobody.
 fn narrow_cell(
     cells: &mut Cells,
     variable: usize,

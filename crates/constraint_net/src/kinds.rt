@@ -1,9 +1,9 @@
 //! Which law each kind of constraint has.
 
 ghost use Rattle.std.specs.Prelude.{◌≤◌, [], ◌∷◌, All, length};
-ghost use Rattle.narrow_core.specs.model_core.Consistency.{Ends};
-ghost use Rattle.narrow_core.specs.model_core.Constraints.{HoldsOf};
-ghost use Rattle.narrow_core.specs.model_core.Kind.TheVariants as kind;
+ghost use Rattle.domain_core.specs.Consistency.{Ends};
+ghost use Rattle.domain_core.specs.Constraints.{HoldsOf};
+ghost use Rattle.domain_core.specs.declared.kind.Kind.TheVariants as kind;
 ghost use Rattle.cell_store.specs.Cells.{present};
 ghost use Rattle.constraint_net.specs.Agendas.{HasVariables, Alerts, TellsOfLoss};
 ghost use Rattle.constraint_net.specs.Arguments.{IsArgument, AgreeAt};
@@ -15,10 +15,10 @@ use super::constraint::{Constraint, NetArg};
 use super::domains::Domains;
 use cell_store::Mark;
 use domain_core::Change;
+use domain_core::kind::Kind;
 use narrow_core::equal::{Eq, Neq};
 use narrow_core::field::Field;
 use narrow_core::order::{Leq, Lt};
-use narrow_core::passed_model_core::Kind;
 use narrow_core::product::MulEq;
 use narrow_core::sum::AddEq;
 use narrow_core::tested::{TestEq, TestLeq};
@@ -79,7 +79,7 @@ fn narrow_product(args: &[NetArg], domains: &mut Domains, since: Mark) -> Result
     }
 }
 
-// The same with the arguments one by one.
+// Takes the three arguments one by one, and narrows by the factor, which is a number.
 fn narrow_by_factor(
     x: NetArg,
     factor: NetArg,

@@ -5,7 +5,7 @@ ghost use Rattle.std.specs.declared.alloc.AllocError.{AllocError};
 ghost use Rattle.domain_core.specs.Domain.{Domain};
 ghost use Rattle.narrow_core.specs.declared.field.Field.{Field};
 ghost use Rattle.domain_core.specs.declared.Change.{Change};
-ghost use Rattle.narrow_core.specs.model_core.Kind.{Kind};
+ghost use Rattle.domain_core.specs.declared.kind.Kind.{Kind};
 ghost use Rattle.constraint_net.specs.Calls.{AddsVar, Posts, Limits, GoesDown};
 ghost use Rattle.constraint_net.specs.Marks.{IsMark, KeepMarks, Returns};
 ghost use Rattle.constraint_net.specs.Networks.{Network, AllConsistent};

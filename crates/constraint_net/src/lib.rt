@@ -1,10 +1,8 @@
-//! Variables with their domains and constraints on them: what is left of the domains where all constraints are to be
-//! consistent.
-//!
-//! `let x = net.add_var(domain)?` adds a variable, and with `let args = [net.variable(x), NetArg::Lit(5)]` the call
-//! `net.post(Kind::Leq, &args)?` a constraint on it. After `net.settle_all()?` its domain is `net.get(x)`. With
-//! `let mark = net.mark()` before, the call `net.back_to(mark)` brings back what was there, `net.stamp(x)` tells how
-//! often the domain was written, and `net.next_changed()` which variables have changed.
+//! Variables with domains, and constraints on them: `net.post(Kind::Leq, &args)?`, then `net.settle_all()?`, `net.get(x)`.
+//! In come domains, tables of fields, constraints by numbers of variables; out go domains, stamps and changed variables.
+//! After `settle_all` the domains are the greatest consistent ones; `NetFault::Collapsed` says that there are none.
+//! Called by the database, whose store (db_store) has a `Net`.
+//! Knows nothing of tokens, rules, decisions, and what a variable stands for. The order of the agenda may change.
 #![tactic(auto)]
 
 mod agenda;
@@ -13,7 +11,6 @@ mod domains;
 mod kinds;
 pub mod laws;
 pub mod network;
-pub mod passed_cell_store;
 mod posted;
 mod queue;
 mod reading;

@@ -24,9 +24,9 @@ use super::written::written_since;
 use cell_store::Mark as CellMark;
 use domain_core::Change;
 use domain_core::domain::Dom;
+use domain_core::kind::Kind;
+use eu_name::sequence::Sequence;
 use narrow_core::field::{Field, FieldEntry};
-use narrow_core::passed_eu_name::Sequence;
-use narrow_core::passed_model_core::Kind;
 use std::alloc::{AllocError, Global};
 use std::marker::Model;
 

@@ -1,13 +1,13 @@
 //! The constraints that were posted.
 
 ghost use Rattle.std.specs.Prelude.{◌≡◌, ℕ, [], ◌∷◌, ◌++◌, length, option_copied, slice_get, Contains, IsTrue, IfSome, OnOk, OnErr, MatchOption};
-ghost use Rattle.narrow_core.specs.model_core.Kind.TheVariants.{Leq};
+ghost use Rattle.domain_core.specs.declared.kind.Kind.TheVariants.{Leq};
 ghost use Rattle.constraint_net.specs.declared.constraint.NetArg.TheVariants.{Var};
 
 use super::constraint::{Arguments, Constraint, NetArg};
 use cell_store::numbers::short;
+use domain_core::kind::Kind;
 use indexmap::IndexMap;
-use narrow_core::passed_model_core::Kind;
 use slab::Slab;
 use std::alloc::{AllocError, Global};
 use std::marker::Model;
@@ -102,7 +102,7 @@ impl Posted {
         }
     }
 
-    // The same for a constraint that is at hand.
+    // Puts a constraint that is at hand behind the others, or changes nothing.
     fn store(&mut self, constraint: Constraint) -> Result<(), AllocError>
         ensures ok { OnOk result (self.new ≡ self.old ++ constraint ∷ []) }
         ensures err { OnErr result (self.new ≡ self.old) }

@@ -4,7 +4,7 @@
 ghost use Rattle.std.specs.Prelude.{◌≡◌, ◌+◌, ◌<◌, pos, All, OnOk, length, map, slice_index_or};
 ghost use Rattle.cell_store.specs.Cells.{present};
 ghost use Rattle.domain_core.specs.Domain.{Range, IsValue};
-ghost use Rattle.narrow_core.specs.model_core.Consistency.{IsSupported};
+ghost use Rattle.domain_core.specs.Consistency.{IsSupported};
 ghost use Rattle.constraint_net.specs.Arguments.{IsArgument, domains_of};
 ghost use Rattle.constraint_net.specs.Reading.{literal_of, literals_of, LeavesOwn, LeavesAt};
 
@@ -35,7 +35,7 @@ fn literal_of(arg: NetArg) -> i32
     }
 }
 
-// The same as a domain.
+// The value that stands as the argument, as a range that has it alone.
 fn literal(arg: NetArg) -> Dom
     requires { IsValue (literal_of arg) }
     ensures { result ≡ Range (literal_of arg) (literal_of arg) }

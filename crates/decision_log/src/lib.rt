@@ -1,12 +1,7 @@
-//! The decisions that stand, and the steps by which they came to stand: a decision taken, or decisions taken out.
-//! Each step can be undone, and brings back the list before it.
-//!
-//! ```text
-//! let mut log = Log::new(alloc);
-//! log.push(decision)?;
-//! log.take_out(&[false])?; // nothing stands
-//! log.undo()?;             // the decision stands again
-//! ```
+//! The decisions that stand, and the steps by which they came to stand: `log.push(decision)?`.
+//! In comes a decision, or a flag for each that stands; out goes the list that stands, and behind `undo` the one before.
+//! Called by db_history; plan_db and conflict_core keep a `Log`.
+//! Knows nothing of whether a decision may be taken, and of what it leaves. How former lists are rebuilt may change.
 #![tactic(auto)]
 
 pub mod log;

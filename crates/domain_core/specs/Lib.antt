@@ -4,3 +4,5 @@ pub mod Intervals
 pub mod Forms
 pub mod Lists
 pub mod Laws
+pub mod Consistency
+pub mod Constraints

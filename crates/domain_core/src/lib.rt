@@ -1,7 +1,8 @@
-//! Domains of variables: which values are left, and what taking values away leaves.
-//!
-//! `Dom::range(0, 10)` is the domain of the numbers from 0 to 10. `domain.meet_range(4, 20)` then keeps those from 4
-//! on, and answers `Change::Smaller`.
+//! Domains of variables, which are ranges or sets of whole numbers: `Dom::range(0, 10)`, then `domain.meet_range(4, 20)`.
+//! In come numbers and lists of them; out goes a domain, or a `Change`: none went, some went, or none would have been left.
+//! Called by all crates that have domains, from narrow_core to the compiler, and for `Kind`, the kinds of constraints.
+//! What each kind says of values is defined in specs/Constraints, but nothing is narrowed by it here.
+//! Knows nothing of variables, and of how domains are stored. How the members of a set are kept and searched may change.
 #![tactic(auto)]
 
 ghost use Rattle.std.specs.Prelude.{◌≡◌};
@@ -9,6 +10,7 @@ ghost use Rattle.std.specs.Prelude.{◌≡◌};
 mod distinct;
 pub mod domain;
 mod interval;
+pub mod kind;
 pub mod laws;
 mod members;
 pub mod number;

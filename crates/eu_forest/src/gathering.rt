@@ -74,7 +74,7 @@ fn hand_up(
     }
 }
 
-// The same for all things of the order, from the last one up.
+// Hands up what each thing of the order has, from the last one up.
 fn hand_all_up(
     alloc: Global,
     parents: &[Option<usize>],

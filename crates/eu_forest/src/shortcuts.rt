@@ -222,7 +222,7 @@ fn standing_under(up: &[Option<usize>], number: usize) -> Option<Option<usize>>
     Some(*up.get(number)?)
 }
 
-// The same, where it stands under this.
+// The shortcut of a thing that stands under this, if that has one, or under nothing.
 fn shortcut_by(
     up: &[Option<usize>],
     shortcuts: &[Option<Shortcut>],

@@ -6,3 +6,5 @@ pub mod Reserved
 pub mod Endings
 pub mod Names
 pub mod Equality
+pub mod Ordered
+pub mod Places

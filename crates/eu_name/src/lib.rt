@@ -1,8 +1,7 @@
-//! Texts, bytes and lists as contracts see them, and the names of tokens and variables with their order and their
-//! spelling.
-//!
-//! `read_name(alloc, b"g/0:2.start")?` is the name of the start of a subgoal of `g`, that of slot 2 in its first rule, and
-//! `write_name(alloc, &name)?` gives these bytes back.
+//! Texts, bytes and lists as contracts see them, and the names of tokens and variables: `read_name(alloc, b"g/0:2.start")?`.
+//! In come bytes; out goes a `NameText` or a `NameFault`, and `write_name(alloc, &name)?` gives the bytes back.
+//! Called by nearly all crates, also for the types `Text`, `Bytes`, `Sequence`, `TokenName` and `VarName`.
+//! Knows nothing of models, and whether there is what a name names. How texts are gone through may change.
 #![tactic(auto)]
 
 pub mod bytes;

@@ -1,13 +1,14 @@
-//! The program over the system's words, files, input and output. It makes the one call
-//! `europa(rt.alloc(), words, &mut shelf, &mut input, &mut out)` and ends with the number of its status.
+//! The program over the system: `europa(rt.alloc(), words, &mut shelf, &mut input, &mut out)` is the one call of `main`.
+//! Words, files and input of the system come in; output goes out, and the number of the status with which the process ends.
+//! The system calls it, and no crate does.
+//! It knows nothing of commands, models and the database. How the system's words are read may change.
 #![tactic(auto)]
 
 use eu_io::adapters::file_shelf::FileShelf;
 use eu_io::adapters::std_sink::StdSink;
 use eu_io::adapters::std_source::StdSource;
 use eu_name::text::Text;
-use europa_run::run::europa;
-use run_commands::Status;
+use europa_run::{Status, europa};
 use std::io::ErrorKind;
 use std::process::ExitCode;
 use std::{env, io};

@@ -8,8 +8,8 @@ use Rattle.session_loop.specs.Laws.{HasOneReply, IsFront}
 use Rattle.session_loop.specs.Lines.{lines_of}
 use Rattle.session_loop.specs.Sessions.{Session}
 use Rattle.session_loop.proofs.LawLemmas.{fault_writes_front}
-use Rattle.plan_soundness.specs.Soundness.{StatesHaveOnePlan}
-use Rattle.plan_verdicts.specs.Laws.{TextsAreCheckedOnce}
+use Rattle.law_states.specs.Soundness.{StatesHaveOnePlan}
+use Rattle.plan_report.specs.Laws.{TextsAreCheckedOnce}
 use Rattle.run_load.specs.Laws.{IsPosedOnce, PosedIsSound}
 use Rattle.run_commands.specs.declared.status.RunEnd.{RunEnd}
 use Rattle.run_commands.specs.declared.status.RunFault.TheVariants.{Read, Write, Memory}

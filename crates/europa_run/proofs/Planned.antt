@@ -3,15 +3,15 @@ use Rattle.std.proofs.Common.{ℕ, ◌≤◌, List, sym, subst}
 use Rattle.run_words.specs.declared.request.Request.TheVariants.{Plan}
 use Rattle.model_core.specs.History.{standing}
 use Rattle.plan_db.specs.Database.{Database, IsSound}
-use Rattle.plan_search.specs.Search.{SearchOutcome, Searches}
+use Rattle.law_search.specs.Search.{SearchOutcome, Searches}
 use Rattle.run_load.specs.Laws.{IsPosedOnce, PosedIsSound}
 use Rattle.run_commands.specs.Searching.{SearchOutput, end_of, visits_of}
 use Rattle.run_commands.specs.declared.status.RunEnd.{RunEnd}
-use Rattle.session_replies.specs.Texts.{TellsSearch}
+use Rattle.run_commands.specs.Searching.{TellsSearch}
 use Rattle.session_core.proofs.Answering.{standing_settled}
 use Rattle.session_core.proofs.Ending.{found_proves, exhausted_proves, budget_tells}
-use Rattle.solver_core.specs.declared.ending.SearchEnd.{SearchEnd}
-use Rattle.solver_core.specs.declared.ending.SearchEnd.TheVariants.{Found, Exhausted, Budget}
+use Rattle.flaw_core.specs.declared.ending.SearchEnd.{SearchEnd}
+use Rattle.flaw_core.specs.declared.ending.SearchEnd.TheVariants.{Found, Exhausted, Budget}
 use Rattle.solver_core.specs.Solving.{TellsEnd}
 use Rattle.europa_run.specs.Laws.{ProvesSearch, PlannedEndsProve}
 use Rattle.europa_run.proofs.Printing.{posed_output}

@@ -8,7 +8,7 @@ use Rattle.nddl_ast.specs.declared.kind.TextKind.{TextKind}
 use Rattle.nddl_parser.specs.declared.fault.TextFail.{TextFail}
 use Rattle.nddl_parser.proofs.OneReading.{read_once}
 use Rattle.plan_db.specs.Database.{Database}
-use Rattle.plan_verdicts.specs.Laws.{TextsAreCheckedOnce}
+use Rattle.plan_report.specs.Laws.{TextsAreCheckedOnce}
 use Rattle.run_load.specs.Laws.{IsPosedOnce}
 use Rattle.run_load.specs.Posing.{PosedFault, IsPosed}
 use Rattle.run_commands.specs.Checking.{CheckedOutput, checked_end}

@@ -11,8 +11,8 @@ use Rattle.session_loop.specs.Lines.{lines_of}
 use Rattle.session_loop.specs.Sessions.{Course}
 use Rattle.session_loop.proofs.LawLemmas.{session_is_one}
 use Rattle.plan_db.specs.Database.{Database}
-use Rattle.plan_soundness.specs.Soundness.{StatesHaveOnePlan}
-use Rattle.plan_verdicts.specs.Laws.{TextsAreCheckedOnce}
+use Rattle.law_states.specs.Soundness.{StatesHaveOnePlan}
+use Rattle.plan_report.specs.Laws.{TextsAreCheckedOnce}
 use Rattle.run_load.specs.Laws.{IsPosedOnce, PosedIsSound}
 use Rattle.run_commands.specs.Checking.{PlanFileOutput}
 use Rattle.run_commands.specs.Searching.{SearchOutput, visits_of}

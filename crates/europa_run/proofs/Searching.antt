@@ -8,19 +8,19 @@ use Rattle.model_core.specs.State.{State}
 use Rattle.plan_db.specs.Database.{Database, IsSound}
 use Rattle.plan_defs.specs.declared.plan.Plan.{Plan}
 use Rattle.plan_defs.proofs.Settling.{least_same}
-use Rattle.plan_search.specs.Search.{SearchOutcome}
-use Rattle.plan_search.proofs.Once.{visits_once}
-use Rattle.plan_soundness.specs.Soundness.{StatesHaveOnePlan}
-use Rattle.plan_verdicts.specs.declared.counting.Counts.{Counts}
-use Rattle.plan_verdicts.specs.Counting.{AreCounts}
+use Rattle.law_search.specs.Search.{SearchOutcome}
+use Rattle.law_search.proofs.Once.{visits_once}
+use Rattle.law_states.specs.Soundness.{StatesHaveOnePlan}
+use Rattle.plan_report.specs.declared.counting.Counts.{Counts}
+use Rattle.plan_report.specs.Counting.{AreCounts}
 use Rattle.run_load.specs.Laws.{IsPosedOnce, PosedIsSound}
 use Rattle.run_commands.specs.Searching.{SearchesTo, EndOutput, SearchOutput, end_of}
 use Rattle.run_commands.specs.Trying.{IsFoundText, TellsState, TellsTrial, TrialOutput, TryOutput, found_text, generated_files}
-use Rattle.session_replies.specs.Texts.{TellsSearch}
+use Rattle.run_commands.specs.Searching.{TellsSearch}
 use Rattle.session_core.proofs.Answering.{standing_settled}
 use Rattle.session_core.proofs.OneSearch.{end_one, end_told_one}
-use Rattle.solver_core.specs.declared.ending.SearchEnd.{SearchEnd}
-use Rattle.solver_core.specs.declared.ending.SearchEnd.TheVariants.{Found, Exhausted, Budget}
+use Rattle.flaw_core.specs.declared.ending.SearchEnd.{SearchEnd}
+use Rattle.flaw_core.specs.declared.ending.SearchEnd.TheVariants.{Found, Exhausted, Budget}
 use Rattle.solver_core.specs.Solving.{TellsEnd}
 use Rattle.europa_run.proofs.Printing.{IsOne, posed_one}
 

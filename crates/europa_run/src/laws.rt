@@ -2,8 +2,8 @@
 
 ghost use Rattle.europa_run.specs.Laws.{HasOneOutput, FaultLeavesFront, PlannedEndsProve};
 
-use plan_soundness::a_state_has_one_plan;
-use plan_verdicts::laws::texts_are_checked_once;
+use law_states::flawless::a_state_has_one_plan;
+use plan_report::laws::texts_are_checked_once;
 use run_load::laws::{posed_databases_are_sound, posed_once};
 use session_core::laws::each_line_has_one_reply;
 

@@ -1,7 +1,7 @@
-//! The program: from its words, files and input to its output and its status.
-//!
-//! `europa(alloc, &words, &mut shelf, &mut input, &mut out)` carries out what the words ask for and answers the `Status` that the
-//! process ends with: with `words` of `script m.nddl` it answers the lines of `input` over the problem of the file `m.nddl`.
+//! The whole program: `europa(alloc, &words, &mut shelf, &mut input, &mut out)` carries out what the words ask for.
+//! Words, a shelf, a source and a sink come in; output is written to the sink, and the `Status` of the process goes out.
+//! europa_cli calls it over the system's words, files and streams, and tests_program over objects in memory.
+//! It knows nothing of the system, and nothing of how the database is proved. Which crate does which command may change.
 #![tactic(auto)]
 
 mod answering;
@@ -10,3 +10,4 @@ pub mod run;
 mod talking;
 
 pub use run::europa;
+pub use run_commands::Status;

@@ -8,7 +8,7 @@ ghost use Rattle.run_commands.specs.Statuses.{is_read, is_write};
 use eu_io::sink::Sink;
 use eu_io::source::Source;
 use plan_db::Db;
-use plan_release::let_go;
+use plan_db::release::let_go;
 use run_commands::{RunEnd, RunFault};
 use session_core::Editor;
 use session_loop::fault::SessionFault;
@@ -33,7 +33,7 @@ pub fn talk<S: Source, O: Sink>(
     }
 }
 
-// The same by the editor that has the database.
+// Answers the input's lines by this editor, and lets its database go.
 fn edit_new<S: Source, O: Sink>(
     alloc: Global,
     editor: Editor,

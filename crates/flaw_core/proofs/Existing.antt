@@ -20,10 +20,10 @@ use Rattle.model_core.proofs.Leading.{token_once}
 use Rattle.plan_defs.specs.Refusals.{AreActive, HaveSamePredicate}
 use Rattle.plan_defs.proofs.Knowing.{IsOrNot, both_or_not}
 use Rattle.plan_defs.proofs.States.{gives_domain}
-use Rattle.plan_grounds.proofs.Grounding as grounds
-use Rattle.plan_states.specs.Flaws.{Flaw, Undecided, Undetermined, Unordered, Untimed, IsFlaw}
-use Rattle.plan_states.proofs.Telling.{one_at}
-use Rattle.plan_search.specs.Choices.{IsActivationLeft, IsRejectionLeft, AreTokenChoices, AreChoices}
+use Rattle.law_search.proofs.Grounding as grounds
+use Rattle.plan_defs.specs.Flaws.{Flaw, Undecided, Undetermined, Unordered, Untimed, IsFlaw}
+use Rattle.plan_defs.proofs.Telling.{one_at}
+use Rattle.law_search.specs.Choices.{IsActivationLeft, IsRejectionLeft, AreTokenChoices, AreChoices}
 use Rattle.flaw_core.specs.declared.flaw.Flaw as by_places
 use Rattle.flaw_core.specs.declared.flaw.Flaw.TheVariants as flaws
 use Rattle.flaw_core.specs.declared.flaw.VarPlace.{VarPlace}

@@ -4,8 +4,8 @@ use Rattle.std.proofs.lemmas.Bool.{cases_lt}
 use Rattle.model_core.specs.declared.decision.Decision.{Decision}
 use Rattle.model_core.specs.declared.model.Model.{Model}
 use Rattle.model_core.specs.State.{State}
-use Rattle.plan_states.specs.Flaws.{Flaw, IsFlaw}
-use Rattle.plan_search.specs.Choices.{IsFlawBefore}
+use Rattle.plan_defs.specs.Flaws.{Flaw, IsFlaw}
+use Rattle.law_search.specs.Choices.{IsFlawBefore}
 use Rattle.flaw_core.specs.declared.flaw.Flaw as by_places
 use Rattle.flaw_core.specs.Places.{IsFlawAt}
 use Rattle.flaw_core.specs.Rules.{IsFirstAt}

@@ -19,11 +19,11 @@ use Rattle.model_core.specs.Views.{IsTokenAt}
 use Rattle.plan_defs.specs.Refusals.{AreActive}
 use Rattle.plan_defs.proofs.Knowing.{IsOrNot}
 use Rattle.plan_defs.proofs.Members.{all_from_get}
-use Rattle.plan_defs.proofs.Ordered.{contains_head, contains_later, contains_cases, contains_none, ordered_head, ordered_tail, ordered_none, ordered_cons, same_members}
+use Rattle.eu_name.proofs.Ordered.{contains_head, contains_later, contains_cases, contains_none, ordered_head, ordered_tail, ordered_none, ordered_cons, same_members}
 use Rattle.plan_states.proofs.Following.{places_before}
-use Rattle.plan_states.proofs.Telling.{one_at}
-use Rattle.plan_search.specs.least_states.Founding.{well_founded}
-use Rattle.plan_search.proofs.Counting.{cut_at}
+use Rattle.plan_defs.proofs.Telling.{one_at}
+use Rattle.law_states.proofs.Founding.{well_founded}
+use Rattle.law_search.proofs.CountingTokens.{cut_at}
 use Rattle.flaw_core.specs.Gathering.{AreAllThat}
 use Rattle.flaw_core.specs.Rules.{IsLeastFor}
 

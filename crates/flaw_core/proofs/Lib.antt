@@ -6,3 +6,6 @@ mod Gathering
 mod Numbering
 mod Valuing
 mod Existing
+mod Stated
+pub mod Resting
+pub mod Proving

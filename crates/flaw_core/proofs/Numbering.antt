@@ -15,10 +15,10 @@ use Rattle.model_core.specs.Tokens.{HasToken, IsRejectable}
 use Rattle.model_core.specs.Views.{IsTokenAt}
 use Rattle.model_core.proofs.Leading.{token_once}
 use Rattle.plan_defs.specs.Refusals.{HaveSamePredicate, AreActive}
-use Rattle.plan_states.specs.Flaws.{Undecided, Undetermined, Unordered, Untimed}
-use Rattle.plan_states.proofs.Telling.{one_at}
-use Rattle.plan_search.specs.plan_progress.Places.{get_front}
-use Rattle.plan_search.specs.Choices.{AreTargets, AreTokenChoices, AreValueChoices, IsActivationLeft, IsRejectionLeft}
+use Rattle.plan_defs.specs.Flaws.{Undecided, Undetermined, Unordered, Untimed}
+use Rattle.plan_defs.proofs.Telling.{one_at}
+use Rattle.eu_name.proofs.Places.{get_front}
+use Rattle.law_search.specs.Choices.{AreTargets, AreTokenChoices, AreValueChoices, IsActivationLeft, IsRejectionLeft}
 use Rattle.flaw_core.specs.declared.choosing.Choice.{Choice}
 use Rattle.flaw_core.specs.declared.choosing.Choice.TheVariants.{Specify, Activate, Merge, Reject, Order}
 use Rattle.flaw_core.specs.Gathering.{AreAllThat, IsTarget}

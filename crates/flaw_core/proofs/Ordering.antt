@@ -6,8 +6,8 @@ use Rattle.eu_name.specs.declared.name.VarName.TheVariants as names
 use Rattle.eu_name.specs.NameOrder.{IsTokenBefore, IsVarBefore, ByToken}
 use Rattle.eu_name.proofs.Orders.{token_order, var_order}
 use Rattle.plan_defs.specs.Terms.{BelongsTo}
-use Rattle.plan_states.specs.Flaws.{Flaw, Undecided, Undetermined, Unordered, Untimed}
-use Rattle.plan_search.specs.Choices.{IsFlawBefore}
+use Rattle.plan_defs.specs.Flaws.{Flaw, Undecided, Undetermined, Unordered, Untimed}
+use Rattle.law_search.specs.Choices.{IsFlawBefore}
 
 tokens_apart : (a b : TokenName) → IsTokenBefore a b → IsTokenBefore b a → ⊥
 tokens_apart a b p q = token_order.irreflexive a (token_order.transitive a b a p q)

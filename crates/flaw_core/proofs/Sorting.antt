@@ -25,13 +25,13 @@ use Rattle.model_core.specs.Variables.{HasParameter}
 use Rattle.model_core.specs.Views.{IsTokenAt}
 use Rattle.model_core.proofs.Leading.{token_once}
 use Rattle.plan_defs.specs.Terms.{BelongsTo}
-use Rattle.plan_states.specs.Flaws.{Flaw, Undecided, Undetermined, Unordered, Untimed, IsFlaw, IsUntimed, IsTimed, IsLeftOpen}
-use Rattle.plan_states.specs.StatePlans.{IsSettledState}
+use Rattle.plan_defs.specs.Flaws.{Flaw, Undecided, Undetermined, Unordered, Untimed, IsFlaw, IsUntimed, IsTimed, IsLeftOpen}
+use Rattle.plan_defs.specs.StatePlans.{IsSettledState}
 use Rattle.plan_states.proofs.Counting.{number_below, rule_number_below}
 use Rattle.plan_states.proofs.Following.{places_before}
-use Rattle.plan_states.proofs.Telling.{one_at}
-use Rattle.plan_search.specs.Choices.{IsFlawBefore}
-use Rattle.timeline_core.specs.Unordered.{IsPairAt, IsFirstPair}
+use Rattle.plan_defs.proofs.Telling.{one_at}
+use Rattle.law_search.specs.Choices.{IsFlawBefore}
+use Rattle.plan_defs.specs.Unordered.{IsPairAt, IsFirstPair}
 use Rattle.flaw_core.specs.declared.flaw.Flaw.TheVariants as flaws
 use Rattle.flaw_core.specs.declared.flaw.VarPlace.{VarPlace}
 use Rattle.flaw_core.specs.declared.flaw.VarPlace.TheVariants as at

@@ -15,8 +15,8 @@ use Rattle.model_core.specs.State.{State, Gives, AreInOrder}
 use Rattle.model_core.specs.TokenStates.{HasTokenState}
 use Rattle.model_core.specs.Views.{IsTokenAt, IsDomainIn, IsDomainAt}
 use Rattle.plan_defs.proofs.States.{gives_same}
-use Rattle.plan_states.specs.StatePlans.{IsSettledState}
-use Rattle.plan_states.proofs.Telling.{one_at}
+use Rattle.plan_defs.specs.StatePlans.{IsSettledState}
+use Rattle.plan_defs.proofs.Telling.{one_at}
 use Rattle.flaw_core.specs.declared.flaw.VarPlace.{VarPlace}
 use Rattle.flaw_core.specs.declared.flaw.VarPlace.TheVariants as at
 use Rattle.flaw_core.specs.Places.{IsVarAt}

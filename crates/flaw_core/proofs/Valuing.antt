@@ -10,9 +10,9 @@ use Rattle.model_core.specs.declared.decision.Decision.{Decision}
 use Rattle.model_core.specs.declared.decision.Decision.TheVariants as decision
 use Rattle.model_core.specs.declared.model.Model.{Model}
 use Rattle.model_core.specs.State.{State, Gives, AreInOrder, IsState}
-use Rattle.plan_defs.proofs.Ordered.{contains_head, contains_later, contains_cases, contains_none, ordered_cons, ordered_none, same_members}
+use Rattle.eu_name.proofs.Ordered.{contains_head, contains_later, contains_cases, contains_none, ordered_cons, ordered_none, same_members}
 use Rattle.plan_defs.proofs.States.{gives_same, gives_domain}
-use Rattle.plan_search.specs.Choices.{AreValueChoices}
+use Rattle.law_search.specs.Choices.{AreValueChoices}
 use Rattle.flaw_core.specs.declared.choosing.Choice.TheVariants.{Specify}
 use Rattle.flaw_core.specs.declared.flaw.VarPlace.{VarPlace}
 use Rattle.flaw_core.specs.Places.{IsVarAt}

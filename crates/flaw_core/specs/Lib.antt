@@ -4,4 +4,6 @@ pub mod Gathering
 pub mod Seeking
 pub mod Picking
 pub mod PlainLaws
-pub mod plan_search
+pub mod ByRule
+pub mod Rest
+pub mod StepLaws

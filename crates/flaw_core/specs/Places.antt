@@ -6,8 +6,8 @@ use Rattle.eu_name.specs.declared.name.VarName.TheVariants as names
 use Rattle.model_core.specs.declared.decision.Decision.{Decision}
 use Rattle.model_core.specs.State.{State}
 use Rattle.model_core.specs.Views.{IsTokenAt}
-use Rattle.plan_states.specs.Flaws as named
-use Rattle.plan_states.specs.Flaws.{IsTimed, IsUntimed, IsOfRejectedToken}
+use Rattle.plan_defs.specs.Flaws as named
+use Rattle.plan_defs.specs.Flaws.{IsTimed, IsUntimed, IsOfRejectedToken}
 use Rattle.flaw_core.specs.declared.flaw.Flaw.{Flaw}
 use Rattle.flaw_core.specs.declared.flaw.Flaw.TheVariants.{Token, Value, Pair, Time}
 use Rattle.flaw_core.specs.declared.flaw.VarPlace.{VarPlace}

@@ -6,11 +6,11 @@ use Rattle.model_core.specs.declared.model.Model.{Model}
 use Rattle.model_core.specs.State.{State}
 use Rattle.plan_defs.specs.declared.plan.Plan.{Plan}
 use Rattle.plan_defs.specs.Refusals.{IsAdmissible}
-use Rattle.plan_states.specs.Flaws as named
-use Rattle.plan_search.specs.Choices.{IsLeftOut}
-use Rattle.plan_search.specs.SearchLaws.{IsChoiceOf, IsPlanFor, AgreesWithSome, IsWithinBound}
-use Rattle.plan_search.proofs.Picking.{choice_admissible}
-use Rattle.plan_search.proofs.Covering.{choices_cover}
+use Rattle.plan_defs.specs.Flaws as named
+use Rattle.law_search.specs.Choices.{IsLeftOut}
+use Rattle.law_search.specs.SearchLaws.{IsChoiceOf, IsPlanFor, AgreesWithSome, IsWithinBound}
+use Rattle.law_search.proofs.Picking.{choice_admissible}
+use Rattle.law_search.proofs.Covering.{choices_cover}
 use Rattle.flaw_core.specs.declared.flaw.Flaw.{Flaw}
 use Rattle.flaw_core.specs.declared.flaw.Flaw.TheVariants.{Token}
 use Rattle.flaw_core.specs.Places.{IsFlawAt}

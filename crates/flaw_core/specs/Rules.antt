@@ -8,9 +8,9 @@ use Rattle.plan_defs.specs.declared.plan.Plan.{Plan}
 use Rattle.plan_defs.specs.Closure.{IsLeast}
 use Rattle.plan_defs.specs.Refusals.{AreActive}
 use Rattle.plan_defs.specs.Settling.{IsSettled}
-use Rattle.plan_states.specs.Flaws as named
-use Rattle.plan_search.specs.Choices.{IsFirstFlaw, AreChoices}
-use Rattle.plan_swap.specs.SwapLaws.{count_of_tokens}
+use Rattle.plan_defs.specs.Flaws as named
+use Rattle.law_search.specs.Choices.{IsFirstFlaw, AreChoices}
+use Rattle.law_search.specs.SwapLaws.{count_of_tokens}
 use Rattle.flaw_core.specs.declared.flaw.Flaw.{Flaw}
 use Rattle.flaw_core.specs.declared.flaw.Flaw.TheVariants.{Token}
 use Rattle.flaw_core.specs.Places.{IsFlawAt}

@@ -9,8 +9,8 @@ use Rattle.model_core.specs.declared.model.Model.{Model}
 use Rattle.model_core.specs.declared.view.TokenState.{TokenState}
 use Rattle.model_core.specs.declared.view.TokenState.TheVariants.{Inactive, Active, Fact, Merged, Rejected}
 use Rattle.model_core.specs.State.{State, Gives}
-use Rattle.plan_states.specs.Flaws.{Flaw, Undecided, Undetermined, Unordered, Untimed, IsFlaw}
-use Rattle.plan_search.specs.Choices.{IsFlawBefore}
+use Rattle.plan_defs.specs.Flaws.{Flaw, Undecided, Undetermined, Unordered, Untimed, IsFlaw}
+use Rattle.law_search.specs.Choices.{IsFlawBefore}
 use Rattle.flaw_core.specs.declared.flaw.Flaw as by_places
 use Rattle.flaw_core.specs.declared.flaw.VarPlace.{VarPlace}
 use Rattle.flaw_core.specs.declared.flaw.VarPlace.TheVariants.{Global, Part, Local}

@@ -6,7 +6,7 @@ ghost use Rattle.eu_name.specs.declared.name.VarName.{VarName as Variable};
 ghost use Rattle.model_core.specs.declared.decision.Decision.{Decision as Named};
 ghost use Rattle.model_core.specs.Tokens.{IsRejectable};
 ghost use Rattle.model_core.specs.Views.{IsTokenAt};
-ghost use Rattle.plan_search.specs.Choices.{IsActivationLeft, IsRejectionLeft, AreTokenChoices, AreValueChoices};
+ghost use Rattle.law_search.specs.Choices.{IsActivationLeft, IsRejectionLeft, AreTokenChoices, AreValueChoices};
 ghost use Rattle.flaw_core.specs.Rules.{IsLeastFor, IsFirstAt, AreChoicesAt};
 ghost use Rattle.flaw_core.specs.declared.choosing.Choice.TheVariants as by_places;
 ghost use Rattle.flaw_core.specs.Gathering.{IsTarget};

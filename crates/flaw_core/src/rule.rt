@@ -15,8 +15,8 @@ pub trait FlawRule {
     ghost use Rattle.model_core.specs.State.{State};
     ghost use Rattle.plan_defs.specs.declared.plan.Plan.{Plan};
     ghost use Rattle.plan_defs.specs.Refusals.{IsAdmissible};
-    ghost use Rattle.plan_states.specs.Flaws.{HasFlaw};
-    ghost use Rattle.plan_search.specs.SearchLaws.{IsPlanFor, AgreesWithSome};
+    ghost use Rattle.plan_defs.specs.Flaws.{HasFlaw};
+    ghost use Rattle.law_search.specs.SearchLaws.{IsPlanFor, AgreesWithSome};
     ghost use Rattle.flaw_core.specs.declared.flaw.Flaw.{Flaw};
     ghost use Rattle.flaw_core.specs.Rules.{IsLeastFor, LeavesOut, IsCoveredBy};
 

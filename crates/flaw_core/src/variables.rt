@@ -15,7 +15,7 @@ ghost use Rattle.model_core.specs.Tokens.{HasRule, HasToken};
 ghost use Rattle.model_core.specs.Variables.{HasParameter};
 ghost use Rattle.model_core.specs.Views.{IsTokenAt};
 ghost use Rattle.flaw_core.specs.Rules.{IsLeastFor};
-ghost use Rattle.plan_states.specs.Surveying.{IsRejectedState};
+ghost use Rattle.plan_defs.specs.Surveying.{IsRejectedState};
 ghost use Rattle.flaw_core.specs.Places.{IsVarAt, IsAnyAt};
 ghost use Rattle.flaw_core.specs.Seeking.{HasSeveral, IsDomainOf};
 

@@ -9,3 +9,8 @@ pub mod Words
 pub mod WellFormed
 pub mod OneText
 pub mod Numbering
+pub mod Blocks
+pub mod Bases
+pub mod Lawful
+pub mod Locals
+pub mod Few

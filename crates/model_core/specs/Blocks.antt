@@ -72,3 +72,7 @@ IsPathBefore (turn ∷ one) (turn' ∷ other) = IsTurnBefore turn turn' ⊎ ((tu
 -- blocks go by token, then by rule, and then in order of text
 abbrev pub IsBlockBefore : TokenBlock → TokenBlock → Type 0
 IsBlockBefore one other = ByToken one.token other.token (ByNumber one.rule other.rule (IsPathBefore one.path other.path))
+
+-- the block of the token's rule to which this way leads
+abbrev pub block_at : TokenName → ℕ → List Turn → TokenBlock
+block_at token rule path = record { token = token; rule = rule; path = path }

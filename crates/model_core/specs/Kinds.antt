@@ -7,8 +7,8 @@ use Rattle.model_core.specs.declared.class.Class.{Class}
 use Rattle.model_core.specs.declared.class.Enum.{Enum}
 use Rattle.model_core.specs.declared.class.Object.{Object}
 use Rattle.model_core.specs.declared.class.Pred.{Pred}
-use Rattle.model_core.specs.declared.item.Kind.{Kind}
-use Rattle.model_core.specs.declared.item.Kind.TheVariants.{Eq, Neq, Lt, Leq, AddEq, MulEq, TestEq, TestLeq, Field}
+use Rattle.domain_core.specs.declared.kind.Kind.{Kind}
+use Rattle.domain_core.specs.declared.kind.Kind.TheVariants.{Eq, Neq, Lt, Leq, AddEq, MulEq, TestEq, TestLeq, Field}
 use Rattle.model_core.specs.declared.item.Term.{Term}
 use Rattle.model_core.specs.declared.item.Term.TheVariants as terms
 use Rattle.model_core.specs.declared.model.Model.{Model}

@@ -33,7 +33,7 @@ use Rattle.model_core.specs.declared.variable.Base.TheVariants.{Given, Void}
 use Rattle.model_core.specs.declared.variable.ValueKind.TheVariants as kinds
 use Rattle.model_core.specs.declared.variable.VarDecl.{VarDecl}
 use Rattle.model_core.specs.Blocks.{Direct, OfSlot, OfLocal, OfItem, OfBranch}
-use Rattle.model_core.specs.Constraints.{arity_of}
+use Rattle.domain_core.specs.Constraints.{arity_of}
 use Rattle.model_core.specs.Entries.{Entries, NoEntry, WithSlot, WithLocal, WithItem, WithBranch}
 use Rattle.model_core.specs.Kinds.{IsUnder, AreObjectsOf, IsKind, IsValueOf, IsBaseOf}
 use Rattle.model_core.specs.Kinds.{Scope, OfProblem, OfRule, AreComparable, AreArguments}

@@ -5,8 +5,6 @@ pub mod Falls
 pub mod Tokens
 pub mod Blocks
 pub mod Variables
-pub mod Consistency
-pub mod Constraints
 pub mod State
 pub mod History
 pub mod Kinds
@@ -19,5 +17,4 @@ pub mod Names
 pub mod Decided
 pub mod TokenStates
 pub mod Views
-pub mod domain_core
-pub mod eu_name
+pub mod Content

@@ -1,5 +1,6 @@
 //! What has to hold: constraints and temporal relations.
 
+use domain_core::kind::Kind;
 use eu_name::name::Part;
 use eu_name::sequence::Sequence;
 
@@ -10,23 +11,6 @@ pub enum Item {
     Constraint(Kind, Sequence<Term>),
     /// The temporal relation holds between the token of the rule and that of its slot of this number.
     Relation(Rel, u32),
-}
-
-/// The kinds of constraint.
-#[derive(Clone, Copy)]
-pub enum Kind {
-    Eq,
-    Neq,
-    Lt,
-    Leq,
-    AddEq,
-    MulEq,
-    TestEq,
-    TestLeq,
-    /// Stands in no item, as its inequalities do.
-    AllDiff,
-    /// The second argument is the value of this field of the object that is the first.
-    Field(u32),
 }
 
 /// The temporal relations between two tokens.

@@ -1,7 +1,7 @@
-//! The compiled model of a planning problem as plain lists, the decisions that can be taken in it, and what names name in it.
-//!
-//! `model.resolve_var(&name)?` is the variable that the name of a text names, or that the model has none, and
-//! `model.var_text(&variable)?` gives its name back. The definitions in specs/ say what is a lawful model, and what is a state.
+//! The compiled model of a problem as plain lists, decisions, and what a name names: `model.resolve_var(&name)?`.
+//! In come a `Model` and a name or a number; out go names, rules, locals and predicates, and the text of a variable's name.
+//! Called by the compiler, which makes models, and by all that read them; specs/ say what is lawful, and what a state is.
+//! Knows nothing of the text of a problem, and of what decisions leave possible. How names are looked up may change.
 #![tactic(auto)]
 
 pub mod class;
@@ -9,9 +9,10 @@ pub mod decision;
 pub mod item;
 pub mod lookup;
 pub mod model;
-pub mod passed_eu_name;
+pub mod refusal;
 pub mod resolve;
 pub mod rule;
+pub mod slot_names;
 pub mod var_text;
 pub mod variable;
 pub mod view;

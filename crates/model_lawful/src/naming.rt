@@ -119,7 +119,7 @@ fn add_next<T: Named>(names: &mut Seen<Text>, items: &[T], so_far: bool) -> Resu
     add_all(names, items)
 }
 
-// The same with the members of the enums.
+// Puts the members of the enums behind the names that are there, if those are all that came so far.
 fn add_next_members(
     names: &mut Seen<Text>,
     enums: &[Enum],

@@ -48,7 +48,7 @@ fn left_behind(amount: Amount, entries: &[Entry], room: usize) -> Option<usize>
     Some(left)
 }
 
-// The same of one entry.
+// What is left of the room behind one entry: of a branch, behind its guard and both blocks.
 #[cycle(amounts)]
 fn left_behind_one(amount: Amount, entry: &Entry, room: usize) -> Option<usize>
     ensures { Leaves room (amount_in amount entry.now) result }

@@ -35,7 +35,7 @@ fn add_numbers(sort: Sort, entries: &[Entry], numbers: &mut Vec<u32>) -> Result<
     Ok(())
 }
 
-// The same of one entry.
+// Puts the numbers of one entry behind the others: of a branch, those in both blocks.
 #[cycle(numbers)]
 fn add_numbers_in(sort: Sort, entry: &Entry, numbers: &mut Vec<u32>) -> Result<(), AllocError>
     ensures { OnOk result (numbers.new.items ≡ numbers.old.items ++ numbers_of sort (with_entry entry.now NoEntry)) }

@@ -101,7 +101,7 @@ fn fits_on_line(
     }
 }
 
-// The same of what is accessed, which is an object.
+// Whether the value fits the field of what is accessed, which is an object.
 fn accesses_object(model: &Model, classes: &Classes, place: Place<'_>, access: Access) -> bool
     requires ground { IsGround model.now classes.now }
     requires placed { IsPlaced model.now place }

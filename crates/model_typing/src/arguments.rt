@@ -1,8 +1,8 @@
 //! The arguments that constraints take.
 
 ghost use Rattle.std.specs.Prelude.{◌≡◌, ◌↔◌, ◌∷◌, [], IsTrue, pos};
-ghost use Rattle.model_core.specs.Constraints.{arity_of};
-ghost use Rattle.model_core.specs.declared.item.Kind.TheVariants as constraints;
+ghost use Rattle.domain_core.specs.Constraints.{arity_of};
+ghost use Rattle.domain_core.specs.declared.kind.Kind.TheVariants as constraints;
 ghost use Rattle.model_core.specs.Kinds.{AreArguments};
 ghost use Rattle.model_typing.specs.Ground.{IsGround};
 ghost use Rattle.model_typing.specs.Terms.{IsFactor, IsPlaced, scope_of};
@@ -12,7 +12,8 @@ use super::kinds::is_of_kind;
 use super::scope::Place;
 use super::table::Classes;
 use super::terms::{are_comparable, are_of_kind};
-use model_core::item::{Kind, Term};
+use domain_core::kind::Kind;
+use model_core::item::Term;
 use model_core::model::Model;
 use model_core::variable::ValueKind;
 

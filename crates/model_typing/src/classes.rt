@@ -38,7 +38,7 @@ pub fn is_under(model: &Model, parents: &Parents, class: u32, ancestor: u32) -> 
     }
 }
 
-// The same, where it isn't known that the line of the class ends.
+// Finds it out class by class up the line, which isn't known to end.
 fn leads_to(model: &Model, parents: &Parents, class: u32, ancestor: u32) -> bool
     requires { AreClassParents model.now parents.now }
     ensures { IsTrue result ↔ IsUnder model.now class ancestor }

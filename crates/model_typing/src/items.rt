@@ -9,7 +9,8 @@ ghost use Rattle.model_typing.specs.Terms.{HasSlot, IsPlaced, scope_of};
 use super::arguments::{are_arguments, arity};
 use super::scope::Place;
 use super::table::Classes;
-use model_core::item::{Item, Kind, Term};
+use domain_core::kind::Kind;
+use model_core::item::{Item, Term};
 use model_core::model::Model;
 
 // Whether the constraint has as many arguments as it takes, and of the kinds that it takes.

@@ -73,7 +73,7 @@ fn lowest_over(model: &Model, parents: &Parents, first: u32, other: u32) -> Opti
     first_over(model, parents, first, near, other)
 }
 
-// The same, where it is on the line of this class.
+// The first class, from the near one up, that is over the other one too.
 fn first_over(model: &Model, parents: &Parents, first: u32, near: u32, other: u32) -> Option<u32>
     requires parents { AreClassParents model.now parents.now }
     requires above { IsUnder model.now first near }

@@ -66,7 +66,7 @@ fn param_line(model: &Model, classes: &Classes, pred: u32, number: u16) -> Line
     kept_line(classes.params.as_slice(), pred, number)
 }
 
-// The same of a part of a token.
+// The classes of which a part of a token of the predicate is an object; its times are of none.
 fn part_line(model: &Model, classes: &Classes, pred: u32, part: Part) -> Line
     requires { AreClasses model.now classes.now }
     ensures { IsPartLine model.now pred part result }
@@ -80,7 +80,7 @@ fn part_line(model: &Model, classes: &Classes, pred: u32, part: Part) -> Line
     }
 }
 
-// The same of a global.
+// The classes of which the global of this number is an object.
 fn global_line(model: &Model, classes: &Classes, place: Place<'_>, number: u32) -> Line
     requires { AreClasses model.now classes.now }
     ensures { IsTermLine model.now (scope_of place.entry) (named_terms.Global number) result }
@@ -88,7 +88,7 @@ fn global_line(model: &Model, classes: &Classes, place: Place<'_>, number: u32) 
     line_in(classes.globals.as_slice(), number as usize)
 }
 
-// The same of a part of a root.
+// The classes of which a part of the root's token is an object, by the predicate of the root.
 fn root_line(model: &Model, classes: &Classes, place: Place<'_>, number: u32, part: Part) -> Line
     requires { AreClasses model.now classes.now }
     ensures { IsTermLine model.now (scope_of place.entry) (named_terms.Root number part) result }
@@ -99,7 +99,7 @@ fn root_line(model: &Model, classes: &Classes, place: Place<'_>, number: u32, pa
     }
 }
 
-// The same of a part of the token of the rule's slot.
+// The classes of which a part of the token of the rule's slot is an object, by the predicate of the slot.
 fn slot_line(
     model: &Model,
     classes: &Classes,
@@ -117,7 +117,7 @@ fn slot_line(
     }
 }
 
-// The same of a local of the rule, whose locals have these lines.
+// The classes of which a local is an object, by the lines of the rule's locals.
 fn local_line(model: &Model, pred: u32, rule: &Rule, locals: &[Line], number: u32) -> Line
     requires { AreLinesOf model.now rule.now.locals locals.now }
     ensures { IsTermLine model.now (OfRule pred rule.now) (named_terms.Local number) result }
@@ -125,7 +125,7 @@ fn local_line(model: &Model, pred: u32, rule: &Rule, locals: &[Line], number: u3
     line_in(locals, number as usize)
 }
 
-// The same of a term that names something of the rule.
+// The classes of which a term of the rule is an object: a part of its token or of a slot's token, or a local.
 fn inner_line(
     model: &Model,
     classes: &Classes,
@@ -148,7 +148,7 @@ fn inner_line(
     }
 }
 
-// The same, where in the problem no such term is.
+// The classes of such a term by the rule of the place; in the problem there is no such term.
 fn placed_line(model: &Model, classes: &Classes, place: Place<'_>, term: Term) -> Line
     requires classes { AreClasses model.now classes.now }
     requires placed { IsPlaced model.now place }

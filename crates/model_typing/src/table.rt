@@ -49,7 +49,7 @@ fn domain_line(model: &Model, parents: &Parents, domain: &Dom) -> Line
     line
 }
 
-// The same of a base.
+// The classes of which all that the base has are objects: all classes, where it is void.
 fn base_line(model: &Model, parents: &Parents, base: &Base) -> Line
     requires { AreClassParents model.now parents.now }
     ensures { IsLine model.now result (λ class. AreObjectsOf model.now class base.now) }
@@ -60,7 +60,7 @@ fn base_line(model: &Model, parents: &Parents, base: &Base) -> Line
     }
 }
 
-// The same of a variable, if it is an object.
+// The classes of which all that the variable may be are objects, if it is an object at all.
 fn variable_line(model: &Model, parents: &Parents, variable: &VarDecl) -> Line
     requires { AreClassParents model.now parents.now }
     ensures { HasLine model.now variable.now result }

@@ -5,7 +5,7 @@ use Rattle.std.specs.List.{AllZip}
 use Rattle.std.proofs.lemmas.List.Elements.{All-head, All-tail}
 use Rattle.std.proofs.lemmas.Int.{ints}
 use Rattle.domain_core.specs.Domain.{Domain, IsDomain, IsWithin, IsSingle, least, greatest}
-use Rattle.model_core.specs.Consistency.{Reach, Values, Ends, Admits, IsSupported, AreConsistent}
+use Rattle.domain_core.specs.Consistency.{Reach, Values, Ends, Admits, IsSupported, AreConsistent}
 use Rattle.narrow_core.specs.Laws.{LieWithin}
 use Rattle.domain_core.proofs.Words.{has_least, has_greatest, has_tested, between_ends, IsWithin-refl}
 

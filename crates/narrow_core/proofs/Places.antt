@@ -7,7 +7,7 @@ use Rattle.domain_core.specs.Domain.{Domain, IsDomain}
 use Rattle.domain_core.specs.Narrowing.{Keeps, joined}
 use Rattle.domain_core.specs.declared.Change.{Change}
 use Rattle.domain_core.specs.declared.Change.TheVariants.{Same, Empty}
-use Rattle.model_core.specs.Consistency.{Reach, IsSupported}
+use Rattle.domain_core.specs.Consistency.{Reach, IsSupported}
 use Rattle.narrow_core.specs.Sweeps.{Sweeps, NarrowsAt}
 use Rattle.narrow_core.proofs.Sweeping.{joined_empty, joined_same, joined_assoc, joined_some}
 

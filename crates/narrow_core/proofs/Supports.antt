@@ -6,7 +6,7 @@ use Rattle.domain_core.specs.Domain.{Domain, IsDomain, IsTested, Has}
 use Rattle.domain_core.specs.Narrowing.{Keeps}
 use Rattle.domain_core.specs.declared.Change.{Change}
 use Rattle.domain_core.specs.declared.Change.TheVariants.{Same, Smaller, Empty}
-use Rattle.model_core.specs.Consistency.{Reach, Admits, IsSupported}
+use Rattle.domain_core.specs.Consistency.{Reach, Admits, IsSupported}
 use Rattle.domain_core.proofs.Words.{has_tested}
 use Rattle.narrow_core.specs.Sweeps.{AllTested}
 use Rattle.narrow_core.proofs.Places.{none_of, one_of, two_of}

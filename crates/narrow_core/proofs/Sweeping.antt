@@ -8,7 +8,7 @@ use Rattle.domain_core.specs.Domain.{Domain, IsWithin, IsSingle, IsTested, slack
 use Rattle.domain_core.specs.Narrowing.{Keeps, joined}
 use Rattle.domain_core.specs.declared.Change.{Change}
 use Rattle.domain_core.specs.declared.Change.TheVariants.{Same, Smaller, Empty}
-use Rattle.model_core.specs.Consistency.{Reach, IsSupported, AreConsistent}
+use Rattle.domain_core.specs.Consistency.{Reach, IsSupported, AreConsistent}
 use Rattle.narrow_core.specs.Sweeps.{Sweeps}
 use Rattle.narrow_core.specs.Laws.{LieWithin, AreConsistentBelow, Narrows, Decides}
 use Rattle.domain_core.proofs.Words.{tested_least, single_least, single_greatest, slack_from_ends, IsWithin-refl}

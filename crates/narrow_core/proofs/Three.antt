@@ -1,9 +1,9 @@
 -- A product by a factor, and the constraint of three arguments whose second one is the factor alone.
 use Rattle.std.proofs.Common.{◌≡◌, ℤ, ◌*ℤ◌, List, [], ◌∷◌, ◌++◌, refl, sym, subst}
 use Rattle.domain_core.specs.Domain.{Domain, IsDomain, IsSingle, IsTested, IsBetweenEnds, least}
-use Rattle.model_core.specs.Consistency.{Reach, Ends, IsSupported, AreConsistent}
-use Rattle.model_core.specs.Constraints.{HoldsOf}
-use Rattle.model_core.specs.declared.item.Kind.TheVariants.{MulEq}
+use Rattle.domain_core.specs.Consistency.{Reach, Ends, IsSupported, AreConsistent}
+use Rattle.domain_core.specs.Constraints.{HoldsOf}
+use Rattle.domain_core.specs.declared.kind.Kind.TheVariants.{MulEq}
 use Rattle.domain_core.proofs.Words.{has_tested, tested_least, between_ends}
 use Rattle.narrow_core.specs.Meanings.{IsProduct}
 use Rattle.narrow_core.specs.Products.{IsLikeThree}

@@ -4,7 +4,7 @@ use Rattle.std.specs.List.{AllZip}
 use Rattle.domain_core.specs.Domain.{Domain, IsDomain, IsWithin, slack}
 use Rattle.domain_core.specs.declared.Change.{Change}
 use Rattle.domain_core.specs.declared.Change.TheVariants.{Same, Smaller, Empty}
-use Rattle.model_core.specs.Consistency.{Reach, AreConsistent}
+use Rattle.domain_core.specs.Consistency.{Reach, AreConsistent}
 use Rattle.narrow_core.specs.Sweeps.{Sweeps}
 
 -- each domain lies in the other list's at its place

@@ -5,4 +5,3 @@ pub mod Sides
 pub mod Sweeps
 pub mod Truths
 pub mod Tables
-pub mod model_core

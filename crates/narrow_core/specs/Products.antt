@@ -1,9 +1,9 @@
 -- Products by a factor, and the law that ties them to the constraint of three arguments.
 use Rattle.std.specs.Prelude.{◌↔◌, ℤ, ◌*ℤ◌, ◌≤ℤ◌, [], ◌∷◌}
 use Rattle.domain_core.specs.Domain.{Domain, IsDomain, IsSingle, IsBetweenEnds}
-use Rattle.model_core.specs.Consistency.{Ends, AreConsistent}
-use Rattle.model_core.specs.Constraints.{HoldsOf}
-use Rattle.model_core.specs.declared.item.Kind.TheVariants.{MulEq}
+use Rattle.domain_core.specs.Consistency.{Ends, AreConsistent}
+use Rattle.domain_core.specs.Constraints.{HoldsOf}
+use Rattle.domain_core.specs.declared.kind.Kind.TheVariants.{MulEq}
 use Rattle.narrow_core.specs.Meanings.{IsProduct}
 
 -- where the second of three arguments is the factor alone, the other two are consistent by themselves exactly where

@@ -4,7 +4,7 @@ use Rattle.domain_core.specs.Domain.{Domain, IsTested}
 use Rattle.domain_core.specs.Narrowing.{Keeps, joined}
 use Rattle.domain_core.specs.declared.Change.{Change}
 use Rattle.domain_core.specs.declared.Change.TheVariants.{Same, Empty}
-use Rattle.model_core.specs.Consistency.{Reach, IsSupported}
+use Rattle.domain_core.specs.Consistency.{Reach, IsSupported}
 
 -- each value of the domain that has to be supported passes
 abbrev pub AllTested : (ℤ → Type 0) → Domain → Type 0

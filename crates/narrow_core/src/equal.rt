@@ -41,8 +41,8 @@ pub struct Eq;
 
 impl Narrow for Eq {
     ghost use Rattle.std.proofs.Common.{lit<};
-    ghost use Rattle.model_core.specs.Constraints.{HoldsOf, arity_of, reach_of};
-    ghost use Rattle.model_core.specs.declared.item.Kind.TheVariants as kind;
+    ghost use Rattle.domain_core.specs.Constraints.{HoldsOf, arity_of, reach_of};
+    ghost use Rattle.domain_core.specs.declared.kind.Kind.TheVariants as kind;
 
     ghost count = { λ _. arity_of kind.Eq };
 
@@ -75,8 +75,8 @@ pub struct Neq;
 
 impl Narrow for Neq {
     ghost use Rattle.std.proofs.Common.{lit<};
-    ghost use Rattle.model_core.specs.Constraints.{HoldsOf, arity_of, reach_of};
-    ghost use Rattle.model_core.specs.declared.item.Kind.TheVariants as kind;
+    ghost use Rattle.domain_core.specs.Constraints.{HoldsOf, arity_of, reach_of};
+    ghost use Rattle.domain_core.specs.declared.kind.Kind.TheVariants as kind;
 
     ghost count = { λ _. arity_of kind.Neq };
 

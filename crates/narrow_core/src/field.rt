@@ -233,8 +233,8 @@ fn spread(
 
 impl Narrow for Field {
     ghost use Rattle.std.proofs.Common.{lit<};
-    ghost use Rattle.model_core.specs.Consistency.{Values};
-    ghost use Rattle.model_core.specs.Constraints.{IsFieldOf};
+    ghost use Rattle.domain_core.specs.Consistency.{Values};
+    ghost use Rattle.domain_core.specs.Constraints.{IsFieldOf};
     ghost use Rattle.narrow_core.specs.Meanings.{IsInTable};
 
     ghost count = { λ _. 2 };

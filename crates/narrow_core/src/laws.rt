@@ -5,7 +5,7 @@ ghost use Rattle.std.specs.List.{AllZip};
 ghost use Rattle.domain_core.specs.Domain.{Domain, IsDomain, IsSingle};
 ghost use Rattle.domain_core.specs.declared.Change.{Change};
 ghost use Rattle.domain_core.specs.declared.Change.TheVariants.{Same};
-ghost use Rattle.model_core.specs.Consistency.{AreConsistent};
+ghost use Rattle.domain_core.specs.Consistency.{AreConsistent};
 ghost use Rattle.narrow_core.specs.Sweeps.{Sweeps};
 ghost use Rattle.narrow_core.specs.Products.{IsLikeThree};
 ghost use Rattle.narrow_core.specs.Laws.{Narrows, IsMonotone, Decides};

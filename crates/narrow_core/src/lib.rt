@@ -1,7 +1,7 @@
-//! Constraints: what each takes from the domains of its arguments, and what one pass over them leaves.
-//!
-//! `Leq.narrow(&mut [x, y])` takes from `x` what is above the greatest value of `y`, and from `y` what is below the
-//! least of `x`, and answers whether values went.
+//! Constraints: what each takes from the domains of its arguments in one pass, as `Leq.narrow(&mut [x, y])`.
+//! In come the domains of two or three arguments, which are narrowed in place; out goes a `Change`.
+//! Called by constraint_net, which goes on to a fixpoint.
+//! Knows nothing of networks, tokens, rules and decisions. How a constraint finds the values that have support may change.
 #![tactic(auto)]
 
 pub mod equal;
@@ -10,8 +10,6 @@ pub mod laws;
 mod limits;
 pub mod narrow;
 pub mod order;
-pub mod passed_eu_name;
-pub mod passed_model_core;
 mod passing;
 pub mod product;
 pub mod sum;

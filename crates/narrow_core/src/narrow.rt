@@ -8,7 +8,7 @@ pub trait Narrow {
     ghost use Rattle.std.specs.Prelude.{◌≡◌, ◌↔◌, ℕ, ◌+◌, ◌<◌, ℤ, List, [], All, IsTrue, length, map};
     ghost use Rattle.domain_core.specs.Domain.{IsDomain};
     ghost use Rattle.domain_core.specs.Narrowing.{Keeps};
-    ghost use Rattle.model_core.specs.Consistency.{Reach, IsSupported};
+    ghost use Rattle.domain_core.specs.Consistency.{Reach, IsSupported};
     ghost use Rattle.narrow_core.specs.Sweeps.{Sweeps, AllTested};
 
     /// How many arguments it has.
@@ -59,7 +59,7 @@ pub trait Narrow {
 ghost use Rattle.std.specs.Prelude.{◌≡◌, ◌+◌, ◌<◌, All, length};
 ghost use Rattle.domain_core.specs.Domain.{IsDomain};
 ghost use Rattle.domain_core.specs.Narrowing.{Keeps};
-ghost use Rattle.model_core.specs.Consistency.{IsSupported};
+ghost use Rattle.domain_core.specs.Consistency.{IsSupported};
 ghost use Rattle.narrow_core.specs.Sweeps.{NarrowsAt};
 
 // Narrows the argument at this place.
@@ -88,7 +88,7 @@ fn keep_beside<C: Narrow>(constraint: &C, before: &[Dom], own: &mut Dom, after: 
     }
 }
 
-// The same beside one other argument.
+// Narrows an argument that has one other beside it.
 fn keep_beside_one<C: Narrow>(
     constraint: &C,
     before: &[Dom],
@@ -108,7 +108,7 @@ fn keep_beside_one<C: Narrow>(
     }
 }
 
-// The same beside two.
+// Narrows an argument that has two others beside it.
 fn keep_beside_two<C: Narrow>(
     constraint: &C,
     before: &[Dom],

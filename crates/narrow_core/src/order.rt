@@ -11,8 +11,8 @@ pub struct Lt;
 
 impl Narrow for Lt {
     ghost use Rattle.std.proofs.Common.{lit<};
-    ghost use Rattle.model_core.specs.Constraints.{HoldsOf, arity_of, reach_of};
-    ghost use Rattle.model_core.specs.declared.item.Kind.TheVariants as kind;
+    ghost use Rattle.domain_core.specs.Constraints.{HoldsOf, arity_of, reach_of};
+    ghost use Rattle.domain_core.specs.declared.kind.Kind.TheVariants as kind;
 
     ghost count = { λ _. arity_of kind.Lt };
 
@@ -45,8 +45,8 @@ pub struct Leq;
 
 impl Narrow for Leq {
     ghost use Rattle.std.proofs.Common.{lit<};
-    ghost use Rattle.model_core.specs.Constraints.{HoldsOf, arity_of, reach_of};
-    ghost use Rattle.model_core.specs.declared.item.Kind.TheVariants as kind;
+    ghost use Rattle.domain_core.specs.Constraints.{HoldsOf, arity_of, reach_of};
+    ghost use Rattle.domain_core.specs.declared.kind.Kind.TheVariants as kind;
 
     ghost count = { λ _. arity_of kind.Leq };
 

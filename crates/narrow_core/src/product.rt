@@ -94,7 +94,7 @@ impl MulEq {
         }
     }
 
-    // The same where the products are a range: its ends move to the next product.
+    // Moves the ends of the products, which are a range, to the next product.
     fn cut_to_products(&self, products: &mut Dom, x: &Dom) -> Change
         requires { IsRange products.old }
         ensures kept { Keeps (λ value. (w : ℤ) × IsBetweenEnds x.now w × ((w *ℤ self.now.factor) ≡ value))
@@ -135,7 +135,7 @@ impl MulEq {
 
 impl Narrow for MulEq {
     ghost use Rattle.std.proofs.Common.{lit<};
-    ghost use Rattle.model_core.specs.Consistency.{Ends};
+    ghost use Rattle.domain_core.specs.Consistency.{Ends};
     ghost use Rattle.narrow_core.specs.Meanings.{IsProduct};
 
     ghost count = { λ _. 2 };

@@ -187,8 +187,8 @@ pub struct TestEq;
 
 impl Narrow for TestEq {
     ghost use Rattle.std.proofs.Common.{lit<};
-    ghost use Rattle.model_core.specs.Constraints.{HoldsOf, arity_of, reach_of};
-    ghost use Rattle.model_core.specs.declared.item.Kind.TheVariants as kind;
+    ghost use Rattle.domain_core.specs.Constraints.{HoldsOf, arity_of, reach_of};
+    ghost use Rattle.domain_core.specs.declared.kind.Kind.TheVariants as kind;
 
     ghost count = { λ _. arity_of kind.TestEq };
 
@@ -223,8 +223,8 @@ pub struct TestLeq;
 
 impl Narrow for TestLeq {
     ghost use Rattle.std.proofs.Common.{lit<};
-    ghost use Rattle.model_core.specs.Constraints.{HoldsOf, arity_of, reach_of};
-    ghost use Rattle.model_core.specs.declared.item.Kind.TheVariants as kind;
+    ghost use Rattle.domain_core.specs.Constraints.{HoldsOf, arity_of, reach_of};
+    ghost use Rattle.domain_core.specs.declared.kind.Kind.TheVariants as kind;
 
     ghost count = { λ _. arity_of kind.TestLeq };
 

@@ -1,7 +1,7 @@
-//! The tree of a text: declarations, statements and expressions, each with the byte at which it begins; and the kinds of what
-//! can be wrong with a text. Trees are compared without regard to places by `one.is_same(&other)`, of the trait
-//! [`same::Same`], and lists of them by `are_same(one, other)`. `block.copied()?`, of the trait [`copies::Copies`], is an
-//! equal block in memory of its own, places included, and `last(&path)` the last name of a path.
+//! The tree of a text, with the byte at which each part begins, and the kinds of faults: `one.is_same(&other)`.
+//! In come trees that were built elsewhere; out go equality up to places, copies (`Copies`), and the parts of a path.
+//! Trees are built by nddl_grammar and nddl_parser, and read by nddl_print and all later stages of the compiler.
+//! Knows nothing of lexemes, the grammar, files and what a name means. How trees are compared and copied may change.
 #![tactic(auto)]
 
 pub mod copies;

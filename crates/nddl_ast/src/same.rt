@@ -215,7 +215,7 @@ impl Same for Condition {
     }
 }
 
-// The same of statements, of blocks, and of a block that may be missing.
+// Whether two statements are equal but for places; below it lists of them, and blocks, which may be missing.
 #[cycle(same)]
 fn same_stmt(one: &Stmt, other: &Stmt) -> bool
     ensures { IsTrue result ↔ SameStmt one.now other.now }

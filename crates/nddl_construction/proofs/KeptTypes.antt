@@ -6,8 +6,8 @@ use Rattle.std.specs.Str.{bytes_eq}
 use Rattle.std.proofs.lemmas.Slice.Eq.{bytes_eq-Decides}
 use Rattle.eu_forest.proofs.Lists.{get-append_cases, get-append_last, get-append_left, some_is}
 use Rattle.nddl_ast.specs.declared.declaration.Typed.{Typed}
-use Rattle.nddl_symbols.specs.Index.{Noted, noted_number}
-use Rattle.nddl_symbols.proofs.Indexes.{noted_with}
+use Rattle.eu_index.specs.Index.{Noted, noted_number}
+use Rattle.eu_index.proofs.Indexes.{noted_with}
 use Rattle.nddl_typeexpr.specs.declared.kind.TypeMeaning.{TypeMeaning}
 use Rattle.nddl_typeexpr.specs.Types.{type_meaning}
 use Rattle.nddl_hierarchy.specs.Facts.{Facts}

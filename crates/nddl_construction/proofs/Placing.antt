@@ -5,9 +5,9 @@ use Rattle.std.specs.List.{position_from}
 use Rattle.std.specs.Option.{option_map, option_or}
 use Rattle.std.specs.Str.{bytes_eq}
 use Rattle.std.proofs.lemmas.Slice.Eq.{bytes_eq-Decides}
-use Rattle.nddl_symbols.specs.Index.{Noted, noted_number, with_noted}
+use Rattle.eu_index.specs.Index.{Noted, noted_number, with_noted}
 use Rattle.nddl_symbols.proofs.Firsts.{position_later}
-use Rattle.nddl_symbols.proofs.Indexes.{noted_with}
+use Rattle.eu_index.proofs.Indexes.{noted_with}
 use Rattle.nddl_construction.specs.declared.made.Datum.{Datum}
 use Rattle.nddl_construction.specs.declared.made.FieldValue.{FieldValue}
 use Rattle.nddl_construction.specs.Fields.{ArePlaces, AreRepeated, NotesSet, datum_placed, field_datum, first_place, is_set, is_set_once, repeated_noted}

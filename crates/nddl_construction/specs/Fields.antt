@@ -3,7 +3,7 @@ use Rattle.std.specs.Prelude.{◌≡◌, ℕ, Bool, false, ◌&&◌, not, List, 
 use Rattle.std.specs.List.{list_any, position_from}
 use Rattle.std.specs.Option.{option_and_then}
 use Rattle.std.specs.Str.{bytes_eq}
-use Rattle.nddl_symbols.specs.Index.{HasFirsts, Noted, noted_number, with_noted}
+use Rattle.eu_index.specs.Index.{HasFirsts, Noted, noted_number, with_noted}
 use Rattle.nddl_construction.specs.declared.made.Datum.{Datum}
 use Rattle.nddl_construction.specs.declared.made.FieldValue.{FieldValue}
 

@@ -2,7 +2,7 @@
 use Rattle.std.specs.Prelude.{◌≡◌, ℕ, List, Option, Some, length, slice_get}
 use Rattle.std.specs.Option.{option_and_then}
 use Rattle.nddl_ast.specs.declared.declaration.Typed.{Typed}
-use Rattle.nddl_symbols.specs.Index.{Noted, noted_number, with_noted}
+use Rattle.eu_index.specs.Index.{Noted, noted_number, with_noted}
 use Rattle.nddl_typeexpr.specs.declared.kind.TypeMeaning.{TypeMeaning}
 use Rattle.nddl_typeexpr.specs.Types.{type_meaning}
 use Rattle.nddl_hierarchy.specs.Facts.{Facts}

@@ -183,7 +183,7 @@ fn found_in<'a>(
     }
 }
 
-// The same, where this is the declaration.
+// What is found of the constructor in this declaration, if it has one.
 fn found_of<'a>(
     alloc: Global,
     basis: &Basis<'a>,
@@ -199,7 +199,7 @@ fn found_of<'a>(
     }
 }
 
-// The same, where this is the constructor.
+// What is found of this constructor of the declaration.
 fn found_by<'a>(
     alloc: Global,
     basis: &Basis<'a>,

@@ -62,7 +62,7 @@ pub fn adding_up(
     }
 }
 
-// The same of the class of this number.
+// The line of the class of this number, which may lack some that add no members, with its built-in class behind.
 fn adding_above(alloc: Global, basis: &Basis<'_>, entry: usize) -> Result<Vec<Meaning>, AllocError>
     ensures { IfOk result (λ line. KeepTheSame (is_adding (facts_of basis.now)) line.items
         (with_builtin (facts_of basis.now) (ancestry (facts_of basis.now).parents entry))) }
@@ -86,7 +86,7 @@ pub fn building_up(
     }
 }
 
-// The same of the class of this number.
+// The line of the class of this number, which may lack some without a constructor, with its built-in class behind.
 fn building_above(
     alloc: Global,
     basis: &Basis<'_>,

@@ -4,8 +4,8 @@ ghost use Rattle.std.specs.Prelude.{◌≡◌, ◌++◌, ◌∷◌, [], OnOk, On
 ghost use Rattle.nddl_construction.specs.Fields.{ArePlaces, AreRepeated, NotesSet, datum_placed, field_datum, is_set_once};
 
 use super::made::{Datum, FieldValue};
+use eu_index::NameIndex;
 use eu_name::text::Text;
-use nddl_symbols::index::NameIndex;
 use std::alloc::{AllocError, Global};
 use std::marker::Model;
 

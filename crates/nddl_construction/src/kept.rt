@@ -6,11 +6,11 @@ ghost use Rattle.nddl_typeexpr.specs.Types.{type_meaning};
 ghost use Rattle.nddl_hierarchy.specs.Facts.{facts_of};
 ghost use Rattle.nddl_construction.specs.Kept.{AreFieldTypes, GoOn, KeepField, KeepFound, kept_place, meaning_kept, with_field};
 
+use eu_index::NameIndex;
 use eu_name::text::Text;
 use nddl_ast::declaration::{Decl, Member, Typed};
 use nddl_ast::expression::{Bounds, Type};
 use nddl_hierarchy::Basis;
-use nddl_symbols::index::NameIndex;
 use nddl_typeexpr::types::type_meaning;
 use nddl_typeexpr::{TypeMeaning, Types};
 use std::alloc::{AllocError, Global};
@@ -187,7 +187,7 @@ fn keep_field(
     }
 }
 
-// The same, where this is the field.
+// Keeps what the type of this field means, and its place by the name.
 fn keep_typed(
     alloc: Global,
     types: &Types<'_>,

@@ -41,7 +41,7 @@ pub fn is_outside_field(
     is_outside_along(alloc, footing, types, objects, line.as_slice(), name, value)
 }
 
-// The same of the field of this name that one of the classes of the line declares.
+// Whether the value lies outside the type of the first field of this name along the line, if there is one.
 fn is_outside_along(
     alloc: Global,
     footing: &Ground<'_>,
@@ -64,7 +64,7 @@ fn is_outside_along(
     Ok(false)
 }
 
-// The same of the field that the class of this number declares itself, if it does.
+// Whether it lies outside the type of the field that the class of this number declares itself; None without one.
 fn is_outside_own(
     alloc: Global,
     footing: &Ground<'_>,
@@ -94,7 +94,7 @@ fn body_number(scope: &Scope, entry: usize) -> Option<usize>
     number_with_body(scope, declared)
 }
 
-// The same of the field that the declaration of this number has, if it has one of this name.
+// Whether it lies outside the type of the field in the declaration of this number; None without one of this name.
 fn is_outside_declared(
     alloc: Global,
     footing: &Ground<'_>,
@@ -120,7 +120,7 @@ fn is_outside_declared(
     }
 }
 
-// The same, where this is the field.
+// Whether the value lies outside the type of this field, by what is kept of the type, if anything is.
 fn is_outside_typed(
     alloc: Global,
     footing: &Ground<'_>,
@@ -141,7 +141,7 @@ fn is_outside_typed(
     }
 }
 
-// The same, where this is what the type of the field means.
+// Whether the value lies outside what the type of a field means; without a value or a meaning it doesn't.
 fn is_outside_known(
     alloc: Global,
     footing: &Ground<'_>,

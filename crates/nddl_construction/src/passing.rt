@@ -19,9 +19,7 @@ use nddl_ast::TextKind;
 use nddl_ast::declaration::Typed;
 use nddl_ast::expression::Expr;
 use nddl_hierarchy::Basis;
-use nddl_symbols::fault::note_at;
-use nddl_symbols::twice::kind_if;
-use nddl_symbols::{Fault, Meaning, Place};
+use nddl_symbols::{Fault, Meaning, Place, kind_if, note_at};
 use nddl_typeexpr::base::base_kind;
 use std::alloc::{AllocError, Global};
 
@@ -101,7 +99,7 @@ fn data_above(
     }
 }
 
-// The same, where it may be passed nothing.
+// What is passed to what the class extends: nothing, where nothing is passed to the class.
 fn passed_above(
     alloc: Global,
     footing: &Ground<'_>,
@@ -136,7 +134,7 @@ fn push_passed(
     }
 }
 
-// The same, where it is passed these values.
+// Puts the class with these values at the end, if it has a constructor.
 fn push_building(
     basis: &Basis<'_>,
     builders: &Builders<'_>,

@@ -17,9 +17,7 @@ use nddl_constructors::constants::is_understood;
 use nddl_constructors::formals::around_formals;
 use nddl_constructors::wanted::wanted_at;
 use nddl_resolve::expr_denoted;
-use nddl_symbols::fault::note_at;
-use nddl_symbols::twice::kind_if;
-use nddl_symbols::{Fault, Meaning, Sort};
+use nddl_symbols::{Fault, Meaning, Sort, kind_if, note_at};
 use nddl_typeexpr::TypeKind;
 use std::alloc::{AllocError, Global};
 

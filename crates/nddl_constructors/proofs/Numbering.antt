@@ -3,7 +3,7 @@ use Rattle.std.proofs.Common.{◌≡◌, ℕ, ◌+◌, Bool, cond, List, [], ◌
 use Rattle.std.specs.List.{position_from}
 use Rattle.std.specs.Str.{bytes_eq}
 use Rattle.nddl_ast.specs.declared.declaration.Typed.{Typed}
-use Rattle.nddl_symbols.specs.Index.{Noted, noted_number}
+use Rattle.eu_index.specs.Index.{Noted, noted_number}
 use Rattle.nddl_hierarchy.specs.Facts.{Facts}
 use Rattle.nddl_resolve.specs.declared.denoted.Seen.{Seen}
 use Rattle.nddl_constructors.specs.Formals.{AreNumbered, formal_number, formal_seen, typed_number}

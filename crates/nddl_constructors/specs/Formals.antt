@@ -3,7 +3,7 @@ use Rattle.std.specs.Prelude.{ℕ, Bool, true, List, [], Option, None}
 use Rattle.std.specs.List.{position_from}
 use Rattle.std.specs.Str.{bytes_eq}
 use Rattle.nddl_ast.specs.declared.declaration.Typed.{Typed}
-use Rattle.nddl_symbols.specs.Index.{HasFirsts, Noted}
+use Rattle.eu_index.specs.Index.{HasFirsts, Noted}
 use Rattle.nddl_hierarchy.specs.Facts.{Facts}
 use Rattle.nddl_resolve.specs.declared.denoted.Seen.{Seen}
 use Rattle.nddl_resolve.specs.Fields.{type_value}

@@ -21,9 +21,7 @@ use nddl_hierarchy::Basis;
 use nddl_hierarchy::lines::above;
 use nddl_resolve::fields::class_field;
 use nddl_resolve::{Around, Denoted};
-use nddl_symbols::fault::note_at;
-use nddl_symbols::twice::kind_if;
-use nddl_symbols::{Fault, Meaning};
+use nddl_symbols::{Fault, Meaning, kind_if, note_at};
 use nddl_typeexpr::TypeKind;
 use std::alloc::{AllocError, Global};
 

@@ -17,9 +17,7 @@ use nddl_hierarchy::Basis;
 use nddl_hierarchy::lines::is_same_meaning;
 use nddl_hierarchy::under::is_under;
 use nddl_resolve::Around;
-use nddl_symbols::fault::note_at;
-use nddl_symbols::twice::kind_if;
-use nddl_symbols::{Fault, Meaning, Scope};
+use nddl_symbols::{Fault, Meaning, Scope, kind_if, note_at};
 use nddl_typeexpr::TypeKind;
 use std::alloc::{AllocError, Global};
 

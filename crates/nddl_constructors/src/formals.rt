@@ -1,18 +1,18 @@
 //! The formals of constructors, and what stands around in their bodies.
 
 ghost use Rattle.std.specs.Prelude.{◌≡◌, ℕ, List, IfOk, map};
-ghost use Rattle.nddl_symbols.specs.Index.{noted_number};
+ghost use Rattle.eu_index.specs.Index.{noted_number};
 ghost use Rattle.nddl_hierarchy.specs.Facts.{facts_of};
 ghost use Rattle.nddl_resolve.specs.Paths.{around_of};
 ghost use Rattle.nddl_resolve.specs.Seen.{seen_in};
 ghost use Rattle.nddl_constructors.specs.Formals.{around_formals, formal_number, formal_seen, typed_number};
 
+use eu_index::NameIndex;
 use eu_name::text::Text;
 use nddl_ast::declaration::Typed;
 use nddl_hierarchy::Basis;
 use nddl_resolve::fields::type_value;
 use nddl_resolve::{Around, SeenNames};
-use nddl_symbols::index::NameIndex;
 use std::alloc::{AllocError, Global};
 use std::marker::Model;
 

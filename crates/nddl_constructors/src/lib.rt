@@ -1,6 +1,7 @@
-//! What is wrong with the text of what makes the objects of a program: `note_written(alloc, basis, &mut first)?` notes it
-//! of the bodies of constructors, whether they are ever run or not, and of each `new` outside of them. Which arguments a
-//! class wants is `class_wanted(alloc, basis, class)?`. No object is made here.
+//! The faults of the text that makes objects, before any is made: `note_written(alloc, basis, &mut first)?`.
+//! In comes a `Basis`; out go the earliest fault of constructors and of each `new`, and the arguments that a class wants.
+//! Called by nddl_objects; wanted arguments and formals by nddl_construction, single values by nddl_problem_check.
+//! Knows nothing of objects, values of fields and the model. How wanted arguments and formals are found may change.
 #![tactic(auto)]
 
 pub mod bodies;

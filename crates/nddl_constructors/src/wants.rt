@@ -33,7 +33,7 @@ pub fn formals_above<'a>(basis: &Basis<'a>, entry: usize) -> Option<&'a Sequence
     )
 }
 
-// The same, where the classes stand under these.
+// The formals of the first class that has a constructor, going up along what the classes stand under.
 fn formals_along<'a>(
     scope: &Scope,
     decls: &[&'a Decl],
@@ -94,7 +94,7 @@ pub fn builtin_above(alloc: Global, basis: &Basis<'_>, entry: usize) -> Result<u
     }
 }
 
-// The same, by shortcuts, if it is a class whose line is known to end.
+// Finds the built-in class by shortcuts, if this is a class whose line is known to end.
 fn builtin_shortly(basis: &Basis<'_>, entry: usize) -> Option<u32>
     ensures { IfSome result (λ number. number ≡ builtin_along (facts_of basis.now).names (facts_of basis.now).program
         (ancestry (facts_of basis.now).parents entry)) }
@@ -126,7 +126,7 @@ fn builtin_or_none(class: Option<Meaning>) -> u32
     }
 }
 
-// The same, along the whole line.
+// Finds the built-in class along the whole line.
 fn builtin_slowly(alloc: Global, basis: &Basis<'_>, entry: usize) -> Result<u32, AllocError>
     ensures { IfOk result (λ number. number ≡ builtin_along (facts_of basis.now).names (facts_of basis.now).program
         (ancestry (facts_of basis.now).parents entry)) }

@@ -11,7 +11,7 @@ use Rattle.nddl_ast.specs.declared.kind.TextKind.TheVariants as kinds
 use Rattle.nddl_ast.specs.declared.name.Name.{Name}
 use Rattle.nddl_symbols.specs.declared.fault.Fault.{Fault}
 use Rattle.nddl_symbols.specs.Finding.{earliest_fault, faults_here}
-use Rattle.nddl_symbols.specs.Index.{Noted}
+use Rattle.eu_index.specs.Index.{Noted}
 use Rattle.nddl_symbols.specs.Repeats.{repeated_faults}
 use Rattle.nddl_symbols.specs.Scope.{fault_if}
 use Rattle.nddl_symbols.proofs.Earliest.{earliest_append}

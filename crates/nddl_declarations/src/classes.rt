@@ -9,14 +9,13 @@ ghost use Rattle.nddl_hierarchy.specs.Inherited.{member_names};
 
 use super::constructors::note_constructors;
 use super::members::note_members;
+use eu_index::NameIndex;
 use nddl_ast::TextKind;
 use nddl_ast::declaration::Member;
 use nddl_ast::name::Name;
 use nddl_hierarchy::{Basis, inherited, member_name};
-use nddl_symbols::fault::note_at;
-use nddl_symbols::index::NameIndex;
 use nddl_symbols::repeats::note_repeated;
-use nddl_symbols::{Fault, Meaning, Scope};
+use nddl_symbols::{Fault, Meaning, Scope, note_at};
 use std::alloc::{AllocError, Global};
 
 /// Notes all that is wrong with the class, which the declaration of this number is.

@@ -7,9 +7,7 @@ ghost use Rattle.nddl_declarations.specs.Members.{constructor_fault, constructor
 use nddl_ast::TextKind;
 use nddl_ast::declaration::Member;
 use nddl_ast::name::Name;
-use nddl_symbols::Fault;
-use nddl_symbols::fault::note_at;
-use nddl_symbols::twice::kind_if;
+use nddl_symbols::{Fault, kind_if, note_at};
 
 /// Notes each constructor that is a second one, or hasn't the name of its class.
 #[tactic(auto, using(nddl_symbols::proofs::Earliest::earliest_append))]

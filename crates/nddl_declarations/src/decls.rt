@@ -11,10 +11,8 @@ use nddl_ast::TextKind;
 use nddl_ast::declaration::Decl;
 use nddl_ast::statement::Variable;
 use nddl_hierarchy::Basis;
-use nddl_symbols::Fault;
 use nddl_symbols::declared::variable_sort;
-use nddl_symbols::fault::note_at;
-use nddl_symbols::twice::kind_if;
+use nddl_symbols::{Fault, kind_if, note_at};
 use std::alloc::{AllocError, Global};
 
 /// Notes what is wrong with each of the declarations.

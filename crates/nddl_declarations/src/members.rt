@@ -10,15 +10,13 @@ ghost use Rattle.nddl_hierarchy.specs.Inherited.{words_noted};
 ghost use Rattle.nddl_declarations.specs.Members.{formals_faults, member_faults, parameters_of, predicate_faults, typed_faults, typed_names};
 
 use crate::note_all_type_faults;
+use eu_index::NameIndex;
 use nddl_ast::TextKind;
 use nddl_ast::declaration::{Member, PredicatePart, Typed};
 use nddl_ast::name::Name;
 use nddl_hierarchy::{Basis, note_word};
-use nddl_symbols::Fault;
-use nddl_symbols::fault::note_at;
-use nddl_symbols::index::NameIndex;
 use nddl_symbols::repeats::note_repeated;
-use nddl_symbols::twice::kind_if;
+use nddl_symbols::{Fault, kind_if, note_at};
 use std::alloc::{AllocError, Global};
 
 /// Notes what is wrong inside the members.

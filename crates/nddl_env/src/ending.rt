@@ -40,7 +40,7 @@ pub fn both<A: Drop, B: Drop>(
     }
 }
 
-// The same, where the one was made.
+// The one, which was made, with the other, if that was made.
 fn with<A: Drop, B: Drop>(one: A, other: Result<B, AllocError>) -> Result<(A, B), AllocError>
     ensures { IfOk result (λ pair. (pair.0 ≡ one) × (other ≡ Ok pair.1)) }
 {

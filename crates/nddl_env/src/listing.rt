@@ -48,7 +48,7 @@ fn owner_of(class: Meaning) -> Option<usize>
     }
 }
 
-// The same of the class of each object.
+// For each object the number of the name of its class, if that is declared in the files.
 fn owners_of(alloc: Global, objects: &[MadeObject]) -> Result<Vec<Option<usize>>, AllocError>
     ensures { IfOk result (λ owners. owners.items ≡ owners_of objects.now) }
 {
@@ -223,7 +223,7 @@ fn listed_shared(
     Ok(Populations::new(lists, places))
 }
 
-// The same, by which objects each name has.
+// What all these classes have, listed from the objects that each name has.
 fn listed_by(
     alloc: Global,
     basis: &Basis<'_>,

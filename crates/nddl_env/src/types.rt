@@ -51,7 +51,7 @@ fn push_meaning(
     }
 }
 
-// The same for the typedef of this number, which means this.
+// Puts what a variable of this typedef may be, which means this, behind the others, and notes the place.
 fn push_known(
     alloc: Global,
     premises: &Premises<'_>,

@@ -1,7 +1,7 @@
-//! Symbols of a text, readers of lists of them as values of the proofs, and a cursor that reads them in the code:
-//! `cursor.take(Sort::Name)?` takes the next symbol if it is a name, and else stops there. What the body of a rule is made of
-//! is read so: names, expressions, types, statements and blocks. `blocks::block(&mut cursor, 16)?` reads a block in which
-//! others may be nested, so that there are 16 levels with it.
+//! Reads what the body of a rule is made of from a list of symbols: `block(&mut cursor, 16)?`.
+//! In come a `Cursor` over `Symbol`s and how deep blocks may nest; out go parts of the tree of nddl_ast, or a `Stop`.
+//! Called by nddl_parser, which adds its own `Item`s; nddl_print writes marks and reserved words by `Sort`.
+//! Knows nothing of lexemes, declarations, files and what a name means. How a cursor keeps its place may change.
 #![tactic(auto)]
 
 pub mod blocks;

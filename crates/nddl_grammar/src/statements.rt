@@ -80,7 +80,7 @@ fn bounded_start(cursor: &mut Cursor<'_>) -> Result<(Bounds, (Name, (Option<Init
     joined(bounds, rest)
 }
 
-/// The same behind the name with which the type begins.
+/// A variable behind the name with which its type begins.
 #[tactic(auto, unfolding(crate::specs::Productions::variable_after))]
 fn variable_after(cursor: &mut Cursor<'_>, first: Name) -> Result<Variable, Stop>
     ensures { IsFound result cursor.new (variable_after first cursor.old) }

@@ -6,7 +6,7 @@ use Rattle.nddl_ast.specs.declared.declaration.Decl.{Decl}
 use Rattle.nddl_symbols.specs.declared.declared.Declared.{Declared}
 use Rattle.nddl_symbols.specs.declared.scope.Meaning.{Meaning}
 use Rattle.nddl_symbols.specs.declared.scope.Meaning.TheVariants as meanings
-use Rattle.nddl_symbols.specs.Index.{Noted}
+use Rattle.eu_index.specs.Index.{Noted}
 use Rattle.nddl_symbols.specs.Scope.{is_class_at}
 use Rattle.nddl_hierarchy.specs.Ancestors.{above}
 use Rattle.eu_forest.specs.Ancestors.{ancestry}

@@ -10,9 +10,9 @@ use Rattle.nddl_ast.specs.declared.declaration.Member.TheVariants as members
 use Rattle.nddl_ast.specs.declared.declaration.PredicatePart.{PredicatePart}
 use Rattle.nddl_ast.specs.declared.declaration.Typed.{Typed}
 use Rattle.nddl_ast.specs.declared.name.Name.{Name}
-use Rattle.nddl_symbols.specs.Index.{Noted, NotesFirst, noted_number, with_noted}
+use Rattle.eu_index.specs.Index.{Noted, NotesFirst, noted_number, with_noted}
 use Rattle.nddl_symbols.proofs.Firsts.{position_later}
-use Rattle.nddl_symbols.proofs.Indexes.{noted_with}
+use Rattle.eu_index.proofs.Indexes.{noted_with}
 use Rattle.nddl_hierarchy.specs.Decls.{decl_members}
 use Rattle.nddl_hierarchy.specs.declared.members.Places.{Places}
 use Rattle.nddl_hierarchy.specs.Members.{ArePlaces, HasMembers, field_at, field_declared, field_place, is_field_named, is_predicate_named, member_field, named_typed, predicate_declared, predicate_place}

@@ -7,7 +7,7 @@ use Rattle.nddl_ast.specs.declared.declaration.Decl.{Decl}
 use Rattle.nddl_ast.specs.declared.declaration.Member.{Member}
 use Rattle.nddl_ast.specs.declared.declaration.Member.TheVariants as members
 use Rattle.nddl_ast.specs.declared.declaration.Typed.{Typed}
-use Rattle.nddl_symbols.specs.Index.{HasFirsts, NotesFirst, noted_number}
+use Rattle.eu_index.specs.Index.{HasFirsts, NotesFirst, noted_number}
 use Rattle.nddl_hierarchy.specs.declared.members.Places.{Places}
 use Rattle.nddl_hierarchy.specs.Decls.{decl_members}
 

@@ -6,8 +6,7 @@ ghost use Rattle.nddl_hierarchy.specs.Lines.{circle_fault, circle_faults, declar
 
 use eu_forest::{Lineage, Standing};
 use nddl_ast::TextKind;
-use nddl_symbols::fault::note_at;
-use nddl_symbols::{Declared, Fault, Place, Scope};
+use nddl_symbols::{Declared, Fault, Place, Scope, note_at};
 
 /// Notes each class and each typedef that is its own ancestor.
 #[tactic(auto, using(nddl_symbols::proofs::Earliest::earliest_append))]

@@ -7,16 +7,16 @@ ghost use Rattle.nddl_hierarchy.specs.Decls.{decl_members};
 ghost use Rattle.nddl_hierarchy.specs.Members.{ArePlaces, HasMembers, NotesMember, field_at, field_declared, field_place, member_field, predicate_declared, predicate_place};
 
 use super::decls::{decl_at, decl_members};
+use eu_index::NameIndex;
 use eu_name::text::Text;
 use nddl_ast::declaration::{Decl, Member, Typed};
-use nddl_symbols::index::NameIndex;
 use std::alloc::{AllocError, Global};
 use std::marker::Model;
 
 /// The declarations of a program, in each of which a field or a predicate is found by one look-up.
 #[derive(Drop)]
 pub struct MemberIndex<'a> {
-    decls: &'a [&'a Decl],
+    decls: Vec<&'a Decl>,
     // What each declaration has that is a class.
     places: Vec<Option<Places>>,
 }
@@ -39,25 +39,32 @@ impl<'a> Model for MemberIndex<'a> {
 
     ghost coded = { coded_list a_decl.the_row.coded };
 
-    ghost view = { λ inside. map (λ decl. decl.now) inside.decls.now };
+    ghost view = { λ inside. map (λ decl. decl.now) inside.decls.items };
 
-    ghost invariant = { λ inside. ArePlaces (map (λ decl. decl.now) inside.decls.now) inside.places.items };
+    ghost invariant = { λ inside. ArePlaces (map (λ decl. decl.now) inside.decls.items) inside.places.items };
 }
 
 impl<'a> MemberIndex<'a> {
     /// Of these declarations.
-    pub fn of(alloc: Global, decls: &'a [&'a Decl]) -> Result<MemberIndex<'a>, AllocError>
-        ensures { IfOk result (λ index. index ≡ map (λ decl. decl.now) decls.now) }
+    pub fn of(alloc: Global, decls: Vec<&'a Decl>) -> Result<MemberIndex<'a>, AllocError>
+        ensures { IfOk result (λ index. index ≡ map (λ decl. decl.now) decls.entry.items) }
     {
-        let places = places_of(alloc, decls)?;
+        let places = places_of(alloc, decls.as_slice())?;
         Ok(MemberIndex { decls, places })
+    }
+
+    /// The declarations.
+    pub fn decls(&self) -> &[&'a Decl]
+        ensures { map (λ decl. decl.now) result.now ≡ self.now }
+    {
+        self.decls.as_slice()
     }
 
     /// The field of this name of the declaration of this number.
     pub fn field(&self, number: usize, name: &Text) -> Option<&'a Typed>
         ensures { option_copied result ≡ field_declared self.now number name.now }
     {
-        found_field(self.decls, self.places.as_slice(), number, name)
+        found_field(self.decls.as_slice(), self.places.as_slice(), number, name)
     }
 
     /// The place of the predicate of this name among the members of the declaration of this number.

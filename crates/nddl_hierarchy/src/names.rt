@@ -2,7 +2,7 @@
 
 ghost use Rattle.std.specs.Prelude.{◌≡◌, ◌∷◌, [], IfOk, OnOk, Some, codes, map};
 ghost use Rattle.nddl_symbols.specs.declared.scope.Meaning.TheVariants.{Entry};
-ghost use Rattle.nddl_symbols.specs.Index.{with_noted};
+ghost use Rattle.eu_index.specs.Index.{with_noted};
 ghost use Rattle.nddl_hierarchy.specs.Facts.{facts_of};
 ghost use Rattle.nddl_hierarchy.specs.Inherited.{builtin_members, class_noted, inherited_noted, line_noted, meaning_noted, member_names, names_noted, reservoir_members, words_noted};
 
@@ -12,10 +12,10 @@ use crate::circles::is_rooted;
 use crate::decls::members_of;
 use crate::lines::above;
 use crate::shorter::adding_line;
+use eu_index::NameIndex;
 use eu_name::text::Text;
 use nddl_ast::declaration::{Decl, Member};
 use nddl_ast::name::Name;
-use nddl_symbols::index::NameIndex;
 use nddl_symbols::{Meaning, Scope};
 use std::alloc::{AllocError, Global};
 

@@ -16,9 +16,7 @@ use nddl_ast::TextKind;
 use nddl_ast::declaration::Decl;
 use nddl_ast::expression::{Bounds, Init, Value};
 use nddl_ast::name::Name;
-use nddl_symbols::fault::note_at;
-use nddl_symbols::twice::kind_if;
-use nddl_symbols::{Declared, Fault, Meaning, Scope, Sort};
+use nddl_symbols::{Declared, Fault, Meaning, Scope, Sort, kind_if, note_at};
 use nddl_typeexpr::TypeKind;
 use std::alloc::{AllocError, Global};
 

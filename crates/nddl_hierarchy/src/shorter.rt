@@ -63,7 +63,7 @@ fn adding_lines(
     shortened(alloc, parents, lineage, adds.as_slice())
 }
 
-// The same, where those are passed over that have no constructor.
+// What the things stand under, where those are passed over that have no constructor.
 fn building_lines(
     alloc: Global,
     scope: &Scope,
@@ -173,7 +173,7 @@ fn adds_declared(scope: &Scope, decls: &[&Decl], declared: &Declared) -> bool
     }
 }
 
-// The same, where it is declared so.
+// Whether a class with this body adds members to a line: its own, or those of a built-in class that it extends.
 fn adds_body(scope: &Scope, body: &Decl) -> bool
     ensures { result ≡ adds_body scope.now body.now }
 {

@@ -26,7 +26,7 @@ pub fn is_under(
     }
 }
 
-// The same, by shortcuts, if it is a class whose line is known to end.
+// Finds it out by shortcuts, if this is a class whose line is known to end.
 fn is_under_shortly(basis: &Basis<'_>, class: Meaning, entry: usize) -> Option<bool>
     ensures { IfSome result (λ under. under ≡ is_under basis.now.types.scope.now
         (map (λ decl. decl.now) basis.now.decls.now) basis.now.parents.now class entry) }
@@ -70,7 +70,7 @@ fn is_builtin_or_over(basis: &Basis<'_>, number: u32, root: usize) -> bool
     number == 0 || extends
 }
 
-// The same, along the whole line.
+// Finds it out along the whole line.
 fn is_under_slowly(
     alloc: Global,
     basis: &Basis<'_>,

@@ -2,7 +2,7 @@
 use Rattle.std.specs.Prelude.{ℕ, List, slice_get}
 use Rattle.std.specs.Option.{option_map_or}
 use Rattle.nddl_ast.specs.declared.name.Path.{Path}
-use Rattle.nddl_symbols.specs.Index.{Noted, noted_number}
+use Rattle.eu_index.specs.Index.{Noted, noted_number}
 use Rattle.nddl_symbols.specs.Scope.{builtin_number}
 use Rattle.nddl_terms.specs.declared.growth.Growth.{Growth}
 use Rattle.nddl_terms.specs.declared.stands.Stand.{Stand}

@@ -6,7 +6,7 @@ use Rattle.model_core.specs.declared.model.Root.{Root}
 use Rattle.model_core.specs.declared.variable.VarDecl.{VarDecl}
 use Rattle.nddl_ast.specs.declared.declaration.FileDecls.{FileDecls}
 use Rattle.nddl_symbols.specs.declared.site.Site.{Site}
-use Rattle.nddl_symbols.specs.Index.{Noted}
+use Rattle.eu_index.specs.Index.{Noted}
 use Rattle.nddl_construction.specs.declared.made.Datum.{Datum}
 use Rattle.nddl_terms.specs.declared.lexicon.Lexicon.{Lexicon}
 use Rattle.nddl_terms.specs.declared.stands.TextPlaces.{TextPlaces}

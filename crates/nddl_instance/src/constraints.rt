@@ -6,9 +6,10 @@ ghost use Rattle.nddl_instance.specs.Constraints.{outer_argument, outer_argument
 
 use crate::Outside;
 use crate::outside::path_stand;
+use domain_core::kind::Kind;
 use eu_name::sequence::Sequence;
 use eu_name::text::Text;
-use model_core::item::{Kind, Term};
+use model_core::item::Term;
 use nddl_ast::expression::Expr;
 use nddl_lower::arguments::{add_constraint_of, constant_term, stand_term};
 use nddl_rule_check::words::constraint_named;

@@ -131,7 +131,7 @@ fn global_with(
     })
 }
 
-// The same, if nothing is wrong with its type.
+// The global with what its type means, if nothing is wrong with that.
 fn typed_global(
     alloc: Global,
     premises: &Premises<'_>,

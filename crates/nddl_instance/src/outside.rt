@@ -3,10 +3,10 @@
 ghost use Rattle.std.specs.Prelude.{◌≡◌, IfOk, OnOk};
 ghost use Rattle.nddl_instance.specs.Outside.{front_stand, outer_path, outsides_of, scoped_stand};
 
+use eu_index::NameIndex;
 use eu_name::text::Text;
 use nddl_ast::name::{Name, Path};
 use nddl_symbols::builtin::builtin_number;
-use nddl_symbols::index::NameIndex;
 use nddl_terms::paths::path_steps;
 use nddl_terms::{Growth, Reading, Stand};
 use std::alloc::{AllocError, Global};

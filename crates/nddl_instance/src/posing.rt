@@ -8,6 +8,7 @@ ghost use Rattle.nddl_instance.specs.Posed.{bare_places, outside_rules, posed_pr
 use super::renumbered::{global_items, push_fields};
 use super::settings::{natural_number, setting_or};
 use crate::{Assertions, Outside, ProblemText, assertions_of, declared_globals, posted_roots};
+use eu_index::NameIndex;
 use eu_name::sequence::Sequence;
 use model_core::class::Object;
 use model_core::item::Item;
@@ -17,7 +18,6 @@ use nddl_ast::declaration::FileDecls;
 use nddl_construction::Datum;
 use nddl_env::Premises;
 use nddl_symbols::Site;
-use nddl_symbols::index::NameIndex;
 use nddl_terms::lexicon::as_number;
 use nddl_terms::{Lexicon, ReadNames, Reading, TextPlaces};
 use std::alloc::{AllocError, Global};

@@ -19,7 +19,7 @@ use Rattle.nddl_ast.specs.declared.name.Name.{Name}
 use Rattle.nddl_symbols.specs.declared.declared.Declared.{Declared}
 use Rattle.nddl_symbols.specs.declared.scope.Meaning.{Meaning}
 use Rattle.nddl_symbols.specs.declared.scope.Meaning.TheVariants as meanings
-use Rattle.nddl_symbols.specs.Index.{Noted, noted_number}
+use Rattle.eu_index.specs.Index.{Noted, noted_number}
 use Rattle.nddl_symbols.specs.Names.{is_class_sort, scope_names}
 use Rattle.nddl_symbols.specs.Scope.{is_class_at, meaning_of}
 use Rattle.nddl_hierarchy.specs.Ancestors.{above}

@@ -7,10 +7,10 @@ use Rattle.std.specs.Str.{bytes_eq}
 use Rattle.std.proofs.lemmas.Slice.Eq.{bytes_eq-Decides}
 use Rattle.nddl_ast.specs.declared.kind.TextKind.TheVariants as kinds
 use Rattle.nddl_ast.specs.declared.name.Name.{Name}
-use Rattle.nddl_symbols.specs.Index.{Noted, noted_number, with_noted}
+use Rattle.eu_index.specs.Index.{Noted, noted_number, with_noted}
 use Rattle.nddl_symbols.specs.Repeats.{repeated_fault, repeated_faults}
 use Rattle.nddl_symbols.specs.Scope.{fault_if}
-use Rattle.nddl_symbols.proofs.Indexes.{noted_with}
+use Rattle.eu_index.proofs.Indexes.{noted_with}
 use Rattle.nddl_hierarchy.specs.Inherited.{names_noted, words_noted}
 use Rattle.nddl_laws.proofs.Apart.{AreOnce, all_weaker}
 use Rattle.nddl_laws.proofs.Values.{no_fault, not_so}

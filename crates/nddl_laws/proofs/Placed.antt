@@ -32,7 +32,7 @@ use Rattle.nddl_symbols.proofs.Sites.{at_sites}
 use Rattle.nddl_symbols.specs.declared.declared.Declared.{Declared}
 use Rattle.nddl_symbols.specs.declared.fault.Fault.{Fault}
 use Rattle.nddl_symbols.specs.Finding.{faults_here}
-use Rattle.nddl_symbols.specs.Index.{Noted, noted_number, with_noted}
+use Rattle.eu_index.specs.Index.{Noted, noted_number, with_noted}
 use Rattle.nddl_symbols.specs.Names.{is_class_sort, is_config_sort, scope_names, sort_of_variable}
 use Rattle.nddl_symbols.specs.Repeats.{repeated_fault, repeated_faults}
 use Rattle.nddl_symbols.specs.Scope.{fault_if, is_second_name, meaning_of, named_number, second_name_fault, second_name_faults}

@@ -25,7 +25,7 @@ use Rattle.nddl_ast.specs.declared.name.Name.{Name}
 use Rattle.nddl_symbols.specs.declared.scope.Meaning.{Meaning}
 use Rattle.nddl_symbols.specs.declared.scope.Meaning.TheVariants as meanings
 use Rattle.nddl_symbols.specs.Finding.{faults_here}
-use Rattle.nddl_symbols.specs.Index.{noted_number}
+use Rattle.eu_index.specs.Index.{noted_number}
 use Rattle.nddl_symbols.specs.Names.{scope_names}
 use Rattle.nddl_symbols.specs.Repeats.{repeated_faults}
 use Rattle.nddl_symbols.specs.Scope.{fault_if}

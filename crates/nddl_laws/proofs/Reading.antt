@@ -23,7 +23,7 @@ use Rattle.nddl_ast.specs.Block.{statements_of}
 use Rattle.nddl_ast.specs.Places.{value_place}
 use Rattle.nddl_ast.specs.Tree.{Statements, Nothing, Declares, Calls, Asks, Tests, Chooses, Repeats}
 use Rattle.nddl_laws.specs.Nodes.{base_node, bounds_nodes, call_nodes, condition_nodes, expr_nodes, names_nodes, part_nodes, start_nodes, statements_nodes, type_nodes, variable_nodes}
-use Rattle.nddl_symbols.specs.Index.{Noted}
+use Rattle.eu_index.specs.Index.{Noted}
 use Rattle.nddl_terms.specs.declared.tree.Meaning.{Meaning}
 use Rattle.nddl_terms.specs.declared.tree.ReadName.{ReadName}
 use Rattle.nddl_rules.specs.Reads.{NameSources, asked_read, base_read, bounds_read, condition_read, expr_read, exprs_read, front_meaning, init_read, local_read, read_at, scope_meaning, scope_read, type_read, value_read}

@@ -1,5 +1,7 @@
-//! Cuts the text of a file into words, numbers, strings and marks, or finds the first place where that fails:
-//! `lex(alloc, b"int x;")` answers three lexemes, a word at 0, a word at 4 and a semicolon at 5.
+//! Cuts the text of a file into words, numbers, strings and marks: `lex(alloc, b"int x;")`.
+//! In come the bytes; out go `Lexeme`s in order, each with kind, place and length, or the first `LexFault`.
+//! Called by nddl_parser, which reads values by `number_value` and `decimal_value`.
+//! Knows nothing of reserved words, the grammar and files. How the longest piece at a place is found may change.
 #![tactic(auto)]
 
 mod fronts;

@@ -4,7 +4,7 @@ use Rattle.std.specs.List.{filter_map}
 use Rattle.std.specs.Option.{option_and_then, option_map_or}
 use Rattle.domain_core.specs.Domain.{Range, Set}
 use Rattle.model_core.specs.declared.item.Item.TheVariants.{Constraint}
-use Rattle.model_core.specs.declared.item.Kind.TheVariants.{Eq}
+use Rattle.domain_core.specs.declared.kind.Kind.TheVariants.{Eq}
 use Rattle.model_core.specs.declared.item.Term.TheVariants as terms
 use Rattle.model_core.specs.declared.variable.Base.{Base}
 use Rattle.model_core.specs.declared.variable.Base.TheVariants as bases

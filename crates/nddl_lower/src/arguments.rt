@@ -4,8 +4,9 @@ ghost use Rattle.std.specs.Prelude.{◌≡◌, IfOk, OnOk, map};
 ghost use Rattle.nddl_terms.specs.Readings.{readings_of};
 ghost use Rattle.nddl_lower.specs.Arguments.{all_differ, argument, given_arguments, condition_guard, constant_term, constraint_items, differ, no_term, stand_term, truth_value, with_constraint, with_items};
 
+use domain_core::kind::Kind;
 use eu_name::sequence::Sequence;
-use model_core::item::{Item, Kind, Term};
+use model_core::item::{Item, Term};
 use model_core::rule::Guard;
 use nddl_ast::expression::{Constant, Expr};
 use nddl_ast::statement::Condition;

@@ -40,7 +40,7 @@ fn add_related(
     }
 }
 
-// The same with the arguments of the relation.
+// A relation with its one argument, which is a path; any other arguments add nothing.
 fn add_relation_to(
     alloc: Global,
     reading: &Reading<'_>,

@@ -6,7 +6,8 @@ ghost use Rattle.nddl_lower.specs.Locals.{with_begun, with_declared, with_text_l
 
 use super::arguments::argument;
 use super::types::type_shape;
-use model_core::item::{Item, Kind, Term};
+use domain_core::kind::Kind;
+use model_core::item::{Item, Term};
 use nddl_ast::expression::Init;
 use nddl_ast::statement::Variable;
 use nddl_terms::growth::{term_pair, unnamed};
@@ -33,7 +34,7 @@ fn add_declared(
     Ok(number)
 }
 
-// The same with what it begins as.
+// The local of this shape; if it begins as an expression, with the constraint that it equals that.
 fn add_begun(
     alloc: Global,
     reading: &Reading<'_>,

@@ -5,9 +5,10 @@ ghost use Rattle.nddl_terms.specs.Readings.{readings_of};
 ghost use Rattle.nddl_lower.specs.Arguments.{with_items};
 ghost use Rattle.nddl_lower.specs.Slots.{AskedSlot, asked_labelled, asked_behind, asked_own, asked_path, class_base, object_items, pred_slot, wanted_of, with_asked, with_asked_at, with_relation, with_wanted_token};
 
+use domain_core::kind::Kind;
 use eu_name::name::Part;
 use eu_name::text::Text;
-use model_core::item::{Item, Kind, Rel, Term};
+use model_core::item::{Item, Rel, Term};
 use model_core::rule::Slot;
 use model_core::variable::Base;
 use nddl_ast::name::{Name, Path};

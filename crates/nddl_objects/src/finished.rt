@@ -13,9 +13,7 @@ use nddl_ast::declaration::Member;
 use nddl_construction::{Datum, SetFields};
 use nddl_hierarchy::Basis;
 use nddl_hierarchy::decls::members_of;
-use nddl_symbols::fault::note_at;
-use nddl_symbols::twice::kind_if;
-use nddl_symbols::{Fault, Meaning, Place};
+use nddl_symbols::{Fault, Meaning, Place, kind_if, note_at};
 use std::alloc::{AllocError, Global};
 
 // Whether the member is no field, or one that is set once.
@@ -57,7 +55,7 @@ fn is_reservoir_set(alloc: Global, fields: &SetFields) -> Result<bool, AllocErro
     Ok(initial && (low && high))
 }
 
-// The same of each field of the built-in class of this number.
+// Whether each field of the built-in class of this number is set once.
 fn are_builtin_set(alloc: Global, fields: &SetFields, number: u32) -> Result<bool, AllocError>
     ensures { IfOk result (λ all. all ≡ are_builtin_set fields.now number) }
 {

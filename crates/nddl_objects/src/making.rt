@@ -6,9 +6,7 @@ ghost use Rattle.nddl_objects.specs.Construction.{asked_of, object_begun, constr
 use eu_name::text::Text;
 use nddl_ast::TextKind;
 use nddl_construction::{Datum, FieldValue, MadeObject, SetFields};
-use nddl_symbols::fault::note_at;
-use nddl_symbols::twice::kind_if;
-use nddl_symbols::{Fault, Meaning, Place};
+use nddl_symbols::{Fault, Meaning, Place, kind_if, note_at};
 use std::alloc::{AllocError, Global};
 
 /// The most objects that a program may have.

@@ -59,7 +59,7 @@ fn field_value(scope: &Scope, fields: &SetFields, name: &Text) -> Result<i32, Al
     datum_value(scope, fields.datum(name))
 }
 
-// The same, of a field of a built-in class.
+// The number of the value to which the field of a built-in class is set, whose name is this word.
 fn word_value(
     alloc: Global,
     scope: &Scope,

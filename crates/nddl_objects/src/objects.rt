@@ -81,7 +81,7 @@ fn declare_object(
     Ok(())
 }
 
-// The same, where the names stand for this.
+// Makes the object by what the names stand for by now, and answers it, if it is made.
 fn make_declared(
     alloc: Global,
     groundwork: &Groundwork<'_>,
@@ -237,7 +237,7 @@ pub fn make_objects(alloc: Global, basis: &Basis<'_>) -> Result<Program, AllocEr
     make_typed(alloc, &*basis, &types)
 }
 
-// The same, where this is what the types of its fields mean.
+// Finds what is so of the constructors, and goes on with that and what the types of fields mean.
 fn make_typed<'a>(
     alloc: Global,
     basis: &'a Basis<'a>,
@@ -250,7 +250,7 @@ fn make_typed<'a>(
     make_grounded(alloc, &*basis, &*types, &builders)
 }
 
-// The same, where this is what is found of its constructors as well.
+// Puts together what is known before any object is made, and goes on with that.
 fn make_grounded(
     alloc: Global,
     basis: &Basis<'_>,
@@ -269,7 +269,7 @@ fn make_grounded(
     make_all(alloc, &groundwork)
 }
 
-// The same, where all of this is at hand.
+// Notes what is wrong with the text, and makes what the declarations ask for.
 #[tactic(auto, unfolding(crate::specs::Objects::last_progress))]
 fn make_all(alloc: Global, groundwork: &Groundwork<'_>) -> Result<Program, AllocError>
     ensures { IfOk result (λ program. progress_of program ≡ last_progress (facts_of groundwork.now.basis)) }

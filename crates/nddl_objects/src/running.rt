@@ -26,9 +26,7 @@ use nddl_construction::{
 };
 use nddl_constructors::bodies::{field_in_line, field_kind};
 use nddl_constructors::class_wants;
-use nddl_symbols::fault::note_at;
-use nddl_symbols::twice::kind_if;
-use nddl_symbols::{Meaning, Place};
+use nddl_symbols::{Meaning, Place, kind_if, note_at};
 use std::alloc::{AllocError, Global};
 
 // A constructor of the class of this number sets the field.
@@ -168,7 +166,7 @@ fn next_datum(levels: usize, making: &Making) -> Option<Datum>
     }
 }
 
-// The same, where there is a class of which an object is to be made.
+// The object that comes next, if there is a class of which it is to be made.
 fn class_datum(levels: usize, class: Option<Meaning>, making: &Making) -> Option<Datum>
     ensures { result ≡ option_map_or (λ class. next_datum levels (construction_of making.now)) class None }
 {
@@ -210,7 +208,7 @@ pub fn make_new(
     Ok(datum)
 }
 
-// The same, where an object of this class is to be made, if of any.
+// Makes an object of this class, if there is a class, with what the arguments are settled to.
 #[cycle(making)]
 fn make_class(
     alloc: Global,
@@ -385,7 +383,7 @@ fn run_body(
     )
 }
 
-// The same, where this is its scene.
+// Runs the constructor in this scene: notes what is wrong with what it is passed, and runs the parts of its body.
 #[cycle(making)]
 fn run_scene(
     alloc: Global,

@@ -10,9 +10,7 @@ use nddl_ast::TextKind;
 use nddl_ast::expression::Creation;
 use nddl_construction::reading::{datum_at, note_all_unmade};
 use nddl_construction::{Datum, Ground, MadeObject, Scene, settled_data};
-use nddl_symbols::Fault;
-use nddl_symbols::fault::note_at;
-use nddl_symbols::twice::kind_if;
+use nddl_symbols::{Fault, kind_if, note_at};
 use nddl_typeexpr::TypeKind;
 use std::alloc::{AllocError, Global};
 

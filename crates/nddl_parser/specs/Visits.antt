@@ -1,6 +1,5 @@
 -- What a file is read as with those that it includes.
-use Rattle.std.specs.Prelude.{◌≡◌, ℕ, ◌+◌, ◌<◌, ◌≤◌, zero, suc, List, [], ◌∷◌, ◌++◌, ◌⊎◌}
-use Rattle.std.specs.Prelude.{length, Option, Some, None, Result, Ok, Err, MatchResult, MatchBool, IsSome, IsUtf8}
+use Rattle.std.specs.Prelude.{◌≡◌, ℕ, ◌+◌, ◌<◌, ◌≤◌, zero, suc, List, [], ◌∷◌, ◌++◌, ◌⊎◌, length, Option, Some, None, Result, Ok, Err, MatchResult, MatchBool, IsSome, IsUtf8}
 use Rattle.eu_io.specs.Files.{HasContent}
 use Rattle.eu_io.specs.declared.shelf.FileEntry.{FileEntry}
 use Rattle.nddl_ast.specs.declared.declaration.Decl.{Decl}

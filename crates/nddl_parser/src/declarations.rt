@@ -364,7 +364,7 @@ fn class_parts(
     joined(parent, rest)
 }
 
-/// The same, behind the name of the class.
+/// The declaration of a class, behind its name.
 #[tactic(auto, unfolding(crate::specs::Productions::class_body))]
 fn class_body(cursor: &mut Cursor<'_>, at: u32, name: Name) -> Result<Decl, Stop>
     ensures { IsFound result cursor.new (class_body at name cursor.old) }

@@ -2,7 +2,7 @@
 use Rattle.std.specs.Prelude.{List, []}
 use Rattle.model_core.specs.declared.class.Object.{Object}
 use Rattle.nddl_ast.specs.declared.declaration.FileDecls.{FileDecls}
-use Rattle.nddl_symbols.specs.Index.{Noted}
+use Rattle.eu_index.specs.Index.{Noted}
 use Rattle.nddl_hierarchy.specs.Facts.{Facts}
 use Rattle.nddl_types.specs.declared.table.TypeTable.{TypeTable}
 use Rattle.nddl_terms.specs.PlainTree.{PlainTree}

@@ -8,7 +8,7 @@ use Rattle.nddl_problem.specs.Known.{Known, known_by, lexicon_known, progress_kn
 
 abbrev pub known_of : Outline → Known
 known_of outline =
-    known_by outline.program.now.files.now (facts_of outline.premises.sources.basis) outline.table.now outline.trees.now
+    known_by outline.program.files.now (facts_of outline.premises.sources.basis) outline.table.now outline.trees.now
 
 -- the code keeps all that follows from what is known
 pub record IsOutlined (outline : Outline) : Type 0 where

@@ -35,7 +35,7 @@ fn note_problem(
 }
 
 /// What is wrong first with the problem.
-pub fn problem_fault(alloc: Global, outline: &Outline<'_>) -> Result<Option<Fault>, AllocError>
+pub fn find_fault(alloc: Global, outline: &Outline<'_>) -> Result<Option<Fault>, AllocError>
     requires { IsOutlined outline.now }
     ensures { IfOk result (λ fault. fault ≡ problem_fault (known_of outline.now)) }
 {

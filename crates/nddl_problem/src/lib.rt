@@ -10,5 +10,6 @@ pub mod judging;
 pub mod laws;
 pub mod making;
 pub mod outline;
+pub mod stock;
 
 pub use compiling::compile;

@@ -18,8 +18,8 @@ use nddl_types::enums_of;
 use nddl_unroll::unroll;
 use std::alloc::{AllocError, Global};
 
-// A model of nothing.
-fn nothing(alloc: Global) -> Model {
+// A model without anything.
+fn empty_model(alloc: Global) -> Model {
     Model {
         enums: Sequence::new(alloc),
         classes: Sequence::new(alloc),
@@ -39,7 +39,7 @@ fn nothing(alloc: Global) -> Model {
 }
 
 // The objects of the program as the model has them.
-fn objects_of(alloc: Global, outline: &Outline<'_>) -> Result<Sequence<Object>, AllocError>
+fn list_objects(alloc: Global, outline: &Outline<'_>) -> Result<Sequence<Object>, AllocError>
     requires { IsOutlined outline.now }
     ensures { IfOk result (λ objects. objects ≡ objects_known (known_of outline.now)) }
 {
@@ -54,7 +54,7 @@ fn objects_of(alloc: Global, outline: &Outline<'_>) -> Result<Sequence<Object>, 
 }
 
 // What the problem is made of.
-fn posing<'a>(outline: &'a Outline<'a>, objects: &'a [Object]) -> Posing<'a>
+fn make_posing<'a>(outline: &'a Outline<'a>, objects: &'a [Object]) -> Posing<'a>
     requires outlined { IsOutlined outline.now }
     requires objects { objects.now ≡ objects_known (known_of outline.now) }
     ensures { posing_of result ≡ posing_known (known_of outline.now) }
@@ -71,7 +71,7 @@ fn posing<'a>(outline: &'a Outline<'a>, objects: &'a [Object]) -> Posing<'a>
 }
 
 // The problem, where these are the objects.
-fn problem_on<'a>(
+fn make_problem<'a>(
     alloc: Global,
     outline: &'a Outline<'a>,
     objects: &'a [Object],
@@ -80,11 +80,11 @@ fn problem_on<'a>(
     requires objects { objects.now ≡ objects_known (known_of outline.now) }
     ensures { IfOk result (λ problem. problem ≡ posed_problem (posing_known (known_of outline.now))) }
 {
-    problem_of(alloc, &posing(outline, objects))
+    problem_of(alloc, &make_posing(outline, objects))
 }
 
 // Fills the model.
-fn fill(alloc: Global, outline: &Outline<'_>, model: &mut Model) -> Result<(), AllocError>
+fn fill_model(alloc: Global, outline: &Outline<'_>, model: &mut Model) -> Result<(), AllocError>
     requires { IsOutlined outline.now }
     ensures { OnOk result (model.new ≡ compiled_model (known_of outline.now)) }
 {
@@ -97,7 +97,7 @@ fn fill(alloc: Global, outline: &Outline<'_>, model: &mut Model) -> Result<(), A
         outline.table.preds.as_slice(),
         outline.trees,
     )?;
-    model.objects = objects_of(alloc, outline)?;
+    model.objects = list_objects(alloc, outline)?;
     let rules = unroll(
         alloc,
         outline.lexicon,
@@ -105,12 +105,12 @@ fn fill(alloc: Global, outline: &Outline<'_>, model: &mut Model) -> Result<(), A
         outline.trees,
     )?;
     model.rules = Sequence::from_vec(rules);
-    model.problem = problem_on(alloc, &*outline, model.objects.as_slice())?;
+    model.problem = make_problem(alloc, &*outline, model.objects.as_slice())?;
     Ok(())
 }
 
 // The model, if it is filled and lawful.
-fn when_lawful(lawful: Result<bool, AllocError>, model: Model) -> Result<Model, AllocError>
+fn keep_lawful(lawful: Result<bool, AllocError>, model: Model) -> Result<Model, AllocError>
     ensures { MatchResult lawful
         (λ answer. MatchResult result (λ same. same ≡ model × IsTrue answer) (λ fault. ⊤))
         (λ fault. result ≡ Err fault) }
@@ -136,12 +136,12 @@ fn is_filled_lawful(
 
 /// The model of the program. It is tested for being lawful, so that whoever takes it need not ask; there is no memory for
 /// one that isn't.
-pub fn made_model(alloc: Global, outline: &Outline<'_>) -> Result<Model, AllocError>
+pub fn make_model(alloc: Global, outline: &Outline<'_>) -> Result<Model, AllocError>
     requires { IsOutlined outline.now }
     ensures { IfOk result (λ model. (model ≡ compiled_model (known_of outline.now)) × IsLawful model) }
 {
-    let mut model = nothing(alloc);
-    let filled = fill(alloc, outline, &mut model);
+    let mut model = empty_model(alloc);
+    let filled = fill_model(alloc, outline, &mut model);
     let lawful = is_filled_lawful(alloc, filled, &model);
-    when_lawful(lawful, model)
+    keep_lawful(lawful, model)
 }

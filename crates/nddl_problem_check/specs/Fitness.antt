@@ -15,7 +15,7 @@ use Rattle.nddl_ast.specs.declared.statement.Variable.{Variable}
 use Rattle.nddl_ast.specs.Places.{expr_place}
 use Rattle.nddl_symbols.specs.declared.fault.Fault.{Fault}
 use Rattle.nddl_symbols.specs.Finding.{faults_here}
-use Rattle.nddl_symbols.specs.Index.{Noted, noted_number}
+use Rattle.eu_index.specs.Index.{Noted, noted_number}
 use Rattle.nddl_symbols.specs.Scope.{fault_if}
 use Rattle.nddl_typeexpr.specs.declared.kind.TypeKind.{TypeKind}
 use Rattle.nddl_typeexpr.specs.Bases.{base_kind}

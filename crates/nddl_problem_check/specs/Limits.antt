@@ -5,7 +5,7 @@ use Rattle.nddl_ast.specs.declared.kind.TextKind.{TextKind}
 use Rattle.nddl_ast.specs.declared.kind.TextKind.TheVariants as faults
 use Rattle.nddl_symbols.specs.declared.place.Place.{Place}
 use Rattle.nddl_symbols.specs.declared.fault.Fault.{Fault}
-use Rattle.nddl_symbols.specs.Index.{Noted}
+use Rattle.eu_index.specs.Index.{Noted}
 use Rattle.nddl_hierarchy.specs.Facts.{Facts}
 use Rattle.nddl_objects.specs.Objects.{Progress, progress_grounds}
 use Rattle.nddl_terms.specs.declared.lexicon.Lexicon.{Lexicon}

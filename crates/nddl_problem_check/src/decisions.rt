@@ -17,8 +17,7 @@ use nddl_hierarchy::Basis;
 use nddl_resolve::denoted::settled;
 use nddl_resolve::{Denoted, PathFault};
 use nddl_rule_check::values::kind_of_value;
-use nddl_symbols::Fault;
-use nddl_symbols::fault::note_at;
+use nddl_symbols::{Fault, note_at};
 use nddl_typeexpr::TypeKind;
 use std::alloc::{AllocError, Global};
 

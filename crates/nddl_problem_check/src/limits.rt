@@ -10,12 +10,12 @@ ghost use Rattle.nddl_problem_check.specs.Limits.{all_global_places, count_fault
 use super::fitness::{Start, note_all_unfit};
 use super::made::push_making_places;
 use super::posts::{fact_places, global_places, posting_places};
+use eu_index::NameIndex;
 use nddl_ast::TextKind;
 use nddl_construction::Ground;
 use nddl_hierarchy::Basis;
 use nddl_objects::Program;
 use nddl_symbols::fault::note;
-use nddl_symbols::index::NameIndex;
 use nddl_symbols::{Fault, Place};
 use nddl_terms::lexicon::Lexicon;
 use std::alloc::{AllocError, Global};

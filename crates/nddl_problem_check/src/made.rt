@@ -142,7 +142,7 @@ fn push_exprs(
     Ok(())
 }
 
-// The same for what stands before an act.
+// Puts the places of what stands before an act behind the others: only before `specify` there are any.
 fn push_front(
     alloc: Global,
     basis: &Basis<'_>,

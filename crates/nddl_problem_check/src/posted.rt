@@ -14,9 +14,8 @@ use nddl_resolve::files::file_denoted;
 use nddl_resolve::steps::{asked_by, unknown_at, wrong_at};
 use nddl_resolve::{Denoted, PathFault};
 use nddl_rule_check::arguments::note_understood;
-use nddl_symbols::Fault;
 use nddl_symbols::declared::is_posting;
-use nddl_symbols::fault::note_at;
+use nddl_symbols::{Fault, note_at};
 use std::alloc::{AllocError, Global};
 
 // The token that is posted by the path, whose first name means this.

@@ -13,8 +13,7 @@ use nddl_ast::expression::Expr;
 use nddl_ast::name::Name;
 use nddl_hierarchy::Basis;
 use nddl_resolve::{Denoted, PathFault, expr_denoted};
-use nddl_symbols::fault::note_at;
-use nddl_symbols::{Fault, Scope};
+use nddl_symbols::{Fault, Scope, note_at};
 use std::alloc::{AllocError, Global};
 
 // Notes what is wrong with what isn't wanted where it stands.

@@ -18,8 +18,7 @@ use nddl_ast::{TextKind, front, last};
 use nddl_constructors::constants::note_value;
 use nddl_hierarchy::Basis;
 use nddl_rule_check::{constraint_named, note_constraint};
-use nddl_symbols::Fault;
-use nddl_symbols::fault::note_at;
+use nddl_symbols::{Fault, note_at};
 use nddl_typeexpr::base::base_kind;
 use std::alloc::{AllocError, Global};
 

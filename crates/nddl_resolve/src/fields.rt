@@ -75,20 +75,6 @@ fn line_field(basis: &Basis<'_>, constant: bool, name: &Text, line: &[usize]) ->
     }
 }
 
-/// The field of this name that the class of this number declares, or one that it extends.
-pub fn field_of_class<'a>(
-    alloc: Global,
-    basis: &Basis<'a>,
-    name: &Text,
-    entry: usize,
-) -> Result<Option<&'a Typed>, AllocError>
-    ensures { IfOk result (λ field. option_copied field ≡ field_along (facts_of basis.now).names (facts_of basis.now).program
-        name.now (ancestry (facts_of basis.now).parents entry)) }
-{
-    let line = adding_line(alloc, basis, entry)?;
-    Ok(field_along(basis, name, line.as_slice()))
-}
-
 // The field of this name that one of the classes declares.
 fn field_along<'a>(basis: &Basis<'a>, name: &Text, line: &[usize]) -> Option<&'a Typed>
     ensures { option_copied result ≡ field_along basis.now.types.scope.now

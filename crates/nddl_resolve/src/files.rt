@@ -58,7 +58,7 @@ fn sort_denoted(
     }
 }
 
-// The same, of what can have tokens: an object or a class.
+// What the name of an object or of a class means, which can have tokens; None for any other.
 fn sort_owner(basis: &Basis<'_>, entry: usize, declared: &Declared) -> Option<Denoted>
     ensures { result ≡ sort_owner (facts_of basis.now) entry declared.now declared.now.sort }
 {

@@ -1,6 +1,8 @@
-//! What a path means where it stands: `path_denoted(alloc, basis, &around, path)?` is a value of some kind, a token or a
-//! class, or what is wrong with the path, and `expr_denoted` the same for any argument. `asked_token` is the token for
-//! which a path asks whose last name is a predicate. What names mean beside those of the files is given (`Around`).
+//! What a path means where it stands, or what is wrong with it: `path_denoted(alloc, basis, &around, path)?`.
+//! In come a `Basis`, the names around (`Around`) and a path; out goes a `Denoted` or a `PathFault`.
+//! Called by nddl_rule_check, nddl_constructors, nddl_construction, nddl_problem_check and nddl_env.
+//! Knows nothing of constraints, terms, and which objects are made. How fields, predicates and seen names are found may
+//! change.
 #![tactic(auto)]
 
 pub mod denoted;

@@ -85,7 +85,7 @@ fn own_predicate(basis: &Basis<'_>, name: &Text, entry: usize) -> Option<usize>
     }
 }
 
-// The same, of this class.
+// The place of the predicate in the declaration that has the members of the class.
 fn declared_predicate(basis: &Basis<'_>, name: &Text, declared: &Declared) -> Option<usize>
     ensures { result ≡ option_and_then
         (λ number. predicate_declared (facts_of basis.now).program number name.now)

@@ -16,7 +16,7 @@ use Rattle.nddl_ast.specs.Block.{statements_of, with_else, with_statement}
 use Rattle.nddl_ast.specs.Tree.{Statements, Nothing, Declares, Calls, Asks, Repeats, Braces}
 use Rattle.nddl_symbols.specs.declared.fault.Fault.{Fault}
 use Rattle.nddl_symbols.specs.Finding.{earliest_fault}
-use Rattle.nddl_symbols.specs.Index.{Noted, with_noted}
+use Rattle.eu_index.specs.Index.{Noted, with_noted}
 use Rattle.nddl_symbols.proofs.Earliest.{earliest_append}
 use Rattle.nddl_hierarchy.specs.Facts.{Facts}
 use Rattle.nddl_resolve.specs.Paths.{Surroundings}

@@ -7,7 +7,7 @@ use Rattle.nddl_ast.specs.Tree.{Statements, Nothing, Declares, Calls, Asks, Test
 use Rattle.nddl_symbols.specs.declared.fault.Fault.{Fault}
 use Rattle.nddl_symbols.specs.declared.scope.Meaning.{Meaning}
 use Rattle.nddl_symbols.specs.Finding.{faults_here}
-use Rattle.nddl_symbols.specs.Index.{Noted, with_noted}
+use Rattle.eu_index.specs.Index.{Noted, with_noted}
 use Rattle.nddl_symbols.specs.Repeats.{repeated_fault}
 use Rattle.nddl_symbols.specs.Scope.{meaning_of}
 use Rattle.nddl_typeexpr.specs.declared.kind.TypeKind.TheVariants as kinds

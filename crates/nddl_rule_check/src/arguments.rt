@@ -8,16 +8,14 @@ ghost use Rattle.nddl_rule_check.specs.Arguments.{argument_faults, arguments_fau
 
 use super::asked::{Asked, asked_at, takes};
 use super::values::{compared_with, is_unfit};
-use model_core::item::Kind;
+use domain_core::kind::Kind;
 use nddl_ast::TextKind;
 use nddl_ast::expression::{Expr, Init, Type};
 use nddl_ast::statement::Condition;
 use nddl_hierarchy::Basis;
 use nddl_resolve::denoted::settled;
 use nddl_resolve::{Around, Denoted, PathFault, expr_denoted};
-use nddl_symbols::Fault;
-use nddl_symbols::fault::note_at;
-use nddl_symbols::twice::kind_if;
+use nddl_symbols::{Fault, kind_if, note_at};
 use nddl_typeexpr::TypeKind;
 use nddl_typeexpr::base::base_kind;
 use std::alloc::{AllocError, Global};

@@ -3,7 +3,7 @@
 ghost use Rattle.std.specs.Prelude.{◌≡◌};
 ghost use Rattle.nddl_rule_check.specs.Constraints.{asked_at, takes};
 
-use model_core::item::Kind;
+use domain_core::kind::Kind;
 use nddl_typeexpr::TypeKind;
 
 /// What is asked of an argument.

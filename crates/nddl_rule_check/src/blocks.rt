@@ -5,13 +5,14 @@ ghost use Rattle.std.specs.Option.{option_map_or};
 ghost use Rattle.nddl_ast.specs.Block.{statements_of, with_statement};
 ghost use Rattle.nddl_ast.specs.Tree.{Statements};
 ghost use Rattle.nddl_symbols.specs.Finding.{earliest_fault};
-ghost use Rattle.nddl_symbols.specs.Index.{with_noted};
+ghost use Rattle.eu_index.specs.Index.{with_noted};
 ghost use Rattle.nddl_hierarchy.specs.Facts.{facts_of};
 ghost use Rattle.nddl_rule_check.specs.Blocks.{block_faults, local_faults, local_value, object_unless, slot_faults, slot_value, turn_faults, turn_value};
 ghost use Rattle.nddl_rule_check.specs.Seeing.{SeesMore, seeing_label, seeing_local, seeing_turn};
 
 use super::visible::Visible;
 use crate::{labelled_slot, note_ask, note_condition, note_init, note_rule_call};
+use eu_index::NameIndex;
 use nddl_ast::TextKind;
 use nddl_ast::name::Name;
 use nddl_ast::statement::{Ask, Stmt, StmtBlock, Variable};
@@ -20,10 +21,8 @@ use nddl_hierarchy::Basis;
 use nddl_resolve::Denoted;
 use nddl_resolve::denoted::settled;
 use nddl_resolve::fields::type_value;
-use nddl_symbols::fault::note_at;
-use nddl_symbols::index::NameIndex;
 use nddl_symbols::repeats::note_repeated;
-use nddl_symbols::{Fault, Meaning, Scope};
+use nddl_symbols::{Fault, Meaning, Scope, note_at};
 use nddl_typeexpr::TypeKind;
 use std::alloc::{AllocError, Global};
 

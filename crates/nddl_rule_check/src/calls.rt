@@ -16,8 +16,7 @@ use nddl_ast::statement::Call;
 use nddl_ast::{TextKind, front, last};
 use nddl_hierarchy::Basis;
 use nddl_resolve::{Around, Denoted, PathFault, path_denoted};
-use nddl_symbols::Fault;
-use nddl_symbols::fault::note_at;
+use nddl_symbols::{Fault, note_at};
 use std::alloc::{AllocError, Global};
 
 /// Notes what is wrong with a call in a rule: a constraint or a relation.

@@ -18,8 +18,7 @@ use nddl_declarations::class_fault;
 use nddl_hierarchy::Basis;
 use nddl_resolve::steps::token_step;
 use nddl_resolve::{Denoted, PathFault, Predicate, TokenSort};
-use nddl_symbols::fault::note_at;
-use nddl_symbols::{Fault, Meaning};
+use nddl_symbols::{Fault, Meaning, note_at};
 use std::alloc::{AllocError, Global};
 
 /// The first of all that is wrong with the rules of a program of which this is known.
@@ -232,7 +231,7 @@ fn member_token(entry: usize, member: usize) -> TokenSort
     }
 }
 
-// The same over what is seen there.
+// Notes what is wrong with the parts of a body, where this is seen.
 #[tactic(auto, using(nddl_symbols::proofs::Earliest::earliest_append))]
 fn note_parts(
     alloc: Global,

@@ -19,8 +19,7 @@ use nddl_resolve::steps::{token_step, unknown_at};
 use nddl_resolve::{
     Around, Denoted, PathFault, SeenNames, asked_token, expr_denoted, path_denoted,
 };
-use nddl_symbols::Fault;
-use nddl_symbols::fault::note_at;
+use nddl_symbols::{Fault, note_at};
 use std::alloc::{AllocError, Global};
 
 // Whether one of these has the name, if there are any.

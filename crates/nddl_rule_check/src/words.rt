@@ -3,8 +3,9 @@
 ghost use Rattle.std.specs.Prelude.{◌≡◌};
 ghost use Rattle.nddl_rule_check.specs.Constraints.{constraint_named, relation_named};
 
+use domain_core::kind::Kind;
 use eu_name::text::Text;
-use model_core::item::{Kind, Rel};
+use model_core::item::Rel;
 
 /// The constraint of this name.
 #[tactic(auto, unfolding(crate::specs::Constraints::constraint_named))]

@@ -18,7 +18,7 @@ use Rattle.nddl_ast.specs.Tree.{Statements, Nothing}
 use Rattle.nddl_symbols.specs.declared.place.Place.{Place}
 use Rattle.nddl_symbols.specs.declared.site.Site.{Site}
 use Rattle.nddl_symbols.specs.Place.{file_of_place}
-use Rattle.nddl_symbols.specs.Index.{Noted}
+use Rattle.eu_index.specs.Index.{Noted}
 use Rattle.nddl_terms.specs.PlainTree.{PlainTree}
 use Rattle.nddl_rules.specs.Sight.{no_sight}
 use Rattle.nddl_rules.specs.Tally.{no_tally}

@@ -23,7 +23,7 @@ use Rattle.nddl_ast.specs.declared.statement.Call.{Call}
 use Rattle.nddl_ast.specs.declared.statement.Condition.{Condition}
 use Rattle.nddl_ast.specs.declared.statement.Condition.TheVariants as conditions
 use Rattle.nddl_ast.specs.declared.statement.Variable.{Variable}
-use Rattle.nddl_symbols.specs.Index.{Noted, noted_number}
+use Rattle.eu_index.specs.Index.{Noted, noted_number}
 use Rattle.nddl_symbols.specs.Scope.{builtin_number}
 use Rattle.nddl_terms.specs.declared.tree.Meaning.{Meaning}
 use Rattle.nddl_terms.specs.declared.tree.Meaning.TheVariants as meanings

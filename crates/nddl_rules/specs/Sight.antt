@@ -1,6 +1,6 @@
 -- What the names mean that the text of a rule declares, by number.
 use Rattle.std.specs.Prelude.{◌≡◌, ℕ, List, [], ◌∷◌, ◌++◌, length, take}
-use Rattle.nddl_symbols.specs.Index.{Noted}
+use Rattle.eu_index.specs.Index.{Noted}
 use Rattle.nddl_rules.specs.declared.sight.SightUntil.{SightUntil}
 
 -- what is seen in a block: the variables of `foreach`, the locals and the labels, each with its number, and of each sort the

@@ -6,7 +6,7 @@ use Rattle.nddl_ast.specs.declared.fault.TextFault.{TextFault}
 use Rattle.nddl_ast.specs.declared.fault.TextFault.TheVariants as texts
 use Rattle.nddl_symbols.specs.Joined.{joined_decls, joined_sites}
 use Rattle.nddl_symbols.specs.Finding.{earliest_fault}
-use Rattle.nddl_symbols.specs.Index.{Noted, with_noted}
+use Rattle.eu_index.specs.Index.{Noted, with_noted}
 use Rattle.nddl_symbols.specs.Names.{scope_names}
 use Rattle.nddl_hierarchy.specs.Facts.{Facts}
 use Rattle.nddl_declarations.specs.Known.{AreFacts}

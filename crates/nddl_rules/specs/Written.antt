@@ -11,7 +11,7 @@ use Rattle.nddl_ast.specs.declared.declaration.Member.{Member}
 use Rattle.nddl_ast.specs.declared.declaration.Member.TheVariants as members
 use Rattle.nddl_ast.specs.declared.declaration.PredicatePart.{PredicatePart}
 use Rattle.nddl_ast.specs.declared.declaration.PredicatePart.TheVariants as parts
-use Rattle.nddl_symbols.specs.Index.{Noted, noted_number, with_noted}
+use Rattle.eu_index.specs.Index.{Noted, noted_number, with_noted}
 use Rattle.eu_forest.specs.Ancestors.{ancestry}
 use Rattle.nddl_rules.specs.declared.places.TextPlace.{TextPlace}
 use Rattle.nddl_rules.specs.Lists.{list_at, with_item_at}

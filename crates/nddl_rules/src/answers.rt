@@ -5,13 +5,12 @@ ghost use Rattle.nddl_rules.specs.Told.{AreFileTrees, TellsRuleFault, file_trees
 
 use super::scope::scope_places;
 use crate::{RuleTexts, all_trees};
+use eu_index::NameIndex;
 use nddl_ast::TextFault;
 use nddl_ast::declaration::FileDecls;
-use nddl_hierarchy::Basis;
 use nddl_rule_check::first_rule_wrong;
-use nddl_symbols::index::NameIndex;
 use nddl_terms::RuleTree;
-use nddl_types::{Program, Question, TypeTable, ask, told};
+use nddl_types::{Groundwork, Program, TypeTable, told};
 use std::alloc::{AllocError, Global};
 
 /// The rule trees of the files, which are in the order in which they were read and have this table, or what is wrong first
@@ -23,40 +22,45 @@ pub fn rules(
 ) -> Result<Vec<RuleTree>, TextFault>
     ensures { MatchResult result (λ trees. AreFileTrees table.now files.now trees.items) (TellsRuleFault files.now) }
 {
-    match ask(alloc, files, &OfRules { table }) {
+    match Groundwork::of(alloc, files) {
+        Ok(groundwork) => trees_of(alloc, table, &groundwork),
+        Err(_) => Err(TextFault::Memory),
+    }
+}
+
+/// The rule trees of the files of which this is known and which have this table, or what is wrong first with their rules.
+pub fn trees_of(
+    alloc: Global,
+    table: &TypeTable,
+    groundwork: &Groundwork<'_>,
+) -> Result<Vec<RuleTree>, TextFault>
+    ensures { MatchResult result (λ trees. AreFileTrees table.now groundwork.now trees.items) (TellsRuleFault groundwork.now) }
+{
+    match find_trees(alloc, table, groundwork) {
         Ok(answer) => answer,
         Err(_) => Err(TextFault::Memory),
     }
 }
 
-// Which trees the rules of a program have that has this table, or what is wrong first with them.
-#[derive(Clone, Copy)]
-struct OfRules<'a> {
-    table: &'a TypeTable,
-}
-
-impl Question for OfRules<'_> {
-    type Answer = Result<Vec<RuleTree>, TextFault>;
-
-    ghost answers = { λ question files answer. MatchResult answer
-        (λ trees. AreFileTrees question.table.now files trees.items) (TellsRuleFault files) };
-
-    #[tactic(auto, using(crate::proofs::Telling::tells_fault))]
-    fn answer(
-        &self,
-        alloc: Global,
-        program: &Program<'_>,
-        basis: &Basis<'_>,
-    ) -> Result<Result<Vec<RuleTree>, TextFault>, AllocError> {
-        match first_rule_wrong(alloc, basis)? {
-            Some(fault) => Ok(Err(told(program, fault)?)),
-            None => Ok(Ok(trees(alloc, self.table, program)?)),
-        }
+// The trees, or what is wrong first, if there is memory.
+#[tactic(auto, using(crate::proofs::Telling::tells_fault))]
+fn find_trees(
+    alloc: Global,
+    table: &TypeTable,
+    groundwork: &Groundwork<'_>,
+) -> Result<Result<Vec<RuleTree>, TextFault>, AllocError>
+    ensures { IfOk result (λ answer. MatchResult answer
+        (λ trees. AreFileTrees table.now groundwork.now trees.items) (TellsRuleFault groundwork.now)) }
+{
+    let program = groundwork.program();
+    match first_rule_wrong(alloc, &groundwork.basis())? {
+        Some(fault) => Ok(Err(told(&program, fault)?)),
+        None => Ok(Ok(make_trees(alloc, table, &program)?)),
     }
 }
 
 // The trees of the program.
-fn trees(
+fn make_trees(
     alloc: Global,
     table: &TypeTable,
     program: &Program<'_>,
@@ -64,11 +68,11 @@ fn trees(
     ensures { IfOk result (λ trees. trees.items ≡ file_trees table.now program.now.files.now) }
 {
     let scope = scope_places(alloc, table.scope.as_slice())?;
-    trees_in(alloc, table, program, &scope)
+    resolve_trees(alloc, table, program, &scope)
 }
 
-// The same, over the scope of the table.
-fn trees_in(
+// The trees, whose names are found by their places in the scope of the table.
+fn resolve_trees(
     alloc: Global,
     table: &TypeTable,
     program: &Program<'_>,

@@ -43,7 +43,7 @@ pub fn push_block_names(
     Ok(())
 }
 
-/// The same, of statements alone, without forgetting what is declared there.
+/// Puts the names of the statements at the end. What is declared there stays in sight.
 #[cycle(naming)]
 pub fn push_stmts_names(
     sources: &NameSources<'_>,
@@ -63,7 +63,7 @@ pub fn push_stmts_names(
     Ok(())
 }
 
-// The same of one statement. What is read in it and others is then what is read in the others behind.
+// Puts the names of the statement at the end, and counts what it declares for those behind it.
 #[cycle(naming)]
 fn push_stmt_names(
     sources: &NameSources<'_>,
@@ -117,7 +117,7 @@ fn push_otherwise_names(
     }
 }
 
-// The same of a `foreach`.
+// Puts the names of a `foreach` at the end. Its variable is seen in its block alone.
 #[tactic(auto, using(crate::proofs::Steps::turn_names, crate::proofs::Steps::turn_tally, crate::proofs::Steps::turn_forgotten))]
 #[cycle(naming)]
 fn push_turns_names(
@@ -145,7 +145,7 @@ fn push_turns_names(
     Ok(())
 }
 
-// The same of a local, which is seen from here on.
+// Puts the names of a local at the end, which is seen from here on.
 fn push_local_names(
     sources: &NameSources<'_>,
     variable: &Variable,
@@ -164,7 +164,7 @@ fn push_local_names(
     Ok(())
 }
 
-// The same of a constraint or a relation.
+// Puts the names of a constraint or a relation at the end, and counts the slot that it asks for without a label.
 fn push_call_names(
     sources: &NameSources<'_>,
     call: &Call,
@@ -211,7 +211,7 @@ fn is_long_path(expr: &Expr) -> bool
     }
 }
 
-// The same of a slot that gets a label, which is seen from here on.
+// Puts the names of a slot with a label at the end, which is seen from here on.
 fn push_ask_names(
     sources: &NameSources<'_>,
     ask: &Ask,

@@ -19,7 +19,7 @@ pub mod texts;
 pub mod trees;
 pub mod written;
 
-pub use answers::rules;
+pub use answers::{rules, trees_of};
 pub use blocks::push_block_names;
 pub use places::TextPlace;
 pub use preds::{noted_preds, preds_above};

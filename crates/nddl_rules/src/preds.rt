@@ -3,9 +3,9 @@
 ghost use Rattle.std.specs.Prelude.{◌≡◌, ◌++◌, [], IfOk};
 ghost use Rattle.nddl_rules.specs.Written.{class_word, full_name, inherited_pred, noted_preds, pred_above, preds_above};
 
+use eu_index::NameIndex;
 use eu_name::text::Text;
 use model_core::class::{Class, Pred};
-use nddl_symbols::index::NameIndex;
 use std::alloc::{AllocError, Global};
 
 /// The name of a predicate with that of its class before it.

@@ -8,6 +8,7 @@ ghost use Rattle.nddl_rules.specs.Reads.{asked_read, base_read, bounds_read, con
 
 use super::sight::Sight;
 use super::sources::NameSources;
+use eu_index::NameIndex;
 use eu_name::name::Part;
 use eu_name::sequence::Sequence;
 use eu_name::text::Text;
@@ -16,7 +17,6 @@ use nddl_ast::expression::{BaseType, Bounds, Expr, Init, Type, Value};
 use nddl_ast::name::{Name, Path};
 use nddl_ast::statement::{Condition, Variable};
 use nddl_symbols::builtin::builtin_number;
-use nddl_symbols::index::NameIndex;
 use nddl_terms::{Meaning, ReadName};
 use std::alloc::AllocError;
 

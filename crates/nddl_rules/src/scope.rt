@@ -3,7 +3,7 @@
 ghost use Rattle.std.specs.Prelude.{◌≡◌, [], IfOk};
 ghost use Rattle.nddl_rules.specs.Told.{scope_places};
 
-use nddl_symbols::index::NameIndex;
+use eu_index::NameIndex;
 use nddl_types::table::Named;
 use std::alloc::{AllocError, Global};
 

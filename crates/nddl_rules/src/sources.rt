@@ -1,7 +1,7 @@
 //! Names that the text of a rule doesn't declare.
 
+use eu_index::NameIndex;
 use model_core::variable::VarDecl;
-use nddl_symbols::index::NameIndex;
 
 /// Where they come from.
 #[derive(Clone, Copy)]

@@ -1,8 +1,8 @@
 //! Where rules are read.
 
+use eu_index::NameIndex;
 use nddl_ast::declaration::{Decl, FileDecls};
 use nddl_symbols::Site;
-use nddl_symbols::index::NameIndex;
 
 /// Files, the sites of their joined declarations, and those, with the names of their scope.
 #[derive(Clone, Copy)]

@@ -17,13 +17,13 @@ use crate::blocks::push_stmts_names;
 use crate::{
     NameSources, Sight, Tally, TextPlace, noted_preds, places_of, preds_above, texts_written,
 };
+use eu_index::NameIndex;
 use eu_name::sequence::Sequence;
 use eu_name::text::Text;
 use model_core::class::{Class, Pred};
 use nddl_ast::copies::both;
 use nddl_ast::statement::Stmt;
 use nddl_symbols::Place;
-use nddl_symbols::index::NameIndex;
 use nddl_symbols::place::file_of;
 use nddl_terms::{ReadName, RuleTree};
 use std::alloc::{AllocError, Global};
@@ -38,11 +38,11 @@ pub fn all_trees(
     ensures { IfOk result (λ trees. trees.items ≡ all_trees (texts_of texts.now) classes.now preds.now) }
 {
     let noted = noted_preds(alloc, classes, preds)?;
-    trees_by(alloc, texts, classes, preds, &noted)
+    index_trees(alloc, texts, classes, preds, &noted)
 }
 
-// The same, where predicates are found by their full names.
-fn trees_by(
+// Finds for each predicate what it inherits from and which rules are written for it, by this index of the predicates.
+fn index_trees(
     alloc: Global,
     texts: &RuleTexts<'_>,
     classes: &[Class],
@@ -54,11 +54,11 @@ fn trees_by(
 {
     let above = preds_above(alloc, classes, noted, preds)?;
     let written = texts_written(alloc, noted, preds, texts.decls)?;
-    trees_over(alloc, texts, preds, above.as_slice(), written.as_slice())
+    list_trees(alloc, texts, preds, above.as_slice(), written.as_slice())
 }
 
-// The same, by what predicates are inherited from, and by the rules that are written for each.
-fn trees_over(
+// Lists the trees of predicates that are inherited from these, and for which these rules are written.
+fn list_trees(
     alloc: Global,
     texts: &RuleTexts<'_>,
     preds: &[Pred],

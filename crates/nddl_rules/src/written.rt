@@ -8,13 +8,13 @@ ghost use Rattle.nddl_rules.specs.Written.{has_constraint, is_constraint, none_w
 use super::lists::{list_at, put_at};
 use super::places::TextPlace;
 use super::preds::full_name;
+use eu_index::NameIndex;
 use eu_name::sequence::Sequence;
 use eu_name::text::Text;
 use model_core::class::Pred;
 use nddl_ast::declaration::{Decl, Member, PredicatePart};
 use nddl_ast::name::Name;
 use nddl_hierarchy::lines::line_along;
-use nddl_symbols::index::NameIndex;
 use std::alloc::{AllocError, Global};
 
 /// The rules of a program that are written for each of the predicates.

@@ -4,18 +4,14 @@ use Rattle.std.specs.List.{position_from}
 use Rattle.std.specs.Option.{option_map, option_or}
 use Rattle.std.specs.Str.{bytes_eq}
 use Rattle.std.proofs.lemmas.List.{drop_more, drop_all}
-use Rattle.nddl_symbols.specs.Index.{HasFirsts, Noted, NotesFirst, noted_number, with_noted}
-use Rattle.nddl_symbols.proofs.Indexes.{noted_with}
+use Rattle.eu_index.specs.Index.{HasFirsts, Noted, NotesFirst, noted_number, with_noted}
+use Rattle.eu_index.proofs.Indexes.{noted_with, or_none}
 
 -- of each name what is noted, or else the first of those from this number on, is the first of all
 abbrev pub HasFirstsTo : {X : Type 0} → (List ℕ → X → Bool) → List X → ℕ → Noted → Type 0
 HasFirstsTo has_name some number noted = (name : List ℕ)
     → option_or (noted_number noted name) (position_from (has_name name) number (drop number some))
     ≡ position_from (has_name name) 0 some
-
-or_none : (o : Option ℕ) → o ≡ option_or o None
-or_none None = refl
-or_none (Some found) = refl
 
 or_here : (o rest : Option ℕ) (b : Bool) (number : ℕ)
     → option_or (option_or o (if b then Some number else None)) rest ≡ option_or o (cond b (Some number) rest)

@@ -4,7 +4,7 @@ use Rattle.nddl_ast.specs.declared.kind.TextKind.TheVariants as kinds
 use Rattle.nddl_ast.specs.declared.name.Name.{Name}
 use Rattle.nddl_symbols.specs.declared.fault.Fault.{Fault}
 use Rattle.nddl_symbols.specs.Finding.{faults_here}
-use Rattle.nddl_symbols.specs.Index.{Noted, noted_number, with_noted}
+use Rattle.eu_index.specs.Index.{Noted, noted_number, with_noted}
 use Rattle.nddl_symbols.specs.Scope.{fault_if}
 
 -- what is wrong with the name where these are declared before it

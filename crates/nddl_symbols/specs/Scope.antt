@@ -12,7 +12,7 @@ use Rattle.nddl_symbols.specs.declared.scope.Meaning.{Meaning}
 use Rattle.nddl_symbols.specs.declared.scope.Meaning.TheVariants as meanings
 use Rattle.nddl_symbols.specs.Builtin.{builtin_class_names, is_builtin_name}
 use Rattle.nddl_symbols.specs.Finding.{faults_here}
-use Rattle.nddl_symbols.specs.Index.{HasFirsts, Noted, NotesFirst}
+use Rattle.eu_index.specs.Index.{HasFirsts, Noted, NotesFirst}
 use Rattle.nddl_symbols.specs.Names.{is_class_sort, is_body_sort, is_config_sort}
 
 -- the name is this one and, if bodies alone count, that of a class with its members

@@ -23,7 +23,7 @@ impl Fault {
             || (self.place.decl == other.place.decl && self.is_before_within(other))
     }
 
-    // The same within one declaration.
+    // Whether it comes before the other within one declaration: by its byte, and at one byte by its kind.
     fn is_before_within(self, other: Fault) -> bool
         ensures { result ≡ (nat_lt self.place.at other.place.at || (self.place.at == other.place.at
             && nat_lt (kind_rank self.kind) (kind_rank other.kind))) }

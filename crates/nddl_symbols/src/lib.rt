@@ -1,13 +1,12 @@
 //! The symbol table of a program: `Scope::of(alloc, declared_names(alloc, decls)?)?`; `join` makes one list of all files.
 //! In come files; out go sites, names, what each name means, and the first of the faults that stages note (`note_at`).
-//! Called by all stages of the compiler behind the parser; `NameIndex` also by plan_words.
+//! Called by all stages of the compiler behind the parser.
 //! Knows nothing of types and members. How a name is found may change: to contracts a `Scope` is a list.
 #![tactic(auto)]
 
 pub mod builtin;
 pub mod declared;
 pub mod fault;
-pub mod index;
 pub mod joining;
 pub mod laws;
 pub mod place;
@@ -22,3 +21,4 @@ pub use joining::join;
 pub use place::Place;
 pub use scope::{Meaning, Scope};
 pub use site::Site;
+pub use twice::kind_if;

@@ -2,12 +2,12 @@
 
 ghost use Rattle.std.specs.Prelude.{◌≡◌, OnOk};
 ghost use Rattle.nddl_symbols.specs.Finding.{earliest_fault};
-ghost use Rattle.nddl_symbols.specs.Index.{with_noted};
+ghost use Rattle.eu_index.specs.Index.{with_noted};
 ghost use Rattle.nddl_symbols.specs.Repeats.{repeated_fault};
 
 use super::fault::{Fault, note_at};
-use super::index::NameIndex;
 use super::twice::kind_if;
+use eu_index::NameIndex;
 use nddl_ast::TextKind;
 use nddl_ast::name::Name;
 use std::alloc::AllocError;

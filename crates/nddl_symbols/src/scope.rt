@@ -6,7 +6,7 @@ ghost use Rattle.nddl_symbols.specs.Scope.{IsIndexed, NotesListed, builtin_numbe
 
 use super::builtin::builtin_number;
 use super::declared::{Declared, Sort};
-use super::index::NameIndex;
+use eu_index::NameIndex;
 use eu_name::sequence::Sequence;
 use eu_name::text::Text;
 use std::alloc::{AllocError, Global};

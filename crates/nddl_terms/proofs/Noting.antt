@@ -7,8 +7,8 @@ use Rattle.std.specs.Option.{option_map, option_map_or, option_or}
 use Rattle.std.specs.Str.{bytes_eq}
 use Rattle.std.proofs.lemmas.Option.{same_Some}
 use Rattle.model_core.proofs.Items.{item_is, item_within}
-use Rattle.nddl_symbols.specs.Index.{Noted, noted_number, with_noted}
-use Rattle.nddl_symbols.proofs.Indexes.{noted_with}
+use Rattle.eu_index.specs.Index.{Noted, noted_number, with_noted}
+use Rattle.eu_index.proofs.Indexes.{noted_with}
 use Rattle.nddl_terms.specs.declared.lexicon.PredShape.{PredShape}
 use Rattle.nddl_terms.specs.Preds.{AreNotedByClass, class_named, is_pred_named, with_pred_name, with_pred_names}
 

@@ -1,7 +1,7 @@
 -- Fields of a class by their names.
 use Rattle.std.specs.Prelude.{ℕ, Bool, List}
 use Rattle.std.specs.Str.{bytes_eq}
-use Rattle.nddl_symbols.specs.Index.{HasFirsts, Noted}
+use Rattle.eu_index.specs.Index.{HasFirsts, Noted}
 use Rattle.nddl_terms.specs.declared.lexicon.Attribute.{Attribute}
 
 abbrev pub is_attribute_named : List ℕ → Attribute → Bool

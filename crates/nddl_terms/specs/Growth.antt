@@ -2,7 +2,7 @@
 use Rattle.std.specs.Prelude.{ℕ, [], ◌∷◌, ◌++◌, length}
 use Rattle.model_core.specs.declared.item.Item.{Item}
 use Rattle.model_core.specs.declared.item.Item.TheVariants.{Constraint}
-use Rattle.model_core.specs.declared.item.Kind.TheVariants.{Field}
+use Rattle.domain_core.specs.declared.kind.Kind.TheVariants.{Field}
 use Rattle.model_core.specs.declared.item.Term.{Term}
 use Rattle.model_core.specs.declared.item.Term.TheVariants as terms
 use Rattle.model_core.specs.declared.rule.Entry.{Entry}

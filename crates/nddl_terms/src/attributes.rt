@@ -5,9 +5,9 @@ ghost use Rattle.nddl_terms.specs.Attributes.{AreNumbered};
 ghost use Rattle.nddl_terms.specs.Lexicon.{attribute_number};
 
 use super::lexicon::Attribute;
+use eu_index::NameIndex;
 use eu_name::sequence::Sequence;
 use eu_name::text::Text;
-use nddl_symbols::index::NameIndex;
 use std::alloc::{AllocError, Global};
 use std::marker::Model;
 

@@ -5,9 +5,10 @@ ghost use Rattle.nddl_terms.specs.Growth.{no_growth, unnamed, with_access, with_
 
 use super::lexicon::{Shape, as_number, copy_base};
 use super::stands::Made;
+use domain_core::kind::Kind;
 use eu_name::sequence::Sequence;
 use eu_name::text::Text;
-use model_core::item::{Item, Kind, Term};
+use model_core::item::{Item, Term};
 use model_core::rule::{Entry, Slot};
 use model_core::variable::VarDecl;
 use std::alloc::{AllocError, Global};

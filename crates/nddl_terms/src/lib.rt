@@ -1,7 +1,7 @@
-//! Rule trees, and the terms of the model that stand for what is in them. A tree is the text of one rule for one predicate,
-//! with what the names in it mean; no `foreach` is unrolled in one. `path_stand(alloc, &reading, turns, &path, &mut growth)?`
-//! answers what a path stands for while a rule is unrolled; where it reads a field of what isn't a known object, the rule
-//! grows by a local for it.
+//! Trees of rules, and terms of the model for what is in them: `path_stand(alloc, &reading, turns, &path, &mut growth)?`.
+//! In come a `Reading` (lexicon, objects, names and places of a rule) and a path; out goes a `Stand`, and the rule grows.
+//! Called by nddl_lower, nddl_unroll and nddl_instance. Trees are made by nddl_rules, and a lexicon by nddl_env.
+//! Knows nothing of faults and whole statements. How attributes, predicates, types and objects are found may change.
 #![tactic(auto)]
 
 pub mod attributes;

@@ -23,7 +23,7 @@ fn known_value(objects: &[Object], value: i32, number: usize) -> Option<i32>
     object.fields.as_slice().get(number).copied()
 }
 
-// The same, where its declared class has these fields.
+// What that field stands for: its value, with the class that these fields of the object's class give it.
 fn known_stand(objects: &[Object], value: i32, fields: &[Attribute], number: usize) -> Stand
     ensures { result ≡ known_stand objects.now value fields.now number }
 {

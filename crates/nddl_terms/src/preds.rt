@@ -4,9 +4,9 @@ ghost use Rattle.std.specs.Prelude.{◌≡◌, [], All, Err, IfOk, MatchResult, 
 ghost use Rattle.nddl_terms.specs.Preds.{AreNotedByClass, class_named, is_pred_named, with_pred_name, with_pred_names};
 
 use super::lexicon::PredShape;
+use eu_index::NameIndex;
 use eu_name::sequence::Sequence;
 use eu_name::text::Text;
-use nddl_symbols::index::NameIndex;
 use std::alloc::{AllocError, Global};
 use std::marker::Model;
 

@@ -1,6 +1,7 @@
-//! What the types of a program mean, and what is wrong with one: `note_type_faults(alloc, types, decl, written, &mut
-//! first)?` notes all that is wrong with a type as it is written, and `type_meaning(alloc, types, written)?` is what it
-//! means where nothing is. What the typedefs mean is given (`Types`).
+//! What a type means as it is written, and what is wrong with it: `type_meaning(alloc, types, written)?`.
+//! In come `Types`, a scope with the meanings of its typedefs, and a type; out goes a `TypeMeaning`, or faults are noted.
+//! Called by nddl_declarations, and for kinds and single meanings by stages up to nddl_problem_check.
+//! Knows nothing of ancestors, objects, and how typedefs get their meanings. How the members of a set are kept may change.
 #![tactic(auto)]
 
 pub mod base;

@@ -9,9 +9,7 @@ use super::kind::{Extent, TypeKind};
 use super::values::{end_fault, end_number, value_fault};
 use nddl_ast::TextKind;
 use nddl_ast::expression::Value;
-use nddl_symbols::fault::note_at;
-use nddl_symbols::twice::kind_if;
-use nddl_symbols::{Fault, Scope};
+use nddl_symbols::{Fault, Scope, kind_if, note_at};
 
 /// Notes what is wrong with a range that stands behind a type of this kind and these values.
 pub fn note_range_faults(

@@ -11,9 +11,7 @@ use super::members::Members;
 use super::values::{member_fault, own_number};
 use nddl_ast::TextKind;
 use nddl_ast::expression::Value;
-use nddl_symbols::fault::note_at;
-use nddl_symbols::twice::kind_if;
-use nddl_symbols::{Fault, Scope};
+use nddl_symbols::{Fault, Scope, kind_if, note_at};
 use std::alloc::{AllocError, Global};
 
 /// Notes what is wrong with a set that stands behind a type of this kind and these values.

@@ -11,8 +11,7 @@ use super::kind::{Extent, TypeKind, TypeMeaning};
 use super::ranges::{note_range_faults, range_meaning};
 use super::sets::{note_set_faults, set_meaning};
 use nddl_ast::expression::{Bounds, Type};
-use nddl_symbols::fault::note_at;
-use nddl_symbols::{Fault, Scope};
+use nddl_symbols::{Fault, Scope, note_at};
 use std::alloc::{AllocError, Global};
 
 /// What is known of a program where its types are read: its scope, what the typedefs mean, by the numbers of their names

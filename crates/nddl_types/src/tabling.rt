@@ -1,13 +1,15 @@
-//! The table of a program by what is known of it.
+//! The table of files with which nothing is wrong.
 
 ghost use Rattle.std.specs.Prelude.{◌≡◌, IfOk, MatchResult};
+ghost use Rattle.nddl_symbols.specs.Joined.{joined_decls};
+ghost use Rattle.nddl_symbols.specs.Names.{scope_names};
 ghost use Rattle.nddl_hierarchy.specs.Facts.{facts_of};
-ghost use Rattle.nddl_types.specs.Classes.{class_entries, class_numbers};
+ghost use Rattle.nddl_declarations.specs.Known.{AreFacts};
 ghost use Rattle.nddl_types.specs.Table.{AreEntries, HasEntries};
 
 use super::scoped::named_of;
 use super::table::{Named, TypeTable};
-use crate::{Program, Sources, class_entries, class_numbers, classes_of, enums_of, preds_of};
+use crate::{Groundwork, Program, Sources, classes_of, enums_of, preds_of};
 use eu_name::sequence::Sequence;
 use model_core::class::{Class, Enum, Pred};
 use nddl_hierarchy::Basis;
@@ -21,21 +23,22 @@ struct Parts {
     scope: Sequence<Named>,
 }
 
-/// The table of the program. There is no memory for 2^32 classes or predicates.
-pub fn table_of(
+/// The table of the files of which this is known. There is no memory for 2^32 classes or predicates.
+pub fn make_table(
     alloc: Global,
-    program: &Program<'_>,
+    groundwork: &Groundwork<'_>,
     basis: &Basis<'_>,
 ) -> Result<TypeTable, AllocError>
-    ensures { IfOk result (HasEntries program.now.files.now (facts_of basis.now)) }
+    requires { AreFacts (scope_names (joined_decls groundwork.now)) (joined_decls groundwork.now) (facts_of basis.now) }
+    ensures { IfOk result (HasEntries groundwork.now (facts_of basis.now)) }
 {
     let enums = enums_of(alloc, basis.decls)?;
-    let parts = parts_of(alloc, program, basis, enums.as_slice());
-    with_enums(enums, parts)
+    let parts = make_parts(alloc, groundwork, basis, enums.as_slice());
+    join_enums(enums, parts)
 }
 
 // The table of these enums and the other parts.
-fn with_enums(
+fn join_enums(
     enums: Sequence<Enum>,
     parts: Result<Parts, AllocError>,
 ) -> Result<TypeTable, AllocError>
@@ -66,51 +69,27 @@ fn with_enums(
 }
 
 // The parts of the table beside these enums.
-fn parts_of(
+fn make_parts(
     alloc: Global,
-    program: &Program<'_>,
+    groundwork: &Groundwork<'_>,
     basis: &Basis<'_>,
     enums: &[Enum],
 ) -> Result<Parts, AllocError>
-    ensures { IfOk result (λ parts. AreEntries program.now.files.now (facts_of basis.now) enums.now
-        parts.classes parts.preds parts.scope) }
-{
-    let entries = class_entries(alloc, basis.types.scope)?;
-    let numbers = class_numbers(alloc, basis.types.scope)?;
-    parts_by(
-        alloc,
-        program,
-        basis,
-        enums,
-        entries.as_slice(),
-        numbers.as_slice(),
-    )
-}
-
-// The same, with the numbers of the names that are classes, and which class each name would be.
-fn parts_by(
-    alloc: Global,
-    program: &Program<'_>,
-    basis: &Basis<'_>,
-    enums: &[Enum],
-    entries: &[usize],
-    numbers: &[u32],
-) -> Result<Parts, AllocError>
-    requires entries { entries.now ≡ class_entries basis.now.types.scope.now 0 basis.now.types.scope.now }
-    requires numbers { numbers.now ≡ class_numbers basis.now.types.scope.now 4 0 basis.now.types.scope.now }
-    ensures { IfOk result (λ parts. AreEntries program.now.files.now (facts_of basis.now) enums.now
+    requires { AreFacts (scope_names (joined_decls groundwork.now)) (joined_decls groundwork.now) (facts_of basis.now) }
+    ensures { IfOk result (λ parts. AreEntries groundwork.now (facts_of basis.now) enums.now
         parts.classes parts.preds parts.scope) }
 {
     let sources = Sources {
         basis: *basis,
         enums,
-        entries,
-        numbers,
+        entries: groundwork.class_entries(),
+        numbers: groundwork.class_numbers(),
     };
-    parts_from(alloc, program, &sources)
+    fill_parts(alloc, &groundwork.program(), &sources)
 }
 
-fn parts_from(
+// The parts of the table that are made of these sources.
+fn fill_parts(
     alloc: Global,
     program: &Program<'_>,
     sources: &Sources<'_>,

@@ -1,8 +1,8 @@
 -- How much the text of a rule unrolls into.
 use Rattle.std.specs.Prelude.{ℕ, ◌-◌, List, [], ◌∷◌, Option, Some, length, if◌then◌else◌}
 use Rattle.std.specs.Option.{option_map_or}
-use Rattle.model_core.specs.declared.item.Kind.{Kind}
-use Rattle.model_core.specs.declared.item.Kind.TheVariants.{AllDiff}
+use Rattle.domain_core.specs.declared.kind.Kind.{Kind}
+use Rattle.domain_core.specs.declared.kind.Kind.TheVariants.{AllDiff}
 use Rattle.nddl_ast.specs.declared.expression.Expr.{Expr}
 use Rattle.nddl_ast.specs.declared.expression.Expr.TheVariants as exprs
 use Rattle.nddl_ast.specs.declared.expression.Init.{Init}

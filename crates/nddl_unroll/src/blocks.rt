@@ -174,7 +174,7 @@ fn unroll_turns(
     }
 }
 
-// The same over the class of this number.
+// The block of a `foreach` over the class of this number, once for each of its objects.
 #[cycle(unrolling)]
 fn unroll_objects(
     alloc: Global,

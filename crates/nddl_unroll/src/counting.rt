@@ -10,7 +10,7 @@ ghost use Rattle.nddl_unroll.specs.Counting.{ask_amounts, asked_amounts, call_am
 
 use super::amounts::Amounts;
 use super::reads::{all_reads, begins_with_class, expr_reads, front_reads};
-use model_core::item::Kind;
+use domain_core::kind::Kind;
 use nddl_ast::expression::{Expr, Init};
 use nddl_ast::name::{Name, Path};
 use nddl_ast::statement::{Ask, Call, Condition, Stmt, StmtBlock};

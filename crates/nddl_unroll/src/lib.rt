@@ -1,7 +1,7 @@
-//! What the texts of rules stand for: `unroll(alloc, &lexicon, &objects, &trees)?` gives the rules of a model, one for each
-//! text, with each `foreach` unrolled over the objects of its class. What stands in a rule, and under which number, goes in
-//! the order of the text. How much that will be is counted from the texts before (`tree_amounts`), so that a text that would
-//! unroll into too much is never unrolled (`note_tree_limits`); a law says that what is counted is enough.
+//! Unrolls the trees of rules over the objects to rules of the model: `unroll(alloc, &lexicon, &objects, &trees)?`.
+//! In come lexicon, objects and trees; out goes a rule for each tree, or by `note_tree_limits` the first limit passed.
+//! Called by nddl_problem. A law says that a rule has no more than is counted from its text.
+//! Knows nothing of which predicate has which rule, and of the problem. How amounts are counted and kept may change.
 #![tactic(auto)]
 
 pub mod amounts;

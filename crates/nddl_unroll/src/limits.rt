@@ -6,9 +6,7 @@ ghost use Rattle.nddl_unroll.specs.Limits.{limit_faults, limits_passed, no_rules
 
 use super::amounts::Amounts;
 use nddl_ast::TextKind;
-use nddl_symbols::fault::note_at;
-use nddl_symbols::twice::kind_if;
-use nddl_symbols::{Fault, Place};
+use nddl_symbols::{Fault, Place, kind_if, note_at};
 
 /// A rule of a predicate: where its text stands, and how much it has.
 #[derive(Clone, Copy)]

@@ -27,7 +27,7 @@ fn file_reads(stand: Option<Stand>, count: u64) -> u64
     }
 }
 
-// The same behind what means this.
+// Of so many names behind a name with this meaning, in the rule or in the files.
 fn meaning_reads(lexicon: &Lexicon, meaning: Option<Meaning>, count: u64) -> u64
     ensures { result ≡ meaning_reads lexicon.now meaning count }
 {

@@ -31,7 +31,7 @@ fn grown_rule(growth: Growth) -> Rule
     }
 }
 
-// The same, if all went well.
+// The rule that has this, if there was memory for all of it.
 fn rule_behind(done: Result<(), AllocError>, growth: Growth) -> Result<Rule, AllocError>
     ensures { MatchResult done (λ _. result ≡ Ok (grown_rule growth)) (λ _. IsErr result) }
 {

@@ -22,7 +22,7 @@ use Rattle.plan_defs.specs.Sums.{sum_of}
 use Rattle.plan_defs.specs.Valid.{IsOfSort, IsPartOf, HasActed, AddedBy, TookBy, LeavesLevel, IsRise, IsLevelWithin, IsClauseKept}
 use Rattle.plan_defs.proofs.Filling.{one_sort, produce_consume, produce_plain, consume_plain}
 use Rattle.plan_defs.proofs.Members.{all_from_get}
-use Rattle.plan_defs.proofs.Ordered.{contains_head, contains_later, contains_cases, contains_none}
+use Rattle.eu_name.proofs.Ordered.{contains_head, contains_later, contains_cases, contains_none}
 use Rattle.plan_values.specs.Keys.{IsOrderly}
 use Rattle.resource_profile.specs.declared.level.LevelChange.{LevelChange}
 use Rattle.resource_profile.specs.Instant.{IsFirst}

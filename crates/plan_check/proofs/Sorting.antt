@@ -21,7 +21,7 @@ use Rattle.plan_defs.specs.Valid.{IsOfSort, IsWithinCapacity, IsLevelWithin, Kee
 use Rattle.plan_defs.proofs.Filling.{one_sort}
 use Rattle.plan_values.proofs.Matching.{match_bool}
 use Rattle.plan_check.specs.Acts.{IsFirstInstant, FindsInstant}
-use Rattle.plan_bases.specs.Bases.{IsOfPred}
+use Rattle.plan_values.specs.Bases.{IsOfPred}
 
 pub no_sort : (model : Model) (token : TokenName) (pred : ℕ) → IsOfPred model token pred → ((found : Pred) → slice_get model.preds pred ≡ Some found → ⊥)
     → (kind : PredKind) → IsOfSort model kind token → ⊥

@@ -6,9 +6,9 @@ use Rattle.std.proofs.lemmas.Bool.{cases_eq, cases_lt}
 use Rattle.eu_name.specs.declared.name.Part.TheVariants.{Start, End, Object}
 use Rattle.eu_name.specs.declared.name.TokenName.{TokenName}
 use Rattle.eu_name.proofs.Members.{get_same, get_below, contains_from_get}
-use Rattle.model_core.specs.declared.item.Kind.TheVariants.{Leq}
+use Rattle.domain_core.specs.declared.kind.Kind.TheVariants.{Leq}
 use Rattle.model_core.specs.declared.model.Model.{Model}
-use Rattle.model_core.specs.Constraints.{Holds}
+use Rattle.domain_core.specs.Constraints.{Holds}
 use Rattle.plan_defs.specs.declared.plan.Clause.TheVariants.{V8}
 use Rattle.plan_defs.specs.declared.plan.Line.{Line}
 use Rattle.plan_defs.specs.declared.plan.Line.TheVariants as lines

@@ -22,7 +22,7 @@ use Rattle.plan_defs.specs.Plans.{TakesPlaceWith}
 use Rattle.plan_defs.specs.Resources.{IsInstant}
 use Rattle.plan_defs.specs.Sums.{sum_of}
 use Rattle.plan_defs.specs.Valid.{IsPartOf, UsesAt, IsUsed, IsWithinCapacity, IsClauseKept}
-use Rattle.plan_defs.proofs.Ordered.{contains_head, contains_later, contains_cases, contains_none}
+use Rattle.eu_name.proofs.Ordered.{contains_head, contains_later, contains_cases, contains_none}
 use Rattle.plan_values.specs.Keys.{IsOrderly}
 use Rattle.resource_profile.specs.declared.usage.Use.{Use}
 use Rattle.resource_profile.specs.Instant.{IsFirst}

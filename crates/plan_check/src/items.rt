@@ -73,7 +73,7 @@ fn false_of(model: &Model, plan: &Plan, line: u32, token: &TokenName) -> Option<
     }
 }
 
-// The same for this line, whatever it says.
+// The first item that isn't true of the token that takes place by this line, if one does.
 fn false_at(model: &Model, plan: &Plan, place: u32, line: &Line) -> Option<Place>
     requires lawful { IsLawful model.now }
     requires orderly { IsOrderly plan.now }

@@ -17,7 +17,7 @@ use std::alloc::{AllocError, Global};
 #[derive(Clone, Copy, Debug, PartialEq, Eq)]
 pub enum Verdict {
     Valid,
-    Invalid { clause: Clause, place: Place },
+    Invalid(Clause, Place),
 }
 
 // The first clause that the plan breaks.
@@ -44,10 +44,7 @@ pub fn check(alloc: Global, model: &Model, plan: &Plan) -> Result<Verdict, Alloc
 {
     let first = broken_first(alloc, model, plan)?;
     match first {
-        Some(found) => Ok(Verdict::Invalid {
-            clause: found.clause,
-            place: found.place,
-        }),
+        Some(found) => Ok(Verdict::Invalid(found.clause, found.place)),
         None => Ok(Verdict::Valid),
     }
 }

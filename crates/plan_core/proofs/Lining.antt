@@ -1,133 +1,238 @@
--- Lines that were written.
-use Rattle.std.proofs.Common.{◌≡◌, ℕ, ℤ, Bool, true, false, cond, List, ◌++◌, Result, Ok, Err, Some, refl, sym, subst, codes, Contains}
-use Rattle.std.specs.Prelude.{OnOk}
+-- What lines say.
+use Rattle.std.proofs.Common.{◌≡◌, ℕ, ◌<◌, ◌≤◌, Bool, true, false, ℤ, List, [], ◌∷◌, ◌++◌, length, map, Option, Some, Result, Ok, Err, refl, sym, ap, subst, inl, inr, arith, Contains, length-append, codes, w32, to_z, of_z}
+use Rattle.std.specs.Prelude.{MatchResult}
+use Rattle.std.specs.List.{AllZip}
 use Rattle.eu_name.specs.declared.name.Part.TheVariants.{Start}
 use Rattle.eu_name.specs.declared.name.TokenName.{TokenName}
 use Rattle.eu_name.specs.declared.name.VarName.{VarName}
 use Rattle.eu_name.specs.declared.name.VarName.TheVariants as variables
-use Rattle.eu_name.specs.declared.name_text.NameText.{NameText}
-use Rattle.eu_name.specs.Spelling.{name_spelling}
 use Rattle.model_core.specs.declared.model.Model.{Model}
-use Rattle.model_core.specs.declared.rule.Slot.{Slot}
 use Rattle.model_core.specs.declared.variable.ValueKind.{ValueKind}
+use Rattle.model_core.specs.declared.variable.ValueKind.TheVariants as kinds
 use Rattle.model_core.specs.declared.variable.VarDecl.{VarDecl}
+use Rattle.model_core.specs.Kinds.{IsValueOf}
 use Rattle.model_core.specs.Lawful.{IsLawful, IsToken}
-use Rattle.model_core.specs.Names.{NamesVariable}
-use Rattle.model_core.specs.Tokens.{HasToken}
+use Rattle.model_core.specs.Naming.{names_of}
 use Rattle.model_core.specs.Variables.{IsGlobal}
-use Rattle.model_core.proofs.WellFormed.{variable_text_well_formed}
 use Rattle.plan_defs.specs.declared.plan.Line.TheVariants as lines
-use Rattle.plan_core.specs.declared.statement.Keyword.{Keyword}
-use Rattle.plan_core.specs.declared.statement.Keyword.TheVariants as keywords
-use Rattle.plan_core.specs.declared.statement.Statement.{Statement}
-use Rattle.plan_core.specs.declared.statement.Statement.TheVariants.{Global, Of}
-use Rattle.plan_core.specs.declared.subject.NamedGlobal.{NamedGlobal}
-use Rattle.plan_core.specs.declared.subject.NamedToken.{NamedToken}
-use Rattle.plan_core.specs.declared.subject.NamedLocal.{NamedLocal}
-use Rattle.plan_core.specs.Words.{IsPaused, IsUnbroken}
-use Rattle.plan_core.specs.Found.{Then, Done}
-use Rattle.plan_core.specs.Lines.{OneKeyword, AfterKeyword, OneLine, TokenValues}
-use Rattle.plan_core.specs.Subjects.{NamesSubject, IsNameOf, IsLocalOfKind, IsGlobalOf, IsTokenOf, IsLocalOf, IsFreshName, OneGlobal, OneToken, OneLocal, OneTarget, OnePredicate}
-use Rattle.plan_core.specs.Values.{OneValue}
-use Rattle.plan_core.specs.Writing.{EndsLine, Adds, AddsLine}
-use Rattle.plan_core.proofs.Adding.{adds_word, adds_then, adds_last, adds_at_end}
-use Rattle.plan_core.proofs.Unbroken.{spelling_unbroken}
+use Rattle.plan_defs.specs.Plans.{AreTokenValues, IsLineOf, IsLocalValue, value_kinds}
+use Rattle.plan_text.proofs.Stepping.{kept_value}
+use Rattle.plan_text.specs.declared.fault.Wrong.{Wrong}
+use Rattle.plan_text.specs.declared.statement.Keyword.{Keyword}
+use Rattle.plan_text.specs.declared.statement.Keyword.TheVariants as keywords
+use Rattle.plan_text.specs.declared.statement.Statement.{Statement}
+use Rattle.plan_text.specs.declared.statement.Statement.TheVariants.{Global, Of}
+use Rattle.plan_text.specs.declared.subject.NamedToken.{NamedToken}
+use Rattle.plan_text.specs.declared.subject.NamedLocal.{NamedLocal}
+use Rattle.plan_text.specs.Words.{HasWord}
+use Rattle.plan_text.specs.Found.{Found, Got, Stopped, Then, FindsWords}
+use Rattle.plan_text.specs.Lines.{OnePart, FirstParts, OneParameter, Parameters, TokenValues, AfterKeyword, OneLine, stated_name}
+use Rattle.plan_text.specs.Subjects.{OneToken, OneLocal, OneTarget, OnePredicate, IsLocalOfKind}
+use Rattle.plan_text.specs.Values.{OneValue, IsValueText}
+use Rattle.plan_core.specs.Reading.{active_keyword}
 
-named_unbroken : (model : Model) (name : VarName) (word : List ℕ) → IsNameOf model name word → IsUnbroken word
-named_unbroken model name word is = subst IsUnbroken (sym is.spells.1) (spelling_unbroken is.text is.spells.0)
+-- ---- what a line says
 
-abbrev found_token : TokenName → ℕ → NamedToken
-found_token name pred = record { name = name; pred = pred }
+pub active_found : (model : Model) (names : List VarName) (fact : Bool) (text mid rest : List ℕ) (named : NamedToken) (values : Result (List ℤ) Wrong) (r : Result (Option Statement) Wrong)
+    → OneToken model names text (Got named mid) → FindsWords (Then (OnePredicate model named.pred) (λ said. TokenValues model named.pred) mid) values rest
+    → MatchResult values (λ values. r ≡ Ok (Some (Of (lines.Token named.name fact values)))) (λ wrong. r ≡ Err wrong)
+    → FindsWords (AfterKeyword model names (active_keyword fact) text) r rest
+active_found model names true text mid rest named (Ok values) r token (said, (behind, (pred, got))) gives =
+    subst (λ r. FindsWords (AfterKeyword model names keywords.Fact text) r rest) (sym gives) (named, (mid, (token, (said, (behind, (pred, (values, (rest, (got, (refl, refl))))))))))
+active_found model names false text mid rest named (Ok values) r token (said, (behind, (pred, got))) gives =
+    subst (λ r. FindsWords (AfterKeyword model names keywords.Token text) r rest) (sym gives) (named, (mid, (token, (said, (behind, (pred, (values, (rest, (got, (refl, refl))))))))))
+active_found model names true text mid rest named (Err wrong) r token (inl first) gives =
+    subst (λ r. FindsWords (AfterKeyword model names keywords.Fact text) r rest) (sym gives) (inr (named, (mid, (token, inl first))))
+active_found model names false text mid rest named (Err wrong) r token (inl first) gives =
+    subst (λ r. FindsWords (AfterKeyword model names keywords.Token text) r rest) (sym gives) (inr (named, (mid, (token, inl first))))
+active_found model names true text mid rest named (Err wrong) r token (inr (said, (behind, (pred, stops)))) gives =
+    subst (λ r. FindsWords (AfterKeyword model names keywords.Fact text) r rest) (sym gives) (inr (named, (mid, (token, inr (said, (behind, (pred, inl stops)))))))
+active_found model names false text mid rest named (Err wrong) r token (inr (said, (behind, (pred, stops)))) gives =
+    subst (λ r. FindsWords (AfterKeyword model names keywords.Token text) r rest) (sym gives) (inr (named, (mid, (token, inr (said, (behind, (pred, inl stops)))))))
 
-token_adds : (model : Model) (names : List VarName) (token : TokenName) (slot : Slot) (old new : List ℕ) → HasToken model token slot → (Contains names (variables.Token token Start) → ⊥)
-    → (word : List ℕ) × ((new ≡ old ++ (codes " " ++ word)) × IsNameOf model (variables.Token token Start) word)
-    → Adds IsPaused (OneToken model names) (found_token token slot.pred) old new
-token_adds model names token slot old new has fresh (word, (put, is)) =
-    adds_word 32 word old new (λ found. IsFreshName model names (IsTokenOf model found)) _ (found_token token slot.pred) refl (named_unbroken model _ word is)
-    (record { name = variables.Token token Start; is_name = is; wanted = (refl, (slot, (has, refl))); new = fresh }) put
+pub active_stops : (model : Model) (names : List VarName) (fact : Bool) (text at : List ℕ) (wrong : Wrong) → OneToken model names text (Stopped wrong at) → AfterKeyword model names (active_keyword fact) text (Stopped wrong at)
+active_stops model names true text at wrong stops = inl stops
+active_stops model names false text at wrong stops = inl stops
 
-target_adds : (model : Model) (target : TokenName) (old new : List ℕ) → (word : List ℕ) × ((new ≡ old ++ (codes " " ++ word)) × IsNameOf model (variables.Token target Start) word)
-    → Adds IsPaused (OneTarget model) target old new
-target_adds model target old new (word, (put, is)) = adds_word 32 word old new _ _ target refl (named_unbroken model _ word is) is put
+pub merged_found : (model : Model) (names : List VarName) (text mid rest : List ℕ) (named : NamedToken) (target : Result TokenName Wrong) (r : Result (Option Statement) Wrong)
+    → OneToken model names text (Got named mid) → FindsWords (OneTarget model mid) target rest
+    → MatchResult target (λ target. r ≡ Ok (Some (Of (lines.Merged named.name target)))) (λ wrong. r ≡ Err wrong)
+    → FindsWords (AfterKeyword model names keywords.Merged text) r rest
+merged_found model names text mid rest named (Ok target) r token got gives =
+    subst (λ r. FindsWords (AfterKeyword model names keywords.Merged text) r rest) (sym gives) (named, (mid, (token, (target, (rest, (got, (refl, refl)))))))
+merged_found model names text mid rest named (Err wrong) r token stops gives =
+    subst (λ r. FindsWords (AfterKeyword model names keywords.Merged text) r rest) (sym gives) (inr (named, (mid, (token, inl stops))))
 
--- a line is its keyword and what follows it
-line_adds : (model : Model) (names : List VarName) (keyword : Keyword) (said : Statement) (old mid new : List ℕ) → Adds IsPaused OneKeyword keyword old mid
-    → Adds EndsLine (AfterKeyword model names keyword) (Some said) mid new → Adds EndsLine (OneLine model names) (Some said) old new
-line_adds model names keyword said old mid new first second = adds_then EndsLine OneKeyword (AfterKeyword model names) keyword (Some said) old mid new first second
+pub local_found : (model : Model) (names : List VarName) (text mid rest : List ℕ) (named : NamedLocal) (value : Result ℤ Wrong) (r : Result (Option Statement) Wrong)
+    → OneLocal model names text (Got named mid) → FindsWords (OneValue model named.kind mid) value rest
+    → MatchResult value (λ value. r ≡ Ok (Some (Of (lines.Local named.name value)))) (λ wrong. r ≡ Err wrong)
+    → FindsWords (AfterKeyword model names keywords.Local text) r rest
+local_found model names text mid rest named (Ok value) r local got gives =
+    subst (λ r. FindsWords (AfterKeyword model names keywords.Local text) r rest) (sym gives) (named, (mid, (local, (value, (rest, (got, (refl, refl)))))))
+local_found model names text mid rest named (Err wrong) r local stops gives =
+    subst (λ r. FindsWords (AfterKeyword model names keywords.Local text) r rest) (sym gives) (inr (named, (mid, (local, inl stops))))
 
-pub rejected_put : {A E : Type 0} (model : Model) (name : TokenName) (old mid new : List ℕ) (r : Result A E) → IsToken model name → Adds IsPaused OneKeyword keywords.Rejected old mid
-    → OnOk r ((word : List ℕ) × ((new ≡ mid ++ (codes " " ++ word)) × IsNameOf model (variables.Token name Start) word)) → OnOk r (AddsLine model (Of (lines.Rejected name)) old new)
-rejected_put model name old mid new (Ok x) (slot, has) key put = λ names fresh.
-    line_adds model names keywords.Rejected (Of (lines.Rejected name)) old mid new key
-    (adds_last EndsLine (OneToken model names) (λ found. Some (Of (lines.Rejected found.name))) (found_token name slot.pred) mid new (adds_at_end _ _ mid new (token_adds model names name slot mid new has fresh put)))
-rejected_put model name old mid new (Err e) is key put = tt
+-- ---- each line takes of the text
 
-pub merged_put : {A E : Type 0} (model : Model) (name target : TokenName) (old mid named new : List ℕ) (r : Result A E) → IsToken model name → Adds IsPaused OneKeyword keywords.Merged old mid
-    → (word : List ℕ) × ((named ≡ mid ++ (codes " " ++ word)) × IsNameOf model (variables.Token name Start) word)
-    → OnOk r ((word : List ℕ) × ((new ≡ named ++ (codes " " ++ word)) × IsNameOf model (variables.Token target Start) word)) → OnOk r (AddsLine model (Of (lines.Merged name target)) old new)
-merged_put model name target old mid named new (Ok x) (slot, has) key first second = λ names fresh.
-    line_adds model names keywords.Merged (Of (lines.Merged name target)) old mid new key
-    (adds_then EndsLine (OneToken model names) (λ found. Then (OneTarget model) (λ target. Done (Some (Of (lines.Merged found.name target))))) (found_token name slot.pred) _ mid named new
-    (token_adds model names name slot mid named has fresh first)
-    (adds_last EndsLine (OneTarget model) (λ target. Some (Of (lines.Merged name target))) target named new (adds_at_end _ _ named new (target_adds model target named new second))))
-merged_put model name target old mid named new (Err e) is key first second = tt
+pub word_shrinks : (gap text word rest : List ℕ) → HasWord gap text word rest → length rest < length text
+word_shrinks gap text word rest has = omega (arith, ap length has.whole, length-append gap (word ++ rest), length-append word rest, has.unbroken.0)
 
--- the word with which the line of a token begins that takes place
-abbrev pub active_keyword : Bool → Keyword
-active_keyword fact = cond fact keywords.Fact keywords.Token
+-- what is left is no longer than the text
+abbrev Shrinks : {X : Type 0} → (List ℕ → Found X → Type 0) → Type 0
+Shrinks {X = X} Reader = (text rest : List ℕ) (x : X) → Reader text (Got x rest) → length rest ≤ length text
 
-active_after : (model : Model) (names : List VarName) (fact : Bool) (name : TokenName) (slot : Slot) (values : List ℤ) (mid named pred new : List ℕ)
-    → Adds IsPaused (OneToken model names) (found_token name slot.pred) mid named → Adds IsPaused (OnePredicate model slot.pred) tt named pred → Adds EndsLine (TokenValues model slot.pred) values pred new
-    → Adds EndsLine (AfterKeyword model names (active_keyword fact)) (Some (Of (lines.Token name fact values))) mid new
-active_after model names true name slot values mid named pred new first second third =
-    adds_then EndsLine (OneToken model names) (λ found. Then (OnePredicate model found.pred) (λ said. Then (TokenValues model found.pred) (λ values. Done (Some (Of (lines.Token found.name true values)))))) (found_token name slot.pred) _ mid named new first
-    (adds_then EndsLine (OnePredicate model slot.pred) (λ said. Then (TokenValues model slot.pred) (λ values. Done (Some (Of (lines.Token name true values))))) tt _ named pred new second
-    (adds_last EndsLine (TokenValues model slot.pred) (λ values. Some (Of (lines.Token name true values))) values pred new third))
-active_after model names false name slot values mid named pred new first second third =
-    adds_then EndsLine (OneToken model names) (λ found. Then (OnePredicate model found.pred) (λ said. Then (TokenValues model found.pred) (λ values. Done (Some (Of (lines.Token found.name false values)))))) (found_token name slot.pred) _ mid named new first
-    (adds_then EndsLine (OnePredicate model slot.pred) (λ said. Then (TokenValues model slot.pred) (λ values. Done (Some (Of (lines.Token name false values))))) tt _ named pred new second
-    (adds_last EndsLine (TokenValues model slot.pred) (λ values. Some (Of (lines.Token name false values))) values pred new third))
+value_no_longer : (model : Model) (kind : ValueKind) → Shrinks (OneValue model kind)
+value_no_longer model kind text rest value got = omega (arith, word_shrinks (codes " ") text got.0 rest got.1.0)
 
-pub active_put : {A E : Type 0} (model : Model) (fact : Bool) (name : TokenName) (number : ℕ) (values : List ℤ) (old mid named pred new : List ℕ) (r : Result A E) → IsToken model name
-    → ((slot : Slot) → HasToken model name slot → slot.pred ≡ number) → Adds IsPaused OneKeyword (active_keyword fact) old mid
-    → (word : List ℕ) × ((named ≡ mid ++ (codes " " ++ word)) × IsNameOf model (variables.Token name Start) word)
-    → Adds IsPaused (OnePredicate model number) tt named pred → OnOk r (Adds EndsLine (TokenValues model number) values pred new) → OnOk r (AddsLine model (Of (lines.Token name fact values)) old new)
-active_put model fact name number values old mid named pred new (Ok x) (slot, has) preds key first second third = λ names fresh.
-    let same = sym (preds slot has) in
-    line_adds model names (active_keyword fact) (Of (lines.Token name fact values)) old mid new key
-    (active_after model names fact name slot values mid named pred new (token_adds model names name slot mid named has fresh first)
-    (subst (λ (n : ℕ). Adds IsPaused (OnePredicate model n) tt named pred) same second) (subst (λ (n : ℕ). Adds EndsLine (TokenValues model n) values pred new) same third))
-active_put model fact name number values old mid named pred new (Err e) is preds key first second third = tt
+part_no_longer : (model : Model) (label : List ℕ) (kind : ValueKind) → Shrinks (OnePart model label kind)
+part_no_longer model label kind text rest value (said, (mid, (first, second))) = omega (arith, word_shrinks (codes " ") text first.0 mid first.1.0, value_no_longer model kind mid rest value second)
 
--- ---- globals and locals
+first_no_longer : (model : Model) → Shrinks (FirstParts model)
+first_no_longer model text rest values (start, (one, (is_start, (end, (two, (is_end, (duration, (three, (is_duration, (object, (four, (is_object, (same, is))))))))))))) =
+    omega (arith, part_no_longer model (codes "start") kinds.Int text one start is_start, part_no_longer model (codes "end") kinds.Int one two end is_end, part_no_longer model (codes "duration") kinds.Int two three duration is_duration, part_no_longer model (codes "object") kinds.Object three four object is_object, ap length is)
 
-pub global_put : {A E : Type 0} (model : Model) (number : ℕ) (kind : ValueKind) (variable : VarDecl) (value : ℤ) (text : NameText) (old mid named new : List ℕ) (r : Result A E) → IsLawful model → IsGlobal model number variable
-    → kind ≡ variable.kind → Adds IsPaused OneKeyword keywords.Global old mid → NamesVariable model text (variables.Global number) → named ≡ mid ++ (codes " " ++ name_spelling text)
-    → OnOk r (Adds IsPaused (OneValue model kind) value named new) → OnOk r (AddsLine model (Global number value) old new)
-global_put model number kind variable value text old mid named new (Ok x) lawful is_global same key names_it put adds = λ names fresh.
-    let found : NamedGlobal = record { number = number; kind = kind } in
-    let well = variable_text_well_formed model text (variables.Global number) lawful names_it in
-    line_adds model names keywords.Global (Global number value) old mid new key
-    (adds_then EndsLine (OneGlobal model names) (λ found. Then (OneValue model found.kind) (λ value. Done (Some (Global found.number value)))) found _ mid named new
-    (adds_word 32 (name_spelling text) mid named (λ found. IsFreshName model names (IsGlobalOf model found)) _ found refl (spelling_unbroken text well)
-    (record { name = variables.Global number; is_name = record { text = text; spells = (well, refl); names = names_it }; wanted = (refl, (variable, (is_global, same))); new = fresh }) put)
-    (adds_last EndsLine (OneValue model kind) (λ value. Some (Global number value)) value named new (adds_at_end _ _ named new adds)))
-global_put model number kind variable value text old mid named new (Err e) lawful is_global same key names_it put adds = tt
+parameters_no_longer : (model : Model) (names : List (List ℕ)) (params : List VarDecl) → Shrinks (Parameters model names params)
+parameters_no_longer model names [] text rest values (same, is) = omega (arith, ap length is)
+parameters_no_longer model names (variable ∷ params) text rest values (value, (mid, ((said, (label, (is_label, is_value))), (more, (last, (others, (same, is))))))) =
+    omega (arith, word_shrinks (codes " ") text is_label.0 label is_label.1.0, value_no_longer model variable.kind label mid value is_value, parameters_no_longer model names params mid last more others, ap length is)
 
-local_named : (model : Model) (kind : ValueKind) (name : VarName) (text : NameText) → IsLocalOfKind model kind name → NamesVariable model text name → NamesSubject model text name
-local_named model kind (variables.Global number) text is names_it = names_it
-local_named model kind (variables.Token token part) text is names_it = absurd is
-local_named model kind (variables.Local token rule number) text is names_it = names_it
+values_no_longer : (model : Model) (number : ℕ) → Shrinks (TokenValues model number)
+values_no_longer model number text rest values (pred, (is_pred, (first, (mid, (is_first, (last, (behind, ((more, (none, (is_more, (said, (left, (is_none, (same', is'))))))), (same, is))))))))) =
+    omega (arith, first_no_longer model text mid first is_first, parameters_no_longer model (names_of pred.params) pred.params mid none more is_more, ap length is_none.0, ap length is', ap length is)
 
-pub local_put : {A E : Type 0} (model : Model) (name : VarName) (value written : ℤ) (text : NameText) (old mid named new : List ℕ) (r : Result A E) → written ≡ value → IsLawful model
-    → Adds IsPaused OneKeyword keywords.Local old mid → NamesVariable model text name → named ≡ mid ++ (codes " " ++ name_spelling text)
-    → OnOk r ((kind : ValueKind) × (IsLocalOfKind model kind name × Adds IsPaused (OneValue model kind) written named new)) → OnOk r (AddsLine model (Of (lines.Local name value)) old new)
-local_put model name value written text old mid named new (Ok x) same lawful key names_it put (kind, (is, adds)) = λ names fresh.
-    let found : NamedLocal = record { name = name; kind = kind } in
-    let well = variable_text_well_formed model text name lawful names_it in
-    line_adds model names keywords.Local (Of (lines.Local name value)) old mid new key
-    (adds_then EndsLine (OneLocal model names) (λ found. Then (OneValue model found.kind) (λ value. Done (Some (Of (lines.Local found.name value))))) found _ mid named new
-    (adds_word 32 (name_spelling text) mid named (λ found. IsFreshName model names (IsLocalOf model found)) _ found refl (spelling_unbroken text well)
-    (record { name = name; is_name = record { text = text; spells = (well, refl); names = local_named model kind name text is names_it }; wanted = (refl, is); new = fresh }) put)
-    (adds_last EndsLine (OneValue model kind) (λ value. Some (Of (lines.Local name value))) value named new (adds_at_end _ _ named new (subst (λ v. Adds IsPaused (OneValue model kind) v named new) same adds))))
-local_put model name value written text old mid named new (Err e) same lawful key names_it put is = tt
+after_no_longer : (model : Model) (names : List VarName) (keyword : Keyword) → Shrinks (AfterKeyword model names keyword)
+after_no_longer model names keywords.Global text rest said (named, (mid, (is_named, (value, (last, (is_value, (same, is))))))) =
+    omega (arith, word_shrinks (codes " ") text is_named.0 mid is_named.1.0, value_no_longer model named.kind mid last value is_value, ap length is)
+after_no_longer model names keywords.Fact text rest said (named, (mid, (is_named, (tt', (behind, (is_pred, (values, (last, (are, (same, is)))))))))) =
+    omega (arith, word_shrinks (codes " ") text is_named.0 mid is_named.1.0, word_shrinks (codes " ") mid is_pred.0 behind is_pred.1.0, values_no_longer model named.pred behind last values are, ap length is)
+after_no_longer model names keywords.Token text rest said (named, (mid, (is_named, (tt', (behind, (is_pred, (values, (last, (are, (same, is)))))))))) =
+    omega (arith, word_shrinks (codes " ") text is_named.0 mid is_named.1.0, word_shrinks (codes " ") mid is_pred.0 behind is_pred.1.0, values_no_longer model named.pred behind last values are, ap length is)
+after_no_longer model names keywords.Merged text rest said (named, (mid, (is_named, (target, (last, (is_target, (same, is))))))) =
+    omega (arith, word_shrinks (codes " ") text is_named.0 mid is_named.1.0, word_shrinks (codes " ") mid is_target.0 last is_target.1.0, ap length is)
+after_no_longer model names keywords.Rejected text rest said (named, (mid, (is_named, (same, is)))) = omega (arith, word_shrinks (codes " ") text is_named.0 mid is_named.1.0, ap length is)
+after_no_longer model names keywords.Local text rest said (named, (mid, (is_named, (value, (last, (is_value, (same, is))))))) =
+    omega (arith, word_shrinks (codes " ") text is_named.0 mid is_named.1.0, value_no_longer model named.kind mid last value is_value, ap length is)
+after_no_longer model names keywords.End text rest said (same, is) = omega (arith, ap length is)
+
+pub line_shrinks : (model : Model) (names : List VarName) (text rest : List ℕ) (said : Option Statement) → OneLine model names text (Got said rest) → length rest < length text
+line_shrinks model names text rest said (keyword, (mid, (is_keyword, after))) = omega (arith, word_shrinks (codes "\n") text is_keyword.0 mid is_keyword.1.0, after_no_longer model names keyword mid rest said after)
+
+-- ---- each line is about something new
+
+token_new : (model : Model) (names : List VarName) (text mid : List ℕ) (named : NamedToken) → OneToken model names text (Got named mid) → Contains names (variables.Token named.name Start) → ⊥
+token_new model names text mid named (word, (has, fresh)) again = fresh.new (subst (Contains names) (sym fresh.wanted.0) again)
+
+some_is : {X : Type 0} (one other : X) → Some one ≡ Some other → one ≡ other
+some_is one other same = cc
+
+pub line_is_new : (model : Model) (names : List VarName) (text rest : List ℕ) (said : Statement) → OneLine model names text (Got (Some said) rest) → Contains names (stated_name said) → ⊥
+line_is_new model names text rest said (keyword, (mid, (is_keyword, after))) = by keyword mid after
+  where
+    by : (keyword : Keyword) (mid : List ℕ) → AfterKeyword model names keyword mid (Got (Some said) rest) → Contains names (stated_name said) → ⊥
+    by keywords.Global mid (named, (last, ((word, (has, fresh)), (value, (end, (is_value, (same, is))))))) again =
+        fresh.new (subst (Contains names) (sym fresh.wanted.0) (subst (λ s. Contains names (stated_name s)) (some_is said (Global named.number value) same) again))
+    by keywords.Fact mid (named, (last, (is_named, (tt', (behind, (is_pred, (values, (end, (are, (same, is)))))))))) again =
+        token_new model names mid last named is_named (subst (λ s. Contains names (stated_name s)) (some_is said (Of (lines.Token named.name true values)) same) again)
+    by keywords.Token mid (named, (last, (is_named, (tt', (behind, (is_pred, (values, (end, (are, (same, is)))))))))) again =
+        token_new model names mid last named is_named (subst (λ s. Contains names (stated_name s)) (some_is said (Of (lines.Token named.name false values)) same) again)
+    by keywords.Merged mid (named, (last, (is_named, (target, (end, (is_target, (same, is))))))) again =
+        token_new model names mid last named is_named (subst (λ s. Contains names (stated_name s)) (some_is said (Of (lines.Merged named.name target)) same) again)
+    by keywords.Rejected mid (named, (last, (is_named, (same, is)))) again =
+        token_new model names mid last named is_named (subst (λ s. Contains names (stated_name s)) (some_is said (Of (lines.Rejected named.name)) same) again)
+    by keywords.Local mid (named, (last, ((word, (has, fresh)), (value, (end, (is_value, (same, is))))))) again =
+        fresh.new (subst (Contains names) (sym fresh.wanted.0) (subst (λ s. Contains names (stated_name s)) (some_is said (Of (lines.Local named.name value)) same) again))
+    by keywords.End mid (same, is) again = cc
+
+-- ---- each line is one of the model
+
+-- what is said is of the model
+abbrev pub IsSaidOf : Model → Statement → Type 0
+IsSaidOf model (Global number value) = (variable : VarDecl) × (IsGlobal model number variable × IsValueOf model variable.kind value)
+IsSaidOf model (Of line) = IsLineOf model line
+
+pub value_is_of : (model : Model) (kind : ValueKind) (value : ℤ) (word : List ℕ) → IsValueText model kind value word → IsValueOf model kind value
+value_is_of model kinds.Int value word is = is.0
+value_is_of model kinds.Bool value word (inl is) = inl is.0
+value_is_of model kinds.Bool value word (inr is) = inr is.0
+value_is_of model (kinds.Enum number) value word is = record { found = is.found; is_enum = is.is_enum; place = is.place; is_place = is.is_place; member = word; is_member = is.is_member }
+value_is_of model kinds.Object value word (object, (is, named)) = (object, is)
+
+found_value : (model : Model) (kind : ValueKind) (text rest : List ℕ) (value : ℤ) → OneValue model kind text (Got value rest) → IsValueOf model kind value
+found_value model kind text rest value (word, (has, is)) = value_is_of model kind value word is
+
+found_part : (model : Model) (label : List ℕ) (kind : ValueKind) (text rest : List ℕ) (value : ℤ) → OnePart model label kind text (Got value rest) → IsValueOf model kind value
+found_part model label kind text rest value (said, (mid, (first, second))) = found_value model kind mid rest value second
+
+-- what is read is kept as it is handed on
+pub part_kept : (model : Model) (label : List ℕ) (kind : ValueKind) (text rest : List ℕ) (value : ℤ) → IsLawful model → OnePart model label kind text (Got value rest) → to_z w32 (of_z w32 value) ≡ value
+part_kept model label kind text rest value lawful part = kept_value model kind value lawful (found_part model label kind text rest value part)
+
+pub parameter_kept : (model : Model) (names : List (List ℕ)) (variable : VarDecl) (text rest : List ℕ) (value : ℤ) → IsLawful model → OneParameter model names variable text (Got value rest) → to_z w32 (of_z w32 value) ≡ value
+parameter_kept model names variable text rest value lawful (said, (label, (is_label, is_value))) = kept_value model variable.kind value lawful (found_value model variable.kind label rest value is_value)
+
+found_parameters : (model : Model) (names : List (List ℕ)) (params : List VarDecl) (text rest : List ℕ) (values : List ℤ) → Parameters model names params text (Got values rest)
+    → AllZip (IsValueOf model) (map (λ variable. variable.kind) params) values
+found_parameters model names [] text rest values (same, is) = subst (AllZip (IsValueOf model) []) (sym same) tt
+found_parameters model names (variable ∷ params) text rest values (value, (mid, ((said, (label, (is_label, is_value))), (more, (last, (others, (same, is))))))) =
+    subst (AllZip (IsValueOf model) (map (λ (v : VarDecl). v.kind) (variable ∷ params))) (sym same) (found_value model variable.kind label mid value is_value, found_parameters model names params mid last more others)
+
+found_first : (model : Model) (text rest : List ℕ) (values : List ℤ) → FirstParts model text (Got values rest) → AllZip (IsValueOf model) (kinds.Int ∷ kinds.Int ∷ kinds.Int ∷ kinds.Object ∷ []) values
+found_first model text rest values (start, (one, (is_start, (end, (two, (is_end, (duration, (three, (is_duration, (object, (four, (is_object, (same, is))))))))))))) =
+    subst (AllZip (IsValueOf model) (kinds.Int ∷ kinds.Int ∷ kinds.Int ∷ kinds.Object ∷ [])) (sym same) (
+      found_part model (codes "start") kinds.Int text one start is_start,
+      (
+        found_part model (codes "end") kinds.Int one two end is_end,
+        (
+          found_part model (codes "duration") kinds.Int two three duration is_duration,
+          (found_part model (codes "object") kinds.Object three four object is_object, tt),
+        ),
+      ),
+    )
+
+zip_append : (model : Model) (first others : List ValueKind) (values more : List ℤ) → AllZip (IsValueOf model) first values → AllZip (IsValueOf model) others more → AllZip (IsValueOf model) (first ++ others) (values ++ more)
+zip_append model [] others [] more zip rest = rest
+zip_append model [] others (value ∷ values) more zip rest = absurd zip
+zip_append model (kind ∷ first) others [] more zip rest = absurd zip
+zip_append model (kind ∷ first) others (value ∷ values) more zip rest = (zip.0, zip_append model first others values more zip.1 rest)
+
+found_values : (model : Model) (number : ℕ) (text rest : List ℕ) (values : List ℤ) → TokenValues model number text (Got values rest) → AreTokenValues model number values
+found_values model number text rest values (pred, (is_pred, (first, (mid, (is_first, (last, (behind, ((more, (none, (is_more, (said, (left, (is_none, (same', is'))))))), (same, is))))))))) = (
+  pred,
+  is_pred,
+  subst (AllZip (IsValueOf model) (value_kinds pred)) (sym same)
+      (zip_append model (kinds.Int ∷ kinds.Int ∷ kinds.Int ∷ kinds.Object ∷ []) (map (λ (v : VarDecl). v.kind) pred.params) first last (found_first model text mid first is_first)
+      (subst (AllZip (IsValueOf model) (map (λ (v : VarDecl). v.kind) pred.params)) (sym same') (found_parameters model (names_of pred.params) pred.params mid none more is_more))),
+)
+
+found_line : (model : Model) (names : List VarName) (text mid behind last : List ℕ) (named : NamedToken) (fact : Bool) (values : List ℤ) → OneToken model names text (Got named mid) → TokenValues model named.pred behind (Got values last)
+    → IsLineOf model (lines.Token named.name fact values)
+found_line model names text mid behind last named fact values (word, (has, fresh)) are =
+    let slot = fresh.wanted.1 in
+    (slot.0, slot.1.0, subst (λ n. AreTokenValues model n values) slot.1.1 (found_values model named.pred behind last values are))
+
+found_token : (model : Model) (names : List VarName) (text mid : List ℕ) (named : NamedToken) → OneToken model names text (Got named mid) → IsToken model named.name
+found_token model names text mid named (word, (has, fresh)) = (fresh.wanted.1.0, fresh.wanted.1.1.0)
+
+found_local : (model : Model) (name : VarName) (kind : ValueKind) (value : ℤ) → IsLocalOfKind model kind name → IsValueOf model kind value → IsLocalValue model name value
+found_local model (variables.Global number) kind value of is = absurd of
+found_local model (variables.Token token part) kind value of is = absurd of
+found_local model (variables.Local token rule number) kind value (slot, (has, (variable, (local, same)))) is = (slot, has, (variable, local, subst (λ k. IsValueOf model k value) same is))
+
+pub line_is_of : (model : Model) (names : List VarName) (text rest : List ℕ) (said : Statement) → OneLine model names text (Got (Some said) rest) → IsSaidOf model said
+line_is_of model names text rest said (keyword, (mid, (is_keyword, after))) = by keyword mid after
+  where
+    by : (keyword : Keyword) (mid : List ℕ) → AfterKeyword model names keyword mid (Got (Some said) rest) → IsSaidOf model said
+    by keywords.Global mid (named, (last, ((word, (has, fresh)), (value, (end, (is_value, (same, is))))))) =
+        let of = fresh.wanted.1 in
+        subst (IsSaidOf model) (sym (some_is said (Global named.number value) same)) (of.0, (of.1.0, subst (λ k. IsValueOf model k value) of.1.1 (found_value model named.kind last end value is_value)))
+    by keywords.Fact mid (named, (last, (is_named, (tt', (behind, (is_pred, (values, (end, (are, (same, is)))))))))) =
+        subst (IsSaidOf model) (sym (some_is said (Of (lines.Token named.name true values)) same)) (found_line model names mid last behind end named true values is_named are)
+    by keywords.Token mid (named, (last, (is_named, (tt', (behind, (is_pred, (values, (end, (are, (same, is)))))))))) =
+        subst (IsSaidOf model) (sym (some_is said (Of (lines.Token named.name false values)) same)) (found_line model names mid last behind end named false values is_named are)
+    by keywords.Merged mid (named, (last, (is_named, (target, (end, ((word, (has, is_target)), (same, is))))))) =
+        subst (IsSaidOf model) (sym (some_is said (Of (lines.Merged named.name target)) same)) (found_token model names mid last named is_named, (is_target.names.1.0, is_target.names.1.1.has_token))
+    by keywords.Rejected mid (named, (last, (is_named, (same, is)))) =
+        subst (IsSaidOf model) (sym (some_is said (Of (lines.Rejected named.name)) same)) (found_token model names mid last named is_named)
+    by keywords.Local mid (named, (last, ((word, (has, fresh)), (value, (end, (is_value, (same, is))))))) =
+        subst (IsSaidOf model) (sym (some_is said (Of (lines.Local named.name value)) same)) (found_local model named.name named.kind value (subst (IsLocalOfKind model named.kind) fresh.wanted.0 fresh.wanted.1) (found_value model named.kind last end value is_value))
+    by keywords.End mid (same, is) = cc

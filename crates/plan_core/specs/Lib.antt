@@ -1,7 +1,4 @@
-pub mod Words
-pub mod Found
-pub mod Values
-pub mod Subjects
-pub mod Lines
-pub mod PlanTexts
-pub mod Writing
+pub mod Reading
+pub mod Openings
+pub mod Gathering
+pub mod Laws

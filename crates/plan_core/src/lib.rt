@@ -1,16 +1,17 @@
-//! Plans as text.
-//!
-//! `write_plan(alloc, &model, &plan)?` is the text of a plan, line by line in order. What a text is read as, and its first
-//! fault, is defined here too (`specs/PlanTexts`): that is what plan_reader answers, by the words that are cut here.
+//! Reads plans from their texts: `read_plan(alloc, &model, text)?`. It offers `write_plan` and `plan_of` at its root too.
+//! In come a lawful model and a text; out goes its plan, whatever the order of lines, or the text's first fault, by place.
+//! Called by plan_report; `laws` has that reading is the inverse of writing.
+//! Knows nothing of the database, and whether a plan is valid. How lines are kept until all are read may change.
 #![tactic(auto)]
 
-pub mod fault;
-pub mod names;
-pub mod statement;
-pub mod subject;
-pub mod value_words;
-pub mod words;
-pub mod writing;
+mod gathering;
+pub mod laws;
+pub mod lines;
+mod openings;
+mod readers;
+pub mod reading;
 
-pub use fault::PlanTextFault;
-pub use writing::write_plan;
+pub use lines::one_line;
+pub use plan_states::plan_of;
+pub use plan_text::write_plan;
+pub use reading::read_plan;

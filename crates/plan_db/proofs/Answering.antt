@@ -9,19 +9,19 @@ use Rattle.model_core.specs.History.{History, standing, accepted}
 use Rattle.model_core.specs.State.{State, Gives}
 use Rattle.plan_defs.specs.Closure.{IsLeast, IsCollapsed}
 use Rattle.plan_defs.specs.History.{IsHistory}
-use Rattle.plan_defs.proofs.Members.{contains_from_get, get_below, get_same}
-use Rattle.plan_edges.specs.plan_refusals.Reason.TheVariants as reasons
-use Rattle.plan_edges.specs.plan_posting.Counting.{AreTokenStates}
-use Rattle.plan_store.specs.Stores.{Stored, snapshot_of}
-use Rattle.plan_edges.specs.plan_view.Seeing.{Seen, seen_state}
-use Rattle.plan_steps.specs.plan_state.Footing.TheVariants.{Rest}
-use Rattle.plan_steps.specs.plan_state.Standing.{Stood}
-use Rattle.plan_steps.proofs.Keeping.{least_kept}
-use Rattle.plan_steps.specs.declared.objection.Objection.{Objection}
-use Rattle.plan_steps.specs.declared.objection.Objection.TheVariants.{Collapsed, Refused}
-use Rattle.plan_steps.specs.declared.subject.Subject.{Subject}
-use Rattle.plan_steps.specs.Kept.{KeepsHistory, KeepsUnless, LeaveState, IsJudged, WithdrawsLast}
-use Rattle.plan_steps.specs.Subjects.{IsOfSubject, TakesOutAt}
+use Rattle.eu_name.proofs.Members.{contains_from_get, get_below, get_same}
+use Rattle.model_core.specs.declared.refusal.Refusal.TheVariants as reasons
+use Rattle.db_posting.specs.Counting.{AreTokenStates}
+use Rattle.db_store.specs.Stores.{Stored, snapshot_of}
+use Rattle.db_refusals.specs.Seeing.{Seen, seen_state}
+use Rattle.db_history.specs.declared.footing.Footing.TheVariants.{Rest}
+use Rattle.db_history.specs.Standing.{Stood}
+use Rattle.db_history.proofs.Keeping.{least_kept}
+use Rattle.db_history.specs.declared.objection.Objection.{Objection}
+use Rattle.db_history.specs.declared.objection.Objection.TheVariants.{Collapsed, Refused}
+use Rattle.db_history.specs.declared.subject.Subject.{Subject}
+use Rattle.db_history.specs.Kept.{KeepsHistory, KeepsUnless, LeaveState, IsJudged, WithdrawsLast}
+use Rattle.db_history.specs.Subjects.{IsOfSubject, TakesOutAt}
 use Rattle.plan_db.specs.declared.fault.DbFault.{DbFault}
 use Rattle.plan_db.specs.declared.fault.DbFault.TheVariants as fault
 use Rattle.plan_db.specs.declared.fault.Outcome.{Outcome}
@@ -30,13 +30,12 @@ use Rattle.plan_db.specs.declared.fault.QueryFault.{QueryFault}
 use Rattle.plan_db.specs.declared.fault.QueryFault.TheVariants as query
 use Rattle.plan_db.specs.Faults.{fault_of}
 use Rattle.plan_db.specs.Database.{Database, taken_in, OutcomeIs, outcome_for, Applies, TakesBack, Backtracks, Resets, HasFormer, HasDecisionOn, TakesOutOn, IsTold, IsUntold}
-use Rattle.plan_db.specs.Answers.{Held, KeepsDatabase, ready_with, StaysReady, StaysSame, AnswersApply, AnswersReset, AnswersUndo, AnswersBacktrack}
-use Rattle.plan_db.specs.Answers.{AnswersDomain, AnswersNothing, AnswersStamp, AnswersNoStamp, IsSeen, IsUnseen}
+use Rattle.plan_db.specs.Answers.{Held, KeepsDatabase, ready_with, StaysReady, StaysSame, AnswersApply, AnswersReset, AnswersUndo, AnswersBacktrack, AnswersDomain, AnswersNothing, AnswersStamp, AnswersNoStamp, IsSeen, IsUnseen}
 use Rattle.plan_db.specs.Stamps.{Stamped, stamps_of, IsStampedAs, KeepsIfRefused}
 use Rattle.plan_db.specs.declared.edges.EdgeFault.{EdgeFault}
 use Rattle.plan_db.specs.declared.edges.EdgeFault.TheVariants as edge
 use Rattle.plan_db.specs.Edges.{HasEdges, HasNoEdges, AnswersEdges, AnswersNoEdges}
-use Rattle.plan_edges.specs.declared.edge.NamedEdge.{NamedEdge}
+use Rattle.db_edges.specs.declared.edge.NamedEdge.{NamedEdge}
 
 -- an objection is why the decision is refused
 pub refused_as : (model : Model) (history : History) (decision : Decision) (objection : Objection) → IsJudged model (standing history) decision (Err objection)

@@ -7,16 +7,16 @@ use Rattle.model_core.specs.declared.decision.Decision.{Decision}
 use Rattle.model_core.specs.declared.model.Model.{Model}
 use Rattle.model_core.specs.History.{History, standing}
 use Rattle.plan_defs.specs.Settling.{IsSettled}
-use Rattle.plan_edges.specs.declared.edge.NamedEdge.{NamedEdge}
-use Rattle.plan_edges.specs.Whole.{AreTimeEdges}
-use Rattle.plan_edges.specs.plan_opening.Underway.{IsAtRest}
-use Rattle.plan_store.specs.Stores.{Stored, snapshot_of}
-use Rattle.plan_edges.specs.plan_view.Seeing.{seen_state}
-use Rattle.plan_steps.specs.plan_state.Footing.TheVariants.{Fallen, Void}
-use Rattle.plan_steps.specs.plan_state.Advancing.{but_last, IsLeastOf}
-use Rattle.plan_steps.specs.plan_state.Standing.{Stood, KeepsListOn}
-use Rattle.plan_steps.specs.Kept.{KeepsHistory}
-use Rattle.plan_steps.proofs.Keeping.{standing_settled}
+use Rattle.db_edges.specs.declared.edge.NamedEdge.{NamedEdge}
+use Rattle.db_edges.specs.Whole.{AreTimeEdges}
+use Rattle.db_posting.specs.Underway.{IsAtRest}
+use Rattle.db_store.specs.Stores.{Stored, snapshot_of}
+use Rattle.db_refusals.specs.Seeing.{seen_state}
+use Rattle.db_history.specs.declared.footing.Footing.TheVariants.{Fallen, Void}
+use Rattle.db_history.specs.Advancing.{but_last, IsLeastOf}
+use Rattle.db_history.specs.Standing.{Stood, KeepsListOn}
+use Rattle.db_history.specs.Kept.{KeepsHistory}
+use Rattle.plan_defs.proofs.Histories.{standing_settled}
 use Rattle.plan_db.specs.declared.edges.EdgeFault.{EdgeFault}
 use Rattle.plan_db.specs.declared.edges.EdgeFault.TheVariants as fault
 use Rattle.plan_db.specs.Database.{taken_in}

@@ -8,18 +8,18 @@ use Rattle.model_core.specs.declared.model.Model.{Model}
 use Rattle.model_core.specs.History.{History, standing}
 use Rattle.model_core.specs.State.{Gives}
 use Rattle.plan_defs.specs.Closure.{IsLeast}
-use Rattle.plan_defs.proofs.Members.{contains_from_get}
-use Rattle.plan_defs.proofs.Ordered.{contains_head, contains_later, contains_cases, contains_none}
-use Rattle.plan_store.specs.Stamps.{HasStamp, FollowStamps}
-use Rattle.plan_store.specs.Stores.{Stored, snapshot_of, IsSnapshot, named_content, variable_names}
-use Rattle.plan_store.proofs.Naming.{gives_by_number, names_are_once}
-use Rattle.plan_edges.specs.plan_view.Seeing.{seen_state}
-use Rattle.plan_edges.proofs.plan_view.Seen.{put_in_order}
-use Rattle.plan_steps.specs.plan_state.Footing.{Footing}
-use Rattle.plan_steps.specs.plan_state.Footing.TheVariants.{Rest, Fallen, Void}
-use Rattle.plan_steps.specs.plan_state.Standing.{Stood}
-use Rattle.plan_steps.specs.Kept.{KeepsHistory}
-use Rattle.plan_steps.proofs.Keeping.{least_kept}
+use Rattle.eu_name.proofs.Members.{contains_from_get}
+use Rattle.eu_name.proofs.Ordered.{contains_head, contains_later, contains_cases, contains_none}
+use Rattle.db_store.specs.Stamps.{HasStamp, FollowStamps}
+use Rattle.db_store.specs.Stores.{Stored, snapshot_of, IsSnapshot, named_content, variable_names}
+use Rattle.db_store.proofs.Naming.{gives_by_number, names_are_once}
+use Rattle.db_refusals.specs.Seeing.{seen_state}
+use Rattle.db_refusals.proofs.Seen.{put_in_order}
+use Rattle.db_history.specs.declared.footing.Footing.{Footing}
+use Rattle.db_history.specs.declared.footing.Footing.TheVariants.{Rest, Fallen, Void}
+use Rattle.db_history.specs.Standing.{Stood}
+use Rattle.db_history.specs.Kept.{KeepsHistory}
+use Rattle.db_history.proofs.Keeping.{least_kept}
 use Rattle.plan_db.specs.declared.fault.QueryFault.{QueryFault}
 use Rattle.plan_db.specs.declared.fault.QueryFault.TheVariants as query
 use Rattle.plan_db.specs.declared.fault.DbFault.{DbFault}

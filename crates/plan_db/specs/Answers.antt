@@ -6,10 +6,10 @@ use Rattle.model_core.specs.declared.decision.Decision.{Decision}
 use Rattle.model_core.specs.declared.model.Model.{Model}
 use Rattle.model_core.specs.History.{History, standing}
 use Rattle.model_core.specs.Lawful.{IsLawful}
-use Rattle.plan_edges.specs.plan_view.Seeing.{Seen, seen_state}
-use Rattle.plan_steps.specs.plan_state.Standing.{Stood}
-use Rattle.plan_steps.specs.declared.subject.Subject.{Subject}
-use Rattle.plan_steps.specs.Kept.{KeepsUnless}
+use Rattle.db_refusals.specs.Seeing.{Seen, seen_state}
+use Rattle.db_history.specs.Standing.{Stood}
+use Rattle.db_history.specs.declared.subject.Subject.{Subject}
+use Rattle.db_history.specs.Kept.{KeepsUnless}
 use Rattle.plan_db.specs.declared.fault.Outcome.{Outcome}
 use Rattle.plan_db.specs.declared.fault.DbFault.{DbFault}
 use Rattle.plan_db.specs.declared.fault.DbFault.TheVariants as fault

@@ -8,13 +8,14 @@ use Rattle.model_core.specs.History.{History, standing, accepted}
 use Rattle.model_core.specs.Lawful.{IsLawful}
 use Rattle.model_core.specs.State.{State, Gives}
 use Rattle.plan_defs.specs.Closure.{IsLeast, IsCollapsed}
-use Rattle.plan_defs.specs.Refusals.{Refusal, Unknown, Decided, NotInDomain, NotActive, NotSamePredicate, NotRejectable}
-use Rattle.plan_defs.specs.Refusals.{SameToken, ActiveFull, IsRefused, IsAdmissible}
+use Rattle.plan_defs.specs.Refusals.{IsRefused, IsAdmissible}
+use Rattle.model_core.specs.declared.refusal.Refusal.TheVariants.{Unknown, Decided, NotInDomain, NotActive, NotSamePredicate, NotRejectable, SameToken, ActiveFull}
+use Rattle.model_core.specs.declared.refusal.Refusal.{Refusal}
 use Rattle.plan_defs.specs.Settling.{Settles}
 use Rattle.plan_defs.specs.History.{IsHistory}
 use Rattle.decision_log.specs.Undoing.{IsFormer}
-use Rattle.plan_steps.specs.declared.subject.Subject.{Subject}
-use Rattle.plan_steps.specs.Subjects.{IsOfSubject}
+use Rattle.db_history.specs.declared.subject.Subject.{Subject}
+use Rattle.db_history.specs.Subjects.{IsOfSubject}
 use Rattle.plan_db.specs.declared.fault.Outcome.{Outcome}
 use Rattle.plan_db.specs.declared.fault.Outcome.TheVariants.{Consistent, Inconsistent}
 use Rattle.plan_db.specs.declared.fault.DbFault.{DbFault}

@@ -3,9 +3,9 @@ use Rattle.std.specs.Prelude.{◌≡◌, ◌⊎◌, ◌<◌, false, true, List, 
 use Rattle.model_core.specs.History.{standing}
 use Rattle.model_core.specs.State.{State}
 use Rattle.plan_defs.specs.Closure.{IsLeast}
-use Rattle.plan_edges.specs.declared.edge.NamedEdge.{NamedEdge}
-use Rattle.plan_edges.specs.Whole.{AreTimeEdges}
-use Rattle.plan_steps.specs.plan_state.Advancing.{but_last}
+use Rattle.db_edges.specs.declared.edge.NamedEdge.{NamedEdge}
+use Rattle.db_edges.specs.Whole.{AreTimeEdges}
+use Rattle.db_history.specs.Advancing.{but_last}
 use Rattle.plan_db.specs.declared.edges.EdgeFault.{EdgeFault}
 use Rattle.plan_db.specs.declared.edges.EdgeFault.TheVariants as fault
 use Rattle.plan_db.specs.Database.{Database, HasLeast, HasCollapsed}

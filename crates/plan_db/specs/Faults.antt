@@ -1,13 +1,13 @@
 -- What the reasons against a decision are answered as.
-use Rattle.plan_edges.specs.plan_refusals.Reason.{Reason}
-use Rattle.plan_edges.specs.plan_refusals.Reason.TheVariants as reason
-use Rattle.plan_steps.specs.declared.objection.Objection.{Objection}
-use Rattle.plan_steps.specs.declared.objection.Objection.TheVariants.{Collapsed, Refused}
+use Rattle.model_core.specs.declared.refusal.Refusal.{Refusal}
+use Rattle.model_core.specs.declared.refusal.Refusal.TheVariants as reason
+use Rattle.db_history.specs.declared.objection.Objection.{Objection}
+use Rattle.db_history.specs.declared.objection.Objection.TheVariants.{Collapsed, Refused}
 use Rattle.plan_db.specs.declared.fault.DbFault.{DbFault}
 use Rattle.plan_db.specs.declared.fault.DbFault.TheVariants as fault
 
 -- the fault of a decision that is refused for this reason
-abbrev pub fault_for : Reason → DbFault
+abbrev pub fault_for : Refusal → DbFault
 fault_for reason.Unknown = fault.Unknown
 fault_for reason.Decided = fault.Decided
 fault_for reason.NotInDomain = fault.NotInDomain

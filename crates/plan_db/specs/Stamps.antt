@@ -3,10 +3,10 @@ use Rattle.std.specs.Prelude.{◌≡◌, ℕ, ◌^◌, ◌<◌, ⊤, List, [], �
 use Rattle.domain_core.specs.Domain.{Domain}
 use Rattle.eu_name.specs.declared.name.VarName.{VarName}
 use Rattle.cell_store.specs.Cells.{FollowsDomain}
-use Rattle.plan_store.specs.Stores.{Stored, snapshot_of, variable_names}
-use Rattle.plan_steps.specs.plan_state.Footing.{Footing}
-use Rattle.plan_steps.specs.plan_state.Footing.TheVariants.{Rest}
-use Rattle.plan_steps.specs.plan_state.Standing.{Stood}
+use Rattle.db_store.specs.Stores.{Stored, snapshot_of, variable_names}
+use Rattle.db_history.specs.declared.footing.Footing.{Footing}
+use Rattle.db_history.specs.declared.footing.Footing.TheVariants.{Rest}
+use Rattle.db_history.specs.Standing.{Stood}
 use Rattle.plan_db.specs.declared.fault.DbFault.{DbFault}
 use Rattle.plan_db.specs.declared.fault.DbFault.TheVariants as fault
 

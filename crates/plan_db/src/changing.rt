@@ -4,18 +4,17 @@ ghost use Rattle.std.specs.Prelude.{◌≡◌, ◌⊎◌, false, Err, OnOk};
 ghost use Rattle.model_core.specs.declared.model.Model.{Model as Problem};
 ghost use Rattle.model_core.specs.Lawful.{IsLawful};
 ghost use Rattle.plan_db.specs.declared.fault.DbFault.TheVariants.{Memory};
-ghost use Rattle.plan_steps.specs.Kept.{KeepsHistory, KeepsUnless};
+ghost use Rattle.db_history.specs.Kept.{KeepsHistory, KeepsUnless};
 ghost use Rattle.plan_db.specs.Database.{taken_in, outcome_for, Applies, TakesBack, Backtracks, Resets};
 ghost use Rattle.plan_db.specs.Stamps.{KeepsIfRefused};
-ghost use Rattle.plan_steps.specs.plan_state.Footing.TheVariants.{Rest};
-ghost use Rattle.plan_store.specs.Stamps.{FollowStamps};
+ghost use Rattle.db_history.specs.declared.footing.Footing.TheVariants.{Rest};
+ghost use Rattle.db_store.specs.Stamps.{FollowStamps};
 
 use super::fault::{DbFault, Outcome};
+use db_history::{Standing, Subject, accept, bring_back, judge, place_of, take_out, withdraw};
 use decision_log::Log;
 use model_core::decision::Decision;
 use model_core::model::Model;
-use plan_steps::passed_plan_state::Standing;
-use plan_steps::{Subject, accept, bring_back, judge, place_of, take_out, withdraw};
 
 /// Whether something is possible, by whether there is a least state.
 pub fn outcome_of(fits: bool) -> Outcome

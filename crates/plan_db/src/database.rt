@@ -13,15 +13,14 @@ ghost use Rattle.plan_db.specs.Stamps.{StampsFollowDomains};
 use super::edges::EdgeFault;
 use super::fault::{DbFault, Outcome, QueryFault};
 use super::{changing, edges, stamps, telling};
+use db_edges::NamedEdge;
+use db_history::{Standing, Subject, fits, rebuild};
+use db_refusals::StoreView;
 use decision_log::Log;
 use domain_core::domain::Dom;
 use eu_name::name::VarName;
 use model_core::decision::Decision;
 use model_core::model::Model;
-use plan_edges::NamedEdge;
-use plan_edges::passed_plan_view::StoreView;
-use plan_steps::passed_plan_state::Standing;
-use plan_steps::{Subject, fits, rebuild};
 use std::alloc::{AllocError, Global};
 use std::marker;
 

@@ -2,15 +2,15 @@
 
 ghost use Rattle.std.specs.Prelude.{◌≡◌, MatchResult, Ok, Err};
 ghost use Rattle.model_core.specs.Lawful.{IsLawful};
-ghost use Rattle.plan_steps.specs.Kept.{KeepsHistory};
+ghost use Rattle.db_history.specs.Kept.{KeepsHistory};
 ghost use Rattle.plan_db.specs.Database.{taken_in};
 ghost use Rattle.plan_db.specs.declared.edges.EdgeFault.TheVariants.{Memory};
 ghost use Rattle.plan_db.specs.Edges.{HasEdges, HasNoEdges};
 
+use db_edges::{NamedEdge, time_edges};
+use db_history::{Footing, Standing};
 use decision_log::Log;
 use model_core::model::Model;
-use plan_edges::{NamedEdge, time_edges};
-use plan_steps::passed_plan_state::{Footing, Standing};
 use std::alloc::AllocError;
 use thiserror::Error;
 

@@ -3,8 +3,8 @@
 ghost use Rattle.std.specs.Prelude.{◌≡◌};
 ghost use Rattle.plan_db.specs.Faults.{fault_for};
 
-use plan_edges::passed_plan_refusals::Reason;
-use plan_steps::Objection;
+use db_history::Objection;
+use model_core::refusal::Refusal;
 use std::alloc::AllocError;
 use thiserror::Error;
 
@@ -84,17 +84,17 @@ impl From<Objection> for DbFault {
 }
 
 // The fault of a decision that is refused for this reason.
-fn fault_for(reason: Reason) -> DbFault
+fn fault_for(reason: Refusal) -> DbFault
     ensures { result ≡ fault_for reason }
 {
     match reason {
-        Reason::Unknown => DbFault::Unknown,
-        Reason::Decided => DbFault::Decided,
-        Reason::NotInDomain => DbFault::NotInDomain,
-        Reason::NotActive => DbFault::NotActive,
-        Reason::NotSamePredicate => DbFault::NotSamePredicate,
-        Reason::NotRejectable => DbFault::NotRejectable,
-        Reason::SameToken => DbFault::Same,
-        Reason::ActiveFull => DbFault::ActiveFull,
+        Refusal::Unknown => DbFault::Unknown,
+        Refusal::Decided => DbFault::Decided,
+        Refusal::NotInDomain => DbFault::NotInDomain,
+        Refusal::NotActive => DbFault::NotActive,
+        Refusal::NotSamePredicate => DbFault::NotSamePredicate,
+        Refusal::NotRejectable => DbFault::NotRejectable,
+        Refusal::SameToken => DbFault::Same,
+        Refusal::ActiveFull => DbFault::ActiveFull,
     }
 }

@@ -1,27 +1,24 @@
-//! The plan database: after every call, what the decisions still standing leave possible.
-//!
-//! `let mut db = Db::new(alloc, model)?;` begins with nothing decided. `db.apply(&decision)?` takes a decision and answers
-//! whether the decisions then leave something possible, `db.domain(&variable)?` is what a variable may still be, `db.view()?`
-//! all of it, and `db.undo()?` takes the last step back. `db.reset(&subject)?` takes one decision out, with those that only it
-//! allowed, and `db.backtrack()?` takes the last one back without memory. `db.stamp(&variable)` is how often a domain was
-//! changed, and `db.time_edges()?` what the decisions ask of points in time where they leave nothing possible.
-//!
-//! Where memory is wanting in a `reset` or an `undo`, the decisions stay, and the database may be behind: then every call but
-//! `rebuild` answers so.
+//! The plan database: after every call, what the decisions still standing leave possible: `db.apply(&decision)?`.
+//! In comes a lawful model, then decisions, or what to take out or back; out go outcomes, domains, a view, stamps and edges.
+//! Called by solver_core and conflict_core, and by crates of the program. `let_go` is proved here once for all of them.
+//! Where memory is wanting in `reset` or `undo` it may be behind: then steps and questions answer `Behind` until `rebuild`.
+//! Knows nothing of texts, flaws and conflicts. How the state is kept, and what a step computes anew, may change.
 #![tactic(auto)]
 
 mod changing;
 pub mod database;
 pub mod edges;
 pub mod fault;
-pub mod passed_plan_state;
-pub mod passed_plan_steps;
+pub mod release;
+pub mod rewinding;
 mod stamps;
 mod telling;
 
 pub use database::Db;
+pub use db_edges::{NamedEdge, Point};
+pub use db_history::Subject;
+pub use db_refusals::StoreView;
 pub use edges::EdgeFault;
 pub use fault::{DbFault, Outcome, QueryFault};
-pub use plan_edges::passed_plan_view::StoreView;
-pub use plan_edges::{NamedEdge, Point};
-pub use plan_steps::Subject;
+pub use release::let_go;
+pub use rewinding::{rewind, take_back};

@@ -4,13 +4,13 @@ ghost use Rattle.std.specs.Prelude.{MatchOption};
 ghost use Rattle.domain_core.specs.Domain.{Domain};
 ghost use Rattle.model_core.specs.declared.model.Model.{Model as Problem};
 ghost use Rattle.model_core.specs.History.{History};
-ghost use Rattle.plan_steps.specs.Kept.{KeepsHistory};
+ghost use Rattle.db_history.specs.Kept.{KeepsHistory};
 ghost use Rattle.plan_db.specs.declared.fault.QueryFault.{QueryFault as Fault};
 ghost use Rattle.plan_db.specs.Database.{taken_in, IsTold, IsUntold};
 ghost use Rattle.plan_db.specs.Stamps.{stamps_of, IsStampedAs};
 
+use db_history::{Footing, Standing};
 use eu_name::name::VarName;
-use plan_steps::passed_plan_state::{Footing, Standing};
 
 /// How often the domain of the variable was written.
 pub fn stamp(kept: &Standing, variable: &VarName) -> Option<u64>

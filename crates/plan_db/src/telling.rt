@@ -5,21 +5,21 @@ ghost use Rattle.model_core.specs.declared.model.Model.{Model as Problem};
 ghost use Rattle.domain_core.specs.Domain.{Domain};
 ghost use Rattle.model_core.specs.History.{History};
 ghost use Rattle.model_core.specs.State.{Gives};
-ghost use Rattle.plan_edges.specs.plan_view.Seeing.{seen_state};
+ghost use Rattle.db_refusals.specs.Seeing.{seen_state};
 ghost use Rattle.plan_db.specs.declared.fault.QueryFault.TheVariants.{Unknown};
-ghost use Rattle.plan_steps.specs.Kept.{KeepsHistory};
+ghost use Rattle.db_history.specs.Kept.{KeepsHistory};
 ghost use Rattle.plan_db.specs.Database.{taken_in, IsTold, IsUntold};
 ghost use Rattle.plan_db.specs.Answers.{ready_with, IsSeen, IsUnseen};
 ghost use Rattle.plan_db.specs.Stamps.{stamps_of};
 
 use super::fault::QueryFault;
+use db_history::{Footing, Standing};
+use db_refusals::StoreView;
+use db_store::Store;
 use decision_log::Log;
 use domain_core::domain::Dom;
 use eu_name::name::VarName;
 use model_core::model::Model;
-use plan_edges::passed_plan_view::StoreView;
-use plan_steps::passed_plan_state::{Footing, Standing};
-use plan_store::Store;
 
 /// The domain of the variable.
 pub fn domain<'a>(kept: &'a Standing, variable: &VarName) -> Result<&'a Dom, QueryFault>
@@ -40,7 +40,7 @@ fn domain_in<'a>(store: &'a Store, variable: &VarName) -> Result<&'a Dom, QueryF
         (λ domain. Gives (seen_state store.now) variable.now domain.now)
         (λ fault. (fault ≡ Unknown) × ((domain : Domain) → Gives (seen_state store.now) variable.now domain → ⊥)) }
 {
-    match plan_edges::passed_plan_view::domain(store, variable) {
+    match db_refusals::domain(store, variable) {
         Some(domain) => Ok(domain),
         None => Err(QueryFault::Unknown),
     }

@@ -2,14 +2,14 @@
 use Rattle.std.proofs.Common.{List, [], ◌∷◌, ◌++◌, ℤ, ◌≤ℤ◌, refl, subst, arith}
 use Rattle.std.specs.List.{AllZip}
 use Rattle.std.proofs.lemmas.Int.{ints}
-use Rattle.model_core.specs.domain_core.Domain.{Domain, IsDomain, IsWithin, least, greatest}
-use Rattle.model_core.specs.domain_core.Words.{tested_least, tested_greatest}
+use Rattle.domain_core.specs.Domain.{Domain, IsDomain, IsWithin, least, greatest}
+use Rattle.domain_core.proofs.Words.{tested_least, tested_greatest}
 use Rattle.eu_name.specs.declared.name.VarName.{VarName}
 use Rattle.model_core.specs.declared.decision.Decision.{Decision}
-use Rattle.model_core.specs.declared.item.Kind.TheVariants.{Leq}
+use Rattle.domain_core.specs.declared.kind.Kind.TheVariants.{Leq}
 use Rattle.model_core.specs.declared.model.Model.{Model}
-use Rattle.model_core.specs.Consistency.{Ends, Admits, AreConsistent}
-use Rattle.model_core.specs.Constraints.{HoldsOf}
+use Rattle.domain_core.specs.Consistency.{Ends, Admits, AreConsistent}
+use Rattle.domain_core.specs.Constraints.{HoldsOf}
 use Rattle.model_core.specs.State.{State, Gives, IsState, IsBelow}
 use Rattle.plan_defs.specs.Claims.{IsClaim, at_most}
 use Rattle.plan_defs.specs.Closure.{IsConsistentState}

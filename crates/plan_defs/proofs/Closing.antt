@@ -7,8 +7,8 @@ use Rattle.std.proofs.lemmas.Int.{ints}
 use Rattle.std.proofs.lemmas.List.{length-map}
 use Rattle.std.proofs.lemmas.List.Elements.{All-contains}
 use Rattle.std.proofs.lemmas.Slice.Zip.{AllZip-long}
-use Rattle.model_core.specs.domain_core.Domain.{Domain, Range, Has, IsSingle, IsDomain, least, greatest}
-use Rattle.model_core.specs.domain_core.Words.{single_least, single_greatest}
+use Rattle.domain_core.specs.Domain.{Domain, Range, Has, IsSingle, IsDomain, least, greatest}
+use Rattle.domain_core.proofs.Words.{single_least, single_greatest}
 use Rattle.eu_name.specs.declared.name.Part.{Part}
 use Rattle.eu_name.specs.declared.name.Part.TheVariants.{Start, End, Duration, Object, Param}
 use Rattle.eu_name.specs.declared.name.Step.{Step}
@@ -34,7 +34,7 @@ use Rattle.model_core.specs.declared.variable.Base.TheVariants.{Given}
 use Rattle.model_core.specs.declared.variable.VarDecl.{VarDecl}
 use Rattle.model_core.specs.declared.variable.ValueKind.{ValueKind}
 use Rattle.model_core.specs.Blocks.{TokenBlock, Follows, HasBlock, OfBranch, OfLocal, OfSlot, OfItem, chosen, direct}
-use Rattle.model_core.specs.Constraints.{Holds, reach_of}
+use Rattle.domain_core.specs.Constraints.{Holds, reach_of}
 use Rattle.model_core.specs.Decided.{IsTaken, IsActive}
 use Rattle.model_core.specs.Entries.{Entries}
 use Rattle.model_core.specs.Kinds.{IsValueOf}
@@ -63,7 +63,7 @@ use Rattle.plan_defs.specs.Terms.{Context, InRule, Argument, Value, Variable, Ha
 use Rattle.plan_defs.specs.Timelines.{IsTimeline, ShareTimeline, EndsTooLate, CanEndBefore, IsOn}
 use Rattle.plan_defs.specs.Valid.{IsValid, IsLineAt, Becomes, SuitsToken, SuitsMerge, HasDeclaredValue, AsksForLocal, IsAsked, IsLineOfSort, IsClaimTrue, HasArgumentValue, EndsBy}
 use Rattle.plan_defs.proofs.Lower.{Follows-map, HasBlock-map, counts_further, says_further}
-use Rattle.plan_defs.proofs.Members.{get_from_contains, get_below, get_within}
+use Rattle.eu_name.proofs.Members.{get_from_contains, get_below, get_within}
 use Rattle.plan_defs.proofs.Saying.{own_or_merged, own_or_rejected, taken_or_rejected, merged_or_rejected, fact_or_not, one_target}
 use Rattle.plan_defs.proofs.Singles.{IsJust, just_value, just_domain, just_consistent}
 use Rattle.plan_defs.proofs.States.{gives_domain}

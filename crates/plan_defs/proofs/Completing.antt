@@ -3,8 +3,8 @@ use Rattle.std.proofs.Common.{◌≡◌, ℕ, zero, suc, ◌+◌, ◌<◌, ◌�
 use Rattle.std.specs.Prelude.{Contains, slice_get}
 use Rattle.std.specs.List.{AllZip}
 use Rattle.std.proofs.lemmas.Int.{ints}
-use Rattle.model_core.specs.domain_core.Domain.{Domain, Range, Has, IsSingle, least, greatest}
-use Rattle.model_core.specs.domain_core.Words.{single_least, single_greatest}
+use Rattle.domain_core.specs.Domain.{Domain, Range, Has, IsSingle, least, greatest}
+use Rattle.domain_core.proofs.Words.{single_least, single_greatest}
 use Rattle.eu_name.specs.declared.name.Part.TheVariants.{Start, Object, Param}
 use Rattle.eu_name.specs.declared.name.Step.{Step}
 use Rattle.eu_name.specs.declared.name.TokenName.{TokenName}
@@ -44,7 +44,7 @@ use Rattle.plan_defs.specs.Valid.{IsValid, Becomes, IsAsked, IsAskedToken, IsPar
 use Rattle.plan_defs.proofs.Closing.{last_step, LastStep, given, asked, root_becomes, taken_line, line_of, consistent_state}
 use Rattle.plan_defs.proofs.Filling.{IsTokensLine, tokens_of, shared, tokens_same, quantity_from_zero, acted, merged_acts, rejected_acts, sort_of, one_sort, produce_consume, produce_plain, consume_plain, same_some, fit_reusables}
 use Rattle.plan_defs.proofs.Lower.{HasBlock-map}
-use Rattle.plan_defs.proofs.Members.{get_same}
+use Rattle.eu_name.proofs.Members.{get_same}
 use Rattle.plan_defs.proofs.Saying.{own_or_merged, own_or_rejected, merged_or_rejected, taken_or_rejected, fact_or_not}
 use Rattle.plan_defs.proofs.States.{gives_domain}
 

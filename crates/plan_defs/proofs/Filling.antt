@@ -3,8 +3,8 @@ use Rattle.std.proofs.Common.{◌≡◌, ℕ, ◌+◌, ◌<◌, ◌⊎◌, ℤ, 
 use Rattle.std.specs.Prelude.{All, AllPairs, Contains, slice_get, codes}
 use Rattle.std.specs.List.{AllZip}
 use Rattle.std.proofs.lemmas.Int.{ints}
-use Rattle.model_core.specs.domain_core.Domain.{Domain, Range, Has, IsSingle, IsDomain, least, greatest}
-use Rattle.model_core.specs.domain_core.Words.{single_least, single_greatest}
+use Rattle.domain_core.specs.Domain.{Domain, Range, Has, IsSingle, IsDomain, least, greatest}
+use Rattle.domain_core.proofs.Words.{single_least, single_greatest}
 use Rattle.eu_name.specs.declared.name.Part.{Part}
 use Rattle.eu_name.specs.declared.name.Part.TheVariants.{Start, End, Object, Param}
 use Rattle.eu_name.specs.declared.name.Step.{Step}
@@ -48,8 +48,8 @@ use Rattle.plan_defs.specs.Sums.{sum_of}
 use Rattle.plan_defs.specs.Timelines.{IsOn}
 use Rattle.plan_defs.specs.Valid.{IsValid, SuitsToken, IsOfSort, IsPartOf, HasActed, IsActing, UsesAt, AddedBy, TookBy, IsUsed, IsRise, LeavesLevel, IsWithinCapacity, IsLevelWithin}
 use Rattle.plan_defs.proofs.Closing.{suits, active_line, consistent_state}
-use Rattle.plan_defs.proofs.Members.{get_same}
-use Rattle.plan_defs.proofs.Ordered.{contains_head, contains_later, contains_cases, contains_none, ordered_head, ordered_tail, ordered_none, ordered_cons, same_members}
+use Rattle.eu_name.proofs.Members.{get_same}
+use Rattle.eu_name.proofs.Ordered.{contains_head, contains_later, contains_cases, contains_none, ordered_head, ordered_tail, ordered_none, ordered_cons, same_members}
 use Rattle.plan_defs.proofs.Saying.{one_own, own_or_merged, own_or_rejected}
 use Rattle.plan_defs.proofs.States.{gives_domain}
 

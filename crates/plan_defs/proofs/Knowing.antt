@@ -1,7 +1,7 @@
 -- Whether a thing is on a list can be told where things have an order, and so whether a state has what a decision names.
 use Rattle.std.proofs.Common.{◌≡◌, ◌⊎◌, inl, inr, ⊎_elim, List, [], ◌∷◌, ap, subst}
 use Rattle.std.specs.Prelude.{Contains}
-use Rattle.model_core.specs.domain_core.Domain.{Domain}
+use Rattle.domain_core.specs.Domain.{Domain}
 use Rattle.eu_name.specs.declared.name.TokenName.{TokenName}
 use Rattle.eu_name.specs.declared.name.VarName.{VarName}
 use Rattle.eu_name.specs.NameOrder.{IsStrictTotalOrder, IsTokenBefore, IsVarBefore}
@@ -10,7 +10,7 @@ use Rattle.model_core.specs.declared.decision.Decision.{Decision}
 use Rattle.model_core.specs.declared.decision.Decision.TheVariants.{Specify, Activate, Merge, Reject, Order}
 use Rattle.model_core.specs.State.{State, VarDomain}
 use Rattle.plan_defs.specs.Refusals.{IsKnown}
-use Rattle.plan_defs.proofs.Ordered.{contains_head, contains_later, contains_cases, contains_none}
+use Rattle.eu_name.proofs.Ordered.{contains_head, contains_later, contains_cases, contains_none}
 
 -- it is so, or it isn't
 abbrev pub IsOrNot : Type 0 → Type 0

@@ -1,5 +1,4 @@
 pub mod Members
-pub mod Ordered
 pub mod Meanings
 pub mod Knowing
 pub mod BlockOrder
@@ -18,3 +17,14 @@ pub mod Saying
 pub mod Closing
 pub mod Filling
 pub mod Completing
+pub mod Chosen
+pub mod Resources
+pub mod Reservoirs
+pub mod Admitting
+pub mod Deciding
+pub mod Determining
+pub mod Kinding
+pub mod Parting
+pub mod Telling
+pub mod Stating
+pub mod Histories

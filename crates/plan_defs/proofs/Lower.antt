@@ -3,8 +3,8 @@ use Rattle.std.proofs.Common.{List, [], ◌∷◌, ◌++◌, inl, inr, ℤ, ◌�
 use Rattle.std.specs.Prelude.{Contains}
 use Rattle.std.proofs.lemmas.Int.{ints}
 use Rattle.std.proofs.lemmas.List.Elements.{All-weaker, Contains-append_left}
-use Rattle.model_core.specs.domain_core.Domain.{Domain, IsDomain, IsWithin, Has, least, greatest}
-use Rattle.model_core.specs.domain_core.Words.{IsWithin-refl, has_least, has_greatest, between_ends}
+use Rattle.domain_core.specs.Domain.{Domain, IsDomain, IsWithin, Has, least, greatest}
+use Rattle.domain_core.proofs.Words.{IsWithin-refl, has_least, has_greatest, between_ends}
 use Rattle.eu_name.specs.declared.name.Part.TheVariants.{Start, End, Object}
 use Rattle.eu_name.specs.declared.name.Step.{Step}
 use Rattle.eu_name.specs.declared.name.TokenName.{TokenName}

@@ -2,7 +2,7 @@
 use Rattle.std.proofs.Common.{◌≡◌, ℕ, suc, zero, ◌<◌, List, [], ◌∷◌, length, Some, refl, sym, subst, arith}
 use Rattle.std.specs.Prelude.{All, slice_get}
 use Rattle.std.proofs.lemmas.Option.{get_or_from_slice_get}
-pub use Rattle.eu_name.proofs.Members.{get_from_contains, get_below, contains_from_get, get_within, get_all, get_same}
+use Rattle.eu_name.proofs.Members.{get_within}
 
 -- what holds at each place holds of all
 pub all_from_get : {X : Type 0} (P : X → Type 0) (xs : List X) → ((k : ℕ) (x : X) → slice_get xs k ≡ Some x → P x) → All P xs

@@ -4,7 +4,9 @@ use Rattle.std.proofs.lemmas.Bool.{cases_lt}
 use Rattle.model_core.specs.declared.decision.Decision.{Decision}
 use Rattle.model_core.specs.declared.model.Model.{Model}
 use Rattle.model_core.specs.State.{State}
-use Rattle.plan_defs.specs.Refusals.{Refusal, Unknown, Decided, NotInDomain, NotActive, NotSamePredicate, NotRejectable, SameToken, ActiveFull, rank_of, IsFirstRefusal}
+use Rattle.plan_defs.specs.Refusals.{rank_of, IsFirstRefusal}
+use Rattle.model_core.specs.declared.refusal.Refusal.TheVariants.{Unknown, Decided, NotInDomain, NotActive, NotSamePredicate, NotRejectable, SameToken, ActiveFull}
+use Rattle.model_core.specs.declared.refusal.Refusal.{Refusal}
 
 place_same : (one other : Refusal) → rank_of one ≡ rank_of other → one ≡ other
 place_same Unknown Unknown e = refl

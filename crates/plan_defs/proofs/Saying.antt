@@ -8,7 +8,7 @@ use Rattle.plan_defs.specs.declared.plan.Line.{Line}
 use Rattle.plan_defs.specs.declared.plan.Line.TheVariants as lines
 use Rattle.plan_defs.specs.declared.plan.Plan.{Plan}
 use Rattle.plan_defs.specs.Plans.{order_name, IsLineBefore, TakesPlaceWith, IsTakenIn}
-use Rattle.plan_defs.proofs.Ordered.{one_of_key}
+use Rattle.eu_name.proofs.Ordered.{one_of_key}
 
 module _ (plan : Plan) (order : AllPairs IsLineBefore plan.lines) where
   -- a name has one line

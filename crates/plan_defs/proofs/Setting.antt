@@ -2,8 +2,8 @@
 use Rattle.std.proofs.Common.{◌≡◌, ℕ, suc, zero, List, [], ◌∷◌, set, Some, inl, inr, refl, sym, ap, ◌∙◌, subst}
 use Rattle.std.proofs.lemmas.List.Elements.{All-set}
 use Rattle.std.specs.Prelude.{slice_get, Contains, All, AllPairs, ◌⊎◌, ◌↔◌}
-use Rattle.model_core.specs.domain_core.Domain.{Domain, IsDomain, IsWithin}
-use Rattle.model_core.specs.domain_core.Words.{IsWithin-refl}
+use Rattle.domain_core.specs.Domain.{Domain, IsDomain, IsWithin}
+use Rattle.domain_core.proofs.Words.{IsWithin-refl}
 use Rattle.eu_name.specs.declared.name.TokenName.{TokenName}
 use Rattle.eu_name.specs.declared.name.VarName.{VarName}
 use Rattle.eu_name.specs.declared.name.VarName.TheVariants.{Token, Local, Global}
@@ -15,8 +15,8 @@ use Rattle.model_core.specs.Entries.{Entries}
 use Rattle.model_core.specs.State.{State, VarDomain, Gives, IsAbout, IsState, IsBelow}
 use Rattle.model_core.specs.Tokens.{HasToken}
 use Rattle.plan_defs.specs.Steps.{Approaches, SetsDomain}
-use Rattle.plan_defs.proofs.Members.{contains_from_get}
-use Rattle.plan_defs.proofs.Ordered.{contains_head, contains_later, contains_cases, ordered_head, ordered_tail, ordered_cons}
+use Rattle.eu_name.proofs.Members.{contains_from_get}
+use Rattle.eu_name.proofs.Ordered.{contains_head, contains_later, contains_cases, ordered_head, ordered_tail, ordered_cons}
 
 -- what stands in a list after one item was replaced: the new item, or an item that was there
 set_cases : {X : Type 0} (xs : List X) (place : ℕ) (new x : X) → Contains (set xs place new) x → (new ≡ x) ⊎ Contains xs x

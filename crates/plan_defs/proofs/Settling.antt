@@ -10,7 +10,7 @@ use Rattle.plan_defs.specs.Closure.{IsLeast, IsCollapsed}
 use Rattle.plan_defs.specs.History.{Accepts, TakesOut, IsHistory}
 use Rattle.plan_defs.specs.Refusals.{IsAdmissible}
 use Rattle.plan_defs.specs.Settling.{SettlesAfter, Settles, IsSettled}
-use Rattle.plan_defs.proofs.Ordered.{contains_head, contains_cases, contains_none}
+use Rattle.eu_name.proofs.Ordered.{contains_head, contains_cases, contains_none}
 use Rattle.plan_defs.proofs.States.{IsBelow-antisym}
 
 -- decisions leave one least state at most

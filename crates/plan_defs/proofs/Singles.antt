@@ -2,9 +2,9 @@
 use Rattle.std.proofs.Common.{◌≡◌, ℤ, List, [], ◌∷◌, ◌++◌, ⊎_elim, refl, sym, ap, ◌∙◌, subst, arith}
 use Rattle.std.proofs.lemmas.Int.{ints}
 use Rattle.std.specs.List.{AllZip}
-use Rattle.model_core.specs.domain_core.Domain.{Domain, Range, IsDomain, IsSingle, IsTested, IsBetweenEnds}
-use Rattle.model_core.specs.domain_core.Words.{has_tested, between_ends}
-use Rattle.model_core.specs.Consistency.{Reach, Values, Ends, Admits, AreConsistent}
+use Rattle.domain_core.specs.Domain.{Domain, Range, IsDomain, IsSingle, IsTested, IsBetweenEnds}
+use Rattle.domain_core.proofs.Words.{has_tested, between_ends}
+use Rattle.domain_core.specs.Consistency.{Reach, Values, Ends, Admits, AreConsistent}
 
 -- the domain has this value alone
 pub record IsJust (domain : Domain) (value : ℤ) : Type 0 where

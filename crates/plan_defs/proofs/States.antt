@@ -2,8 +2,8 @@
 use Rattle.std.proofs.Common.{◌≡◌, refl, ap, subst}
 use Rattle.std.specs.Prelude.{Contains}
 use Rattle.std.proofs.lemmas.List.Elements.{All-contains}
-use Rattle.model_core.specs.domain_core.Domain.{Domain, IsDomain, IsWithin}
-use Rattle.model_core.specs.domain_core.Words.{IsWithin-refl, IsWithin-trans, IsWithin-antisym}
+use Rattle.domain_core.specs.Domain.{Domain, IsDomain, IsWithin}
+use Rattle.domain_core.proofs.Words.{IsWithin-refl, IsWithin-trans, IsWithin-antisym}
 use Rattle.eu_name.specs.declared.name.VarName.{VarName}
 use Rattle.eu_name.specs.NameOrder.{IsTokenBefore, IsVarBefore}
 use Rattle.eu_name.proofs.Orders.{token_order, var_order}
@@ -11,7 +11,7 @@ use Rattle.model_core.specs.declared.model.Model.{Model}
 use Rattle.model_core.specs.Blocks.{IsBlockBefore}
 use Rattle.model_core.specs.State.{State, VarDomain, Gives, AreInOrder, IsState, IsBelow}
 use Rattle.plan_defs.proofs.BlockOrder.{block_irreflexive, block_transitive}
-use Rattle.plan_defs.proofs.Ordered.{same_members, one_of_key}
+use Rattle.eu_name.proofs.Ordered.{same_members, one_of_key}
 
 entry_irreflexive : (entry : VarDomain) → IsVarBefore entry.name entry.name → ⊥
 entry_irreflexive entry = var_order.irreflexive entry.name

@@ -7,7 +7,7 @@ use Rattle.eu_name.specs.declared.name.TokenName.{TokenName}
 use Rattle.eu_name.specs.NameOrder.{IsTokenBefore}
 use Rattle.eu_name.proofs.Orders.{token_order}
 use Rattle.plan_defs.specs.Sums.{Amount, sum_of, sum_of_amounts}
-use Rattle.plan_defs.proofs.Ordered.{contains_head, contains_later, contains_cases, contains_none, ordered_head, ordered_tail}
+use Rattle.eu_name.proofs.Ordered.{contains_head, contains_later, contains_cases, contains_none, ordered_head, ordered_tail}
 
 -- what the first of the listed has differs from those behind it
 abbrev pub Apart : Amount → Amount → Type 0

@@ -1,6 +1,6 @@
 -- What the decisions leave possible: the closed states, and the least of them.
 use Rattle.std.specs.Prelude.{List, Contains, ⊤}
-use Rattle.model_core.specs.domain_core.Domain.{Domain, IsSingle}
+use Rattle.domain_core.specs.Domain.{Domain, IsSingle}
 use Rattle.eu_name.specs.declared.name.TokenName.{TokenName}
 use Rattle.eu_name.specs.declared.name.VarName.{VarName}
 use Rattle.model_core.specs.declared.decision.Decision.{Decision}
@@ -17,6 +17,7 @@ use Rattle.plan_defs.specs.Resources.{FitReusables, FitReservoirs}
 use Rattle.plan_defs.specs.Situations.{situation_of}
 use Rattle.plan_defs.specs.Support.{IsSupportedToken, IsSupportedBlock}
 use Rattle.plan_defs.specs.Timelines.{FitTimelines}
+use Rattle.model_core.specs.Decided.{IsActive, IsTaken, IsRejected}
 
 -- the state grants the decision: a specified variable has that value alone
 abbrev pub IsRespected : Decision → State → Type 0
@@ -56,3 +57,8 @@ pub record IsLeast (model : Model) (decisions : List Decision) (state : State) :
 -- the decisions leave no closed state
 abbrev pub IsCollapsed : Model → List Decision → Type 0
 IsCollapsed model decisions = (state : State) → IsClosed model decisions state → ⊥
+
+-- no token is both rejected and taken, and each active one is in the state
+pub record AreInPlace (model : Model) (decisions : List Decision) (state : State) : Type 0 where
+  pub apart : (token : TokenName) → IsRejected decisions token → IsTaken decisions token → ⊥
+  pub active : (token : TokenName) → IsActive model decisions token → Contains state.tokens token

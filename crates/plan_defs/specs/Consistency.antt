@@ -1,10 +1,10 @@
 -- When a claim is consistent in a state.
 use Rattle.std.specs.Prelude.{◌≡◌, ℕ, ℤ, List, Some, slice_get}
 use Rattle.std.specs.List.{AllZip}
-use Rattle.model_core.specs.domain_core.Domain.{Domain}
+use Rattle.domain_core.specs.Domain.{Domain}
 use Rattle.model_core.specs.declared.class.Object.{Object}
 use Rattle.model_core.specs.declared.model.Model.{Model}
-use Rattle.model_core.specs.Constraints.{AgreeOn}
+use Rattle.domain_core.specs.Constraints.{AgreeOn}
 use Rattle.model_core.specs.Kinds.{IsObject}
 use Rattle.model_core.specs.State.{State, Gives}
 use Rattle.plan_defs.specs.Claims.{Claim}

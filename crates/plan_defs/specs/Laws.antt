@@ -1,6 +1,6 @@
 -- What is proved of the definitions.
 use Rattle.std.specs.Prelude.{◌≡◌, ◌↔◌, ◌⊎◌, ℤ, pos, ◌+ℤ◌, ◌≤ℤ◌, List, ◌∷◌, ◌++◌, Contains}
-use Rattle.model_core.specs.domain_core.Domain.{Domain, IsDomain, IsWithin, least, greatest}
+use Rattle.domain_core.specs.Domain.{Domain, IsDomain, IsWithin, least, greatest}
 use Rattle.eu_name.specs.declared.name.TokenName.{TokenName}
 use Rattle.eu_name.specs.declared.name.VarName.{VarName}
 use Rattle.model_core.specs.declared.class.PredKind.TheVariants.{Produce, Consume}
@@ -14,9 +14,9 @@ use Rattle.plan_defs.specs.Claims.{Claim, IsClaim, at_most}
 use Rattle.plan_defs.specs.Closure.{IsConsistentState, IsLeast, IsCollapsed}
 use Rattle.plan_defs.specs.Consistency.{IsClaimConsistent}
 use Rattle.plan_defs.specs.History.{IsHistory}
-use Rattle.plan_defs.specs.Refusals.{Refusal, IsFirstRefusal}
-use Rattle.plan_defs.specs.Resources.{SurelyUses, KeepsCapacity, StaysWithin}
-use Rattle.plan_defs.specs.Resources.{SurelyChanges, MayChange, HasGreatestChange, HasLeastChange}
+use Rattle.plan_defs.specs.Refusals.{IsFirstRefusal}
+use Rattle.model_core.specs.declared.refusal.Refusal.{Refusal}
+use Rattle.plan_defs.specs.Resources.{SurelyUses, KeepsCapacity, StaysWithin, SurelyChanges, MayChange, HasGreatestChange, HasLeastChange}
 use Rattle.plan_defs.specs.Settling.{Settles, IsSettled}
 use Rattle.plan_defs.specs.Situations.{situation_of}
 use Rattle.plan_defs.specs.Steps.{Approaches, AreSteps, SetsDomain, last_of}

@@ -17,3 +17,7 @@ pub mod Steps
 pub mod Laws
 pub mod PlanStates
 pub mod PlanLaws
+pub mod Unordered
+pub mod Flaws
+pub mod StatePlans
+pub mod Surveying

@@ -1,6 +1,6 @@
 -- The state that a plan is by itself.
 use Rattle.std.specs.Prelude.{◌≡◌, ◌↔◌, ◌⊎◌, ℤ, List, Contains}
-use Rattle.model_core.specs.domain_core.Domain.{Domain, Has, IsSingle}
+use Rattle.domain_core.specs.Domain.{Domain, Has, IsSingle}
 use Rattle.eu_name.specs.declared.name.TokenName.{TokenName}
 use Rattle.eu_name.specs.declared.name.VarName.{VarName}
 use Rattle.model_core.specs.declared.model.Model.{Model}

@@ -3,7 +3,7 @@ use Rattle.std.specs.Prelude.{◌≡◌, ℕ, ◌+◌, ◌<◌, ◌≤◌, ◌^�
 use Rattle.std.specs.Prelude.{length, map, slice_get}
 use Rattle.std.specs.Prelude.{All, AllPairs, Contains}
 use Rattle.std.specs.List.{AllZip}
-use Rattle.model_core.specs.domain_core.Domain.{Range}
+use Rattle.domain_core.specs.Domain.{Range}
 use Rattle.eu_name.specs.declared.name.Part.{Part}
 use Rattle.eu_name.specs.declared.name.Part.TheVariants.{Start, End, Duration, Object, Param}
 use Rattle.eu_name.specs.declared.name.TokenName.{TokenName}

@@ -1,11 +1,13 @@
 -- Which decisions may be taken after which.
 use Rattle.std.specs.Prelude.{◌≡◌, ◌≢◌, ℕ, ◌<◌, ◌≤◌, ℤ, ◌⊎◌, List, length, All, AllPairs, Contains}
-use Rattle.model_core.specs.domain_core.Domain.{Domain, Has}
+use Rattle.domain_core.specs.Domain.{Domain, Has}
 use Rattle.eu_name.specs.declared.name.TokenName.{TokenName}
 use Rattle.eu_name.specs.declared.name.VarName.{VarName}
 use Rattle.model_core.specs.declared.decision.Decision.{Decision}
 use Rattle.model_core.specs.declared.decision.Decision.TheVariants.{Specify, Activate, Merge, Reject, Order}
 use Rattle.model_core.specs.declared.model.Model.{Model}
+use Rattle.model_core.specs.declared.refusal.Refusal.{Refusal}
+use Rattle.model_core.specs.declared.refusal.Refusal.TheVariants.{Unknown, Decided, NotInDomain, NotActive, NotSamePredicate, NotRejectable, SameToken, ActiveFull}
 use Rattle.model_core.specs.declared.rule.Slot.{Slot}
 use Rattle.model_core.specs.declared.variable.Base.TheVariants.{Given}
 use Rattle.model_core.specs.Decided.{IsTaken, IsActive, IsDecided}
@@ -14,17 +16,6 @@ use Rattle.model_core.specs.Tokens.{HasToken, IsRejectable}
 use Rattle.model_core.specs.Variables.{HasBase}
 use Rattle.plan_defs.specs.Closure.{IsLeast}
 use Rattle.plan_defs.specs.Terms.{Counts}
-
--- why a decision is refused, in the order in which the reasons are looked for
-pub data Refusal : Type 0 where
-  Unknown : Refusal
-  Decided : Refusal
-  NotInDomain : Refusal
-  NotActive : Refusal
-  NotSamePredicate : Refusal
-  NotRejectable : Refusal
-  SameToken : Refusal
-  ActiveFull : Refusal
 
 -- how many reasons are looked for before this one
 abbrev pub rank_of : Refusal → ℕ

@@ -1,7 +1,7 @@
 -- Tokens don't use more of a reusable than it has, and the level of a reservoir stays within its limits.
 use Rattle.std.specs.Prelude.{◌≡◌, ◌⊎◌, ℤ, pos, ◌+ℤ◌, ◌≤ℤ◌, ◌<ℤ◌, List, Some, slice_get, Contains}
 use Rattle.std.specs.List.{AllZip}
-use Rattle.model_core.specs.domain_core.Domain.{Domain, Has, least, greatest}
+use Rattle.domain_core.specs.Domain.{Domain, Has, least, greatest}
 use Rattle.eu_name.specs.declared.name.Part.TheVariants.{Start, End, Object, Param}
 use Rattle.eu_name.specs.declared.name.TokenName.{TokenName}
 use Rattle.eu_name.specs.declared.name.VarName.TheVariants.{Token}

@@ -1,6 +1,6 @@
 -- What the definitions of what counts and what opens read, whether of decisions and a state or of a plan.
 use Rattle.std.specs.Prelude.{List}
-use Rattle.model_core.specs.domain_core.Domain.{Domain}
+use Rattle.domain_core.specs.Domain.{Domain}
 use Rattle.eu_name.specs.declared.name.TokenName.{TokenName}
 use Rattle.eu_name.specs.declared.name.VarName.{VarName}
 use Rattle.model_core.specs.declared.decision.Decision.{Decision}

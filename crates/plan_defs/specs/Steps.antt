@@ -1,6 +1,6 @@
 -- Steps towards the least state, which lose nothing that fits. The one induction of the database goes over these.
 use Rattle.std.specs.Prelude.{◌≡◌, ℕ, List, [], ◌∷◌, Some, set, slice_get, ⊤}
-use Rattle.model_core.specs.domain_core.Domain.{Domain}
+use Rattle.domain_core.specs.Domain.{Domain}
 use Rattle.model_core.specs.declared.model.Model.{Model}
 use Rattle.eu_name.specs.declared.name.VarName.{VarName}
 use Rattle.model_core.specs.State.{State, IsState, IsBelow}

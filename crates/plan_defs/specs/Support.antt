@@ -1,6 +1,6 @@
 -- What a situation asks for: the tokens that have to be there, and the blocks that are open.
 use Rattle.std.specs.Prelude.{◌≡◌, ◌≢◌, ℤ, List, ◌∷◌, ◌++◌, Contains}
-use Rattle.model_core.specs.domain_core.Domain.{Domain, Has}
+use Rattle.domain_core.specs.Domain.{Domain, Has}
 use Rattle.eu_name.specs.declared.name.Step.{Step}
 use Rattle.eu_name.specs.declared.name.TokenName.{TokenName}
 use Rattle.model_core.specs.declared.item.Term.{Term}

@@ -1,6 +1,6 @@
 -- What the terms of items and guards mean, and whether what is said of them counts.
 use Rattle.std.specs.Prelude.{◌≡◌, ℕ, ℤ, ⊤}
-use Rattle.model_core.specs.domain_core.Domain.{Domain, Range}
+use Rattle.domain_core.specs.Domain.{Domain, Range}
 use Rattle.eu_name.specs.declared.name.TokenName.{TokenName}
 use Rattle.eu_name.specs.declared.name.VarName.{VarName}
 use Rattle.eu_name.specs.declared.name.VarName.TheVariants as variables

@@ -1,6 +1,6 @@
 -- Tokens of one timeline don't overlap.
 use Rattle.std.specs.Prelude.{◌≡◌, ◌≢◌, ℤ, ◌<ℤ◌, List}
-use Rattle.model_core.specs.domain_core.Domain.{Domain, IsSingle, least, greatest}
+use Rattle.domain_core.specs.Domain.{Domain, IsSingle, least, greatest}
 use Rattle.eu_name.specs.declared.name.Part.TheVariants.{Start, End, Object}
 use Rattle.eu_name.specs.declared.name.TokenName.{TokenName}
 use Rattle.eu_name.specs.declared.name.VarName.TheVariants.{Token}

@@ -1,7 +1,5 @@
 -- Which plans are valid, clause by clause, read from their values alone.
-use Rattle.std.specs.Prelude.{◌≡◌, ◌≢◌, ℕ, ◌<◌, ◌⊎◌, ℤ, pos, ◌+ℤ◌, ◌≤ℤ◌, ◌<ℤ◌, Bool, true}
-use Rattle.std.specs.Prelude.{false, ⊤, List, [], ◌∷◌, ◌++◌}
-use Rattle.std.specs.Prelude.{Some, length, slice_get, Contains}
+use Rattle.std.specs.Prelude.{◌≡◌, ◌≢◌, ℕ, ◌<◌, ◌⊎◌, ℤ, pos, ◌+ℤ◌, ◌≤ℤ◌, ◌<ℤ◌, Bool, true, false, ⊤, List, [], ◌∷◌, ◌++◌, Some, length, slice_get, Contains}
 use Rattle.std.specs.List.{AllZip}
 use Rattle.eu_name.specs.declared.name.Part.{Part}
 use Rattle.eu_name.specs.declared.name.Part.TheVariants.{Start, End, Object, Param}
@@ -21,10 +19,9 @@ use Rattle.model_core.specs.declared.model.RootKind.{RootKind}
 use Rattle.model_core.specs.declared.model.RootKind.TheVariants.{Goal, Rejectable, Fact}
 use Rattle.model_core.specs.declared.rule.Slot.{Slot}
 use Rattle.model_core.specs.declared.rule.Turn.{Turn}
-use Rattle.model_core.specs.Blocks.{TokenBlock, direct, OfLocal}
-use Rattle.model_core.specs.Constraints.{Holds}
+use Rattle.model_core.specs.Blocks.{direct, OfLocal}
+use Rattle.domain_core.specs.Constraints.{Holds}
 use Rattle.model_core.specs.Entries.{Entries}
-use Rattle.model_core.specs.Kinds.{IsObject}
 use Rattle.model_core.specs.Numbers.{PlacedItem, IsItemOf}
 use Rattle.model_core.specs.Tokens.{HasToken, IsRoot, root_token, slot_token}
 use Rattle.plan_defs.specs.declared.plan.Clause.{Clause}

@@ -1,11 +1,8 @@
 //! Laws of the definitions.
 
 ghost use Rattle.plan_defs.specs.Closure.{IsConsistentState, IsClosed};
-ghost use Rattle.plan_defs.specs.Laws.{LeastIsOne, LeastIsNotCollapsed, BelowIsReflexive, BelowIsTransitive, BelowIsAntisymmetric};
-ghost use Rattle.plan_defs.specs.Laws.{WhatIsAskedStays, OrdersStay, StatesBelowHaveWhatIsAsked, ClaimsOfOrderBoundBoth};
-ghost use Rattle.plan_defs.specs.Laws.{StepsAddUp, NarrowingIsAStep, FrontsStayConsistent, SharesAreSums, ChangesAreSums};
+ghost use Rattle.plan_defs.specs.Laws.{LeastIsOne, LeastIsNotCollapsed, BelowIsReflexive, BelowIsTransitive, BelowIsAntisymmetric, WhatIsAskedStays, OrdersStay, StatesBelowHaveWhatIsAsked, ClaimsOfOrderBoundBoth, StepsAddUp, NarrowingIsAStep, FrontsStayConsistent, SharesAreSums, ChangesAreSums, SettlingIsIdempotent, FrontsHaveLeastStates, HistoriesAreSettled, FirstRefusalIsOne};
 ghost use Rattle.plan_defs.specs.PlanLaws.{FirstBrokenIsOne, ValidPlansBreakNone, ValidPlansAreClosed};
-ghost use Rattle.plan_defs.specs.Laws.{SettlingIsIdempotent, FrontsHaveLeastStates, HistoriesAreSettled, FirstRefusalIsOne};
 
 /// Decisions leave one least state at most, and none where they collapse.
 pub fn least_is_one()

@@ -1,7 +1,7 @@
-//! What the decisions of a planner leave possible: the definitions that the plan database is proved by, in specs/, and their laws.
-//!
-//! There is nothing to run. A proof cites a law by calling it, as in `plan_defs::laws::least_is_one();`, which gives that
-//! two least states of one list of decisions are equal.
+//! What decisions leave possible, and which plans are valid: definitions in specs/, and laws, as `laws::least_is_one()`.
+//! Nothing runs: models, decisions, states and plans are spoken of. A `Plan` is data, and so are `Clause` and `Place`.
+//! Cited by contracts and proofs of the database, the search, the checker and the program, by the laws and by the examples.
+//! Knows nothing of any data structure of the database, and of how a state is found. Proofs may change, definitions may not.
 #![tactic(auto)]
 
 pub mod laws;

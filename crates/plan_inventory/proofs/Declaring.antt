@@ -16,7 +16,7 @@ use Rattle.model_core.specs.Variables.{HasParameter}
 use Rattle.model_core.proofs.Items.{item_within}
 use Rattle.model_core.proofs.Leading.{token_once}
 use Rattle.plan_values.proofs.Matching.{match_bool}
-use Rattle.plan_bases.specs.Bases.{IsOfPred}
+use Rattle.plan_values.specs.Bases.{IsOfPred}
 use Rattle.plan_inventory.specs.Bases.{IsDeclaredIn, AreDeclaredIn}
 
 -- ---- parameters

@@ -41,7 +41,7 @@ use Rattle.plan_values.proofs.Naming.{of_token, isnt_active}
 use Rattle.plan_values.proofs.Ruling.{one_rule}
 use Rattle.plan_values.proofs.Valuing.{gives_once, zip_length}
 use Rattle.plan_inventory.specs.Asking.{IsSlotKept, IsLocalKept, IsOnLine, IsLeastOnLine}
-use Rattle.plan_bases.specs.Bases.{IsOfPred}
+use Rattle.plan_values.specs.Bases.{IsOfPred}
 use Rattle.plan_inventory.specs.Breaks.{IsFirstNumber, IsFirstInRules, IsActivatedBy}
 use Rattle.plan_inventory.proofs.Suiting.{asks_stands, stands_asks, local_stands, stands_local}
 

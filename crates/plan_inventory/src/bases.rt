@@ -6,13 +6,13 @@ ghost use Rattle.model_core.specs.declared.class.Pred.{Pred};
 ghost use Rattle.model_core.specs.declared.variable.VarDecl.{VarDecl};
 ghost use Rattle.model_core.specs.Lawful.{IsLawful};
 ghost use Rattle.model_core.specs.Variables.{HasParameter};
-ghost use Rattle.plan_bases.specs.Bases.{IsOfPred};
+ghost use Rattle.plan_values.specs.Bases.{IsOfPred};
 ghost use Rattle.plan_inventory.specs.Bases.{IsDeclaredIn, AreDeclaredIn};
 
 use eu_name::name::{Part, TokenName};
 use model_core::class::Pred;
 use model_core::model::Model;
-use plan_bases::is_part_declared;
+use plan_values::is_part_declared;
 use plan_values::lines::value_in;
 use plan_values::tokens::pred_of;
 

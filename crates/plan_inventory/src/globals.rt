@@ -8,8 +8,8 @@ ghost use Rattle.plan_defs.specs.Valid.{HasDeclaredValue};
 ghost use Rattle.plan_inventory.specs.Breaks.{FindsBreak};
 
 use model_core::model::Model;
-use plan_bases::base_has;
 use plan_defs::plan::{Place, Plan};
+use plan_values::base_has;
 use plan_values::lines::global_value;
 
 // Whether the global has a value that it is declared with.

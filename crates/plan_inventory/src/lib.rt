@@ -1,6 +1,7 @@
-//! What a plan has: whether each global, root, token and local has a line with values of its bases, and nothing else has one.
-//!
-//! `broken_inventory(&model, &plan)` is the first of the clauses V1 to V6 that the plan breaks, and where.
+//! What a plan has: `broken_inventory(&model, &plan)` is the first of the clauses V1 to V6 that it breaks, and where.
+//! In come a lawful model and a plan of it; out goes `Broken`, a clause with the place of the least names, or None.
+//! Called by plan_check, which goes on with V7 to V10.
+//! Knows nothing of states, decisions and texts. How lines are found, and what is kept of a rule that was asked, may change.
 #![tactic(auto)]
 
 mod asked;

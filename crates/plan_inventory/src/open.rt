@@ -27,8 +27,8 @@ use eu_name::name::TokenName;
 use model_core::model::Model;
 use model_core::rule::Rule;
 use model_core::variable::VarDecl;
-use plan_bases::is_local_declared;
 use plan_defs::plan::{Line, Place, Plan};
+use plan_values::is_local_declared;
 use plan_values::key::TokenKey;
 use plan_values::lines::{is_taken, local_value};
 use plan_values::rules::rule_of;
@@ -214,7 +214,7 @@ fn unkept_of(model: &Model, plan: &Plan, line: u32, token: &TokenName) -> Option
     }
 }
 
-// The same for this line, whatever it says.
+// The first slot or local that isn't kept of the token that takes place by this line, if one does.
 fn unkept_at(model: &Model, plan: &Plan, place: u32, line: &Line) -> Option<Place>
     requires lawful { IsLawful model.now }
     requires orderly { IsOrderly plan.now }

@@ -11,13 +11,14 @@ ghost use Rattle.plan_values.specs.Keys.{IsOrderly};
 ghost use Rattle.plan_inventory.specs.Breaks.{FindsBreak, FindsLine};
 
 use super::bases::are_declared;
+use domain_core::kind::Kind;
 use eu_name::name::{Part, TokenName};
 use eu_name::name_order::order;
-use model_core::item::{Kind, Term};
+use model_core::item::Term;
 use model_core::model::Model;
-use plan_bases::have_same_predicate;
 use plan_defs::plan::{Line, Place, Plan};
 use plan_values::claims::are_true;
+use plan_values::have_same_predicate;
 use plan_values::key::TokenKey;
 use plan_values::lines::own_values;
 use plan_values::terms::Standpoint;

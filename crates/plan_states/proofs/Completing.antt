@@ -25,15 +25,15 @@ use Rattle.plan_defs.specs.Plans.{IsLineOf, IsLineBefore, order_name}
 use Rattle.plan_defs.specs.Terms.{BelongsTo}
 use Rattle.plan_defs.proofs.Members.{all_from_get}
 use Rattle.plan_defs.proofs.States.{gives_same}
-use Rattle.plan_states.specs.Flaws.{Flaw, Undecided, Undetermined, Unordered, Untimed, IsFlaw, IsLeftOpen}
-use Rattle.plan_states.specs.StatePlans.{GivesOnly, IsLineIn, IsSettledState}
-use Rattle.plan_states.specs.Surveying.{AreMeant, Surveys, AreGlobalValues, IsFlawOf, IsLineOfToken, IsLineOfPlaces, IsFlawOfPlaces, IsUnorderedFlaw, IsOrderedPlan, IsOwnLine, IsOwnFlaw, IsLocalsLine, IsLocalsFlaw}
-use Rattle.plan_states.proofs.Admitting.{token_of_state, target_of_model}
-use Rattle.plan_states.proofs.Determining.{value_once, part_value}
+use Rattle.plan_defs.specs.Flaws.{Flaw, Undecided, Undetermined, Unordered, Untimed, IsFlaw, IsLeftOpen}
+use Rattle.plan_defs.specs.StatePlans.{GivesOnly, IsLineIn, IsSettledState}
+use Rattle.plan_defs.specs.Surveying.{AreMeant, Surveys, AreGlobalValues, IsFlawOf, IsLineOfToken, IsLineOfPlaces, IsFlawOfPlaces, IsUnorderedFlaw, IsOrderedPlan, IsOwnLine, IsOwnFlaw, IsLocalsLine, IsLocalsFlaw}
+use Rattle.plan_defs.proofs.Admitting.{token_of_state, target_of_model}
+use Rattle.plan_defs.proofs.Determining.{value_once, part_value}
 use Rattle.plan_states.proofs.Following.{own_first}
 use Rattle.plan_states.proofs.Gathering.{surveys_both, surveys_same}
-use Rattle.plan_states.proofs.Kinding.{token_values, local_value, global_value, pred_of_slot}
-use Rattle.plan_states.proofs.Stating.{takes_not_rejected}
+use Rattle.plan_defs.proofs.Kinding.{token_values, local_value, global_value, pred_of_slot}
+use Rattle.plan_defs.proofs.Stating.{takes_not_rejected}
 
 module _ (model : Model) (decisions : List Decision) (state : State) (settled : IsSettledState model decisions state) where
   -- ---- which tokens and locals a state has

@@ -17,10 +17,10 @@ use Rattle.model_core.specs.State.{State, Gives}
 use Rattle.model_core.specs.Tokens.{HasToken, HasRule}
 use Rattle.model_core.specs.Views.{IsTokenAt}
 use Rattle.model_core.proofs.Rules.{has_rule_once}
-use Rattle.plan_states.specs.StatePlans.{IsSettledState}
+use Rattle.plan_defs.specs.StatePlans.{IsSettledState}
 use Rattle.plan_states.proofs.Completing.{local_below}
-use Rattle.plan_states.proofs.Telling.{one_at}
-use Rattle.plan_values.proofs.Few.{few_rule}
+use Rattle.plan_defs.proofs.Telling.{one_at}
+use Rattle.model_core.proofs.Few.{few_rule}
 
 pub few_parts : (model : Model) (pred : ℕ) (found : Pred) → IsLawful model → slice_get model.preds pred ≡ Some found → length found.params ≤ 32
 few_parts model pred found lawful is = (lawful.preds pred found is).few_params

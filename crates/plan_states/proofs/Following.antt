@@ -13,7 +13,7 @@ use Rattle.model_core.specs.Views.{IsTokenAt}
 use Rattle.plan_defs.specs.declared.plan.Line.{Line}
 use Rattle.plan_defs.specs.Plans.{IsLineBefore, order_name}
 use Rattle.plan_defs.specs.Terms.{BelongsTo}
-use Rattle.plan_states.specs.Surveying.{IsOwnLine, IsLocalLine, IsRuleLine, IsLocalsLine, IsLineOfPlace}
+use Rattle.plan_defs.specs.Surveying.{IsOwnLine, IsLocalLine, IsRuleLine, IsLocalsLine, IsLineOfPlace}
 
 -- lines by the names that they go by
 by_names : (x y : Line) (one other : VarName) → order_name x ≡ one → order_name y ≡ other → IsVarBefore one other → IsLineBefore x y

@@ -9,9 +9,9 @@ use Rattle.model_core.specs.declared.model.Model.{Model}
 use Rattle.model_core.specs.State.{State}
 use Rattle.plan_defs.specs.declared.plan.Line.{Line}
 use Rattle.plan_defs.specs.Plans.{IsLineBefore}
-use Rattle.plan_defs.proofs.Ordered.{contains_head, contains_later, contains_cases, contains_none, ordered_head, ordered_tail, ordered_none, ordered_cons, ordered_one}
-use Rattle.plan_states.specs.Flaws.{Flaw, IsFlaw}
-use Rattle.plan_states.specs.Surveying.{AreMeant, Surveys, UpTo}
+use Rattle.eu_name.proofs.Ordered.{contains_head, contains_later, contains_cases, contains_none, ordered_head, ordered_tail, ordered_none, ordered_cons, ordered_one}
+use Rattle.plan_defs.specs.Flaws.{Flaw, IsFlaw}
+use Rattle.plan_defs.specs.Surveying.{AreMeant, Surveys, UpTo}
 
 pairs_join : {X : Type 0} (R : X → X → Type 0) (xs ys : List X) → AllPairs R xs → AllPairs R ys
     → ((x y : X) → Contains xs x → Contains ys y → R x y) → AllPairs R (xs ++ ys)

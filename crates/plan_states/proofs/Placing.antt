@@ -32,16 +32,16 @@ use Rattle.plan_defs.specs.Settling.{IsSettled}
 use Rattle.plan_defs.proofs.States.{gives_same}
 use Rattle.plan_states.specs.declared.fault.PlanOfFault.{PlanOfFault}
 use Rattle.plan_states.specs.declared.fault.PlanOfFault.TheVariants.{Open, Memory}
-use Rattle.plan_states.specs.Flaws.{Flaw, Undecided, Undetermined, Unordered, Untimed, IsFlaw, HasFlaw, IsOfRejectedToken}
-use Rattle.plan_states.specs.StatePlans.{GivesOnly, TakesPlaceAs, IsStatePlan, IsSettledState}
-use Rattle.plan_states.specs.Surveying.{Surveys, AreFirstValues, AreGlobalValues, IsPartOpen, HasPartCount, IsRejectedState, IsStatedBy, IsOwnLine, IsOwnFlaw, IsLocalLine, IsLocalFlaw, IsLineOfToken, IsFlawOf, IsLineOfPlace, IsFlawOfPlace, IsLineOfPlaces, IsFlawOfPlaces, IsUnorderedFlaw, IsOrderedPlan}
+use Rattle.plan_defs.specs.Flaws.{Flaw, Undecided, Undetermined, Unordered, Untimed, IsFlaw, HasFlaw, IsOfRejectedToken}
+use Rattle.plan_defs.specs.StatePlans.{GivesOnly, TakesPlaceAs, IsStatePlan, IsSettledState}
+use Rattle.plan_defs.specs.Surveying.{Surveys, AreFirstValues, AreGlobalValues, IsPartOpen, HasPartCount, IsRejectedState, IsStatedBy, IsOwnLine, IsOwnFlaw, IsLocalLine, IsLocalFlaw, IsLineOfToken, IsFlawOf, IsLineOfPlace, IsFlawOfPlace, IsLineOfPlaces, IsFlawOfPlaces, IsUnorderedFlaw, IsOrderedPlan}
 use Rattle.plan_states.proofs.Completing.{ordered_plan}
-use Rattle.plan_states.proofs.Determining.{value_once}
+use Rattle.plan_defs.proofs.Determining.{value_once}
 use Rattle.plan_states.proofs.Following.{places_before}
 use Rattle.plan_states.proofs.Gathering.{surveys_none, surveys_one, surveys_same}
-use Rattle.plan_states.proofs.Stating.{own_once, open_part, states_merged, takes_not_rejected, merged_not_rejected}
-use Rattle.plan_states.proofs.Telling.{one_at}
-use Rattle.timeline_core.specs.Unordered.{IsPairAt}
+use Rattle.plan_defs.proofs.Stating.{own_once, open_part, states_merged, takes_not_rejected, merged_not_rejected}
+use Rattle.plan_defs.proofs.Telling.{one_at}
+use Rattle.plan_defs.specs.Unordered.{IsPairAt}
 
 -- ---- faults
 

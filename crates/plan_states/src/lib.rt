@@ -1,7 +1,7 @@
-//! The plan of a state, and what keeps a state from having one.
-//!
-//! `plan_of(alloc, model, view)?` is the plan of a state without a flaw. A flaw is what a search has to decide: a token of which
-//! nothing is decided, a variable with more than one value, or two tokens of one timeline without an order.
+//! The plan of a state without a flaw: `plan_of(alloc, model, view)?`.
+//! In come a lawful model and a `View` of the least state of a settled list; out goes a `Plan`, or that there is a flaw.
+//! Called by session_replies and run_commands, which print the plan; plan_core offers it at its root.
+//! Knows nothing of how states are stored, of texts, and of how flaws are mended. How the lines are put together may change.
 #![tactic(auto)]
 
 ghost use Rattle.std.specs.Prelude.{◌≡◌, ◌++◌, ◌∷◌, [], MatchResult};

@@ -12,9 +12,9 @@ ghost use Rattle.model_core.specs.Tokens.{HasRule, HasToken};
 ghost use Rattle.model_core.specs.Views.{IsTokenAt};
 ghost use Rattle.plan_defs.specs.declared.plan.Line.TheVariants as lines;
 ghost use Rattle.plan_states.specs.declared.fault.PlanOfFault.TheVariants.{Open, Memory};
-ghost use Rattle.plan_states.specs.Surveying.{Surveys, IsLocalLine, IsLocalFlaw, IsRuleLine, IsRuleFlaw, IsLocalsLine, IsLocalsFlaw};
-ghost use Rattle.plan_states.specs.Flaws.{HasFlaw};
-ghost use Rattle.plan_states.specs.StatePlans.{IsSettledState};
+ghost use Rattle.plan_defs.specs.Surveying.{Surveys, IsLocalLine, IsLocalFlaw, IsRuleLine, IsRuleFlaw, IsLocalsLine, IsLocalsFlaw};
+ghost use Rattle.plan_defs.specs.Flaws.{HasFlaw};
+ghost use Rattle.plan_defs.specs.StatePlans.{IsSettledState};
 
 use super::fault::PlanOfFault;
 use super::parts::{name_at, pred_in};

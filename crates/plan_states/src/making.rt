@@ -8,9 +8,9 @@ ghost use Rattle.plan_defs.specs.Closure.{IsLeast};
 ghost use Rattle.plan_defs.specs.Plans.{IsPlanOf};
 ghost use Rattle.plan_defs.specs.Settling.{IsSettled};
 ghost use Rattle.plan_states.specs.declared.fault.PlanOfFault.TheVariants.{Open, Memory};
-ghost use Rattle.plan_states.specs.Surveying.{Surveys, AreGlobalValues, IsLineOfPlaces, IsFlawOfPlaces, IsOrderedPlan};
-ghost use Rattle.plan_states.specs.Flaws.{HasFlaw};
-ghost use Rattle.plan_states.specs.StatePlans.{GivesOnly, IsSettledState, IsStatePlan};
+ghost use Rattle.plan_defs.specs.Surveying.{Surveys, AreGlobalValues, IsLineOfPlaces, IsFlawOfPlaces, IsOrderedPlan};
+ghost use Rattle.plan_defs.specs.Flaws.{HasFlaw};
+ghost use Rattle.plan_defs.specs.StatePlans.{GivesOnly, IsSettledState, IsStatePlan};
 
 use super::fault::PlanOfFault;
 use super::put;

@@ -10,8 +10,8 @@ ghost use Rattle.model_core.specs.State.{AreInOrder};
 ghost use Rattle.model_core.specs.Views.{IsTokenAt};
 ghost use Rattle.plan_defs.specs.Plans.{place_in_values};
 ghost use Rattle.plan_states.specs.declared.fault.PlanOfFault.TheVariants.{Open, Memory};
-ghost use Rattle.plan_states.specs.StatePlans.{GivesOnly};
-ghost use Rattle.plan_states.specs.Surveying.{AreFirstValues, IsPartOpen};
+ghost use Rattle.plan_defs.specs.StatePlans.{GivesOnly};
+ghost use Rattle.plan_defs.specs.Surveying.{AreFirstValues, IsPartOpen};
 
 use super::fault::PlanOfFault;
 use super::put;

@@ -9,9 +9,9 @@ ghost use Rattle.model_core.specs.TokenStates.{IsMergedAt};
 ghost use Rattle.model_core.specs.Views.{IsTokenAt};
 ghost use Rattle.plan_defs.specs.declared.plan.Line.TheVariants as lines;
 ghost use Rattle.plan_states.specs.declared.fault.PlanOfFault.TheVariants.{Open, Memory};
-ghost use Rattle.plan_states.specs.Surveying.{Surveys, HasPartCount, IsRejectedState, IsStatedBy, IsOwnLine, IsOwnFlaw, IsLineOfToken, IsFlawOf};
-ghost use Rattle.plan_states.specs.Flaws.{HasFlaw};
-ghost use Rattle.plan_states.specs.StatePlans.{IsSettledState, TakesPlaceAs};
+ghost use Rattle.plan_defs.specs.Surveying.{Surveys, HasPartCount, IsRejectedState, IsStatedBy, IsOwnLine, IsOwnFlaw, IsLineOfToken, IsFlawOf};
+ghost use Rattle.plan_defs.specs.Flaws.{HasFlaw};
+ghost use Rattle.plan_defs.specs.StatePlans.{IsSettledState, TakesPlaceAs};
 
 use super::fault::PlanOfFault;
 use super::locals::add_locals;

@@ -10,3 +10,6 @@ pub mod Standing
 pub mod Walking
 pub mod Few
 pub mod Ruling
+pub mod Declaring
+pub mod DeclaredValues
+pub mod SamePredicate

@@ -5,7 +5,7 @@ use Rattle.std.specs.List.{AllZip}
 use Rattle.std.proofs.lemmas.List.Elements.{All-nil, All-cons, All-head, All-tail}
 use Rattle.eu_name.specs.declared.name.TokenName.{TokenName}
 use Rattle.model_core.specs.declared.item.Item.TheVariants.{Constraint}
-use Rattle.model_core.specs.declared.item.Kind.{Kind}
+use Rattle.domain_core.specs.declared.kind.Kind.{Kind}
 use Rattle.model_core.specs.declared.item.Rel.{Rel}
 use Rattle.model_core.specs.declared.item.Term.{Term}
 use Rattle.model_core.specs.declared.model.Model.{Model}
@@ -14,7 +14,7 @@ use Rattle.plan_defs.specs.Claims.{Claim, relates}
 use Rattle.plan_defs.specs.Plans.{IsTakenIn}
 use Rattle.plan_defs.specs.Terms.{Context, Argument, Means, ArgumentCounts}
 use Rattle.plan_defs.specs.Valid.{HasArgumentValue, IsClaimTrue}
-use Rattle.plan_defs.proofs.Ordered.{contains_head, contains_later, contains_cases, contains_none}
+use Rattle.eu_name.proofs.Ordered.{contains_head, contains_later, contains_cases, contains_none}
 use Rattle.plan_values.specs.declared.claims.Statement.{Statement}
 use Rattle.plan_values.specs.Meanings.{CountsAt, HasTermValue}
 use Rattle.plan_values.specs.Truths.{AreTrueOf, IsTrueWhere, IsStatedTrue, statement_claim, edge_argument}

@@ -4,12 +4,12 @@ use Rattle.std.specs.Prelude.{MatchBool}
 use Rattle.std.specs.List.{AllZip}
 use Rattle.eu_name.specs.declared.name.VarName.{VarName}
 use Rattle.eu_name.specs.declared.name.VarName.TheVariants.{Token, Local, Global}
-use Rattle.model_core.specs.declared.item.Kind.{Kind}
-use Rattle.model_core.specs.declared.item.Kind.TheVariants as kinds
+use Rattle.domain_core.specs.declared.kind.Kind.{Kind}
+use Rattle.domain_core.specs.declared.kind.Kind.TheVariants as kinds
 use Rattle.model_core.specs.declared.item.Term.{Term}
 use Rattle.model_core.specs.declared.item.Term.TheVariants as terms
 use Rattle.model_core.specs.declared.model.Model.{Model}
-use Rattle.model_core.specs.Constraints.{Holds}
+use Rattle.domain_core.specs.Constraints.{Holds}
 use Rattle.plan_defs.specs.declared.plan.Line.TheVariants as lines
 use Rattle.plan_defs.specs.declared.plan.Plan.{Plan}
 use Rattle.plan_defs.specs.Consistency.{HasField}

@@ -4,3 +4,4 @@ pub mod Meanings
 pub mod Truths
 pub mod Openings
 pub mod Walks
+pub mod Bases

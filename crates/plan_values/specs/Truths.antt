@@ -4,10 +4,10 @@ use Rattle.std.specs.List.{AllZip}
 use Rattle.eu_name.specs.declared.name.Part.TheVariants.{Start, End}
 use Rattle.eu_name.specs.declared.name.TokenName.{TokenName}
 use Rattle.model_core.specs.declared.item.Item.{Item}
-use Rattle.model_core.specs.declared.item.Kind.{Kind}
+use Rattle.domain_core.specs.declared.kind.Kind.{Kind}
 use Rattle.model_core.specs.declared.item.Term.{Term}
 use Rattle.model_core.specs.declared.model.Model.{Model}
-use Rattle.model_core.specs.Constraints.{Holds}
+use Rattle.domain_core.specs.Constraints.{Holds}
 use Rattle.plan_defs.specs.declared.plan.Plan.{Plan}
 use Rattle.plan_defs.specs.Claims.{Claim, ItemSays, part_of}
 use Rattle.plan_defs.specs.Consistency.{HasField}

@@ -3,8 +3,8 @@
 ghost use Rattle.std.specs.Prelude.{◌≡◌, ℕ, List, [], ◌∷◌, ◌++◌, map, All, Some, MatchBool, option_to_list};
 ghost use Rattle.eu_name.specs.declared.name.TokenName.{TokenName};
 ghost use Rattle.model_core.specs.declared.item.Item.TheVariants as items;
-ghost use Rattle.model_core.specs.declared.item.Kind.TheVariants as kinds;
-ghost use Rattle.model_core.specs.Constraints.{Holds};
+ghost use Rattle.domain_core.specs.declared.kind.Kind.TheVariants as kinds;
+ghost use Rattle.domain_core.specs.Constraints.{Holds};
 ghost use Rattle.model_core.specs.Tokens.{slot_token};
 ghost use Rattle.plan_defs.specs.Claims.{relates};
 ghost use Rattle.plan_defs.specs.Consistency.{HasField};
@@ -14,8 +14,9 @@ ghost use Rattle.plan_values.specs.Meanings.{context_of, CountsAt};
 ghost use Rattle.plan_values.specs.Truths.{AreTrueOf, IsTrueWhere, IsStatedTrue, edge_argument, statement_claim};
 
 use super::terms::{Standpoint, term_counts, term_value};
+use domain_core::kind::Kind;
 use eu_name::name::{Part, TokenName};
-use model_core::item::{Item, Kind, Rel, Term};
+use model_core::item::{Item, Rel, Term};
 use model_core::model::Model;
 use plan_defs::plan::Plan;
 

@@ -96,7 +96,7 @@ pub fn false_among(
     Ok(number)
 }
 
-// The same for one entry.
+// The number of the first such item in one entry, and else the number behind the last in it.
 #[cycle(false_item)]
 fn false_in(
     model: &Model,

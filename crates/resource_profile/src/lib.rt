@@ -1,6 +1,7 @@
-//! Profiles of resources: the first instant at which uses need more than there is, or a level leaves its limits.
-//!
-//! `over_use(&[Use { from: 2, until: 5, quantity: 3 }], 2)` is `Some(2)`: from the instant 2 on, 3 are in use of 2.
+//! Profiles of resources: the first instant at which uses take more than there is, `over_use(&uses, 2)`, or a level is out.
+//! In come uses with a capacity, or changes with an initial level and limits, in any order; out goes the instant, or None.
+//! Called by plan_check, for what the tokens of a plan use, and by db_resources, for what those of a state do.
+//! Knows nothing of tokens, plans and states, and takes no memory. Which instants are looked at, in which order, may change.
 #![tactic(auto)]
 
 ghost use Rattle.std.specs.Prelude.{◌↔◌, IsTrue, MatchOption, ⊤};

@@ -4,3 +4,4 @@ pub mod Counting
 pub mod Turning
 pub mod Limits
 pub mod Finding
+pub mod Entries

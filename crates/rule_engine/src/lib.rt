@@ -1,9 +1,8 @@
-//! Rules of tokens: what stands in one of their blocks, and which side of a guard is open.
-//!
-//! `open_block(alloc, model, &token, 0, &[])?` is what stands in the top block of the first rule of the token's
-//! predicate: the tokens and locals that it adds, and its items and branches. `block_of(model, &token, 0, &[])` is that
-//! block itself. `entailed(true, a, b)` is `Some(true)` where the guard `a == b` is true whatever is chosen from the two
-//! domains.
+//! Rules of tokens: what stands directly in one of their blocks, `open_block(alloc, model, &token, 0, &[])?`.
+//! In come a token, the number of a rule and the way to a block; out go `Additions`, or the block itself (`block_of`).
+//! Of two domains goes out which side of a guard is open whatever is chosen of them (`entailed`), or None.
+//! Called by db_opening, db_decide, db_fixpoint and db_resources.
+//! Knows nothing of stores, networks, and which blocks are open. How a rule is gone through may change.
 #![tactic(auto)]
 
 pub mod block;
@@ -14,4 +13,3 @@ mod names;
 pub use block::{Additions, block_of, open_block};
 pub use guard::entailed;
 pub use items::ItemAt;
-pub use names::slot_name;

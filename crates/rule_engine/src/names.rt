@@ -7,22 +7,10 @@ ghost use Rattle.model_core.specs.Blocks.{direct};
 ghost use Rattle.model_core.specs.Tokens.{slot_token};
 ghost use Rattle.rule_engine.specs.Lists.{slots_in, locals_in};
 
-use eu_name::name::{Step, TokenName, VarName};
-use eu_name::sequence::Sequence;
+use eu_name::name::{TokenName, VarName};
 use model_core::rule::Entry;
+use model_core::slot_names::slot_name;
 use std::alloc::{AllocError, Global};
-
-/// The name of the token that the rule of this number of the token asks for by its slot of this number.
-pub fn slot_name(token: &TokenName, rule: u16, slot: u16) -> Result<TokenName, AllocError>
-    ensures { IfOk result (λ name. name ≡ slot_token token.now rule slot) }
-{
-    let mut steps = Vec::from_slice(token.steps.allocator(), token.steps.as_slice())?;
-    steps.push(Step { rule, slot })?;
-    Ok(TokenName {
-        root: token.root,
-        steps: Sequence::from_vec(steps),
-    })
-}
 
 /// The tokens that the slots among the entries ask for, in order.
 pub fn slot_names(

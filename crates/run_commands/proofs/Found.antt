@@ -11,12 +11,12 @@ use Rattle.plan_check.specs.Judged.{IsVerdict}
 use Rattle.plan_db.specs.Answers.{Held, IsSeen}
 use Rattle.plan_defs.specs.declared.plan.Plan.{Plan}
 use Rattle.plan_defs.specs.Valid.{IsValid}
-use Rattle.plan_states.specs.StatePlans.{IsStatePlan}
-use Rattle.plan_verdicts.specs.declared.counting.Counts.{Counts}
-use Rattle.plan_verdicts.specs.Counting.{AreCounts}
-use Rattle.plan_verdicts.specs.Verdicts.{IsVerdictText, IsCheckedAs}
-use Rattle.plan_view.specs.Seeing.{Seen, seen_state}
-use Rattle.solver_core.specs.declared.ending.SearchEnd.TheVariants.{Found}
+use Rattle.plan_defs.specs.StatePlans.{IsStatePlan}
+use Rattle.plan_report.specs.declared.counting.Counts.{Counts}
+use Rattle.plan_report.specs.Counting.{AreCounts}
+use Rattle.plan_report.specs.Verdicts.{IsVerdictText, IsCheckedAs}
+use Rattle.db_refusals.specs.Seeing.{Seen, seen_state}
+use Rattle.flaw_core.specs.declared.ending.SearchEnd.TheVariants.{Found}
 use Rattle.run_commands.specs.Trying.{IsFoundText, TellsState, TellsTrial, found_text}
 
 -- ---- a valid plan

@@ -1,7 +1,7 @@
 -- The search from decisions that leave nothing.
 use Rattle.std.proofs.Common.{◌≡◌, ℕ, zero, suc, ◌<◌, false, inl, refl, arith}
 use Rattle.plan_db.specs.Database.{Database, HasCollapsed}
-use Rattle.plan_search.specs.Search.{SearchOutcome, Fails}
+use Rattle.law_search.specs.Search.{SearchOutcome, Fails}
 use Rattle.run_commands.specs.Searching.{SearchesTo, collapsed_end}
 
 -- so many units are left behind the first visit

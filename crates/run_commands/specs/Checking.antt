@@ -3,7 +3,7 @@ use Rattle.std.specs.Prelude.{◌≡◌, ℕ, Bool, true, false, List, Option}
 use Rattle.eu_io.specs.Files.{file_named}
 use Rattle.eu_io.specs.declared.shelf.FileEntry.{FileEntry}
 use Rattle.model_core.specs.declared.model.Model.{Model}
-use Rattle.plan_verdicts.specs.Verdicts.{ChecksAs}
+use Rattle.plan_report.specs.Verdicts.{ChecksAs}
 use Rattle.run_commands.specs.declared.status.RunEnd.{RunEnd}
 use Rattle.run_commands.specs.declared.status.RunEnd.TheVariants.{Done, NotAPlan}
 use Rattle.run_commands.specs.Contents.{ContentOutput}

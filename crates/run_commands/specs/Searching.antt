@@ -3,10 +3,10 @@ use Rattle.std.specs.Prelude.{◌≡◌, ℕ, false, List, Option, Some, None}
 use Rattle.model_core.specs.declared.model.Model.{Model}
 use Rattle.model_core.specs.History.{standing}
 use Rattle.plan_db.specs.Database.{Database}
-use Rattle.plan_search.specs.Search.{SearchOutcome, Searches}
-use Rattle.session_replies.specs.Texts.{TellsSearch}
-use Rattle.solver_core.specs.declared.ending.SearchEnd.{SearchEnd}
-use Rattle.solver_core.specs.declared.ending.SearchEnd.TheVariants.{Found, Exhausted, Budget}
+use Rattle.law_search.specs.Search.{SearchOutcome, Searches}
+pub use Rattle.session_replies.specs.Texts.{TellsSearch}
+use Rattle.flaw_core.specs.declared.ending.SearchEnd.{SearchEnd}
+use Rattle.flaw_core.specs.declared.ending.SearchEnd.TheVariants.{Found, Exhausted, Budget}
 use Rattle.solver_core.specs.Solving.{TellsEnd}
 use Rattle.run_commands.specs.declared.status.RunEnd.{RunEnd}
 use Rattle.run_commands.specs.declared.status.RunEnd.TheVariants as run

@@ -9,13 +9,13 @@ use Rattle.model_core.specs.State.{State}
 use Rattle.plan_db.specs.Database.{Database, HasLeast}
 use Rattle.plan_defs.specs.declared.plan.Plan.{Plan}
 use Rattle.plan_defs.specs.Valid.{IsValid}
-use Rattle.plan_states.specs.StatePlans.{IsStatePlan}
-use Rattle.plan_verdicts.specs.declared.counting.Counts.{Counts}
-use Rattle.plan_verdicts.specs.Counting.{AreCounts, counts_text}
+use Rattle.plan_defs.specs.StatePlans.{IsStatePlan}
+use Rattle.plan_report.specs.declared.counting.Counts.{Counts}
+use Rattle.plan_report.specs.Counting.{AreCounts, counts_text}
 use Rattle.problem_gen.specs.Generated.{generated_text}
 use Rattle.session_replies.specs.Texts.{TellsSearch}
-use Rattle.solver_core.specs.declared.ending.SearchEnd.{SearchEnd}
-use Rattle.solver_core.specs.declared.ending.SearchEnd.TheVariants.{Found, Exhausted, Budget}
+use Rattle.flaw_core.specs.declared.ending.SearchEnd.{SearchEnd}
+use Rattle.flaw_core.specs.declared.ending.SearchEnd.TheVariants.{Found, Exhausted, Budget}
 use Rattle.run_commands.specs.declared.status.RunEnd.{RunEnd}
 use Rattle.run_commands.specs.Posing.{PosedOutput}
 use Rattle.run_commands.specs.Searching.{EndOutput}

@@ -16,8 +16,8 @@ use eu_io::shelf::Shelf;
 use eu_name::text::Text;
 use model_core::model::Model;
 use plan_db::Db;
-use plan_release::let_go;
-use plan_verdicts::check_text;
+use plan_db::release::let_go;
+use plan_report::check_text;
 use run_load::pose;
 use std::alloc::Global;
 
@@ -40,7 +40,7 @@ pub fn check<F: Shelf>(
     }
 }
 
-// The same of the problem that the file poses.
+// Checks the plan in the second file by the model of this database, and lets the database go.
 fn check_posed<F: Shelf>(
     alloc: Global,
     shelf: &mut F,

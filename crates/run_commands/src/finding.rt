@@ -6,23 +6,23 @@ ghost use Rattle.model_core.specs.Lawful.{IsLawful};
 ghost use Rattle.plan_db.specs.Database.{IsSound};
 ghost use Rattle.plan_defs.specs.Plans.{IsPlanOf};
 ghost use Rattle.plan_defs.specs.Valid.{IsValid};
-ghost use Rattle.plan_states.specs.Flaws.{HasFlaw};
+ghost use Rattle.plan_defs.specs.Flaws.{HasFlaw};
 ghost use Rattle.session_replies.specs.Texts.{IsFlawlessEnd};
-ghost use Rattle.solver_core.specs.declared.ending.SearchEnd.TheVariants.{Found};
+ghost use Rattle.flaw_core.specs.declared.ending.SearchEnd.TheVariants.{Found};
 ghost use Rattle.run_commands.specs.Searching.{end_of};
 ghost use Rattle.run_commands.specs.Trying.{IsFoundText, TellsState, TellsTrial, TrialOutput, found_text};
 
 use crate::Printed;
 use crate::searching::{end_of, search};
 use eu_name::bytes::Bytes;
+use flaw_core::SearchEnd;
 use model_core::model::Model;
 use model_core::view::View;
 use plan_db::Db;
 use plan_defs::plan::Plan;
+use plan_report::{Counts, check_plan, count_lines, put_counts};
 use plan_states::{PlanOfFault, plan_of};
-use plan_verdicts::{Counts, check_plan, count_lines, put_counts};
 use session_replies::end_text;
-use solver_core::SearchEnd;
 use std::alloc::{AllocError, Global};
 
 // The most tokens that may be active in a trial.
@@ -44,7 +44,7 @@ fn found_text(
     Ok(Bytes::from_vec(text))
 }
 
-// The same of the plan, which is checked.
+// What is told of a plan that was found, with the verdict of the checker.
 fn found_plan(alloc: Global, visits: u32, model: &Model, plan: &Plan) -> Result<Bytes, AllocError>
     requires lawful { IsLawful model.now }
     requires is_plan { IsPlanOf model.now plan.now }
@@ -55,7 +55,7 @@ fn found_plan(alloc: Global, visits: u32, model: &Model, plan: &Plan) -> Result<
     found_text(alloc, visits, count_lines(plan), checked.reply.as_slice())
 }
 
-// The same of a least state without a flaw.
+// What is told of a least state without a flaw, from which the plan is taken.
 fn found_state<V: View>(
     alloc: Global,
     visits: u32,
@@ -74,7 +74,7 @@ fn found_state<V: View>(
     }
 }
 
-// The same of the decisions that stand, which a search found.
+// What is told of the decisions that stand, which a search found, by the state that they leave.
 fn found_standing(alloc: Global, visits: u32, db: &Db) -> Result<Bytes, AllocError>
     requires ready { db.now.behind ≡ false }
     requires found { IsFlawlessEnd (Found visits) db.now.database }
@@ -98,7 +98,7 @@ fn trial_text(alloc: Global, db: &Db, end: SearchEnd) -> Result<Bytes, AllocErro
     }
 }
 
-// The same, and how the run ends then.
+// What is printed of how the search ended, and how the run ends then.
 fn printed_end(alloc: Global, db: &Db, end: SearchEnd) -> Result<Printed, AllocError>
     requires ready { db.now.behind ≡ false }
     requires flawless { IsFlawlessEnd end db.now.database }

@@ -1,9 +1,8 @@
-//! The commands that print one answer, `show`, `check`, `plan`, `gen` and `try`, and how a run prints and ends.
-//!
-//! Each answers with a `Printed`, the text and the `RunEnd` behind it: `check(alloc, &mut shelf, &file, &plan)` reads what it
-//! needs from the shelf, `search` makes the search of `plan`, for whoever tells its end in another way, and `trial(alloc, 40)`
-//! compiles and searches a generated problem with forty goals, and counts and checks the plan that is found. `print(out,
-//! printed)` writes each line as one piece, and `status_of` says with which `Status` the process ends.
+//! The commands that print one answer, `show`, `check`, `plan`, `gen` and `try`: `check(alloc, &mut shelf, &file, &plan)?`.
+//! A shelf with names of files comes in, or a number; a `Printed` goes out, which is a text with the `RunEnd` behind it.
+//! `print` writes it line by line, and `status_of` says with which `Status` the process ends.
+//! europa_run calls them; where the file of a script poses no database, `unposed` has what is printed.
+//! It knows nothing of input and words. How a command finds its answer may change; texts and numbers of statuses may not.
 #![tactic(auto)]
 
 pub mod checking;

@@ -15,12 +15,12 @@ use super::searching::{end_of, search};
 use crate::{Printed, RunFault};
 use eu_io::shelf::Shelf;
 use eu_name::text::Text;
+use flaw_core::SearchEnd;
 use model_core::model::Model;
 use plan_db::Db;
-use plan_release::let_go;
+use plan_db::release::let_go;
 use run_load::pose;
 use session_replies::end_text;
-use solver_core::SearchEnd;
 use std::alloc::Global;
 
 /// Searches for a plan of the file's problem from the decisions of its text, with no more active tokens than the bound, and in so many
@@ -55,7 +55,7 @@ fn visits_of(steps: Option<u32>, model: &Model) -> u32
     }
 }
 
-// The same from the database that the file poses.
+// Searches in the database that the file poses, and lets the database go.
 fn plan_posed(alloc: Global, db: Db, steps: Option<u32>, tokens: u32) -> Result<Printed, RunFault>
     requires ready { db.behind ≡ false }
     requires sound { IsSound db.database }

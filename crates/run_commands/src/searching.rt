@@ -6,8 +6,8 @@ ghost use Rattle.run_commands.specs.Searching.{SearchesTo, collapsed_end, end_of
 
 use crate::RunEnd;
 use flaw_core::Plain;
+use flaw_core::laws::plain_searches_are_searches;
 use plan_db::Db;
-use search_steps::laws::plain_searches_are_searches;
 use solver_core::{SearchEnd, SolveFault, solve};
 use std::alloc::{AllocError, Global};
 

@@ -15,7 +15,7 @@ use eu_io::{CalmShelf, FileEntry};
 use eu_name::bytes::Bytes;
 use eu_name::text::Text;
 use plan_db::Db;
-use plan_release::let_go;
+use plan_db::release::let_go;
 use problem_gen::{GenFault, generate};
 use run_load::pose;
 use std::alloc::{AllocError, Global};
@@ -100,7 +100,7 @@ fn body(alloc: Global, number: u32) -> Result<Printed, RunFault>
     }
 }
 
-// The same of the file `gen` of this shelf.
+// What is printed of the file `gen` of this shelf.
 fn body_over(alloc: Global, shelf: CalmShelf) -> Result<Printed, RunFault>
     ensures told { AnswersAs (PosedOutput shelf (codes "gen") TrialOutput) result }
     ensures no_read { is_read result ≡ false }
@@ -113,7 +113,7 @@ fn body_over(alloc: Global, shelf: CalmShelf) -> Result<Printed, RunFault>
     }
 }
 
-// The same of the file of this name.
+// What is printed of the file of this name: of the search in its database, or its first fault.
 fn body_named(alloc: Global, shelf: &mut CalmShelf, name: &Text) -> Result<Printed, RunFault>
     ensures told { AnswersAs (PosedOutput shelf.old name.now TrialOutput) result }
     ensures no_read { is_read result ≡ false }

@@ -20,13 +20,13 @@ use Rattle.nddl_parser.specs.Language.{ReadsAs}
 use Rattle.nddl_parser.proofs.OneReading.{one_reading}
 use Rattle.nddl_problem.specs.Told.{IsCompiled, IsFirstFault}
 use Rattle.nddl_problem.proofs.OneAnswer.{one_answer}
-use Rattle.plan_defs.specs.Refusals.{Refusal, Hinders, IsRefused, IsAdmissible}
+use Rattle.plan_defs.specs.Refusals.{Hinders, IsRefused, IsAdmissible}
+use Rattle.model_core.specs.declared.refusal.Refusal.{Refusal}
 use Rattle.plan_defs.proofs.Settling.{least_same, least_not_collapsed}
-use Rattle.plan_steps.proofs.Keeping.{accepted_is}
+use Rattle.plan_defs.proofs.Histories.{accepted_is}
 use Rattle.plan_db.specs.Database.{Database, IsSound}
 use Rattle.run_load.specs.Laws.{IsPosedOnce, PosedIsSound}
-use Rattle.run_load.specs.Posing.{undecided, with_step, TakesText, MayNotTake, IsTextDecisionFault}
-use Rattle.run_load.specs.Posing.{PosedFault, IsPosed, IsReadFault, IsModelFault, IsDecisionFault}
+use Rattle.run_load.specs.Posing.{undecided, with_step, TakesText, MayNotTake, IsTextDecisionFault, PosedFault, IsPosed, IsReadFault, IsModelFault, IsDecisionFault}
 
 -- ---- decisions
 

@@ -9,8 +9,7 @@ use Rattle.model_core.specs.declared.model.Model.{Model}
 use Rattle.model_core.specs.declared.model.Placed.{Placed}
 use Rattle.nddl_ast.specs.declared.kind.TextKind.{TextKind}
 use Rattle.nddl_ast.specs.declared.kind.TextKind.TheVariants as kinds
-use Rattle.plan_defs.specs.Refusals.{Unknown, Decided, NotInDomain, NotActive, NotSamePredicate, NotRejectable}
-use Rattle.plan_defs.specs.Refusals.{SameToken, ActiveFull}
+use Rattle.model_core.specs.declared.refusal.Refusal.TheVariants.{Unknown, Decided, NotInDomain, NotActive, NotSamePredicate, NotRejectable, SameToken, ActiveFull}
 use Rattle.plan_db.specs.declared.fault.DbFault.{DbFault}
 use Rattle.plan_db.specs.declared.fault.DbFault.TheVariants as fault
 use Rattle.plan_db.specs.declared.fault.Outcome.{Outcome}

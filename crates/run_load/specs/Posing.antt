@@ -15,7 +15,8 @@ use Rattle.nddl_parser.specs.Faults.{fault_kind, fault_file, fault_place}
 use Rattle.nddl_parser.specs.Visits.{ReadsAll}
 use Rattle.nddl_parser.specs.Language.{ReadsAs}
 use Rattle.nddl_problem.specs.Told.{IsCompiled, IsFirstFault}
-use Rattle.plan_defs.specs.Refusals.{Refusal, IsAdmissible}
+use Rattle.plan_defs.specs.Refusals.{IsAdmissible}
+use Rattle.model_core.specs.declared.refusal.Refusal.{Refusal}
 use Rattle.plan_db.specs.Database.{Database, taken_in, HasCollapsed, RefusesFor}
 
 -- ---- the decisions of a text

@@ -19,7 +19,7 @@ use nddl_ast::declaration::FileDecls;
 use nddl_parser::read_all;
 use nddl_problem::compile;
 use plan_db::Db;
-use plan_release::let_go;
+use plan_db::release::let_go;
 use std::alloc::Global;
 
 /// The database that the file of this name poses with those that it includes: that of their model, in which the decisions of
@@ -67,7 +67,7 @@ fn pose_model(alloc: Global, model: Model) -> Result<Db, PoseFault>
     }
 }
 
-// The same from its database in which nothing is decided.
+// Takes the decisions of the text in a database in which nothing is decided.
 fn pose_new(db: Db) -> Result<Db, PoseFault>
     requires ready { db.behind ≡ false }
     requires sound { IsSound db.database }

@@ -47,7 +47,7 @@ fn take(db: &mut Db, decision: &Decision) -> Result<Option<TextKind>, AllocError
     }
 }
 
-// The same with the decision of the text that is at this place.
+// Takes a copy of the decision at this place of the text, or answers what speaks against it.
 #[tactic(auto, using(crate::proofs::Steps::taken_as))]
 fn take_copy(db: &mut Db, place: usize) -> Result<Option<TextKind>, AllocError>
     requires ready { db.old.behind ≡ false }

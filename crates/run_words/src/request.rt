@@ -73,7 +73,7 @@ fn texts_of<'a>(alloc: Global, words: &'a [Text]) -> Result<Vec<&'a str>, AllocE
     Ok(texts)
 }
 
-// The same request with its files' names in memory of their own.
+// The request with its files' names in memory of their own.
 fn owned(alloc: Global, request: Request<&str>) -> Result<Request<Text>, AllocError>
     ensures { IfOk result (λ copied. copied ≡ told_request request.entry) }
 {

@@ -278,44 +278,55 @@ told_for given verb rest said result Post same gives tells cases =
     let P : Verb → Type 0 = λ v. AnswersWords (verb_word v ∷ rest) result in
     subst P (sym same) (answers_told verb rest said result Post gives tells cases)
 
--- `reset` asks for two names where there are two, and else for one
-neither : (rest : List (List ℕ)) → ((names : NameText × NameText) → AreTwo Spells Spells rest names → ⊥) → ((name : NameText) → IsOne Spells rest name → ⊥)
+-- ---- `reset`, before one name or two
+
+keeps_reset : (asked : Asked verbs.Reset) → KeepsWord (command_of verbs.Reset asked)
+keeps_reset (inl name) = tt
+keeps_reset (inr names) = tt
+
+-- what is said in one of the two forms, where the other isn't that of the words
+module _ (A : Type 0) (Is : A → Type 0) (put : A → Asked verbs.Reset) (rest : List (List ℕ)) (behind : (said : A) → Is said → IsBehind verbs.Reset rest (put said))
+    (only : ((said : A) → Is said → ⊥) → (asked : Asked verbs.Reset) → IsBehind verbs.Reset rest asked → ⊥) where
+  faulty_form : (fault : LineFault) → Says Is (Err fault) → AnswersWords (codes "reset" ∷ rest) (Err fault)
+  faulty_form TooLong says = says
+  faulty_form Syntax says = no_command verbs.Reset rest (only says)
+  faulty_form Memory says =
+      (command_of verbs.Reset (put says.0), is_command verbs.Reset rest (put says.0) (behind says.0 says.1), keeps_reset (put says.0))
+
+  form_answered : (said : Result A LineFault) (result : Result Command LineFault) (Post : A → Command → Type 0)
+      → ((asked : A) (command : Command) → Post asked command → command ≡ command_of verbs.Reset (put asked))
+      → Says Is said → MatchResult said (λ asked. IsOkAnd result (Post asked)) (λ fault. result ≡ Err fault) → AnswersWords (codes "reset" ∷ rest) result
+  form_answered (Ok asked) (Ok command) Post gives says post =
+      subst (IsCommand (codes "reset" ∷ rest)) (sym (gives asked command post)) (is_command verbs.Reset rest (put asked) (behind asked says))
+  form_answered (Ok asked) (Err fault) Post gives says post = absurd post
+  form_answered (Err fault) result Post gives says same = subst (AnswersWords (codes "reset" ∷ rest)) (sym same) (faulty_form fault says)
+
+not_two : (rest : List (List ℕ)) (word : List ℕ) (names : NameText × NameText) → rest ≡ word ∷ [] → AreTwo Spells Spells rest names → ⊥
+not_two rest word names alone (first, (second, (are, is, is_too))) = let both : word ∷ [] ≡ first ∷ (second ∷ []) = sym alone ∙ are in cc
+
+only_one : (rest : List (List ℕ)) (word : List ℕ) → rest ≡ word ∷ [] → ((name : NameText) → IsOne Spells rest name → ⊥)
     → (asked : Asked verbs.Reset) → IsBehind verbs.Reset rest asked → ⊥
-neither rest no_two no_one (inl name) is = no_one name is
-neither rest no_two no_one (inr names) is = no_two names is
+only_one rest word alone none (inl name) is = none name is
+only_one rest word alone none (inr names) is = not_two rest word names alone is
 
-faulty_one : (rest : List (List ℕ)) (fault : LineFault) → ((names : NameText × NameText) → AreTwo Spells Spells rest names → ⊥) → Says (IsOne Spells rest) (Err fault)
-    → AnswersWords (codes "reset" ∷ rest) (Err fault)
-faulty_one rest TooLong none says = says
-faulty_one rest Syntax none says = no_command verbs.Reset rest (neither rest none says)
-faulty_one rest Memory none says = (commands.Reset says.0, is_command verbs.Reset rest (inl says.0) says.1, tt)
+only_two : (rest : List (List ℕ)) → ((word : List ℕ) → rest ≡ word ∷ [] → ⊥) → ((names : NameText × NameText) → AreTwo Spells Spells rest names → ⊥)
+    → (asked : Asked verbs.Reset) → IsBehind verbs.Reset rest asked → ⊥
+only_two rest not_one none (inl name) (word, (are, spells)) = not_one word are
+only_two rest not_one none (inr names) is = none names is
 
-pub reset_one : (rest : List (List ℕ)) (said : Result NameText LineFault) (result : Result Command LineFault) (Post : NameText → Command → Type 0)
-    → ((names : NameText × NameText) → AreTwo Spells Spells rest names → ⊥) → ((name : NameText) (command : Command) → Post name command → command ≡ commands.Reset name)
+-- one word is a name or nothing, and words that aren't one are two names or nothing
+pub reset_one : (rest : List (List ℕ)) (word : List ℕ) (said : Result NameText LineFault) (result : Result Command LineFault) (Post : NameText → Command → Type 0) → rest ≡ word ∷ []
+    → ((name : NameText) (command : Command) → Post name command → command ≡ commands.Reset name)
     → Says (IsOne Spells rest) said → MatchResult said (λ name. IsOkAnd result (Post name)) (λ fault. result ≡ Err fault) → AnswersWords (codes "reset" ∷ rest) result
-reset_one rest (Ok name) (Ok command) Post none gives says post = subst (IsCommand (codes "reset" ∷ rest)) (sym (gives name command post)) (is_command verbs.Reset rest (inl name) says)
-reset_one rest (Ok name) (Err fault) Post none gives says post = absurd post
-reset_one rest (Err fault) result Post none gives says same = subst (AnswersWords (codes "reset" ∷ rest)) (sym same) (faulty_one rest fault none says)
+reset_one rest word said result Post alone gives says cases =
+    form_answered NameText (IsOne Spells rest) (λ name. inl name) rest (λ name is. is) (only_one rest word alone) said result Post gives says cases
 
-pub reset_two : (rest : List (List ℕ)) (said : Result (NameText × NameText) LineFault) (first second : NameText) → said ≡ Ok (first, second)
-    → Says (AreTwo Spells Spells rest) said → AnswersWords (codes "reset" ∷ rest) (Ok (commands.ResetOrder first second))
-reset_two rest said first second is says = is_command verbs.Reset rest (inr (first, second)) (subst (Says (AreTwo Spells Spells rest)) is says)
-
--- that there are no two names
-pub none_two : (rest : List (List ℕ)) (said : Result (NameText × NameText) LineFault) (fault : LineFault) → said ≡ Err fault → fault ≡ Syntax
-    → Says (AreTwo Spells Spells rest) said → (names : NameText × NameText) → AreTwo Spells Spells rest names → ⊥
-none_two rest said fault is same says = subst (Says (AreTwo Spells Spells rest)) (is ∙ ap Err same) says
-
--- want of memory for two names
-pub reset_memory : (rest : List (List ℕ)) (said : Result (NameText × NameText) LineFault) (fault : LineFault) → said ≡ Err fault → fault ≡ Memory
-    → Says (AreTwo Spells Spells rest) said → AnswersWords (codes "reset" ∷ rest) (Err Memory)
-reset_memory rest said fault is same says =
-    let found : Says (AreTwo Spells Spells rest) (Err Memory) = subst (Says (AreTwo Spells Spells rest)) (is ∙ ap Err same) says in
-    (commands.ResetOrder found.0.0 found.0.1, is_command verbs.Reset rest (inr found.0) found.1, tt)
-
-pub never_long : (rest : List (List ℕ)) (said : Result (NameText × NameText) LineFault) (fault : LineFault) → said ≡ Err fault → fault ≡ TooLong
-    → Says (AreTwo Spells Spells rest) said → ⊥
-never_long rest said fault is same says = subst (Says (AreTwo Spells Spells rest)) (is ∙ ap Err same) says
+pub reset_two : (rest : List (List ℕ)) (said : Result (NameText × NameText) LineFault) (result : Result Command LineFault) (Post : NameText × NameText → Command → Type 0)
+    → ((word : List ℕ) → rest ≡ word ∷ [] → ⊥)
+    → ((names : NameText × NameText) (command : Command) → Post names command → command ≡ commands.ResetOrder names.0 names.1)
+    → Says (AreTwo Spells Spells rest) said → MatchResult said (λ names. IsOkAnd result (Post names)) (λ fault. result ≡ Err fault) → AnswersWords (codes "reset" ∷ rest) result
+reset_two rest said result Post not_one gives says cases =
+    form_answered (NameText × NameText) (AreTwo Spells Spells rest) (λ names. inr names) rest (λ names is. is) (only_two rest not_one) said result Post gives says cases
 
 -- a first word that is a verb, and one that is none
 pub read_first : (words : List (List ℕ)) (first : List ℕ) (rest : List (List ℕ)) (verb : Verb) (r : Result Command LineFault) → words ≡ first ∷ rest → verb_of first ≡ Some verb

@@ -18,8 +18,8 @@ use Rattle.model_core.specs.Tokens.{HasToken}
 use Rattle.model_core.specs.Variables.{HasBase, HasPartBase, HasLocal, IsGlobal}
 use Rattle.model_core.proofs.Leading.{token_once}
 use Rattle.model_core.proofs.Rules.{has_rule_once}
-use Rattle.plan_core.specs.Values.{IsValueText}
-use Rattle.plan_words.proofs.Telling.{value_told}
+use Rattle.plan_text.specs.Values.{IsValueText}
+use Rattle.plan_resolve.proofs.Telling.{value_told}
 use Rattle.script_lang.specs.Number.{IsSignedNumber, signed_value}
 use Rattle.script_lang.specs.Naming.{IsVariableOfKind, SaysValue, StandsFor}
 

@@ -1,5 +1,5 @@
 -- What a decision shares with the one that was asked for and for which it stands.
-use Rattle.std.proofs.Common.{◌≡◌, ℤ, List, refl, sym, subst, inl, inr}
+use Rattle.std.proofs.Common.{◌≡◌, ℤ, List, sym, subst, inl, inr}
 use Rattle.domain_core.specs.Domain.{IsValue}
 use Rattle.domain_core.proofs.Words.{has_value}
 use Rattle.eu_name.specs.declared.name.VarName.{VarName}
@@ -8,8 +8,10 @@ use Rattle.model_core.specs.declared.decision.Decision.TheVariants as decisions
 use Rattle.model_core.specs.declared.model.Model.{Model}
 use Rattle.model_core.specs.Lawful.{IsLawful}
 use Rattle.model_core.specs.State.{State}
-use Rattle.plan_defs.specs.Refusals.{Refusal, Unknown, Decided, NotInDomain, NotActive, NotSamePredicate, NotRejectable, SameToken, ActiveFull, IsDeclared, Hinders, IsFirstRefusal, IsRefused, IsAdmissible}
-use Rattle.plan_progress.proofs.Lawful.{base_lawful}
+use Rattle.plan_defs.specs.Refusals.{IsDeclared, Hinders, IsRefused, IsAdmissible}
+use Rattle.model_core.specs.declared.refusal.Refusal.TheVariants.{Unknown, Decided, NotInDomain, NotActive, NotSamePredicate, NotRejectable, SameToken, ActiveFull}
+use Rattle.model_core.specs.declared.refusal.Refusal.{Refusal}
+use Rattle.model_core.proofs.Lawful.{base_lawful}
 use Rattle.script_lang.specs.Naming.{StandsFor, StandsForDecision}
 
 declared_value : (model : Model) (name : VarName) (value : ℤ) → IsLawful model → IsDeclared model name value → IsValue value

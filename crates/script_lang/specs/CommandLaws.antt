@@ -3,7 +3,8 @@ use Rattle.std.specs.Prelude.{◌≡◌, List}
 use Rattle.model_core.specs.declared.decision.Decision.{Decision}
 use Rattle.model_core.specs.declared.model.Model.{Model}
 use Rattle.model_core.specs.Lawful.{IsLawful}
-use Rattle.plan_defs.specs.Refusals.{Refusal, IsRefused, IsAdmissible}
+use Rattle.plan_defs.specs.Refusals.{IsRefused, IsAdmissible}
+use Rattle.model_core.specs.declared.refusal.Refusal.{Refusal}
 use Rattle.script_lang.specs.declared.command.Command.{Command}
 use Rattle.script_lang.specs.Naming.{AsksDecision, StandsForDecision}
 

@@ -3,7 +3,7 @@ use Rattle.std.specs.Prelude.{◌≡◌, ℕ, ◌<◌, ◌≤◌, ◌⊎◌, ⊤
 use Rattle.std.specs.Fmt.{decimal}
 use Rattle.eu_name.specs.declared.name_text.NameText.{NameText}
 use Rattle.eu_name.specs.Spelling.{Spells}
-use Rattle.plan_core.specs.Values.{IsTruthWord, IsPathWord}
+use Rattle.plan_text.specs.Values.{IsTruthWord, IsPathWord}
 use Rattle.script_lang.specs.declared.command.Command.{Command}
 use Rattle.script_lang.specs.declared.command.Command.TheVariants.{Empty, Specify, Activate, Merge, Reject, Order, Reset, ResetOrder}
 use Rattle.script_lang.specs.declared.command.Command.TheVariants.{Undo, Domain, Tokens, Decisions, Flaws, Solve, Why, Cycle, Quit}

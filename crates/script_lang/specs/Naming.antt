@@ -14,9 +14,11 @@ use Rattle.model_core.specs.Kinds.{IsPartOfKind}
 use Rattle.model_core.specs.Names.{NamesToken, NamesVariable}
 use Rattle.model_core.specs.Tokens.{HasToken}
 use Rattle.model_core.specs.Variables.{IsGlobal, HasLocal}
-use Rattle.plan_core.specs.Values.{IsValueText}
+use Rattle.plan_text.specs.Values.{IsValueText}
 use Rattle.script_lang.specs.declared.command.Command.{Command}
 use Rattle.script_lang.specs.declared.command.Command.TheVariants.{Specify, Activate, Merge, Reject, Order}
+use Rattle.script_lang.specs.declared.command.DecisionText.{DecisionText}
+use Rattle.script_lang.specs.declared.command.DecisionText.TheVariants as texts
 use Rattle.script_lang.specs.Number.{IsSignedNumber, signed_value}
 
 -- the variable is of this kind
@@ -59,6 +61,14 @@ StandsFor value number = (value ≡ number) ⊎ ((IsValue value → ⊥) × (IsV
 abbrev pub StandsForDecision : Decision → Decision → Type 0
 StandsForDecision (decisions.Specify name value) (decisions.Specify asked number) = (name ≡ asked) × StandsFor value number
 StandsForDecision decision asked = decision ≡ asked
+
+-- the command that asks for a decision in these words
+abbrev pub decision_command : DecisionText → Command
+decision_command (texts.Specify variable value) = Specify variable value
+decision_command (texts.Activate token) = Activate token
+decision_command (texts.Merge token target) = Merge token target
+decision_command (texts.Reject token) = Reject token
+decision_command (texts.Order first second) = Order first second
 
 -- what is answered of a command: that it asks for nothing, or a decision that stands for one that it asks for
 abbrev pub FindsDecision : Model → Command → Option Decision → Type 0

@@ -1,4 +1,4 @@
-//! Which decision a command asks for.
+//! Which decision words ask for.
 
 ghost use Rattle.std.specs.Prelude.{◌≡◌, ℤ, IfOk, IsErr, MatchOption, MatchResult, Ok};
 ghost use Rattle.std.specs.Option.{option_map};
@@ -10,16 +10,16 @@ ghost use Rattle.model_core.specs.Names.{NamesToken};
 ghost use Rattle.model_core.specs.Variables.{HasBase};
 ghost use Rattle.eu_name.specs.declared.name.TokenName.{TokenName as Token};
 ghost use Rattle.script_lang.specs.declared.command.Command.TheVariants as commands;
-ghost use Rattle.script_lang.specs.Naming.{IsVariableOfKind, SaysValue, StandsForDecision, FindsDecision};
+ghost use Rattle.script_lang.specs.Naming.{IsVariableOfKind, SaysValue, StandsForDecision, FindsDecision, decision_command};
 
 use super::saying::{kind_of, value_said};
-use crate::Command;
+use crate::DecisionText;
 use eu_name::name::{TokenName, VarName};
 use eu_name::name_text::NameText;
 use model_core::decision::Decision;
 use model_core::resolve::texts_name_what_there_is;
-use plan_words::indexed::IndexedModel;
-use plan_words::resolving::{token_named, variable_named};
+use plan_resolve::indexed::IndexedModel;
+use plan_resolve::resolving::{token_named, variable_named};
 use std::alloc::AllocError;
 
 // The decision that gives the variable the value that the word says.
@@ -146,39 +146,21 @@ fn order_asked(
     }
 }
 
-/// The decision for which the command asks; that of a value outside the range of values stands for it.
+/// The decision for which the words ask; that of a value outside the range of values stands for it.
 pub fn decision_asked(
     model: &IndexedModel<'_>,
-    command: &Command,
+    asked: &DecisionText,
 ) -> Result<Option<Decision>, AllocError>
     requires { IsLawful model.now }
-    ensures { IfOk result (FindsDecision model.now command.now) }
+    ensures { IfOk result (FindsDecision model.now (decision_command asked.now)) }
 {
-    match command {
-        Command::Specify { variable, value } => specify_asked(model, variable, value.as_bytes()),
-        Command::Activate { token } => activate_asked(model, token),
-        Command::Merge { token, target } => merge_asked(model, token, target),
-        Command::Reject { token } => reject_asked(model, token),
-        Command::Order { first, second } => order_asked(model, first, second),
-        Command::Empty => Ok(None),
-        Command::Reset { subject: _subject } => Ok(None),
-        Command::ResetOrder {
-            first: _first,
-            second: _second,
-        } => Ok(None),
-        Command::Undo => Ok(None),
-        Command::Domain {
-            variable: _variable,
-        } => Ok(None),
-        Command::Tokens => Ok(None),
-        Command::Decisions => Ok(None),
-        Command::Flaws => Ok(None),
-        Command::Solve {
-            steps: _steps,
-            tokens: _tokens,
-        } => Ok(None),
-        Command::Why => Ok(None),
-        Command::Cycle => Ok(None),
-        Command::Quit => Ok(None),
+    match asked {
+        DecisionText::Specify { variable, value } => {
+            specify_asked(model, variable, value.as_bytes())
+        }
+        DecisionText::Activate { token } => activate_asked(model, token),
+        DecisionText::Merge { token, target } => merge_asked(model, token, target),
+        DecisionText::Reject { token } => reject_asked(model, token),
+        DecisionText::Order { first, second } => order_asked(model, first, second),
     }
 }

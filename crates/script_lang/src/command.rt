@@ -42,6 +42,21 @@ pub enum Command {
     Quit,
 }
 
+/// A decision that a command asks for. Names are as they are spelled.
+#[derive(Drop)]
+pub enum DecisionText {
+    /// The variable has the value.
+    Specify { variable: NameText, value: Text },
+    /// The token takes place.
+    Activate { token: NameText },
+    /// The token is the target.
+    Merge { token: NameText, target: NameText },
+    /// The token doesn't take place.
+    Reject { token: NameText },
+    /// The first token ends before the second starts.
+    Order { first: NameText, second: NameText },
+}
+
 /// Why a line asks for nothing.
 #[derive(Clone, Copy, Debug, PartialEq, Eq)]
 pub enum LineFault {

@@ -1,8 +1,7 @@
-//! A line of a script to a command, and a command to a decision: `read_line(alloc, b"specify x 4")` is the command that
-//! gives `x` the value 4.
-//! Bytes of a line come in, and a `Command` or a `LineFault` goes out; `decision_asked(&indexed, &command)?` goes on to the
-//! decision, where a value outside the range may be another such value.
-//! session_core calls it; session_replies proves its lines of decisions by it.
+//! A line of a script to a command, and a command to the decision that it asks for: `read_line(alloc, b"specify x 4")`.
+//! The bytes of a line come in, and a `Command` or a `LineFault` goes out; `decision_asked(&indexed, &text)?` goes on from a
+//! `DecisionText` to a decision or to None, and a value outside the range of values may be another such value there.
+//! session_core calls it; session_replies calls `kind_of`, and proves by it that its lines of decisions are read back.
 //! It knows nothing of the database. How words are cut and verbs recognised may change; `specs/Line` may not.
 #![tactic(auto)]
 
@@ -20,6 +19,6 @@ pub mod word_laws;
 pub mod words;
 
 pub use asking::decision_asked;
-pub use command::{Command, LineFault};
+pub use command::{Command, DecisionText, LineFault};
 pub use line::{LINE_LIMIT, read_line};
 pub use saying::{kind_of, value_said};

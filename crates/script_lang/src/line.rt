@@ -9,21 +9,19 @@ use super::numbers::bounds;
 use super::operands::{name_and_value, no_word, one_name, two_names};
 use super::verb::{Verb, verb_of};
 use crate::command::{Command, LineFault};
-use crate::words::next_word;
+use crate::words::{next_word, only_word};
 use std::alloc::Global;
 
 /// The most bytes that a line may have, without its line feed.
 pub const LINE_LIMIT: usize = 4096;
 
-// What `reset` asks for before these words: two names, or one.
+// What `reset` asks for before these words: one name, or two.
 fn read_reset(alloc: Global, rest: &[u8]) -> Result<Command, LineFault>
     ensures { AnswersWords (codes "reset" ∷ words_of rest.now) result }
 {
-    match two_names(alloc, rest) {
-        Ok((first, second)) => Ok(Command::ResetOrder { first, second }),
-        Err(LineFault::Syntax) => one_name(alloc, rest).map(|subject| Command::Reset { subject }),
-        Err(LineFault::Memory) => Err(LineFault::Memory),
-        Err(LineFault::TooLong) => Err(LineFault::TooLong),
+    match only_word(rest) {
+        Some(_word) => one_name(alloc, rest).map(|subject| Command::Reset { subject }),
+        None => two_names(alloc, rest).map(|(first, second)| Command::ResetOrder { first, second }),
     }
 }
 

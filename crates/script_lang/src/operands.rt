@@ -13,7 +13,7 @@ use crate::words::{next_word, only_word, two_words};
 use eu_name::name_text::{NameFault, NameText};
 use eu_name::reading::read_name;
 use eu_name::text::Text;
-use plan_core::value_words::{is_path_word, is_truth_word};
+use plan_text::value_words::{is_path_word, is_truth_word};
 use std::alloc::Global;
 
 // A text of the word.

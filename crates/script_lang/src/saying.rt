@@ -15,9 +15,9 @@ use domain_core::domain::GREATEST_VALUE;
 use eu_name::name::{Part, VarName};
 use model_core::model::Model;
 use model_core::variable::ValueKind;
-use plan_core::names::{local_kind, pred_of};
-use plan_words::indexed::IndexedModel;
-use plan_words::values;
+use plan_resolve::indexed::IndexedModel;
+use plan_resolve::values;
+use plan_text::names::{local_kind, pred_of};
 
 // The kind of a global that the model has.
 fn global_kind(model: &Model, number: u32) -> ValueKind

@@ -1,5 +1,5 @@
 -- Each line of a sound database has one answer, and leaves one database.
-use Rattle.std.proofs.Common.{◌≡◌, ◌⊎◌, ℕ, ◌≤◌, List, [], ◌∷◌, Result, Ok, Err, sym, ap, ◌∙◌, subst, inl, inr}
+use Rattle.std.proofs.Common.{◌≡◌, ℕ, ◌≤◌, List, [], ◌∷◌, Result, Ok, Err, sym, ap, ◌∙◌, subst, inl, inr}
 use Rattle.std.specs.Prelude.{codes, ⊤}
 use Rattle.session_loop.specs.declared.reply.Answer.{Answer}
 use Rattle.session_loop.specs.Laws.{HasOneReply}
@@ -7,14 +7,13 @@ use Rattle.model_core.specs.declared.model.Model.{Model}
 use Rattle.model_core.specs.History.{History, standing}
 use Rattle.model_core.specs.Lawful.{IsLawful}
 use Rattle.model_core.specs.State.{State}
-use Rattle.plan_db.specs.Database.{Database, HasLeast, HasCollapsed}
+use Rattle.plan_db.specs.Database.{Database, HasLeast}
 use Rattle.plan_db.specs.declared.fault.Outcome.{Outcome}
-use Rattle.plan_db.specs.declared.fault.Outcome.TheVariants as outcome
 use Rattle.plan_defs.specs.History.{IsHistory}
 use Rattle.plan_defs.specs.Settling.{IsSettled}
-use Rattle.plan_defs.proofs.Ordered.{contains_head}
+use Rattle.eu_name.proofs.Ordered.{contains_head}
 use Rattle.plan_defs.proofs.Settling.{history_settled, least_not_collapsed}
-use Rattle.plan_soundness.specs.Soundness.{StatesHaveOnePlan}
+use Rattle.law_states.specs.Soundness.{StatesHaveOnePlan}
 use Rattle.script_lang.specs.declared.command.Command.{Command}
 use Rattle.script_lang.specs.declared.command.Command.TheVariants.{Empty, Specify, Activate, Merge, Reject, Order, Reset, ResetOrder}
 use Rattle.script_lang.specs.declared.command.Command.TheVariants as commands
@@ -22,9 +21,8 @@ use Rattle.script_lang.specs.declared.command.LineFault.{LineFault}
 use Rattle.script_lang.specs.declared.command.LineFault.TheVariants as line
 use Rattle.script_lang.specs.Line.{IsCommand, ReadsLine}
 use Rattle.session_core.specs.declared.reason.RefusalReason.{RefusalReason}
-use Rattle.session_core.specs.Reasons.{step_text, outcome_text}
-use Rattle.session_core.specs.Replies.{UnlessFull, RepliesStep, TakesAsked, ResetsAsked, UndoesLast, TellsState, TellsCollapse, TellsDomain, TellsTokens, TellsFlaw, TellsConflict, TellsCycle}
-use Rattle.session_core.specs.Replies.{RepliesSearch, Keeping, RepliesTo}
+use Rattle.session_core.specs.Reasons.{step_text}
+use Rattle.session_core.specs.Replies.{UnlessFull, RepliesStep, TakesAsked, ResetsAsked, UndoesLast, TellsState, TellsCollapse, TellsDomain, TellsTokens, TellsFlaw, TellsConflict, TellsCycle, RepliesSolve, Keeping, RepliesDecision, RepliesReset, RepliesTo}
 use Rattle.session_core.specs.LineReplies.{AnswersRead, AnswersLine}
 use Rattle.session_core.proofs.OneReset.{resetting_one, undoing_one}
 use Rattle.session_core.proofs.OneSearch.{search_one}
@@ -65,21 +63,16 @@ bounded words (commands.Solve steps tokens) is = is.3
 bounded words command is = tt
 
 module _ (one_plan : StatesHaveOnePlan) (old : Database) (lawful : IsLawful old.model) (settled : IsSettled old.model (standing old.history)) where
-  abbrev Solves : ℕ → ℕ → List ℕ → Database → Type 0
-  Solves steps tokens answered after =
-      (HasCollapsed old × (answered ≡ outcome_text outcome.Inconsistent) × (after ≡ old))
-      ⊎ (((state : State) × HasLeast old state) × RepliesSearch tokens steps old answered after)
-
-  solving_once : (steps tokens : ℕ) → tokens ≤ 512 → AnswersOnce (Solves steps tokens)
+  solving_once : (steps tokens : ℕ) → tokens ≤ 512 → AnswersOnce (RepliesSolve steps tokens old)
   solving_once steps tokens few one other new next (inl p) (inl q) = (p.1 ∙ sym q.1, p.2 ∙ sym q.2)
   solving_once steps tokens few one other new next (inl p) (inr q) = absurd (least_not_collapsed old.model (standing old.history) q.0.0 q.0.1 p.0)
   solving_once steps tokens few one other new next (inr p) (inl q) = absurd (least_not_collapsed old.model (standing old.history) p.0.0 p.0.1 q.0)
   solving_once steps tokens few one other new next (inr p) (inr q) = search_one one_plan old lawful settled tokens steps few one other new next p.1 q.1
 
-  taking_once : (command : Command) → AnswersOnce (UnlessFull (RepliesStep (TakesAsked old command)) old)
+  taking_once : (command : Command) → AnswersOnce (RepliesDecision old command)
   taking_once command = unless_full_once old (RepliesStep (TakesAsked old command)) (step_once (TakesAsked old command) (taking_one old command lawful))
 
-  resetting_once : (command : Command) → AnswersOnce (UnlessFull (RepliesStep (ResetsAsked old command)) old)
+  resetting_once : (command : Command) → AnswersOnce (RepliesReset old command)
   resetting_once command = unless_full_once old (RepliesStep (ResetsAsked old command)) (step_once (ResetsAsked old command) (resetting_one old lawful settled command))
 
   state_once : (Tells : State → List ℕ → Type 0) → ((state : State) (one other : List ℕ) → HasLeast old state → Tells state one → Tells state other → one ≡ other)
@@ -104,7 +97,7 @@ module _ (one_plan : StatesHaveOnePlan) (old : Database) (lawful : IsLawful old.
   reply_once commands.Decisions bound = λ one other new next p q. (decisions_told_one old.model (codes "decisions") (standing old.history) one other p.0 q.0, p.1 ∙ sym q.1)
   reply_once commands.Flaws bound =
       state_once (TellsFlaw old.model (standing old.history)) (λ state one other least p q. flaw_told_one old.model (standing old.history) settled state (least_order old state least) one other p q)
-  reply_once (commands.Solve steps tokens) bound = unless_full_once old (Solves steps tokens) (solving_once steps tokens bound)
+  reply_once (commands.Solve steps tokens) bound = unless_full_once old (RepliesSolve steps tokens old) (solving_once steps tokens bound)
   reply_once commands.Why bound = keeping_once old (TellsCollapse (TellsConflict old)) (collapse_told_one old (TellsConflict old) (conflict_told_one old))
   reply_once commands.Cycle bound = keeping_once old (TellsCollapse (TellsCycle old)) (collapse_told_one old (TellsCycle old) (cycle_told_one old settled))
   reply_once commands.Quit bound = λ one other new next p q. (p.0 ∙ sym q.0, p.1 ∙ sym q.1)

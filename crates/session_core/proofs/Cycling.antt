@@ -1,11 +1,11 @@
 -- Time edges have one cycle.
 use Rattle.std.proofs.Common.{◌≡◌, ◌⊎◌, List, [], ◌∷◌, ◌++◌, refl, sym, ap, ◌∙◌, subst, inl, inr}
 use Rattle.std.specs.Prelude.{◌≢◌, Contains}
-use Rattle.plan_cycles.specs.TimeCycle.{LeavesBy, LeadsAlong, LeadsRound, PassesOnce, IsPointBefore, BeginsFirst, IsTimeCycle}
-use Rattle.plan_cycles.proofs.Ordering.{point_irreflexive, point_transitive}
-use Rattle.plan_defs.proofs.Ordered.{contains_head, contains_later, contains_cases, contains_none, ordered_head, ordered_tail}
-use Rattle.plan_edges.specs.declared.edge.NamedEdge.{NamedEdge}
-use Rattle.plan_edges.specs.declared.edge.Point.{Point}
+use Rattle.db_edges.specs.TimeCycle.{LeavesBy, LeadsAlong, LeadsRound, PassesOnce, IsPointBefore, BeginsFirst, IsTimeCycle}
+use Rattle.conflict_core.proofs.Ordering.{point_irreflexive, point_transitive}
+use Rattle.eu_name.proofs.Ordered.{contains_head, contains_later, contains_cases, contains_none, ordered_head, ordered_tail}
+use Rattle.db_edges.specs.declared.edge.NamedEdge.{NamedEdge}
+use Rattle.db_edges.specs.declared.edge.Point.{Point}
 
 left_one : (kept edges one other : List NamedEdge) → LeavesBy kept edges one → LeavesBy kept edges other → one ≡ other
 left_one kept [] one other p q = p ∙ sym q

@@ -8,7 +8,7 @@ use Rattle.plan_db.specs.Database.{Applies, RefusesFor}
 use Rattle.plan_db.specs.declared.fault.DbFault.{DbFault}
 use Rattle.plan_db.specs.declared.fault.DbFault.TheVariants as fault
 use Rattle.plan_db.specs.declared.fault.Outcome.{Outcome}
-use Rattle.plan_defs.specs.Refusals.{Refusal}
+use Rattle.model_core.specs.declared.refusal.Refusal.{Refusal}
 use Rattle.script_lang.specs.declared.command.Command.{Command}
 use Rattle.script_lang.specs.Naming.{AsksDecision, StandsForDecision}
 use Rattle.script_lang.proofs.Sharing.{refused_as_asked, admitted_is_asked}
@@ -30,13 +30,13 @@ module _ (old new : Held) (lawful : IsLawful old.database.model) (command : Comm
   not_taken fault.Behind answers = ap (λ (held : Held). held.database) answers.same
   not_taken fault.InInconsistent answers = (answers.1.1, answers.1.0)
   not_taken fault.Unknown answers = (inr (refuses _ answers.1.1), answers.1.0)
-  not_taken fault.Decided answers = (refuses _ answers.1.1, answers.1.0)
-  not_taken fault.NotInDomain answers = (refuses _ answers.1.1, answers.1.0)
-  not_taken fault.NotActive answers = (refuses _ answers.1.1, answers.1.0)
-  not_taken fault.NotSamePredicate answers = (refuses _ answers.1.1, answers.1.0)
-  not_taken fault.NotRejectable answers = (refuses _ answers.1.1, answers.1.0)
-  not_taken fault.Same answers = (refuses _ answers.1.1, answers.1.0)
-  not_taken fault.ActiveFull answers = (refuses _ answers.1.1, answers.1.0)
+  not_taken fault.Decided answers = (inr (refuses _ answers.1.1), answers.1.0)
+  not_taken fault.NotInDomain answers = (inr (refuses _ answers.1.1), answers.1.0)
+  not_taken fault.NotActive answers = (inr (refuses _ answers.1.1), answers.1.0)
+  not_taken fault.NotSamePredicate answers = (inr (refuses _ answers.1.1), answers.1.0)
+  not_taken fault.NotRejectable answers = (inr (refuses _ answers.1.1), answers.1.0)
+  not_taken fault.Same answers = (inr (refuses _ answers.1.1), answers.1.0)
+  not_taken fault.ActiveFull answers = (inr (refuses _ answers.1.1), answers.1.0)
   not_taken fault.Memory answers = answers.1.0
   not_taken why answers = absurd answers.1
 

@@ -10,7 +10,7 @@ use Rattle.model_core.specs.declared.decision.Decision.{Decision}
 use Rattle.model_core.specs.declared.decision.Decision.TheVariants as decision
 use Rattle.model_core.specs.declared.item.Item.{Item}
 use Rattle.model_core.specs.declared.item.Item.TheVariants.{Constraint, Relation}
-use Rattle.model_core.specs.declared.item.Kind.{Kind}
+use Rattle.domain_core.specs.declared.kind.Kind.{Kind}
 use Rattle.model_core.specs.declared.model.Model.{Model}
 use Rattle.model_core.specs.declared.rule.Rule.{Rule}
 use Rattle.model_core.specs.Decided.{IsActive}
@@ -26,17 +26,17 @@ use Rattle.plan_defs.proofs.Meanings.{means_once}
 use Rattle.eu_name.proofs.Members.{get_same}
 use Rattle.plan_defs.proofs.Settling.{least_same}
 use Rattle.plan_defs.proofs.States.{gives_same}
-use Rattle.plan_edges.specs.declared.edge.NamedEdge.{NamedEdge}
-use Rattle.plan_edges.specs.declared.edge.Point.{Point}
-use Rattle.plan_edges.specs.declared.edge.Point.TheVariants.{Origin}
-use Rattle.plan_edges.specs.declared.walking.Sort.{Sort}
-use Rattle.plan_edges.specs.declared.walking.Sort.TheVariants.{Relations, Constraints}
-use Rattle.plan_edges.specs.Edges.{AppendsEach, LastsBetween, HasLastingEdges, lasting_edges, HasGivenEdges, HasTimesGiven, comparing_edges, edge_from}
-use Rattle.plan_edges.specs.Edges.{ComparesPoints, HasClaimEdges, HasRelationEdges, HasConstraintEdges, HasOrderEdges}
-use Rattle.plan_edges.specs.Points.{ActsAs, IsMoment, IsPointOf, IsArgumentPoint}
-use Rattle.plan_edges.specs.Whole.{TokenItem, items_of_rules, AreRulesOf, HasSortEdges, HasOpenEdges, HasTokenEdges, AreTimeEdges}
-use Rattle.plan_state.specs.Advancing.{but_last}
-use Rattle.plan_states.proofs.Deciding.{DecidesOnce, decides_once}
+use Rattle.db_edges.specs.declared.edge.NamedEdge.{NamedEdge}
+use Rattle.db_edges.specs.declared.edge.Point.{Point}
+use Rattle.db_edges.specs.declared.edge.Point.TheVariants.{Origin}
+use Rattle.db_edges.specs.declared.walking.Sort.{Sort}
+use Rattle.db_edges.specs.declared.walking.Sort.TheVariants.{Relations, Constraints}
+use Rattle.db_edges.specs.Edges.{AppendsEach, LastsBetween, HasLastingEdges, lasting_edges, HasGivenEdges, HasTimesGiven, comparing_edges, edge_from}
+use Rattle.db_edges.specs.Edges.{ComparesPoints, HasClaimEdges, HasRelationEdges, HasConstraintEdges, HasOrderEdges}
+use Rattle.db_edges.specs.Points.{ActsAs, IsMoment, IsPointOf, IsArgumentPoint}
+use Rattle.db_edges.specs.Whole.{TokenItem, items_of_rules, AreRulesOf, HasSortEdges, HasOpenEdges, HasTokenEdges, AreTimeEdges}
+use Rattle.db_history.specs.Advancing.{but_last}
+use Rattle.plan_defs.proofs.Deciding.{DecidesOnce, decides_once}
 use Rattle.session_core.proofs.OneReset.{specified_one}
 use Rattle.session_core.proofs.Words.{zip_one}
 

@@ -5,13 +5,13 @@ use Rattle.std.proofs.lemmas.List.Elements.{Contains-append_left}
 use Rattle.model_core.specs.declared.decision.Decision.{Decision}
 use Rattle.model_core.specs.History.{standing}
 use Rattle.model_core.specs.Lawful.{IsLawful}
-use Rattle.least_states.proofs.Founding.{plan_is_valid}
+use Rattle.law_states.proofs.Founding.{plan_is_valid}
 use Rattle.plan_db.specs.Database.{Database, taken_in}
 use Rattle.plan_defs.specs.Settling.{IsSettled}
 use Rattle.plan_defs.proofs.Settling.{least_same}
-use Rattle.plan_search.specs.Search.{SearchOutcome, Searches}
-use Rattle.plan_search.proofs.Searching.{found_by, none_by}
-use Rattle.plan_states.specs.Flaws.{HasFlaw}
+use Rattle.law_search.specs.Search.{SearchOutcome, Searches}
+use Rattle.law_search.proofs.Searching.{found_by, none_by}
+use Rattle.plan_defs.specs.Flaws.{HasFlaw}
 use Rattle.script_lang.specs.declared.command.Command.{Command}
 use Rattle.script_lang.specs.declared.command.Command.TheVariants.{Solve}
 use Rattle.script_lang.specs.declared.command.LineFault.{LineFault}
@@ -19,8 +19,8 @@ use Rattle.script_lang.specs.declared.command.LineFault.TheVariants as line
 use Rattle.session_replies.specs.Texts.{IsStandingPlan, TellsSearch}
 use Rattle.session_core.specs.Replies.{RepliesTo}
 use Rattle.session_core.specs.LineReplies.{AnswersRead}
-use Rattle.solver_core.specs.declared.ending.SearchEnd.{SearchEnd}
-use Rattle.solver_core.specs.declared.ending.SearchEnd.TheVariants.{Found, Exhausted, Budget}
+use Rattle.flaw_core.specs.declared.ending.SearchEnd.{SearchEnd}
+use Rattle.flaw_core.specs.declared.ending.SearchEnd.TheVariants.{Found, Exhausted, Budget}
 use Rattle.solver_core.specs.Solving.{TellsEnd}
 use Rattle.session_core.specs.Laws.{ProvesPlan, ProvesNone, TellsBudget, ProvesEnd, PrintedEndsProve}
 use Rattle.session_core.proofs.Answering.{ReadOnce, not_memory, standing_settled}

@@ -12,7 +12,7 @@ use Rattle.conflict_core.specs.Answers.{AnswersConflict, AnswersCycle, AnswersNo
 use Rattle.plan_db.specs.Answers.{Held}
 use Rattle.plan_db.specs.Database.{Database, IsSound}
 use Rattle.plan_db.specs.Edges.{AreStandingEdges}
-use Rattle.plan_edges.specs.declared.edge.NamedEdge.{NamedEdge}
+use Rattle.db_edges.specs.declared.edge.NamedEdge.{NamedEdge}
 use Rattle.script_lang.specs.declared.command.Command.TheVariants as commands
 use Rattle.session_replies.proofs.Pointing.{edges_writable}
 use Rattle.session_replies.proofs.Settled.{standing_writable}

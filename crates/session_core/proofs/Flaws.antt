@@ -10,7 +10,7 @@ use Rattle.flaw_core.specs.declared.flaw.Flaw.{Flaw}
 use Rattle.flaw_core.specs.Places.{IsFlawAt}
 use Rattle.flaw_core.specs.Rules.{IsFirstAt, AreChoicesAt}
 use Rattle.plan_db.specs.Database.{Database}
-use Rattle.plan_states.specs.Flaws as named
+use Rattle.plan_defs.specs.Flaws as named
 use Rattle.script_lang.specs.declared.command.Command.TheVariants as commands
 use Rattle.session_replies.specs.Lines.{with_line_feed, IsFlawLine}
 use Rattle.session_core.specs.Replies.{TellsDecisions, TellsFlaw}

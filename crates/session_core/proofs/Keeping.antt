@@ -3,16 +3,16 @@ use Rattle.std.proofs.Common.{◌≡◌, ℕ, List, Result, Ok, Err, inl, inr, a
 use Rattle.std.specs.declared.alloc.AllocError.{AllocError}
 use Rattle.plan_db.specs.Database.{Database}
 use Rattle.plan_db.specs.declared.fault.Outcome.{Outcome}
-use Rattle.plan_search.specs.Search.{SearchOutcome}
+use Rattle.law_search.specs.Search.{SearchOutcome}
 use Rattle.script_lang.specs.declared.command.Command.{Command}
 use Rattle.script_lang.specs.declared.command.Command.TheVariants.{Empty, Specify, Activate, Merge, Reject, Order, Reset, ResetOrder}
 use Rattle.script_lang.specs.declared.command.Command.TheVariants as commands
-use Rattle.solver_core.specs.declared.ending.SearchEnd.{SearchEnd}
-use Rattle.solver_core.specs.declared.ending.SearchEnd.TheVariants.{Found, Exhausted, Budget}
+use Rattle.flaw_core.specs.declared.ending.SearchEnd.{SearchEnd}
+use Rattle.flaw_core.specs.declared.ending.SearchEnd.TheVariants.{Found, Exhausted, Budget}
 use Rattle.solver_core.specs.Solving.{TellsEnd}
 use Rattle.session_core.specs.declared.reason.RefusalReason.{RefusalReason}
 use Rattle.session_core.specs.declared.reason.RefusalReason.TheVariants as reason
-use Rattle.session_core.specs.Replies.{UnlessFull, RepliesStep, TakesAsked, ResetsAsked, UndoesLast, RepliesTo}
+use Rattle.session_core.specs.Replies.{UnlessFull, RepliesStep, TakesAsked, ResetsAsked, UndoesLast, RepliesDecision, RepliesReset, RepliesTo}
 use Rattle.session_core.specs.Steps.{AnswersCommand}
 
 module _ (old new : Database) where
@@ -22,14 +22,7 @@ module _ (old new : Database) where
   takes_keep : (command : Command) (step : Result Outcome RefusalReason) → TakesAsked old command step new → new.model ≡ old.model
   takes_keep command (Ok found) takes = ap (λ (database : Database). database.model) takes.1.1.1
   takes_keep command (Err reason.Inconsistent) takes = same_model takes.1
-  takes_keep command (Err reason.Unknown) takes = same_model takes.1
-  takes_keep command (Err reason.Decided) takes = same_model takes.1
-  takes_keep command (Err reason.NotInDomain) takes = same_model takes.1
-  takes_keep command (Err reason.NotActive) takes = same_model takes.1
-  takes_keep command (Err reason.NotSamePredicate) takes = same_model takes.1
-  takes_keep command (Err reason.NotRejectable) takes = same_model takes.1
-  takes_keep command (Err reason.Same) takes = same_model takes.1
-  takes_keep command (Err reason.ActiveFull) takes = same_model takes.1
+  takes_keep command (Err (reason.Decision against)) takes = same_model takes.1
   takes_keep command (Err why) takes = absurd takes
 
   resets_keep : (command : Command) (step : Result Outcome RefusalReason) → ResetsAsked old command step new → new.model ≡ old.model
@@ -52,10 +45,10 @@ module _ (old new : Database) where
   unless_full_keeps IsReplied reply keeps (inl full) = same_model full.2
   unless_full_keeps IsReplied reply keeps (inr replied) = keeps replied.1
 
-  taking : (command : Command) (reply : List ℕ) → UnlessFull (RepliesStep (TakesAsked old command)) old reply new → new.model ≡ old.model
+  taking : (command : Command) (reply : List ℕ) → RepliesDecision old command reply new → new.model ≡ old.model
   taking command reply replied = unless_full_keeps (RepliesStep (TakesAsked old command)) reply (λ r. takes_keep command r.0 r.1.0) replied
 
-  resetting : (command : Command) (reply : List ℕ) → UnlessFull (RepliesStep (ResetsAsked old command)) old reply new → new.model ≡ old.model
+  resetting : (command : Command) (reply : List ℕ) → RepliesReset old command reply new → new.model ≡ old.model
   resetting command reply replied = unless_full_keeps (RepliesStep (ResetsAsked old command)) reply (λ r. resets_keep command r.0 r.1.0) replied
 
   searching : (steps tokens : ℕ) (reply : List ℕ) → RepliesTo old (commands.Solve steps tokens) reply new → new.model ≡ old.model

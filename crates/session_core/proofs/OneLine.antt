@@ -20,18 +20,19 @@ use Rattle.model_core.specs.declared.view.TokenState.TheVariants as standing
 use Rattle.model_core.specs.State.{State, AreInOrder}
 use Rattle.model_core.specs.TokenStates.{HasTokenState, IsMergedAt}
 use Rattle.model_core.proofs.Leading.{token_once}
-use Rattle.plan_core.specs.Subjects.{IsPredicateText}
-use Rattle.plan_core.specs.Values.{IsValueText}
-use Rattle.plan_deciding.proofs.Placing.{place_once}
+use Rattle.plan_text.specs.Subjects.{IsPredicateText}
+use Rattle.plan_text.specs.Values.{IsValueText}
+use Rattle.db_decide.proofs.Placing.{place_once}
 use Rattle.eu_name.proofs.Members.{get_same}
-use Rattle.plan_edges.specs.declared.edge.NamedEdge.{NamedEdge}
-use Rattle.plan_edges.specs.declared.edge.Point.{Point}
-use Rattle.plan_edges.specs.declared.edge.Point.TheVariants as points
-use Rattle.plan_states.specs.Flaws.{Flaw, Undecided, Undetermined, Unordered, Untimed}
-use Rattle.plan_states.proofs.Deciding.{DecidesOnce}
+use Rattle.db_edges.specs.declared.edge.NamedEdge.{NamedEdge}
+use Rattle.db_edges.specs.declared.edge.Point.{Point}
+use Rattle.db_edges.specs.declared.edge.Point.TheVariants as points
+use Rattle.plan_defs.specs.Flaws.{Flaw, Undecided, Undetermined, Unordered, Untimed}
+use Rattle.plan_defs.proofs.Deciding.{DecidesOnce}
 use Rattle.session_replies.specs.Lines.{spaced, IsTokenWord, IsDomainText, IsDomainLine, IsStateText, IsTokenLine, IsLineOnToken, IsLineOnTokens, IsLineOnVariable, IsDecisionLine}
 use Rattle.session_replies.specs.Lines.{IsPointWord, IsEdgeLine, IsFlawText, IsFlawLine}
-use Rattle.session_core.proofs.Words.{zip_one, kind_one, value_text_one, token_word_one, variable_word_one}
+use Rattle.script_lang.proofs.Kinding.{kind_once}
+use Rattle.session_core.proofs.Words.{zip_one, value_text_one, token_word_one, variable_word_one}
 
 module _ (model : Model) where
   -- ---- domains
@@ -45,7 +46,7 @@ module _ (model : Model) where
   pub domain_line_one : (name : VarName) (domain : Domain) (one other : List ℕ) → IsDomainLine model name domain one → IsDomainLine model name domain other → one ≡ other
   domain_line_one name domain one other (word, (is_word, (kind, (of_kind, (shown, (is_shown, whole)))))) (word', (is_word', (kind', (of_kind', (shown', (is_shown', whole')))))) =
       let words = variable_word_one model name word word' is_word is_word' in
-      let kinds = kind_one model name kind' kind of_kind' of_kind in
+      let kinds = kind_once model name kind' kind of_kind' of_kind in
       let texts = domain_text_one kind domain shown shown' is_shown (subst (λ k. IsDomainText model k domain shown') kinds is_shown') in
       let lines : word ++ (codes " " ++ shown) ≡ word' ++ (codes " " ++ shown') = λ i. words i ++ (codes " " ++ texts i) in
       whole ∙ (lines ∙ sym whole')
@@ -142,7 +143,7 @@ module _ (model : Model) where
   on_variable_one : (first : List ℕ) (name : VarName) (value : ℤ) (one other : List ℕ) → IsLineOnVariable model first name value one → IsLineOnVariable model first name value other → one ≡ other
   on_variable_one first name value one other (word, (is_word, (kind, (of_kind, (shown, (is_shown, whole)))))) (word', (is_word', (kind', (of_kind', (shown', (is_shown', whole')))))) =
       let words = variable_word_one model name word word' is_word is_word' in
-      let kinds = kind_one model name kind' kind of_kind' of_kind in
+      let kinds = kind_once model name kind' kind of_kind' of_kind in
       let texts = value_text_one model kind value shown shown' is_shown (subst (λ k. IsValueText model k value shown') kinds is_shown') in
       let both : first ++ (codes " " ++ (word ++ (codes " " ++ shown))) ≡ first ++ (codes " " ++ (word' ++ (codes " " ++ shown'))) =
       λ i. first ++ (codes " " ++ (words i ++ (codes " " ++ texts i))) in

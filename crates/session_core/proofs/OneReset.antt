@@ -12,13 +12,14 @@ use Rattle.model_core.specs.History.{standing}
 use Rattle.model_core.specs.Lawful.{IsLawful}
 use Rattle.plan_db.specs.Database.{Database, OutcomeIs, Resets, TakesOutOn, HasDecisionOn}
 use Rattle.plan_db.specs.declared.fault.Outcome.{Outcome}
-use Rattle.plan_defs.specs.Refusals.{IsAlreadyDecided, Decided}
+use Rattle.plan_defs.specs.Refusals.{IsAlreadyDecided}
+use Rattle.model_core.specs.declared.refusal.Refusal.TheVariants.{Decided}
 use Rattle.plan_defs.specs.Settling.{SettlesAfter, Settles, IsSettled}
-use Rattle.plan_defs.proofs.Ordered.{contains_head, contains_later, contains_cases, contains_none}
-use Rattle.plan_steps.specs.declared.subject.Subject.{Subject}
-use Rattle.plan_steps.specs.declared.subject.Subject.TheVariants as subjects
-use Rattle.plan_steps.specs.Subjects.{IsOfSubject}
-use Rattle.conflict_laws.proofs.Splitting.{settles_same}
+use Rattle.eu_name.proofs.Ordered.{contains_head, contains_later, contains_cases, contains_none}
+use Rattle.db_history.specs.declared.subject.Subject.{Subject}
+use Rattle.db_history.specs.declared.subject.Subject.TheVariants as subjects
+use Rattle.db_history.specs.Subjects.{IsOfSubject}
+use Rattle.law_states.proofs.Splitting.{settles_same}
 use Rattle.script_lang.specs.declared.command.Command.{Command}
 use Rattle.session_core.specs.declared.reason.RefusalReason.{RefusalReason}
 use Rattle.session_core.specs.declared.reason.RefusalReason.TheVariants as reason
@@ -91,10 +92,10 @@ module _ (model : Model) where
 
   already_on : (kept : List Decision) (subject : Subject) (decision other : Decision) → IsOfSubject subject decision → IsOfSubject subject other → Contains kept other
       → IsAlreadyDecided model kept decision
-  already_on kept (subjects.Variable name) (decisions.Specify one value) (decisions.Specify two number) is is' there =
+  already_on kept (subjects.Var name) (decisions.Specify one value) (decisions.Specify two number) is is' there =
       (number, subst (λ n. Contains kept (decisions.Specify n number)) (is' ∙ sym is) there)
-  already_on kept (subjects.Variable name) (decisions.Specify one value) other is is' there = absurd is'
-  already_on kept (subjects.Variable name) decision other is is' there = absurd is
+  already_on kept (subjects.Var name) (decisions.Specify one value) other is is' there = absurd is'
+  already_on kept (subjects.Var name) decision other is is' there = absurd is
   already_on kept (subjects.Token token) (decisions.Activate one) other is is' there = subst (IsDecided model kept) (sym is) (decided_of kept token other is' there)
   already_on kept (subjects.Token token) (decisions.Merge one target) other is is' there = subst (IsDecided model kept) (sym is) (decided_of kept token other is' there)
   already_on kept (subjects.Token token) (decisions.Reject one) other is is' there = subst (IsDecided model kept) (sym is) (decided_of kept token other is' there)
@@ -124,8 +125,8 @@ module _ (model : Model) where
   pub specified_one : (list : List Decision) → IsSettled model list → (name : VarName) (value number : ℤ)
       → Contains list (decisions.Specify name value) → Contains list (decisions.Specify name number) → value ≡ number
   specified_one list settled name value number here there =
-      let once = settled_from (subjects.Variable name) [] list list tt settled in
-      let same = ones_same (IsOfSubject (subjects.Variable name)) list once (decisions.Specify name value) (decisions.Specify name number) here there refl refl in
+      let once = settled_from (subjects.Var name) [] list list tt settled in
+      let same = ones_same (IsOfSubject (subjects.Var name)) list once (decisions.Specify name value) (decisions.Specify name number) here there refl refl in
       let values : value ≡ number = cc in values
 
 -- ---- resets

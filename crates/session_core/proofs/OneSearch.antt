@@ -6,22 +6,23 @@ use Rattle.std.proofs.lemmas.List.{length-append}
 use Rattle.model_core.specs.declared.decision.Decision.{Decision}
 use Rattle.model_core.specs.History.{History, standing, accepted}
 use Rattle.model_core.specs.Lawful.{IsLawful}
-use Rattle.plan_core.specs.PlanTexts.{IsPlanText}
+use Rattle.plan_text.specs.PlanTexts.{IsPlanText}
 use Rattle.plan_db.specs.Database.{Database}
 use Rattle.plan_defs.specs.Settling.{IsSettled}
 use Rattle.plan_defs.proofs.Settling.{least_same}
-use Rattle.plan_reader.proofs.Spelled.{text_once}
-use Rattle.plan_search.specs.Search.{SearchOutcome}
-use Rattle.plan_search.proofs.Once.{visits_once}
-use Rattle.plan_search.proofs.Searching.{fails_not_finds, stops_not_finds, stops_not_fails, finds_same}
-use Rattle.plan_soundness.specs.Soundness.{StatesHaveOnePlan}
-use Rattle.plan_states.specs.StatePlans.{IsStatePlan}
+use Rattle.plan_core.proofs.Spelled.{text_once}
+use Rattle.law_search.specs.Search.{SearchOutcome}
+use Rattle.law_search.proofs.Once.{visits_once}
+use Rattle.law_search.proofs.Searching.{fails_not_finds, stops_not_finds, stops_not_fails, finds_same}
+use Rattle.law_states.specs.Soundness.{StatesHaveOnePlan}
+use Rattle.plan_defs.specs.StatePlans.{IsStatePlan}
 use Rattle.session_replies.specs.Lines.{with_line_feed}
 use Rattle.session_replies.specs.Texts.{IsStandingPlan, TellsSearch}
 use Rattle.session_core.specs.Replies.{RepliesSearch}
-use Rattle.solver_core.specs.declared.ending.SearchEnd.{SearchEnd}
-use Rattle.solver_core.specs.declared.ending.SearchEnd.TheVariants.{Found, Exhausted, Budget}
-use Rattle.solver_core.specs.Solving.{TakesMore, TellsEnd}
+use Rattle.flaw_core.specs.declared.ending.SearchEnd.{SearchEnd}
+use Rattle.flaw_core.specs.declared.ending.SearchEnd.TheVariants.{Found, Exhausted, Budget}
+use Rattle.plan_db.specs.Rewinding.{TakesMore}
+use Rattle.solver_core.specs.Solving.{TellsEnd}
 
 -- ---- histories
 

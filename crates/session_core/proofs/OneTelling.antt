@@ -9,20 +9,20 @@ use Rattle.model_core.specs.History.{standing}
 use Rattle.model_core.specs.Lawful.{IsLawful}
 use Rattle.model_core.specs.State.{State, AreInOrder, Gives}
 use Rattle.model_core.proofs.Naming.{names_one_variable}
-use Rattle.conflict_laws.proofs.Splitting.{conflict_same}
+use Rattle.law_states.proofs.Splitting.{conflict_same}
 use Rattle.plan_db.specs.Database.{Database, HasLeast, HasCollapsed}
 use Rattle.plan_defs.specs.Settling.{IsSettled}
 use Rattle.plan_defs.proofs.Settling.{least_same, least_not_collapsed}
 use Rattle.plan_defs.proofs.States.{gives_same}
-use Rattle.plan_edges.specs.declared.edge.NamedEdge.{NamedEdge}
-use Rattle.plan_cycles.specs.TimeCycle.{IsTimeCycle}
-use Rattle.plan_search.specs.Choices.{AreChoices}
-use Rattle.plan_states.proofs.Deciding.{decides_once}
+use Rattle.db_edges.specs.declared.edge.NamedEdge.{NamedEdge}
+use Rattle.db_edges.specs.TimeCycle.{IsTimeCycle}
+use Rattle.law_search.specs.Choices.{AreChoices}
+use Rattle.plan_defs.proofs.Deciding.{decides_once}
 use Rattle.session_replies.specs.Lines.{with_line_feed, counted_lines, IsDomainLine, IsTokenLine, IsDecisionLine, IsEdgeLine, IsFlawLine}
 use Rattle.session_core.specs.Replies.{TellsState, TellsCollapse, TellsDomain, TellsTokens, TellsDecisions, TellsFlaw, TellsConflict, TellsCycle}
 use Rattle.session_core.proofs.Cycling.{cycle_one}
 use Rattle.session_core.proofs.Edging.{standing_edges_one}
-use Rattle.plan_search.proofs.Once.{first_once, choices_once}
+use Rattle.law_search.proofs.Once.{first_once, choices_once}
 use Rattle.session_core.proofs.OneLine.{domain_line_one, token_line_one, decision_line_one, edge_line_one, flaw_line_one}
 use Rattle.session_core.proofs.Words.{zip_one}
 

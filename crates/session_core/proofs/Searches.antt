@@ -1,84 +1,26 @@
--- What a search leaves and is answered, and how what it decided is taken back.
-use Rattle.std.proofs.Common.{◌≡◌, ℕ, zero, suc, ◌+◌, ◌<◌, ◌≤◌, true, false, List, length, Result, Ok, Err, inl, inr, sym, ap, ◌∙◌, subst, arith}
+-- What a search leaves and is answered.
+use Rattle.std.proofs.Common.{◌≡◌, ℕ, List, Result, Ok, Err, inl, inr, sym, ap, subst}
 use Rattle.std.specs.Prelude.{IfOk, MatchResult}
 use Rattle.std.specs.declared.alloc.AllocError.{AllocError}
-use Rattle.model_core.specs.declared.decision.Decision.{Decision}
 use Rattle.model_core.specs.declared.model.Model.{Model}
-use Rattle.model_core.specs.History.{History, standing, accepted}
+use Rattle.model_core.specs.History.{standing}
 use Rattle.model_core.specs.State.{State}
 use Rattle.flaw_core.specs.Rules.{IsFirstAt, AreChoicesAt}
-use Rattle.plan_db.specs.Answers.{Held, AnswersBacktrack}
-use Rattle.plan_db.specs.Database.{Database, EndsAccepted, HasLeast}
-use Rattle.plan_db.specs.declared.fault.DbFault.{DbFault}
-use Rattle.plan_db.specs.declared.fault.DbFault.TheVariants as fault
+use Rattle.plan_db.specs.Answers.{Held}
+use Rattle.plan_db.specs.Database.{Database, HasLeast}
+use Rattle.plan_db.specs.Rewinding.{IsTakenSince}
 use Rattle.plan_db.specs.declared.fault.Outcome.TheVariants.{Inconsistent}
-use Rattle.plan_search.specs.Search.{SearchOutcome, Searches}
-use Rattle.plan_search.specs.SearchLaws.{IsFoundList}
-use Rattle.solver_core.specs.declared.ending.SearchEnd.{SearchEnd}
-use Rattle.solver_core.specs.declared.ending.SearchEnd.TheVariants.{Found, Exhausted, Budget}
+use Rattle.law_search.specs.Search.{SearchOutcome, Searches}
+use Rattle.law_search.specs.SearchLaws.{IsFoundList}
+use Rattle.flaw_core.specs.declared.ending.SearchEnd.{SearchEnd}
+use Rattle.flaw_core.specs.declared.ending.SearchEnd.TheVariants.{Found, Exhausted, Budget}
 use Rattle.solver_core.specs.declared.ending.SolveFault.{SolveFault}
 use Rattle.solver_core.specs.declared.ending.SolveFault.TheVariants as solve
-use Rattle.solver_core.specs.Solving.{TakesMore, TellsEnd, Solves, ProvesPlans}
+use Rattle.solver_core.specs.Solving.{TellsEnd, Solves, ProvesPlans}
 use Rattle.session_core.specs.Reasons.{outcome_text}
 use Rattle.session_replies.specs.Texts.{TellsSearch, IsFlawlessEnd}
-use Rattle.session_core.specs.Steps.{Answers, IsTakenSince, RepliesSolve}
-
-true_false : true ≡ false → ⊥
-true_false same = cc
-
--- ---- what is taken back
-
-taken_longer : (count : ℕ) (old new : History) → TakesMore count old new → length new ≡ length old + count
-taken_longer zero old new same = ap length same ∙ omega arith
-taken_longer (suc count) old new (before, (decision, (more, same))) =
-    let longer = taken_longer count old before more in
-    let whole : length new ≡ length (accepted before decision) = ap length same in
-    omega (arith, longer, whole)
-
-none_taken : (count : ℕ) (old new : History) → TakesMore count old new → length new ≤ length old → new ≡ old
-none_taken zero old new same few = same
-none_taken (suc count) old new more few = absurd (omega (arith, taken_longer (suc count) old new more))
-
-some_taken : (count : ℕ) (old new : History) → TakesMore count old new → length old < length new
-    → (before : History) × ((decision : Decision) × ((new ≡ accepted before decision) × ((fewer : ℕ) × TakesMore fewer old before)))
-some_taken zero old new same less = absurd (omega (arith, less, ap length same))
-some_taken (suc count) old new (before, (decision, (more, same))) less = (before, (decision, (same, (count, more))))
-
-accepted_same : (one other : History) (first second : Decision) → accepted one first ≡ accepted other second → one ≡ other
-accepted_same one other first second same = cc
-
-pub is_back : (former database : Database) → IsTakenSince former database → length database.history ≤ length former.history → database ≡ former
-is_back former database since few =
-    let history = none_taken since.count former.history database.history since.more few in
-    λ i. record { model = since.model i; history = history i }
-
--- the last step since then took a decision
-pub ends_accepted : (former database : Database) → IsTakenSince former database → length former.history < length database.history → EndsAccepted database.history
-ends_accepted former database since less =
-    let last = some_taken since.count former.history database.history since.more less in
-    (last.0, (last.1.0, last.1.1.0))
-
-pub since_back : (former old new : Database) (decision : Decision) → IsTakenSince former old → length former.history < length old.history
-    → old.history ≡ accepted new.history decision → new.model ≡ old.model → IsTakenSince former new
-since_back former old new decision since less back model =
-    let last = some_taken since.count former.history old.history since.more less in
-    let here : last.0 ≡ new.history = accepted_same last.0 new.history last.1.0 decision (sym last.1.1.0 ∙ back) in
-    record {
-      model = model ∙ since.model;
-      count = last.1.1.1.0;
-      more = subst (λ (h : History). TakesMore last.1.1.1.0 former.history h) here last.1.1.1.1;
-    }
-
-pub back_shorter : (old new : History) (decision : Decision) → old ≡ accepted new decision → length new < length old
-back_shorter old new decision back =
-    let whole : length old ≡ length (accepted new decision) = ap length back in
-    omega (arith, whole)
-
--- so it can be taken back
-pub never_kept : (old new : Held) (why : DbFault) → AnswersBacktrack old (Err why) new → old.behind ≡ false → EndsAccepted old.database.history → ⊥
-never_kept old new fault.Behind answers ready accepted = true_false (sym answers.before ∙ ready)
-never_kept old new fault.Nothing answers ready accepted = answers.1.1 accepted
-never_kept old new why answers ready accepted = answers.1
+use Rattle.session_core.specs.Replies.{RepliesSolve}
+use Rattle.session_core.specs.Steps.{Answers}
 
 -- ---- what a search leaves
 

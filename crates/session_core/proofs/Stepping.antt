@@ -1,5 +1,5 @@
 -- From what the database answers to a step, and from the step and its reply to what the command is answered.
-use Rattle.std.proofs.Common.{◌≡◌, ℕ, List, [], ◌∷◌, Result, Ok, Err, inl, inr, refl, sym, ap, subst}
+use Rattle.std.proofs.Common.{◌≡◌, ℕ, List, [], ◌∷◌, Option, Some, None, Result, Ok, Err, inl, inr, refl, ap, subst}
 use Rattle.std.specs.Prelude.{IfOk}
 use Rattle.std.specs.declared.alloc.AllocError.{AllocError}
 use Rattle.eu_name.specs.declared.name.TokenName.{TokenName}
@@ -9,24 +9,30 @@ use Rattle.model_core.specs.declared.model.Model.{Model}
 use Rattle.model_core.specs.History.{History, standing}
 use Rattle.model_core.specs.Lawful.{IsLawful}
 use Rattle.model_core.specs.Names.{NamesToken, NamesVariable}
-use Rattle.model_core.proofs.Naming.{names_one_token, names_one_variable}
 use Rattle.plan_db.specs.Answers.{Held, AnswersUndo, AnswersReset}
 use Rattle.plan_db.specs.Database.{Database, IsSound, HasFormer, HasDecisionOn}
 use Rattle.plan_db.specs.declared.fault.DbFault.{DbFault}
 use Rattle.plan_db.specs.declared.fault.DbFault.TheVariants as fault
 use Rattle.plan_db.specs.declared.fault.Outcome.{Outcome}
 use Rattle.plan_defs.specs.History.{IsHistory}
-use Rattle.plan_steps.specs.declared.subject.Subject.{Subject}
-use Rattle.plan_steps.specs.declared.subject.Subject.TheVariants as subjects
+use Rattle.db_history.specs.declared.subject.Subject.{Subject}
+use Rattle.db_history.specs.declared.subject.Subject.TheVariants as subjects
 use Rattle.script_lang.specs.declared.command.Command.{Command}
-use Rattle.script_lang.specs.declared.command.Command.TheVariants.{Specify, Activate, Merge, Reject, Order, Reset, ResetOrder}
+use Rattle.script_lang.specs.declared.command.Command.TheVariants.{Reset, ResetOrder}
+use Rattle.script_lang.specs.declared.command.DecisionText.{DecisionText}
+use Rattle.script_lang.specs.declared.command.DecisionText.TheVariants as texts
+use Rattle.script_lang.specs.Naming.{decision_command}
+use Rattle.session_core.specs.Asking.{reset_command}
+use Rattle.session_core.specs.declared.asked.SubjectText.{SubjectText}
+use Rattle.session_core.specs.declared.asked.SubjectText.TheVariants.{Named, Order}
 use Rattle.session_core.specs.declared.reason.RefusalReason.{RefusalReason}
 use Rattle.session_core.specs.declared.reason.RefusalReason.TheVariants as reason
 use Rattle.session_core.specs.declared.reason.StepStop.{StepStop}
 use Rattle.session_core.specs.declared.reason.StepStop.TheVariants.{Refused, Memory}
 use Rattle.session_core.specs.Reasons.{refusal, outcome_text}
-use Rattle.session_core.specs.Replies.{IsFull, UnlessFull, RepliesStep, TakesAsked, ResetsAsked, AsksSubject, UndoesLast}
-use Rattle.session_core.specs.Steps.{stop_for, step_for, StepsOr, SaysStep, ResetsOn, ResetsThat, Answers, AnswersCommand, IsDeciding, IsVariableNamed, IsTokenNamed}
+use Rattle.session_core.specs.Replies.{IsFull, UnlessFull, RepliesStep, RepliesDecision, RepliesReset, ResetsAsked, AsksSubject, UndoesLast}
+use Rattle.session_core.specs.Steps.{stop_for, step_for, StepsOr, SaysStep, ResetsOn, FindsSubject, Answers, AnswersCommand}
+use Rattle.session_core.proofs.Words.{subject_one}
 
 -- ---- replies
 
@@ -54,14 +60,19 @@ module _ (old new : Database) where
       not_full (RepliesStep Steps) result free (step_answers Steps step result steps says)
 
   -- for the commands that ask for a decision
-  pub deciding : (command : Command) (result : Result (List ℕ) AllocError) → IsDeciding command
-      → Answers (UnlessFull (RepliesStep (TakesAsked old command)) old) old result new → AnswersCommand old command result new
-  deciding (Specify variable value) result is answers = answers
-  deciding (Activate token) result is answers = answers
-  deciding (Merge token target) result is answers = answers
-  deciding (Reject token) result is answers = answers
-  deciding (Order first second) result is answers = answers
-  deciding command result is answers = absurd is
+  pub deciding : (asked : DecisionText) (result : Result (List ℕ) AllocError)
+      → Answers (RepliesDecision old (decision_command asked)) old result new → AnswersCommand old (decision_command asked) result new
+  deciding (texts.Specify variable value) result answers = answers
+  deciding (texts.Activate token) result answers = answers
+  deciding (texts.Merge token target) result answers = answers
+  deciding (texts.Reject token) result answers = answers
+  deciding (texts.Order first second) result answers = answers
+
+  -- and for those that ask for one to be taken out
+  pub resetting : (asked : SubjectText) (result : Result (List ℕ) AllocError)
+      → Answers (RepliesReset old (reset_command asked)) old result new → AnswersCommand old (reset_command asked) result new
+  resetting (Named text) result answers = answers
+  resetting (Order text after) result answers = answers
 
 -- nothing changes where the history is full
 pub full_answers : (old : Database) (IsReplied : List ℕ → Database → Type 0) (result : Result (List ℕ) AllocError)
@@ -114,104 +125,40 @@ pub reset_ends : (old new : Held) (subject : Subject) (done : Result Outcome DbF
 reset_ends old new subject (Ok outcome) answers = reset_done old new subject outcome answers
 reset_ends old new subject (Err why) answers = not_reset old new subject why answers
 
-module _ (old new : Database) where
-  -- of the one subject that is asked for
-  pub resets_only : (Asked : Subject → Type 0) (subject : Subject) (step : Result Outcome StepStop)
-      → Asked subject → ((other : Subject) → Asked other → other ≡ subject) → ResetsOn old subject step new → ResetsThat Asked old step new
-  resets_only Asked subject (Ok outcome) asked only resets = (subject, (asked, resets))
-  resets_only Asked subject (Err (Refused reason.NoDecision)) asked only resets =
-      (λ other is. subst (λ (s : Subject). HasDecisionOn old s → ⊥) (sym (only other is)) resets.0, resets.1)
-  resets_only Asked subject (Err (Refused why)) asked only resets = absurd resets
-  resets_only Asked subject (Err Memory) asked only resets = resets
+-- where a subject is asked for, no other one is
+module _ (old new : Database) (lawful : IsLawful old.model) (command : Command) where
+  asked_reset : (subject : Subject) (step : Result Outcome StepStop) → AsksSubject old.model command subject → ResetsOn old subject step new
+      → StepsOr (ResetsAsked old command) old step new
+  asked_reset subject (Ok outcome) asks resets = (subject, (asks, resets))
+  asked_reset subject (Err (Refused reason.NoDecision)) asks resets =
+      (λ other is. subst (λ (s : Subject). HasDecisionOn old s → ⊥) (subject_one old.model lawful command subject other asks is) resets.0, resets.1)
+  asked_reset subject (Err (Refused why)) asks resets = absurd resets
+  asked_reset subject (Err Memory) asks resets = resets
 
-  pub reset_steps : (command : Command) (step : Result Outcome StepStop)
-      → ResetsThat (AsksSubject old.model command) old step new → StepsOr (ResetsAsked old command) old step new
-  reset_steps command (Ok outcome) resets = resets
-  reset_steps command (Err (Refused reason.NoDecision)) resets = resets
-  reset_steps command (Err (Refused why)) resets = absurd resets
-  reset_steps command (Err Memory) resets = resets
+  pub found_reset : (found : Option Subject) (subject : Subject) (step : Result Outcome StepStop) → found ≡ Some subject → FindsSubject old.model command found
+      → ResetsOn old subject step new → StepsOr (ResetsAsked old command) old step new
+  found_reset found subject step is finds resets =
+      asked_reset subject step (subst (λ (f : Option Subject). FindsSubject old.model command f) is finds) resets
 
--- the variable that the text names is the only subject that is one
-pub only_variable : (model : Model) (text : NameText) (name : VarName) → IsLawful model → NamesVariable model text name
-    → (other : Subject) → IsVariableNamed model text other → other ≡ subjects.Variable name
-only_variable model text name lawful names (subjects.Variable other) is =
-    ap (λ (n : VarName). subjects.Variable n) (names_one_variable model text other name lawful is names)
-only_variable model text name lawful names (subjects.Token token) is = absurd is
-only_variable model text name lawful names (subjects.Order first second) is = absurd is
+-- no decision stands on what isn't named
+pub none_reset : (old : Database) (command : Command) (found : Option Subject) → found ≡ None → FindsSubject old.model command found
+    → StepsOr (ResetsAsked old command) old (Err (Refused reason.NoDecision)) old
+none_reset old command found is finds =
+    let none = subst (λ (f : Option Subject). FindsSubject old.model command f) is finds in
+    (λ subject asks stands. none subject asks, refl)
 
--- and so is the token
-pub only_token : (model : Model) (text : NameText) (token : TokenName) → IsLawful model → NamesToken model text token
-    → (other : Subject) → IsTokenNamed model text other → other ≡ subjects.Token token
-only_token model text token lawful names (subjects.Variable name) is = absurd is
-only_token model text token lawful names (subjects.Token other) is =
-    ap (λ (n : TokenName). subjects.Token n) (names_one_token model text other token lawful is names)
-only_token model text token lawful names (subjects.Order first second) is = absurd is
+-- ---- what texts name
 
--- and the order of two tokens
-pub only_order : (model : Model) (text after : NameText) (one behind : TokenName) → IsLawful model
-    → NamesToken model text one → NamesToken model after behind
-    → (other : Subject) → AsksSubject model (ResetOrder text after) other → other ≡ subjects.Order one behind
-only_order model text after one behind lawful names later (subjects.Variable name) is = absurd is
-only_order model text after one behind lawful names later (subjects.Token token) is = absurd is
-only_order model text after one behind lawful names later (subjects.Order first second) is =
-    let same = names_one_token model text first one lawful is.0 names in
-    let next = names_one_token model after second behind lawful is.1 later in
-    λ i. subjects.Order (same i) (next i)
+module _ (model : Model) (text : NameText) where
+  -- a text that names no variable and no token names nothing
+  pub no_subject : ((name : VarName) → NamesVariable model text name → ⊥) → ((token : TokenName) → NamesToken model text token → ⊥)
+      → (subject : Subject) → AsksSubject model (Reset text) subject → ⊥
+  no_subject no_variable no_token (subjects.Var name) asks = no_variable name asks
+  no_subject no_variable no_token (subjects.Token token) asks = no_token token asks
+  no_subject no_variable no_token (subjects.Order first second) asks = asks
 
--- no subject is asked for where the text names nothing
-pub no_variable : (model : Model) (text : NameText) → ((name : VarName) → NamesVariable model text name → ⊥)
-    → (subject : Subject) → IsVariableNamed model text subject → ⊥
-no_variable model text none (subjects.Variable name) is = none name is
-no_variable model text none (subjects.Token token) is = is
-no_variable model text none (subjects.Order first second) is = is
-
-pub no_token : (model : Model) (text : NameText) → ((token : TokenName) → NamesToken model text token → ⊥)
-    → (subject : Subject) → IsTokenNamed model text subject → ⊥
-no_token model text none (subjects.Variable name) is = is
-no_token model text none (subjects.Token token) is = none token is
-no_token model text none (subjects.Order first second) is = is
-
-pub no_order : (model : Model) (text after : NameText)
-    → ((first second : TokenName) → NamesToken model text first → NamesToken model after second → ⊥)
-    → (subject : Subject) → AsksSubject model (ResetOrder text after) subject → ⊥
-no_order model text after none (subjects.Variable name) is = is
-no_order model text after none (subjects.Token token) is = is
-no_order model text after none (subjects.Order first second) is = none first second is.0 is.1
-
-module _ (old new : Database) (text : NameText) where
-  -- a text names a variable or a token
-  pub named_neither : ((subject : Subject) → IsVariableNamed old.model text subject → HasDecisionOn old subject → ⊥)
-      → ((subject : Subject) → IsTokenNamed old.model text subject → HasDecisionOn old subject → ⊥)
-      → (subject : Subject) → AsksSubject old.model (Reset text) subject → HasDecisionOn old subject → ⊥
-  named_neither no_variable no_token (subjects.Variable name) asks = no_variable (subjects.Variable name) asks
-  named_neither no_variable no_token (subjects.Token token) asks = no_token (subjects.Token token) asks
-  named_neither no_variable no_token (subjects.Order first second) asks = absurd asks
-
-  asks_variable : (subject : Subject) → IsVariableNamed old.model text subject → AsksSubject old.model (Reset text) subject
-  asks_variable (subjects.Variable name) is = is
-  asks_variable (subjects.Token token) is = absurd is
-  asks_variable (subjects.Order first second) is = absurd is
-
-  asks_token : (subject : Subject) → IsTokenNamed old.model text subject → AsksSubject old.model (Reset text) subject
-  asks_token (subjects.Variable name) is = absurd is
-  asks_token (subjects.Token token) is = is
-  asks_token (subjects.Order first second) is = absurd is
-
-  pub variable_reset : (outcome : Outcome) → ResetsThat (IsVariableNamed old.model text) old (Ok outcome) new
-      → ResetsThat (AsksSubject old.model (Reset text)) old (Ok outcome) new
-  variable_reset outcome (subject, (is, resets)) = (subject, (asks_variable subject is, resets))
-
-  token_next : (step : Result Outcome StepStop) → ((subject : Subject) → IsVariableNamed old.model text subject → HasDecisionOn old subject → ⊥)
-      → ResetsThat (IsTokenNamed old.model text) old step new → ResetsThat (AsksSubject old.model (Reset text)) old step new
-  token_next (Ok outcome) none (subject, (is, done)) = (subject, (asks_token subject is, done))
-  token_next (Err (Refused reason.NoDecision)) none (left, same) = (named_neither none left, same)
-  token_next (Err (Refused why)) none resets = absurd resets
-  token_next (Err Memory) none same = same
-
--- where there is no decision on the variable, what is done to the token is done to what is named
-pub token_reset : (old between new : Database) (text : NameText) (why : RefusalReason) (step : Result Outcome StepStop)
-    → ResetsThat (IsVariableNamed old.model text) old (Err (Refused why)) between → ResetsThat (IsTokenNamed between.model text) between step new
-    → ResetsThat (AsksSubject old.model (Reset text)) old step new
-token_reset old between new text reason.NoDecision step none resets =
-    token_next old new text step none.0 (subst (λ (d : Database). ResetsThat (IsTokenNamed d.model text) d step new) none.1 resets)
-token_reset old between new text why step none resets = absurd none
+  pub no_order : (after : NameText) → ((first second : TokenName) → NamesToken model text first → NamesToken model after second → ⊥)
+      → (subject : Subject) → AsksSubject model (ResetOrder text after) subject → ⊥
+  no_order after none (subjects.Var name) asks = asks
+  no_order after none (subjects.Token token) asks = asks
+  no_order after none (subjects.Order first second) asks = none first second asks.0 asks.1

@@ -7,8 +7,9 @@ use Rattle.model_core.specs.State.{State}
 use Rattle.plan_db.specs.Database.{Database, taken_in, HasLeast, HasCollapsed, OutcomeIs, Applies}
 use Rattle.plan_db.specs.declared.fault.Outcome.{Outcome}
 use Rattle.plan_db.specs.declared.fault.Outcome.TheVariants as outcome
-use Rattle.plan_defs.specs.Refusals.{Refusal, IsFirstRefusal, IsAdmissible, Decided}
-use Rattle.plan_defs.specs.Refusals as refusals
+use Rattle.plan_defs.specs.Refusals.{IsFirstRefusal, IsAdmissible}
+use Rattle.model_core.specs.declared.refusal.Refusal.{Refusal}
+use Rattle.model_core.specs.declared.refusal.Refusal.TheVariants as refusals
 use Rattle.plan_defs.proofs.Reasons.{refusal_same}
 use Rattle.plan_defs.proofs.Settling.{least_same, least_not_collapsed}
 use Rattle.script_lang.specs.declared.command.Command.{Command}
@@ -16,7 +17,7 @@ use Rattle.session_core.specs.declared.reason.RefusalReason.{RefusalReason}
 use Rattle.session_core.specs.declared.reason.RefusalReason.TheVariants as reason
 use Rattle.session_core.specs.Replies.{RefusesAsked, AsksInVain, TakesAsked}
 use Rattle.script_lang.specs.Naming.{AsksDecision}
-use Rattle.session_core.proofs.Words.{asked_one}
+use Rattle.script_lang.proofs.Asked.{asks_one}
 
 -- a database is left with one outcome
 pub outcome_one : (database : Database) (one other : Outcome) → OutcomeIs database one → OutcomeIs database other → one ≡ other
@@ -32,21 +33,11 @@ data Verdict : Type 0 where
   Vain : Verdict
   Refused : Refusal → Verdict
 
-abbrev reason_of : Refusal → RefusalReason
-reason_of refusals.Unknown = reason.Unknown
-reason_of refusals.Decided = reason.Decided
-reason_of refusals.NotInDomain = reason.NotInDomain
-reason_of refusals.NotActive = reason.NotActive
-reason_of refusals.NotSamePredicate = reason.NotSamePredicate
-reason_of refusals.NotRejectable = reason.NotRejectable
-reason_of refusals.SameToken = reason.Same
-reason_of refusals.ActiveFull = reason.ActiveFull
-
 abbrev step_of : Verdict → Result Outcome RefusalReason
 step_of (Taken found) = Ok found
 step_of Collapsed = Err reason.Inconsistent
-step_of Vain = Err reason.Unknown
-step_of (Refused why) = Err (reason_of why)
+step_of Vain = Err (reason.Decision refusals.Unknown)
+step_of (Refused why) = Err (reason.Decision why)
 
 module _ (old : Database) (command : Command) where
   abbrev IsVerdict : Verdict → Database → Type 0
@@ -61,35 +52,26 @@ module _ (old : Database) (command : Command) where
     is : IsVerdict verdict new
     step_is : step ≡ step_of verdict
 
-  judged_refusal : (why : Refusal) (new : Database) → RefusesAsked old command why × (new ≡ old) → Judged (Err (reason_of why)) new
-  judged_refusal why new is = record { verdict = Refused why; is = is; step_is = refl }
-
   judged : (step : Result Outcome RefusalReason) (new : Database) → TakesAsked old command step new → Judged step new
   judged (Ok found) new is = record { verdict = Taken found; is = is; step_is = refl }
   judged (Err reason.Inconsistent) new is = record { verdict = Collapsed; is = is; step_is = refl }
-  judged (Err reason.Unknown) new (inl vain, same) = record { verdict = Vain; is = (vain, same); step_is = refl }
-  judged (Err reason.Unknown) new (inr refused, same) = judged_refusal refusals.Unknown new (refused, same)
-  judged (Err reason.Decided) new is = judged_refusal refusals.Decided new is
-  judged (Err reason.NotInDomain) new is = judged_refusal refusals.NotInDomain new is
-  judged (Err reason.NotActive) new is = judged_refusal refusals.NotActive new is
-  judged (Err reason.NotSamePredicate) new is = judged_refusal refusals.NotSamePredicate new is
-  judged (Err reason.NotRejectable) new is = judged_refusal refusals.NotRejectable new is
-  judged (Err reason.Same) new is = judged_refusal refusals.SameToken new is
-  judged (Err reason.ActiveFull) new is = judged_refusal refusals.ActiveFull new is
+  judged (Err (reason.Decision why)) new (inl (vain, unknown), same) =
+      record { verdict = Vain; is = (vain, same); step_is = ap (λ w. step_of (Refused w)) unknown }
+  judged (Err (reason.Decision why)) new (inr refused, same) = record { verdict = Refused why; is = (refused, same); step_is = refl }
   judged (Err why) new is = absurd is
 
   module _ (lawful : IsLawful old.model) where
     -- what is refused isn't admissible
     refused_not : (why : Refusal) (decision : Decision) → AsksDecision old.model command decision → IsAdmissible old.model (standing old.history) decision → RefusesAsked old command why → ⊥
     refused_not why decision asks admissible (other, (asks', refuses)) =
-        let same = asked_one old.model lawful command other decision asks' asks in
+        let same = asks_one old.model command other decision lawful asks' asks in
         let states = least_same old.model (standing old.history) refuses.state admissible.state refuses.least admissible.least in
         let first = subst (λ s. IsFirstRefusal old.model (standing old.history) s other why) states refuses.refusal in
         admissible.free why (subst (λ d. IsFirstRefusal old.model (standing old.history) admissible.state d why) same first).hinders
 
     reasons_one : (one other : Refusal) → RefusesAsked old command one → RefusesAsked old command other → one ≡ other
     reasons_one one other (decision, (asks, refuses)) (decision', (asks', refuses')) =
-        let same = asked_one old.model lawful command decision' decision asks' asks in
+        let same = asks_one old.model command decision' decision lawful asks' asks in
         let states = least_same old.model (standing old.history) refuses'.state refuses.state refuses'.least refuses.least in
         let first = subst (λ s. IsFirstRefusal old.model (standing old.history) s decision' other) states refuses'.refusal in
         refusal_same old.model (standing old.history) refuses.state decision one other refuses.refusal
@@ -97,7 +79,7 @@ module _ (old : Database) (command : Command) where
 
     taken_one : (one other : Outcome) (new next : Database) → IsVerdict (Taken one) new → IsVerdict (Taken other) next → (one ≡ other) × (new ≡ next)
     taken_one one other new next (decision, (asks, applies)) (decision', (asks', applies')) =
-        let same = asked_one old.model lawful command decision decision' asks asks' in
+        let same = asks_one old.model command decision decision' lawful asks asks' in
         let news : new ≡ next = applies.1 ∙ (ap (λ d. taken_in old.model (accepted old.history d)) same ∙ sym applies'.1) in
         (outcome_one next one other (subst (λ d. OutcomeIs d one) news applies.2) applies'.2, news)
 

@@ -17,10 +17,11 @@ use Rattle.plan_db.specs.Database.{Database, HasLeast, HasCollapsed}
 use Rattle.plan_db.specs.declared.fault.Outcome.TheVariants.{Inconsistent}
 use Rattle.plan_db.specs.declared.fault.QueryFault.{QueryFault}
 use Rattle.plan_db.specs.declared.fault.QueryFault.TheVariants as query
-use Rattle.plan_view.specs.Seeing.{Seen, seen_state}
+use Rattle.db_refusals.specs.Seeing.{Seen, seen_state}
 use Rattle.session_replies.specs.Lines.{with_line_feed, IsDomainLine}
 use Rattle.session_core.specs.Telling.{SaysUntold, TellsVariable}
-use Rattle.session_core.specs.declared.reason.RefusalReason.TheVariants.{Unknown}
+use Rattle.model_core.specs.declared.refusal.Refusal.TheVariants.{Unknown}
+use Rattle.session_core.specs.declared.reason.RefusalReason.TheVariants as reason
 use Rattle.session_core.specs.Reasons.{outcome_text, refusal}
 use Rattle.session_core.specs.Replies.{Keeping, TellsState, TellsDomain}
 use Rattle.session_core.specs.Steps.{Answers}
@@ -108,7 +109,7 @@ module _ (database : Database) (text : NameText) where
 
   -- of none
   pub domain_unknown : ((state : State) × HasLeast database state) → ((name : VarName) → NamesVariable database.model text name → ⊥)
-      → (result : Result (List ℕ) AllocError) → IfOk result (λ reply. reply ≡ refusal Unknown) → IfOk result (TellsState (TellsDomain database.model text) database)
+      → (result : Result (List ℕ) AllocError) → IfOk result (λ reply. reply ≡ refusal (reason.Decision Unknown)) → IfOk result (TellsState (TellsDomain database.model text) database)
   domain_unknown least none (Ok reply) says = inr (least.0, (least.1, inr (λ name domain names gives. none name names, says)))
   domain_unknown least none (Err fault) says = tt
 

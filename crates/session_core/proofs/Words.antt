@@ -1,8 +1,7 @@
--- Names, kinds and values have one text each, and a word says one thing.
+-- Names and values have one text each, and a text names one subject.
 use Rattle.std.proofs.Common.{◌≡◌, ℕ, ℤ, pos, List, [], ◌∷◌, Some, slice_get, refl, sym, ap, ◌∙◌, subst, inl, inr, arith}
 use Rattle.std.specs.List.{AllZip}
 use Rattle.std.proofs.lemmas.Int.{ints}
-use Rattle.eu_name.specs.declared.name.Part.{Part}
 use Rattle.eu_name.specs.declared.name.Part.TheVariants as parts
 use Rattle.eu_name.specs.declared.name.TokenName.{TokenName}
 use Rattle.eu_name.specs.declared.name.VarName.{VarName}
@@ -12,34 +11,22 @@ use Rattle.eu_name.specs.Spelling.{name_spelling, Spells}
 use Rattle.eu_name.proofs.Names.{spells_one_name}
 use Rattle.model_core.specs.declared.class.Enum.{Enum}
 use Rattle.model_core.specs.declared.class.Object.{Object}
-use Rattle.model_core.specs.declared.class.Pred.{Pred}
-use Rattle.model_core.specs.declared.decision.Decision.{Decision}
-use Rattle.model_core.specs.declared.decision.Decision.TheVariants as decisions
 use Rattle.model_core.specs.declared.model.Model.{Model}
-use Rattle.model_core.specs.declared.rule.Rule.{Rule}
-use Rattle.model_core.specs.declared.rule.Slot.{Slot}
 use Rattle.model_core.specs.declared.variable.ValueKind.{ValueKind}
 use Rattle.model_core.specs.declared.variable.ValueKind.TheVariants as kinds
-use Rattle.model_core.specs.declared.variable.VarDecl.{VarDecl}
-use Rattle.model_core.specs.Kinds.{IsPartOfKind}
 use Rattle.model_core.specs.Lawful.{IsLawful}
 use Rattle.model_core.specs.Names.{NamesToken, NamesVariable, NamesGlobal}
-use Rattle.model_core.specs.Variables.{HasParameter, HasLocal}
-use Rattle.model_core.proofs.Leading.{token_once}
 use Rattle.model_core.proofs.Naming.{names_one_token, names_one_variable, names_what_there_is}
 use Rattle.model_core.proofs.OneText.{one_token_text, one_variable_text}
-use Rattle.model_core.proofs.Rules.{has_rule_once}
 use Rattle.model_core.proofs.WellFormed.{token_text_well_formed}
-use Rattle.plan_core.specs.Values.{IsValueText}
+use Rattle.plan_text.specs.Values.{IsValueText}
 use Rattle.eu_name.proofs.Members.{get_same}
-use Rattle.plan_words.proofs.Telling.{value_told}
-use Rattle.plan_steps.specs.declared.subject.Subject.{Subject}
-use Rattle.plan_steps.specs.declared.subject.Subject.TheVariants as subjects
-use Rattle.plan_words.proofs.Naming.{one_name}
+use Rattle.db_history.specs.declared.subject.Subject.{Subject}
+use Rattle.db_history.specs.declared.subject.Subject.TheVariants as subjects
+use Rattle.plan_resolve.proofs.Naming.{one_name}
 use Rattle.script_lang.specs.declared.command.Command.{Command}
-use Rattle.script_lang.specs.declared.command.Command.TheVariants.{Specify, Activate, Merge, Reject, Order, Reset, ResetOrder}
+use Rattle.script_lang.specs.declared.command.Command.TheVariants.{Reset, ResetOrder}
 use Rattle.session_replies.specs.Lines.{IsTokenWord, IsVariableWord}
-use Rattle.script_lang.specs.Naming.{IsVariableOfKind, SaysValue, AsksDecision}
 use Rattle.session_core.specs.Replies.{AsksSubject}
 
 -- lists of what each thing has are one, where each thing has one
@@ -56,36 +43,6 @@ zip_one Has one (x ∷ xs) (y ∷ ys) (z ∷ zs) p q =
     λ i. head i ∷ tail i
 
 module _ (model : Model) where
-  -- ---- kinds
-
-  parameter_one : (pred number : ℕ) (one other : VarDecl) → HasParameter model pred number one → HasParameter model pred number other → one ≡ other
-  parameter_one pred number one other p q =
-      let preds = get_same model.preds pred p.predicate q.predicate p.is_predicate q.is_predicate in
-      get_same q.predicate.params number one other (subst (λ (found : Pred). slice_get found.params number ≡ Some one) preds p.declared) q.declared
-
-  local_one : (slot : Slot) (rule number : ℕ) (one other : VarDecl) → HasLocal model slot rule number one → HasLocal model slot rule number other → one ≡ other
-  local_one slot rule number one other p q =
-      let rules = has_rule_once model slot.pred rule p.found q.found p.has_rule q.has_rule in
-      get_same q.found.locals number one other (subst (λ (found : Rule). slice_get found.locals number ≡ Some one) rules p.declared) q.declared
-
-  part_kind_one : (pred : ℕ) (part : Part) (one other : ValueKind) → IsPartOfKind model pred one part → IsPartOfKind model pred other part → one ≡ other
-  part_kind_one pred parts.Start one other p q = p ∙ sym q
-  part_kind_one pred parts.End one other p q = p ∙ sym q
-  part_kind_one pred parts.Duration one other p q = p ∙ sym q
-  part_kind_one pred parts.Object one other p q = p ∙ sym q
-  part_kind_one pred (parts.Param number) one other (variable, has, kind) (variable', has', kind') =
-      kind ∙ (ap (λ (v : VarDecl). v.kind) (parameter_one pred number variable variable' has has') ∙ sym kind')
-
-  pub kind_one : (name : VarName) (one other : ValueKind) → IsVariableOfKind model one name → IsVariableOfKind model other name → one ≡ other
-  kind_one (Global number) one other (variable, (at, kind)) (variable', (at', kind')) =
-      kind ∙ (ap (λ (v : VarDecl). v.kind) (get_same model.problem.globals number variable variable' at at') ∙ sym kind')
-  kind_one (Token token part) one other (slot, (has, is)) (slot', (has', is')) =
-      part_kind_one slot.pred part one other is (subst (λ (s : Slot). IsPartOfKind model s.pred other part) (token_once model token slot' slot has' has) is')
-  kind_one (Local token rule number) one other (slot, (has, (variable, (has_local, kind)))) (slot', (has', (variable', (has_local', kind')))) =
-      let slots = token_once model token slot' slot has' has in
-      let back = subst (λ (s : Slot). HasLocal model s rule number variable') slots has_local' in
-      kind ∙ (ap (λ (v : VarDecl). v.kind) (local_one slot rule number variable variable' has_local back) ∙ sym kind')
-
   -- ---- values
 
   pub value_text_one : (kind : ValueKind) (value : ℤ) (one other : List ℕ) → IsValueText model kind value one → IsValueText model kind value other → one ≡ other
@@ -105,12 +62,6 @@ module _ (model : Model) where
       let numbers : number ≡ number' = cc in
       let objects = get_same model.objects number' object object' (subst (λ (n : ℕ). slice_get model.objects n ≡ Some object) numbers is) is' in
       sym named ∙ (ap (λ (o : Object). o.name) objects ∙ named')
-
-  said_one : (kind : ValueKind) (word : List ℕ) (one other : ℤ) → IsLawful model → SaysValue model kind one word → SaysValue model kind other word → one ≡ other
-  said_one kinds.Int word one other lawful p q = p.1 ∙ sym q.1
-  said_one kinds.Bool word one other lawful p q = value_told model kinds.Bool word one other lawful p q
-  said_one (kinds.Enum number) word one other lawful p q = value_told model (kinds.Enum number) word one other lawful p q
-  said_one kinds.Object word one other lawful p q = value_told model kinds.Object word one other lawful p q
 
   -- ---- texts of names
 
@@ -133,32 +84,9 @@ module _ (model : Model) where
   variable_word_one name one other (text, (spells, names)) (text', (spells', names')) =
       spells.1 ∙ (ap name_spelling (variable_text_one name text text' names names') ∙ sym spells'.1)
 
-  -- ---- what commands ask for
+  -- ---- what is taken out
 
   module _ (lawful : IsLawful model) where
-    pub asked_one : (command : Command) (one other : Decision) → AsksDecision model command one → AsksDecision model command other → one ≡ other
-    asked_one (Specify text word) (decisions.Specify name value) (decisions.Specify name' value') (is, (kind, (of_kind, says))) (is', (kind', (of_kind', says'))) =
-        let names = names_one_variable model text name name' lawful is is' in
-        let kinds = kind_one name kind kind' of_kind (subst (λ n. IsVariableOfKind model kind' n) (sym names) of_kind') in
-        let values = said_one kind word value value' lawful says (subst (λ k. SaysValue model k value' word) (sym kinds) says') in
-        λ i. decisions.Specify (names i) (values i)
-    asked_one (Specify text word) (decisions.Specify name value) other p q = absurd q
-    asked_one (Activate text) (decisions.Activate token) (decisions.Activate token') p q = ap decisions.Activate (names_one_token model text token token' lawful p q)
-    asked_one (Activate text) (decisions.Activate token) other p q = absurd q
-    asked_one (Merge text into) (decisions.Merge token target) (decisions.Merge token' target') p q =
-        let tokens = names_one_token model text token token' lawful p.0 q.0 in
-        let targets = names_one_token model into target target' lawful p.1 q.1 in
-        λ i. decisions.Merge (tokens i) (targets i)
-    asked_one (Merge text into) (decisions.Merge token target) other p q = absurd q
-    asked_one (Reject text) (decisions.Reject token) (decisions.Reject token') p q = ap decisions.Reject (names_one_token model text token token' lawful p q)
-    asked_one (Reject text) (decisions.Reject token) other p q = absurd q
-    asked_one (Order text after) (decisions.Order first second) (decisions.Order first' second') p q =
-        let firsts = names_one_token model text first first' lawful p.0 q.0 in
-        let seconds = names_one_token model after second second' lawful p.1 q.1 in
-        λ i. decisions.Order (firsts i) (seconds i)
-    asked_one (Order text after) (decisions.Order first second) other p q = absurd q
-    asked_one command one other p q = absurd p
-
     -- no text names both a global and a token
     not_both : (text : NameText) (number : ℕ) (token : TokenName) → NamesGlobal model text number → NamesToken model text token → ⊥
     not_both text number token global names =
@@ -173,10 +101,10 @@ module _ (model : Model) where
     not_both_named text (Local other rule number) token p q = let tail = p.tail in let tail' = q.0 in cc
 
     pub subject_one : (command : Command) (one other : Subject) → AsksSubject model command one → AsksSubject model command other → one ≡ other
-    subject_one (Reset text) (subjects.Variable name) (subjects.Variable name') p q = ap subjects.Variable (names_one_variable model text name name' lawful p q)
-    subject_one (Reset text) (subjects.Variable name) (subjects.Token token) p q = absurd (not_both_named text name token p q)
-    subject_one (Reset text) (subjects.Variable name) other p q = absurd q
-    subject_one (Reset text) (subjects.Token token) (subjects.Variable name) p q = absurd (not_both_named text name token q p)
+    subject_one (Reset text) (subjects.Var name) (subjects.Var name') p q = ap subjects.Var (names_one_variable model text name name' lawful p q)
+    subject_one (Reset text) (subjects.Var name) (subjects.Token token) p q = absurd (not_both_named text name token p q)
+    subject_one (Reset text) (subjects.Var name) other p q = absurd q
+    subject_one (Reset text) (subjects.Token token) (subjects.Var name) p q = absurd (not_both_named text name token q p)
     subject_one (Reset text) (subjects.Token token) (subjects.Token token') p q = ap subjects.Token (names_one_token model text token token' lawful p q)
     subject_one (Reset text) (subjects.Token token) other p q = absurd q
     subject_one (ResetOrder text after) (subjects.Order first second) (subjects.Order first' second') p q =

@@ -3,14 +3,14 @@ use Rattle.std.specs.Prelude.{◌≡◌, ℕ, ◌≤◌, ◌⊎◌, Bool, false,
 use Rattle.std.specs.Fmt.{decimal}
 use Rattle.session_loop.specs.declared.reply.Answer.{Answer}
 use Rattle.model_core.specs.History.{standing}
-use Rattle.plan_core.specs.PlanTexts.{IsPlanText}
+use Rattle.plan_text.specs.PlanTexts.{IsPlanText}
 use Rattle.plan_db.specs.Database.{Database}
 use Rattle.plan_defs.specs.declared.plan.Plan.{Plan}
 use Rattle.plan_defs.specs.Broken.{AgreesWith}
 use Rattle.plan_defs.specs.Valid.{IsValid}
-use Rattle.plan_search.specs.Search.{SearchOutcome, Stops, Searches}
-use Rattle.plan_search.specs.SearchLaws.{IsPlanFor}
-use Rattle.plan_swap.specs.SwapLaws.{count_of_tokens}
+use Rattle.law_search.specs.Search.{SearchOutcome, Stops, Searches}
+use Rattle.law_search.specs.SearchLaws.{IsPlanFor}
+use Rattle.law_search.specs.SwapLaws.{count_of_tokens}
 use Rattle.script_lang.specs.declared.command.Command.TheVariants.{Solve}
 use Rattle.script_lang.specs.Line.{ReadsLine}
 use Rattle.session_replies.specs.Lines.{with_line_feed}

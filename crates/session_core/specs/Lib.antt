@@ -1,3 +1,4 @@
+pub mod Asking
 pub mod Reasons
 pub mod Replies
 pub mod Steps

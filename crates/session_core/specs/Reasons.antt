@@ -1,5 +1,7 @@
 -- The reasons for which a line is refused, and how a step is answered.
 use Rattle.std.specs.Prelude.{ℕ, List, ◌++◌, codes, Result, Ok, Err}
+use Rattle.model_core.specs.declared.refusal.Refusal.{Refusal}
+use Rattle.model_core.specs.declared.refusal.Refusal.TheVariants as refusals
 use Rattle.plan_db.specs.declared.fault.Outcome.{Outcome}
 use Rattle.plan_db.specs.declared.fault.Outcome.TheVariants.{Consistent}
 use Rattle.plan_db.specs.declared.fault.Outcome.TheVariants as outcome
@@ -7,20 +9,24 @@ use Rattle.session_replies.specs.Lines.{with_line_feed}
 use Rattle.session_core.specs.declared.reason.RefusalReason.{RefusalReason}
 use Rattle.session_core.specs.declared.reason.RefusalReason.TheVariants as reason
 
+-- the word that is printed for the reason against a decision
+abbrev pub refusal_word : Refusal → List ℕ
+refusal_word refusals.Unknown = codes "unknown"
+refusal_word refusals.Decided = codes "decided"
+refusal_word refusals.NotInDomain = codes "not-in-domain"
+refusal_word refusals.NotActive = codes "not-active"
+refusal_word refusals.NotSamePredicate = codes "not-same-predicate"
+refusal_word refusals.NotRejectable = codes "not-rejectable"
+refusal_word refusals.SameToken = codes "same"
+refusal_word refusals.ActiveFull = codes "active-full"
+
 -- the word that is printed for the reason
 abbrev pub reason_word : RefusalReason → List ℕ
 reason_word reason.Long = codes "long"
 reason_word reason.Syntax = codes "syntax"
 reason_word reason.Full = codes "full"
 reason_word reason.Inconsistent = codes "inconsistent"
-reason_word reason.Unknown = codes "unknown"
-reason_word reason.Decided = codes "decided"
-reason_word reason.NotInDomain = codes "not-in-domain"
-reason_word reason.NotActive = codes "not-active"
-reason_word reason.NotSamePredicate = codes "not-same-predicate"
-reason_word reason.NotRejectable = codes "not-rejectable"
-reason_word reason.Same = codes "same"
-reason_word reason.ActiveFull = codes "active-full"
+reason_word (reason.Decision why) = refusal_word why
 reason_word reason.NoDecision = codes "no-decision"
 reason_word reason.Nothing = codes "nothing"
 reason_word reason.Consistent = codes "consistent"

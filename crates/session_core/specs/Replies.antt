@@ -10,26 +10,26 @@ use Rattle.model_core.specs.declared.model.Model.{Model}
 use Rattle.model_core.specs.History.{standing}
 use Rattle.model_core.specs.Names.{NamesToken, NamesVariable}
 use Rattle.model_core.specs.State.{State, Gives}
-use Rattle.plan_cycles.specs.TimeCycle.{IsTimeCycle}
+use Rattle.db_edges.specs.TimeCycle.{IsTimeCycle}
 use Rattle.plan_db.specs.Database.{Database, HasLeast, HasCollapsed, Applies, Resets, TakesBack, RefusesFor, HasFormer, HasDecisionOn}
 use Rattle.plan_db.specs.declared.fault.Outcome.{Outcome}
 use Rattle.plan_db.specs.declared.fault.Outcome.TheVariants as outcome
 use Rattle.plan_db.specs.Edges.{AreStandingEdges}
-use Rattle.plan_defs.specs.Refusals.{Refusal}
-use Rattle.plan_defs.specs.Refusals as refusals
+use Rattle.model_core.specs.declared.refusal.Refusal.{Refusal}
+use Rattle.model_core.specs.declared.refusal.Refusal.TheVariants as refusals
 use Rattle.plan_defs.specs.Settling.{IsConflict}
-use Rattle.plan_edges.specs.declared.edge.NamedEdge.{NamedEdge}
-use Rattle.plan_search.specs.Choices.{IsFirstFlaw, AreChoices}
-use Rattle.plan_search.specs.Search.{SearchOutcome, Searches}
-use Rattle.plan_states.specs.Flaws.{Flaw, HasFlaw}
-use Rattle.plan_steps.specs.declared.subject.Subject.{Subject}
-use Rattle.plan_steps.specs.declared.subject.Subject.TheVariants as subjects
+use Rattle.db_edges.specs.declared.edge.NamedEdge.{NamedEdge}
+use Rattle.law_search.specs.Choices.{IsFirstFlaw, AreChoices}
+use Rattle.law_search.specs.Search.{SearchOutcome, Searches}
+use Rattle.plan_defs.specs.Flaws.{Flaw, HasFlaw}
+use Rattle.db_history.specs.declared.subject.Subject.{Subject}
+use Rattle.db_history.specs.declared.subject.Subject.TheVariants as subjects
 use Rattle.script_lang.specs.declared.command.Command.{Command}
 use Rattle.script_lang.specs.declared.command.Command.TheVariants.{Empty, Specify, Activate, Merge, Reject, Order, Reset, ResetOrder}
 use Rattle.script_lang.specs.declared.command.Command.TheVariants as commands
 use Rattle.session_replies.specs.Lines.{with_line_feed, counted_lines, IsDomainLine, IsTokenLine, IsDecisionLine, IsEdgeLine, IsFlawLine}
 use Rattle.script_lang.specs.Naming.{AsksDecision, AsksNothing}
-use Rattle.solver_core.specs.declared.ending.SearchEnd.{SearchEnd}
+use Rattle.flaw_core.specs.declared.ending.SearchEnd.{SearchEnd}
 use Rattle.solver_core.specs.Solving.{TellsEnd}
 use Rattle.session_replies.specs.Texts.{TellsSearch}
 use Rattle.session_core.specs.declared.reason.RefusalReason.{RefusalReason}
@@ -66,20 +66,13 @@ abbrev pub TakesAsked : Database → Command → Result Outcome RefusalReason �
 TakesAsked old command (Ok found) new =
     (decision : Decision) × (AsksDecision old.model command decision × Applies old decision (Ok found) new)
 TakesAsked old command (Err reason.Inconsistent) new = HasCollapsed old × (new ≡ old)
-TakesAsked old command (Err reason.Unknown) new =
-    (AsksInVain old command ⊎ RefusesAsked old command refusals.Unknown) × (new ≡ old)
-TakesAsked old command (Err reason.Decided) new = RefusesAsked old command refusals.Decided × (new ≡ old)
-TakesAsked old command (Err reason.NotInDomain) new = RefusesAsked old command refusals.NotInDomain × (new ≡ old)
-TakesAsked old command (Err reason.NotActive) new = RefusesAsked old command refusals.NotActive × (new ≡ old)
-TakesAsked old command (Err reason.NotSamePredicate) new = RefusesAsked old command refusals.NotSamePredicate × (new ≡ old)
-TakesAsked old command (Err reason.NotRejectable) new = RefusesAsked old command refusals.NotRejectable × (new ≡ old)
-TakesAsked old command (Err reason.Same) new = RefusesAsked old command refusals.SameToken × (new ≡ old)
-TakesAsked old command (Err reason.ActiveFull) new = RefusesAsked old command refusals.ActiveFull × (new ≡ old)
+TakesAsked old command (Err (reason.Decision why)) new =
+    ((AsksInVain old command × (why ≡ refusals.Unknown)) ⊎ RefusesAsked old command why) × (new ≡ old)
 TakesAsked old command (Err why) new = ⊥
 
 -- the command asks for the decision on this to be taken out
 abbrev pub AsksSubject : Model → Command → Subject → Type 0
-AsksSubject model (Reset text) (subjects.Variable name) = NamesVariable model text name
+AsksSubject model (Reset text) (subjects.Var name) = NamesVariable model text name
 AsksSubject model (Reset text) (subjects.Token token) = NamesToken model text token
 AsksSubject model (ResetOrder text after) (subjects.Order first second) =
     NamesToken model text first × NamesToken model after second
@@ -127,7 +120,7 @@ abbrev pub TellsDomain : Model → NameText → State → List ℕ → Type 0
 TellsDomain model text state reply =
     ((name : VarName) × (domain : Domain) × (line : List ℕ)
     × (NamesVariable model text name × Gives state name domain × IsDomainLine model name domain line × (reply ≡ with_line_feed line)))
-    ⊎ (NamesNone model state text × (reply ≡ refusal reason.Unknown))
+    ⊎ (NamesNone model state text × (reply ≡ refusal (reason.Decision refusals.Unknown)))
 
 -- the tokens in order, each with what has become of it
 abbrev pub TellsTokens : Model → List Decision → State → List ℕ → Type 0
@@ -169,7 +162,21 @@ RepliesSearch bound steps old reply new =
     × (Searches old.model bound steps (standing old.history) outcome × TellsEnd steps outcome old end new
     × TellsSearch end new reply)
 
+-- the reply to `solve` where the history isn't full: that the decisions leave nothing, or how the search ended
+abbrev pub RepliesSolve : ℕ → ℕ → Database → List ℕ → Database → Type 0
+RepliesSolve steps tokens old reply new =
+    (HasCollapsed old × (reply ≡ outcome_text outcome.Inconsistent) × (new ≡ old))
+    ⊎ (((state : State) × HasLeast old state) × RepliesSearch tokens steps old reply new)
+
 -- ---- commands
+
+-- the reply to a command that asks for a decision
+abbrev pub RepliesDecision : Database → Command → List ℕ → Database → Type 0
+RepliesDecision old command reply new = UnlessFull (RepliesStep (TakesAsked old command)) old reply new
+
+-- the reply to one that asks for a decision to be taken out
+abbrev pub RepliesReset : Database → Command → List ℕ → Database → Type 0
+RepliesReset old command reply new = UnlessFull (RepliesStep (ResetsAsked old command)) old reply new
 
 -- what is told of a database, which stays
 abbrev pub Keeping : (Database → List ℕ → Type 0) → Database → List ℕ → Database → Type 0
@@ -178,15 +185,13 @@ Keeping Tells old reply new = Tells old reply × (new ≡ old)
 -- The reply to a command, and the database then.
 abbrev pub RepliesTo : Database → Command → List ℕ → Database → Type 0
 RepliesTo old Empty reply new = (reply ≡ []) × (new ≡ old)
-RepliesTo old (Specify variable value) reply new =
-    UnlessFull (RepliesStep (TakesAsked old (Specify variable value))) old reply new
-RepliesTo old (Activate token) reply new = UnlessFull (RepliesStep (TakesAsked old (Activate token))) old reply new
-RepliesTo old (Merge token target) reply new = UnlessFull (RepliesStep (TakesAsked old (Merge token target))) old reply new
-RepliesTo old (Reject token) reply new = UnlessFull (RepliesStep (TakesAsked old (Reject token))) old reply new
-RepliesTo old (Order first second) reply new = UnlessFull (RepliesStep (TakesAsked old (Order first second))) old reply new
-RepliesTo old (Reset subject) reply new = UnlessFull (RepliesStep (ResetsAsked old (Reset subject))) old reply new
-RepliesTo old (ResetOrder first second) reply new =
-    UnlessFull (RepliesStep (ResetsAsked old (ResetOrder first second))) old reply new
+RepliesTo old (Specify variable value) reply new = RepliesDecision old (Specify variable value) reply new
+RepliesTo old (Activate token) reply new = RepliesDecision old (Activate token) reply new
+RepliesTo old (Merge token target) reply new = RepliesDecision old (Merge token target) reply new
+RepliesTo old (Reject token) reply new = RepliesDecision old (Reject token) reply new
+RepliesTo old (Order first second) reply new = RepliesDecision old (Order first second) reply new
+RepliesTo old (Reset subject) reply new = RepliesReset old (Reset subject) reply new
+RepliesTo old (ResetOrder first second) reply new = RepliesReset old (ResetOrder first second) reply new
 RepliesTo old commands.Undo reply new = RepliesStep (UndoesLast old) reply new
 RepliesTo old (commands.Domain variable) reply new = Keeping (TellsState (TellsDomain old.model variable)) old reply new
 RepliesTo old commands.Tokens reply new =
@@ -194,10 +199,7 @@ RepliesTo old commands.Tokens reply new =
 RepliesTo old commands.Decisions reply new =
     TellsDecisions old.model (codes "decisions") (standing old.history) reply × (new ≡ old)
 RepliesTo old commands.Flaws reply new = Keeping (TellsState (TellsFlaw old.model (standing old.history))) old reply new
-RepliesTo old (commands.Solve steps tokens) reply new =
-    UnlessFull (λ answered after.
-    (HasCollapsed old × (answered ≡ outcome_text outcome.Inconsistent) × (after ≡ old))
-    ⊎ (((state : State) × HasLeast old state) × RepliesSearch tokens steps old answered after)) old reply new
+RepliesTo old (commands.Solve steps tokens) reply new = UnlessFull (RepliesSolve steps tokens old) old reply new
 RepliesTo old commands.Why reply new = Keeping (TellsCollapse (TellsConflict old)) old reply new
 RepliesTo old commands.Cycle reply new = Keeping (TellsCollapse (TellsCycle old)) old reply new
 RepliesTo old commands.Quit reply new = (reply ≡ []) × (new ≡ old)

@@ -1,41 +1,40 @@
 -- What the functions behind the commands answer: a step or why it isn't made, and a reply or that memory was wanting for it.
-use Rattle.std.specs.Prelude.{◌≡◌, ◌⊎◌, ⊤, List, ℕ, Result, Ok, Err}
+use Rattle.std.specs.Prelude.{◌≡◌, ℕ, List, Option, Result, Ok, Err, MatchOption}
 use Rattle.std.specs.declared.alloc.AllocError.{AllocError}
-use Rattle.eu_name.specs.declared.name_text.NameText.{NameText}
 use Rattle.model_core.specs.declared.model.Model.{Model}
-use Rattle.model_core.specs.Names.{NamesToken, NamesVariable}
-use Rattle.model_core.specs.State.{State}
-use Rattle.plan_db.specs.Database.{Database, HasLeast, HasCollapsed, Resets, HasDecisionOn}
+use Rattle.model_core.specs.declared.refusal.Refusal.{Refusal}
+use Rattle.model_core.specs.declared.refusal.Refusal.TheVariants as refusals
+use Rattle.plan_db.specs.Database.{Database, Resets, HasDecisionOn}
 use Rattle.plan_db.specs.declared.fault.DbFault.{DbFault}
 use Rattle.plan_db.specs.declared.fault.DbFault.TheVariants as fault
 use Rattle.plan_db.specs.declared.fault.Outcome.{Outcome}
-use Rattle.plan_db.specs.declared.fault.Outcome.TheVariants as outcome
-use Rattle.plan_steps.specs.declared.subject.Subject.{Subject}
-use Rattle.plan_steps.specs.declared.subject.Subject.TheVariants as subjects
+use Rattle.db_history.specs.declared.subject.Subject.{Subject}
 use Rattle.script_lang.specs.declared.command.Command.{Command}
-use Rattle.script_lang.specs.declared.command.Command.TheVariants.{Specify, Activate, Merge, Reject, Order}
-use Rattle.solver_core.specs.Solving.{TakesMore}
 use Rattle.session_core.specs.declared.reason.RefusalReason.{RefusalReason}
 use Rattle.session_core.specs.declared.reason.RefusalReason.TheVariants as reason
 use Rattle.session_core.specs.declared.reason.StepStop.{StepStop}
 use Rattle.session_core.specs.declared.reason.StepStop.TheVariants.{Refused, Memory}
 use Rattle.session_core.specs.Reasons.{outcome_text, refusal}
-use Rattle.session_core.specs.Replies.{RepliesTo, RepliesSearch, IsLost}
+use Rattle.session_core.specs.Replies.{AsksSubject, RepliesTo, IsLost}
 
 -- ---- steps
+
+-- that a decision is refused for this reason
+abbrev pub refused_for : Refusal → StepStop
+refused_for why = Refused (reason.Decision why)
 
 -- how a fault of the database stops a step
 abbrev pub stop_for : DbFault → StepStop
 stop_for fault.Behind = Memory
 stop_for fault.InInconsistent = Refused reason.Inconsistent
-stop_for fault.Unknown = Refused reason.Unknown
-stop_for fault.Decided = Refused reason.Decided
-stop_for fault.NotInDomain = Refused reason.NotInDomain
-stop_for fault.NotActive = Refused reason.NotActive
-stop_for fault.NotSamePredicate = Refused reason.NotSamePredicate
-stop_for fault.NotRejectable = Refused reason.NotRejectable
-stop_for fault.Same = Refused reason.Same
-stop_for fault.ActiveFull = Refused reason.ActiveFull
+stop_for fault.Unknown = refused_for refusals.Unknown
+stop_for fault.Decided = refused_for refusals.Decided
+stop_for fault.NotInDomain = refused_for refusals.NotInDomain
+stop_for fault.NotActive = refused_for refusals.NotActive
+stop_for fault.NotSamePredicate = refused_for refusals.NotSamePredicate
+stop_for fault.NotRejectable = refused_for refusals.NotRejectable
+stop_for fault.Same = refused_for refusals.SameToken
+stop_for fault.ActiveFull = refused_for refusals.ActiveFull
 stop_for fault.NoSuchDecision = Refused reason.NoDecision
 stop_for fault.Nothing = Refused reason.Nothing
 stop_for fault.Memory = Memory
@@ -64,23 +63,10 @@ ResetsOn old subject (Err (Refused reason.NoDecision)) new = (HasDecisionOn old 
 ResetsOn old subject (Err (Refused why)) new = ⊥
 ResetsOn old subject (Err Memory) new = new ≡ old
 
--- the same of one of the subjects that are asked for
-abbrev pub ResetsThat : (Subject → Type 0) → Database → Result Outcome StepStop → Database → Type 0
-ResetsThat Asked old (Ok found) new = (subject : Subject) × (Asked subject × Resets old subject (Ok found) new)
-ResetsThat Asked old (Err (Refused reason.NoDecision)) new =
-    ((subject : Subject) → Asked subject → HasDecisionOn old subject → ⊥) × (new ≡ old)
-ResetsThat Asked old (Err (Refused why)) new = ⊥
-ResetsThat Asked old (Err Memory) new = new ≡ old
-
--- the subject is the variable that the text names
-abbrev pub IsVariableNamed : Model → NameText → Subject → Type 0
-IsVariableNamed model text (subjects.Variable name) = NamesVariable model text name
-IsVariableNamed model text subject = ⊥
-
--- the subject is the token that it names
-abbrev pub IsTokenNamed : Model → NameText → Subject → Type 0
-IsTokenNamed model text (subjects.Token token) = NamesToken model text token
-IsTokenNamed model text subject = ⊥
+-- what the command names: the subject on which it asks for the decision to be taken out, or nothing
+abbrev pub FindsSubject : Model → Command → Option Subject → Type 0
+FindsSubject model command answer =
+    MatchOption answer ((subject : Subject) → AsksSubject model command subject → ⊥) (AsksSubject model command)
 
 -- ---- replies
 
@@ -92,28 +78,3 @@ Answers IsReplied old (Err none) new = IsLost IsReplied old new
 -- what a command is answered
 abbrev pub AnswersCommand : Database → Command → Result (List ℕ) AllocError → Database → Type 0
 AnswersCommand old command result new = Answers (RepliesTo old command) old result new
-
--- ---- searches
-
--- the reply to `solve` where the history isn't full: that the decisions have collapsed, or how the search ended
-abbrev pub RepliesSolve : ℕ → ℕ → Database → List ℕ → Database → Type 0
-RepliesSolve steps tokens old reply new =
-    (HasCollapsed old × (reply ≡ outcome_text outcome.Inconsistent) × (new ≡ old))
-    ⊎ (((state : State) × HasLeast old state) × RepliesSearch tokens steps old reply new)
-
--- only decisions were taken since
-pub record IsTakenSince (former database : Database) : Type 0 where
-  pub model : database.model ≡ former.model
-  pub count : ℕ
-  pub more : TakesMore count former.history database.history
-
--- ---- commands
-
--- the command asks for a decision
-abbrev pub IsDeciding : Command → Type 0
-IsDeciding (Specify variable value) = ⊤
-IsDeciding (Activate token) = ⊤
-IsDeciding (Merge token target) = ⊤
-IsDeciding (Reject token) = ⊤
-IsDeciding (Order first second) = ⊤
-IsDeciding command = ⊥

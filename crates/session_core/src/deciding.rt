@@ -3,20 +3,21 @@
 ghost use Rattle.std.specs.Prelude.{◌≡◌, false, IfOk};
 ghost use Rattle.model_core.specs.declared.decision.Decision.{Decision as Taken};
 ghost use Rattle.plan_db.specs.Database.{IsSound};
-ghost use Rattle.plan_words.specs.Indexing.{IsModelIndex};
+ghost use Rattle.plan_resolve.specs.Indexing.{IsModelIndex};
 ghost use Rattle.script_lang.specs.declared.command.Command.{Command as Wanted};
-ghost use Rattle.script_lang.specs.Naming.{AsksDecision, FindsDecision, StandsForDecision};
+ghost use Rattle.script_lang.specs.Naming.{AsksDecision, FindsDecision, StandsForDecision, decision_command};
 ghost use Rattle.session_core.specs.Replies.{TakesAsked};
-ghost use Rattle.session_core.specs.Steps.{AnswersCommand, IsDeciding, StepsOr};
+ghost use Rattle.session_core.specs.Steps.{AnswersCommand, StepsOr};
 
 use super::reason::{RefusalReason, StepStop, step_of};
 use super::replies::{refused, step_reply};
 use super::undoing::is_full;
 use eu_name::bytes::Bytes;
 use model_core::decision::Decision;
+use model_core::refusal::Refusal;
 use plan_db::{Db, Outcome};
-use plan_words::indexed::ModelIndex;
-use script_lang::{Command, decision_asked};
+use plan_resolve::indexed::ModelIndex;
+use script_lang::{DecisionText, decision_asked};
 use std::alloc::{AllocError, Global};
 
 // Takes a decision that stands for one that is asked for.
@@ -29,46 +30,49 @@ fn take(db: &mut Db, decision: Decision) -> Result<Outcome, StepStop>
     step_of(db.apply(&decision))
 }
 
-// What the command asks for in the model.
-fn asked_of(db: &Db, index: &ModelIndex, command: &Command) -> Result<Option<Decision>, AllocError>
+// What the words ask for in the database's model.
+fn find_decision(
+    db: &Db,
+    index: &ModelIndex,
+    asked: &DecisionText,
+) -> Result<Option<Decision>, AllocError>
     requires { IsModelIndex db.now.database.model index.now }
-    ensures asked { IfOk result (FindsDecision db.now.database.model command.now) }
+    ensures found { IfOk result (FindsDecision db.now.database.model (decision_command asked.now)) }
     ensures sound { IsSound db.now.database }
 {
-    decision_asked(&index.of(db.model()), command)
+    decision_asked(&index.of(db.model()), asked)
 }
 
-// Takes the decision that the command asks for, where something is possible.
-fn decide(db: &mut Db, index: &ModelIndex, command: &Command) -> Result<Outcome, StepStop>
+// Takes the decision that the words ask for, where something is possible.
+fn decide(db: &mut Db, index: &ModelIndex, asked: &DecisionText) -> Result<Outcome, StepStop>
     requires ready { db.old.behind ≡ false }
     requires index { IsModelIndex db.old.database.model index.now }
-    ensures { StepsOr (TakesAsked db.old.database command.now) db.old.database result db.new.database }
+    ensures { StepsOr (TakesAsked db.old.database (decision_command asked.now)) db.old.database result db.new.database }
 {
     if !db.is_consistent() {
         return Err(StepStop::Refused(RefusalReason::Inconsistent));
     }
-    match asked_of(db, index, command) {
+    match find_decision(db, index, asked) {
         Ok(Some(decision)) => take(db, decision),
-        Ok(None) => Err(StepStop::Refused(RefusalReason::Unknown)),
+        Ok(None) => Err(StepStop::Refused(RefusalReason::Decision(Refusal::Unknown))),
         Err(_none) => Err(StepStop::Memory),
     }
 }
 
-/// Takes the decision that the command asks for, and says what the decisions then leave.
+/// Takes the decision that the words ask for, and says what the decisions then leave.
 pub fn decide_reply(
     alloc: Global,
     db: &mut Db,
     index: &ModelIndex,
-    command: &Command,
+    asked: &DecisionText,
 ) -> Result<Bytes, AllocError>
     requires ready { db.old.behind ≡ false }
     requires index { IsModelIndex db.old.database.model index.now }
-    requires deciding { IsDeciding command.now }
-    ensures { AnswersCommand db.old.database command.now result db.new.database }
+    ensures { AnswersCommand db.old.database (decision_command asked.now) result db.new.database }
 {
     if is_full(db) {
         return refused(alloc, RefusalReason::Full);
     }
-    let step = decide(db, index, command);
+    let step = decide(db, index, asked);
     step_reply(alloc, step)
 }

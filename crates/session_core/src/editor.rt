@@ -3,21 +3,21 @@
 ghost use Rattle.std.specs.Prelude.{◌≡◌, ℕ, true, false, List, Ok, IfOk, OnErr, MatchBool};
 ghost use Rattle.session_loop.specs.Answering.{LeavesUnanswered};
 ghost use Rattle.plan_db.specs.Database.{IsSound};
-ghost use Rattle.plan_words.specs.Indexing.{IsModelIndex};
+ghost use Rattle.plan_resolve.specs.Indexing.{IsModelIndex};
 ghost use Rattle.script_lang.specs.Line.{IsCommand};
+ghost use Rattle.session_core.specs.Asking.{asked_command};
 ghost use Rattle.session_core.specs.LineReplies.{AnswersLine, AnswersRead, goes_on_behind};
 ghost use Rattle.session_core.specs.Reasons.{refusal};
 ghost use Rattle.session_core.specs.Replies.{IsLost, RepliesTo};
 ghost use Rattle.session_core.specs.Steps.{AnswersCommand};
 
-use super::explaining::{why_cycle, why_reply};
-use super::telling::{tell_decisions, tell_domain, tell_flaw, tell_tokens};
+use super::telling::tell;
 use crate::replies::{no_reply, refused};
-use crate::{RefusalReason, decide_reply, reset_order_reply, reset_reply, search_reply, undo};
+use crate::{Asked, RefusalReason, decide_reply, reset_reply, search_reply, sort_command, undo};
 use eu_name::bytes::Bytes;
 use plan_db::Db;
-use plan_release::let_go;
-use plan_words::indexed::ModelIndex;
+use plan_db::release::let_go;
+use plan_resolve::indexed::ModelIndex;
 use script_lang::{Command, LineFault, read_line};
 use session_loop::reply::{Answer, Responder};
 use std::alloc::{AllocError, Global};
@@ -34,7 +34,7 @@ pub struct Editor {
 
 impl Model for Editor {
     ghost use Rattle.plan_db.specs.Database.{Database};
-    ghost use Rattle.plan_words.specs.Indexing.{IsModelIndex};
+    ghost use Rattle.plan_resolve.specs.Indexing.{IsModelIndex};
 
     ghost Value = { Database };
 
@@ -126,11 +126,7 @@ fn answer_ready(
     ensures model { db.new.database.model ≡ db.old.database.model }
 {
     match read_line(alloc, line) {
-        Ok(command) => {
-            let answer = answer_command(alloc, db, index, &command);
-            drop(command);
-            answer
-        }
+        Ok(command) => answer_command(alloc, db, index, command),
         Err(LineFault::TooLong) => refuse_line(alloc, RefusalReason::Long),
         Err(LineFault::Syntax) => refuse_line(alloc, RefusalReason::Syntax),
         Err(LineFault::Memory) => Err(AllocError),
@@ -155,77 +151,69 @@ fn answer_command(
     alloc: Global,
     db: &mut Db,
     index: &ModelIndex,
-    command: &Command,
+    command: Command,
 ) -> Result<Answer, AllocError>
     requires ready { db.old.behind ≡ false }
     requires index { IsModelIndex db.old.database.model index.now }
-    requires words { (words : List (List ℕ)) × IsCommand words command.now }
-    ensures answer { IfOk result (λ answer. AnswersRead db.old.database (Ok command.now) answer db.new.database) }
-    ensures memory { OnErr result (IsLost (RepliesTo db.old.database command.now) db.old.database db.new.database) }
+    requires words { (words : List (List ℕ)) × IsCommand words command }
+    ensures answer { IfOk result (λ answer. AnswersRead db.old.database (Ok command) answer db.new.database) }
+    ensures memory { OnErr result (IsLost (RepliesTo db.old.database command) db.old.database db.new.database) }
     ensures model { db.new.database.model ≡ db.old.database.model }
 {
-    let goes_on = goes_on_behind(command);
-    match carry_out(alloc, db, index, command) {
+    let asked = sort_command(command);
+    let answer = answer_asked(alloc, db, index, &asked);
+    drop(asked);
+    answer
+}
+
+// Does what is asked for, and answers it.
+fn answer_asked(
+    alloc: Global,
+    db: &mut Db,
+    index: &ModelIndex,
+    asked: &Asked,
+) -> Result<Answer, AllocError>
+    requires ready { db.old.behind ≡ false }
+    requires index { IsModelIndex db.old.database.model index.now }
+    requires words { (words : List (List ℕ)) × IsCommand words (asked_command asked.now) }
+    ensures answer { IfOk result
+        (λ answer. AnswersRead db.old.database (Ok (asked_command asked.now)) answer db.new.database) }
+    ensures memory { OnErr result
+        (IsLost (RepliesTo db.old.database (asked_command asked.now)) db.old.database db.new.database) }
+    ensures model { db.new.database.model ≡ db.old.database.model }
+{
+    let goes_on = goes_on_behind(asked);
+    match carry_out(alloc, db, index, asked) {
         Ok(reply) => Ok(Answer { reply, goes_on }),
         Err(none) => Err(none),
     }
 }
 
-// Whether the session goes on behind the command.
-fn goes_on_behind(command: &Command) -> bool
-    ensures { result ≡ goes_on_behind command.now }
+// Whether the session goes on behind it.
+fn goes_on_behind(asked: &Asked) -> bool
+    ensures { result ≡ goes_on_behind (asked_command asked.now) }
 {
-    match command {
-        Command::Quit => false,
-        Command::Empty
-        | Command::Specify { .. }
-        | Command::Activate { .. }
-        | Command::Merge { .. }
-        | Command::Reject { .. }
-        | Command::Order { .. }
-        | Command::Reset { .. }
-        | Command::ResetOrder { .. }
-        | Command::Undo
-        | Command::Domain { .. }
-        | Command::Tokens
-        | Command::Decisions
-        | Command::Flaws
-        | Command::Solve { .. }
-        | Command::Why
-        | Command::Cycle => true,
-    }
+    !matches!(asked, Asked::Quit)
 }
 
-// Does what a command says, and gives the reply.
+// Does what is asked for, and gives the reply.
 fn carry_out(
     alloc: Global,
     db: &mut Db,
     index: &ModelIndex,
-    command: &Command,
+    asked: &Asked,
 ) -> Result<Bytes, AllocError>
     requires ready { db.old.behind ≡ false }
     requires index { IsModelIndex db.old.database.model index.now }
-    requires words { (words : List (List ℕ)) × IsCommand words command.now }
-    ensures { AnswersCommand db.old.database command.now result db.new.database }
+    requires words { (words : List (List ℕ)) × IsCommand words (asked_command asked.now) }
+    ensures { AnswersCommand db.old.database (asked_command asked.now) result db.new.database }
 {
-    match command {
-        Command::Empty | Command::Quit => Ok(no_reply(alloc)),
-        Command::Specify { .. }
-        | Command::Activate { .. }
-        | Command::Merge { .. }
-        | Command::Reject { .. }
-        | Command::Order { .. } => decide_reply(alloc, db, index, command),
-        Command::Reset { subject } => reset_reply(alloc, db, index, subject),
-        Command::ResetOrder { first, second } => {
-            reset_order_reply(alloc, db, index, first, second)
-        }
-        Command::Undo => undo(alloc, db),
-        Command::Domain { variable } => tell_domain(alloc, db, index, variable),
-        Command::Tokens => tell_tokens(alloc, db),
-        Command::Decisions => tell_decisions(alloc, db),
-        Command::Flaws => tell_flaw(alloc, db),
-        Command::Solve { steps, tokens } => search_reply(alloc, db, *steps, *tokens),
-        Command::Why => why_reply(alloc, db),
-        Command::Cycle => why_cycle(alloc, db),
+    match asked {
+        Asked::Nothing | Asked::Quit => Ok(no_reply(alloc)),
+        Asked::Decision(text) => decide_reply(alloc, db, index, text),
+        Asked::Reset(text) => reset_reply(alloc, db, index, text),
+        Asked::Undo => undo(alloc, db),
+        Asked::Tell(query) => tell(alloc, db, index, query),
+        Asked::Search { steps, tokens } => search_reply(alloc, db, *steps, *tokens),
     }
 }

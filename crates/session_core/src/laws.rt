@@ -4,7 +4,7 @@ ghost use Rattle.session_loop.specs.Laws.{HasOneReply};
 ghost use Rattle.session_core.specs.LineReplies.{AnswersLine};
 ghost use Rattle.session_core.specs.Laws.{PrintedEndsProve};
 
-use plan_soundness::a_state_has_one_plan;
+use law_states::flawless::a_state_has_one_plan;
 use script_lang::laws::lines_have_one_answer;
 
 /// A law: each line of a sound database has one answer, and leaves one database.

@@ -1,11 +1,11 @@
-//! What a session answers to each line of a script: the responder of `session_loop` over the database of `plan_db`.
-//!
-//! With `let mut editor = Editor::new(alloc, db)?;` the call `editor.answer(b"specify x 4")` takes the decision, or refuses it
-//! for the first reason that there is, and gives the reply. `editor.into_db()` gives the database back. `decide_reply(alloc,
-//! &mut db, &index, &command)` does so for one command. `laws` has that each line has one reply, and what the replies to a
-//! search prove.
+//! What a session answers to each line of a script: `editor.answer(b"specify x 4")?`, over a database of plan_db.
+//! A `Db` comes in, and `into_db` gives it back; a line comes in, and its reply goes out with whether the session goes on.
+//! Called by europa_run, which runs `session` over an `Editor`. `laws` has that each line has one reply.
+//! A command is sorted once by what it asks for (`Asked`), and each refusal has one name (`RefusalReason`).
+//! Knows nothing of files, input and output. Which calls of the database answer what is asked may change.
 #![tactic(auto)]
 
+pub mod asked;
 mod counting;
 pub mod deciding;
 pub mod editor;
@@ -18,9 +18,11 @@ pub mod searching;
 mod telling;
 pub mod undoing;
 
+pub use asked::{Asked, Query, SubjectText, sort_command};
 pub use deciding::decide_reply;
 pub use editor::Editor;
 pub use reason::RefusalReason;
-pub use resetting::{reset_order_reply, reset_reply};
+pub use resetting::reset_reply;
 pub use searching::search_reply;
+pub use session_loop::session;
 pub use undoing::undo;

@@ -1,9 +1,10 @@
 //! Why a line is refused, and why a step isn't made.
 
 ghost use Rattle.std.specs.Prelude.{◌≡◌};
-ghost use Rattle.session_core.specs.Reasons.{reason_word};
-ghost use Rattle.session_core.specs.Steps.{step_for, stop_for};
+ghost use Rattle.session_core.specs.Reasons.{reason_word, refusal_word};
+ghost use Rattle.session_core.specs.Steps.{refused_for, step_for, stop_for};
 
+use model_core::refusal::Refusal;
 use plan_db::{DbFault, Outcome};
 
 /// Why a line is refused, in the order in which the reasons are looked for.
@@ -17,22 +18,8 @@ pub enum RefusalReason {
     Full,
     /// A decision is asked for, and those that stand leave nothing possible.
     Inconsistent,
-    /// There is no such token, variable or value.
-    Unknown,
-    /// The variable has a value already, or something is decided of the token.
-    Decided,
-    /// The variable was never allowed to have this value.
-    NotInDomain,
-    /// A token would have to take place that doesn't.
-    NotActive,
-    /// A token can be merged only into one of its predicate.
-    NotSamePredicate,
-    /// Only a rejectable can be rejected.
-    NotRejectable,
-    /// A token can't be put before itself.
-    Same,
-    /// As many tokens take place as may.
-    ActiveFull,
+    /// The decision is refused for this reason. `Unknown` is also said of a line that names no token, variable or value.
+    Decision(Refusal),
     /// There is no such decision to take out.
     NoDecision,
     /// There is no step to take back.
@@ -49,6 +36,22 @@ pub enum StepStop {
     Memory,
 }
 
+// The word that is printed for the reason against a decision.
+fn refusal_word(refusal: Refusal) -> &'static str
+    ensures { result.now ≡ refusal_word refusal }
+{
+    match refusal {
+        Refusal::Unknown => "unknown",
+        Refusal::Decided => "decided",
+        Refusal::NotInDomain => "not-in-domain",
+        Refusal::NotActive => "not-active",
+        Refusal::NotSamePredicate => "not-same-predicate",
+        Refusal::NotRejectable => "not-rejectable",
+        Refusal::SameToken => "same",
+        Refusal::ActiveFull => "active-full",
+    }
+}
+
 /// The word that is printed for the reason.
 pub fn word_of(reason: RefusalReason) -> &'static str
     ensures { result.now ≡ reason_word reason }
@@ -58,18 +61,18 @@ pub fn word_of(reason: RefusalReason) -> &'static str
         RefusalReason::Syntax => "syntax",
         RefusalReason::Full => "full",
         RefusalReason::Inconsistent => "inconsistent",
-        RefusalReason::Unknown => "unknown",
-        RefusalReason::Decided => "decided",
-        RefusalReason::NotInDomain => "not-in-domain",
-        RefusalReason::NotActive => "not-active",
-        RefusalReason::NotSamePredicate => "not-same-predicate",
-        RefusalReason::NotRejectable => "not-rejectable",
-        RefusalReason::Same => "same",
-        RefusalReason::ActiveFull => "active-full",
+        RefusalReason::Decision(refusal) => refusal_word(refusal),
         RefusalReason::NoDecision => "no-decision",
         RefusalReason::Nothing => "nothing",
         RefusalReason::Consistent => "consistent",
     }
+}
+
+// That a decision is refused for this reason.
+fn refused_for(refusal: Refusal) -> StepStop
+    ensures { result ≡ refused_for refusal }
+{
+    StepStop::Refused(RefusalReason::Decision(refusal))
 }
 
 // How a fault of the database stops a step.
@@ -79,14 +82,14 @@ fn stop_of(fault: DbFault) -> StepStop
     match fault {
         DbFault::Behind => StepStop::Memory,
         DbFault::InInconsistent => StepStop::Refused(RefusalReason::Inconsistent),
-        DbFault::Unknown => StepStop::Refused(RefusalReason::Unknown),
-        DbFault::Decided => StepStop::Refused(RefusalReason::Decided),
-        DbFault::NotInDomain => StepStop::Refused(RefusalReason::NotInDomain),
-        DbFault::NotActive => StepStop::Refused(RefusalReason::NotActive),
-        DbFault::NotSamePredicate => StepStop::Refused(RefusalReason::NotSamePredicate),
-        DbFault::NotRejectable => StepStop::Refused(RefusalReason::NotRejectable),
-        DbFault::Same => StepStop::Refused(RefusalReason::Same),
-        DbFault::ActiveFull => StepStop::Refused(RefusalReason::ActiveFull),
+        DbFault::Unknown => refused_for(Refusal::Unknown),
+        DbFault::Decided => refused_for(Refusal::Decided),
+        DbFault::NotInDomain => refused_for(Refusal::NotInDomain),
+        DbFault::NotActive => refused_for(Refusal::NotActive),
+        DbFault::NotSamePredicate => refused_for(Refusal::NotSamePredicate),
+        DbFault::NotRejectable => refused_for(Refusal::NotRejectable),
+        DbFault::Same => refused_for(Refusal::SameToken),
+        DbFault::ActiveFull => refused_for(Refusal::ActiveFull),
         DbFault::NoSuchDecision => StepStop::Refused(RefusalReason::NoDecision),
         DbFault::Nothing => StepStop::Refused(RefusalReason::Nothing),
         DbFault::Memory => StepStop::Memory,

@@ -1,33 +1,28 @@
 //! Decisions that are taken out.
 
 ghost use Rattle.std.specs.Prelude.{IfOk, MatchOption};
-ghost use Rattle.eu_name.specs.declared.name.TokenName.{TokenName as Token};
 ghost use Rattle.eu_name.specs.declared.name.VarName.{VarName as Variable};
-ghost use Rattle.model_core.specs.Names.{NamesToken, NamesVariable};
+ghost use Rattle.model_core.specs.Names.{NamesVariable};
 ghost use Rattle.model_core.specs.Lawful.{IsLawful};
-ghost use Rattle.plan_words.specs.Indexing.{IsModelIndex};
+ghost use Rattle.plan_resolve.specs.Indexing.{IsModelIndex};
+ghost use Rattle.script_lang.specs.declared.command.Command.{Command as Wanted};
 ghost use Rattle.script_lang.specs.declared.command.Command.TheVariants as commands;
-ghost use Rattle.session_core.specs.Replies.{AsksSubject};
-ghost use Rattle.session_core.specs.Steps.{AnswersCommand, IsTokenNamed, IsVariableNamed, ResetsOn, ResetsThat};
+ghost use Rattle.session_core.specs.Asking.{reset_command};
+ghost use Rattle.session_core.specs.Replies.{ResetsAsked};
+ghost use Rattle.session_core.specs.Steps.{AnswersCommand, FindsSubject, ResetsOn, StepsOr};
 
 use super::reason::{RefusalReason, StepStop, step_of};
 use super::replies::{refused, step_reply};
 use super::undoing::is_full;
+use crate::SubjectText;
 use eu_name::bytes::Bytes;
-use eu_name::name::{TokenName, VarName};
+use eu_name::name::VarName;
 use eu_name::name_text::NameText;
 use plan_db::{Db, Outcome, Subject};
-use plan_words::indexed::ModelIndex;
-use plan_words::resolving::{token_named, variable_named};
+use plan_resolve::indexed::{IndexedModel, ModelIndex};
+use plan_resolve::resolving::{token_named, variable_named};
 use script_lang::asking::tokens_named;
 use std::alloc::{AllocError, Global};
-
-// Takes the decision on the subject out.
-fn reset_on(db: &mut Db, subject: Subject) -> Result<Outcome, StepStop>
-    ensures { ResetsOn db.old.database subject result db.new.database }
-{
-    step_of(db.reset(&subject))
-}
 
 /// The variable that the text names.
 pub fn variable_in(
@@ -44,119 +39,117 @@ pub fn variable_in(
     variable_named(&index.of(db.model()), text)
 }
 
-// The token that the text names.
-fn token_in(db: &Db, index: &ModelIndex, text: &NameText) -> Result<Option<TokenName>, AllocError>
-    requires { IsModelIndex db.now.database.model index.now }
-    ensures named { IfOk result (λ found. MatchOption found
-        ((token : Token) → NamesToken db.now.database.model text.now token → ⊥)
-        (NamesToken db.now.database.model text.now)) }
-    ensures lawful { IsLawful db.now.database.model }
+// The token that the text names, which names no variable.
+fn token_subject(model: &IndexedModel<'_>, text: &NameText) -> Result<Option<Subject>, AllocError>
+    requires lawful { IsLawful model.now }
+    requires none { (name : Variable) → NamesVariable model.now text.now name → ⊥ }
+    ensures { IfOk result (FindsSubject model.now (commands.Reset text.now)) }
 {
-    token_named(&index.of(db.model()), text)
-}
-
-// Takes the decision on the variable that the text names out.
-fn reset_variable(db: &mut Db, index: &ModelIndex, text: &NameText) -> Result<Outcome, StepStop>
-    requires { IsModelIndex db.old.database.model index.now }
-    ensures { ResetsThat (IsVariableNamed db.old.database.model text.now) db.old.database result db.new.database }
-{
-    match variable_in(db, index, text) {
-        Ok(Some(name)) => reset_on(db, Subject::Variable(name)),
-        Ok(None) => Err(StepStop::Refused(RefusalReason::NoDecision)),
-        Err(_none) => Err(StepStop::Memory),
+    let found = token_named(model, text)?;
+    match found {
+        Some(token) => Ok(Some(Subject::Token(token))),
+        None => Ok(None),
     }
 }
 
-// Takes the decision on the token that the text names out.
-fn reset_token(db: &mut Db, index: &ModelIndex, text: &NameText) -> Result<Outcome, StepStop>
-    requires { IsModelIndex db.old.database.model index.now }
-    ensures { ResetsThat (IsTokenNamed db.old.database.model text.now) db.old.database result db.new.database }
+// The variable or the token that the text names.
+fn subject_named(model: &IndexedModel<'_>, text: &NameText) -> Result<Option<Subject>, AllocError>
+    requires { IsLawful model.now }
+    ensures { IfOk result (FindsSubject model.now (commands.Reset text.now)) }
 {
-    match token_in(db, index, text) {
-        Ok(Some(token)) => reset_on(db, Subject::Token(token)),
-        Ok(None) => Err(StepStop::Refused(RefusalReason::NoDecision)),
-        Err(_none) => Err(StepStop::Memory),
+    let found = variable_named(model, text)?;
+    match found {
+        Some(name) => Ok(Some(Subject::Var(name))),
+        None => token_subject(model, text),
     }
 }
 
-// The tokens that the two texts name.
-fn tokens_in(
+// That the token that the one text names is before the one that the other names.
+fn order_named(
+    model: &IndexedModel<'_>,
+    one: &NameText,
+    other: &NameText,
+) -> Result<Option<Subject>, AllocError>
+    requires { IsLawful model.now }
+    ensures { IfOk result (FindsSubject model.now (commands.ResetOrder one.now other.now)) }
+{
+    let found = tokens_named(model, one, other)?;
+    match found {
+        Some((first, second)) => Ok(Some(Subject::Order(first, second))),
+        None => Ok(None),
+    }
+}
+
+// What the decision is on that is to be taken out, by the words for it.
+fn subject_asked(
+    model: &IndexedModel<'_>,
+    asked: &SubjectText,
+) -> Result<Option<Subject>, AllocError>
+    requires { IsLawful model.now }
+    ensures { IfOk result (FindsSubject model.now (reset_command asked.now)) }
+{
+    match asked {
+        SubjectText::Named(text) => subject_named(model, text),
+        SubjectText::Order(one, other) => order_named(model, one, other),
+    }
+}
+
+// Finds that in the database's model.
+fn find_subject(
     db: &Db,
     index: &ModelIndex,
-    one: &NameText,
-    other: &NameText,
-) -> Result<Option<(TokenName, TokenName)>, AllocError>
+    asked: &SubjectText,
+) -> Result<Option<Subject>, AllocError>
     requires { IsModelIndex db.now.database.model index.now }
-    ensures named { IfOk result (λ found. MatchOption found
-        ((first second : Token) → NamesToken db.now.database.model one.now first
-        → NamesToken db.now.database.model other.now second → ⊥)
-        (λ tokens. NamesToken db.now.database.model one.now tokens.0 × NamesToken db.now.database.model other.now tokens.1)) }
+    ensures found { IfOk result (FindsSubject db.now.database.model (reset_command asked.now)) }
     ensures lawful { IsLawful db.now.database.model }
 {
-    tokens_named(&index.of(db.model()), one, other)
+    subject_asked(&index.of(db.model()), asked)
 }
 
-// Takes the decision on what the text names out.
-fn reset_named(db: &mut Db, index: &ModelIndex, text: &NameText) -> Result<Outcome, StepStop>
-    requires { IsModelIndex db.old.database.model index.now }
-    ensures { ResetsThat (AsksSubject db.old.database.model (commands.Reset text.now)) db.old.database result db.new.database }
+// Takes the decision on the subject out.
+fn reset_subject(db: &mut Db, subject: Subject) -> Result<Outcome, StepStop>
+    ensures { ResetsOn db.old.database subject result db.new.database }
 {
-    match reset_variable(db, index, text) {
-        Ok(outcome) => Ok(outcome),
-        Err(StepStop::Refused(_reason)) => reset_token(db, index, text),
-        Err(StepStop::Memory) => Err(StepStop::Memory),
+    step_of(db.reset(&subject))
+}
+
+// Takes the decision on the subject out, if one was found.
+fn reset_found(db: &mut Db, found: Option<Subject>) -> Result<Outcome, StepStop>
+    requires { IsLawful db.old.database.model }
+    ensures { (command : Wanted) → FindsSubject db.old.database.model command found
+        → StepsOr (ResetsAsked db.old.database command) db.old.database result db.new.database }
+{
+    match found {
+        Some(subject) => reset_subject(db, subject),
+        None => Err(StepStop::Refused(RefusalReason::NoDecision)),
     }
 }
 
-// Takes the decision that puts the one token before the other out.
-fn reset_order(
-    db: &mut Db,
-    index: &ModelIndex,
-    one: &NameText,
-    other: &NameText,
-) -> Result<Outcome, StepStop>
+// Takes the decision on what the words name out.
+fn reset(db: &mut Db, index: &ModelIndex, asked: &SubjectText) -> Result<Outcome, StepStop>
     requires { IsModelIndex db.old.database.model index.now }
-    ensures { ResetsThat (AsksSubject db.old.database.model (commands.ResetOrder one.now other.now)) db.old.database result
-        db.new.database }
+    ensures { StepsOr (ResetsAsked db.old.database (reset_command asked.now)) db.old.database result db.new.database }
 {
-    match tokens_in(db, index, one, other) {
-        Ok(Some((first, second))) => reset_on(db, Subject::Order(first, second)),
-        Ok(None) => Err(StepStop::Refused(RefusalReason::NoDecision)),
+    match find_subject(db, index, asked) {
+        Ok(found) => reset_found(db, found),
         Err(_none) => Err(StepStop::Memory),
     }
 }
 
-/// Takes the decision on what the text names out, and says what the decisions then leave.
+/// Takes the decision on what the words name out, and says what the decisions then leave.
 pub fn reset_reply(
     alloc: Global,
     db: &mut Db,
     index: &ModelIndex,
-    text: &NameText,
+    asked: &SubjectText,
 ) -> Result<Bytes, AllocError>
     requires { IsModelIndex db.old.database.model index.now }
-    ensures { AnswersCommand db.old.database (commands.Reset text.now) result db.new.database }
+    ensures { AnswersCommand db.old.database (reset_command asked.now) result db.new.database }
 {
     if is_full(db) {
         return refused(alloc, RefusalReason::Full);
     }
-    let step = reset_named(db, index, text);
-    step_reply(alloc, step)
-}
-
-/// Takes the decision that puts the one token before the other out, and says what the decisions then leave.
-pub fn reset_order_reply(
-    alloc: Global,
-    db: &mut Db,
-    index: &ModelIndex,
-    one: &NameText,
-    other: &NameText,
-) -> Result<Bytes, AllocError>
-    requires { IsModelIndex db.old.database.model index.now }
-    ensures { AnswersCommand db.old.database (commands.ResetOrder one.now other.now) result db.new.database }
-{
-    if is_full(db) {
-        return refused(alloc, RefusalReason::Full);
-    }
-    let step = reset_order(db, index, one, other);
+    let step = reset(db, index, asked);
     step_reply(alloc, step)
 }

@@ -1,14 +1,14 @@
 //! Searches for a plan.
 
 ghost use Rattle.std.specs.Prelude.{◌≡◌, ◌+◌, ◌≤◌, false, length, IfOk, MatchResult};
-ghost use Rattle.model_core.specs.declared.decision.Decision.{Decision as Taken};
-ghost use Rattle.model_core.specs.History.{accepted};
-ghost use Rattle.plan_db.specs.Database.{Database, EndsAccepted};
+ghost use Rattle.plan_db.specs.Database.{Database};
+ghost use Rattle.plan_db.specs.Rewinding.{IsTakenSince};
 ghost use Rattle.script_lang.specs.declared.command.Command.TheVariants as commands;
 ghost use Rattle.solver_core.specs.declared.ending.SolveFault.TheVariants.{InInconsistent};
 ghost use Rattle.session_core.specs.Reasons.{outcome_text};
 ghost use Rattle.session_replies.specs.Texts.{TellsSearch, IsFlawlessEnd};
-ghost use Rattle.session_core.specs.Steps.{Answers, AnswersCommand, IsTakenSince, RepliesSolve};
+ghost use Rattle.session_core.specs.Steps.{Answers, AnswersCommand};
+ghost use Rattle.session_core.specs.Replies.{RepliesSolve};
 ghost use Rattle.plan_db.specs.declared.fault.Outcome.TheVariants.{Inconsistent};
 
 use super::reason::RefusalReason;
@@ -16,38 +16,11 @@ use super::replies::{outcome_reply, refused};
 use super::undoing::is_full;
 use eu_name::bytes::Bytes;
 use flaw_core::Plain;
-use plan_db::{Db, Outcome};
-use search_steps::laws::plain_searches_are_searches;
+use flaw_core::laws::plain_searches_are_searches;
+use plan_db::{Db, Outcome, rewind};
 use session_replies::end_text;
 use solver_core::{SearchEnd, SolveFault, solve};
 use std::alloc::{AllocError, Global};
-
-// Takes the last decision back.
-fn take_last_back(db: &mut Db)
-    requires ready { db.old.behind ≡ false }
-    requires last { EndsAccepted db.old.database.history }
-    ensures back { (decision : Taken) × (db.old.database.history ≡ accepted db.new.database.history decision) }
-    ensures model { db.new.database.model ≡ db.old.database.model }
-    ensures still { db.new.behind ≡ false }
-{
-    match db.backtrack() {
-        Ok(()) => {}
-        Err(_fault) => unreachable!(),
-    }
-}
-
-// Takes back what was decided since, when so many steps could be taken back.
-fn rewind(db: &mut Db, before: u64)
-    ghost former: { Database }
-    requires ready { db.old.behind ≡ false }
-    requires since { IsTakenSince former db.old.database }
-    requires before { before + 1 ≡ length former.history }
-    ensures { db.new.database ≡ former }
-{
-    while db.history() > before {
-        take_last_back(db);
-    }
-}
 
 // How the search ended. Where memory is wanting for that, what was decided is taken back.
 fn told_or_back(

@@ -1,9 +1,8 @@
-//! A session: lines are cut from a source, each is answered by a `Responder`, and each reply is written line by line
-//! to a sink, until the input ends, an answer ends it, or a fault does. After a failed call nothing more is read or
-//! written.
-//!
-//! `let end = session(alloc, &mut responder, &mut input, &mut out);` answers all the lines of `input`. Afterwards
-//! `responder` is as its last answer left it, and `end` says how the session ended.
+//! A session: lines are cut from a source and answered, and replies are written: `session(alloc, responder, input, out)`.
+//! A `Responder`, a `Source` and a `Sink` come in; a `SessionEnd` or a `SessionFault` goes out, and the responder is as its
+//! last answer left it. After a failed call nothing more is read or written.
+//! europa_run calls it, with the `Editor` of session_core as the responder; run_commands prints by `write_lines`.
+//! It knows nothing of scripts and planning. How much is read at once, and how a line is kept, may change.
 #![tactic(auto)]
 
 mod answering;

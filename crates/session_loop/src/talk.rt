@@ -41,7 +41,7 @@ pub fn session<T: Responder, S: Source, O: Sink>(
     start(alloc, responder, input, out)
 }
 
-/// The same, with room made for the line.
+/// Makes room for what is read and for a line, and answers all lines.
 fn start<T: Responder, S: Source, O: Sink>(
     alloc: Global,
     responder: &mut T,

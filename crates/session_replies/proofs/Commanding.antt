@@ -17,10 +17,10 @@ use Rattle.model_core.specs.declared.variable.ValueKind.{ValueKind}
 use Rattle.model_core.specs.Lawful.{IsLawful}
 use Rattle.model_core.specs.Names.{NamesVariable}
 use Rattle.model_core.specs.Variables.{HasBase}
-use Rattle.plan_core.specs.Subjects.{IsNameOf}
-use Rattle.plan_core.specs.Values.{IsValueText}
+use Rattle.plan_text.specs.Subjects.{IsNameOf}
+use Rattle.plan_text.specs.Values.{IsValueText}
 use Rattle.plan_defs.specs.Refusals.{IsDeclared}
-use Rattle.plan_progress.proofs.Lawful.{base_lawful}
+use Rattle.model_core.proofs.Lawful.{base_lawful}
 use Rattle.script_lang.specs.Naming.{IsVariableOfKind}
 use Rattle.session_replies.specs.Lines.{IsTokenWord, IsLineOnToken, IsLineOnTokens, IsLineOnVariable, IsDecisionLine}
 use Rattle.session_replies.specs.Written.{Writes}

@@ -24,7 +24,7 @@ use Rattle.model_core.specs.Tokens.{HasToken, Reaches, LeadsToSlot, slot_of}
 use Rattle.model_core.specs.Variables.{HasBase, HasPartBase, HasParameter, HasLocal, IsGlobal, IsInBase}
 use Rattle.model_core.proofs.Leading.{token_once}
 use Rattle.model_core.proofs.Rules.{has_rule_once}
-use Rattle.plan_progress.proofs.Lawful.{rule_lawful, base_lawful}
+use Rattle.model_core.proofs.Lawful.{rule_lawful, base_lawful}
 use Rattle.script_lang.specs.Naming.{IsVariableOfKind}
 
 -- ---- what is declared is of the kind

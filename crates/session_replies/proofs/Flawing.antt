@@ -15,14 +15,14 @@ use Rattle.model_core.specs.State.{State}
 use Rattle.model_core.specs.Variables.{HasBase}
 use Rattle.model_core.specs.Views.{IsTokenAt}
 use Rattle.plan_defs.specs.Closure.{IsLeast}
-use Rattle.plan_states.specs.Flaws.{Flaw, Undecided, Undetermined, Unordered, Untimed, IsFlaw}
+use Rattle.plan_defs.specs.Flaws.{Flaw, Undecided, Undetermined, Unordered, Untimed, IsFlaw}
 use Rattle.flaw_core.specs.declared.flaw.Flaw as found
 use Rattle.flaw_core.specs.declared.flaw.Flaw.TheVariants as flaws
 use Rattle.flaw_core.specs.declared.flaw.VarPlace.{VarPlace}
 use Rattle.flaw_core.specs.declared.flaw.VarPlace.TheVariants as places
 use Rattle.flaw_core.specs.Places.{IsVarAt, IsFlawAt}
 use Rattle.flaw_core.specs.Rules.{IsFirstAt}
-use Rattle.plan_states.proofs.Telling.{one_at}
+use Rattle.plan_defs.proofs.Telling.{one_at}
 use Rattle.session_replies.specs.Lines.{IsVariableWord, IsLineOnToken, IsLineOnTokens, IsFlawText, IsFlawLine}
 use Rattle.session_replies.specs.Writable.{IsFlawWritable}
 use Rattle.session_replies.specs.Written.{Writes, WritesBehind, WritesLine}

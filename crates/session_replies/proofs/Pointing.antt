@@ -11,8 +11,8 @@ use Rattle.model_core.specs.declared.decision.Decision.{Decision}
 use Rattle.model_core.specs.declared.decision.Decision.TheVariants.{Specify, Activate, Merge, Reject, Order}
 use Rattle.model_core.specs.declared.item.Item.{Item}
 use Rattle.model_core.specs.declared.item.Item.TheVariants.{Constraint, Relation}
-use Rattle.model_core.specs.declared.item.Kind.{Kind}
-use Rattle.model_core.specs.declared.item.Kind.TheVariants.{Eq, Lt, Leq}
+use Rattle.domain_core.specs.declared.kind.Kind.{Kind}
+use Rattle.domain_core.specs.declared.kind.Kind.TheVariants.{Eq, Lt, Leq}
 use Rattle.model_core.specs.declared.model.Model.{Model}
 use Rattle.model_core.specs.Decided.{IsActive}
 use Rattle.model_core.specs.Lawful.{IsToken}
@@ -22,16 +22,16 @@ use Rattle.plan_defs.specs.Claims.{Claim, relates}
 use Rattle.plan_defs.specs.Terms.{Context, InProblem, InRule, Argument, Variable}
 use Rattle.plan_defs.proofs.Members.{all_from_get}
 use Rattle.eu_name.proofs.Members.{contains_from_get}
-use Rattle.plan_defs.proofs.Ordered.{contains_head, contains_later}
-use Rattle.plan_edges.specs.declared.edge.NamedEdge.{NamedEdge}
-use Rattle.plan_edges.specs.declared.edge.Point.{Point}
-use Rattle.plan_edges.specs.declared.edge.Point.TheVariants.{Origin, Start, End}
-use Rattle.plan_edges.specs.declared.walking.Sort.{Sort}
-use Rattle.plan_edges.specs.declared.walking.Sort.TheVariants.{Relations, Constraints}
-use Rattle.plan_edges.specs.Edges.{AppendsEach, HasLastingEdges, HasGivenEdges, HasTimesGiven, HasClaimEdges, HasRelationEdges, HasConstraintEdges, HasOrderEdges, comparing_edges, lasting_edges, edge_from, ComparesPoints}
-use Rattle.plan_edges.specs.Points.{ActsAs, IsMoment, IsPointOf, IsArgumentPoint}
-use Rattle.plan_edges.specs.Whole.{TokenItem, items_of_rules, HasSortEdges, HasOpenEdges, HasTokenEdges, AreTimeEdges}
-use Rattle.plan_cycles.specs.TimeCycle.{LeavesBy, IsTimeCycle}
+use Rattle.eu_name.proofs.Ordered.{contains_head, contains_later}
+use Rattle.db_edges.specs.declared.edge.NamedEdge.{NamedEdge}
+use Rattle.db_edges.specs.declared.edge.Point.{Point}
+use Rattle.db_edges.specs.declared.edge.Point.TheVariants.{Origin, Start, End}
+use Rattle.db_edges.specs.declared.walking.Sort.{Sort}
+use Rattle.db_edges.specs.declared.walking.Sort.TheVariants.{Relations, Constraints}
+use Rattle.db_edges.specs.Edges.{AppendsEach, HasLastingEdges, HasGivenEdges, HasTimesGiven, HasClaimEdges, HasRelationEdges, HasConstraintEdges, HasOrderEdges, comparing_edges, lasting_edges, edge_from, ComparesPoints}
+use Rattle.db_edges.specs.Points.{ActsAs, IsMoment, IsPointOf, IsArgumentPoint}
+use Rattle.db_edges.specs.Whole.{TokenItem, items_of_rules, HasSortEdges, HasOpenEdges, HasTokenEdges, AreTimeEdges}
+use Rattle.db_edges.specs.TimeCycle.{LeavesBy, IsTimeCycle}
 use Rattle.session_replies.specs.Writable.{IsWritable, IsPointWritable, IsEdgeWritable}
 
 -- what holds of all that each thing has holds of all together

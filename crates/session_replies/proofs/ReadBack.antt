@@ -23,7 +23,7 @@ use Rattle.model_core.specs.declared.variable.ValueKind.TheVariants as kinds
 use Rattle.model_core.specs.Lawful.{IsLawful, IsLawfulEnum, IsLawfulObject}
 use Rattle.model_core.specs.Naming.{IsObjectName}
 use Rattle.model_core.proofs.Items.{item_all}
-use Rattle.plan_core.specs.Values.{is_point, IsPathWord, IsValueText}
+use Rattle.plan_text.specs.Values.{is_point, IsPathWord, IsValueText}
 use Rattle.script_lang.specs.declared.command.Command.{Command}
 use Rattle.script_lang.specs.declared.command.Command.TheVariants.{Specify, Activate, Merge, Reject, Order}
 use Rattle.script_lang.specs.Line.{IsValueWord, ReadsLine}

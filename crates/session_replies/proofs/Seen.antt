@@ -15,10 +15,10 @@ use Rattle.plan_db.specs.declared.fault.QueryFault.TheVariants as query
 use Rattle.plan_defs.specs.Closure.{IsLeast}
 use Rattle.plan_defs.specs.Settling.{IsSettled}
 use Rattle.plan_defs.proofs.Settling.{least_same, least_not_collapsed}
-use Rattle.plan_states.specs.Flaws.{HasFlaw}
-use Rattle.plan_steps.proofs.Keeping.{standing_settled}
-use Rattle.plan_view.specs.Seeing.{Seen, seen_state}
-use Rattle.solver_core.specs.declared.ending.SearchEnd.TheVariants.{Found}
+use Rattle.plan_defs.specs.Flaws.{HasFlaw}
+use Rattle.plan_defs.proofs.Histories.{standing_settled}
+use Rattle.db_refusals.specs.Seeing.{Seen, seen_state}
+use Rattle.flaw_core.specs.declared.ending.SearchEnd.TheVariants.{Found}
 use Rattle.session_replies.specs.Texts.{IsFlawlessEnd, IsFoundReply, TellsSearch}
 
 true_false : true ≡ false → ⊥

@@ -18,12 +18,13 @@ use Rattle.model_core.specs.State.{State}
 use Rattle.model_core.specs.Tokens.{HasToken}
 use Rattle.model_core.specs.Variables.{HasBase, IsInBase}
 use Rattle.plan_defs.specs.History.{IsHistory}
-use Rattle.plan_defs.specs.Refusals.{IsKnown, IsDeclared, IsAdmissible, Unknown, NotInDomain}
+use Rattle.plan_defs.specs.Refusals.{IsKnown, IsDeclared, IsAdmissible}
+use Rattle.model_core.specs.declared.refusal.Refusal.TheVariants.{Unknown, NotInDomain}
 use Rattle.plan_defs.specs.Settling.{SettlesAfter, Settles, IsConflict, ReducesTo}
 use Rattle.plan_defs.proofs.Knowing.{IsOrNot, both_or_not, known_or_not}
-use Rattle.plan_defs.proofs.Ordered.{contains_head, contains_later, contains_cases, contains_none}
-use Rattle.plan_growth.proofs.Bases.{base_once}
-use Rattle.plan_states.proofs.Determining.{same_number}
+use Rattle.eu_name.proofs.Ordered.{contains_head, contains_later, contains_cases, contains_none}
+use Rattle.model_core.proofs.Bases.{base_once}
+use Rattle.plan_defs.proofs.Determining.{same_number}
 use Rattle.session_replies.specs.Writable.{IsWritable}
 
 -- ---- what can be told

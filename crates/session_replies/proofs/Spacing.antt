@@ -14,7 +14,7 @@ use Rattle.model_core.specs.declared.variable.ValueKind.{ValueKind}
 use Rattle.model_core.specs.Lawful.{IsLawful}
 use Rattle.model_core.specs.Names.{NamesVariable}
 use Rattle.model_core.proofs.WellFormed.{variable_text_well_formed}
-use Rattle.plan_core.specs.Values.{IsValueText}
+use Rattle.plan_text.specs.Values.{IsValueText}
 use Rattle.plan_values.proofs.Valuing.{zip_length}
 use Rattle.script_lang.specs.Naming.{IsVariableOfKind}
 use Rattle.session_replies.specs.Lines.{spaced, IsVariableWord, IsDomainText, IsDomainLine}

@@ -14,9 +14,9 @@ use Rattle.model_core.specs.declared.variable.Base.{Base}
 use Rattle.model_core.specs.Lawful.{IsLawful, IsToken}
 use Rattle.model_core.specs.Names.{NamesVariable}
 use Rattle.model_core.specs.Variables.{HasBase}
-use Rattle.plan_edges.specs.declared.edge.NamedEdge.{NamedEdge}
-use Rattle.plan_edges.specs.declared.edge.Point.{Point}
-use Rattle.plan_edges.specs.declared.edge.Point.TheVariants as points
+use Rattle.db_edges.specs.declared.edge.NamedEdge.{NamedEdge}
+use Rattle.db_edges.specs.declared.edge.Point.{Point}
+use Rattle.db_edges.specs.declared.edge.Point.TheVariants as points
 use Rattle.session_replies.specs.Lines.{IsVariableWord, IsPointWord, IsEdgeLine}
 use Rattle.session_replies.specs.Writable.{IsPointWritable}
 use Rattle.session_replies.specs.Written.{Writes, WritesBehind}

@@ -14,10 +14,10 @@ use Rattle.model_core.specs.Tokens.{HasToken}
 use Rattle.model_core.specs.TokenStates.{HasTokenState}
 use Rattle.model_core.specs.Views.{IsTokenAt}
 use Rattle.model_core.proofs.Items.{item_all, item_is, item_within}
-use Rattle.plan_core.specs.Subjects.{IsPredicateText, OnePredicate}
-use Rattle.plan_core.specs.Words.{IsPaused}
-use Rattle.plan_core.specs.Writing.{Adds}
-use Rattle.plan_states.proofs.Kinding.{pred_of_slot}
+use Rattle.plan_text.specs.Subjects.{IsPredicateText, OnePredicate}
+use Rattle.plan_text.specs.Words.{IsPaused}
+use Rattle.plan_text.specs.Writing.{Adds}
+use Rattle.plan_defs.proofs.Kinding.{pred_of_slot}
 use Rattle.session_replies.specs.Lines.{IsLineOnToken, IsStateText, IsTokenLine}
 use Rattle.session_replies.specs.Written.{Writes, WritesBehind, WritesLine, WritesLines}
 use Rattle.session_replies.proofs.Commanding.{PutsToken, token_word}

@@ -20,12 +20,12 @@ use Rattle.model_core.specs.Names.{NamesToken, NamesVariable}
 use Rattle.model_core.specs.State.{State}
 use Rattle.model_core.specs.Tokens.{HasToken}
 use Rattle.model_core.specs.TokenStates.{HasTokenState}
-use Rattle.plan_core.specs.Subjects.{IsPredicateText}
-use Rattle.plan_core.specs.Values.{IsValueText}
-use Rattle.plan_edges.specs.declared.edge.NamedEdge.{NamedEdge}
-use Rattle.plan_edges.specs.declared.edge.Point.{Point}
-use Rattle.plan_edges.specs.declared.edge.Point.TheVariants as points
-use Rattle.plan_states.specs.Flaws.{Flaw, Undecided, Undetermined, Unordered, Untimed}
+use Rattle.plan_text.specs.Subjects.{IsPredicateText}
+use Rattle.plan_text.specs.Values.{IsValueText}
+use Rattle.db_edges.specs.declared.edge.NamedEdge.{NamedEdge}
+use Rattle.db_edges.specs.declared.edge.Point.{Point}
+use Rattle.db_edges.specs.declared.edge.Point.TheVariants as points
+use Rattle.plan_defs.specs.Flaws.{Flaw, Undecided, Undetermined, Unordered, Untimed}
 use Rattle.script_lang.specs.Naming.{IsVariableOfKind}
 
 -- ---- names

@@ -5,13 +5,13 @@ use Rattle.model_core.specs.declared.decision.Decision.{Decision}
 use Rattle.model_core.specs.declared.model.Model.{Model}
 use Rattle.model_core.specs.History.{standing}
 use Rattle.model_core.specs.State.{State}
-use Rattle.plan_core.specs.PlanTexts.{IsPlanText}
+use Rattle.plan_text.specs.PlanTexts.{IsPlanText}
 use Rattle.plan_db.specs.Database.{Database, HasLeast}
 use Rattle.plan_defs.specs.declared.plan.Plan.{Plan}
-use Rattle.plan_search.specs.SearchLaws.{IsFoundList}
-use Rattle.plan_states.specs.StatePlans.{IsStatePlan}
-use Rattle.solver_core.specs.declared.ending.SearchEnd.{SearchEnd}
-use Rattle.solver_core.specs.declared.ending.SearchEnd.TheVariants.{Found, Exhausted, Budget}
+use Rattle.law_search.specs.SearchLaws.{IsFoundList}
+use Rattle.plan_defs.specs.StatePlans.{IsStatePlan}
+use Rattle.flaw_core.specs.declared.ending.SearchEnd.{SearchEnd}
+use Rattle.flaw_core.specs.declared.ending.SearchEnd.TheVariants.{Found, Exhausted, Budget}
 
 -- a line as it is printed, with its line feed
 abbrev pub printed_line : List ℕ → List ℕ

@@ -7,10 +7,10 @@ use Rattle.model_core.specs.declared.variable.Base.{Base}
 use Rattle.model_core.specs.Lawful.{IsToken}
 use Rattle.model_core.specs.Variables.{HasBase}
 use Rattle.plan_defs.specs.Refusals.{IsDeclared}
-use Rattle.plan_edges.specs.declared.edge.NamedEdge.{NamedEdge}
-use Rattle.plan_edges.specs.declared.edge.Point.{Point}
-use Rattle.plan_edges.specs.declared.edge.Point.TheVariants as points
-use Rattle.plan_states.specs.Flaws.{Flaw, Undecided, Undetermined, Unordered, Untimed}
+use Rattle.db_edges.specs.declared.edge.NamedEdge.{NamedEdge}
+use Rattle.db_edges.specs.declared.edge.Point.{Point}
+use Rattle.db_edges.specs.declared.edge.Point.TheVariants as points
+use Rattle.plan_defs.specs.Flaws.{Flaw, Undecided, Undetermined, Unordered, Untimed}
 
 -- the model has the tokens that the decision names, or declares the variable with the value
 abbrev pub IsWritable : Model → Decision → Type 0

@@ -3,7 +3,7 @@ use Rattle.std.specs.Prelude.{◌≡◌, ℕ, ℤ, List, ◌++◌}
 use Rattle.std.specs.List.{AllZip, flat_map}
 use Rattle.model_core.specs.declared.model.Model.{Model}
 use Rattle.model_core.specs.declared.variable.ValueKind.{ValueKind}
-use Rattle.plan_core.specs.Values.{IsValueText}
+use Rattle.plan_text.specs.Values.{IsValueText}
 use Rattle.session_replies.specs.Lines.{with_line_feed, counted_lines, spaced}
 
 -- a piece that is so was written behind the old bytes

@@ -5,7 +5,7 @@ ghost use Rattle.std.specs.Fmt.{decimal};
 ghost use Rattle.session_replies.specs.Lines.{with_line_feed};
 
 use itoa::Buffer;
-use plan_core::writing::put_word;
+use plan_text::writing::put_word;
 use std::alloc::AllocError;
 
 /// The text as it stands.

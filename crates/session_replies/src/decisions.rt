@@ -11,7 +11,7 @@ use super::counting::{put_count_line, put_line_feed, put_text};
 use eu_name::name::{TokenName, VarName};
 use model_core::decision::Decision;
 use model_core::model::Model;
-use plan_core::writing::{put_shown, put_token, put_variable};
+use plan_text::writing::{put_shown, put_token, put_variable};
 use script_lang::kind_of;
 use std::alloc::{AllocError, Global};
 

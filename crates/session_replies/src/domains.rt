@@ -15,7 +15,7 @@ use domain_core::domain::Dom;
 use eu_name::name::VarName;
 use model_core::model::Model;
 use model_core::variable::ValueKind;
-use plan_core::writing::{put_number, put_shown, put_variable};
+use plan_text::writing::{put_number, put_shown, put_variable};
 use script_lang::kind_of;
 use std::alloc::{AllocError, Global};
 

@@ -10,10 +10,10 @@ ghost use Rattle.session_replies.specs.Writable.{IsEdgeWritable, IsPointWritable
 ghost use Rattle.session_replies.specs.Written.{Writes, WritesBehind, WritesCounted, WritesLines};
 
 use super::counting::{put_count_line, put_line_feed};
+use db_edges::edge::{NamedEdge, Point};
 use eu_name::name::{Part, TokenName, VarName};
 use model_core::model::Model;
-use plan_core::writing::{put_number, put_variable, put_word};
-use plan_edges::edge::{NamedEdge, Point};
+use plan_text::writing::{put_number, put_variable, put_word};
 use std::alloc::{AllocError, Global};
 
 // The name of the part of the token, behind the gap.

@@ -7,7 +7,7 @@ ghost use Rattle.model_core.specs.declared.variable.Base.{Base};
 ghost use Rattle.model_core.specs.Lawful.{IsLawful, IsToken};
 ghost use Rattle.model_core.specs.Variables.{HasBase};
 ghost use Rattle.model_core.specs.Views.{IsTokenAt};
-ghost use Rattle.plan_states.specs.Flaws as named;
+ghost use Rattle.plan_defs.specs.Flaws as named;
 ghost use Rattle.flaw_core.specs.Places.{IsFlawAt, IsVarAt};
 ghost use Rattle.flaw_core.specs.Rules.{IsFirstAt, IsLeastFor};
 ghost use Rattle.session_replies.specs.Lines.{IsFlawLine, IsFlawText, IsLineOnToken, IsLineOnTokens, IsVariableWord};
@@ -21,7 +21,7 @@ use flaw_core::flaw::{Flaw, VarPlace};
 use flaw_core::variable_name;
 use model_core::model::Model;
 use model_core::view::View;
-use plan_core::writing::put_variable;
+use plan_text::writing::put_variable;
 use std::alloc::{AllocError, Global};
 
 // The name of the variable at the place, behind the gap.

@@ -5,7 +5,7 @@ ghost use Rattle.std.specs.List.{AllZip};
 ghost use Rattle.model_core.specs.declared.variable.Base.{Base};
 ghost use Rattle.model_core.specs.Lawful.{IsLawful, IsToken};
 ghost use Rattle.model_core.specs.Variables.{HasBase, IsInBase};
-ghost use Rattle.plan_states.specs.Flaws as named;
+ghost use Rattle.plan_defs.specs.Flaws as named;
 ghost use Rattle.flaw_core.specs.Places.{IsFlawAt};
 ghost use Rattle.flaw_core.specs.Rules.{IsFirstAt, IsLeastFor};
 ghost use Rattle.session_replies.specs.Lines.{IsDecisionLine, IsDomainLine, IsEdgeLine, IsFlawLine, IsTokenLine, counted_lines, with_line_feed};
@@ -17,6 +17,7 @@ use super::domains::put_domain_line;
 use super::edges::put_edge_lines;
 use super::flaws::put_flaw_line;
 use super::tokens::put_token_lines;
+use db_edges::edge::NamedEdge;
 use domain_core::domain::Dom;
 use eu_name::bytes::Bytes;
 use eu_name::name::VarName;
@@ -24,7 +25,6 @@ use flaw_core::flaw::Flaw;
 use model_core::decision::Decision;
 use model_core::model::Model;
 use model_core::view::View;
-use plan_edges::edge::NamedEdge;
 use std::alloc::{AllocError, Global};
 
 /// The variable with its domain.

@@ -4,21 +4,21 @@ ghost use Rattle.std.specs.Prelude.{◌≡◌, ◌++◌, List, ℕ, false, IfOk,
 ghost use Rattle.std.specs.Fmt.{decimal};
 ghost use Rattle.flaw_core.specs.Rules.{IsLeastFor};
 ghost use Rattle.model_core.specs.Lawful.{IsLawful};
-ghost use Rattle.plan_core.specs.PlanTexts.{IsPlanText};
+ghost use Rattle.plan_text.specs.PlanTexts.{IsPlanText};
 ghost use Rattle.plan_defs.specs.Plans.{IsPlanOf};
-ghost use Rattle.plan_states.specs.Flaws.{HasFlaw};
-ghost use Rattle.solver_core.specs.declared.ending.SearchEnd.TheVariants.{Found};
+ghost use Rattle.plan_defs.specs.Flaws.{HasFlaw};
+ghost use Rattle.flaw_core.specs.declared.ending.SearchEnd.TheVariants.{Found};
 ghost use Rattle.session_replies.specs.Texts.{IsFlawlessEnd, IsFoundReply, TellsSearch, bound_text, printed_line};
 
 use super::line::one_line;
 use eu_name::bytes::Bytes;
+use flaw_core::SearchEnd;
 use model_core::model::Model;
 use model_core::view::View;
-use plan_core::write_plan;
 use plan_db::Db;
 use plan_defs::plan::Plan;
 use plan_states::{PlanOfFault, plan_of};
-use solver_core::SearchEnd;
+use plan_text::write_plan;
 use std::alloc::{AllocError, Global};
 
 // The line of a search that found a plan, and the text of the plan.
@@ -31,7 +31,7 @@ fn found_text(alloc: Global, visits: u32, text: &[u8]) -> Result<Bytes, AllocErr
     Ok(Bytes::from_vec(reply))
 }
 
-// The same of the plan.
+// Writes the text of the plan behind the line of the search.
 fn found_plan(alloc: Global, visits: u32, model: &Model, plan: &Plan) -> Result<Bytes, AllocError>
     requires lawful { IsLawful model.now }
     requires plan { IsPlanOf model.now plan.now }
@@ -42,7 +42,7 @@ fn found_plan(alloc: Global, visits: u32, model: &Model, plan: &Plan) -> Result<
     found_text(alloc, visits, text.as_slice())
 }
 
-// The same of a least state without a flaw.
+// Takes the plan from a least state without a flaw, and writes it behind that line.
 fn found_state<V: View>(
     alloc: Global,
     visits: u32,
@@ -61,7 +61,7 @@ fn found_state<V: View>(
     }
 }
 
-// The same of the decisions that stand, which a search found.
+// Takes the state of the decisions that stand, which a search found, and writes its plan behind that line.
 fn found_standing(alloc: Global, visits: u32, db: &Db) -> Result<Bytes, AllocError>
     requires ready { db.now.behind ≡ false }
     requires found { IsFlawlessEnd (Found visits) db.now.database }

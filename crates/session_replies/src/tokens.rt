@@ -15,8 +15,8 @@ use super::places::{state_of, token_of};
 use eu_name::name::TokenName;
 use model_core::model::Model;
 use model_core::view::{TokenState, View};
-use plan_core::names::pred_of;
-use plan_core::writing::{put_predicate, put_token};
+use plan_text::names::pred_of;
+use plan_text::writing::{put_predicate, put_token};
 use std::alloc::{AllocError, Global};
 
 // What has become of a token, behind a space.

@@ -12,20 +12,20 @@ use Rattle.model_core.specs.State.{State}
 use Rattle.plan_defs.specs.Closure.{IsLeast, IsCollapsed}
 use Rattle.plan_defs.specs.Refusals.{IsAdmissible}
 use Rattle.plan_defs.specs.Settling.{IsSettled}
-use Rattle.plan_db.proofs.plan_steps.Keeping.{standing_settled}
-use Rattle.search_steps.specs.plan_search.Search.{SearchOutcome, Finds, Fails, Stops}
-use Rattle.search_steps.specs.flaw_core.Flaw.{Flaw}
-use Rattle.search_steps.specs.flaw_core.Rules.{IsLeastFor, LeavesOut}
-use Rattle.search_steps.specs.ByRule.{IsVisitBy}
-use Rattle.search_steps.specs.Rest.{LeftOver, SearchesOn, VisitsFirst}
-use Rattle.search_steps.proofs.Resting.{takes_choice, leaves_flaw, begins, visits_collapsed, visits_flaw, visits_found, visits_none}
+use Rattle.plan_defs.proofs.Histories.{standing_settled}
+use Rattle.law_search.specs.Search.{SearchOutcome, Finds, Fails, Stops}
+use Rattle.flaw_core.specs.declared.flaw.Flaw.{Flaw}
+use Rattle.flaw_core.specs.Rules.{IsLeastFor, LeavesOut}
+use Rattle.flaw_core.specs.ByRule.{IsVisitBy}
+use Rattle.flaw_core.specs.Rest.{LeftOver, SearchesOn, VisitsFirst}
+use Rattle.flaw_core.proofs.Resting.{takes_choice, leaves_flaw, begins, visits_collapsed, visits_flaw, visits_found, visits_none}
 use Rattle.plan_db.specs.Database.{Database, IsSound, taken_in}
 use Rattle.plan_db.specs.Answers.{Held}
+use Rattle.plan_db.specs.Rewinding.{TakesMore, IsTakenSince}
 use Rattle.solver_core.specs.declared.course.Branch.{Branch}
 use Rattle.solver_core.specs.declared.course.Course.{Course}
 use Rattle.solver_core.specs.declared.visiting.Visited.{Visited}
 use Rattle.solver_core.specs.declared.visiting.Visited.TheVariants.{Collapsed, Clear, Flawed}
-use Rattle.solver_core.specs.Solving.{TakesMore}
 use Rattle.solver_core.specs.Visiting.{HasFirst, FindsFlaw, IsVisited, TakesFound}
 use Rattle.solver_core.specs.Underway.{Task, IsAbove, IsOpenAt, LeadsTo, IsWholeSearch, IsSearching, IsToVisit, HasFailed, IsLooking, HasEnded, TakesNext}
 
@@ -73,15 +73,14 @@ module _ (First : Model → List Decision → State → Option Flaw → Type 0)
   pub above : (Rest : ℕ → List LeftOver → ℕ → SearchOutcome → Type 0) (branches : List Branch) (most visits : ℕ) (held : Held)
       → IsSearching First Choices task Rest branches most visits held → IsAbove task held
   above Rest branches most visits held is =
-      let more = leads_above most branches held.database.history is.lefts is.leads in record { on = is.on; count = more.0; more = more.1 }
+      let more = leads_above most branches held.database.history is.lefts is.leads in record {
+        ready = is.on.ready;
+        since = record { model = is.on.model; count = more.0; more = more.1 };
+      }
 
   -- the same of a database with the same decisions
   above_with : (held new : Held) → IsAbove task held → new.database ≡ held.database → new.behind ≡ false → IsAbove task new
-  above_with held new above same ready = record {
-    on = record { ready = ready; model = ap (λ (d : Database). d.model) same ∙ above.on.model };
-    count = above.count;
-    more = subst (λ (h : History). TakesMore above.count task.database.history h) (sym (ap (λ (d : Database). d.history) same)) above.more;
-  }
+  above_with held new above same ready = record { ready = ready; since = subst (IsTakenSince task.database) (sym same) above.since }
 
   -- ---- a list is visited
 

@@ -1,16 +1,16 @@
--- What can't be answered where a decision may be taken, or the last one taken back.
+-- What can't be answered where a decision may be taken.
 use Rattle.std.proofs.Common.{◌≡◌, true, false, refl, sym, ap, ◌∙◌, subst}
 use Rattle.std.specs.Prelude.{List, Err}
 use Rattle.model_core.specs.declared.decision.Decision.{Decision}
 use Rattle.model_core.specs.declared.model.Model.{Model}
 use Rattle.model_core.specs.History.{standing}
 use Rattle.model_core.specs.State.{State}
-use Rattle.plan_defs.specs.Refusals.{Refusal, Hinders, IsRefused, IsAdmissible}
+use Rattle.plan_defs.specs.Refusals.{Hinders, IsRefused, IsAdmissible}
+use Rattle.model_core.specs.declared.refusal.Refusal.{Refusal}
 use Rattle.plan_defs.proofs.Settling.{least_same, least_not_collapsed}
 use Rattle.plan_db.specs.declared.fault.DbFault.{DbFault}
 use Rattle.plan_db.specs.declared.fault.DbFault.TheVariants as fault
-use Rattle.plan_db.specs.Database.{EndsAccepted}
-use Rattle.plan_db.specs.Answers.{Held, AnswersApply, AnswersBacktrack}
+use Rattle.plan_db.specs.Answers.{Held, AnswersApply}
 
 true_false : true ≡ false → ⊥
 true_false same = cc
@@ -45,8 +45,3 @@ pub refused_ready : (old new : Held) (decision : Decision) (why : DbFault) → A
 refused_ready old new decision fault.Behind answers ready = ap (λ (h : Held). h.behind) answers.same ∙ ready
 refused_ready old new decision fault.Memory answers ready = answers.0.after
 refused_ready old new decision why answers ready = ap (λ (h : Held). h.behind) answers.0.same ∙ ready
-
-pub never_kept : (old new : Held) (why : DbFault) → AnswersBacktrack old (Err why) new → old.behind ≡ false → EndsAccepted old.database.history → ⊥
-never_kept old new fault.Behind answers ready accepted = true_false (sym answers.before ∙ ready)
-never_kept old new fault.Nothing answers ready accepted = answers.1.1 accepted
-never_kept old new why answers ready accepted = answers.1

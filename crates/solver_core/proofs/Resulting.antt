@@ -1,76 +1,31 @@
 -- What a search answers, and what that proves.
-use Rattle.std.proofs.Common.{◌≡◌, ℕ, zero, suc, ◌+◌, ◌<◌, ◌≤◌, ◌⊎◌, false, Bool, List, length, Option, Some, None, Result, Ok, Err, MatchResult, refl, sym, ap, ◌∙◌, subst, arith}
+use Rattle.std.proofs.Common.{◌≡◌, ℕ, ◌≤◌, ◌⊎◌, false, Bool, List, Option, Some, None, Result, Ok, Err, MatchResult, refl, sym, subst}
 use Rattle.std.specs.Prelude.{Contains}
 use Rattle.std.specs.declared.alloc.AllocError.{AllocError}
 use Rattle.model_core.specs.declared.decision.Decision.{Decision}
 use Rattle.model_core.specs.declared.model.Model.{Model}
-use Rattle.model_core.specs.History.{History, standing, accepted}
+use Rattle.model_core.specs.History.{standing}
 use Rattle.model_core.specs.Lawful.{IsLawful}
 use Rattle.model_core.specs.State.{State}
 use Rattle.plan_defs.specs.declared.plan.Plan.{Plan}
 use Rattle.plan_defs.specs.Refusals.{IsAdmissible}
 use Rattle.plan_defs.specs.Settling.{IsSettled}
-use Rattle.plan_states.specs.Flaws.{HasFlaw}
-use Rattle.plan_swap.specs.SwapLaws.{count_of_tokens}
-use Rattle.search_steps.specs.plan_search.Search.{Finds, Fails, Stops}
-use Rattle.search_steps.specs.plan_search.SearchLaws.{IsPlanFor, AgreesWithSome}
-use Rattle.search_steps.specs.flaw_core.Flaw.{Flaw}
-use Rattle.search_steps.specs.flaw_core.Rules.{IsLeastFor, IsCoveredBy}
-use Rattle.search_steps.proofs.Proving.{found_by_rule, none_by_rule}
+use Rattle.plan_defs.specs.Flaws.{HasFlaw}
+use Rattle.law_search.specs.SwapLaws.{count_of_tokens}
+use Rattle.law_search.specs.Search.{Finds, Fails, Stops}
+use Rattle.law_search.specs.SearchLaws.{IsPlanFor, AgreesWithSome}
+use Rattle.flaw_core.specs.declared.flaw.Flaw.{Flaw}
+use Rattle.flaw_core.specs.Rules.{IsLeastFor, IsCoveredBy}
+use Rattle.flaw_core.proofs.Proving.{found_by_rule, none_by_rule}
 use Rattle.plan_db.specs.Database.{HasLeast}
 use Rattle.plan_db.specs.Answers.{Held}
-use Rattle.solver_core.specs.declared.ending.SearchEnd.{SearchEnd}
-use Rattle.solver_core.specs.declared.ending.SearchEnd.TheVariants.{Found, Exhausted, Budget}
+use Rattle.flaw_core.specs.declared.ending.SearchEnd.{SearchEnd}
+use Rattle.flaw_core.specs.declared.ending.SearchEnd.TheVariants.{Found, Exhausted, Budget}
 use Rattle.solver_core.specs.declared.ending.SolveFault.{SolveFault}
 use Rattle.solver_core.specs.declared.ending.SolveFault.TheVariants.{Behind, InInconsistent, Memory}
-use Rattle.solver_core.specs.Solving.{TakesMore, Solves, ProvesPlans}
+use Rattle.solver_core.specs.Solving.{Solves, ProvesPlans}
 use Rattle.solver_core.specs.Underway.{Task, IsAbove, HasEnded}
 use Rattle.solver_core.specs.Ending.{EndsAs, IsFoundEnd, KeepsFound, RestsAs}
-
--- ---- what was taken
-
-pub taken_longer : (count : ℕ) (old new : History) → TakesMore count old new → length new ≡ length old + count
-taken_longer zero old new same = ap length same ∙ omega arith
-taken_longer (suc count) old new (before, (decision, (more, same))) =
-    let longer = taken_longer count old before more in
-    let whole : length new ≡ length (accepted before decision) = ap length same in
-    omega (arith, longer, whole)
-
-pub none_taken : (count : ℕ) (old new : History) → TakesMore count old new → length new ≤ length old → new ≡ old
-none_taken zero old new same few = same
-none_taken (suc count) old new more few = absurd (omega (arith, taken_longer (suc count) old new more))
-
--- the last of those taken is accepted, and without it there is one less
-pub some_taken : (count : ℕ) (old new : History) → TakesMore count old new → length old < length new
-    → (before : History) × ((decision : Decision) × ((new ≡ accepted before decision) × ((fewer : ℕ) × TakesMore fewer old before)))
-some_taken zero old new same less = absurd (omega (arith, less, ap length same))
-some_taken (suc count) old new (before, (decision, (more, same))) less = (before, (decision, (same, (count, more))))
-
-pub back_shorter : (old new : History) (decision : Decision) → old ≡ accepted new decision → length new < length old
-back_shorter old new decision back =
-    let whole : length old ≡ length (accepted new decision) = ap length back in
-    omega (arith, whole)
-
-module _ (task : Task) (held new : Held) (decision : Decision) where
-  accepted_same : (one other : History) (first second : Decision) → accepted one first ≡ accepted other second → one ≡ other
-  accepted_same one other first second same = cc
-
-  pub above_back : IsAbove task held → length task.database.history < length held.database.history → held.database.history ≡ accepted new.database.history decision
-      → new.database.model ≡ held.database.model → new.behind ≡ false → IsAbove task new
-  above_back above less back model ready =
-      let last = some_taken above.count task.database.history held.database.history above.more less in
-      let here : last.0 ≡ new.database.history = accepted_same last.0 new.database.history last.1.0 decision (sym last.1.1.0 ∙ back) in
-      record {
-        on = record { ready = ready; model = model ∙ above.on.model };
-        count = last.1.1.1.0;
-        more = subst (λ (h : History). TakesMore last.1.1.1.0 task.database.history h) here last.1.1.1.1;
-      }
-
--- nothing is left of what was taken
-pub is_back : (task : Task) (held : Held) → IsAbove task held → length held.database.history ≤ length task.database.history → held.database ≡ task.database
-is_back task held above few =
-    let history = none_taken above.count task.database.history held.database.history above.more few in
-    λ i. record { model = above.on.model i; history = history i }
 
 module _ (First : Model → List Decision → State → Option Flaw → Type 0)
     (Choices : Model → List Decision → State → ℕ → Flaw → List Decision → Type 0) where
@@ -84,11 +39,11 @@ module _ (First : Model → List Decision → State → Option Flaw → Type 0)
   rests_found : (task : Task) (held : Held) (visits : ℕ) (out : Bool) → HasEnded First Choices task (Finds (standing held.database.history)) visits out held
       → RestsAs First Choices task (Ok (Found visits)) held
   rests_found task held visits out ended = (
-    ended.above.on.ready,
+    ended.above.ready,
     (
       record { ending = Finds (standing held.database.history); left = ended.units; left_out = out },
       ended.whole,
-      (ended.spent, refl, ended.above.on.model, (ended.above.count, ended.above.more)),
+      (ended.spent, refl, ended.above.since.model, (ended.above.since.count, ended.above.since.more)),
     ),
   )
 

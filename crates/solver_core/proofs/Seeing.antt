@@ -10,10 +10,10 @@ use Rattle.model_core.specs.State.{State}
 use Rattle.plan_defs.specs.Closure.{IsLeast}
 use Rattle.plan_defs.specs.Settling.{IsSettled}
 use Rattle.plan_defs.proofs.Settling.{least_same}
-use Rattle.plan_db.proofs.plan_steps.Keeping.{standing_settled}
-use Rattle.plan_db.specs.plan_view.Seeing.{Seen, seen_state}
-use Rattle.search_steps.specs.flaw_core.Flaw.{Flaw}
-use Rattle.search_steps.specs.flaw_core.Rules.{IsLeastFor}
+use Rattle.plan_defs.proofs.Histories.{standing_settled}
+use Rattle.db_refusals.specs.Seeing.{Seen, seen_state}
+use Rattle.flaw_core.specs.declared.flaw.Flaw.{Flaw}
+use Rattle.flaw_core.specs.Rules.{IsLeastFor}
 use Rattle.plan_db.specs.declared.fault.QueryFault.{QueryFault}
 use Rattle.plan_db.specs.declared.fault.QueryFault.TheVariants as query
 use Rattle.plan_db.specs.Database.{IsSound, HasCollapsed}

@@ -5,11 +5,11 @@ use Rattle.model_core.specs.declared.decision.Decision.{Decision}
 use Rattle.model_core.specs.declared.model.Model.{Model}
 use Rattle.model_core.specs.History.{standing}
 use Rattle.model_core.specs.State.{State}
-use Rattle.search_steps.specs.plan_search.Search.{SearchOutcome, Finds, Fails, Stops}
-use Rattle.search_steps.specs.flaw_core.Flaw.{Flaw}
+use Rattle.law_search.specs.Search.{SearchOutcome, Finds, Fails, Stops}
+use Rattle.flaw_core.specs.declared.flaw.Flaw.{Flaw}
 use Rattle.plan_db.specs.Answers.{Held}
-use Rattle.solver_core.specs.declared.ending.SearchEnd.{SearchEnd}
-use Rattle.solver_core.specs.declared.ending.SearchEnd.TheVariants.{Found, Exhausted, Budget}
+use Rattle.flaw_core.specs.declared.ending.SearchEnd.{SearchEnd}
+use Rattle.flaw_core.specs.declared.ending.SearchEnd.TheVariants.{Found, Exhausted, Budget}
 use Rattle.solver_core.specs.declared.ending.SolveFault.{SolveFault}
 use Rattle.solver_core.specs.declared.ending.SolveFault.TheVariants.{Behind, InInconsistent, Memory}
 use Rattle.solver_core.specs.Solving.{TellsEnd}

@@ -2,8 +2,3 @@ pub mod Solving
 pub mod Visiting
 pub mod Underway
 pub mod Ending
-pub mod flaw_core
-pub mod plan_db
-pub mod plan_search
-pub mod plan_steps
-pub mod plan_view

@@ -1,27 +1,22 @@
 -- What a search on a database answers and leaves.
-use Rattle.std.specs.Prelude.{◌≡◌, ℕ, zero, suc, ◌+◌, ◌≤◌, ◌⊎◌, ⊤, false, List, Option, Result, Ok, Err}
+use Rattle.std.specs.Prelude.{◌≡◌, ℕ, ◌+◌, ◌≤◌, ◌⊎◌, ⊤, false, List, Option, Result, Ok, Err}
 use Rattle.model_core.specs.declared.decision.Decision.{Decision}
 use Rattle.model_core.specs.declared.model.Model.{Model}
-use Rattle.model_core.specs.History.{History, standing, accepted}
+use Rattle.model_core.specs.History.{standing}
 use Rattle.model_core.specs.State.{State}
 use Rattle.plan_defs.specs.declared.plan.Plan.{Plan}
-use Rattle.plan_swap.specs.SwapLaws.{count_of_tokens}
-use Rattle.search_steps.specs.plan_search.Search.{SearchOutcome, Finds, Fails, Stops}
-use Rattle.search_steps.specs.plan_search.SearchLaws.{IsPlanFor, IsFoundList}
-use Rattle.search_steps.specs.flaw_core.Flaw.{Flaw}
-use Rattle.search_steps.specs.ByRule.{SearchesBy}
+use Rattle.law_search.specs.SwapLaws.{count_of_tokens}
+use Rattle.law_search.specs.Search.{SearchOutcome, Finds, Fails, Stops}
+use Rattle.law_search.specs.SearchLaws.{IsPlanFor, IsFoundList}
+use Rattle.flaw_core.specs.declared.flaw.Flaw.{Flaw}
+use Rattle.flaw_core.specs.ByRule.{SearchesBy}
 use Rattle.plan_db.specs.Database.{Database, HasLeast, HasCollapsed}
 use Rattle.plan_db.specs.Answers.{Held, StaysReady, StaysBehind, StaysSame}
-use Rattle.solver_core.specs.declared.ending.SearchEnd.{SearchEnd}
-use Rattle.solver_core.specs.declared.ending.SearchEnd.TheVariants.{Found, Exhausted, Budget}
+use Rattle.plan_db.specs.Rewinding.{TakesMore}
+use Rattle.flaw_core.specs.declared.ending.SearchEnd.{SearchEnd}
+use Rattle.flaw_core.specs.declared.ending.SearchEnd.TheVariants.{Found, Exhausted, Budget}
 use Rattle.solver_core.specs.declared.ending.SolveFault.{SolveFault}
 use Rattle.solver_core.specs.declared.ending.SolveFault.TheVariants.{Behind, InInconsistent, Memory}
-
--- so many decisions were taken, each a step of the history
-abbrev pub TakesMore : ℕ → History → History → Type 0
-TakesMore zero old new = new ≡ old
-TakesMore (suc count) old new =
-    (before : History) × ((decision : Decision) × (TakesMore count old before × (new ≡ accepted before decision)))
 
 -- what the outcome of the search with so many units is told as, and what is left of the database: the list that is found, each
 -- decision of which can be undone, or else what there was

@@ -6,17 +6,17 @@ use Rattle.model_core.specs.declared.model.Model.{Model}
 use Rattle.model_core.specs.History.{History, standing, accepted}
 use Rattle.model_core.specs.State.{State}
 use Rattle.plan_defs.specs.Closure.{IsLeast}
-use Rattle.search_steps.specs.plan_search.Search.{SearchOutcome, SearchEnding, Finds, Fails}
-use Rattle.search_steps.specs.flaw_core.Flaw.{Flaw}
-use Rattle.search_steps.specs.ByRule.{IsVisitBy, SearchesBy}
-use Rattle.search_steps.specs.Rest.{LeftOver, SearchesOn, VisitsFirst}
+use Rattle.law_search.specs.Search.{SearchOutcome, SearchEnding, Finds, Fails}
+use Rattle.flaw_core.specs.declared.flaw.Flaw.{Flaw}
+use Rattle.flaw_core.specs.ByRule.{IsVisitBy, SearchesBy}
+use Rattle.flaw_core.specs.Rest.{LeftOver, SearchesOn, VisitsFirst}
 use Rattle.plan_db.specs.Database.{Database}
 use Rattle.plan_db.specs.Answers.{Held}
+use Rattle.plan_db.specs.Rewinding.{IsTakenSince}
 use Rattle.solver_core.specs.declared.course.Branch.{Branch}
 use Rattle.solver_core.specs.declared.course.Course.{Course}
 use Rattle.solver_core.specs.declared.stepping.Step.{Step}
 use Rattle.solver_core.specs.declared.stepping.Step.TheVariants as step
-use Rattle.solver_core.specs.Solving.{TakesMore}
 
 -- a search from what a database holds, under a bound and with so many units
 pub record Task : Type 0 where
@@ -29,11 +29,10 @@ pub record IsReadyFor (task : Task) (held : Held) : Type 0 where
   pub ready : held.behind ≡ false
   pub model : held.database.model ≡ task.database.model
 
--- besides, only decisions were taken since the search began
+-- the database is ready, and only decisions were taken since the search began
 pub record IsAbove (task : Task) (held : Held) : Type 0 where
-  pub on : IsReadyFor task held
-  pub count : ℕ
-  pub more : TakesMore count task.database.history held.database.history
+  pub ready : held.behind ≡ false
+  pub since : IsTakenSince task.database held.database
 
 -- what the rule finds first in a state, and what can be decided of it
 module _ (First : Model → List Decision → State → Option Flaw → Type 0)

@@ -4,11 +4,11 @@ use Rattle.std.specs.Prelude.{◌++◌, Option, Some, None, Result, Ok, Err, Mat
 use Rattle.std.specs.declared.alloc.AllocError.{AllocError}
 use Rattle.model_core.specs.declared.decision.Decision.{Decision}
 use Rattle.model_core.specs.declared.model.Model.{Model}
-use Rattle.model_core.specs.History.{History, accepted}
+use Rattle.model_core.specs.History.{accepted}
 use Rattle.model_core.specs.State.{State}
 use Rattle.plan_defs.specs.Closure.{IsLeast, IsCollapsed}
-use Rattle.search_steps.specs.flaw_core.Flaw.{Flaw}
-use Rattle.search_steps.specs.flaw_core.Rules.{LeavesOut}
+use Rattle.flaw_core.specs.declared.flaw.Flaw.{Flaw}
+use Rattle.flaw_core.specs.Rules.{LeavesOut}
 use Rattle.plan_db.specs.Database.{taken_in}
 use Rattle.plan_db.specs.Answers.{Held}
 use Rattle.solver_core.specs.declared.course.Branch.{Branch}
@@ -35,10 +35,6 @@ module _ (First : Model → List Decision → State → Option Flaw → Type 0)
   IsVisited bound decisions Clear = (state : State) × IsLeast model decisions state × First model decisions state None
   IsVisited bound decisions (Flawed flaw left_out) = FindsFlaw bound decisions flaw
       × MatchBool left_out (LeavesOut model decisions bound flaw) (LeavesOut model decisions bound flaw → ⊥)
-
--- the last decision was taken back
-abbrev pub TakesLastBack : History → History → Type 0
-TakesLastBack old new = (decision : Decision) × (old ≡ accepted new decision)
 
 -- the choice that was found is taken, and its flaw is on the way; where none was, nothing changes
 abbrev pub TakesFound : Option Decision → Branch → Held → List Branch → Result Bool AllocError → Held → List Branch → Type 0

@@ -1,6 +1,6 @@
 //! Where a search stands.
 
-use search_steps::passed_flaw_core::Flaw;
+use flaw_core::Flaw;
 
 /// A flaw on the way to the list that stands, and how far its choices were gone through.
 #[derive(Clone, Copy)]

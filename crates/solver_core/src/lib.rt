@@ -1,19 +1,16 @@
-//! The search for a plan, by decisions that are taken in a database and taken back again.
-//!
-//! `solve(alloc, &mut db, &Plain, 1000, 512)?` visits at most 1,000 lists of decisions, with no more than 512 active tokens.
-//! After `SearchEnd::Found` the decisions found stand, each a step that can be undone. After every other answer the database is
-//! as before.
+//! Searches for a plan by decisions taken in a database and taken back: `solve(alloc, &mut db, &Plain, 1000, 512)?`.
+//! In come a `Db`, a `FlawRule`, and the most visits and active tokens; out goes a `SearchEnd` with the visits made.
+//! Called by run_commands and session_core. After `Found` the decisions found stand; else those that stood, as before.
+//! Knows nothing of texts, and of which flaw comes first. How the way to the present list is kept may change.
 #![tactic(auto)]
 
 mod course;
 mod ending;
-pub mod passed_flaw_core;
-pub mod passed_plan_db;
-pub mod passed_search_steps;
 mod solving;
 mod stepping;
 mod taking;
 mod visiting;
 
-pub use ending::{SearchEnd, SolveFault};
+pub use ending::SolveFault;
+pub use flaw_core::SearchEnd;
 pub use solving::solve;

@@ -7,11 +7,10 @@ ghost use Rattle.solver_core.specs.Underway.{Task, IsAbove, ComesTo};
 ghost use Rattle.solver_core.specs.Ending.{EndsAs, IsFoundEnd, KeepsFound, RestsAs};
 
 use super::course::Course;
-use super::ending::{SearchEnd, SolveFault};
+use super::ending::SolveFault;
 use super::stepping::{Step, advance};
-use super::taking::take_back;
-use plan_db::Db;
-use search_steps::passed_flaw_core::FlawRule;
+use flaw_core::{FlawRule, SearchEnd};
+use plan_db::{Db, rewind};
 use std::alloc::{AllocError, Global};
 
 // Visits lists up to the end, or until no unit is left.
@@ -38,19 +37,6 @@ fn search<R: FlawRule>(
         }
     }
     Ok(SearchEnd::Budget(steps))
-}
-
-// Takes back what was decided since.
-fn rewind(db: &mut Db, before: u64)
-    ghost task: { Task }
-    requires above { IsAbove task db.old }
-    requires before { before + 1 ≡ length task.database.history }
-    ensures database { db.new.database ≡ task.database }
-    ensures ready { db.new.behind ≡ false }
-{
-    while db.history() > before {
-        take_back(db);
-    }
 }
 
 // Searches from the list that stands.
@@ -89,7 +75,7 @@ fn is_found(end: &Result<SearchEnd, AllocError>) -> bool
     }
 }
 
-// The same, with the fault of a search.
+// How a search ended, or that memory was wanting, as the fault of a search.
 fn or_memory(end: Result<SearchEnd, AllocError>) -> Result<SearchEnd, SolveFault>
     ensures { MatchResult end (λ end. result ≡ Ok end) (λ _. result ≡ Err Memory) }
 {

@@ -4,10 +4,10 @@ ghost use Rattle.std.specs.Prelude.{◌≡◌, ◌+◌, ◌^◌, ◌<◌, ◌≤
 ghost use Rattle.solver_core.specs.Underway.{Task, IsAbove, IsLooking, HasFailed, ComesTo, StepComesTo, TakesNext};
 
 use super::course::{Branch, Course};
-use super::taking::{put_found, take_back};
+use super::taking::put_found;
 use super::visiting::{Visited, next_choice, visit};
-use plan_db::Db;
-use search_steps::passed_flaw_core::{Flaw, FlawRule};
+use flaw_core::{Flaw, FlawRule};
+use plan_db::{Db, take_back};
 use std::alloc::AllocError;
 
 /// What a step of a search comes to.

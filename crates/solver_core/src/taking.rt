@@ -1,11 +1,11 @@
-//! Decisions taken in the database, and taken back.
+//! Decisions taken in the database.
 
 ghost use Rattle.std.specs.Prelude.{◌≡◌, ◌++◌, [], ◌∷◌, true, false, Some, Ok, Err, OnOk, OnErr, MatchOption, MatchResult};
 ghost use Rattle.model_core.specs.History.{standing, accepted};
 ghost use Rattle.plan_defs.specs.Refusals.{IsAdmissible};
 ghost use Rattle.plan_db.specs.declared.fault.DbFault.TheVariants.{Memory};
-ghost use Rattle.plan_db.specs.Database.{taken_in, EndsAccepted};
-ghost use Rattle.solver_core.specs.Visiting.{TakesLastBack, TakesFound};
+ghost use Rattle.plan_db.specs.Database.{taken_in};
+ghost use Rattle.solver_core.specs.Visiting.{TakesFound};
 
 use super::course::{Branch, Course};
 use model_core::decision::Decision;
@@ -66,7 +66,7 @@ fn when_taken(taken: Result<(), AllocError>) -> Result<bool, AllocError>
     }
 }
 
-// The same of a choice that is no longer needed behind it.
+// Puts the flaw on the way, and takes a choice of it, which isn't needed behind that.
 fn put_owned(
     db: &mut Db,
     course: &mut Course,
@@ -101,19 +101,5 @@ pub fn put_found(
     match found {
         Some(choice) => put_owned(db, course, branch, choice),
         None => Ok(false),
-    }
-}
-
-/// Takes the last decision back.
-pub fn take_back(db: &mut Db)
-    requires ready { db.old.behind ≡ false }
-    requires accepted { EndsAccepted db.old.database.history }
-    ensures back { TakesLastBack db.old.database.history db.new.database.history }
-    ensures model { db.new.database.model ≡ db.old.database.model }
-    ensures still { db.new.behind ≡ false }
-{
-    match db.backtrack() {
-        Ok(()) => {}
-        Err(_fault) => unreachable!(),
     }
 }

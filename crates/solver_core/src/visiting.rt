@@ -5,16 +5,16 @@ ghost use Rattle.model_core.specs.declared.decision.Decision.{Decision as Chosen
 ghost use Rattle.model_core.specs.History.{standing};
 ghost use Rattle.model_core.specs.State.{State};
 ghost use Rattle.plan_defs.specs.Closure.{IsLeast};
-ghost use Rattle.search_steps.specs.flaw_core.Rules.{IsLeastFor};
+ghost use Rattle.flaw_core.specs.Rules.{IsLeastFor};
 ghost use Rattle.plan_db.specs.Database.{IsSound};
 ghost use Rattle.solver_core.specs.Visiting.{HasFirst, IsVisited};
 
 use super::course::Branch;
+use flaw_core::{Flaw, FlawRule};
 use model_core::decision::Decision;
 use model_core::model::Model;
 use model_core::view::View;
 use plan_db::Db;
-use search_steps::passed_flaw_core::{Flaw, FlawRule};
 use std::alloc::AllocError;
 
 /// What a visit of a list sees.

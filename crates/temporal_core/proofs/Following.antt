@@ -9,7 +9,8 @@ use Rattle.temporal_core.specs.declared.edges.Edge.{Edge}
 use Rattle.temporal_core.specs.Network.{IsEdge}
 use Rattle.temporal_core.specs.Cycle.{edges_at, LeadsFrom, LeadsBack, IsSimple, BeginsLeast}
 use Rattle.temporal_core.specs.Canonical.{edge_at, IsCycleOf}
-use Rattle.temporal_core.proofs.Members.{all_from_contains, contains_from_get}
+use Rattle.temporal_core.proofs.Members.{all_from_contains}
+use Rattle.eu_name.proofs.Members.{contains_from_get}
 use Rattle.temporal_core.proofs.Walks.{Contains-cons_cases, simple_is_short}
 use Rattle.temporal_core.proofs.Leaving.{edges_at-stands}
 

@@ -11,7 +11,8 @@ use Rattle.temporal_core.specs.Schedule.{KeepsEdge, IsSchedule, HasNoSchedule}
 use Rattle.temporal_core.specs.Cycle.{edges_at, LeavesAfter}
 use Rattle.temporal_core.specs.Settled.{value_at, AreSettled}
 use Rattle.temporal_core.specs.Canonical.{places_from}
-use Rattle.temporal_core.proofs.Members.{all_from_contains, get_from_contains, get_below}
+use Rattle.temporal_core.proofs.Members.{all_from_contains}
+use Rattle.eu_name.proofs.Members.{get_from_contains, get_below}
 use Rattle.temporal_core.proofs.Walks.{Contains-head, Contains-tail, Contains-cons_cases}
 
 -- values that keep the edges are, from the origin on, a schedule

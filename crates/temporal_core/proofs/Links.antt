@@ -9,7 +9,8 @@ use Rattle.temporal_core.specs.declared.edges.Edge.{Edge}
 use Rattle.temporal_core.specs.declared.graph.Graph.{Graph}
 use Rattle.temporal_core.specs.Network.{IsEdge}
 use Rattle.temporal_core.specs.Settled.{IsGraph, IsLastFrom}
-use Rattle.temporal_core.proofs.Members.{get_below, get_same, get_before_push, get_push}
+use Rattle.eu_name.proofs.Members.{get_below, get_same}
+use Rattle.temporal_core.proofs.Members.{get_before_push, get_push}
 
 -- a further edge changes nothing before it
 IsLastFrom-push : (edges : List Edge) (edge : Edge) (point limit : ℕ) (link : Option ℕ) → limit ≤ length edges → IsLastFrom edges point limit link → IsLastFrom (edges ++ edge ∷ []) point limit link

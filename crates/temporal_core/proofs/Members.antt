@@ -2,7 +2,7 @@
 use Rattle.std.proofs.Common.{◌≡◌, ℕ, suc, zero, ◌<◌, List, [], ◌∷◌, ◌++◌, length, Some, get_or, refl, sym, ap, ◌∙◌, arith}
 use Rattle.std.specs.Prelude.{Contains, All, slice_get}
 use Rattle.std.proofs.lemmas.Option.{get_or_from_slice_get}
-pub use Rattle.eu_name.proofs.Members.{get_from_contains, get_below, contains_from_get, get_within, get_all, get_same}
+use Rattle.eu_name.proofs.Members.{contains_from_get, get_within}
 
 -- what holds of each member holds of all
 pub all_from_contains : {X : Type 0} (P : X → Type 0) (xs : List X) → ((x : X) → Contains xs x → P x) → All P xs

@@ -11,7 +11,8 @@ use Rattle.temporal_core.specs.Schedule.{KeepsEdge, HasNoSchedule, IsSchedule}
 use Rattle.temporal_core.specs.Cycle.{edges_at}
 use Rattle.temporal_core.specs.Settled.{IsSettledGraph, HasPositiveCycle}
 use Rattle.temporal_core.specs.Canonical.{places_from, IsNextNeeded}
-use Rattle.temporal_core.proofs.Members.{get_same, all_from_contains}
+use Rattle.eu_name.proofs.Members.{get_same}
+use Rattle.temporal_core.proofs.Members.{all_from_contains}
 use Rattle.temporal_core.proofs.Walks.{no_schedule, Contains-head}
 use Rattle.temporal_core.proofs.Cycles.{edges_at-cons}
 use Rattle.temporal_core.proofs.Settling.{HasPositiveCycle-within}

@@ -9,7 +9,8 @@ use Rattle.temporal_core.specs.declared.edges.Edge.{Edge}
 use Rattle.temporal_core.specs.Schedule.{KeepsEdge}
 use Rattle.temporal_core.specs.Cycle.{LeadsFrom, gap_sum}
 use Rattle.temporal_core.specs.Settled.{IsLastFrom, value_at, Walk, RaisesEnd, RaisesFrom, IsStopped, Raises, Exceeds}
-use Rattle.temporal_core.proofs.Members.{get_from_contains, get_below, contains_from_get, get_same, all_from_contains}
+use Rattle.eu_name.proofs.Members.{get_from_contains, get_below, contains_from_get, get_same}
+use Rattle.temporal_core.proofs.Members.{all_from_contains}
 use Rattle.temporal_core.proofs.Values.{value_at-set_same, value_at-set_other, total-set}
 
 -- the place comes after the link, and so was told

@@ -14,7 +14,8 @@ use Rattle.temporal_core.specs.Schedule.{KeepsEdge, IsSchedule, HasNoSchedule}
 use Rattle.temporal_core.specs.Cycle.{edges_at, LeavesAfter, LeavesNeeded}
 use Rattle.temporal_core.specs.Settled.{value_at, IsGraph, AreKept, IsSettledGraph, HasPositiveCycle}
 use Rattle.temporal_core.specs.Canonical.{edge_at, idle_edge, missing, places_from, Stays, IsThinned, HasNoneFrom, HasSomeFrom, IsNextNeeded}
-use Rattle.temporal_core.proofs.Members.{all_from_contains, get_from_contains, get_below}
+use Rattle.temporal_core.proofs.Members.{all_from_contains}
+use Rattle.eu_name.proofs.Members.{get_from_contains, get_below}
 use Rattle.temporal_core.proofs.Walks.{none_keeps, Contains-cons_cases}
 use Rattle.temporal_core.proofs.Settling.{settled_modest}
 use Rattle.temporal_core.proofs.Leaving.{edges_at-contains, edges_at-stands, none_at_more, Contains-places_from, places_from_bounds, places_from-next, leaves_next, leaves_rest}

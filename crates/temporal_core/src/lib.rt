@@ -1,7 +1,7 @@
-//! Times: the least and the greatest value of each point that edges allow, or a cycle of edges that allows none.
-//!
-//! `edges.add(Edge { from: 0, to: 1, gap: 5 })?` says that point 1 comes no sooner than 5 after the origin. Then
-//! `bounds(&edges)?` has 5 as the least value of point 1 and none as its greatest.
+//! Times: the least and the greatest value of each point that edges allow, `bounds(&edges)?`, or a cycle that allows none.
+//! In come points and edges with gaps (`Edges`); out go `TimeBounds`, or the places of the edges of the canonical cycle.
+//! Called by conflict_core, for the cycle of the time edges of decisions.
+//! Knows nothing of tokens, variables, and what an edge comes from. How bounds and the canonical cycle are found may change.
 #![tactic(auto)]
 
 pub mod bounds;

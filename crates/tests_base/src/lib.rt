@@ -1,6 +1,8 @@
-//! Tests of the crates at the bottom, of names, domains, constraints, times and profiles: what no clause says of them, as that
-//! a call succeeds where memory suffices, what the system's own files, readers and writers do, and what the answers are for
-//! cases worked out by hand. There is nothing to call here: `rt test` proves and runs the tests.
+//! Tests of the ground and of the constraints, of names in a model and of the generated problem.
+//! Rows and small cases worked out by hand come in, and what the calls answer is compared. So is what no clause says: that a
+//! call succeeds where memory suffices, and what the adapters do with the system's own files and streams.
+//! Nothing here is called by others: `rt test` proves and runs the tests.
+//! It knows nothing of the compiler, plans and the database. All of it may change.
 #![tactic(auto)]
 
 #[cfg(test)]

@@ -21,7 +21,7 @@ fn narrowed_pair<C: Narrow>(constraint: &C, domains: [Dom; 2]) -> (Change, [Shap
     (change, [shape(&domains[0]), shape(&domains[1])])
 }
 
-/// The same of two that are written.
+/// What the constraint answers and leaves of two domains that are written.
 fn pair<C: Narrow>(
     alloc: Global,
     constraint: &C,
@@ -143,7 +143,7 @@ fn narrowed_triple<C: Narrow>(constraint: &C, domains: [Dom; 3]) -> (Change, [Sh
     )
 }
 
-/// The same of three that are written.
+/// What the constraint answers and leaves of three domains that are written.
 fn triple<C: Narrow>(
     alloc: Global,
     constraint: &C,

@@ -10,8 +10,8 @@ use constraint_net::NetArg::Lit;
 use constraint_net::laws::marks_stay;
 use constraint_net::{Net, NetFault};
 use domain_core::domain::{GREATEST_VALUE, LEAST_VALUE};
+use domain_core::kind::Kind;
 use domain_core::{Change, Dom};
-use model_core::item::Kind;
 use std::alloc::Global;
 
 /// What is done with a network, and seen of it in plain values. Only `seen` owns one, since a proof goes through all that an

@@ -219,7 +219,7 @@ fn copy_of(made: &Decision) -> Option<(&'static str, u32, i64)> {
     }
 }
 
-// The same of the decision that is described.
+// What a copy is of the decision that is described so.
 fn copied(alloc: Global, kind: &str, number: u32, other: i32) -> Option<(&'static str, u32, i64)> {
     let made = decision(alloc, kind, number, other);
     copy_of(&made)

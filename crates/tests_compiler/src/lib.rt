@@ -1,5 +1,7 @@
-//! Tests of the compiler's stages: nddl_ast and nddl_symbols, the table of names and types, rules, and first faults of
-//! whole programs. Nothing here is called by others.
+//! Tests of the compiler's stages: symbols, the table of names and types, trees of rules, first faults of whole programs.
+//! Texts come in as rows, each with what is answered of it, worked out by hand from the language; the answers are compared.
+//! Nothing here is called by others: `rt test` proves and runs the tests.
+//! It knows nothing of plans, the database and the search. All of it may change.
 #![tactic(auto)]
 
 #[cfg(test)]

@@ -21,7 +21,7 @@ fn answer(alloc: Global, files: &[FileDecls]) -> Result<String, AllocError>
     }
 }
 
-/// The same of the file `m` of the first text, beside a file `q` of the second.
+/// What is wrong first with the file `m` of the first text, beside a file `q` of the second.
 #[tactic(auto, using(crate::proofs::Given::read_given))]
 fn told(alloc: Global, text: &str, other: &str) -> Result<String, AllocError> {
     let mut files = pair(alloc, text, other)?;

@@ -15,7 +15,7 @@ fn is_copied(body: &StmtBlock) -> Result<bool, AllocError> {
     Ok(copy.is_same(body) && copy.at == body.at)
 }
 
-/// The same of the rule that the declaration is.
+/// Whether the declaration is a rule of which a copy of the block is the same.
 fn rule_is_copied(decl: Option<&Decl>) -> Result<bool, AllocError> {
     match decl {
         Some(Decl::Rule { body, .. }) => is_copied(body),
@@ -30,7 +30,7 @@ fn first_is_copied(files: &[FileDecls]) -> Result<bool, AllocError> {
     }
 }
 
-/// The same of the first declaration of this text.
+/// Whether the first declaration of this text is such a rule.
 fn copied(alloc: Global, text: &str) -> Result<bool, AllocError> {
     let mut files = shelf(alloc, text)?;
     match read_all(alloc, &mut files, "m") {

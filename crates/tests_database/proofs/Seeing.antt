@@ -2,12 +2,11 @@
 use Rattle.std.proofs.Common.{◌≡◌, List, sym, ◌∙◌, subst}
 use Rattle.model_core.specs.declared.decision.Decision.{Decision}
 use Rattle.model_core.specs.declared.model.Model.{Model}
-use Rattle.model_core.specs.History.{standing}
 use Rattle.model_core.specs.Lawful.{IsLawful}
 use Rattle.plan_defs.specs.Closure.{IsLeast}
 use Rattle.plan_defs.specs.Settling.{IsSettled}
-use Rattle.plan_view.specs.Seeing.{Seen, seen_state}
-use Rattle.plan_steps.proofs.Keeping.{standing_settled}
+use Rattle.db_refusals.specs.Seeing.{Seen, seen_state}
+use Rattle.plan_defs.proofs.Histories.{standing_settled}
 use Rattle.plan_db.specs.Database.{Database, IsSound}
 use Rattle.tests_database.specs.Seen.{IsSeenOf}
 

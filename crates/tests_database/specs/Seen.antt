@@ -1,7 +1,7 @@
 -- What is known of a view that a database gives.
 use Rattle.std.specs.Prelude.{◌≡◌}
 use Rattle.model_core.specs.declared.model.Model.{Model}
-use Rattle.plan_view.specs.Seeing.{Seen}
+use Rattle.db_refusals.specs.Seeing.{Seen}
 use Rattle.plan_db.specs.Answers.{Held, IsSeen}
 use Rattle.plan_db.specs.Database.{IsSound}
 

@@ -13,10 +13,10 @@ use eu_name::name::{TokenName, VarName};
 use model_core::decision::Decision;
 use model_core::model::Model;
 use model_core::view::{TokenState, View};
-use plan_core::write_plan;
 use plan_db::{Db, QueryFault, StoreView};
 use plan_defs::plan::Plan;
 use plan_states::{PlanOfFault, plan_of};
+use plan_text::write_plan;
 use std::alloc::Global;
 
 /// The model of the database.

@@ -1,6 +1,8 @@
-//! Tests of the plan database, of searches and conflicts on it, and of the plan of a state: what no clause says of them, as
-//! that a call succeeds where memory suffices, and what the answers are for cases worked out by hand. There is nothing to
-//! call here: `rt test` proves and runs the tests.
+//! Tests of the plan database, of searches, conflicts and cycles on it, and of the plan of a state.
+//! Steps on the models `mission` and `rounds` come in as rows, each with its answer, worked out by hand from what a state
+//! is; the answers are compared, and it is counted how much work some steps take.
+//! Nothing here is called by others: `rt test` proves and runs the tests.
+//! It knows nothing of texts in NDDL, scripts and the program. All of it may change.
 #![tactic(auto)]
 
 #[cfg(test)]
@@ -13,6 +15,8 @@ mod deciding;
 mod full;
 #[cfg(test)]
 mod names;
+#[cfg(test)]
+mod offered;
 #[cfg(test)]
 mod reasons;
 #[cfg(test)]

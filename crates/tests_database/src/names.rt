@@ -121,7 +121,7 @@ pub fn decision(alloc: Global, model: &Model, choice: &str) -> Option<Decision>
 
 fn on_variable(variable: Option<VarName>) -> Option<Subject> {
     match variable {
-        Some(variable) => Some(Subject::Variable(variable)),
+        Some(variable) => Some(Subject::Var(variable)),
         None => None,
     }
 }

@@ -4,7 +4,7 @@ ghost use Rattle.model_core.specs.Lawful.{IsLawful};
 
 use model_core::model::Model;
 use plan_db::Db;
-use plan_release::let_go;
+use plan_db::release::let_go;
 use std::alloc::{AllocError, Global};
 use tests_samples::mission::mission;
 use tests_samples::rounds::rounds;

@@ -2,8 +2,9 @@
 
 use super::lines::Lines;
 use super::variables::tell_part;
+use domain_core::kind::Kind;
 use eu_name::name::Part;
-use model_core::item::{Item, Kind, Rel, Term};
+use model_core::item::{Item, Rel, Term};
 
 // A part of the token that the letter and the number name.
 fn tell_part_of(letter: &str, number: u32, part: Part, lines: &mut Lines) {

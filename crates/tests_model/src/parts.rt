@@ -2,12 +2,13 @@
 
 use super::rows::{number, value, word};
 use domain_core::domain::Dom;
+use domain_core::kind::Kind;
 use eu_name::name::{Part, TokenName, VarName};
 use eu_name::sequence::Sequence;
 use eu_name::text::Text;
 use model_core::class::{Class, Enum, Object, ObjectKind, Pred, PredKind};
 use model_core::decision::Decision;
-use model_core::item::{Item, Kind, Rel, Term};
+use model_core::item::{Item, Rel, Term};
 use model_core::model::{Placed, Root, RootKind};
 use model_core::variable::{Base, ValueKind, VarDecl};
 use std::alloc::{AllocError, Global};

@@ -2,10 +2,11 @@
 
 use super::parts::{add, bare_pred, base_of, one, variable};
 use super::rows::{number, word};
+use domain_core::kind::Kind;
 use eu_name::name::Part;
 use eu_name::sequence::Sequence;
 use model_core::class::Pred;
-use model_core::item::{Item, Kind, Rel, Term};
+use model_core::item::{Item, Rel, Term};
 use model_core::model::Model;
 use model_core::rule::{Block, Entry, Guard, Rule, Slot};
 use std::alloc::{AllocError, Global};

@@ -5,7 +5,7 @@ ghost use Rattle.model_core.specs.Lawful.{IsLawful};
 use super::rows::{Asked, assert_rows};
 use model_core::model::Model;
 use plan_check::{Verdict, check};
-use plan_reader::read_plan;
+use plan_core::read_plan;
 use std::alloc::{AllocError, Global};
 use tests_samples::mission::mission;
 
@@ -19,7 +19,7 @@ fn verdict_of(alloc: Global, model: &Model, text: &str) -> Option<Verdict>
     }
 }
 
-// The same, for the small model.
+// What the checker says of the plan that the text says of the small model.
 fn verdict(alloc: Global, text: &str) -> Option<Verdict> {
     match mission(alloc) {
         Ok(model) => verdict_of(alloc, &model, text),
@@ -54,7 +54,7 @@ rejected work
 end
 
 == # globals without values, and with values that aren't in their bases
-== Some(Invalid { clause: V1, place: Global(1) })
+== Some(Invalid(V1, Global(1)))
 plan
 global total 4
 fact base Rover.At start 0 end 1 duration 1 object spirit place 1
@@ -65,7 +65,7 @@ rejected sun
 rejected work
 end
 
-== Some(Invalid { clause: V1, place: Global(0) })
+== Some(Invalid(V1, Global(0)))
 plan
 global !1 0
 global mode slow
@@ -78,7 +78,7 @@ rejected sun
 rejected work
 end
 
-== Some(Invalid { clause: V1, place: Global(0) })
+== Some(Invalid(V1, Global(0)))
 plan
 global total 11
 global !1 6
@@ -93,7 +93,7 @@ rejected work
 end
 
 == # a root without a line, and with lines of other sorts
-== Some(Invalid { clause: V2, place: Root(1) })
+== Some(Invalid(V2, Root(1)))
 plan
 global total 4
 global !1 0
@@ -106,7 +106,7 @@ rejected sun
 rejected work
 end
 
-== Some(Invalid { clause: V2, place: Root(1) })
+== Some(Invalid(V2, Root(1)))
 plan
 global total 4
 global !1 0
@@ -120,7 +120,7 @@ rejected sun
 rejected work
 end
 
-== Some(Invalid { clause: V2, place: Root(0) })
+== Some(Invalid(V2, Root(0)))
 plan
 global total 4
 global !1 0
@@ -134,7 +134,7 @@ rejected sun
 rejected work
 end
 
-== Some(Invalid { clause: V2, place: Root(2) })
+== Some(Invalid(V2, Root(2)))
 plan
 global total 4
 global !1 0
@@ -148,7 +148,7 @@ rejected sun
 rejected work
 end
 
-== Some(Invalid { clause: V2, place: Line(7) })
+== Some(Invalid(V2, Line(7)))
 plan
 global total 4
 global !1 0
@@ -165,7 +165,7 @@ rejected work
 end
 
 == # values out of their bases, and a token that doesn't last as it says
-== Some(Invalid { clause: V3, place: Line(0) })
+== Some(Invalid(V3, Line(0)))
 plan
 global total 4
 global !1 0
@@ -179,7 +179,7 @@ rejected sun
 rejected work
 end
 
-== Some(Invalid { clause: V3, place: Line(0) })
+== Some(Invalid(V3, Line(0)))
 plan
 global total 4
 global !1 0
@@ -193,7 +193,7 @@ rejected sun
 rejected work
 end
 
-== Some(Invalid { clause: V3, place: Line(0) })
+== Some(Invalid(V3, Line(0)))
 plan
 global total 4
 global !1 0
@@ -207,7 +207,7 @@ rejected sun
 rejected work
 end
 
-== Some(Invalid { clause: V3, place: Line(2) })
+== Some(Invalid(V3, Line(2)))
 plan
 global total 4
 global !1 0
@@ -222,7 +222,7 @@ rejected work
 end
 
 == # targets: the token itself, one that doesn't take place, one of another predicate, and one on another object
-== Some(Invalid { clause: V4, place: Line(1) })
+== Some(Invalid(V4, Line(1)))
 plan
 global total 4
 global !1 0
@@ -236,7 +236,7 @@ rejected sun
 rejected work
 end
 
-== Some(Invalid { clause: V4, place: Line(1) })
+== Some(Invalid(V4, Line(1)))
 plan
 global total 4
 global !1 0
@@ -250,7 +250,7 @@ rejected sun
 rejected work
 end
 
-== Some(Invalid { clause: V4, place: Line(1) })
+== Some(Invalid(V4, Line(1)))
 plan
 global total 4
 global !1 0
@@ -264,7 +264,7 @@ rejected sun
 rejected work
 end
 
-== Some(Invalid { clause: V4, place: Line(1) })
+== Some(Invalid(V4, Line(1)))
 plan
 global total 4
 global !1 0
@@ -279,7 +279,7 @@ rejected work
 end
 
 == # a slot of an open block without a token, a local without a value or with one that isn't in its base
-== Some(Invalid { clause: V5, place: Slot { line: 1, rule: 0, slot: 1 } })
+== Some(Invalid(V5, Slot { line: 1, rule: 0, slot: 1 }))
 plan
 global total 4
 global !1 0
@@ -293,7 +293,7 @@ rejected sun
 rejected work
 end
 
-== Some(Invalid { clause: V5, place: Slot { line: 1, rule: 0, slot: 1 } })
+== Some(Invalid(V5, Slot { line: 1, rule: 0, slot: 1 }))
 plan
 global total 4
 global !1 0
@@ -308,7 +308,7 @@ rejected sun
 rejected work
 end
 
-== Some(Invalid { clause: V5, place: Local { line: 1, rule: 0, number: 0 } })
+== Some(Invalid(V5, Local { line: 1, rule: 0, number: 0 }))
 plan
 global total 4
 global !1 0
@@ -323,7 +323,7 @@ rejected sun
 rejected work
 end
 
-== Some(Invalid { clause: V5, place: Local { line: 1, rule: 0, number: 0 } })
+== Some(Invalid(V5, Local { line: 1, rule: 0, number: 0 }))
 plan
 global total 4
 global !1 0
@@ -340,7 +340,7 @@ rejected work
 end
 
 == # the same behind an `else`
-== Some(Invalid { clause: V5, place: Slot { line: 1, rule: 0, slot: 0 } })
+== Some(Invalid(V5, Slot { line: 1, rule: 0, slot: 0 }))
 plan
 global total 4
 global !1 0
@@ -356,7 +356,7 @@ rejected work
 end
 
 == # what no block asks for: of a merged token, of a fact, behind the `else` of a guard that is true, and the other way round
-== Some(Invalid { clause: V6, place: Line(6) })
+== Some(Invalid(V6, Line(6)))
 plan
 global total 4
 global !1 0
@@ -371,7 +371,7 @@ rejected sun
 rejected work
 end
 
-== Some(Invalid { clause: V6, place: Line(6) })
+== Some(Invalid(V6, Line(6)))
 plan
 global total 4
 global !1 0
@@ -386,7 +386,7 @@ rejected sun
 rejected work
 end
 
-== Some(Invalid { clause: V6, place: Line(7) })
+== Some(Invalid(V6, Line(7)))
 plan
 global total 4
 global !1 0
@@ -403,7 +403,7 @@ rejected sun
 rejected work
 end
 
-== Some(Invalid { clause: V6, place: Line(2) })
+== Some(Invalid(V6, Line(2)))
 plan
 global total 4
 global !1 0
@@ -454,7 +454,7 @@ rejected work
 end
 
 == # items of the problem
-== Some(Invalid { clause: V7, place: Problem(0) })
+== Some(Invalid(V7, Problem(0)))
 plan
 global total 6
 global !1 0
@@ -468,7 +468,7 @@ rejected sun
 rejected work
 end
 
-== Some(Invalid { clause: V7, place: Problem(1) })
+== Some(Invalid(V7, Problem(1)))
 plan
 global total 4
 global !1 0
@@ -500,7 +500,7 @@ rejected work
 end
 
 == # items of open blocks
-== Some(Invalid { clause: V7, place: Item { line: 1, rule: 0, item: 0 } })
+== Some(Invalid(V7, Item { line: 1, rule: 0, item: 0 }))
 plan
 global total 4
 global !1 0
@@ -516,7 +516,7 @@ rejected sun
 rejected work
 end
 
-== Some(Invalid { clause: V7, place: Item { line: 1, rule: 0, item: 1 } })
+== Some(Invalid(V7, Item { line: 1, rule: 0, item: 1 }))
 plan
 global total 4
 global !1 0
@@ -532,7 +532,7 @@ rejected sun
 rejected work
 end
 
-== Some(Invalid { clause: V7, place: Item { line: 1, rule: 0, item: 2 } })
+== Some(Invalid(V7, Item { line: 1, rule: 0, item: 2 }))
 plan
 global total 4
 global !1 0
@@ -549,7 +549,7 @@ rejected work
 end
 
 == # tokens of one timeline that overlap
-== Some(Invalid { clause: V8, place: Pair(0, 1) })
+== Some(Invalid(V8, Pair(0, 1)))
 plan
 global total 4
 global !1 0
@@ -565,7 +565,7 @@ rejected sun
 rejected work
 end
 
-== Some(Invalid { clause: V8, place: Pair(0, 6) })
+== Some(Invalid(V8, Pair(0, 6)))
 plan
 global total 4
 global !1 0
@@ -617,7 +617,7 @@ rejected work
 end
 
 == # more uses than the arm has, and uses that touch
-== Some(Invalid { clause: V9, place: Instant { object: 2, at: 3 } })
+== Some(Invalid(V9, Instant { object: 2, at: 3 }))
 plan
 global total 4
 global !1 0
@@ -633,7 +633,7 @@ rejected sun
 rejected work
 end
 
-== Some(Invalid { clause: V9, place: Instant { object: 2, at: 6 } })
+== Some(Invalid(V9, Instant { object: 2, at: 6 }))
 plan
 global total 4
 global !1 0
@@ -664,7 +664,7 @@ rejected work
 end
 
 == # a level out of its limits, which later comes back, and one that stays within them
-== Some(Invalid { clause: V10, place: Instant { object: 3, at: 2 } })
+== Some(Invalid(V10, Instant { object: 3, at: 2 }))
 plan
 global total 4
 global !1 0
@@ -678,7 +678,7 @@ token sun Cell.produce start 4 end 5 duration 1 object cell quantity 6
 token work Cell.consume start 2 end 3 duration 1 object cell quantity 6
 end
 
-== Some(Invalid { clause: V10, place: Instant { object: 3, at: 3 } })
+== Some(Invalid(V10, Instant { object: 3, at: 3 }))
 plan
 global total 4
 global !1 0

@@ -1,5 +1,7 @@
-//! Tests of plans: what no clause says of them, as that a call succeeds where memory suffices, and what the answers are for
-//! cases worked out by hand. There is nothing to call here: `rt test` proves and runs the tests.
+//! Tests of plans: texts that are read and written, and what `check` says of a plan.
+//! Texts of plans of the model `mission` come in as rows, each with its answer, worked out by hand; answers are compared.
+//! Nothing here is called by others: `rt test` proves and runs the tests.
+//! It knows nothing of the database, the search and the compiler. All of it may change.
 #![tactic(auto)]
 
 #[cfg(test)]

@@ -5,8 +5,8 @@ ghost use Rattle.model_core.specs.Lawful.{IsLawful};
 use super::rows::{Asked, assert_rows};
 use eu_name::bytes::Bytes;
 use model_core::model::Model;
-use plan_core::{PlanTextFault, write_plan};
-use plan_reader::read_plan;
+use plan_core::read_plan;
+use plan_text::{PlanTextFault, write_plan};
 use std::alloc::{AllocError, Global};
 use tests_samples::mission::mission;
 
@@ -28,7 +28,7 @@ fn written_in(alloc: Global, model: &Model, text: &str) -> Option<Bytes>
     }
 }
 
-// The same, for the small model.
+// The text that is written of the plan of the small model which this one says.
 fn written_again(alloc: Global, text: &str) -> Option<Bytes> {
     match mission(alloc) {
         Ok(model) => written_in(alloc, &model, text),

@@ -1,5 +1,7 @@
-//! What no clause says of sessions and of whole runs: that their calls succeed where memory suffices, and what a planner sees.
-//! There is nothing to call here: `rt test` proves and runs the tests.
+//! Tests of whole runs and of sessions: what a planner sees, and what is left where a call of the outside fails.
+//! Words, files and input come in as rows, each with the status and the output of its run, worked out by hand, to compare.
+//! Nothing here is called by others: `rt test` proves and runs the tests.
+//! Runs enter by `europa`, and sessions by `session` with a responder of their own. All of it may change.
 #![tactic(auto)]
 
 #[cfg(test)]

@@ -82,7 +82,7 @@ fn ran_from(
     Ok((sink.as_slice() == output, status.number()))
 }
 
-/// The same of an input that comes so many bytes a call.
+/// Whether a run whose input comes so many bytes a call writes this, and the number of its status.
 fn ran_over(
     alloc: Global,
     words: &[Text],
@@ -95,7 +95,7 @@ fn ran_over(
     ran_from(alloc, words, shelf, &mut source, fails.2, output)
 }
 
-/// The same of words, over these files.
+/// Whether the run of these words over these files writes this, and the number of its status.
 fn ran_words(
     alloc: Global,
     words: &[Text],

@@ -76,7 +76,7 @@ fn words_ask_for(alloc: Global, words: &[Text], names: &str) -> Result<bool, All
     Ok(asked.is_ok() && shelf.names.as_str() == names)
 }
 
-/// The same of the words of a line.
+/// Whether the run of the words of this line asks for these files.
 fn asks_for(alloc: Global, line: &str, names: &str) -> Result<bool, AllocError> {
     match words_of(alloc, line) {
         Ok(words) => words_ask_for(alloc, words.as_slice(), names),

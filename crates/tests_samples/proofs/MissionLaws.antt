@@ -12,7 +12,7 @@ use Rattle.model_core.specs.declared.class.Pred.{Pred}
 use Rattle.model_core.specs.declared.class.PredKind.{PredKind}
 use Rattle.model_core.specs.declared.class.PredKind.TheVariants.{Uses, Produce, Consume}
 use Rattle.model_core.specs.declared.item.Item.TheVariants.{Constraint, Relation}
-use Rattle.model_core.specs.declared.item.Kind.TheVariants.{Leq}
+use Rattle.domain_core.specs.declared.kind.Kind.TheVariants.{Leq}
 use Rattle.model_core.specs.declared.item.Rel.TheVariants.{Equals, After}
 use Rattle.model_core.specs.declared.item.Term.TheVariants as terms
 use Rattle.model_core.specs.declared.model.Model.{Model}

@@ -17,7 +17,7 @@ use Rattle.model_core.specs.declared.class.PredKind.{PredKind}
 use Rattle.model_core.specs.declared.class.PredKind.TheVariants.{Plain, Uses, Produce, Consume}
 use Rattle.model_core.specs.declared.item.Item.{Item}
 use Rattle.model_core.specs.declared.item.Item.TheVariants.{Constraint, Relation}
-use Rattle.model_core.specs.declared.item.Kind.TheVariants.{Leq}
+use Rattle.domain_core.specs.declared.kind.Kind.TheVariants.{Leq}
 use Rattle.model_core.specs.declared.item.Rel.TheVariants.{Equals, After}
 use Rattle.model_core.specs.declared.item.Term.TheVariants as terms
 use Rattle.model_core.specs.declared.model.Model.{Model}

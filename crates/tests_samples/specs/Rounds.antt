@@ -10,7 +10,7 @@ use Rattle.model_core.specs.declared.class.ObjectKind.TheVariants as object_kind
 use Rattle.model_core.specs.declared.class.Pred.{Pred}
 use Rattle.model_core.specs.declared.class.PredKind.TheVariants as pred_kinds
 use Rattle.model_core.specs.declared.item.Item.TheVariants.{Constraint}
-use Rattle.model_core.specs.declared.item.Kind.TheVariants.{Leq}
+use Rattle.domain_core.specs.declared.kind.Kind.TheVariants.{Leq}
 use Rattle.model_core.specs.declared.item.Term.TheVariants as terms
 use Rattle.model_core.specs.declared.model.Model.{Model}
 use Rattle.model_core.specs.declared.model.Root.{Root}

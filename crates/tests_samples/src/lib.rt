@@ -1,9 +1,8 @@
-//! Files and models for tests. `shelf_of(alloc, &[("m", text), ("q", other)])?` is a shelf with these files. The models are
-//! small, made by hand and proved lawful: the proof of each is made here once.
-//!
-//! `mission::mission(alloc)?` has a rule with a guard, a fact, a goal and rejectables, two timelines, a reusable and a
-//! reservoir, and `rounds::rounds(alloc)?` three tokens of one timeline, tokens that ask for more of the same, and one whose
-//! slot has no object.
+//! Files and models for tests: `shelf_of(alloc, &[("m", text), ("q", other)])?` is a shelf with these files.
+//! Names and texts come in, a shelf goes out; or nothing comes in, and a model goes out, lawful by its contract: `mission`
+//! has a rule with a guard, a fact, a goal, rejectables and resources, `rounds` has tokens that ask for more of the same.
+//! tests_compiler, tests_model, tests_plans and tests_database call it.
+//! It knows nothing of the compiler, plans and the database. How the models are put together may change.
 #![tactic(auto)]
 
 pub mod mission;

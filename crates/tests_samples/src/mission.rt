@@ -7,11 +7,12 @@ ghost use Rattle.model_core.specs.Lawful.{IsLawful};
 ghost use Rattle.tests_samples.specs.Mission.{mission_mode, mission_globals, mission_at, mission_act, mission_then, mission_otherwise, mission_rule, mission_items, mission};
 
 use super::pieces::{alone_on, at_most, class, listed, object, one, only_one, ranged, root, with};
+use domain_core::kind::Kind;
 use eu_name::name::Part;
 use eu_name::sequence::Sequence;
 use eu_name::text::Text;
 use model_core::class::{Class, Enum, Object, ObjectKind, Pred, PredKind};
-use model_core::item::{Item, Kind, Rel, Term};
+use model_core::item::{Item, Rel, Term};
 use model_core::model::{Model, Problem, Root, RootKind};
 use model_core::rule::{Block, Entry, Guard, Rule, Slot};
 use model_core::variable::{Base, ValueKind, VarDecl};

@@ -3,16 +3,17 @@
 ghost use Rattle.std.specs.Prelude.{◌≡◌, List, [], ◌∷◌, ◌++◌, Ok, IfOk, pos};
 ghost use Rattle.domain_core.specs.Domain.{Range, Set};
 ghost use Rattle.model_core.specs.declared.item.Item.TheVariants.{Constraint};
-ghost use Rattle.model_core.specs.declared.item.Kind.TheVariants.{Leq};
+ghost use Rattle.domain_core.specs.declared.kind.Kind.TheVariants.{Leq};
 ghost use Rattle.model_core.specs.declared.variable.Base.TheVariants.{Given};
 ghost use Rattle.model_core.specs.declared.variable.ValueKind.TheVariants.{Int};
 ghost use Rattle.tests_samples.specs.Pieces.{listed_variable, bare_class, bare_object};
 
 use domain_core::domain::Dom;
+use domain_core::kind::Kind;
 use eu_name::sequence::Sequence;
 use eu_name::text::Text;
 use model_core::class::{Class, Object, ObjectKind};
-use model_core::item::{Item, Kind, Term};
+use model_core::item::{Item, Term};
 use model_core::model::{Root, RootKind};
 use model_core::variable::{Base, ValueKind, VarDecl};
 use std::alloc::{AllocError, Global};

@@ -106,13 +106,13 @@ fn told<S: Shelf>(alloc: Global, shelf: &mut S, name: &str) -> Result<String, Al
     }
 }
 
-/// The same of a shelf with these files.
+/// What was read from a shelf with these files, or the fault, in words.
 fn told_of(alloc: Global, files: Vec<FileEntry>, name: &str) -> Result<String, AllocError> {
     let mut shelf = CalmShelf::new(files);
     told(alloc, &mut shelf, name)
 }
 
-/// The same of files of these names and texts.
+/// What was read from files of these names and texts, or the fault, in words.
 fn told_of_text(alloc: Global, files: &str, name: &str) -> Result<String, AllocError> {
     match files_of(alloc, files) {
         Ok(files) => told_of(alloc, files, name),

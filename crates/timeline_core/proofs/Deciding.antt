@@ -7,9 +7,10 @@ use Rattle.model_core.specs.declared.decision.Decision.{Decision}
 use Rattle.model_core.specs.declared.decision.Decision.TheVariants.{Activate, Merge, Reject}
 use Rattle.model_core.specs.declared.model.Model.{Model}
 use Rattle.model_core.specs.Decided.{IsActive}
-use Rattle.plan_defs.specs.Refusals.{IsAlreadyDecided, Decided}
+use Rattle.plan_defs.specs.Refusals.{IsAlreadyDecided}
+use Rattle.model_core.specs.declared.refusal.Refusal.TheVariants.{Decided}
 use Rattle.plan_defs.specs.Settling.{SettlesAfter, IsSettled}
-use Rattle.timeline_core.specs.Unordered.{AreDecidedOnce}
+use Rattle.plan_defs.specs.Unordered.{AreDecidedOnce}
 
 module _ (model : Model) (kept : List Decision) (decision : Decision) (once : AreDecidedOnce model kept) (free : IsAlreadyDecided model kept decision → ⊥) where
   -- the decision isn't this one where that one is made already

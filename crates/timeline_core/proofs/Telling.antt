@@ -19,7 +19,7 @@ use Rattle.model_core.specs.TokenStates.{HasTokenState}
 use Rattle.model_core.specs.Views.{IsTokenAt, IsOrderedAt}
 use Rattle.plan_defs.specs.Timelines.{IsOn}
 use Rattle.plan_defs.proofs.States.{gives_same}
-use Rattle.timeline_core.specs.Unordered.{AreDecidedOnce, TakesPlace, IsActiveOn, MayOverrun, HaveNoOrder, IsPairAt, IsFirstPair}
+use Rattle.plan_defs.specs.Unordered.{AreDecidedOnce, TakesPlace, IsActiveOn, MayOverrun, HaveNoOrder, IsPairAt, IsFirstPair}
 
 pub one_token : (state : State) (place : ℕ) (one other : TokenName) → IsTokenAt state place one → IsTokenAt state place other → one ≡ other
 one_token state place one other p q = cc

@@ -7,8 +7,8 @@ ghost use Rattle.model_core.specs.Decided.{IsActive};
 ghost use Rattle.model_core.specs.State.{AreInOrder};
 ghost use Rattle.model_core.specs.Views.{IsTokenAt};
 ghost use Rattle.plan_defs.specs.Timelines.{IsOn, IsTimeline};
-ghost use Rattle.timeline_core.specs.Unordered.{AreDecidedOnce, TakesPlace, IsActiveOn, MayOverrun, HaveNoOrder};
-ghost use Rattle.timeline_core.specs.Unordered.{IsPairAt, IsPartner, IsFirstPair, SettledListsDecideOnce};
+ghost use Rattle.plan_defs.specs.Unordered.{AreDecidedOnce, TakesPlace, IsActiveOn, MayOverrun, HaveNoOrder};
+ghost use Rattle.plan_defs.specs.Unordered.{IsPairAt, IsPartner, IsFirstPair, SettledListsDecideOnce};
 
 use domain_core::domain::Dom;
 use eu_name::name::Part;

@@ -1,12 +1,7 @@
-//! Tokens by name and by place, with their states, their subgoals and their ranks in the order of names. What they
-//! were at a mark can be gone back to.
-//!
-//! ```text
-//! let place = tokens.add(name, predicate)?;
-//! let mark = tokens.mark();
-//! tokens.set_state(place, TokenState::Active)?;
-//! tokens.back_to(mark); // the token is inactive again
-//! ```
+//! Tokens by name and by place, with states, subgoals and ranks in the order of names: `tokens.add(name, predicate)?`.
+//! In come names with predicates, and states for places; out go places, names, states and ranks, as they are or at a mark.
+//! Kept by db_store; the crates of the database above read it.
+//! Knows nothing of models, rules, and why a token is there. How names are indexed and what the trail keeps may change.
 #![tactic(auto)]
 
 pub mod laws;

@@ -1,6 +1,6 @@
 use Rattle.std.proofs.Common.{length}
 use Rattle.model_core.specs.History.{standing}
-use Rattle.plan_db.specs.plan_steps.Kept.{KeepsHistory}
+use Rattle.db_history.specs.Kept.{KeepsHistory}
 use Rattle.conflict_core.proofs.Turning.{ReducesBy}
 use Rattle.conflict_core.proofs.conflict.reduce.Given as goal
 

@@ -1,7 +1,7 @@
 use Rattle.std.proofs.Common.{List, subst}
 use Rattle.std.specs.Prelude.{IfOk}
-use Rattle.plan_cycles.specs.plan_edges.NamedEdge.{NamedEdge}
-use Rattle.plan_cycles.specs.TimeCycle.{IsTimeCycle}
+use Rattle.db_edges.specs.declared.edge.NamedEdge.{NamedEdge}
+use Rattle.db_edges.specs.TimeCycle.{IsTimeCycle}
 use Rattle.conflict_core.proofs.Telling.{cycle_told}
 use Rattle.conflict_core.proofs.cycle.time_cycle.Goals as goal
 

@@ -1,6 +1,6 @@
 use Rattle.std.proofs.Common.{◌≡◌, ℕ, ◌-◌, sym, subst, arith}
 use Rattle.model_core.specs.History.{History, standing}
-use Rattle.plan_db.specs.plan_steps.Kept.{KeepsHistory}
+use Rattle.db_history.specs.Kept.{KeepsHistory}
 use Rattle.conflict_core.specs.Turns.{GrownBy}
 use Rattle.conflict_core.proofs.Turning.{grown_length, leaves_behind}
 use Rattle.conflict_core.proofs.turns.leave_something.Goals as goal

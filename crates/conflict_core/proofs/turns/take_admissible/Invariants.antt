@@ -1,5 +1,5 @@
 use Rattle.std.proofs.Common.{take}
-use Rattle.plan_db.specs.plan_steps.Kept.{KeepsHistory}
+use Rattle.db_history.specs.Kept.{KeepsHistory}
 use Rattle.conflict_core.specs.Turns.{GoesOnBy}
 use Rattle.conflict_core.proofs.turns.take_admissible.Given as goal
 

@@ -1,6 +1,6 @@
 use Rattle.std.proofs.Common.{◌≡◌, ℕ, suc, ◌-◌, ◌+◌, subst, arith}
 use Rattle.model_core.specs.History.{History}
-use Rattle.plan_db.specs.plan_steps.Kept.{KeepsHistory}
+use Rattle.db_history.specs.Kept.{KeepsHistory}
 use Rattle.conflict_core.specs.Turns.{GrownBy}
 use Rattle.conflict_core.proofs.Turning.{taken_back}
 use Rattle.conflict_core.proofs.turns.take_back.Goals as goal

@@ -1,7 +1,7 @@
 use Rattle.std.proofs.Common.{◌-◌}
 use Rattle.model_core.specs.declared.model.Model.{Model}
 use Rattle.model_core.specs.History.{History}
-use Rattle.plan_db.specs.plan_steps.Kept.{KeepsHistory}
+use Rattle.db_history.specs.Kept.{KeepsHistory}
 use Rattle.conflict_core.specs.Turns.{GrownBy}
 use Rattle.conflict_core.proofs.turns.take_back.Given as goal
 

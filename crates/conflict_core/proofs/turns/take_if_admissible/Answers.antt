@@ -1,4 +1,4 @@
-use Rattle.plan_db.proofs.plan_steps.Judging.{judged_goes}
+use Rattle.db_history.proofs.Judging.{judged_goes}
 use Rattle.model_core.specs.History.{standing}
 use Rattle.conflict_core.proofs.Turning.{goes_taken, goes_left}
 use Rattle.conflict_core.proofs.turns.take_if_admissible.Goals as goal

@@ -1,6 +1,6 @@
 use Rattle.std.proofs.Common.{◌<◌, length, refl, subst}
 use Rattle.std.proofs.lemmas.Option.{slice_get_read}
-use Rattle.narrow_core.specs.model_core.Kind.TheVariants as kind
+use Rattle.domain_core.specs.declared.kind.Kind.TheVariants as kind
 use Rattle.cell_store.specs.Cells.{present}
 use Rattle.constraint_net.specs.Moves.{SinksAt}
 use Rattle.constraint_net.specs.Networks.{IsAllowed}

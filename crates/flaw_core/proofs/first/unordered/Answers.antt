@@ -1,7 +1,7 @@
 -- The first pair by places is the first by names.
 use Rattle.std.proofs.Common.{sym, subst}
 use Rattle.timeline_core.proofs.Deciding.{settled_once}
-use Rattle.timeline_core.specs.Unordered.{IsFirstPair, IsPairAt}
+use Rattle.plan_defs.specs.Unordered.{IsFirstPair, IsPairAt}
 use Rattle.flaw_core.proofs.Sorting.{pair_found, pair_none}
 use Rattle.flaw_core.proofs.first.unordered.Goals as goal
 

@@ -1,5 +1,5 @@
 use Rattle.std.proofs.Common.{subst}
-use Rattle.plan_steps.specs.Kept.{WithdrawsLast}
+use Rattle.db_history.specs.Kept.{WithdrawsLast}
 use Rattle.plan_db.proofs.Answering.{withdrawn_keeps, backtracked, none_withdrawn, still_keeps}
 use Rattle.plan_db.proofs.changing.backtrack.Goals as goal
 

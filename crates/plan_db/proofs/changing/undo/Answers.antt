@@ -1,7 +1,7 @@
 use Rattle.std.proofs.Common.{◌<◌, length, sym, subst, arith}
 use Rattle.std.proofs.lemmas.Result.{err_from_is_err_and}
 use Rattle.model_core.specs.History.{History}
-use Rattle.plan_steps.specs.Kept.{WithdrawsLast}
+use Rattle.db_history.specs.Kept.{WithdrawsLast}
 use Rattle.plan_db.proofs.Answering.{withdrawn, withdrawn_keeps, still_keeps, brought_back, not_brought, keeps_ready}
 use Rattle.plan_db.proofs.changing.undo.Goals as goal
 

@@ -1,6 +1,6 @@
 use Rattle.std.proofs.Common.{sym, ◌∙◌}
 use Rattle.model_core.specs.History.{standing}
-use Rattle.plan_steps.proofs.Keeping.{leaves_rest}
+use Rattle.db_history.proofs.Keeping.{leaves_rest}
 use Rattle.plan_db.proofs.Edging.{void_edges, some_stand, rests_before, settled_so, edges_found}
 use Rattle.plan_db.proofs.edges.edges.Goals as goal
 

@@ -1,6 +1,6 @@
 use Rattle.std.proofs.Common.{sym, ◌∙◌}
 use Rattle.model_core.specs.History.{standing}
-use Rattle.plan_steps.proofs.Keeping.{leaves_fallen, leaves_void}
+use Rattle.db_history.proofs.Keeping.{leaves_fallen, leaves_void}
 use Rattle.plan_db.specs.declared.fault.QueryFault.TheVariants.{Inconsistent}
 use Rattle.plan_db.proofs.Stamping.{stamp_by_store}
 use Rattle.plan_db.proofs.stamps.stamp.Goals as goal

@@ -1,6 +1,6 @@
 use Rattle.std.proofs.Common.{refl, sym, ◌∙◌}
 use Rattle.model_core.specs.History.{standing}
-use Rattle.plan_steps.proofs.Keeping.{leaves_fallen, leaves_void}
+use Rattle.db_history.proofs.Keeping.{leaves_fallen, leaves_void}
 use Rattle.plan_db.proofs.Answering.{can_be_seen, seen_by_store}
 use Rattle.plan_db.specs.Stamps.{stamps_of}
 use Rattle.plan_db.proofs.telling.view.Goals as goal

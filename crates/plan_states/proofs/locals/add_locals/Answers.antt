@@ -1,6 +1,6 @@
 -- One rule after another.
 use Rattle.std.proofs.Common.{◌<◌, arith}
-use Rattle.plan_states.specs.Surveying.{IsRuleLine, IsRuleFlaw}
+use Rattle.plan_defs.specs.Surveying.{IsRuleLine, IsRuleFlaw}
 use Rattle.plan_states.proofs.Counting.{rule_number_below}
 use Rattle.plan_states.proofs.Following.{rules_before}
 use Rattle.plan_states.proofs.Gathering.{surveys_more, surveys_all}

@@ -1,7 +1,7 @@
 -- The lines of the locals of the rules so far were put behind the others.
 use Rattle.eu_name.specs.declared.name.TokenName.{TokenName}
 use Rattle.model_core.specs.Views.{IsTokenAt}
-use Rattle.plan_states.specs.Surveying.{Surveys, UpTo, IsRuleLine, IsRuleFlaw}
+use Rattle.plan_defs.specs.Surveying.{Surveys, UpTo, IsRuleLine, IsRuleFlaw}
 use Rattle.plan_states.proofs.locals.add_locals.Given as goal
 
 abbrev pub invariant-loop-rule : goal.invariant-loop-rule

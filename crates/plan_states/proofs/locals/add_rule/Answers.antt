@@ -1,6 +1,6 @@
 -- One local after another.
 use Rattle.std.proofs.Common.{◌<◌, arith}
-use Rattle.plan_states.specs.Surveying.{IsLocalLine, IsLocalFlaw}
+use Rattle.plan_defs.specs.Surveying.{IsLocalLine, IsLocalFlaw}
 use Rattle.plan_states.proofs.Counting.{number_below}
 use Rattle.plan_states.proofs.Following.{locals_before}
 use Rattle.plan_states.proofs.Gathering.{surveys_more, surveys_all}

@@ -1,7 +1,7 @@
 -- The lines of the locals so far were put behind the others.
 use Rattle.eu_name.specs.declared.name.TokenName.{TokenName}
 use Rattle.model_core.specs.Views.{IsTokenAt}
-use Rattle.plan_states.specs.Surveying.{Surveys, UpTo, IsLocalLine, IsLocalFlaw}
+use Rattle.plan_defs.specs.Surveying.{Surveys, UpTo, IsLocalLine, IsLocalFlaw}
 use Rattle.plan_states.proofs.locals.add_rule.Given as goal
 
 abbrev pub invariant-loop-number : goal.invariant-loop-number

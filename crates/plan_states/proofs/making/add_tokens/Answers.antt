@@ -1,7 +1,7 @@
 -- One token after another.
 use Rattle.std.proofs.Common.{◌<◌, length, arith}
 use Rattle.eu_name.proofs.Members.{get_within, get_below}
-use Rattle.plan_states.specs.Surveying.{IsLineOfPlace, IsFlawOfPlace}
+use Rattle.plan_defs.specs.Surveying.{IsLineOfPlace, IsFlawOfPlace}
 use Rattle.plan_states.proofs.Following.{tokens_before}
 use Rattle.plan_states.proofs.Gathering.{surveys_more, surveys_all}
 use Rattle.plan_states.proofs.Placing.{place_surveyed}

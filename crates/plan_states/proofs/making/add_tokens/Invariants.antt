@@ -1,5 +1,5 @@
 -- The lines of the tokens so far and of their locals were put behind the others.
-use Rattle.plan_states.specs.Surveying.{Surveys, UpTo, IsLineOfPlace, IsFlawOfPlace}
+use Rattle.plan_defs.specs.Surveying.{Surveys, UpTo, IsLineOfPlace, IsFlawOfPlace}
 use Rattle.plan_states.proofs.making.add_tokens.Given as goal
 
 abbrev pub invariant-loop-place : goal.invariant-loop-place

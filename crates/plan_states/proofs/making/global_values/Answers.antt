@@ -3,7 +3,7 @@ use Rattle.std.proofs.Common.{◌≡◌, ◌<◌, ◌∷◌, [], ◌++◌, FitsS
 use Rattle.std.proofs.lemmas.Int.{to_z-of_z}
 use Rattle.model_core.specs.declared.model.Model.{Model}
 use Rattle.plan_states.proofs.Placing.{global_open}
-use Rattle.plan_states.proofs.Telling.{globals_more}
+use Rattle.plan_defs.proofs.Telling.{globals_more}
 use Rattle.plan_states.proofs.making.global_values.Goals as goal
 
 pub returns-in_default : goal.returns-in_default

@@ -1,5 +1,5 @@
 -- Those so far are the first values.
-use Rattle.plan_states.proofs.Telling.{AreGlobalsUpTo}
+use Rattle.plan_defs.proofs.Telling.{AreGlobalsUpTo}
 use Rattle.plan_states.proofs.making.global_values.Given as goal
 
 abbrev pub invariant-loop-number : goal.invariant-loop-number

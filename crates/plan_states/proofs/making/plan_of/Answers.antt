@@ -1,7 +1,7 @@
 -- Two tokens without an order are a flaw; what else is one is found with the lines.
 use Rattle.std.proofs.Common.{refl, sym, subst}
 use Rattle.plan_states.proofs.Placing.{settled_state, pair_flaw, answers}
-use Rattle.timeline_core.specs.Unordered.{AreDecidedOnce}
+use Rattle.plan_defs.specs.Unordered.{AreDecidedOnce}
 use Rattle.timeline_core.proofs.Deciding.{settled_once}
 use Rattle.plan_states.proofs.making.plan_of.Goals as goal
 

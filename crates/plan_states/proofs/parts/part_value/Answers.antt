@@ -1,6 +1,6 @@
 -- Without a domain there is no value; else it is the domain's one value.
 use Rattle.eu_name.specs.declared.name.VarName.TheVariants.{Token}
-use Rattle.plan_states.proofs.Telling.{value_told_at}
+use Rattle.plan_defs.proofs.Telling.{value_told_at}
 use Rattle.plan_states.proofs.parts.part_value.Goals as goal
 
 pub returns-in_default : goal.returns-in_default

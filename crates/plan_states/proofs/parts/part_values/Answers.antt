@@ -1,7 +1,7 @@
 -- The next value is put behind the others.
 use Rattle.std.proofs.Common.{◌≡◌, ◌∷◌, [], ◌++◌, FitsSigned, w32, subst, rules}
 use Rattle.std.proofs.lemmas.Int.{to_z-of_z}
-use Rattle.plan_states.proofs.Telling.{first_more}
+use Rattle.plan_defs.proofs.Telling.{first_more}
 use Rattle.plan_states.proofs.parts.part_values.Goals as goal
 
 pub loop-number-preserved : goal.loop-number-preserved

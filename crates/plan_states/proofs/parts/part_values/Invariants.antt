@@ -1,5 +1,5 @@
 -- Those so far are the first values.
-use Rattle.plan_states.specs.Surveying.{AreFirstValues}
+use Rattle.plan_defs.specs.Surveying.{AreFirstValues}
 use Rattle.plan_states.proofs.parts.part_values.Given as goal
 
 abbrev pub invariant-loop-number : goal.invariant-loop-number

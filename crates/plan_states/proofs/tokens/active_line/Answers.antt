@@ -1,8 +1,8 @@
 -- The token's values are those of its parts, or one of these is a flaw.
 use Rattle.std.proofs.Common.{sym, subst}
-use Rattle.plan_states.specs.Surveying.{AreFirstValues}
+use Rattle.plan_defs.specs.Surveying.{AreFirstValues}
 use Rattle.plan_states.proofs.Placing.{active_open}
-use Rattle.plan_states.proofs.Stating.{states_active}
+use Rattle.plan_defs.proofs.Stating.{states_active}
 use Rattle.plan_states.proofs.tokens.active_line.Goals as goal
 
 pub returns-in-Ok : goal.returns-in-Ok

@@ -1,5 +1,5 @@
 -- The token is rejected.
-use Rattle.plan_states.proofs.Stating.{states_rejected}
+use Rattle.plan_defs.proofs.Stating.{states_rejected}
 use Rattle.plan_states.proofs.tokens.rejected_line.Goals as goal
 
 pub returns-in-Ok : goal.returns-in-Ok

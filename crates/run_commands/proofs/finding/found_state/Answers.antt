@@ -1,4 +1,4 @@
-use Rattle.least_states.proofs.Founding.{plan_is_valid}
+use Rattle.law_states.proofs.Founding.{plan_is_valid}
 use Rattle.run_commands.proofs.Found.{state_told}
 use Rattle.run_commands.proofs.finding.found_state.Goals as goal
 

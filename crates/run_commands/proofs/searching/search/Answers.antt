@@ -1,6 +1,6 @@
 use Rattle.std.proofs.Common.{sym, ap, subst}
 use Rattle.plan_db.specs.Answers.{Held}
-use Rattle.solver_core.specs.declared.ending.SearchEnd.{SearchEnd}
+use Rattle.flaw_core.specs.declared.ending.SearchEnd.{SearchEnd}
 use Rattle.run_commands.specs.Searching.{SearchesTo}
 use Rattle.run_commands.proofs.Searched.{collapsed_searches}
 use Rattle.run_commands.proofs.searching.search.Goals as goal

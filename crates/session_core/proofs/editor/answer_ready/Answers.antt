@@ -3,17 +3,17 @@ use Rattle.script_lang.specs.Words.{words_of}
 use Rattle.session_core.proofs.LineAnswers.{line_answered, line_lost, long_answered, wrong_answered, unchanged}
 use Rattle.session_core.proofs.editor.answer_ready.Goals as goal
 
-pub answer_command-answer-requires-clause-words : goal.answer_command-answer-requires-clause-words
-answer_command-answer-requires-clause-words c = (words_of c.args.line.now, c.in-Ok.ensures.1)
+pub answer_command-requires-clause-words : goal.answer_command-requires-clause-words
+answer_command-requires-clause-words c = (words_of c.args.line.now, c.in-Ok.ensures.1)
 
 pub returns-in-Ok : goal.returns-in-Ok
 returns-in-Ok c =
     let old = c.args.db.now.database in
-    let new = c.answer_command-answer.new.db.database in
+    let new = c.answer_command.new.db.database in
     record {
-      answer = line_answered old new c.requires.sound c.args.line.now c.in-Ok.command c.in-Ok.ensures c.answer_command-answer.result c.answer_command-answer.ensures.answer;
-      memory = line_lost old new c.requires.sound c.args.line.now c.in-Ok.command c.in-Ok.ensures c.answer_command-answer.result c.answer_command-answer.ensures.memory;
-      model = c.answer_command-answer.ensures.model;
+      answer = line_answered old new c.requires.sound c.args.line.now c.in-Ok.command c.in-Ok.ensures c.answer_command.result c.answer_command.ensures.answer;
+      memory = line_lost old new c.requires.sound c.args.line.now c.in-Ok.command c.in-Ok.ensures c.answer_command.result c.answer_command.ensures.memory;
+      model = c.answer_command.ensures.model;
     }
 
 pub returns-in-Err-TooLong : goal.returns-in-Err-TooLong

@@ -1,17 +1,17 @@
-use Rattle.script_lang.specs.declared.command.Command.TheVariants.{Reset}
+use Rattle.session_core.specs.Asking.{reset_command}
 use Rattle.session_core.specs.Replies.{ResetsAsked, RepliesStep}
-use Rattle.session_core.proofs.Stepping.{step_not_full, full_answers, reset_steps}
+use Rattle.session_core.proofs.Stepping.{step_not_full, full_answers, resetting}
 use Rattle.session_core.proofs.resetting.reset_reply.Goals as goal
 
 pub returns-then-is_full : goal.returns-then-is_full
 returns-then-is_full c =
     let old = c.args.db.now.database in
-    full_answers old (RepliesStep (ResetsAsked old (Reset c.args.text.now))) c.refused.result c.if-is_full.ensures c.refused.ensures
+    resetting old old c.args.asked.now c.refused.result
+    (full_answers old (RepliesStep (ResetsAsked old (reset_command c.args.asked.now))) c.refused.result c.if-is_full.ensures c.refused.ensures)
 
 pub returns : goal.returns
 returns c =
     let old = c.args.db.now.database in
-    let new = c.reset_named-step.new.db.database in
-    let command = Reset c.args.text.now in
-    step_not_full old new (ResetsAsked old command) c.reset_named-step.result c.step_reply.result c.if-is_full.ensures
-    (reset_steps old new command c.reset_named-step.result c.reset_named-step.ensures) c.step_reply.ensures
+    let new = c.reset-step.new.db.database in
+    resetting old new c.args.asked.now c.step_reply.result
+    (step_not_full old new (ResetsAsked old (reset_command c.args.asked.now)) c.reset-step.result c.step_reply.result c.if-is_full.ensures c.reset-step.ensures c.step_reply.ensures)

@@ -1,5 +1,5 @@
 use Rattle.std.proofs.Common.{refl}
-use Rattle.session_core.specs.Steps.{RepliesSolve}
+use Rattle.session_core.specs.Replies.{RepliesSolve}
 use Rattle.session_core.proofs.Stepping.{not_full, full_answers}
 use Rattle.session_core.proofs.searching.search_reply.Goals as goal
 

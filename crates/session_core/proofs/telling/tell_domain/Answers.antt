@@ -20,8 +20,8 @@ pub returns-in-Ok-None : goal.returns-in-Ok-None
 returns-in-Ok-None c =
     let database = c.args.db.now.database in
     let none = rw c.in-Ok-None.field-0-is at c.in-Ok-None.ensures.named in
-    kept_answers database (TellsState (TellsDomain database.model c.args.text.now)) c.refused.result
-    (domain_unknown database c.args.text.now (c.if-not-is_consistent.ensures.state c.requires.ready) none c.refused.result c.refused.ensures)
+    kept_answers database (TellsState (TellsDomain database.model c.args.text.now)) c.unknown_reply.result
+    (domain_unknown database c.args.text.now (c.if-not-is_consistent.ensures.state c.requires.ready) none c.unknown_reply.result c.unknown_reply.ensures)
 
 pub returns-in-Err : goal.returns-in-Err
 returns-in-Err c = inl refl

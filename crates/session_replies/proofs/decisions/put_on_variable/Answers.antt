@@ -1,6 +1,6 @@
 use Rattle.std.proofs.Common.{w32, to_z, of_z, arith}
 use Rattle.std.proofs.lemmas.Int.{ints}
-use Rattle.plan_core.proofs.Stepping.{kept_is}
+use Rattle.plan_text.proofs.Stepping.{kept_is}
 use Rattle.session_replies.proofs.Declaring.{declared_of_kind}
 use Rattle.session_replies.proofs.Commanding.{declared_base, on_variable_put}
 use Rattle.session_replies.proofs.decisions.put_on_variable.Goals as goal

@@ -1,6 +1,6 @@
 use Rattle.std.proofs.Common.{w32, to_z, of_z, arith}
 use Rattle.domain_core.proofs.Words.{at_place}
-use Rattle.plan_core.proofs.Stepping.{kept_value, kept_is}
+use Rattle.plan_text.proofs.Stepping.{kept_value, kept_is}
 use Rattle.session_replies.proofs.Spacing.{no_member, member_more, all_members}
 use Rattle.session_replies.proofs.domains.put_members.Goals as goal
 

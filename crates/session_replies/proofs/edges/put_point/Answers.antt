@@ -1,4 +1,4 @@
-use Rattle.plan_edges.specs.declared.edge.Point.TheVariants as points
+use Rattle.db_edges.specs.declared.edge.Point.TheVariants as points
 use Rattle.session_replies.proofs.Timing.{start_base, end_base, origin_put, point_put}
 use Rattle.session_replies.proofs.edges.put_point.Goals as goal
 

@@ -1,6 +1,6 @@
 use Rattle.std.proofs.Common.{subst, arith}
 use Rattle.model_core.proofs.Items.{item_within}
-use Rattle.plan_states.proofs.Telling.{one_at}
+use Rattle.plan_defs.proofs.Telling.{one_at}
 use Rattle.eu_name.specs.declared.name.TokenName.{TokenName}
 use Rattle.model_core.specs.TokenStates.{HasTokenState}
 use Rattle.session_replies.proofs.places.state_of.Goals as goal

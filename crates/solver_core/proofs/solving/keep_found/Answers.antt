@@ -5,4 +5,4 @@ pub returns-then-is_found : goal.returns-then-is_found
 returns-then-is_found g c = kept_found g.task c.args.end.now c.args.db.now c.if-is_found.ensures
 
 pub returns : goal.returns
-returns g c = kept_none g.task c.args.end.now c.args.db.now c.rewind.new.db c.if-is_found.ensures c.rewind.ensures.database c.rewind.ensures.ready
+returns g c = kept_none g.task c.args.end.now c.args.db.now c.rewind.new.db c.if-is_found.ensures c.rewind.ensures.database c.rewind.ensures.still

@@ -1,5 +1,5 @@
 use Rattle.std.proofs.Common.{◌≡◌, ℕ, ◌≤◌, sym, subst, arith}
-use Rattle.search_steps.specs.plan_search.Search.{Stops}
+use Rattle.law_search.specs.Search.{Stops}
 use Rattle.solver_core.specs.Underway.{HasEnded}
 use Rattle.solver_core.proofs.Coming.{is_stopped}
 use Rattle.solver_core.proofs.solving.search.Goals as goal

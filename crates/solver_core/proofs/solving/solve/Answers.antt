@@ -1,5 +1,5 @@
 use Rattle.std.proofs.Common.{refl, sym}
-use Rattle.plan_db.proofs.plan_steps.Keeping.{standing_settled}
+use Rattle.plan_defs.proofs.Histories.{standing_settled}
 use Rattle.solver_core.proofs.Resulting.{solves, proves_plans}
 use Rattle.solver_core.proofs.solving.solve.Goals as goal
 

@@ -4,7 +4,7 @@ use Rattle.std.proofs.lemmas.List.{get_or_read}
 use Rattle.std.proofs.lemmas.Option.{slice_get_read}
 use Rattle.temporal_core.specs.Network.{IsEdge}
 use Rattle.temporal_core.specs.Settled.{IsLastFrom, RaisesEnd, RaisesFrom, value_at}
-use Rattle.temporal_core.proofs.Members.{get_all}
+use Rattle.eu_name.proofs.Members.{get_all}
 use Rattle.temporal_core.proofs.Raising.{untold, IsAfter, IsFrom, IsFrom-last, RaisesFrom-start, RaisesFrom-next, RaisesFrom-all, IsStopped-next, untold_falls}
 use Rattle.temporal_core.proofs.settled.raise_from.Goals as goal
 

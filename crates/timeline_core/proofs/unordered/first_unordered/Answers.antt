@@ -1,7 +1,7 @@
 -- The first place that is the first of a pair, with its partner, is the first pair.
 use Rattle.std.proofs.Common.{◌≡◌, subst, inl, inr, arith}
 use Rattle.std.proofs.lemmas.Bool.{cases_lt}
-use Rattle.timeline_core.specs.Unordered.{IsPairAt}
+use Rattle.plan_defs.specs.Unordered.{IsPairAt}
 use Rattle.timeline_core.proofs.Telling.{first_pair, pair_within}
 use Rattle.timeline_core.proofs.unordered.first_unordered.Goals as goal
 

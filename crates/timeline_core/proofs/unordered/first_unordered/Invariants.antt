@@ -1,6 +1,6 @@
 -- No place up to here is the first of a pair.
 use Rattle.std.proofs.Common.{ℕ, ◌<◌}
-use Rattle.timeline_core.specs.Unordered.{IsPairAt}
+use Rattle.plan_defs.specs.Unordered.{IsPairAt}
 use Rattle.timeline_core.proofs.unordered.first_unordered.Given as goal
 
 abbrev pub invariant-loop-one : goal.invariant-loop-one

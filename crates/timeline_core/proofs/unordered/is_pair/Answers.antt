@@ -1,7 +1,7 @@
 -- Both are active on the timeline, and they have no order; or one of these isn't so.
 use Rattle.std.proofs.Common.{◌≡◌, subst, arith}
 use Rattle.std.proofs.lemmas.Int.{ints}
-use Rattle.timeline_core.specs.Unordered.{IsActiveOn}
+use Rattle.plan_defs.specs.Unordered.{IsActiveOn}
 use Rattle.timeline_core.proofs.Telling.{one_object, pair_told, pair_second}
 use Rattle.timeline_core.proofs.unordered.is_pair.Goals as goal
 

@@ -1,7 +1,7 @@
 -- The first place that has such a token is the first place after this one that has.
 use Rattle.std.proofs.Common.{◌≡◌, subst, inl, inr, arith}
 use Rattle.std.proofs.lemmas.Bool.{cases_lt}
-use Rattle.timeline_core.specs.Unordered.{IsPairAt}
+use Rattle.plan_defs.specs.Unordered.{IsPairAt}
 use Rattle.timeline_core.proofs.Telling.{no_earlier, pair_within}
 use Rattle.timeline_core.proofs.unordered.partner_on.Goals as goal
 

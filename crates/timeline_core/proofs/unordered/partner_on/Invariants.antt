@@ -1,6 +1,6 @@
 -- No place up to here has such a token.
 use Rattle.std.proofs.Common.{ℕ, ◌<◌}
-use Rattle.timeline_core.specs.Unordered.{IsPairAt}
+use Rattle.plan_defs.specs.Unordered.{IsPairAt}
 use Rattle.timeline_core.proofs.unordered.partner_on.Given as goal
 
 abbrev pub invariant-loop-other : goal.invariant-loop-other

@@ -1,9 +1,9 @@
 use Rattle.std.proofs.Common.{arith}
 use Rattle.std.proofs.lemmas.Bool.{ltb-true, ltb-false}
 use Rattle.domain_core.specs.Domain.{Has}
-use Rattle.model_core.specs.Consistency.{Values}
-use Rattle.model_core.specs.declared.item.Kind.TheVariants as kind
-use Rattle.model_core.specs.Constraints.{HoldsOf}
+use Rattle.domain_core.specs.Consistency.{Values}
+use Rattle.domain_core.specs.declared.kind.Kind.TheVariants as kind
+use Rattle.domain_core.specs.Constraints.{HoldsOf}
 use Rattle.narrow_core.proofs.Supports.{tests_first_of_two, tests_second_of_two}
 use Rattle.narrow_core.proofs.Values.{equal_to_some, some_equal_to}
 use Rattle.narrow_core.proofs.equal.EqNarrow.supports.Goals as goal

@@ -1,7 +1,7 @@
 use Rattle.std.proofs.Common.{arith}
 use Rattle.std.proofs.lemmas.Bool.{ltb-true, ltb-false}
-use Rattle.model_core.specs.Consistency.{Values}
-use Rattle.model_core.specs.Constraints.{IsFieldOf}
+use Rattle.domain_core.specs.Consistency.{Values}
+use Rattle.domain_core.specs.Constraints.{IsFieldOf}
 use Rattle.narrow_core.specs.Meanings.{IsInTable}
 use Rattle.narrow_core.specs.Sides.{IsPaired}
 use Rattle.narrow_core.specs.declared.field.Side.TheVariants.{Object, Value}

@@ -1,9 +1,9 @@
 use Rattle.std.proofs.Common.{arith}
 use Rattle.std.proofs.lemmas.Int.{ints}
 use Rattle.std.proofs.lemmas.Bool.{ltb-true, ltb-false}
-use Rattle.model_core.specs.Consistency.{Ends}
-use Rattle.model_core.specs.declared.item.Kind.TheVariants as kind
-use Rattle.model_core.specs.Constraints.{HoldsOf}
+use Rattle.domain_core.specs.Consistency.{Ends}
+use Rattle.domain_core.specs.declared.kind.Kind.TheVariants as kind
+use Rattle.domain_core.specs.Constraints.{HoldsOf}
 use Rattle.narrow_core.proofs.Bounds.{below_some, above_some}
 use Rattle.narrow_core.proofs.Supports.{tests_first_of_two, tests_second_of_two}
 use Rattle.narrow_core.proofs.order.LeqNarrow.supports.Goals as goal

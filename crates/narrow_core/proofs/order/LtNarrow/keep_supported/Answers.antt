@@ -2,9 +2,9 @@ use Rattle.std.proofs.Common.{arith}
 use Rattle.std.proofs.lemmas.Int.{ints}
 use Rattle.std.proofs.lemmas.Bool.{ltb-true, ltb-false}
 use Rattle.domain_core.proofs.Words.{least_is_value, greatest_is_value}
-use Rattle.model_core.specs.Consistency.{Ends}
-use Rattle.model_core.specs.Constraints.{HoldsOf}
-use Rattle.model_core.specs.declared.item.Kind.TheVariants as kind
+use Rattle.domain_core.specs.Consistency.{Ends}
+use Rattle.domain_core.specs.Constraints.{HoldsOf}
+use Rattle.domain_core.specs.declared.kind.Kind.TheVariants as kind
 use Rattle.narrow_core.proofs.Bounds.{less_than_some, more_than_some}
 use Rattle.narrow_core.proofs.Supports.{keeps_first_of_two, keeps_second_of_two}
 use Rattle.narrow_core.proofs.order.LtNarrow.keep_supported.Goals as goal

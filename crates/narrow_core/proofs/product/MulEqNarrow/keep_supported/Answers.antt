@@ -2,7 +2,7 @@ use Rattle.std.proofs.Common.{arith}
 use Rattle.std.proofs.lemmas.Int.{ints}
 use Rattle.std.proofs.lemmas.Bool.{ltb-true, ltb-false}
 use Rattle.domain_core.specs.Domain.{least, greatest}
-use Rattle.model_core.specs.Consistency.{Ends}
+use Rattle.domain_core.specs.Consistency.{Ends}
 use Rattle.narrow_core.specs.Meanings.{IsProduct}
 use Rattle.narrow_core.proofs.Producing.{IsProductOf, multipliers}
 use Rattle.narrow_core.proofs.Supports.{keeps_first_of_two, keeps_second_of_two}

@@ -2,9 +2,9 @@ use Rattle.std.proofs.Common.{arith}
 use Rattle.std.proofs.lemmas.Int.{ints}
 use Rattle.std.proofs.lemmas.Bool.{ltb-true, ltb-false}
 use Rattle.domain_core.proofs.Words.{least_is_value, greatest_is_value}
-use Rattle.model_core.specs.Consistency.{Ends}
-use Rattle.model_core.specs.Constraints.{HoldsOf}
-use Rattle.model_core.specs.declared.item.Kind.TheVariants as kind
+use Rattle.domain_core.specs.Consistency.{Ends}
+use Rattle.domain_core.specs.Constraints.{HoldsOf}
+use Rattle.domain_core.specs.declared.kind.Kind.TheVariants as kind
 use Rattle.narrow_core.proofs.Bounds.{IsDifference, difference_back, sums}
 use Rattle.narrow_core.proofs.Supports.{tests_first_of_three, tests_second_of_three, tests_third_of_three}
 use Rattle.narrow_core.proofs.sum.AddEqNarrow.supports.Goals as goal

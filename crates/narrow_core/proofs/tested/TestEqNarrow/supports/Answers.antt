@@ -1,8 +1,8 @@
 use Rattle.std.proofs.Common.{arith}
 use Rattle.std.proofs.lemmas.Bool.{ltb-true, ltb-false}
-use Rattle.model_core.specs.Consistency.{Values}
-use Rattle.model_core.specs.Constraints.{HoldsOf}
-use Rattle.model_core.specs.declared.item.Kind.TheVariants as kind
+use Rattle.domain_core.specs.Consistency.{Values}
+use Rattle.domain_core.specs.Constraints.{HoldsOf}
+use Rattle.domain_core.specs.declared.kind.Kind.TheVariants as kind
 use Rattle.narrow_core.specs.Truths.{PassesTest}
 use Rattle.narrow_core.proofs.Outcomes.{EqualSide, equal_back, equality_outcomes}
 use Rattle.narrow_core.proofs.Supports.{tests_first_of_three, tests_second_of_three, tests_third_of_three}

@@ -2,9 +2,9 @@ use Rattle.std.proofs.Common.{w32, to_z, of_z, arith}
 use Rattle.std.proofs.lemmas.Int.{ints}
 use Rattle.std.proofs.lemmas.Bool.{ltb-true, ltb-false}
 use Rattle.domain_core.specs.Domain.{least, greatest}
-use Rattle.model_core.specs.Consistency.{Ends}
-use Rattle.model_core.specs.Constraints.{HoldsOf}
-use Rattle.model_core.specs.declared.item.Kind.TheVariants as kind
+use Rattle.domain_core.specs.Consistency.{Ends}
+use Rattle.domain_core.specs.Constraints.{HoldsOf}
+use Rattle.domain_core.specs.declared.kind.Kind.TheVariants as kind
 use Rattle.narrow_core.proofs.Outcomes.{LowerSide, UpperSide, less_test, at_most_test, order_outcomes}
 use Rattle.narrow_core.proofs.Supports.{tests_first_of_three, tests_second_of_three, tests_third_of_three}
 use Rattle.narrow_core.proofs.tested.TestLeqNarrow.supports.Goals as goal

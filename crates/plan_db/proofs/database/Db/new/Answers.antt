@@ -1,7 +1,7 @@
 use Rattle.std.proofs.Common.{refl, sym, subst}
 use Rattle.model_core.specs.History.{History, standing}
 use Rattle.plan_defs.specs.History.{IsHistory}
-use Rattle.plan_steps.specs.plan_state.Standing.{KeepsList}
+use Rattle.db_history.specs.Standing.{KeepsList}
 use Rattle.plan_db.proofs.database.Db.new.Goals as goal
 
 pub invariant_of-result : goal.invariant_of-result

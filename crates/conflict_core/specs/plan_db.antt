@@ -1,6 +1,0 @@
--- What is passed on of plan_db.
-pub use Rattle.plan_db.specs.Answers
-pub use Rattle.plan_db.specs.Database
-pub use Rattle.plan_db.specs.Edges
-pub use Rattle.plan_db.specs.declared.fault.Outcome
-pub use Rattle.plan_db.specs.declared.fault.QueryFault

@@ -1,3 +1,0 @@
-//! What is passed on of plan_db.
-
-pub use plan_db::{Db, Outcome, QueryFault};

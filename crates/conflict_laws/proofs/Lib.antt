@@ -1,4 +1,0 @@
-pub mod Splitting
-pub mod Thinning
-pub mod Leaving
-pub mod Reducing

@@ -1,4 +1,0 @@
-//! Laws of conflicts.
-#![tactic(auto)]
-
-pub mod laws;

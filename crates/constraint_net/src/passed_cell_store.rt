@@ -1,3 +1,0 @@
-//! What is passed on of cell_store.
-
-pub use cell_store::numbers::short;

@@ -1,0 +1,7 @@
+pub mod Appending
+pub mod Spans
+pub mod Pointing
+pub mod Falling
+pub mod Going
+pub mod Joining
+pub mod Settled

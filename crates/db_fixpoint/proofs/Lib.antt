@@ -1,0 +1,14 @@
+pub mod Truths
+pub mod Adding
+pub mod FollowedBranches
+pub mod Naming
+pub mod Asking
+pub mod Posting
+pub mod Whole
+pub mod Seated
+pub mod Domains
+pub mod Claimed
+pub mod Sharing
+pub mod Staying
+pub mod Heeding
+pub mod Resting

@@ -1,0 +1,9 @@
+pub mod Guards
+pub mod Reading
+pub mod Branches
+pub mod Unfolding
+pub mod UnfoldingLaws
+pub mod Seating
+pub mod Turns
+pub mod Looking
+pub mod Closing

@@ -1,0 +1,10 @@
+pub mod Returning
+pub mod Stepping
+pub mod Following
+pub mod Resting
+pub mod Going
+pub mod Judging
+pub mod Keeping
+pub mod Fronts
+pub mod Overs
+pub mod Outs

@@ -1,0 +1,10 @@
+pub mod Naming
+pub mod Meaning
+pub mod Said
+pub mod Storing
+pub mod Comparing
+pub mod Saying
+pub mod Allowing
+pub mod Present
+pub mod Taking
+pub mod Filling

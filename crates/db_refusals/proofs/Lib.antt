@@ -1,0 +1,7 @@
+pub mod Putting
+pub mod Seen
+pub mod First
+pub mod Told
+pub mod Full
+pub mod Undecided
+pub mod Resting

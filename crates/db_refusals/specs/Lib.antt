@@ -1,0 +1,5 @@
+pub mod InOrder
+pub mod Seeing
+pub mod ViewLaws
+pub mod Reasons
+pub mod Judging

@@ -1,0 +1,15 @@
+pub mod Picking
+pub mod Listing
+pub mod Predicates
+pub mod Acting
+pub mod Changing
+pub mod Using
+pub mod Levelling
+pub mod Fitting
+pub mod Branching
+pub mod Completing
+pub mod FittingStore
+pub mod Levels
+pub mod Looping
+pub mod Opened
+pub mod Remaining

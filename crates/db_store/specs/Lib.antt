@@ -1,0 +1,10 @@
+pub mod Keys
+pub mod Stores
+pub mod Puts
+pub mod Stamps
+pub mod StoreMarks
+pub mod StoreLaws
+pub mod Watching
+pub mod Holding
+pub mod Findable
+pub mod Finding

@@ -1,0 +1,6 @@
+pub mod Swapping
+pub mod SwapLaws
+pub mod Grounds
+pub mod Choices
+pub mod Search
+pub mod SearchLaws

@@ -1,0 +1,4 @@
+pub mod OwnStates
+pub mod Soundness
+pub mod LeastStates
+pub mod Conflicts

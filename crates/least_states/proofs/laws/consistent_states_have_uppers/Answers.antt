@@ -1,5 +1,0 @@
-use Rattle.least_states.proofs.Joining as joining
-use Rattle.least_states.proofs.laws.consistent_states_have_uppers.Goals as goal
-
-pub returns : goal.returns
-returns c = λ model decisions one other lawful one_fit other_fit. joining.upper model decisions lawful one other one_fit other_fit

@@ -1,4 +1,0 @@
-pub mod LeastStates
-pub mod own_states
-pub mod plan_progress
-pub mod plan_states

@@ -1,3 +1,0 @@
-//! What is passed on of model_core.
-
-pub use model_core::item::Kind;

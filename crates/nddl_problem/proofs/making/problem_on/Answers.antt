@@ -1,9 +1,0 @@
-use Rattle.std.proofs.Common.{◌≡◌, subst}
-use Rattle.std.specs.Prelude.{IfOk}
-use Rattle.nddl_instance.specs.Posed.{Posing, posed_problem}
-use Rattle.nddl_problem.proofs.making.problem_on.Goals as goal
-
-pub returns : goal.returns
-returns c =
-    let P : Posing → Type 0 = λ posing. IfOk c.problem_of.result (λ problem. problem ≡ posed_problem posing) in
-    subst P c.posing.ensures c.problem_of.ensures

@@ -1,6 +1,0 @@
-use Rattle.std.proofs.Common.{◌∙◌}
-use Rattle.nddl_symbols.proofs.Indexes.{insert_new}
-use Rattle.nddl_symbols.proofs.index.put_new.Goals as goal
-
-pub returns-clause-ok : goal.returns-clause-ok
-returns-clause-ok c = c.in_ok-insert.ensures.entries ∙ insert_new c.args.numbers.now.entries c.args.name c.args.number c.requires

@@ -1,2 +1,0 @@
--- What is passed on of plan_values.
-pub use Rattle.plan_values.proofs.Matching

@@ -1,8 +1,0 @@
-use Rattle.plan_closing.proofs.Seated.{owner_told, owner_none}
-use Rattle.plan_closing.proofs.seating.owner_at.Goals as goal
-
-pub returns-in_default : goal.returns-in_default
-returns-in_default c = owner_none c.args.store.now.keys c.args.number c.in_default.ensures
-
-pub returns : goal.returns
-returns c = owner_told c.args.store.now.keys c.args.number c.in-Some.key c.owner_of.result c.in-Some.ensures c.owner_of.ensures

@@ -1,4 +1,0 @@
-pub mod Seating
-pub mod Turns
-pub mod Looking
-pub mod Closing

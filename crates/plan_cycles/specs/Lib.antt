@@ -1,4 +1,0 @@
-pub mod TimeCycle
-pub mod Points
-pub mod Walks
-pub mod plan_edges

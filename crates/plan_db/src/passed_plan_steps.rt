@@ -1,3 +1,0 @@
-//! What is passed on of plan_steps.
-
-pub use plan_steps::{accept, fits, judge, withdraw};

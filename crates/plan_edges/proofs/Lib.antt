@@ -1,8 +1,0 @@
-pub mod Appending
-pub mod Spans
-pub mod Pointing
-pub mod Falling
-pub mod Going
-pub mod Joining
-pub mod Settled
-pub mod plan_view

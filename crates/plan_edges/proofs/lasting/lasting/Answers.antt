@@ -1,7 +1,0 @@
-use Rattle.std.proofs.Common.{[], inr, refl, sym}
-use Rattle.std.proofs.lemmas.List.{append-nil}
-use Rattle.plan_fitting.proofs.plan_refusals.Told.{isnt}
-use Rattle.plan_edges.proofs.lasting.lasting.Goals as goal
-
-pub returns-then-not-is_active : goal.returns-then-not-is_active
-returns-then-not-is_active g c = ([], inr (isnt c.if-not-is_active.ensures, refl), sym (append-nil c.args.edges.now.items))

@@ -1,4 +1,0 @@
-use Rattle.plan_edges.proofs.points.point_of.Goals as goal
-
-pub returns-in-None : goal.returns-in-None
-returns-in-None c = λ point is. c.in-None.ensures is.0 is.1

@@ -1,7 +1,0 @@
-use Rattle.std.proofs.Common.{◌≡◌, ℕ, ◌<◌, Some}
-use Rattle.std.specs.Prelude.{slice_get}
-use Rattle.plan_fitting.specs.Touching.{IsOfIdle}
-use Rattle.plan_fitting.proofs.touched.is_one_of_actor.Given as goal
-
-abbrev pub invariant-loop-number : goal.invariant-loop-number
-invariant-loop-number l = (place other : ℕ) → place < l.number-index → slice_get l.numbers place ≡ Some other → IsOfIdle l.resources l.model l.store other

@@ -1,5 +1,0 @@
-use Rattle.plan_opening.proofs.Parting.{ArePartsBelow}
-use Rattle.plan_opening.proofs.parts.parts_of.Given as goal
-
-abbrev pub invariant-loop-number : goal.invariant-loop-number
-invariant-loop-number l = ArePartsBelow l.number l.parts.items

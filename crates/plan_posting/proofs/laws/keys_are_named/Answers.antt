@@ -1,8 +1,0 @@
-use Rattle.plan_posting.proofs.Naming.{keys_are_named, named_terms_are_there}
-use Rattle.plan_posting.proofs.laws.keys_are_named.Goals as goal
-
-pub returns-clause-keys : goal.returns-clause-keys
-returns-clause-keys c = keys_are_named
-
-pub returns-clause-terms : goal.returns-clause-terms
-returns-clause-terms c = named_terms_are_there

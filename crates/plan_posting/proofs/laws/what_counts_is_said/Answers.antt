@@ -1,5 +1,0 @@
-use Rattle.plan_posting.proofs.Saying.{what_counts_is_said}
-use Rattle.plan_posting.proofs.laws.what_counts_is_said.Goals as goal
-
-pub returns : goal.returns
-returns c = what_counts_is_said

@@ -1,3 +1,0 @@
-//! What is passed on of constraint_net.
-
-pub use plan_growth::passed_constraint_net::NetArg;

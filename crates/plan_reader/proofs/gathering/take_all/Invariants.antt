@@ -1,6 +1,0 @@
-use Rattle.plan_reader.specs.Gathering.{said_of}
-use Rattle.plan_reader.proofs.Making.{IsTaken}
-use Rattle.plan_reader.proofs.gathering.take_all.Given as goal
-
-abbrev pub invariant-loop-named : goal.invariant-loop-named
-invariant-loop-named l = IsTaken (said_of l.yielded) l.going_on l.globals.items l.lines.items

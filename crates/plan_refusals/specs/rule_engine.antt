@@ -1,3 +1,0 @@
--- What is passed on of rule_engine.
-pub use Rattle.plan_opening.specs.rule_engine.Finding
-pub use Rattle.plan_opening.specs.rule_engine.Limits

@@ -1,3 +1,0 @@
-//! What is passed on of plan_opening.
-
-pub use plan_opening::is_fact;

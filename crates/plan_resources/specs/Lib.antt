@@ -1,4 +1,0 @@
-pub mod Picks
-pub mod Actors
-pub mod Effects
-pub mod Fits

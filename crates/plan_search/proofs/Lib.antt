@@ -1,5 +1,0 @@
-pub mod Counting
-pub mod Covering
-pub mod Once
-pub mod Picking
-pub mod Searching

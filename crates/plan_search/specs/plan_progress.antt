@@ -1,2 +1,0 @@
--- What is passed on of plan_progress.
-pub use Rattle.least_states.specs.plan_progress.Places

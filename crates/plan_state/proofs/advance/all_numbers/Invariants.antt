@@ -1,5 +1,0 @@
-use Rattle.std.specs.Prelude.{ℕ, ◌<◌, Contains}
-use Rattle.plan_state.proofs.advance.all_numbers.Given as goal
-
-abbrev pub invariant-loop-number : goal.invariant-loop-number
-invariant-loop-number l = (n : ℕ) → n < l.number → Contains l.due.items n

@@ -1,6 +1,0 @@
-use Rattle.plan_state.proofs.Resting.{begun_told}
-use Rattle.plan_state.proofs.advance.begun.Goals as goal
-
-pub returns : goal.returns
-returns c =
-    begun_told c.args.model.now c.args.store c.resources_fit-fit.result c.beside.result c.requires.rest c.requires.tables c.beside.ensures c.resources_fit-fit.ensures

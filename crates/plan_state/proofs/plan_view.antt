@@ -1,2 +1,0 @@
--- Lemmas of plan_view that are passed on.
-pub use Rattle.plan_fitting.proofs.plan_view.Seen

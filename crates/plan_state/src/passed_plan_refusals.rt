@@ -1,3 +1,0 @@
-//! What is passed on of plan_refusals.
-
-pub use plan_fitting::passed_plan_refusals::{Reason, first_reason};

@@ -1,8 +1,0 @@
-use Rattle.plan_state.specs.Standing.{KeepsList}
-use Rattle.plan_steps.proofs.Keeping.{built}
-use Rattle.plan_steps.proofs.forward.build.Goals as goal
-
-pub returns : goal.returns
-returns c =
-    built c.go_on_from-done.result c.go_on_from-done.new.kept c.behind.result (KeepsList c.args.model.now c.args.decisions.now)
-    c.go_on_from-done.ensures c.behind.ensures

@@ -1,2 +1,0 @@
--- Lemmas of plan_deciding that are passed on.
-pub use Rattle.plan_state.proofs.plan_deciding.Placing

@@ -1,9 +1,0 @@
-use Rattle.std.proofs.Common.{◌≡◌, take}
-use Rattle.plan_steps.specs.Settled.{AllStay}
-use Rattle.plan_steps.proofs.settle.keep_all.Given as goal
-
-abbrev pub invariant-loop-decision : goal.invariant-loop-decision
-invariant-loop-decision l = record {
-  kept : l.settled.decisions.items ≡ take l.decision-index l.decisions;
-  stay : AllStay (take l.decision-index l.decisions) l.settled.flags.items;
-}

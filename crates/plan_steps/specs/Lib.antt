@@ -1,4 +1,0 @@
-pub mod Kept
-pub mod Subjects
-pub mod Settled
-pub mod plan_state

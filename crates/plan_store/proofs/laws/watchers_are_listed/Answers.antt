@@ -1,5 +1,0 @@
-use Rattle.plan_store.proofs.Watched.{watchers_are_listed}
-use Rattle.plan_store.proofs.laws.watchers_are_listed.Goals as goal
-
-pub returns : goal.returns
-returns c = watchers_are_listed

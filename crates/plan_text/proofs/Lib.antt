@@ -1,0 +1,13 @@
+pub mod Cutting
+pub mod Adding
+pub mod Unbroken
+pub mod Gatherings
+pub mod Listing
+pub mod Putting
+pub mod Lining
+pub mod Predicates
+pub mod Stepping
+pub mod LocalValues
+pub mod Globals
+pub mod Texts
+pub mod Points

@@ -1,5 +1,0 @@
-use Rattle.plan_unfolding.proofs.Naming.{unfolded_blocks_can_be_read}
-use Rattle.plan_unfolding.proofs.laws.unfolded_blocks_can_be_read.Goals as goal
-
-pub returns : goal.returns
-returns c = unfolded_blocks_can_be_read

@@ -1,6 +1,0 @@
--- The tokens so far have been brought.
-use Rattle.plan_unfolding.proofs.Asking.{BroughtTo}
-use Rattle.plan_unfolding.proofs.slots.bring_tokens.Given as goal
-
-abbrev pub invariant-loop-name : goal.invariant-loop-name
-invariant-loop-name l = BroughtTo l.model l.names l.name-index l.fn.store l.store

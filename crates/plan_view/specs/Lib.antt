@@ -1,3 +1,0 @@
-pub mod InOrder
-pub mod Seeing
-pub mod ViewLaws

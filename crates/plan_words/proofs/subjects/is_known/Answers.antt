@@ -1,5 +1,0 @@
-use Rattle.plan_words.proofs.Naming.{known_is}
-use Rattle.plan_words.proofs.subjects.is_known.Goals as goal
-
-pub returns : goal.returns
-returns c = known_is _ c.names_are_told_apart.ensures.variables c.args.known.now.keys c.args.name.now c.contains.result c.contains.ensures

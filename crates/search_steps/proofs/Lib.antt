@@ -1,3 +1,0 @@
-mod Stated
-pub mod Resting
-pub mod Proving

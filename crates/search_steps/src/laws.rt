@@ -1,8 +1,0 @@
-//! Laws of the search by a rule.
-
-ghost use Rattle.search_steps.specs.StepLaws.{PlainSearchesAreSearches};
-
-/// By the rule of the stated order, the search is the stated one.
-pub fn plain_searches_are_searches()
-    ensures { PlainSearchesAreSearches }
-{}

@@ -1,3 +1,0 @@
-//! What is passed on of flaw_core.
-
-pub use flaw_core::{Flaw, FlawRule, Plain};

@@ -1,9 +1,0 @@
-use Rattle.std.proofs.Common.{◌≡◌, false, length}
-use Rattle.session_core.specs.Steps.{IsTakenSince}
-use Rattle.session_core.proofs.searching.rewind.Given as goal
-
-abbrev pub invariant-loop-db : goal.invariant-loop-db
-invariant-loop-db g l = record { ready : l.db.behind ≡ false; since : IsTakenSince g.former l.db.database }
-
-abbrev pub decreases-loop-db : goal.decreases-loop-db
-decreases-loop-db g l = length l.db.database.history

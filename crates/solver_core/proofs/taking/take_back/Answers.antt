@@ -1,5 +1,0 @@
-use Rattle.solver_core.proofs.Granting.{never_kept}
-use Rattle.solver_core.proofs.taking.take_back.Goals as goal
-
-pub unreachable-requires : goal.unreachable-requires
-unreachable-requires c = never_kept c.args.db.now c.backtrack.new.self c.in-Err._fault c.in-Err.ensures.undone c.requires.ready c.requires.accepted

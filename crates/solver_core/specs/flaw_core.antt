@@ -1,2 +1,0 @@
--- What is passed on of flaw_core.
-pub use Rattle.search_steps.specs.flaw_core.Rules
