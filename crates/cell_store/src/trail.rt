@@ -63,7 +63,7 @@ pub fn meet_at(cells: &mut Vec<Cell>, cell: usize, to: &Dom) -> Change
     cells[cell].meet(to)
 }
 
-/// The same, with an entry in the trail if the cell was written.
+/// Keeps of the cell what the other domain has too, with an entry in the trail if the cell was written.
 pub fn meet_and_save(
     cells: &mut Vec<Cell>,
     trail: &mut Trail,

@@ -89,5 +89,6 @@ pub fn conflict_of(
     let mut kept = Standing::new(alloc, model)?;
     let mut log = Log::new(alloc);
     let done = reduce(model, &mut log, &mut kept, decisions);
+    kept.discard();
     taken(alloc, done, log)
 }

@@ -36,7 +36,7 @@ fn is_before(one: &Point, other: &Point) -> bool
 }
 
 // Whether the two points are one.
-fn is_same(one: &Point, other: &Point) -> bool
+fn is_same_point(one: &Point, other: &Point) -> bool
     ensures { IsTrue result ↔ (one.now ≡ other.now) }
 {
     matches!(order_of(one, other), Ordering::Equal)
@@ -65,7 +65,7 @@ fn stands_at(points: &[Point], place: usize, point: &Point) -> bool
     ensures { IsTrue result ↔ (slice_get points.now place ≡ Some point.now) }
 {
     match points.get(place) {
-        Some(found) => is_same(found, point),
+        Some(found) => is_same_point(found, point),
         None => false,
     }
 }
@@ -164,7 +164,7 @@ fn number_of(points: &[Point], point: &Point) -> u32
 // The greatest gap of an edge, forward or back.
 const WIDEST: i32 = 2_000_000;
 
-/// The same edge between the numbers of its points. No edge has a wider gap: there is no more memory for one.
+/// The edge with the numbers of its points. No edge has a wider gap: there is no more memory for one.
 pub fn numbered(points: &[Point], edge: &NamedEdge) -> Result<Edge, AllocError>
     requires are { ArePoints points.now }
     requires few { length points.now ≤ 65536 }

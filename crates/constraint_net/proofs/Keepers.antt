@@ -23,7 +23,7 @@ use Rattle.constraint_net.specs.Marks.{IsMark, IsLatest, CanReturn, KeepMarks, R
 use Rattle.constraint_net.specs.Moves.{IsSound, Sinks}
 use Rattle.constraint_net.specs.Networks.{Network, CanPost, cells_of}
 use Rattle.constraint_net.specs.Waiting.{WerePosted, NameWithin, IsKeptAgenda}
-use Rattle.constraint_net.specs.Steps.{Advances, SettlesTo}
+use Rattle.constraint_net.specs.Steps.{Advances, PropagatesTo}
 use Rattle.constraint_net.specs.Kept.{older_of, network_of, IsKeptNet}
 use Rattle.constraint_net.specs.declared.constraint.NetArg.{NetArg}
 use Rattle.constraint_net.specs.declared.constraint.Constraint.{Constraint}
@@ -245,21 +245,21 @@ kept_down old new tables constraints marked kept within are sinks agenda = recor
   agenda = agenda;
 }
 
--- settling leaves domains within the old ones, whatever it answers
-pub went : (fits : List Domain → Type 0) (old new : List Domain) (result : Result (Unit {0}) NetFault) → SettlesTo fits old result new → Advances fits old new
-went fits old new (Ok done) settles = settles.0
-went fits old new (Err Collapsed) settles = settles.0
-went fits old new (Err Memory) settles = settles
+-- propagation leaves domains within the old ones, whatever it answers
+pub went : (fits : List Domain → Type 0) (old new : List Domain) (result : Result (Unit {0}) NetFault) → PropagatesTo fits old result new → Advances fits old new
+went fits old new (Ok done) propagates = propagates.0
+went fits old new (Err Collapsed) propagates = propagates.0
+went fits old new (Err Memory) propagates = propagates
 
-pub kept_settled : (fits : List Domain → Type 0) (old new : Domains) (tables : Vec Field Global) (constraints : List Constraint) (marked : ℕ) (result : Result (Unit {0}) NetFault)
-    → SettlesTo fits (present old.cells) result (present new.cells) → Sinks marked old.cells new.cells → IsKeptAgenda tables.items constraints (present new.cells) new.agenda → IsKeptNet old tables constraints marked → IsKeptNet new tables constraints marked
-kept_settled fits old new tables constraints marked result settles sinks agenda kept =
-    let down = went fits (present old.cells) (present new.cells) result settles in
+pub kept_propagated : (fits : List Domain → Type 0) (old new : Domains) (tables : Vec Field Global) (constraints : List Constraint) (marked : ℕ) (result : Result (Unit {0}) NetFault)
+    → PropagatesTo fits (present old.cells) result (present new.cells) → Sinks marked old.cells new.cells → IsKeptAgenda tables.items constraints (present new.cells) new.agenda → IsKeptNet old tables constraints marked → IsKeptNet new tables constraints marked
+kept_propagated fits old new tables constraints marked result propagates sinks agenda kept =
+    let down = went fits (present old.cells) (present new.cells) result propagates in
     kept_down old new tables constraints marked kept down.within down.are sinks agenda
 
-pub settled_down : (net : Network) (old new : Domains) (tables : Vec Field Global) (constraints : List Constraint) (marked : ℕ) → network_of old tables constraints marked ≡ net → IsKeptNet old tables constraints marked → IsKeptNet new tables constraints marked
+pub propagated_down : (net : Network) (old new : Domains) (tables : Vec Field Global) (constraints : List Constraint) (marked : ℕ) → network_of old tables constraints marked ≡ net → IsKeptNet old tables constraints marked → IsKeptNet new tables constraints marked
     → Sinks marked old.cells new.cells → Notes (present old.cells) (present new.cells) old.agenda.changed.items new.agenda.changed.items → GoesDown net (network_of new tables constraints marked)
-settled_down net old new tables constraints marked view kept after sinks notes =
+propagated_down net old new tables constraints marked view kept after sinks notes =
     subst (λ n. GoesDown n (network_of new tables constraints marked)) view (goes_down old new tables constraints marked kept.sound (some_past marked new.cells after.sound) sinks notes)
 
 -- ---- one variable that is limited

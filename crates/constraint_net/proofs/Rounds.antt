@@ -1,4 +1,4 @@
--- What each turn of settling carries on, whatever it answers.
+-- What each turn of propagation carries on, whatever it answers.
 use Rattle.std.proofs.Common.{ℕ, List, length}
 use Rattle.std.specs.Prelude.{Result}
 use Rattle.std.specs.declared.alloc.AllocError.{AllocError}

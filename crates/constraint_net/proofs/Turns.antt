@@ -1,4 +1,4 @@
--- Narrowing one constraint that waits is a step for all of them, and such steps together settle.
+-- Narrowing one constraint that waits is a step for all of them, and such steps together are propagation.
 use Rattle.std.proofs.Common.{◌≡◌, ℕ, zero, suc, ◌+◌, ◌*◌, ◌<◌, ◌≤◌, List, [], ◌∷◌, length, get_or, Some, slice_get, ◌⊎◌, inl, inr, sym, ap, ◌∙◌, subst, arith}
 use Rattle.std.specs.declared.alloc.AllocError.{AllocError}
 use Rattle.std.specs.Prelude.{Contains, sum_by, Option, None, MatchOption, Result, Ok, Err, IsErr, IsErrAnd}
@@ -13,7 +13,7 @@ use Rattle.constraint_net.specs.Agendas.{Waits}
 use Rattle.constraint_net.specs.Networks.{IsConsistent, AllConsistent}
 use Rattle.constraint_net.specs.Queues.{Queued, IsForemost}
 use Rattle.constraint_net.specs.Waiting.{IsConsistentAt, WerePosted, NameWithin, IsKeptAgenda}
-use Rattle.constraint_net.specs.Steps.{FitWithin, Advances, AdvancesTo, StepsTo, SettlesTo}
+use Rattle.constraint_net.specs.Steps.{FitWithin, Advances, AdvancesTo, StepsTo, PropagatesTo}
 use Rattle.constraint_net.specs.declared.agenda.Agenda.{Agenda}
 use Rattle.constraint_net.specs.declared.constraint.Constraint.{Constraint}
 use Rattle.constraint_net.specs.declared.NetFault.{NetFault}
@@ -42,8 +42,8 @@ module _ (tables : List Field) (constraints : List Constraint) where
   none_at number old none below fit = none below (fit_weaker (IsConsistentAt tables constraints number) all old below (all_at number) fit)
 
   -- where none waits all are consistent
-  pub all_settled : (domains : List Domain) (agenda : Agenda) → IsKeptAgenda tables constraints domains agenda → agenda.waiting.items ≡ [] → all domains
-  all_settled domains agenda kept empty = all_from_each domains (λ number. elim (kept.covered number) [
+  pub all_propagated : (domains : List Domain) (agenda : Agenda) → IsKeptAgenda tables constraints domains agenda → agenda.waiting.items ≡ [] → all domains
+  all_propagated domains agenda kept empty = all_from_each domains (λ number. elim (kept.covered number) [
     | inl waits ↦ absurd (omega (arith, waits.1, ap length empty))
     | inr is ↦ is
   ])
@@ -76,10 +76,10 @@ module _ (fits : List Domain → Type 0) (old middle new : List Domain) (so_far 
   falls Smaller is p = p.1
   falls Empty is p = absurd (cc)
 
-  pub settled : (change : Change) → change ≡ Same → AdvancesTo fits middle change new → Advances fits old new × fits new
-  settled Same is p = (subst (Advances fits old) (sym p.0) so_far, subst fits (sym p.0) p.1)
-  settled Smaller is p = absurd (cc)
-  settled Empty is p = absurd (cc)
+  pub propagated : (change : Change) → change ≡ Same → AdvancesTo fits middle change new → Advances fits old new × fits new
+  propagated Same is p = (subst (Advances fits old) (sym p.0) so_far, subst fits (sym p.0) p.1)
+  propagated Smaller is p = absurd (cc)
+  propagated Empty is p = absurd (cc)
 
   pub collapsed : (change : Change) → change ≡ Empty → AdvancesTo fits middle change new → Advances fits old new × ((below : List Domain) → FitWithin fits old below → ⊥)
   collapsed Same is p = absurd (cc)
@@ -87,7 +87,7 @@ module _ (fits : List Domain → Type 0) (old middle new : List Domain) (so_far 
   collapsed Empty is p = (goes_down p.0, λ below fit. p.1 below (reached below fit))
 
   -- where memory has run out
-  pub ran_out : (result : Result (Unit {0}) NetFault) → IsErr result → IsErrAnd result (λ fault. fault ≡ Memory) → Advances fits middle new → SettlesTo fits old result new
+  pub ran_out : (result : Result (Unit {0}) NetFault) → IsErr result → IsErrAnd result (λ fault. fault ≡ Memory) → Advances fits middle new → PropagatesTo fits old result new
   ran_out (Ok done) failed is p = absurd (cc failed)
   ran_out (Err Collapsed) failed is p = absurd (cc is)
   ran_out (Err Memory) failed is p = goes_down p
@@ -118,7 +118,7 @@ module _ (tables : List Field) (constraints : List Constraint) (number : ℕ) (s
     λ below fit. none_at tables constraints number old p.1 below (reached fits start old new so_far below fit),
   )
 
-  pub turned_out : (result : Result (Unit {0}) NetFault) → IsErr result → IsErrAnd result (λ fault. fault ≡ Memory) → Advances (IsConsistentAt tables constraints number) old new → SettlesTo fits start result new
+  pub turned_out : (result : Result (Unit {0}) NetFault) → IsErr result → IsErrAnd result (λ fault. fault ≡ Memory) → Advances (IsConsistentAt tables constraints number) old new → PropagatesTo fits start result new
   turned_out result failed is p = ran_out fits start old new so_far result failed is (advances_all tables constraints number old new p)
 
 -- the first number was taken off, and the others are there

@@ -45,7 +45,7 @@ LiesIn (Lit value) outer domains = ⊤
 
 -- what steps until nothing changes come to: the greatest domains that fit; or none fit; or memory has run out on
 -- the way
-abbrev pub SettlesTo : (List Domain → Type 0) → List Domain → Result (Unit {0}) NetFault → List Domain → Type 0
-SettlesTo fits old (Ok done) new = Advances fits old new × fits new
-SettlesTo fits old (Err Collapsed) new = Advances fits old new × ((below : List Domain) → FitWithin fits old below → ⊥)
-SettlesTo fits old (Err Memory) new = Advances fits old new
+abbrev pub PropagatesTo : (List Domain → Type 0) → List Domain → Result (Unit {0}) NetFault → List Domain → Type 0
+PropagatesTo fits old (Ok done) new = Advances fits old new × fits new
+PropagatesTo fits old (Err Collapsed) new = Advances fits old new × ((below : List Domain) → FitWithin fits old below → ⊥)
+PropagatesTo fits old (Err Memory) new = Advances fits old new

@@ -128,7 +128,7 @@ fn watch_one(watchers: &mut Watchers, number: usize, arg: NetArg) -> Result<(), 
     ensures { Joins number (arg ∷ []) watchers.old result watchers.new }
 {
     match arg {
-        NetArg::Var(variable) => watchers.add(variable as usize, number),
+        NetArg::Var(variable) => watchers.add(variable, number),
         NetArg::Lit(_) => Ok(()),
     }
 }
@@ -158,6 +158,6 @@ fn forget_one(watchers: &mut Watchers, arg: NetArg, count: usize)
     ensures { KeepsBelow count watchers.old watchers.new }
 {
     if let NetArg::Var(variable) = arg {
-        watchers.trim(variable as usize, count);
+        watchers.trim(variable, count);
     }
 }

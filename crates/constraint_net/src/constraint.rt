@@ -11,7 +11,7 @@ use std::marker::Model;
 #[derive(Clone, Copy)]
 pub enum NetArg {
     /// A variable, by its number.
-    Var(u32),
+    Var(usize),
     /// A value as it is.
     Lit(i32),
 }

@@ -31,6 +31,13 @@ pub struct Domains {
     literals: Vec<Dom>,
 }
 
+// The arguments of the constraint that is narrowed, and the values among them, each as a domain.
+#[derive(Clone, Copy)]
+struct Gathered<'a> {
+    args: &'a [NetArg],
+    literals: &'a [Dom],
+}
+
 impl Domains {
     pub fn new(alloc: Global) -> Domains
         ensures cells { result.cells ≡ record { past = [] ∷ []; stamps = [] } }
@@ -108,10 +115,13 @@ impl Domains {
     {
         gather(args, &mut self.literals)?;
         self.work = self.work.saturating_add(1);
+        let gathered = Gathered {
+            args,
+            literals: self.literals.as_slice(),
+        };
         narrow_each(
             constraint,
-            args,
-            self.literals.as_slice(),
+            gathered,
             &mut self.cells,
             &mut self.agenda,
             since,
@@ -122,26 +132,26 @@ impl Domains {
 // Narrows the arguments, one after another.
 fn narrow_each<C: Narrow>(
     constraint: &C,
-    args: &[NetArg],
-    literals: &[Dom],
+    gathered: Gathered<'_>,
     cells: &mut Cells,
     agenda: &mut Agenda,
     since: Mark,
 ) -> Result<Change, AllocError>
-    requires count { length args.now ≡ C.count constraint.now }
-    requires literals { literals.now ≡ literals_of args.now }
+    requires count { length gathered.args.now ≡ C.count constraint.now }
+    requires literals { gathered.literals.now ≡ literals_of gathered.args.now }
     requires sound { IsSound since cells.old }
     requires ready { HasVariables (length (present cells.old)) agenda.old }
-    requires arguments { All (IsArgument (length (present cells.old))) args.now }
-    ensures steps { StepsTo (FitBefore (SupportedAt (C.reach constraint.now) (C.holds constraint.now) args.now)
-        (length args.now)) (present cells.old) result (present cells.new) }
-    ensures sinks { SinksAt args.now since cells.old cells.new }
+    requires arguments { All (IsArgument (length (present cells.old))) gathered.args.now }
+    ensures steps { StepsTo (FitBefore
+        (SupportedAt (C.reach constraint.now) (C.holds constraint.now) gathered.entry.args.now)
+        (length gathered.entry.args.now)) (present cells.old) result (present cells.new) }
+    ensures sinks { SinksAt gathered.entry.args.now since cells.old cells.new }
     ensures alerts { Alerts (present cells.old) (present cells.new) agenda.old agenda.new }
     ensures told_of_loss { TellsOfLoss (present cells.old) (present cells.new) agenda.old agenda.new }
 {
     let mut change = Change::Same;
-    for place in 0..args.len() {
-        change = change.then(narrow_at(constraint, args, place, literals, cells, agenda, since)?);
+    for place in 0..gathered.args.len() {
+        change = change.then(narrow_at(constraint, gathered, place, cells, agenda, since)?);
         if let Change::Empty = change {
             return Ok(Change::Empty);
         }
@@ -152,28 +162,28 @@ fn narrow_each<C: Narrow>(
 // Narrows the argument at this place.
 fn narrow_at<C: Narrow>(
     constraint: &C,
-    args: &[NetArg],
+    gathered: Gathered<'_>,
     place: usize,
-    literals: &[Dom],
     cells: &mut Cells,
     agenda: &mut Agenda,
     since: Mark,
 ) -> Result<Change, AllocError>
-    requires count { length args.now ≡ C.count constraint.now }
-    requires place { place < length args.now }
-    requires literals { literals.now ≡ literals_of args.now }
+    requires count { length gathered.args.now ≡ C.count constraint.now }
+    requires place { place < length gathered.args.now }
+    requires literals { gathered.literals.now ≡ literals_of gathered.args.now }
     requires sound { IsSound since cells.old }
     requires ready { HasVariables (length (present cells.old)) agenda.old }
-    requires arguments { All (IsArgument (length (present cells.old))) args.now }
-    ensures steps { StepsTo (SupportedAt (C.reach constraint.now) (C.holds constraint.now) args.now place)
+    requires arguments { All (IsArgument (length (present cells.old))) gathered.args.now }
+    ensures steps { StepsTo
+        (SupportedAt (C.reach constraint.now) (C.holds constraint.now) gathered.entry.args.now place)
         (present cells.old) result (present cells.new) }
-    ensures sinks { SinksAt args.now since cells.old cells.new }
+    ensures sinks { SinksAt gathered.entry.args.now since cells.old cells.new }
     ensures alerts { Alerts (present cells.old) (present cells.new) agenda.old agenda.new }
     ensures told_of_loss { TellsOfLoss (present cells.old) (present cells.new) agenda.old agenda.new }
 {
-    match left_at(constraint, args, place, literals, cells)? {
+    match left_at(constraint, gathered.args, place, gathered.literals, cells)? {
         Left::Whole => return Ok(Change::Same),
-        Left::Part(left) => return keep_left(args[place], &left, cells, agenda, since),
+        Left::Part(left) => return keep_left(gathered.args[place], &left, cells, agenda, since),
         Left::Nothing => return Ok(Change::Empty),
     }
 }
@@ -196,7 +206,7 @@ fn keep_left(
     ensures told_of_loss { TellsOfLoss (present cells.old) (present cells.new) agenda.old agenda.new }
 {
     match arg {
-        NetArg::Var(variable) => return keep_common(cells, agenda, variable as usize, left, since),
+        NetArg::Var(variable) => return keep_common(cells, agenda, variable, left, since),
         NetArg::Lit(_) => return Ok(Change::Same),
     }
 }

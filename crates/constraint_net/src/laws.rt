@@ -1,4 +1,4 @@
-//! Laws of settling, for whoever speaks of it without calling it.
+//! Laws of propagation, for whoever speaks of it without calling it.
 
 ghost use Rattle.std.specs.Prelude.{◌≡◌, ℕ, ◌≤◌, List, Result, Ok, Err};
 ghost use Rattle.std.specs.declared.alloc.AllocError.{AllocError};
@@ -9,30 +9,30 @@ ghost use Rattle.domain_core.specs.declared.kind.Kind.{Kind};
 ghost use Rattle.constraint_net.specs.Calls.{AddsVar, Posts, Limits, GoesDown};
 ghost use Rattle.constraint_net.specs.Marks.{IsMark, KeepMarks, Returns};
 ghost use Rattle.constraint_net.specs.Networks.{Network, AllConsistent};
-ghost use Rattle.constraint_net.specs.Steps.{SettlesTo};
+ghost use Rattle.constraint_net.specs.Steps.{PropagatesTo};
 ghost use Rattle.constraint_net.specs.declared.constraint.Constraint.{Constraint};
 ghost use Rattle.constraint_net.specs.declared.constraint.NetArg.{NetArg};
 ghost use Rattle.constraint_net.specs.declared.network.Mark.{Mark};
 ghost use Rattle.constraint_net.specs.declared.NetFault.TheVariants.{Collapsed, Memory};
 ghost use Rattle.constraint_net.specs.declared.NetFault.{NetFault};
 
-/// But for memory, what settling answers and leaves depends on the network alone.
-pub fn settling_has_one_outcome()
+/// But for memory, what propagation answers and leaves depends on the network alone.
+pub fn propagation_has_one_outcome()
     ensures one { (tables : List Field) (constraints : List Constraint) (old one other : List Domain)
-        → SettlesTo (AllConsistent tables constraints) old (Ok tt) one
-        → SettlesTo (AllConsistent tables constraints) old (Ok tt) other → one ≡ other }
+        → PropagatesTo (AllConsistent tables constraints) old (Ok tt) one
+        → PropagatesTo (AllConsistent tables constraints) old (Ok tt) other → one ≡ other }
     ensures decided { (tables : List Field) (constraints : List Constraint) (old one other : List Domain)
-        → SettlesTo (AllConsistent tables constraints) old (Ok tt) one
-        → SettlesTo (AllConsistent tables constraints) old (Err Collapsed) other → ⊥ }
+        → PropagatesTo (AllConsistent tables constraints) old (Ok tt) one
+        → PropagatesTo (AllConsistent tables constraints) old (Err Collapsed) other → ⊥ }
 {}
 
 /// A call that memory has interrupted is taken up by the next one: the two answer and leave what one would have.
-pub fn settling_is_taken_up()
+pub fn propagation_is_taken_up()
     ensures { (tables : List Field) (constraints : List Constraint) (old middle new : List Domain)
         (result : Result (Unit {0}) NetFault)
-        → SettlesTo (AllConsistent tables constraints) old (Err Memory) middle
-        → SettlesTo (AllConsistent tables constraints) middle result new
-        → SettlesTo (AllConsistent tables constraints) old result new }
+        → PropagatesTo (AllConsistent tables constraints) old (Err Memory) middle
+        → PropagatesTo (AllConsistent tables constraints) middle result new
+        → PropagatesTo (AllConsistent tables constraints) old result new }
 {}
 
 /// A mark stays one of the same domains and constraints, until the network goes back behind it.
@@ -43,7 +43,7 @@ pub fn marks_stay()
         → Posts old kind args result new → KeepMarks old new }
     ensures limited { (old new : Network) (variable : ℕ) (to : Domain) (result : Result Change AllocError)
         → Limits old variable to result new → KeepMarks old new }
-    ensures settled { (old new : Network) → GoesDown old new → KeepMarks old new }
+    ensures propagated { (old new : Network) → GoesDown old new → KeepMarks old new }
     ensures returned { (old new : Network) (mark later : Mark) (domains : List Domain) (constraints : List Constraint)
         → IsMark old mark domains constraints → mark.cells ≤ later.cells → mark.constraints ≤ later.constraints
         → Returns later old new → IsMark new mark domains constraints }

@@ -1,6 +1,6 @@
-//! Variables with domains, and constraints on them: `net.post(Kind::Leq, &args)?`, then `net.settle_all()?`, `net.get(x)`.
+//! Variables with domains, and constraints on them: `net.post(Kind::Leq, &args)?`, `net.propagate_all()?`.
 //! In come domains, tables of fields, constraints by numbers of variables; out go domains, stamps and changed variables.
-//! After `settle_all` the domains are the greatest consistent ones; `NetFault::Collapsed` says that there are none.
+//! After `propagate_all` the domains are the greatest consistent ones; `NetFault::Collapsed` says that there are none.
 //! Called by the database, whose store (db_store) has a `Net`.
 //! Knows nothing of tokens, rules, decisions, and what a variable stands for. The order of the agenda may change.
 #![tactic(auto)]
@@ -12,9 +12,9 @@ mod kinds;
 pub mod laws;
 pub mod network;
 mod posted;
+mod propagating;
 mod queue;
 mod reading;
-mod settling;
 mod watchers;
 mod written;
 

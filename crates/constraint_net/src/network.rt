@@ -5,21 +5,20 @@ ghost use Rattle.std.specs.Prelude.{Contains, IsTrue, OnErr, IfOk, MatchOption, 
 ghost use Rattle.std.specs.Prelude.{slice_get};
 ghost use Rattle.domain_core.specs.Domain.{Domain, IsDomain};
 ghost use Rattle.constraint_net.specs.Networks.{CanPost, AllConsistent};
-ghost use Rattle.constraint_net.specs.Steps.{SettlesTo};
+ghost use Rattle.constraint_net.specs.Steps.{PropagatesTo};
 ghost use Rattle.constraint_net.specs.Calls.{IsAscending, given_by, table_of, AddsVar, Limits, Posts};
 ghost use Rattle.constraint_net.specs.Calls.{GoesDown, TakesChanged};
 ghost use Rattle.constraint_net.specs.Agendas.{Forgets};
 ghost use Rattle.constraint_net.specs.Waiting.{NameWithin};
 ghost use Rattle.constraint_net.specs.Marks.{IsMark, IsLatest, CanReturn, KeepMarks, Returns, HaveChanged};
 ghost use Rattle.constraint_net.specs.declared.constraint.Constraint.{Constraint};
-ghost use Rattle.constraint_net.specs.declared.constraint.NetArg.TheVariants.{Var};
 
 use super::NetFault;
 use super::agenda::Agenda;
 use super::constraint::NetArg;
 use super::domains::Domains;
 use super::posted::Posted;
-use super::settling::settle;
+use super::propagating::propagate;
 use super::written::written_since;
 use cell_store::Mark as CellMark;
 use domain_core::Change;
@@ -103,7 +102,7 @@ impl Net {
         self.domains.add(domain)
     }
 
-    /// Asks from now on that the constraint holds. No domain changes before `settle_all`.
+    /// Asks from now on that the constraint holds. No domain changes before `propagate_all`.
     pub fn post(&mut self, kind: Kind, args: &[NetArg]) -> Result<(), AllocError>
         requires { CanPost self.old.tables (length self.old.domains) kind args.now }
         ensures { Posts self.old kind args.now result self.new }
@@ -118,15 +117,6 @@ impl Net {
         ensures { IsTrue result → Contains self.now.constraints (record { kind = kind; args = args.now }) }
     {
         self.constraints.is_known(kind, args)
-    }
-
-    /// The variable, as an argument.
-    pub fn variable(&self, number: usize) -> NetArg
-        requires { number < length self.now.domains }
-        ensures { result ≡ Var number }
-    {
-        let _places = self.domains.agenda.changed.room();
-        NetArg::Var(number as u32)
     }
 
     /// Keeps the values of the variable that the other domain has too.
@@ -156,15 +146,15 @@ impl Net {
 
     /// Takes values away until all constraints are consistent. After Collapsed and Memory some values may be gone;
     /// after Memory the call may be made again, and after Collapsed only `back_to` brings values back.
-    pub fn settle_all(&mut self) -> Result<(), NetFault>
-        ensures settled { SettlesTo (AllConsistent self.old.tables self.old.constraints)
+    pub fn propagate_all(&mut self) -> Result<(), NetFault>
+        ensures propagated { PropagatesTo (AllConsistent self.old.tables self.old.constraints)
             self.old.domains result self.new.domains }
         ensures domains { All IsDomain self.new.domains }
         ensures variables { length self.new.domains ≡ length self.old.domains }
         ensures others { GoesDown self.old self.new }
         ensures counted { self.old.work ≤ self.new.work }
     {
-        settle(
+        propagate(
             &self.constraints,
             self.tables.as_slice(),
             &mut self.domains,
@@ -211,8 +201,8 @@ impl Net {
     }
 
     /// Takes the next variable off the list of those that have changed. That list has each variable whose domain was
-    /// written by `limit`, `settle_all` or `back_to` since it was last taken off, and perhaps others, also of numbers
-    /// that no variable has any more.
+    /// written by `limit`, `propagate_all` or `back_to` since it was last taken off, and perhaps others, also of
+    /// numbers that no variable has any more.
     pub fn next_changed(&mut self) -> Option<usize>
         ensures { TakesChanged self.old result self.new }
     {

@@ -20,7 +20,7 @@ pub struct Posted {
     keys: Vec<u32>,
     // The number of a constraint that the one variable is at most the other, under the two. What stands there is looked up
     // before it is relied on.
-    places: IndexMap<(u32, u32), u32>,
+    places: IndexMap<(usize, usize), u32>,
 }
 
 impl Model for Posted {
@@ -79,7 +79,7 @@ impl Posted {
     }
 
     // Whether at the place that is noted for the two variables there is the constraint that the one is at most the other.
-    fn stands(&self, pair: (u32, u32)) -> bool
+    fn stands(&self, pair: (usize, usize)) -> bool
         ensures { IsTrue result → Contains self.now (record { kind = Leq; args = Var pair.0 ∷ Var pair.1 ∷ [] }) }
     {
         let Some(number) = self.places.get(&pair) else {
@@ -136,7 +136,7 @@ impl Posted {
 }
 
 // The two variables, where the constraint is that the one is at most the other.
-fn at_most_pair(kind: Kind, args: &[NetArg]) -> Option<(u32, u32)>
+fn at_most_pair(kind: Kind, args: &[NetArg]) -> Option<(usize, usize)>
     ensures { IfSome result (λ pair. (kind ≡ Leq) × (args.now ≡ Var pair.0 ∷ Var pair.1 ∷ [])) }
 {
     match (kind, args) {
@@ -146,7 +146,7 @@ fn at_most_pair(kind: Kind, args: &[NetArg]) -> Option<(u32, u32)>
 }
 
 // Whether the constraint is that the one variable is at most the other.
-fn is_at_most(constraint: &Constraint, pair: (u32, u32)) -> bool
+fn is_at_most(constraint: &Constraint, pair: (usize, usize)) -> bool
     ensures { IsTrue result → constraint.now ≡ record { kind = Leq; args = Var pair.0 ∷ Var pair.1 ∷ [] } }
 {
     match at_most_pair(constraint.kind, constraint.args.as_slice()) {
@@ -156,7 +156,7 @@ fn is_at_most(constraint: &Constraint, pair: (u32, u32)) -> bool
 }
 
 // Takes the last place off, if it isn't below the count. Places are noted as they rise, so none stays behind.
-fn forget_last(places: &mut IndexMap<(u32, u32), u32>, count: usize) {
+fn forget_last(places: &mut IndexMap<(usize, usize), u32>, count: usize) {
     if let Some((_pair, number)) = places.last() {
         if *number as usize >= count {
             let _last = places.pop();

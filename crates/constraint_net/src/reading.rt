@@ -67,7 +67,7 @@ fn read<'a>(args: &[NetArg], place: usize, literals: &'a [Dom], cells: &'a Cells
     ensures { result.now ≡ slice_index_or (domains_of (present cells.now) args.now) place (Range (pos 0) (pos 0)) }
 {
     match args[place] {
-        NetArg::Var(variable) => match cells.get(variable as usize) {
+        NetArg::Var(variable) => match cells.get(variable) {
             Some(domain) => domain,
             None => unreachable!(),
         },

@@ -42,7 +42,8 @@ use Rattle.db_posting.specs.Underway.{IsStoreUnderway}
 use Rattle.db_posting.specs.Wanted.{ArePreds}
 use Rattle.db_opening.proofs.Opening.{pred_is}
 use Rattle.db_decide.specs.TakingUp.{MayFollow, IsDueAfter, TakesUp}
-use Rattle.db_decide.proofs.Placing.{place_once, place_below, name_is}
+use Rattle.model_core.proofs.Distinct.{place_once}
+use Rattle.db_decide.proofs.Placing.{place_below, name_is}
 
 -- ---- numbers of keys
 

@@ -23,7 +23,7 @@ use Rattle.db_posting.specs.Counting.{AreTokenStates}
 use Rattle.db_posting.specs.Origins.{content_now}
 use Rattle.db_posting.specs.Underway.{AreWatched, IsStoreUnderway}
 use Rattle.db_posting.specs.Wanted.{ArePreds}
-use Rattle.db_decide.proofs.Placing.{place_once}
+use Rattle.model_core.proofs.Distinct.{place_once}
 use Rattle.db_decide.proofs.Longer.{DecidesOf, decided_before, rejected_longer}
 
 -- the state of a token only speaks of the places of tokens

@@ -34,7 +34,7 @@ use model_core::model::Model;
 use std::alloc::{AllocError, Global};
 
 // Takes the decision up, by its kind.
-fn take(
+fn take_decision(
     alloc: Global,
     store: &mut Store,
     model: &Model,
@@ -150,7 +150,7 @@ pub fn take_up(
         → LeaveNothing model.now (decisions ++ decision.now ∷ []) }
     ensures marks { KeepStoreMarks store.old store.new }
 {
-    take(alloc, store, model, decision)?;
+    take_decision(alloc, store, model, decision)?;
     let due = due_after(alloc, store, model, decision)?;
     Ok(due)
 }

@@ -6,18 +6,18 @@ use Rattle.model_core.specs.declared.decision.Decision.{Decision}
 use Rattle.model_core.specs.declared.model.Model.{Model}
 use Rattle.constraint_net.specs.Calls.{GoesDown, TakesChanged}
 use Rattle.constraint_net.specs.Networks.{Network, AllConsistent}
-use Rattle.constraint_net.specs.Steps.{SettlesTo}
+use Rattle.constraint_net.specs.Steps.{PropagatesTo}
 use Rattle.constraint_net.specs.declared.NetFault.{NetFault}
 use Rattle.constraint_net.specs.declared.NetFault.TheVariants.{Collapsed, Memory}
 use Rattle.db_store.specs.Puts.{ChangesNet}
 use Rattle.db_store.specs.Stores.{Stored, snapshot_of}
 use Rattle.db_posting.specs.Underway.{IsUnderway, IsStoreUnderway}
-use Rattle.db_fixpoint.specs.Closing.{AreKnownDue, HasComeToRest, Heeds, StepLeaves, Steps, TakesSteps, LooksAtAll, BringsToRest}
+use Rattle.db_fixpoint.specs.Fixpoint.{AreKnownDue, HasComeToRest, Heeds, RoundLeaves, MakesRound, MakesRounds, LooksAtAll, BringsToRest}
 use Rattle.db_fixpoint.specs.Looking.{IsOnWay, HasWay, KeepsWay, LooksAt}
-use Rattle.db_fixpoint.specs.declared.closing.Step.{Step}
-use Rattle.db_fixpoint.specs.declared.closing.Step.TheVariants as step
+use Rattle.db_fixpoint.specs.declared.fixpoint.Round.{Round}
+use Rattle.db_fixpoint.specs.declared.fixpoint.Round.TheVariants as rounds
 use Rattle.db_fixpoint.specs.Unfolding.{UnfoldsBlock}
-use Rattle.db_fixpoint.proofs.Staying.{IsSettledOn, settled_underway, underway_more}
+use Rattle.db_fixpoint.proofs.Staying.{IsPropagatedOn, propagated_underway, underway_more}
 
 -- ---- the next variable
 
@@ -44,34 +44,34 @@ module _ (model : Model) (unfolded variable : ℕ) (old mid : Stored) (changes :
 pub heeds_none : (model : Model) (unfolded : ℕ) (old new : Stored) → ChangesNet old new → (old.net.changed ≡ []) × (new.net ≡ old.net) → Heeds model unfolded old (Ok false) new
 heeds_none model unfolded old new changes taken = (taken.0, changes ∙ ap (λ (net : Network). record old { net = net }) taken.1)
 
--- ---- settling
+-- ---- propagation
 
 module _ (model : Model) (unfolded : ℕ) (old mid : Stored) (changes : ChangesNet old mid) (down : GoesDown old.net mid.net) where
-  pub settle_fails : (fault : NetFault) → SettlesTo (AllConsistent old.net.tables old.net.constraints) old.net.domains (Err fault) mid.net.domains
-      → Steps model unfolded old (Err fault) mid
-  settle_fails Collapsed settles = λ decisions way. settled_underway model decisions decisions old mid (Err Collapsed) unfolded way.underway changes down settles
-  settle_fails Memory settles = tt
+  pub propagate_fails : (fault : NetFault) → PropagatesTo (AllConsistent old.net.tables old.net.constraints) old.net.domains (Err fault) mid.net.domains
+      → MakesRound model unfolded old (Err fault) mid
+  propagate_fails Collapsed propagates = λ decisions way. propagated_underway model decisions decisions old mid (Err Collapsed) unfolded way.underway changes down propagates
+  propagate_fails Memory propagates = tt
 
-  module _ (settles : SettlesTo (AllConsistent old.net.tables old.net.constraints) old.net.domains (Ok tt) mid.net.domains) where
-    settled : (decisions : List Decision) → IsOnWay model decisions old unfolded old.net.changed → IsSettledOn model decisions decisions mid unfolded
-    settled decisions way = settled_underway model decisions decisions old mid (Ok tt) unfolded way.underway changes down settles
+  module _ (propagates : PropagatesTo (AllConsistent old.net.tables old.net.constraints) old.net.domains (Ok tt) mid.net.domains) where
+    propagated : (decisions : List Decision) → IsOnWay model decisions old unfolded old.net.changed → IsPropagatedOn model decisions decisions mid unfolded
+    propagated decisions way = propagated_underway model decisions decisions old mid (Ok tt) unfolded way.underway changes down propagates
 
-    pub settled_way : (decisions : List Decision) → IsOnWay model decisions old unfolded old.net.changed → IsOnWay model decisions mid unfolded mid.net.changed
-    settled_way decisions way = record { once = way.once; underway = (settled decisions way).underway }
+    pub propagated_way : (decisions : List Decision) → IsOnWay model decisions old unfolded old.net.changed → IsOnWay model decisions mid unfolded mid.net.changed
+    propagated_way decisions way = record { once = way.once; underway = (propagated decisions way).underway }
 
-    pub behind_fails : (new : Stored) (fault : NetFault) → Heeds model unfolded mid (Err fault) new → Steps model unfolded old (Err fault) new
-    behind_fails new Collapsed heeds = λ decisions way. heeds decisions (settled_way decisions way)
+    pub behind_fails : (new : Stored) (fault : NetFault) → Heeds model unfolded mid (Err fault) new → MakesRound model unfolded old (Err fault) new
+    behind_fails new Collapsed heeds = λ decisions way. heeds decisions (propagated_way decisions way)
     behind_fails new Memory heeds = tt
 
-    pub behind_on : (new : Stored) (heeded : Bool) → heeded ≡ true → Heeds model unfolded mid (Ok heeded) new → Steps model unfolded old (Ok (step.On unfolded)) new
+    pub behind_on : (new : Stored) (heeded : Bool) → heeded ≡ true → Heeds model unfolded mid (Ok heeded) new → MakesRound model unfolded old (Ok (rounds.On unfolded)) new
     behind_on new heeded is heeds = λ decisions way.
-        subst (λ b. Heeds model unfolded mid (Ok b) new) is heeds decisions (settled_way decisions way)
+        subst (λ b. Heeds model unfolded mid (Ok b) new) is heeds decisions (propagated_way decisions way)
 
     pub behind_rest : length old.blocks ≤ unfolded → (new : Stored) (heeded : Bool) → heeded ≡ false → Heeds model unfolded mid (Ok heeded) new
-        → Steps model unfolded old (Ok step.AtRest) new
+        → MakesRound model unfolded old (Ok rounds.AtRest) new
     behind_rest all new heeded is heeds = λ decisions way.
         let none = subst (λ b. Heeds model unfolded mid (Ok b) new) is heeds in
-        let under = (settled decisions way).underway in
+        let under = (propagated decisions way).underway in
         let within = under.within in
         let blocks : mid.blocks ≡ old.blocks = ap (λ (stored : Stored). stored.blocks) changes in
         let whole : unfolded ≡ length mid.blocks = omega (arith, within, all, ap length blocks) in
@@ -79,50 +79,50 @@ module _ (model : Model) (unfolded : ℕ) (old mid : Stored) (changes : ChangesN
           rests = record {
             underway = subst (λ n. IsUnderway model decisions decisions mid.net.tables (snapshot_of mid) n []) whole
                 (subst (λ due. IsUnderway model decisions decisions mid.net.tables (snapshot_of mid) unfolded due) none.0 under);
-            consistent = (settled decisions way).consistent;
+            consistent = (propagated decisions way).consistent;
           };
           heeded = none.0;
         })
 
--- ---- a step
+-- ---- a round
 
 module _ (model : Model) (unfolded : ℕ) (old : Stored) where
-  pub unfolds_on : (new : Stored) → UnfoldsBlock model unfolded old (Ok tt) new → new.net.changed ≡ old.net.changed → Steps model unfolded old (Ok (step.On (unfolded + 1))) new
+  pub unfolds_on : (new : Stored) → UnfoldsBlock model unfolded old (Ok tt) new → new.net.changed ≡ old.net.changed → MakesRound model unfolded old (Ok (rounds.On (unfolded + 1))) new
   unfolds_on new unfolds kept = λ decisions way. record {
     once = way.once;
     underway = subst (λ due. IsStoreUnderway model decisions decisions new (unfolded + 1) due) (sym kept)
         (unfolds decisions old.net.changed way.underway);
   }
 
-  pub unfold_fails : (new : Stored) (fault : NetFault) → UnfoldsBlock model unfolded old (Err fault) new → Steps model unfolded old (Err fault) new
+  pub unfold_fails : (new : Stored) (fault : NetFault) → UnfoldsBlock model unfolded old (Err fault) new → MakesRound model unfolded old (Err fault) new
   unfold_fails new Collapsed unfolds = λ decisions way. unfolds decisions old.net.changed way.underway
   unfold_fails new Memory unfolds = tt
 
-  pub step_fails : (new : Stored) (fault : NetFault) → Heeds model unfolded old (Err fault) new → Steps model unfolded old (Err fault) new
-  step_fails new Collapsed heeds = heeds
-  step_fails new Memory heeds = tt
+  pub round_fails : (new : Stored) (fault : NetFault) → Heeds model unfolded old (Err fault) new → MakesRound model unfolded old (Err fault) new
+  round_fails new Collapsed heeds = heeds
+  round_fails new Memory heeds = tt
 
-  pub step_on : (new : Stored) (heeded : Bool) → heeded ≡ true → Heeds model unfolded old (Ok heeded) new → Steps model unfolded old (Ok (step.On unfolded)) new
-  step_on new heeded is heeds = subst (λ b. Heeds model unfolded old (Ok b) new) is heeds
+  pub round_on : (new : Stored) (heeded : Bool) → heeded ≡ true → Heeds model unfolded old (Ok heeded) new → MakesRound model unfolded old (Ok (rounds.On unfolded)) new
+  round_on new heeded is heeds = subst (λ b. Heeds model unfolded old (Ok b) new) is heeds
 
   -- nothing had changed
   pub none_heeded : (new : Stored) (heeded : Bool) → heeded ≡ false → Heeds model unfolded old (Ok heeded) new → new ≡ old
   none_heeded new heeded is heeds = (subst (λ b. Heeds model unfolded old (Ok b) new) is heeds).1
 
--- ---- many steps
+-- ---- many rounds
 
 module _ (model : Model) (unfolded : ℕ) (old mid : Stored) (count : ℕ)
     (on : (decisions : List Decision) → IsOnWay model decisions old unfolded old.net.changed → IsOnWay model decisions mid count mid.net.changed) where
-  pub run_fails : (new : Stored) (fault : NetFault) → Steps model count mid (Err fault) new → TakesSteps model unfolded old (Err fault) new
-  run_fails new Collapsed steps = λ decisions way. steps decisions (on decisions way)
-  run_fails new Memory steps = tt
+  pub run_fails : (new : Stored) (fault : NetFault) → MakesRound model count mid (Err fault) new → MakesRounds model unfolded old (Err fault) new
+  run_fails new Collapsed round = λ decisions way. round decisions (on decisions way)
+  run_fails new Memory round = tt
 
-  came_to_rest : (decisions : List Decision) (new : Stored) (next : Step) → ((n : ℕ) → next ≡ step.On n → ⊥) → StepLeaves model decisions next new → HasComeToRest model decisions new
-  came_to_rest decisions new (step.On n) not goes = absurd (not n refl)
-  came_to_rest decisions new step.AtRest not goes = goes
+  came_to_rest : (decisions : List Decision) (new : Stored) (next : Round) → ((n : ℕ) → next ≡ rounds.On n → ⊥) → RoundLeaves model decisions next new → HasComeToRest model decisions new
+  came_to_rest decisions new (rounds.On n) not goes = absurd (not n refl)
+  came_to_rest decisions new rounds.AtRest not goes = goes
 
-  pub run_ends : (new : Stored) (next : Step) → ((n : ℕ) → next ≡ step.On n → ⊥) → Steps model count mid (Ok next) new → TakesSteps model unfolded old (Ok tt) new
-  run_ends new next not steps = λ decisions way. came_to_rest decisions new next not (steps decisions (on decisions way))
+  pub run_ends : (new : Stored) (next : Round) → ((n : ℕ) → next ≡ rounds.On n → ⊥) → MakesRound model count mid (Ok next) new → MakesRounds model unfolded old (Ok tt) new
+  run_ends new next not round = λ decisions way. came_to_rest decisions new next not (round decisions (on decisions way))
 
 -- ---- many variables
 
@@ -168,7 +168,7 @@ module _ (model : Model) (unfolded : ℕ) (due : List ℕ) (count : ℕ) (old mi
   looked_all none = λ decisions waiting way.
       subst (λ list. IsOnWay model decisions mid unfolded (list ++ waiting)) none (so_far decisions waiting way)
 
--- ---- closing
+-- ---- bringing it to rest
 
 module _ (model : Model) (unfolded : ℕ) (due : List ℕ) (old mid : Stored) where
   all_due : (decisions : List Decision) (waiting : List ℕ) → AreKnownDue due old waiting → IsOnWay model decisions old unfolded waiting
@@ -180,17 +180,17 @@ module _ (model : Model) (unfolded : ℕ) (due : List ℕ) (old mid : Stored) wh
         | inr other ↦ Contains-append_right due old.net.changed number other
       ]) way
 
-  pub close_fails : (new : Stored) (fault : NetFault) → LooksAtAll model unfolded due old (Err fault) new → BringsToRest model unfolded due old (Err fault) new
-  close_fails new Collapsed looks = λ decisions waiting known way. looks decisions old.net.changed (all_due decisions waiting known way)
-  close_fails new Memory looks = tt
+  pub bring_fails : (new : Stored) (fault : NetFault) → LooksAtAll model unfolded due old (Err fault) new → BringsToRest model unfolded due old (Err fault) new
+  bring_fails new Collapsed looks = λ decisions waiting known way. looks decisions old.net.changed (all_due decisions waiting known way)
+  bring_fails new Memory looks = tt
 
   module _ (looks : LooksAtAll model unfolded due old (Ok tt) mid) (kept : mid.net.changed ≡ old.net.changed) where
-    pub close_way : (decisions : List Decision) (waiting : List ℕ) → AreKnownDue due old waiting → IsOnWay model decisions old unfolded waiting
+    pub bring_way : (decisions : List Decision) (waiting : List ℕ) → AreKnownDue due old waiting → IsOnWay model decisions old unfolded waiting
         → IsOnWay model decisions mid unfolded mid.net.changed
-    close_way decisions waiting known way =
+    bring_way decisions waiting known way =
         subst (IsOnWay model decisions mid unfolded) (sym kept) (looks decisions old.net.changed (all_due decisions waiting known way))
 
-    pub closes_on : (new : Stored) (result : Result (Unit {0}) NetFault) → TakesSteps model unfolded mid result new → BringsToRest model unfolded due old result new
-    closes_on new (Ok done) runs = λ decisions waiting known way. runs decisions (close_way decisions waiting known way)
-    closes_on new (Err Collapsed) runs = λ decisions waiting known way. runs decisions (close_way decisions waiting known way)
-    closes_on new (Err Memory) runs = tt
+    pub brings_on : (new : Stored) (result : Result (Unit {0}) NetFault) → MakesRounds model unfolded mid result new → BringsToRest model unfolded due old result new
+    brings_on new (Ok done) runs = λ decisions waiting known way. runs decisions (bring_way decisions waiting known way)
+    brings_on new (Err Collapsed) runs = λ decisions waiting known way. runs decisions (bring_way decisions waiting known way)
+    brings_on new (Err Memory) runs = tt

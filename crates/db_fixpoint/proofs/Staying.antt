@@ -15,7 +15,7 @@ use Rattle.narrow_core.specs.declared.field.Field.{Field}
 use Rattle.narrow_core.proofs.Below.{within_refl}
 use Rattle.constraint_net.specs.Calls.{GoesDown}
 use Rattle.constraint_net.specs.Networks.{Network, AllConsistent}
-use Rattle.constraint_net.specs.Steps.{SettlesTo}
+use Rattle.constraint_net.specs.Steps.{PropagatesTo}
 use Rattle.constraint_net.specs.declared.NetFault.{NetFault}
 use Rattle.constraint_net.specs.declared.NetFault.TheVariants.{Collapsed, Memory}
 use Rattle.constraint_net.specs.declared.constraint.Constraint.{Constraint}
@@ -25,7 +25,7 @@ use Rattle.model_core.specs.Content.{Content, shown}
 use Rattle.db_refine.specs.Growth.{LeaveNothing, ends_before}
 use Rattle.db_refine.specs.GrowthLaws.{with_domains}
 use Rattle.db_refine.specs.Progress.{IsJustified, MissesNothing}
-use Rattle.db_refine.proofs.Justifying.{posting_justified, settling_justified}
+use Rattle.db_refine.proofs.Justifying.{posting_justified, propagation_justified}
 use Rattle.db_refine.proofs.Keeping.{posting_misses}
 use Rattle.db_refine.proofs.Lessening.{falling_misses}
 use Rattle.plan_defs.specs.Unordered.{AreDecidedOnce}
@@ -101,7 +101,7 @@ underway_more model followed decisions stored unfolded due more there under = re
   within = under.within;
 }
 
--- ---- settling
+-- ---- propagation
 
 token_state : (model : Model) (one other : State) → one.tokens ≡ other.tokens → (decisions : List Decision) (token : TokenName) (state : TokenState)
     → HasTokenState model one decisions token state → HasTokenState model other decisions token state
@@ -111,27 +111,27 @@ token_state model one other same decisions token Fact is = is
 token_state model one other same decisions token (Merged place) is = (is.0, subst (λ (list : List TokenName). slice_get list place ≡ Some is.0) same is.1, is.2)
 token_state model one other same decisions token Rejected is = is
 
--- what settling leaves of a store that is on its way
-pub record IsSettledOn (model : Model) (followed decisions : List Decision) (new : Stored) (unfolded : ℕ) : Type 0 where
+-- what propagation leaves of a store that is on its way
+pub record IsPropagatedOn (model : Model) (followed decisions : List Decision) (new : Stored) (unfolded : ℕ) : Type 0 where
   pub underway : IsStoreUnderway model followed decisions new unfolded new.net.changed
   pub consistent : AllConsistent new.net.tables new.net.constraints new.net.domains
 
-abbrev pub SettlesOn : Model → List Decision → List Decision → Result (Unit {0}) NetFault → Stored → ℕ → Type 0
-SettlesOn model followed decisions (Ok done) new unfolded = IsSettledOn model followed decisions new unfolded
-SettlesOn model followed decisions (Err Collapsed) new unfolded = LeaveNothing model decisions
-SettlesOn model followed decisions (Err Memory) new unfolded = Unit {0}
+abbrev pub PropagatesOn : Model → List Decision → List Decision → Result (Unit {0}) NetFault → Stored → ℕ → Type 0
+PropagatesOn model followed decisions (Ok done) new unfolded = IsPropagatedOn model followed decisions new unfolded
+PropagatesOn model followed decisions (Err Collapsed) new unfolded = LeaveNothing model decisions
+PropagatesOn model followed decisions (Err Memory) new unfolded = Unit {0}
 
 module _ (model : Model) (followed decisions : List Decision) (old : Stored) (net : Network) (unfolded : ℕ)
     (under : IsStoreUnderway model followed decisions old unfolded old.net.changed) (down : GoesDown old.net net) where
   abbrev left : Stored
   left = record old { net = net }
 
-  settled_ok : SettlesTo (AllConsistent old.net.tables old.net.constraints) old.net.domains (Ok tt) net.domains → IsSettledOn model followed decisions left unfolded
-  settled_ok settles =
+  propagated_ok : PropagatesTo (AllConsistent old.net.tables old.net.constraints) old.net.domains (Ok tt) net.domains → IsPropagatedOn model followed decisions left unfolded
+  propagated_ok propagates =
       let content = content_now old in
-      let justified = settling_justified model decisions old.net.tables old.net.constraints content under.justified (Ok tt) net.domains settles in
+      let justified = propagation_justified model decisions old.net.tables old.net.constraints content under.justified (Ok tt) net.domains propagates in
       let complete = falling_misses model followed old.net.constraints content net.domains unfolded old.net.changed net.changed under.complete
-      settles.0.are settles.0.within down.notes in
+      propagates.0.are propagates.0.within down.notes in
       record {
         underway = record {
           justified = subst (λ tables. IsJustified model decisions tables net.constraints (with_domains content net.domains)) (sym down.tables)
@@ -147,20 +147,20 @@ module _ (model : Model) (followed decisions : List Decision) (old : Stored) (ne
           within = under.within;
         };
         consistent = subst (λ tables. AllConsistent tables net.constraints net.domains) (sym down.tables)
-            (subst (λ posted. AllConsistent old.net.tables posted net.domains) (sym down.constraints) settles.1);
+            (subst (λ posted. AllConsistent old.net.tables posted net.domains) (sym down.constraints) propagates.1);
       }
 
-  settled_left : (result : Result (Unit {0}) NetFault) → SettlesTo (AllConsistent old.net.tables old.net.constraints) old.net.domains result net.domains
-      → SettlesOn model followed decisions result left unfolded
-  settled_left (Ok done) settles = settled_ok settles
-  settled_left (Err Collapsed) settles =
-      settling_justified model decisions old.net.tables old.net.constraints (content_now old) under.justified (Err Collapsed) net.domains settles
-  settled_left (Err Memory) settles = tt
+  propagated_left : (result : Result (Unit {0}) NetFault) → PropagatesTo (AllConsistent old.net.tables old.net.constraints) old.net.domains result net.domains
+      → PropagatesOn model followed decisions result left unfolded
+  propagated_left (Ok done) propagates = propagated_ok propagates
+  propagated_left (Err Collapsed) propagates =
+      propagation_justified model decisions old.net.tables old.net.constraints (content_now old) under.justified (Err Collapsed) net.domains propagates
+  propagated_left (Err Memory) propagates = tt
 
-pub settled_underway : (model : Model) (followed decisions : List Decision) (old new : Stored) (result : Result (Unit {0}) NetFault) (unfolded : ℕ)
+pub propagated_underway : (model : Model) (followed decisions : List Decision) (old new : Stored) (result : Result (Unit {0}) NetFault) (unfolded : ℕ)
     → IsStoreUnderway model followed decisions old unfolded old.net.changed → ChangesNet old new → GoesDown old.net new.net
-    → SettlesTo (AllConsistent old.net.tables old.net.constraints) old.net.domains result new.net.domains
-    → SettlesOn model followed decisions result new unfolded
-settled_underway model followed decisions old new result unfolded under changes down settles =
-    subst (λ stored. SettlesOn model followed decisions result stored unfolded) (sym changes)
-    (settled_left model followed decisions old new.net unfolded under down result settles)
+    → PropagatesTo (AllConsistent old.net.tables old.net.constraints) old.net.domains result new.net.domains
+    → PropagatesOn model followed decisions result new unfolded
+propagated_underway model followed decisions old new result unfolded under changes down propagates =
+    subst (λ stored. PropagatesOn model followed decisions result stored unfolded) (sym changes)
+    (propagated_left model followed decisions old new.net unfolded under down result propagates)

@@ -6,4 +6,4 @@ pub mod UnfoldingLaws
 pub mod Seating
 pub mod Turns
 pub mod Looking
-pub mod Closing
+pub mod Fixpoint

@@ -85,7 +85,7 @@ fn truth_with(net: &Net, equal: bool, one: &Dom, other: NetArg) -> Option<bool>
     ensures { IsTruth equal one.now (domain_of net.now.domains other) result }
 {
     match other {
-        NetArg::Var(variable) => entailed(equal, one, domain_at(net, variable as usize)),
+        NetArg::Var(variable) => entailed(equal, one, domain_at(net, variable)),
         NetArg::Lit(value) => entailed(equal, one, &only(value)),
     }
 }
@@ -97,7 +97,7 @@ fn truth_of(net: &Net, equal: bool, one: NetArg, other: NetArg) -> Option<bool>
     ensures { IsTruth equal (domain_of net.now.domains one) (domain_of net.now.domains other) result }
 {
     match one {
-        NetArg::Var(variable) => truth_with(net, equal, domain_at(net, variable as usize), other),
+        NetArg::Var(variable) => truth_with(net, equal, domain_at(net, variable), other),
         NetArg::Lit(value) => truth_with(net, equal, &only(value), other),
     }
 }

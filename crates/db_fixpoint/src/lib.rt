@@ -1,11 +1,11 @@
-//! Brings a store to rest by rules and constraints: `close(alloc, &mut store, &mut seating, model, unfolded, &due)?`.
+//! Brings a store to rest by rules and constraints: `bring_to_rest(alloc, &mut store, &mut seating, model, ..)?`.
 //! In come a store, how many blocks are unfolded, and the variables due; out goes a store at rest, or a fault.
 //! Called by db_history, which keeps the `Seating`.
 //! Takes up no decision, and knows nothing of resources. The order of work may change: rest is promised, not the way there.
 #![tactic(auto)]
 
 mod branches;
-mod closing;
+mod fixpoint;
 mod guards;
 mod items;
 pub mod laws;
@@ -18,6 +18,6 @@ mod unfolding;
 mod watching;
 
 pub use branches::look_at_branches;
-pub use closing::close;
+pub use fixpoint::bring_to_rest;
 pub use seating::Seating;
 pub use unfolding::unfold;

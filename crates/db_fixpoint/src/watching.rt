@@ -38,7 +38,7 @@ fn watch_term(
 {
     store.is_sound();
     match argument_of(alloc, store, origin, term)? {
-        NetArg::Var(variable) => store.watch(variable as usize, number),
+        NetArg::Var(variable) => store.watch(variable, number),
         NetArg::Lit(_) => Ok(()),
     }
 }

@@ -14,10 +14,10 @@ use Rattle.db_posting.specs.Tables.{HaveTables}
 use Rattle.db_posting.specs.Underway.{IsStoreUnderway}
 use Rattle.db_opening.specs.Beginning.{IsBeginning, BeginsFrom}
 use Rattle.db_fixpoint.specs.Looking.{IsOnWay}
-use Rattle.db_fixpoint.specs.Closing.{AreKnownDue, CanClose, BringsToRest}
+use Rattle.db_fixpoint.specs.Fixpoint.{AreKnownDue, CanComeToRest, BringsToRest}
 use Rattle.db_decide.specs.TakingUp.{MayFollow}
 use Rattle.timeline_core.proofs.Deciding.{none_decided}
-use Rattle.db_history.specs.Advancing.{CanFollow, AdvancesBy, StartsFrom, SettlesDown}
+use Rattle.db_history.specs.Advancing.{CanFollow, AdvancesBy, StartsFrom, BringsBeginningToRest}
 
 all_of : {X : Type 0} (P : X → Type 0) (xs : List X) → ((x : X) → Contains xs x → P x) → All P xs
 all_of P [] each = All-nil P
@@ -50,8 +50,8 @@ module _ (model : Model) (decision : Decision) (old mid : Stored) (due : List �
   on_way : (decisions : List Decision) → CanFollow model decisions old decision → IsOnWay model (decisions ++ decision ∷ []) mid (length old.blocks) (due ++ mid.net.changed)
   on_way decisions follows = record { once = follows.once; underway = taken decisions (may_follow model decisions old decision follows) }
 
-  pub can_close : (decisions : List Decision) → CanFollow model decisions old decision → CanClose model mid (length old.blocks) due
-  can_close decisions follows = (decisions ++ decision ∷ [], due ++ mid.net.changed, (known_due due mid, on_way decisions follows))
+  pub can_come_to_rest : (decisions : List Decision) → CanFollow model decisions old decision → CanComeToRest model mid (length old.blocks) due
+  can_come_to_rest decisions follows = (decisions ++ decision ∷ [], due ++ mid.net.changed, (known_due due mid, on_way decisions follows))
 
   pub advances : (new : Stored) (result : Result (Unit {0}) NetFault) → BringsToRest model (length old.blocks) due mid result new
       → OnOk result (new.net.tables ≡ mid.net.tables) → mid.net.tables ≡ old.net.tables → AdvancesBy model decision old result new
@@ -68,18 +68,18 @@ module _ (model : Model) (old : Stored) (begins : IsBeginning model old) (due : 
   pub first_way : IsOnWay model [] old 0 due
   first_way = record { once = none_decided model; underway = begins.underway due all }
 
-  pub can_begin : CanClose model old 0 due
+  pub can_begin : CanComeToRest model old 0 due
   can_begin = ([], due, (known_all due old, first_way))
 
-  pub settles_down : (new : Stored) (result : Result (Unit {0}) NetFault) → BringsToRest model 0 due old result new
-      → OnOk result (new.net.tables ≡ old.net.tables) → SettlesDown model result new
-  settles_down new (Ok done) brings tables = ((brings [] due (known_all due old) first_way).rests, subst (HaveTables model) (sym tables) begins.tables)
-  settles_down new (Err Collapsed) brings tables = brings [] due (known_all due old) first_way
-  settles_down new (Err Memory) brings tables = tt
+  pub brings_beginning_to_rest : (new : Stored) (result : Result (Unit {0}) NetFault) → BringsToRest model 0 due old result new
+      → OnOk result (new.net.tables ≡ old.net.tables) → BringsBeginningToRest model result new
+  brings_beginning_to_rest new (Ok done) brings tables = ((brings [] due (known_all due old) first_way).rests, subst (HaveTables model) (sym tables) begins.tables)
+  brings_beginning_to_rest new (Err Collapsed) brings tables = brings [] due (known_all due old) first_way
+  brings_beginning_to_rest new (Err Memory) brings tables = tt
 
-pub starts_from : (model : Model) (settled : Result (Unit {0}) NetFault) (stored : Stored) (result : Result Stored NetFault) → SettlesDown model settled stored
-    → MatchResult settled (λ done. result ≡ Ok stored) (λ fault. result ≡ Err fault) → StartsFrom model result
-starts_from model (Ok done) stored result settles is = subst (StartsFrom model) (sym is) settles
+pub starts_from : (model : Model) (rested : Result (Unit {0}) NetFault) (stored : Stored) (result : Result Stored NetFault) → BringsBeginningToRest model rested stored
+    → MatchResult rested (λ done. result ≡ Ok stored) (λ fault. result ≡ Err fault) → StartsFrom model result
+starts_from model (Ok done) stored result brings is = subst (StartsFrom model) (sym is) brings
 starts_from model (Err Collapsed) stored result fails is = subst (StartsFrom model) (sym is) fails
 starts_from model (Err Memory) stored result fails is = subst (StartsFrom model) (sym is) tt
 

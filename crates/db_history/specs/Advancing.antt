@@ -51,10 +51,10 @@ StartsFrom model (Err Collapsed) = LeaveNothing model []
 StartsFrom model (Err Memory) = ⊤
 
 -- the same of a store that is brought to rest before any decision
-abbrev pub SettlesDown : Model → Result (Unit {0}) NetFault → Stored → Type 0
-SettlesDown model (Ok done) stored = IsRestOf model [] (snapshot_of stored) × HaveTables model stored.net.tables
-SettlesDown model (Err Collapsed) stored = LeaveNothing model []
-SettlesDown model (Err Memory) stored = ⊤
+abbrev pub BringsBeginningToRest : Model → Result (Unit {0}) NetFault → Stored → Type 0
+BringsBeginningToRest model (Ok done) stored = IsRestOf model [] (snapshot_of stored) × HaveTables model stored.net.tables
+BringsBeginningToRest model (Err Collapsed) stored = LeaveNothing model []
+BringsBeginningToRest model (Err Memory) stored = ⊤
 
 -- whether the decisions leave a least state, which then is what is in the store
 abbrev pub LeavesLeast : Model → List Decision → Bool → Stored → Type 0

@@ -11,11 +11,11 @@ ghost use Rattle.db_store.specs.StoreMarks.{IsStoreMark, KeepStoreMarks};
 ghost use Rattle.db_fixpoint.specs.Seating.{IsSeatingOf, KeepsSeating};
 ghost use Rattle.db_opening.specs.Beginning.{IsBeginning};
 ghost use Rattle.db_history.specs.Advancing.{but_last, EndsAdmissibly};
-ghost use Rattle.db_history.specs.Advancing.{IsRestOf, IsLeastOf, CanFollow, AdvancesBy, StartsFrom, SettlesDown, LeavesLeast};
+ghost use Rattle.db_history.specs.Advancing.{IsRestOf, IsLeastOf, CanFollow, AdvancesBy, StartsFrom, BringsBeginningToRest, LeavesLeast};
 
 use constraint_net::NetFault;
 use db_decide::take_up;
-use db_fixpoint::{Seating, close};
+use db_fixpoint::{Seating, bring_to_rest};
 use db_resources::{resources_fit, resources_fit_since};
 use db_store::{Mark, Store};
 use model_core::decision::Decision;
@@ -37,14 +37,14 @@ fn all_numbers(alloc: Global, store: &Store) -> Result<Vec<usize>, AllocError>
 }
 
 // Brings a store that has just begun to rest: all its variables are due.
-fn settle_down(alloc: Global, store: &mut Store, model: &Model) -> Result<(), NetFault>
+fn bring_beginning_to_rest(alloc: Global, store: &mut Store, model: &Model) -> Result<(), NetFault>
     requires lawful { IsLawful model.now }
     requires beginning { IsBeginning model.now store.old }
-    ensures { SettlesDown model.now result store.new }
+    ensures { BringsBeginningToRest model.now result store.new }
 {
     let due = all_numbers(alloc, store)?;
     let mut seating = Seating::new(alloc);
-    close(alloc, store, &mut seating, model, 0, due.as_slice())
+    bring_to_rest(alloc, store, &mut seating, model, 0, due.as_slice())
 }
 
 // The value, behind what filling it answered.
@@ -63,8 +63,8 @@ fn start(alloc: Global, model: &Model) -> Result<Store, NetFault>
     ensures { StartsFrom model.now result }
 {
     let mut store = db_opening::begin(alloc, model)?;
-    let settled = settle_down(alloc, &mut store, model);
-    behind(settled, store)
+    let rested = bring_beginning_to_rest(alloc, &mut store, model);
+    behind(rested, store)
 }
 
 // Takes the decision up, and brings the store to rest.
@@ -86,7 +86,7 @@ fn advance(
 {
     let unfolded = store.block_count();
     let due = take_up(alloc, store, model, decision)?;
-    close(alloc, store, seating, model, unfolded, due.as_slice())
+    bring_to_rest(alloc, store, seating, model, unfolded, due.as_slice())
 }
 
 /// A store for no decision, and whether anything is left in it.
@@ -124,7 +124,7 @@ fn beside<T: Drop>(value: T, told: Result<bool, AllocError>) -> Result<(T, bool)
 
 /// Brings the store, which is at rest for all but the last of the decisions and marked, to rest for all of them, and answers
 /// whether they leave a least state.
-pub fn take(
+pub fn take_last_decision(
     alloc: Global,
     store: &mut Store,
     seating: &mut Seating,

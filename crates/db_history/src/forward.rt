@@ -156,13 +156,13 @@ pub fn rebuild(
     ensures err { OnErr result ((behind.new ≡ behind.old) × (kept.new ≡ kept.old)) }
     ensures kept { KeepsUnless behind.new model.now log.now kept.new }
 {
-    put(kept, build_standing(model, log))?;
+    put_value(kept, build_standing(model, log))?;
     *behind = false;
     Ok(())
 }
 
 // Puts what was made in the place of what is there, if it was made.
-fn put<T: Drop>(place: &mut T, made: Result<T, AllocError>) -> Result<(), AllocError>
+fn put_value<T: Drop>(place: &mut T, made: Result<T, AllocError>) -> Result<(), AllocError>
     ensures ok { OnOk result (made ≡ Ok place.new) }
     ensures err { OnErr result (place.new ≡ place.old) }
 {

@@ -11,8 +11,9 @@ ghost use Rattle.db_history.specs.Standing.{KeepsList};
 ghost use Rattle.db_history.specs.Kept.{KeepsHistory, KeepsUnless, LeaveState};
 
 use super::forward::{fits, go_on_from};
-use super::subject::{is_same, is_same_variable};
+use super::subject::is_same_variable;
 use crate::Standing;
+use db_refusals::is_same_token;
 use decision_log::Log;
 use model_core::decision::Decision;
 use model_core::model::Model;
@@ -119,13 +120,13 @@ fn is_same_decision(one: &Decision, other: &Decision) -> bool
         (Decision::Specify(name, value), Decision::Specify(same, equal)) => {
             value == equal && is_same_variable(name, same)
         }
-        (Decision::Activate(token), Decision::Activate(same)) => is_same(token, same),
+        (Decision::Activate(token), Decision::Activate(same)) => is_same_token(token, same),
         (Decision::Merge(token, target), Decision::Merge(same, equal)) => {
-            is_same(token, same) && is_same(target, equal)
+            is_same_token(token, same) && is_same_token(target, equal)
         }
-        (Decision::Reject(token), Decision::Reject(same)) => is_same(token, same),
+        (Decision::Reject(token), Decision::Reject(same)) => is_same_token(token, same),
         (Decision::Order(first, second), Decision::Order(same, equal)) => {
-            is_same(first, same) && is_same(second, equal)
+            is_same_token(first, same) && is_same_token(second, equal)
         }
         _ => false,
     }

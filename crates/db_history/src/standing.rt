@@ -14,7 +14,7 @@ ghost use Rattle.db_history.specs.Advancing.{but_last, EndsAdmissibly};
 ghost use Rattle.db_history.specs.Standing.{KeepsList, StandsForList, GoesOnTo};
 ghost use Rattle.db_history.specs.Seated.{AreSeatedAt};
 
-use super::advance::{begin, take};
+use super::advance::{begin, take_last_decision};
 use super::footing::Footing;
 use db_fixpoint::Seating;
 use db_store::laws::stamps_follow;
@@ -80,7 +80,7 @@ impl Standing {
         ensures err { OnErr result ((self.new.footing ≡ Rest) × KeepsList model.now (but_last decisions.now) self.new) }
         ensures stamps { IfOk result (λ footing. footing ≡ Rest → FollowStamps self.old.stored self.new.stored) }
     {
-        let fit = push(
+        let fit = push_last_decision(
             alloc,
             &mut self.store,
             &mut self.marks,
@@ -119,6 +119,9 @@ impl Standing {
     {
         &self.store
     }
+
+    /// Gives the memory back. A crate above that drops what is kept would have to prove again that all of its parts can be.
+    pub fn discard(self) {}
 }
 
 // Goes back to the mark, where the step of this number began.
@@ -137,7 +140,7 @@ fn go_back(store: &mut Store, seating: &mut Seating, mark: Mark, number: usize)
 
 // Goes on by the last of the decisions, and sets a mark before it; where nothing is left, or memory runs out, the store goes
 // back.
-fn push(
+fn push_last_decision(
     alloc: Global,
     store: &mut Store,
     marks: &mut Vec<Mark>,
@@ -160,7 +163,7 @@ fn push(
     seating.catch_up(store)?;
     seating.begin_step()?;
     let mark = store.mark();
-    match take(alloc, store, seating, model, decisions, &mark) {
+    match take_last_decision(alloc, store, seating, model, decisions, &mark) {
         Ok(true) => {
             store.is_sound();
             marks.push_reserved(mark);

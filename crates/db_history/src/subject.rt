@@ -4,6 +4,7 @@ ghost use Rattle.std.specs.Prelude.{◌≡◌, ◌↔◌, ◌<◌, IsTrue, Conta
 ghost use Rattle.model_core.specs.declared.decision.Decision.{Decision as Taken};
 ghost use Rattle.db_history.specs.Subjects.{IsOfSubject};
 
+use db_refusals::is_same_token;
 use eu_name::laws::names_are_told_apart;
 use eu_name::name::{TokenName, VarName};
 use model_core::decision::Decision;
@@ -60,9 +61,9 @@ fn decides(decision: &Decision, token: &TokenName) -> bool
     ensures { IsTrue result ↔ IsOfSubject (Subject.Token token.now) decision.now }
 {
     match decision {
-        Decision::Activate(other) => is_same(other, token),
-        Decision::Merge(other, _) => is_same(other, token),
-        Decision::Reject(other) => is_same(other, token),
+        Decision::Activate(other) => is_same_token(other, token),
+        Decision::Merge(other, _) => is_same_token(other, token),
+        Decision::Reject(other) => is_same_token(other, token),
         _ => false,
     }
 }
@@ -72,17 +73,9 @@ fn is_order(decision: &Decision, one: &TokenName, other: &TokenName) -> bool
     ensures { IsTrue result ↔ IsOfSubject (Subject.Order one.now other.now) decision.now }
 {
     match decision {
-        Decision::Order(first, second) => is_same(first, one) && is_same(second, other),
+        Decision::Order(first, second) => is_same_token(first, one) && is_same_token(second, other),
         _ => false,
     }
-}
-
-/// Whether the two names are the same.
-pub fn is_same(one: &TokenName, other: &TokenName) -> bool
-    ensures { IsTrue result ↔ (one.now ≡ other.now) }
-{
-    names_are_told_apart();
-    one == other
 }
 
 /// Whether the two variables are the same.

@@ -72,7 +72,7 @@ fn variable_at(store: &Store, key: VarKey) -> NetArg
 {
     store.is_sound();
     match store.find_variable(key) {
-        Some(number) => store.net().variable(number),
+        Some(number) => NetArg::Var(number),
         None => unreachable!(),
     }
 }

@@ -2,7 +2,7 @@
 //! In come a store, an item and where it stands (`Origin`); out goes the store with further constraints, or want of memory.
 //! Called by db_opening, db_decide and db_fixpoint; single calls serve db_refusals, db_resources and db_edges.
 //! Defines where a store stands on its way to the least state (`IsUnderway`) and when it is at rest (`IsAtRest`).
-//! Adds no token, variable or block, and settles nothing. How terms become arguments may change.
+//! Adds no token, variable or block, and propagates nothing. How terms become arguments may change.
 #![tactic(auto)]
 
 mod arguments;

@@ -1,9 +1,9 @@
--- Resources decide whether the consistent state above all others is the least closed one.
+-- Resources decide whether the propagated state above all others is the least closed one.
 use Rattle.std.proofs.Common.{List, ◌⊎◌, inl, inr}
 use Rattle.model_core.specs.declared.decision.Decision.{Decision}
 use Rattle.model_core.specs.declared.model.Model.{Model}
 use Rattle.model_core.specs.State.{State, IsBelow}
-use Rattle.plan_defs.specs.Closure.{IsConsistentState, IsLeast, IsCollapsed, AreInPlace}
+use Rattle.plan_defs.specs.Closure.{IsPropagatedState, IsLeast, IsCollapsed, AreInPlace}
 use Rattle.plan_defs.specs.Resources.{FitReusables, FitReservoirs}
 use Rattle.db_refine.specs.GrowthLaws.{IsTop}
 use Rattle.plan_defs.proofs.Reservoirs.{complete_below, reservoirs_above}

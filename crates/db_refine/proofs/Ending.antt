@@ -1,4 +1,4 @@
--- Where nothing is due any more the content is whole, and above all consistent states.
+-- Where nothing is due any more the content is whole, and above all propagated states.
 use Rattle.std.proofs.Common.{◌≡◌, ℕ, List, [], ◌∷◌, ◌++◌, length, inl, inr, sym, subst}
 use Rattle.std.specs.Prelude.{Contains}
 use Rattle.std.proofs.lemmas.List.Elements.{Contains-push_cases}
@@ -27,7 +27,7 @@ use Rattle.model_core.specs.Content.{Content, shown, AreAlike}
 use Rattle.db_refine.specs.Growth.{ends_before, HasGrown, IsWhole}
 use Rattle.db_refine.specs.GrowthLaws.{IsTop}
 use Rattle.db_refine.proofs.Alike.{alike_below, alike_back}
-use Rattle.db_refine.proofs.Whole.{whole_consistent}
+use Rattle.db_refine.proofs.Whole.{whole_propagated}
 use Rattle.db_refine.specs.Progress.{IsJustified, MissesNothing, IsUnfolded, IsFollowed, IsTurnFollowed}
 use Rattle.db_refine.proofs.Counting.{taken_cases}
 use Rattle.db_refine.proofs.Naming.{active_there}
@@ -117,7 +117,7 @@ module _ (model : Model) (decisions : List Decision) (tables : List Field) (post
 
   pub top : IsSettled model decisions → (state : State) × AreAlike (shown content) state × IsTop model decisions state
   top settled =
-      let found = whole_consistent model decisions tables posted content whole in (
+      let found = whole_propagated model decisions tables posted content whole in (
         found.0,
         found.1,
         record {

@@ -22,13 +22,13 @@ use Rattle.narrow_core.specs.declared.field.Field.{Field}
 use Rattle.constraint_net.specs.Arguments.{domain_of}
 use Rattle.constraint_net.specs.Limits.{LimitsAt}
 use Rattle.constraint_net.specs.Networks.{AllConsistent}
-use Rattle.constraint_net.specs.Steps.{SettlesTo}
+use Rattle.constraint_net.specs.Steps.{PropagatesTo}
 use Rattle.constraint_net.specs.declared.NetFault.{NetFault}
 use Rattle.constraint_net.specs.declared.NetFault.TheVariants.{Collapsed, Memory}
 use Rattle.constraint_net.specs.declared.constraint.Constraint.{Constraint}
 use Rattle.constraint_net.specs.declared.constraint.NetArg.TheVariants.{Var}
 use Rattle.plan_defs.specs.Claims.{Claim, IsClaim}
-use Rattle.plan_defs.specs.Closure.{IsConsistentState}
+use Rattle.plan_defs.specs.Closure.{IsPropagatedState}
 use Rattle.plan_defs.specs.Laws.{HaveToTurn}
 use Rattle.plan_defs.specs.Situations.{situation_of}
 use Rattle.plan_defs.proofs.Lower.{Further, supported_further, block_further}
@@ -39,9 +39,9 @@ use Rattle.model_core.specs.Content.{Content, shown, IsContent}
 use Rattle.db_refine.specs.Growth.{ends_before}
 use Rattle.db_refine.specs.GrowthLaws.{with_domains}
 use Rattle.db_refine.proofs.Owing.{nothing_above, grown_above, longer_below, longer_owes, asked_is_owed}
-use Rattle.db_refine.proofs.Settling.{settling_above}
+use Rattle.db_refine.proofs.Propagation.{propagation_above}
 use Rattle.db_refine.proofs.Showing.{stands_from, gives_from}
-use Rattle.db_refine.specs.ProgressLaws.{LimitJustifies, SettlingJustifies}
+use Rattle.db_refine.specs.ProgressLaws.{LimitJustifies, PropagationJustifies}
 use Rattle.db_refine.specs.Progress.{IsJustified}
 use Rattle.db_refine.proofs.Falling.{fallen_justified}
 use Rattle.eu_name.proofs.Places.{zip_set, set_cases}
@@ -121,19 +121,19 @@ module _ (model : Model) (decisions : List Decision) (tables : List Field) (post
     owed = All-push (SaysOwed model decisions content.names) posted constraint is.owed (claim, says, claim_owed claim asked);
   }
 
-  -- ---- settling
+  -- ---- propagation
 
-  pub settling_justified : (result : Result (Unit {0}) NetFault) (domains : List Domain)
-      → SettlesTo (AllConsistent tables posted) content.domains result domains
-      → SettlingJustifies model decisions tables posted result (with_domains content domains)
-  settling_justified (Ok done) domains settled =
-      fallen_justified content domains settled.0.within model decisions tables posted is settled.0.are
-      (settling_above model decisions tables posted content is.is_content is.fields is.owed is.above (Ok done) domains settled)
-  settling_justified (Err Memory) domains settled =
-      fallen_justified content domains settled.within model decisions tables posted is settled.are
-      (settling_above model decisions tables posted content is.is_content is.fields is.owed is.above (Err Memory) domains settled)
-  settling_justified (Err Collapsed) domains settled =
-      settling_above model decisions tables posted content is.is_content is.fields is.owed is.above (Err Collapsed) domains settled
+  pub propagation_justified : (result : Result (Unit {0}) NetFault) (domains : List Domain)
+      → PropagatesTo (AllConsistent tables posted) content.domains result domains
+      → PropagationJustifies model decisions tables posted result (with_domains content domains)
+  propagation_justified (Ok done) domains propagated =
+      fallen_justified content domains propagated.0.within model decisions tables posted is propagated.0.are
+      (propagation_above model decisions tables posted content is.is_content is.fields is.owed is.above (Ok done) domains propagated)
+  propagation_justified (Err Memory) domains propagated =
+      fallen_justified content domains propagated.within model decisions tables posted is propagated.are
+      (propagation_above model decisions tables posted content is.is_content is.fields is.owed is.above (Err Memory) domains propagated)
+  propagation_justified (Err Collapsed) domains propagated =
+      propagation_above model decisions tables posted content is.is_content is.fields is.owed is.above (Err Collapsed) domains propagated
 
   -- ---- a value that is specified
 
@@ -141,8 +141,8 @@ module _ (model : Model) (decisions : List Decision) (tables : List Field) (post
     found : (domain : Domain) × (slice_get content.domains number ≡ Some domain)
     found = get_within content.domains number (let long = is.is_content.count in let below = get_below content.names number name named in omega (arith, long, below))
 
-    -- each consistent state gives the variable that value alone
-    has_value : (state : State) → IsConsistentState model decisions state
+    -- each propagated state gives the variable that value alone
+    has_value : (state : State) → IsPropagatedState model decisions state
         → (smaller : Domain) × Gives state name smaller × IsWithin smaller found.0 × IsSingle smaller value
     has_value state fit =
         let lower = (is.above state fit).variables name found.0 (gives_from content.names content.domains number name found.0 named found.1) in
@@ -158,7 +158,7 @@ module _ (model : Model) (decisions : List Decision) (tables : List Field) (post
       limited : Content
       limited = with_domains content (slice_set content.domains number left)
 
-      limited_above : (state : State) → IsConsistentState model decisions state → (other : VarName) (domain : Domain)
+      limited_above : (state : State) → IsPropagatedState model decisions state → (other : VarName) (domain : Domain)
           → Gives (shown (with_domains content (slice_set content.domains number left))) other domain
           → (smaller : Domain) × Gives state other smaller × IsWithin smaller domain
       limited_above state fit other domain gives =

@@ -5,7 +5,7 @@ pub mod Alike
 pub mod Owing
 pub mod GrownSupport
 pub mod Agreeing
-pub mod Settling
+pub mod Propagation
 pub mod Whole
 pub mod Deciding
 pub mod Supporting

@@ -1,4 +1,4 @@
--- What a content above all consistent states asks for, each of them has.
+-- What a content above all propagated states asks for, each of them has.
 use Rattle.std.proofs.Common.{List, [], ◌++◌, inl, inr, subst}
 use Rattle.std.specs.Prelude.{Contains}
 use Rattle.domain_core.specs.Domain.{Domain, IsWithin}
@@ -12,10 +12,10 @@ use Rattle.model_core.specs.Blocks.{TokenBlock}
 use Rattle.model_core.specs.State.{State, IsAbout, GivesWithin}
 use Rattle.model_core.specs.Variables.{HasBase, IsInBase}
 use Rattle.plan_defs.specs.Claims.{Claim}
-use Rattle.plan_defs.specs.Closure.{IsConsistentState}
+use Rattle.plan_defs.specs.Closure.{IsPropagatedState}
 use Rattle.plan_defs.specs.Laws.{HaveToTurn}
 use Rattle.plan_defs.specs.Timelines.{IsOn}
-use Rattle.plan_defs.proofs.Lower.{asks_as_much, turn_below, front_consistent}
+use Rattle.plan_defs.proofs.Lower.{asks_as_much, turn_below, front_propagated}
 use Rattle.eu_name.proofs.Ordered.{contains_none}
 use Rattle.plan_defs.proofs.States.{IsBelow-trans}
 use Rattle.model_core.specs.Content.{Content, shown, IsContent, AreAlike}
@@ -41,8 +41,8 @@ in_given model name domain inner base is has within =
     let same = base_once model name base (Given domain) has is in
     subst (IsInBase inner) same within
 
--- a consistent state has each variable that it is about, within its base
-given_within : (model : Model) (decisions : List Decision) (state : State) → IsConsistentState model decisions state
+-- a propagated state has each variable that it is about, within its base
+given_within : (model : Model) (decisions : List Decision) (state : State) → IsPropagatedState model decisions state
     → (name : VarName) (domain : Domain) → IsAbout model state name → HasBase model name (Given domain) → GivesWithin state name domain
 given_within model decisions state fit name domain about is =
     let has = (fit.is_state.variables name).0 about in
@@ -50,7 +50,7 @@ given_within model decisions state fit name domain about is =
     (has.0, has.1, in_given model name domain has.0 base.0 is base.1 base.2)
 
 pub no_void : (model : Model) (decisions : List Decision) (state : State) (name : VarName)
-    → IsConsistentState model decisions state → IsAbout model state name → HasBase model name Void → ⊥
+    → IsPropagatedState model decisions state → IsAbout model state name → HasBase model name Void → ⊥
 no_void model decisions state name fit about void =
     let has = (fit.is_state.variables name).0 about in
     let base = fit.in_base name has.0 has.1 in
@@ -83,10 +83,10 @@ module _ (model : Model) (decisions : List Decision) (old new : Content) (is : I
 -- ---- longer lists
 
 pub longer_below : (model : Model) (front back : List Decision) (content : Content) → IsAboveAll model front content → IsAboveAll model (front ++ back) content
-longer_below model front back content above state fit = above state (front_consistent model front back state fit)
+longer_below model front back content above state fit = above state (front_propagated model front back state fit)
 
 pub longer_owes : (model : Model) (front back : List Decision) (claim : Claim) → IsOwed model front claim → IsOwed model (front ++ back) claim
-longer_owes model front back claim owed state fit = owed state (front_consistent model front back state fit)
+longer_owes model front back claim owed state fit = owed state (front_propagated model front back state fit)
 
 -- ---- what is asked for is owed
 
@@ -116,7 +116,7 @@ turn_alike model decisions one other alike first second p =
     }
 
 module _ (model : Model) (decisions : List Decision) (content : Content) (is : IsContent model content) (above : IsAboveAll model decisions content) where
-  turns_owed : (one other : TokenName) → HaveToTurn model decisions (shown content) one other → (state : State) → IsConsistentState model decisions state
+  turns_owed : (one other : TokenName) → HaveToTurn model decisions (shown content) one other → (state : State) → IsPropagatedState model decisions state
       → HaveToTurn model decisions state one other
   turns_owed one other p state fit =
       let state' = in_order model content is in

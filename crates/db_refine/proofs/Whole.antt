@@ -1,4 +1,4 @@
--- A whole content is a consistent state, but for its order.
+-- A whole content is a propagated state, but for its order.
 use Rattle.std.proofs.Common.{◌≡◌, ℕ, List, Some, arith}
 use Rattle.std.specs.Prelude.{slice_get}
 use Rattle.std.proofs.lemmas.List.Elements.{All-contains}
@@ -12,7 +12,7 @@ use Rattle.narrow_core.specs.declared.field.Field.{Field}
 use Rattle.constraint_net.specs.Networks.{IsConsistent}
 use Rattle.constraint_net.specs.declared.constraint.Constraint.{Constraint}
 use Rattle.plan_defs.specs.Claims.{Claim}
-use Rattle.plan_defs.specs.Closure.{IsConsistentState, IsRespected}
+use Rattle.plan_defs.specs.Closure.{IsPropagatedState, IsRespected}
 use Rattle.plan_defs.specs.Consistency.{IsClaimConsistent}
 use Rattle.plan_defs.specs.Laws.{AsksAsMuch}
 use Rattle.plan_defs.proofs.Lower.{asks_as_much}
@@ -59,7 +59,7 @@ module _ (model : Model) (decisions : List Decision) (tables : List Field) (post
       claim_from state content.names content.domains given model tables whole.fields found.0 claim found.2
       (All-contains (λ constraint. IsConsistent tables constraint content.domains) posted found.0 whole.consistent found.1)
 
-  consistent : IsConsistentState model decisions state
+  consistent : IsPropagatedState model decisions state
   consistent = record {
     is_state = in_order_state model content whole.is_content;
     tokens = λ token p. (alike.tokens token).0 ((has_all model decisions content whole.grown).tokens token (asks.tokens token p));
@@ -72,5 +72,5 @@ module _ (model : Model) (decisions : List Decision) (tables : List Field) (post
         posted_consistent _ (whole.in_turn one other turn);
   }
 
-  pub whole_consistent : (state : State) × AreAlike (shown content) state × IsConsistentState model decisions state
-  whole_consistent = (state, alike, consistent)
+  pub whole_propagated : (state : State) × AreAlike (shown content) state × IsPropagatedState model decisions state
+  whole_propagated = (state, alike, consistent)

@@ -11,7 +11,7 @@ use Rattle.constraint_net.specs.declared.constraint.Constraint.{Constraint}
 use Rattle.constraint_net.specs.declared.constraint.NetArg.{NetArg}
 use Rattle.constraint_net.specs.declared.constraint.NetArg.TheVariants.{Var, Lit}
 use Rattle.plan_defs.specs.Claims.{Claim}
-use Rattle.plan_defs.specs.Closure.{IsConsistentState}
+use Rattle.plan_defs.specs.Closure.{IsPropagatedState}
 use Rattle.plan_defs.specs.Consistency.{HasField, IsClaimConsistent}
 use Rattle.plan_defs.specs.Terms.{Argument, Value, Variable}
 
@@ -30,9 +30,9 @@ abbrev pub IsPostedIn : List VarName → List Constraint → Claim → Type 0
 IsPostedIn names constraints claim =
     (constraint : Constraint) × Contains constraints constraint × SaysClaim names constraint claim
 
--- the claim is consistent in every state that is consistent for the decisions
+-- the claim is consistent in every state that is propagated for the decisions
 abbrev pub IsOwed : Model → List Decision → Claim → Type 0
-IsOwed model decisions claim = (state : State) → IsConsistentState model decisions state → IsClaimConsistent model state claim
+IsOwed model decisions claim = (state : State) → IsPropagatedState model decisions state → IsClaimConsistent model state claim
 
 -- each constraint says a claim that is owed
 abbrev pub AreOwed : Model → List Decision → List VarName → List Constraint → Type 0

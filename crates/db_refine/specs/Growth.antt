@@ -1,4 +1,4 @@
--- How what is kept grows towards the least state: what comes is what every consistent state has.
+-- How what is kept grows towards the least state: what comes is what every propagated state has.
 use Rattle.std.specs.Prelude.{◌≡◌, ◌⊎◌, ℕ, List, [], Some, slice_get, Contains}
 use Rattle.domain_core.specs.Domain.{Domain}
 use Rattle.eu_name.specs.declared.name.TokenName.{TokenName}
@@ -20,7 +20,7 @@ use Rattle.narrow_core.specs.declared.field.Field.{Field}
 use Rattle.constraint_net.specs.Networks.{AllConsistent}
 use Rattle.constraint_net.specs.declared.constraint.Constraint.{Constraint}
 use Rattle.plan_defs.specs.Claims.{Claim, IsClaim, part_of, at_most}
-use Rattle.plan_defs.specs.Closure.{IsConsistentState, IsRespected, AreInBase}
+use Rattle.plan_defs.specs.Closure.{IsPropagatedState, IsRespected, AreInBase}
 use Rattle.plan_defs.specs.Laws.{HaveToTurn}
 use Rattle.plan_defs.specs.Resources.{OpensIn}
 use Rattle.plan_defs.specs.Situations.{situation_of}
@@ -29,14 +29,14 @@ use Rattle.eu_name.specs.declared.name.Part.TheVariants.{Start, End}
 use Rattle.model_core.specs.Content.{Content, shown, IsContent}
 use Rattle.db_refine.specs.Claims.{IsPostedIn, AreFieldsOf}
 
--- every consistent state lies below the content
+-- every propagated state lies below the content
 abbrev pub IsAboveAll : Model → List Decision → Content → Type 0
 IsAboveAll model decisions content =
-    (state : State) → IsConsistentState model decisions state → IsBelow (shown content) state
+    (state : State) → IsPropagatedState model decisions state → IsBelow (shown content) state
 
--- the decisions leave no consistent state
+-- the decisions leave no propagated state
 abbrev pub LeaveNothing : Model → List Decision → Type 0
-LeaveNothing model decisions = (state : State) → IsConsistentState model decisions state → ⊥
+LeaveNothing model decisions = (state : State) → IsPropagatedState model decisions state → ⊥
 
 -- what has come to the content is what the old one asks for, and each variable that came has its base
 pub record Grows (model : Model) (decisions : List Decision) (old new : Content) : Type 0 where
@@ -68,7 +68,7 @@ pub record HasGrown (model : Model) (decisions : List Decision) (content : Conte
 abbrev pub ends_before : TokenName → TokenName → Claim
 ends_before one other = at_most (part_of one End) (part_of other Start)
 
--- all that makes the content a consistent state: nothing that is supported is missing, each variable lies in its base, what is
+-- all that makes the content a propagated state: nothing that is supported is missing, each variable lies in its base, what is
 -- specified is granted, all that is claimed is posted, and so is what two tokens of one timeline owe each other; and what is
 -- posted is consistent
 pub record IsWhole (model : Model) (decisions : List Decision) (tables : List Field) (posted : List Constraint)

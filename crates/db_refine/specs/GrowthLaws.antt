@@ -12,12 +12,12 @@ use Rattle.model_core.specs.State.{State, IsAbout, IsState, IsBelow}
 use Rattle.model_core.specs.Variables.{HasBase}
 use Rattle.narrow_core.specs.declared.field.Field.{Field}
 use Rattle.constraint_net.specs.Networks.{AllConsistent}
-use Rattle.constraint_net.specs.Steps.{SettlesTo}
+use Rattle.constraint_net.specs.Steps.{PropagatesTo}
 use Rattle.constraint_net.specs.declared.NetFault.{NetFault}
 use Rattle.constraint_net.specs.declared.NetFault.TheVariants.{Collapsed, Memory}
 use Rattle.constraint_net.specs.declared.constraint.Constraint.{Constraint}
 use Rattle.plan_defs.specs.Claims.{Claim, IsClaim}
-use Rattle.plan_defs.specs.Closure.{IsConsistentState, IsLeast, IsCollapsed, AreInPlace}
+use Rattle.plan_defs.specs.Closure.{IsPropagatedState, IsLeast, IsCollapsed, AreInPlace}
 use Rattle.plan_defs.specs.Laws.{HaveToTurn}
 use Rattle.plan_defs.specs.Resources.{FitReusables, FitReservoirs}
 use Rattle.plan_defs.specs.Situations.{situation_of}
@@ -42,14 +42,14 @@ NothingIsAboveAll =
     (model : Model) (decisions : List Decision)
     → IsAboveAll model decisions (record { tokens = []; blocks = []; names = []; domains = [] })
 
--- a content that grows stays above all consistent states
+-- a content that grows stays above all propagated states
 abbrev pub GrowingStaysAbove : Type 0
 GrowingStaysAbove =
     (model : Model) (decisions : List Decision) (old new : Content)
     → IsContent model new → Grows model decisions old new
     → IsAboveAll model decisions old → IsAboveAll model decisions new
 
--- what is above all that is consistent for a list is above all that is so for a longer one
+-- what is above all that is propagated for a list is above all that is so for a longer one
 abbrev pub LongerListsStayBelow : Type 0
 LongerListsStayBelow =
     (model : Model) (front back : List Decision) (content : Content)
@@ -65,9 +65,9 @@ LongerListsOweAsMuch =
 abbrev pub VoidLeavesNothing : Type 0
 VoidLeavesNothing =
     (model : Model) (decisions : List Decision) (state : State) (name : VarName)
-    → IsConsistentState model decisions state → IsAbout model state name → HasBase model name Void → ⊥
+    → IsPropagatedState model decisions state → IsAbout model state name → HasBase model name Void → ⊥
 
--- what settling a network of what is owed answers and leaves
+-- what propagating a network of what is owed answers and leaves
 abbrev pub KeepsAbove : Model → List Decision → Result (Unit {0}) NetFault → Content → Type 0
 KeepsAbove model decisions (Ok done) new = IsAboveAll model decisions new
 KeepsAbove model decisions (Err Memory) new = IsAboveAll model decisions new
@@ -77,13 +77,13 @@ KeepsAbove model decisions (Err Collapsed) new = LeaveNothing model decisions
 abbrev pub with_domains : Content → List Domain → Content
 with_domains content domains = record content { domains = domains }
 
--- settling a network of what is owed stays above all consistent states, and where nothing is left there are none
-abbrev pub SettlingStaysAbove : Type 0
-SettlingStaysAbove =
+-- propagating a network of what is owed stays above all propagated states, and where nothing is left there are none
+abbrev pub PropagationStaysAbove : Type 0
+PropagationStaysAbove =
     (model : Model) (decisions : List Decision) (tables : List Field) (posted : List Constraint) (content : Content)
     (result : Result (Unit {0}) NetFault) (domains : List Domain)
     → IsContent model content → AreFieldsOf model tables → AreOwed model decisions content.names posted
-    → IsAboveAll model decisions content → SettlesTo (AllConsistent tables posted) content.domains result domains
+    → IsAboveAll model decisions content → PropagatesTo (AllConsistent tables posted) content.domains result domains
     → KeepsAbove model decisions result (with_domains content domains)
 
 -- ---- what is owed
@@ -91,10 +91,10 @@ SettlingStaysAbove =
 -- what a content above all claims, and that tokens take turns on timelines, is owed
 pub record IsOwedBelow (model : Model) (decisions : List Decision) (content : Content) : Type 0 where
   pub tokens : (token : TokenName) → IsSupportedToken model (situation_of decisions (shown content)) token
-      → (state : State) → IsConsistentState model decisions state → Contains state.tokens token
+      → (state : State) → IsPropagatedState model decisions state → Contains state.tokens token
   pub blocks : (block : TokenBlock) (entries : Entries)
       → IsSupportedBlock model (situation_of decisions (shown content)) block entries
-      → (state : State) → IsConsistentState model decisions state → Contains state.blocks block
+      → (state : State) → IsPropagatedState model decisions state → Contains state.blocks block
   pub claims : (claim : Claim) → IsClaim model decisions (shown content) claim → IsOwed model decisions claim
   pub turns : (one other : TokenName)
       → HaveToTurn model decisions (shown content) one other → IsOwed model decisions (ends_before other one)
@@ -119,12 +119,12 @@ GrownHasAll =
     (model : Model) (decisions : List Decision) (content : Content)
     → HasGrown model decisions content → HasAllSupported model decisions content
 
--- a whole content is a consistent state, but for its order
-abbrev pub WholeIsConsistent : Type 0
-WholeIsConsistent =
+-- a whole content is a propagated state, but for its order
+abbrev pub WholeIsPropagated : Type 0
+WholeIsPropagated =
     (model : Model) (decisions : List Decision) (tables : List Field) (posted : List Constraint) (content : Content)
     → IsWhole model decisions tables posted content
-    → (state : State) × AreAlike (shown content) state × IsConsistentState model decisions state
+    → (state : State) × AreAlike (shown content) state × IsPropagatedState model decisions state
 
 -- ---- resources
 
@@ -135,19 +135,19 @@ ReusablesFitAbove =
     → IsState model high → IsState model low → IsBelow high low
     → FitReusables model decisions low → FitReusables model decisions high
 
--- where no further token can come in the higher of two consistent states, the lower one can come of no others, and a reservoir
+-- where no further token can come in the higher of two propagated states, the lower one can come of no others, and a reservoir
 -- that fits further down fits
 abbrev pub ReservoirsFitAbove : Type 0
 ReservoirsFitAbove =
     (model : Model) (decisions : List Decision) (high low : State)
-    → IsConsistentState model decisions high → IsConsistentState model decisions low → IsBelow high low
+    → IsPropagatedState model decisions high → IsPropagatedState model decisions low → IsBelow high low
     → AreInPlace model decisions high
     → FitReservoirs model decisions low → FitReservoirs model decisions high
 
--- a consistent state that is above all others is the least closed one if resources fit, and else there is no closed state
+-- a propagated state that is above all others is the least closed one if resources fit, and else there is no closed state
 pub record IsTop (model : Model) (decisions : List Decision) (state : State) : Type 0 where
-  pub consistent : IsConsistentState model decisions state
-  pub above : (other : State) → IsConsistentState model decisions other → IsBelow state other
+  pub consistent : IsPropagatedState model decisions state
+  pub above : (other : State) → IsPropagatedState model decisions other → IsBelow state other
   pub in_place : AreInPlace model decisions state
 
 -- what looking at resources finds: that they fit, or that some don't

@@ -31,7 +31,7 @@ use Rattle.db_refine.specs.Growth.{IsAboveAll, ends_before}
 
 -- ---- what is there has to be there
 
--- the content is above every consistent state, all that is in it is supported and in its base, and what is posted is owed
+-- the content is above every propagated state, all that is in it is supported and in its base, and what is posted is owed
 pub record IsJustified (model : Model) (decisions : List Decision) (tables : List Field) (posted : List Constraint)
     (content : Content) : Type 0 where
   pub is_content : IsContent model content

@@ -29,7 +29,7 @@ use Rattle.narrow_core.specs.declared.field.Field.{Field}
 use Rattle.constraint_net.specs.Calls.{Notes}
 use Rattle.constraint_net.specs.Limits.{LimitsAt}
 use Rattle.constraint_net.specs.Networks.{AllConsistent}
-use Rattle.constraint_net.specs.Steps.{SettlesTo}
+use Rattle.constraint_net.specs.Steps.{PropagatesTo}
 use Rattle.constraint_net.specs.declared.NetFault.{NetFault}
 use Rattle.constraint_net.specs.declared.NetFault.TheVariants.{Collapsed, Memory}
 use Rattle.constraint_net.specs.declared.constraint.Constraint.{Constraint}
@@ -133,7 +133,7 @@ LimitJustifies model decisions tables posted new Same = IsJustified model decisi
 LimitJustifies model decisions tables posted new Smaller = IsJustified model decisions tables posted new
 LimitJustifies model decisions tables posted new Empty = LeaveNothing model decisions
 
--- a variable may be limited to the value that is specified, and where nothing is left there is no consistent state
+-- a variable may be limited to the value that is specified, and where nothing is left there is no propagated state
 abbrev pub SpecifyingIsJustified : Type 0
 SpecifyingIsJustified =
     (model : Model) (decisions : List Decision) (tables : List Field) (posted : List Constraint) (content : Content)
@@ -156,21 +156,21 @@ SpecifyingGrants =
     → LimitsAt content.domains number (Range value value) change domains → (change ≡ Empty → ⊥)
     → IsLimited content name value domains
 
--- what settling comes to
-abbrev pub SettlingJustifies : Model → List Decision → List Field → List Constraint → Result (Unit {0}) NetFault → Content
+-- what propagation comes to
+abbrev pub PropagationJustifies : Model → List Decision → List Field → List Constraint → Result (Unit {0}) NetFault → Content
     → Type 0
-SettlingJustifies model decisions tables posted (Ok done) new = IsJustified model decisions tables posted new
-SettlingJustifies model decisions tables posted (Err Memory) new = IsJustified model decisions tables posted new
-SettlingJustifies model decisions tables posted (Err Collapsed) new = LeaveNothing model decisions
+PropagationJustifies model decisions tables posted (Ok done) new = IsJustified model decisions tables posted new
+PropagationJustifies model decisions tables posted (Err Memory) new = IsJustified model decisions tables posted new
+PropagationJustifies model decisions tables posted (Err Collapsed) new = LeaveNothing model decisions
 
--- the network may be settled, and where nothing is left there is no consistent state
-abbrev pub SettlingIsJustified : Type 0
-SettlingIsJustified =
+-- the network may be propagated, and where nothing is left there is no propagated state
+abbrev pub PropagationIsJustified : Type 0
+PropagationIsJustified =
     (model : Model) (decisions : List Decision) (tables : List Field) (posted : List Constraint) (content : Content)
     (result : Result (Unit {0}) NetFault) (domains : List Domain)
     → IsJustified model decisions tables posted content
-    → SettlesTo (AllConsistent tables posted) content.domains result domains
-    → SettlingJustifies model decisions tables posted result (with_domains content domains)
+    → PropagatesTo (AllConsistent tables posted) content.domains result domains
+    → PropagationJustifies model decisions tables posted result (with_domains content domains)
 
 -- ---- nothing is missed
 
@@ -303,7 +303,7 @@ WhatMissesNothingIsWhole =
     → AllConsistent tables posted content.domains
     → IsWhole model decisions tables posted content
 
--- so the decisions leave a consistent state that is above all others
+-- so the decisions leave a propagated state that is above all others
 abbrev pub WholeIsTop : Type 0
 WholeIsTop =
     (model : Model) (decisions : List Decision) (tables : List Field) (posted : List Constraint) (content : Content)

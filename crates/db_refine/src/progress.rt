@@ -2,7 +2,7 @@
 
 ghost use Rattle.db_refine.specs.ProgressLaws.{RootsAreSupported, RulesAreSupported, BranchesAreSupported, SlotsAreSupported};
 ghost use Rattle.db_refine.specs.ProgressLaws.{GlobalsAreJustified, LongerListsJustify, TokensComeJustified, BlocksComeJustified};
-ghost use Rattle.db_refine.specs.ProgressLaws.{PostingIsJustified, SpecifyingIsJustified, SpecifyingGrants, SettlingIsJustified};
+ghost use Rattle.db_refine.specs.ProgressLaws.{PostingIsJustified, SpecifyingIsJustified, SpecifyingGrants, PropagationIsJustified};
 ghost use Rattle.db_refine.specs.ProgressLaws.{NothingIsMissedAtFirst, TokensComeComplete, BlocksComeComplete, PostingMissesNothing};
 ghost use Rattle.db_refine.specs.ProgressLaws.{FallingMissesNothing, UnfoldingMissesNothing, LookingMissesNothing};
 ghost use Rattle.db_refine.specs.ProgressLaws.{StaleNumbersMissNothing, DecidingMissesNothing, WhatIsNamedIsThere};
@@ -28,12 +28,12 @@ pub fn what_is_supported_may_come()
     ensures blocks { BlocksComeJustified }
 {}
 
-/// It stays so where what is claimed is posted, what is specified is granted, and the network is settled.
+/// It stays so where what is claimed is posted, what is specified is granted, and the network is propagated.
 pub fn what_is_claimed_may_be_asked()
     ensures posting { PostingIsJustified }
     ensures specifying { SpecifyingIsJustified }
     ensures granting { SpecifyingGrants }
-    ensures settling { SettlingIsJustified }
+    ensures propagation { PropagationIsJustified }
 {}
 
 /// What misses nothing at first, and still does where tokens and blocks come, constraints are posted and domains fall.
@@ -58,7 +58,7 @@ pub fn what_is_named_is_there()
     ensures { WhatIsNamedIsThere }
 {}
 
-/// Where nothing is due any more the content is whole, and so a consistent state that is above all others.
+/// Where nothing is due any more the content is whole, and so a propagated state that is above all others.
 pub fn what_misses_nothing_is_whole()
     ensures whole { WhatMissesNothingIsWhole }
     ensures top { WholeIsTop }

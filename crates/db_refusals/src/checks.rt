@@ -35,7 +35,7 @@ fn specifies(decision: &Decision, name: &VarName) -> bool
 }
 
 /// Whether the two are one token.
-pub fn is_same(one: &TokenName, other: &TokenName) -> bool
+pub fn is_same_token(one: &TokenName, other: &TokenName) -> bool
     ensures { IsTrue result ↔ (one.now ≡ other.now) }
 {
     names_are_told_apart();

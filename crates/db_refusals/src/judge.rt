@@ -13,7 +13,7 @@ ghost use Rattle.db_store.specs.Stores.{snapshot_of, named_content};
 ghost use Rattle.db_refusals.specs.Judging.{AreTold};
 ghost use Rattle.db_refusals.specs.Reasons.{IsFirstReason};
 
-use super::checks::{is_same, is_specified};
+use super::checks::{is_same_token, is_specified};
 use super::tokens::{is_full, state_of, undecided, variable_counts};
 use crate::are_ordered;
 use db_posting::is_rejectable;
@@ -149,7 +149,7 @@ fn against_order(
     if !takes_place(second) {
         return Some(Refusal::NotActive);
     }
-    if is_same(one, other) {
+    if is_same_token(one, other) {
         return Some(Refusal::SameToken);
     }
     None

@@ -10,6 +10,7 @@ mod laws;
 mod tokens;
 mod view;
 
+pub use checks::is_same_token;
 pub use judge::first_reason;
 pub use laws::contents_are_seen_as_states;
 pub use tokens::state_of;

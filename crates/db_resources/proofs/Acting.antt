@@ -149,8 +149,8 @@ module _ (state : State) (order : AreInOrder state) where
       (order.tokens one other token before (slice_get_within state.tokens other token at'))) in
       token_order.irreflexive token pair
 
-  pub place_once : (one other : ℕ) (token : TokenName) → IsTokenAt state one token → IsTokenAt state other token → one ≡ other
-  place_once one other token at at' = elim (cases_lt one other) [
+  pub token_place_once : (one other : ℕ) (token : TokenName) → IsTokenAt state one token → IsTokenAt state other token → one ≡ other
+  token_place_once one other token at at' = elim (cases_lt one other) [
     | inl before ↦ absurd (not_before one other token before at at')
     | inr rest ↦ elim (cases_lt other one) [
       | inl behind ↦ absurd (not_before other one token behind at' at)
@@ -160,7 +160,7 @@ module _ (state : State) (order : AreInOrder state) where
 
   measured_once : (token : TokenName) (one other : Actor) → one.kind ≡ other.kind → IsMeasured state token one → IsMeasured state token other → one ≡ other
   measured_once token one other kind p q =
-      let place : one.place ≡ other.place = place_once one.place other.place token p.at q.at in
+      let place : one.place ≡ other.place = token_place_once one.place other.place token p.at q.at in
       let start : p.start ≡ q.start = gives_same state order (Token token Start) p.start q.start p.gives_start q.gives_start in
       let end : p.end ≡ q.end = gives_same state order (Token token End) p.end q.end p.gives_end q.gives_end in
       let quantity : p.quantity ≡ q.quantity = gives_same state order (Token token (Param 0)) p.quantity q.quantity p.gives_quantity q.gives_quantity in

@@ -13,7 +13,7 @@ use Rattle.model_core.specs.Entries.{Entries}
 use Rattle.model_core.specs.Numbers.{turned}
 use Rattle.db_store.specs.declared.key.OpenBlock.{OpenBlock}
 use Rattle.db_store.specs.Stores.{Stored}
-use Rattle.db_resources.specs.Completeness.{IsSettledEntry, AreSettledIn}
+use Rattle.db_resources.specs.Completeness.{IsCertainEntry, AreCertainIn}
 
 -- ---- entries
 
@@ -43,17 +43,17 @@ branch_plain (Branch one first second ∷ more) (suc place) guard then otherwise
 
 module _ (model : Model) (stored : Stored) (block : OpenBlock) (entries : List Entry) where
   -- all entries are such, and so are the branches among them
-  pub entries_settled : ((place : ℕ) (entry : Entry) → slice_get entries place ≡ Some entry → IsSettledEntry model stored block place entry)
-      → AreSettledIn model stored block (plain_entries entries)
-  entries_settled all place guard then otherwise at = all place (Branch guard then otherwise) (branch_kept entries place guard then otherwise at)
+  pub entries_certain : ((place : ℕ) (entry : Entry) → slice_get entries place ≡ Some entry → IsCertainEntry model stored block place entry)
+      → AreCertainIn model stored block (plain_entries entries)
+  entries_certain all place guard then otherwise at = all place (Branch guard then otherwise) (branch_kept entries place guard then otherwise at)
 
   -- and back
-  pub settled_entry : AreSettledIn model stored block (plain_entries entries) → (place : ℕ) (entry : Entry) → slice_get entries place ≡ Some entry
-      → IsSettledEntry model stored block place entry
-  settled_entry all place (Slot slot) at = tt
-  settled_entry all place (Local local) at = tt
-  settled_entry all place (Item item) at = tt
-  settled_entry all place (Branch guard then otherwise) at = all place guard then otherwise (branch_plain entries place guard then otherwise at)
+  pub certain_entry : AreCertainIn model stored block (plain_entries entries) → (place : ℕ) (entry : Entry) → slice_get entries place ≡ Some entry
+      → IsCertainEntry model stored block place entry
+  certain_entry all place (Slot slot) at = tt
+  certain_entry all place (Local local) at = tt
+  certain_entry all place (Item item) at = tt
+  certain_entry all place (Branch guard then otherwise) at = all place guard then otherwise (branch_plain entries place guard then otherwise at)
 
 -- ---- the last turn
 

@@ -1,4 +1,4 @@
--- In a store at rest, no further token can come exactly where something is decided of each token, and each branch is settled.
+-- In a store at rest, no further token can come exactly where something is decided of each token, and each branch is certain.
 use Rattle.std.proofs.Common.{◌≡◌, ℕ, zero, suc, ◌<◌, List, [], ◌∷◌, inl, inr, length, map, Some, sym, ◌∙◌, ap, subst, arith}
 use Rattle.std.specs.Prelude.{slice_get, Contains, AllPairs, ◌≢◌, ⊤}
 use Rattle.std.proofs.lemmas.List.{length-map}
@@ -47,7 +47,7 @@ use Rattle.db_refusals.proofs.Full.{kept_somehow}
 use Rattle.db_refusals.proofs.Resting.{rest_told}
 use Rattle.db_refusals.specs.InOrder.{state_of}
 use Rattle.db_refusals.proofs.Seen.{put_in_order}
-use Rattle.db_resources.specs.Completeness.{AreAllDecided, IsRootOut, block_behind, IsSettledBranch, AreAllSettled, AreBlocksOf}
+use Rattle.db_resources.specs.Completeness.{AreAllDecided, IsRootOut, block_behind, IsCertainBranch, AreAllCertain, AreBlocksOf}
 use Rattle.db_resources.proofs.Branching.{last_turn}
 
 -- ---- blocks by their names
@@ -213,19 +213,19 @@ module _ (model : Model) (decisions : List Decision) (stored : Stored) (is : IsS
       let same = same_open names is.tokens_once found.0 (block_behind one place side) (token_below found.0 found.1.0) (token_below one here) found.1.1 in
       subst (Contains stored.blocks) same found.1.0
 
-  pub all_certain : AreAllSettled model stored → (block : TokenBlock) (entries : Entries) (guard : Guard) (then otherwise : Entries)
+  pub all_certain : AreAllCertain model stored → (block : TokenBlock) (entries : Entries) (guard : Guard) (then otherwise : Entries)
       → IsSupportedBlock model (situation_of decisions seen) block entries → Contains (direct entries) (OfBranch guard then otherwise) → IsCertain model decisions seen block guard
-  all_certain settled block entries guard then otherwise supported stands =
+  all_certain branches block entries guard then otherwise supported stands =
       let up = block_further model (situation_of decisions seen) (situation_of decisions (shown content)) further_back block entries supported in
       let found = unmapped (named_block names) stored.blocks block (supported_there.blocks block entries up) in
       let at = get_from_contains stored.blocks found.0 found.1.0 in
       let is_block : IsBlock model block entries = HasBlock-map model _ (λ g s. ⊤) (λ g s allows. tt) block entries up.is_open.has_block in
       let place = get_from_contains (direct entries) (OfBranch guard then otherwise) stands in
-      let branch = settled at.0 found.0 entries at.1 (subst (λ b. IsBlock model b entries) (sym found.1.1) is_block) place.0 guard then otherwise place.1 in
+      let branch = branches at.0 found.0 entries at.1 (subst (λ b. IsBlock model b entries) (sym found.1.1) is_block) place.0 guard then otherwise place.1 in
       certain_of found.0 block found.1.1 entries place.0 is_block place.1 branch
     where
       certain_of : (one : OpenBlock) (block : TokenBlock) → named_block names one ≡ block → (entries : Entries) (place : ℕ) → IsBlock model block entries
-          → slice_get (direct entries) place ≡ Some (OfBranch guard then otherwise) → IsSettledBranch model stored one place guard → IsCertain model decisions seen block guard
+          → slice_get (direct entries) place ≡ Some (OfBranch guard then otherwise) → IsCertainBranch model stored one place guard → IsCertain model decisions seen block guard
       certain_of one block same entries place is_block at (inl (inl behind)) =
           inl (inl (open_opens block entries place guard then otherwise Then is_block at (subst (λ (b : TokenBlock). Contains content.blocks (block_at b.token b.rule (turned b.path place Then))) same (named_open one place Then behind))))
       certain_of one block same entries place is_block at (inl (inr behind)) =
@@ -235,7 +235,7 @@ module _ (model : Model) (decisions : List Decision) (stored : Stored) (is : IsS
 
   certain_all : ((block : TokenBlock) (entries : Entries) (guard : Guard) (then otherwise : Entries)
       → IsSupportedBlock model (situation_of decisions seen) block entries → Contains (direct entries) (OfBranch guard then otherwise) → IsCertain model decisions seen block guard)
-      → AreAllSettled model stored
+      → AreAllCertain model stored
   certain_all certain number one entries at is_block place guard then otherwise stands =
       let here = contains_from_get stored.blocks number one at in
       let block = named_block names one in
@@ -244,26 +244,26 @@ module _ (model : Model) (decisions : List Decision) (stored : Stored) (is : IsS
       let same : entries ≡ up.0 = block_once model (λ g s. ⊤) _ block entries up.0 is_block up.1.is_open.has_block in
       let supported = block_further model (situation_of decisions (shown content)) (situation_of decisions seen) further_on block entries
       (subst (IsSupportedBlock model (situation_of decisions (shown content)) block) (sym same) up.1) in
-      settled_of there here (certain block entries guard then otherwise supported (contains_from_get (direct entries) place (OfBranch guard then otherwise) stands))
+      branch_certain there here (certain block entries guard then otherwise supported (contains_from_get (direct entries) place (OfBranch guard then otherwise) stands))
     where
       named_here : (number : ℕ) (one : OpenBlock) → slice_get stored.blocks number ≡ Some one → Contains content.blocks (named_block names one)
       named_here number one at = contains_from_get content.blocks number (named_block names one) (mapped (named_block names) stored.blocks number one at)
 
-      settled_of : Contains content.blocks (named_block names one) → Contains stored.blocks one
-          → IsCertain model decisions seen (named_block names one) guard → IsSettledBranch model stored one place guard
-      settled_of there here (inl (inl opens)) = inl (inl (open_named one place Then here (opens_open (named_block names one) entries place guard then otherwise Then there is_block stands opens)))
-      settled_of there here (inl (inr opens)) = inl (inr (open_named one place Otherwise here (opens_open (named_block names one) entries place guard then otherwise Otherwise there is_block stands opens)))
-      settled_of there here (inr (inl of)) = inr (inl (rejected_out _ of))
-      settled_of there here (inr (inr of)) = inr (inr (rejected_out _ of))
+      branch_certain : Contains content.blocks (named_block names one) → Contains stored.blocks one
+          → IsCertain model decisions seen (named_block names one) guard → IsCertainBranch model stored one place guard
+      branch_certain there here (inl (inl opens)) = inl (inl (open_named one place Then here (opens_open (named_block names one) entries place guard then otherwise Then there is_block stands opens)))
+      branch_certain there here (inl (inr opens)) = inl (inr (open_named one place Otherwise here (opens_open (named_block names one) entries place guard then otherwise Otherwise there is_block stands opens)))
+      branch_certain there here (inr (inl of)) = inr (inl (rejected_out _ of))
+      branch_certain there here (inr (inr of)) = inr (inr (rejected_out _ of))
 
-  pub complete_from : AreAllDecided (tokens_now stored.past) → AreAllSettled model stored → IsTokenComplete model decisions seen
-  complete_from decided settled = record { tokens = all_decided decided; guards = all_certain settled }
+  pub complete_from : AreAllDecided (tokens_now stored.past) → AreAllCertain model stored → IsTokenComplete model decisions seen
+  complete_from decided branches = record { tokens = all_decided decided; guards = all_certain branches }
 
   pub complete_decided : IsTokenComplete model decisions seen → AreAllDecided (tokens_now stored.past)
   complete_decided complete = decided_all complete.tokens
 
-  pub complete_settled : IsTokenComplete model decisions seen → AreAllSettled model stored
-  complete_settled complete = certain_all complete.guards
+  pub complete_certain : IsTokenComplete model decisions seen → AreAllCertain model stored
+  complete_certain complete = certain_all complete.guards
 
   pub blocks_there : AreBlocksOf model stored
   blocks_there number one at =

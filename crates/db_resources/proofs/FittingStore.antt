@@ -19,8 +19,8 @@ use Rattle.plan_defs.specs.Unordered.{AreDecidedOnce}
 use Rattle.token_store.specs.Tokens.{tokens_now}
 use Rattle.db_refusals.specs.Seeing.{seen_state}
 use Rattle.db_refusals.proofs.Seen.{have_states, one_state}
-use Rattle.db_resources.specs.Completeness.{AreAllDecided, AreAllSettled}
-use Rattle.db_resources.proofs.Completing.{alike, misses, complete_from, complete_decided, complete_settled}
+use Rattle.db_resources.specs.Completeness.{AreAllDecided, AreAllCertain}
+use Rattle.db_resources.proofs.Completing.{alike, misses, complete_from, complete_decided, complete_certain}
 
 module _ (model : Model) (decisions : List Decision) (stored : Stored) (is : IsSnapshot (snapshot_of stored)) (once : AreDecidedOnce model decisions)
     (rest : IsAtRest model decisions stored.net.tables (snapshot_of stored)) where
@@ -38,21 +38,21 @@ module _ (model : Model) (decisions : List Decision) (stored : Stored) (is : IsS
   pub levels_undecided : (AreAllDecided (tokens_now stored.past) → ⊥) → FitReservoirs model decisions seen
   levels_undecided more complete = absurd (more (complete_decided model decisions stored is once rest complete))
 
-  pub levels_unsettled : (AreAllSettled model stored → ⊥) → FitReservoirs model decisions seen
-  levels_unsettled more complete = absurd (more (complete_settled model decisions stored is once rest complete))
+  pub levels_uncertain : (AreAllCertain model stored → ⊥) → FitReservoirs model decisions seen
+  levels_uncertain more complete = absurd (more (complete_certain model decisions stored is once rest complete))
 
   pub levels_hold : FitLevels model decisions seen → FitReservoirs model decisions seen
   levels_hold levels complete = levels
 
-  pub levels_break : AreAllDecided (tokens_now stored.past) → AreAllSettled model stored → (FitLevels model decisions seen → ⊥) → FitReservoirs model decisions seen → ⊥
-  levels_break decided settled none fits = none (fits (complete_from model decisions stored is once rest decided settled))
+  pub levels_break : AreAllDecided (tokens_now stored.past) → AreAllCertain model stored → (FitLevels model decisions seen → ⊥) → FitReservoirs model decisions seen → ⊥
+  levels_break decided certain none fits = none (fits (complete_from model decisions stored is once rest decided certain))
 
-  -- where levels break and all is decided, they fit exactly if some branch isn't settled
-  pub levels_open : (settled : Bool) → AreAllDecided (tokens_now stored.past) → (FitLevels model decisions seen → ⊥)
-      → MatchBool settled (AreAllSettled model stored) (AreAllSettled model stored → ⊥)
-      → MatchBool (not settled) (FitReservoirs model decisions seen) (FitReservoirs model decisions seen → ⊥)
+  -- where levels break and all is decided, they fit exactly if some branch isn't certain
+  pub levels_open : (certain : Bool) → AreAllDecided (tokens_now stored.past) → (FitLevels model decisions seen → ⊥)
+      → MatchBool certain (AreAllCertain model stored) (AreAllCertain model stored → ⊥)
+      → MatchBool (not certain) (FitReservoirs model decisions seen) (FitReservoirs model decisions seen → ⊥)
   levels_open true decided none all = levels_break decided all none
-  levels_open false decided none some = levels_unsettled some
+  levels_open false decided none some = levels_uncertain some
 
   pub top : IsSettled model decisions → IsTop model decisions seen
   top settled =

@@ -34,9 +34,9 @@ use Rattle.db_refusals.specs.Seeing.{seen_state}
 use Rattle.plan_defs.specs.Unordered.{AreDecidedOnce}
 use Rattle.token_store.specs.Tokens.{tokens_now}
 use Rattle.db_resources.specs.declared.touched.Resources.TheVariants.{Reservoirs}
-use Rattle.db_resources.specs.Completeness.{IsRootOut, block_behind, IsSettledBranch, AreAllSettled}
+use Rattle.db_resources.specs.Completeness.{IsRootOut, block_behind, IsCertainBranch, AreAllCertain}
 use Rattle.db_resources.specs.Touching.{ActsOn, AreActorsAsBefore, DecidesNoToken}
-use Rattle.db_resources.proofs.Completing.{token_here, here_supported, out_rejected, rejected_out, token_below, all_certain, complete_settled}
+use Rattle.db_resources.proofs.Completing.{token_here, here_supported, out_rejected, rejected_out, token_below, all_certain, complete_certain}
 use Rattle.db_resources.proofs.Remaining.{names, ordered, token_there, names_still, tokens_still, name_still, taken_still, taken_before, active_still}
 use Rattle.db_resources.proofs.Remaining as remaining
 
@@ -89,7 +89,7 @@ module _ (model : Model) (decisions earlier : List Decision) (last : Decision) (
       rejected_out model earlier former was once_then before named
       (rejected_before model decisions earlier last longer none named (out_rejected model decisions stored is once rest named out))
 
-  branch_before : (block : OpenBlock) (place : ℕ) (guard : Guard) → IsSettledBranch model stored block place guard → IsSettledBranch model former block place guard
+  branch_before : (block : OpenBlock) (place : ℕ) (guard : Guard) → IsCertainBranch model stored block place guard → IsCertainBranch model former block place guard
   branch_before block place guard (inl (inl there)) = inl (inl (subst (λ (blocks : List OpenBlock). Contains blocks (block_behind block place Then)) opened there))
   branch_before block place guard (inl (inr there)) = inl (inr (subst (λ (blocks : List OpenBlock). Contains blocks (block_behind block place Otherwise)) opened there))
   branch_before block place guard (inr (inl out)) = inr (inl (out_before _ out))
@@ -100,19 +100,19 @@ module _ (model : Model) (decisions earlier : List Decision) (last : Decision) (
       let name = name_still former stored was is on block.token (token_below model earlier former was once_then before block there) in
       λ i. record { token = sym name i; rule = block.rule; path = block.path }
 
-  settled_before : AreAllSettled model stored → AreAllSettled model former
-  settled_before settled number block entries at has place guard then otherwise stands =
+  certain_before : AreAllCertain model stored → AreAllCertain model former
+  certain_before branches number block entries at has place guard then otherwise stands =
       let here : slice_get stored.blocks number ≡ Some block = ap (λ (blocks : List OpenBlock). slice_get blocks number) opened ∙ at in
       let named = named_still block (contains_from_get former.blocks number block at) in
       branch_before block place guard
-      (settled number block entries here (subst (λ (b : TokenBlock). IsBlock model b entries) named has) place guard then otherwise stands)
+      (branches number block entries here (subst (λ (b : TokenBlock). IsBlock model b entries) named has) place guard then otherwise stands)
 
   complete_before : IsTokenComplete model decisions (seen_state stored) → IsTokenComplete model earlier (seen_state former)
   complete_before complete = record {
     tokens = λ token supported. decided_before model decisions earlier last longer none token
         (complete.tokens token (here_supported model decisions stored is once rest token
         (names_still former stored was is on token (token_here model earlier former was once_then before token supported))));
-    guards = all_certain model earlier former was once_then before (settled_before (complete_settled model decisions stored is once rest complete));
+    guards = all_certain model earlier former was once_then before (certain_before (complete_certain model decisions stored is once rest complete));
   }
 
   -- ---- levels

@@ -44,35 +44,35 @@ IsOneOpen stored block place =
     Contains stored.blocks (block_behind block place Then) ⊎ Contains stored.blocks (block_behind block place Otherwise)
 
 -- it is, or the guard names a root that is rejected
-abbrev pub IsSettledBranch : Model → Stored → OpenBlock → ℕ → Guard → Type 0
-IsSettledBranch model stored block place guard =
+abbrev pub IsCertainBranch : Model → Stored → OpenBlock → ℕ → Guard → Type 0
+IsCertainBranch model stored block place guard =
     IsOneOpen stored block place ⊎ NamesOneOut model (tokens_now stored.past) guard
 
 -- the entry, if it is a branch, is such
-abbrev pub IsSettledEntry : Model → Stored → OpenBlock → ℕ → Entry → Type 0
-IsSettledEntry model stored block place (entry.Branch guard then otherwise) = IsSettledBranch model stored block place guard
-IsSettledEntry model stored block place other = ⊤
+abbrev pub IsCertainEntry : Model → Stored → OpenBlock → ℕ → Entry → Type 0
+IsCertainEntry model stored block place (entry.Branch guard then otherwise) = IsCertainBranch model stored block place guard
+IsCertainEntry model stored block place other = ⊤
 
 -- so is each branch among these entries
-abbrev pub AreSettledIn : Model → Stored → OpenBlock → Entries → Type 0
-AreSettledIn model stored block entries =
+abbrev pub AreCertainIn : Model → Stored → OpenBlock → Entries → Type 0
+AreCertainIn model stored block entries =
     (place : ℕ) (guard : Guard) (then otherwise : Entries)
-    → slice_get (direct entries) place ≡ Some (OfBranch guard then otherwise) → IsSettledBranch model stored block place guard
+    → slice_get (direct entries) place ≡ Some (OfBranch guard then otherwise) → IsCertainBranch model stored block place guard
 
 -- these entries stand in the block
 abbrev pub HasOpenEntries : Model → Stored → OpenBlock → Entries → Type 0
 HasOpenEntries model stored block entries = IsBlock model (named_block (token_names (tokens_now stored.past)) block) entries
 
 -- so is each branch in the open block of this number
-abbrev pub AreSettledAt : Model → Stored → ℕ → Type 0
-AreSettledAt model stored number =
+abbrev pub AreCertainAt : Model → Stored → ℕ → Type 0
+AreCertainAt model stored number =
     (block : OpenBlock) (entries : Entries)
     → slice_get stored.blocks number ≡ Some block → HasOpenEntries model stored block entries
-    → AreSettledIn model stored block entries
+    → AreCertainIn model stored block entries
 
 -- so is each branch in each open block
-abbrev pub AreAllSettled : Model → Stored → Type 0
-AreAllSettled model stored = (number : ℕ) → AreSettledAt model stored number
+abbrev pub AreAllCertain : Model → Stored → Type 0
+AreAllCertain model stored = (number : ℕ) → AreCertainAt model stored number
 
 -- the model has each open block
 abbrev pub AreBlocksOf : Model → Stored → Type 0

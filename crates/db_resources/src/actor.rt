@@ -12,7 +12,7 @@ ghost use Rattle.db_resources.specs.Actors.{IsSoundView, IsRole, HasRole, IsMeas
 ghost use Rattle.db_resources.specs.Picks.{Picks};
 ghost use Rattle.db_resources.specs.declared.actor.Actor.{Actor};
 
-use super::lists::{item_at, put};
+use super::lists::{item_at, push_found};
 use eu_name::name::{Part, TokenName};
 use model_core::class::{Pred, PredKind};
 use model_core::model::Model;
@@ -137,7 +137,7 @@ pub fn actors<V: View>(alloc: Global, model: &Model, view: &V) -> Result<Vec<Act
     let mut found = Vec::new(alloc);
     let count = view.count();
     for place in 0..count {
-        put(&mut found, actor_at(model, view, place))?;
+        push_found(&mut found, actor_at(model, view, place))?;
     }
     Ok(found)
 }

@@ -10,7 +10,7 @@ ghost use Rattle.resource_profile.specs.Level.{IsSmall};
 ghost use Rattle.resource_profile.specs.declared.level.LevelChange.{LevelChange};
 
 use super::actor::Actor;
-use super::lists::put;
+use super::lists::push_found;
 use super::usage::is_on;
 use eu_name::name::Part;
 use model_core::class::PredKind;
@@ -144,7 +144,7 @@ pub fn changes_on<V: View>(
 {
     let mut found = Vec::new(alloc);
     for actor in actors {
-        put(&mut found, change_on(view, actor, object, extreme))?;
+        push_found(&mut found, change_on(view, actor, object, extreme))?;
     }
     Ok(found)
 }

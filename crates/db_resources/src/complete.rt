@@ -9,8 +9,8 @@ ghost use Rattle.model_core.specs.Lawful.{IsLawful};
 ghost use Rattle.model_core.specs.Tokens.{IsRejectable};
 ghost use Rattle.token_store.specs.Tokens.{tokens_now, token_states};
 ghost use Rattle.db_refusals.specs.Judging.{IsKeptAs};
-ghost use Rattle.db_resources.specs.Completeness.{AreAllDecided, IsRootOut, NamesOneOut, block_behind, IsOneOpen, IsSettledBranch, IsSettledEntry};
-ghost use Rattle.db_resources.specs.Completeness.{AreSettledIn, HasOpenEntries, AreSettledAt, AreAllSettled, AreBlocksOf};
+ghost use Rattle.db_resources.specs.Completeness.{AreAllDecided, IsRootOut, NamesOneOut, block_behind, IsOneOpen, IsCertainBranch, IsCertainEntry};
+ghost use Rattle.db_resources.specs.Completeness.{AreCertainIn, HasOpenEntries, AreCertainAt, AreAllCertain, AreBlocksOf};
 
 use db_posting::is_rejectable;
 use db_refusals::state_of;
@@ -133,7 +133,7 @@ fn is_one_open(
 }
 
 // Whether a block of the branch is open, or its guard names a root that is rejected.
-fn is_settled(
+fn is_certain(
     alloc: Global,
     model: &Model,
     store: &Store,
@@ -141,9 +141,9 @@ fn is_settled(
     place: u16,
     guard: Guard,
 ) -> Result<bool, AllocError>
-    ensures { IfOk result (λ settled. MatchBool settled
-        (IsSettledBranch model.now store.now block.now place guard)
-        (IsSettledBranch model.now store.now block.now place guard → ⊥)) }
+    ensures { IfOk result (λ certain. MatchBool certain
+        (IsCertainBranch model.now store.now block.now place guard)
+        (IsCertainBranch model.now store.now block.now place guard → ⊥)) }
 {
     if names_one_out(alloc, model, store, guard) {
         return Ok(true);
@@ -152,7 +152,7 @@ fn is_settled(
 }
 
 // Whether the entry is no branch, or such a one.
-fn is_settled_entry(
+fn is_certain_entry(
     alloc: Global,
     model: &Model,
     store: &Store,
@@ -160,18 +160,18 @@ fn is_settled_entry(
     place: u16,
     entry: &Entry,
 ) -> Result<bool, AllocError>
-    ensures { IfOk result (λ settled. MatchBool settled
-        (IsSettledEntry model.now store.now block.now place entry.now)
-        (IsSettledEntry model.now store.now block.now place entry.now → ⊥)) }
+    ensures { IfOk result (λ certain. MatchBool certain
+        (IsCertainEntry model.now store.now block.now place entry.now)
+        (IsCertainEntry model.now store.now block.now place entry.now → ⊥)) }
 {
     match entry {
-        Entry::Branch { guard, .. } => is_settled(alloc, model, store, block, place, *guard),
+        Entry::Branch { guard, .. } => is_certain(alloc, model, store, block, place, *guard),
         Entry::Slot(_) | Entry::Local(_) | Entry::Item(_) => Ok(true),
     }
 }
 
 // Whether each branch among the entries is such.
-fn are_settled_entries(
+fn are_certain_entries(
     alloc: Global,
     model: &Model,
     store: &Store,
@@ -179,12 +179,12 @@ fn are_settled_entries(
     entries: &[Entry],
 ) -> Result<bool, AllocError>
     requires { length entries.now ≤ 2 ^ 16 }
-    ensures { IfOk result (λ settled. MatchBool settled
-        (AreSettledIn model.now store.now block.now (plain_entries entries.now))
-        (AreSettledIn model.now store.now block.now (plain_entries entries.now) → ⊥)) }
+    ensures { IfOk result (λ certain. MatchBool certain
+        (AreCertainIn model.now store.now block.now (plain_entries entries.now))
+        (AreCertainIn model.now store.now block.now (plain_entries entries.now) → ⊥)) }
 {
     for (place, entry) in entries.iter().enumerate() {
-        if !is_settled_entry(alloc, model, store, block, place as u16, entry)? {
+        if !is_certain_entry(alloc, model, store, block, place as u16, entry)? {
             return Ok(false);
         }
     }
@@ -192,7 +192,7 @@ fn are_settled_entries(
 }
 
 // Whether each branch in the open block is such.
-fn are_settled_in(
+fn are_certain_in(
     alloc: Global,
     model: &Model,
     store: &Store,
@@ -201,22 +201,22 @@ fn are_settled_in(
     requires lawful { IsLawful model.now }
     requires token { block.now.token < length (tokens_now store.now.past) }
     requires there { (entries : Entries) × HasOpenEntries model.now store.now block.now entries }
-    ensures { IfOk result (λ settled. (entries : Entries) → HasOpenEntries model.now store.now block.now entries
-        → MatchBool settled
-        (AreSettledIn model.now store.now block.now entries)
-        (AreSettledIn model.now store.now block.now entries → ⊥)) }
+    ensures { IfOk result (λ certain. (entries : Entries) → HasOpenEntries model.now store.now block.now entries
+        → MatchBool certain
+        (AreCertainIn model.now store.now block.now entries)
+        (AreCertainIn model.now store.now block.now entries → ⊥)) }
 {
     match store.tokens().name(block.token) {
         Some(token) => {
             let found = block_of(model, token, block.rule, block.path.as_slice());
-            are_settled_entries(alloc, model, store, block, found.entries.as_slice())
+            are_certain_entries(alloc, model, store, block, found.entries.as_slice())
         }
         None => unreachable!(),
     }
 }
 
 // Whether each branch in the open block of this number is such.
-fn is_settled_block(
+fn is_certain_block(
     alloc: Global,
     model: &Model,
     store: &Store,
@@ -225,28 +225,28 @@ fn is_settled_block(
     requires lawful { IsLawful model.now }
     requires there { AreBlocksOf model.now store.now }
     requires within { number < length store.now.blocks }
-    ensures { IfOk result (λ settled. MatchBool settled
-        (AreSettledAt model.now store.now number)
-        (AreSettledAt model.now store.now number → ⊥)) }
+    ensures { IfOk result (λ certain. MatchBool certain
+        (AreCertainAt model.now store.now number)
+        (AreCertainAt model.now store.now number → ⊥)) }
 {
     store.is_sound();
     match store.block_at(number) {
-        Some(block) => are_settled_in(alloc, model, store, block),
+        Some(block) => are_certain_in(alloc, model, store, block),
         None => unreachable!(),
     }
 }
 
 /// Whether of each branch in an open block a block is open, or its guard names a root that is rejected.
-pub fn are_all_settled(alloc: Global, model: &Model, store: &Store) -> Result<bool, AllocError>
+pub fn are_all_certain(alloc: Global, model: &Model, store: &Store) -> Result<bool, AllocError>
     requires lawful { IsLawful model.now }
     requires there { AreBlocksOf model.now store.now }
-    ensures { IfOk result (λ settled. MatchBool settled
-        (AreAllSettled model.now store.now)
-        (AreAllSettled model.now store.now → ⊥)) }
+    ensures { IfOk result (λ certain. MatchBool certain
+        (AreAllCertain model.now store.now)
+        (AreAllCertain model.now store.now → ⊥)) }
 {
     let count = store.block_count();
     for number in 0..count {
-        if !is_settled_block(alloc, model, store, number)? {
+        if !is_certain_block(alloc, model, store, number)? {
             return Ok(false);
         }
     }

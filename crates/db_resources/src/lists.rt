@@ -5,7 +5,7 @@ ghost use Rattle.std.specs.Prelude.{◌≡◌, ◌++◌, IfOk, option_to_list, o
 use std::alloc::AllocError;
 
 // Puts the item at the end of the list, where there is one.
-pub fn put<T: Drop>(list: &mut Vec<T>, item: Option<T>) -> Result<(), AllocError>
+pub fn push_found<T: Drop>(list: &mut Vec<T>, item: Option<T>) -> Result<(), AllocError>
     ensures { IfOk result (λ _. list.new.items ≡ list.old.items ++ option_to_list item) }
 {
     if let Some(item) = item {

@@ -10,7 +10,7 @@ ghost use Rattle.db_store.specs.Stores.{snapshot_of};
 ghost use Rattle.db_refusals.specs.Seeing.{seen_state};
 ghost use Rattle.db_resources.specs.Touching.{FittedAt};
 
-use super::complete::{are_all_decided, are_all_settled};
+use super::complete::{are_all_certain, are_all_decided};
 use super::touched::{Resources, are_actors_as_before, are_levels_as_before};
 use crate::{has_reservoir, reservoirs_fit, reusables_fit};
 use db_refine::growth::resources_decide;
@@ -46,8 +46,8 @@ fn levels_fit(
     if reservoirs_fit(alloc, model, &StoreView::new(model, store, decisions))? {
         return Ok(true);
     }
-    let settled = are_all_settled(alloc, model, store)?;
-    Ok(!settled)
+    let certain = are_all_certain(alloc, model, store)?;
+    Ok(!certain)
 }
 
 // Whether the reusables fit.
@@ -149,9 +149,9 @@ pub fn resources_fit(
     levels_fit(alloc, model, store, decisions)
 }
 
-/// The same, where at the mark, with so many blocks open, resources fitted what all decisions but the last left. The reusables are
-/// looked at only if something that is used may have become other since, and the reservoirs only if tokens were decided or blocks
-/// opened, or something that changes a level may have become other.
+/// Whether resources fit, where at the mark, with so many blocks open, they fitted what all decisions but the last
+/// left. The reusables are looked at only if something that is used may have become other since, and the reservoirs
+/// only if tokens were decided or blocks opened, or something that changes a level may have become other.
 pub fn resources_fit_since(
     alloc: Global,
     model: &Model,

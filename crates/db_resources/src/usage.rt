@@ -8,14 +8,15 @@ ghost use Rattle.db_resources.specs.Picks.{Picks};
 ghost use Rattle.resource_profile.specs.declared.usage.Use.{Use};
 
 use super::actor::Actor;
-use super::lists::put;
+use super::lists::push_found;
 use model_core::class::PredKind;
 use model_core::view::View;
 use resource_profile::Use;
 use std::alloc::{AllocError, Global};
 use timeline_core::object_of;
 
-fn is_same(one: i32, other: i32) -> bool
+// Whether the two numbers are of one object.
+fn is_same_object(one: i32, other: i32) -> bool
     ensures { IsTrue result ↔ (one ≡ other) }
 {
     one == other
@@ -27,7 +28,7 @@ pub fn is_on<V: View>(view: &V, place: u32, object: i32) -> bool
     ensures { IsTrue result ↔ IsOnAt (V.state view.now) place object }
 {
     match object_of(view, place) {
-        Some(found) => is_same(found, object),
+        Some(found) => is_same_object(found, object),
         None => false,
     }
 }
@@ -64,7 +65,7 @@ pub fn uses_on<V: View>(
 {
     let mut found = Vec::new(alloc);
     for actor in actors {
-        put(&mut found, use_on(view, actor, object))?;
+        push_found(&mut found, use_on(view, actor, object))?;
     }
     Ok(found)
 }

@@ -159,9 +159,9 @@ within_less measured inner outer one other within =
     let falls = measured inner outer one other within in
     elim (cases_lt (slack inner) (slack outer)) [ inl less ↦ inr less | inr le ↦ inl (falls.1 le) ]
 
-pub net_settled : ((inner outer : Domain) → IsDomain inner → IsDomain outer → SlackFalls inner outer) → (old new : Network)
+pub net_propagated : ((inner outer : Domain) → IsDomain inner → IsDomain outer → SlackFalls inner outer) → (old new : Network)
     → All IsDomain old.domains → All IsDomain new.domains → AllZip IsWithin new.domains old.domains → length new.domains ≡ length old.domains → GoesDown old new → NetGoesOn old new
-net_settled measured old new were are within long down = record {
+net_propagated measured old new were are within long down = record {
   count = omega (arith, long);
   each = λ number below.
       let one = All-get_or IsDomain new.domains number (Range (pos 0) (pos 0)) (omega (arith, below, long)) are in

@@ -14,7 +14,7 @@ use Rattle.token_store.specs.declared.AddFault.{AddFault}
 use Rattle.token_store.specs.declared.AddFault.TheVariants.{Twice, Memory}
 use Rattle.constraint_net.specs.Calls.{AddsVar, Limits}
 use Rattle.constraint_net.specs.Networks.{Network}
-use Rattle.constraint_net.specs.Steps.{SettlesTo}
+use Rattle.constraint_net.specs.Steps.{PropagatesTo}
 use Rattle.constraint_net.specs.declared.NetFault.{NetFault}
 use Rattle.constraint_net.specs.declared.NetFault.TheVariants.{Collapsed}
 use Rattle.constraint_net.specs.declared.NetFault.TheVariants as fault
@@ -89,8 +89,8 @@ limit_kept view old variable to (Ok change) net seen limits is =
     (subst (λ list. IsSnapshot (record (snapshot_of view) { domains = domains; posted = list; tables = net.tables })) (sym limits.1.constraints) kept)
 limit_kept view old variable to (Err none) net seen limits is = subst (λ n. IsSnapshot (snapshot_of (at_net view n))) (sym limits) is
 
--- whatever settling answers, it leaves domains within those that there were
-pub settled_within : (fits : List Domain → Type 0) (result : Result (Unit {0}) NetFault) (old new : List Domain) → SettlesTo fits old result new → LieWithin new old
-settled_within fits (Ok done) old new settles = settles.0.within
-settled_within fits (Err Collapsed) old new settles = settles.0.within
-settled_within fits (Err fault.Memory) old new settles = settles.within
+-- whatever propagation answers, it leaves domains within those that there were
+pub propagated_within : (fits : List Domain → Type 0) (result : Result (Unit {0}) NetFault) (old new : List Domain) → PropagatesTo fits old result new → LieWithin new old
+propagated_within fits (Ok done) old new propagates = propagates.0.within
+propagated_within fits (Err Collapsed) old new propagates = propagates.0.within
+propagated_within fits (Err fault.Memory) old new propagates = propagates.within

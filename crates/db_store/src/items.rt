@@ -16,7 +16,7 @@ pub fn find<T: Eq + Hash>(items: &IndexSet<T>, item: &T) -> Option<usize>
 }
 
 /// Puts the item behind the others, unless it is there, and answers its number.
-pub fn put<T: Eq + Hash + Drop>(
+pub fn put_item<T: Eq + Hash + Drop>(
     items: &mut IndexSet<T>,
     item: T,
 ) -> Result<Option<usize>, AllocError>

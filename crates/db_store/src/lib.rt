@@ -1,5 +1,5 @@
 //! What a database keeps, with marks to go back to: tokens, variables, open blocks, watches, a network: `store.mark()`.
-//! In come tokens, keys with domains, blocks and constraints; out go their numbers, and by `settle` narrower domains.
+//! In come tokens, keys with domains, blocks and constraints; out go numbers, and by `propagate` narrower domains.
 //! Called by db_posting, db_opening, db_decide and db_fixpoint; db_history goes back to marks. Those above read it.
 //! Knows nothing of models, rules and decisions. How keys, blocks and watches are found may change.
 #![tactic(auto)]

@@ -6,7 +6,7 @@ ghost use Rattle.domain_core.specs.Domain.{Domain, IsDomain};
 ghost use Rattle.token_store.specs.Tokens.{tokens_now, with_state};
 ghost use Rattle.constraint_net.specs.Calls.{IsAscending, table_of, AddsVar, Limits, Posts, GoesDown, TakesChanged};
 ghost use Rattle.constraint_net.specs.Networks.{CanPost, AllConsistent};
-ghost use Rattle.constraint_net.specs.Steps.{SettlesTo};
+ghost use Rattle.constraint_net.specs.Steps.{PropagatesTo};
 ghost use Rattle.db_store.specs.Keys.{IsKeyBelow};
 ghost use Rattle.db_store.specs.Stores.{Snapshot, snapshot_of, IsSnapshot, blocks_watching, variable_names};
 ghost use Rattle.db_store.specs.Puts.{FindsItem, PutsToken, PutsVariable, PutsBlock, ChangesNet};
@@ -14,7 +14,7 @@ ghost use Rattle.db_store.specs.Stamps.{HasStamp};
 ghost use Rattle.db_store.specs.StoreMarks.{IsStoreMark, IsMarkBefore, CanGoBack, KeepStoreMarks, GoesBackTo, AreTouched, with_mark};
 ghost use Rattle.db_store.specs.Finding.{FindsKey, AddsKey};
 
-use super::items::{find, put};
+use super::items::{find, put_item};
 use super::key::{OpenBlock, VarKey};
 use super::keys::Keys;
 use super::laws::keys_are_told_apart;
@@ -193,7 +193,7 @@ impl Store {
         ensures marks { KeepStoreMarks self.old self.new }
     {
         keys_are_told_apart();
-        put(&mut self.blocks, block)
+        put_item(&mut self.blocks, block)
     }
 
     /// The number of the open block.
@@ -250,7 +250,7 @@ impl Store {
         self.net.add_table(pairs)
     }
 
-    /// Asks from now on that the constraint holds. No domain changes before `settle`.
+    /// Asks from now on that the constraint holds. No domain changes before `propagate`.
     pub fn post(&mut self, kind: Kind, args: &[NetArg]) -> Result<(), AllocError>
         requires { CanPost self.old.net.tables (length self.old.net.domains) kind args.now }
         ensures posted { Posts self.old.net kind args.now result self.new.net }
@@ -274,8 +274,8 @@ impl Store {
 
     /// Takes values away until all constraints are consistent. After Memory the call may be made again, and after
     /// Collapsed only `back_to` brings values back.
-    pub fn settle(&mut self) -> Result<(), NetFault>
-        ensures settled { SettlesTo (AllConsistent self.old.net.tables self.old.net.constraints)
+    pub fn propagate(&mut self) -> Result<(), NetFault>
+        ensures propagated { PropagatesTo (AllConsistent self.old.net.tables self.old.net.constraints)
             self.old.net.domains result self.new.net.domains }
         ensures variables { length self.new.net.domains ≡ length self.old.net.domains }
         ensures down { GoesDown self.old.net self.new.net }
@@ -285,7 +285,7 @@ impl Store {
     {
         marks_stay();
         within_is_an_order();
-        self.net.settle_all()
+        self.net.propagate_all()
     }
 
     /// Takes the next variable off the list of those whose domains have changed. It may tell of others too, also of

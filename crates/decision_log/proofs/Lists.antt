@@ -6,7 +6,7 @@ use Rattle.model_core.specs.declared.decision.Decision.{Decision}
 use Rattle.model_core.specs.History.{History, standing, accepted}
 use Rattle.decision_log.specs.declared.steps.Step.{Step}
 use Rattle.decision_log.specs.declared.steps.Step.TheVariants.{Push, Take}
-use Rattle.decision_log.specs.declared.steps.Taken.{Taken}
+use Rattle.decision_log.specs.declared.steps.TakenOut.{TakenOut}
 use Rattle.decision_log.specs.Kept.{put_back, HavePlaces, list_before, lists_of, CanLeadTo, AreLogSteps}
 use Rattle.decision_log.specs.Undoing.{Undoes, Pops, IsFormer, CopiesFormer}
 use Rattle.decision_log.specs.declared.LogFault.{LogFault}

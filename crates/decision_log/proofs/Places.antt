@@ -3,45 +3,45 @@ use Rattle.std.proofs.Common.{◌≡◌, ℕ, zero, suc, ◌+◌, ◌-◌, ◌<�
 use Rattle.std.proofs.Math.Seq.{take-append_seam, drop-append_seam, drop-append-add}
 use Rattle.std.proofs.lemmas.List.Edits.{length-insert}
 use Rattle.model_core.specs.declared.decision.Decision.{Decision}
-use Rattle.decision_log.specs.declared.steps.Taken.{Taken}
+use Rattle.decision_log.specs.declared.steps.TakenOut.{TakenOut}
 use Rattle.decision_log.specs.Kept.{put_back, AreBelow, HavePlaces}
 use Rattle.decision_log.specs.Taking.{kept_of}
 
 -- the last of them is put back first
-pub put_back-last : (more : List Taken) (last : Taken) (decisions : List Decision)
+pub put_back-last : (more : List TakenOut) (last : TakenOut) (decisions : List Decision)
     → put_back (more ++ last ∷ []) decisions ≡ put_back more (insert decisions last.place last.decision)
 put_back-last [] last decisions = refl
 put_back-last (taken ∷ more) last decisions = ap (λ list. insert list taken.place taken.decision) (put_back-last more last decisions)
 
-pub length-put_back : (taken : List Taken) (decisions : List Decision) → HavePlaces taken decisions
+pub length-put_back : (taken : List TakenOut) (decisions : List Decision) → HavePlaces taken decisions
     → length (put_back taken decisions) ≡ length decisions + length taken
 length-put_back [] decisions places = omega arith
 length-put_back (taken ∷ more) decisions places =
     omega (arith, length-insert (put_back more decisions) taken.place taken.decision places.0, length-put_back more decisions places.1.1)
 
-below_before : (place : ℕ) (more : List Taken) (last : Taken) → AreBelow place (more ++ last ∷ []) → AreBelow place more
+below_before : (place : ℕ) (more : List TakenOut) (last : TakenOut) → AreBelow place (more ++ last ∷ []) → AreBelow place more
 below_before place [] last all = tt
 below_before place (taken ∷ more) last all = (all.0, below_before place more last all.1)
 
-below_with : (place : ℕ) (more : List Taken) (last : Taken) → AreBelow place more → last.place < place → AreBelow place (more ++ last ∷ [])
+below_with : (place : ℕ) (more : List TakenOut) (last : TakenOut) → AreBelow place more → last.place < place → AreBelow place (more ++ last ∷ [])
 below_with place [] last all here = (here, tt)
 below_with place (taken ∷ more) last all here = (all.0, below_with place more last all.1 here)
 
 -- they have this place or greater ones
-abbrev pub AreFrom : ℕ → List Taken → Type 0
+abbrev pub AreFrom : ℕ → List TakenOut → Type 0
 AreFrom place [] = Unit {0}
 AreFrom place (taken ∷ more) = (place ≤ taken.place) × AreFrom place more
 
-pub from_lower : (lower place : ℕ) (more : List Taken) → lower ≤ place → AreFrom place more → AreFrom lower more
+pub from_lower : (lower place : ℕ) (more : List TakenOut) → lower ≤ place → AreFrom place more → AreFrom lower more
 from_lower lower place [] le all = tt
 from_lower lower place (taken ∷ more) le all = (omega arith, from_lower lower place more le all.1)
 
-pub from_with : (place : ℕ) (more : List Taken) (last : Taken) → AreFrom place more → place ≤ last.place → AreFrom place (more ++ last ∷ [])
+pub from_with : (place : ℕ) (more : List TakenOut) (last : TakenOut) → AreFrom place more → place ≤ last.place → AreFrom place (more ++ last ∷ [])
 from_with place [] last all here = (here, tt)
 from_with place (taken ∷ more) last all here = (all.0, from_with place more last all.1 here)
 
 -- the last of them has a place, and once it is put back the others have theirs
-pub places_left : (more : List Taken) (last : Taken) (decisions : List Decision) → HavePlaces (more ++ last ∷ []) decisions
+pub places_left : (more : List TakenOut) (last : TakenOut) (decisions : List Decision) → HavePlaces (more ++ last ∷ []) decisions
     → (last.place ≤ length decisions) × HavePlaces more (insert decisions last.place last.decision)
 places_left [] last decisions places = (places.0, tt)
 places_left (taken ∷ more) last decisions places =
@@ -49,7 +49,7 @@ places_left (taken ∷ more) last decisions places =
     (rest.0, (subst (λ list. taken.place ≤ length list) (put_back-last more last decisions) places.0, (below_before taken.place more last places.1.0, rest.1)))
 
 -- where the others have places once one is put back, and greater ones, all have
-pub places_with : (more : List Taken) (last : Taken) (decisions : List Decision)
+pub places_with : (more : List TakenOut) (last : TakenOut) (decisions : List Decision)
     → last.place ≤ length decisions → AreFrom (last.place + 1) more
     → HavePlaces more (insert decisions last.place last.decision) → HavePlaces (more ++ last ∷ []) decisions
 places_with [] last decisions low above places = (low, (tt, tt))

@@ -3,13 +3,13 @@ use Rattle.std.proofs.Common.{◌≡◌, ℕ, cond, zero, suc, ◌+◌, ◌-◌,
 use Rattle.std.proofs.lemmas.List.{length-take, drop_all, take_all}
 use Rattle.std.proofs.lemmas.List.Sums.{sum_by-cons, sum_by-take-drop}
 use Rattle.model_core.specs.declared.decision.Decision.{Decision}
-use Rattle.decision_log.specs.declared.steps.Taken.{Taken}
+use Rattle.decision_log.specs.declared.steps.TakenOut.{TakenOut}
 use Rattle.decision_log.specs.Kept.{put_back, HavePlaces}
 use Rattle.decision_log.specs.Taking.{kept_of}
 use Rattle.decision_log.proofs.Places.{IsCut, cut_at, AreFrom, from_lower, from_with, places_with, put_back-last, insert-middle, remove-middle, index-middle}
 
 -- what stands and what was taken out, once the places from this one on are dealt with
-pub record IsTaking (keep : List Bool) (old : List Decision) (place : ℕ) (decisions : List Decision) (taken : List Taken) : Type 0 where
+pub record IsTaking (keep : List Bool) (old : List Decision) (place : ℕ) (decisions : List Decision) (taken : List TakenOut) : Type 0 where
   pub low : place ≤ length keep
   pub left : decisions ≡ take place old ++ kept_of (drop place keep) (drop place old)
   pub back : put_back taken decisions ≡ old
@@ -37,7 +37,7 @@ both_cut : (keep : List Bool) (old : List Decision) (place : ℕ) (cut : IsCut k
 both_cut keep old place cut cut_old = λ i. kept_of (cut.back i) (cut_old.back i)
 
 -- a decision with a flag stays
-pub taking_kept : (keep : List Bool) (old : List Decision) (place : ℕ) (decisions : List Decision) (taken : List Taken)
+pub taking_kept : (keep : List Bool) (old : List Decision) (place : ℕ) (decisions : List Decision) (taken : List TakenOut)
     → length keep ≡ length old → (cut : IsCut keep place) → cut.here ≡ true → place < length keep
     → IsTaking keep old (place + 1) decisions taken → IsTaking keep old place decisions taken
 taking_kept keep old place decisions taken same cut kept below is =
@@ -56,7 +56,7 @@ taking_kept keep old place decisions taken same cut kept below is =
     }
 
 -- a decision without one is taken out
-pub taking_out : (keep : List Bool) (old : List Decision) (place : ℕ) (decisions : List Decision) (taken : List Taken) (decision : Decision)
+pub taking_out : (keep : List Bool) (old : List Decision) (place : ℕ) (decisions : List Decision) (taken : List TakenOut) (decision : Decision)
     → length keep ≡ length old → (cut : IsCut keep place) → cut.here ≡ false → place < length keep
     → slice_index_or decisions place decision ≡ decision
     → IsTaking keep old (place + 1) decisions taken → IsTaking keep old place (remove decisions place) (taken ++ record { place = place; decision = decision } ∷ [])
@@ -75,7 +75,7 @@ taking_out keep old place decisions taken decision same cut dropped below stood 
     sym stood ∙ (λ i. slice_index_or (whole i) (sym long i) decision) ∙ index-middle front rest cut_old.here decision in
     let again : insert (remove decisions place) place decision ≡ decisions =
     (λ i. insert (left i) (sym long i) (same_one i)) ∙ insert-middle front rest cut_old.here ∙ sym whole in
-    let out : Taken = record { place = place; decision = decision } in
+    let out : TakenOut = record { place = place; decision = decision } in
     let one : count_by not (false ∷ drop (place + 1) keep) ≡ 1 + count_by not (drop (place + 1) keep) = sum_by-cons _ false (drop (place + 1) keep) in
     record {
       low = omega arith;

@@ -6,7 +6,7 @@ use Rattle.model_core.specs.declared.decision.Decision.{Decision}
 use Rattle.model_core.specs.History.{History}
 use Rattle.decision_log.specs.declared.steps.Step.{Step}
 use Rattle.decision_log.specs.declared.steps.Step.TheVariants.{Push, Take}
-use Rattle.decision_log.specs.declared.steps.Taken.{Taken}
+use Rattle.decision_log.specs.declared.steps.TakenOut.{TakenOut}
 use Rattle.decision_log.specs.Kept.{put_back, AreBelow, HavePlaces, list_before, lists_of, CanLeadTo, AreLogSteps}
 use Rattle.decision_log.specs.Taking.{kept_of, LedByStep, TakesFirst, TellsStep}
 use Rattle.decision_log.specs.declared.log.LogStep.TheVariants as seen
@@ -76,7 +76,7 @@ pub record IsBehind (front back : List Decision) (decision : Decision) (whole : 
   pub whole_is : whole ≡ front ++ decision ∷ rest
   pub kept : kept_of flags rest ≡ back
 
-pub put_behind : (more : List Taken) (front back : List Decision) (decision : Decision)
+pub put_behind : (more : List TakenOut) (front back : List Decision) (decision : Decision)
     → HavePlaces more (front ++ decision ∷ back) → AreFrom (length front + 1) more
     → IsBehind front back decision (put_back more (front ++ decision ∷ back))
 put_behind [] front back decision places from = record {
@@ -103,16 +103,16 @@ put_behind (taken ∷ more) front back decision places from =
     }
 
 -- those before the lowest have greater places
-above_last : (more : List Taken) (last : Taken) (decisions : List Decision) → HavePlaces (more ++ last ∷ []) decisions → AreFrom (last.place + 1) more
+above_last : (more : List TakenOut) (last : TakenOut) (decisions : List Decision) → HavePlaces (more ++ last ∷ []) decisions → AreFrom (last.place + 1) more
 above_last [] last decisions places = tt
 above_last (taken ∷ more) last decisions places = (omega (arith, below_last taken.place more last places.1.0), above_last more last decisions places.1.1)
   where
-    below_last : (place : ℕ) (more : List Taken) (last : Taken) → AreBelow place (more ++ last ∷ []) → last.place < place
+    below_last : (place : ℕ) (more : List TakenOut) (last : TakenOut) → AreBelow place (more ++ last ∷ []) → last.place < place
     below_last place [] last all = all.0
     below_last place (first ∷ more) last all = below_last place more last all.1
 
 -- of what was taken out the lowest stood first
-pub takes_first : (more : List Taken) (last : Taken) (after : List Decision) → HavePlaces (more ++ last ∷ []) after
+pub takes_first : (more : List TakenOut) (last : TakenOut) (after : List Decision) → HavePlaces (more ++ last ∷ []) after
     → TakesFirst (put_back (more ++ last ∷ []) after) last.decision after
 takes_first more last after places =
     let front = take last.place after in
@@ -153,7 +153,7 @@ tells_push history number between =
     (take (length after - 1) after, (last, subst (LedByStep history number (take (length after - 1) after)) whole between.leads))
 
 -- and one that took decisions out, by the last of them that it keeps
-pub tells_take : (history : History) (number : ℕ) (taken : Vec Taken Global) (last : Taken)
+pub tells_take : (history : History) (number : ℕ) (taken : Vec TakenOut Global) (last : TakenOut)
     → IsStepBetween history number (Take taken) → last ≡ slice_index_or taken.items (length taken.items - 1) last
     → (one after : List Decision) × (LedByStep history number one after × TakesFirst one last.decision after)
 tells_take history number taken last between is =

@@ -4,10 +4,10 @@ use Rattle.model_core.specs.declared.decision.Decision.{Decision}
 use Rattle.model_core.specs.History.{History}
 use Rattle.decision_log.specs.declared.steps.Step.{Step}
 use Rattle.decision_log.specs.declared.steps.Step.TheVariants.{Push, Take}
-use Rattle.decision_log.specs.declared.steps.Taken.{Taken}
+use Rattle.decision_log.specs.declared.steps.TakenOut.{TakenOut}
 
 -- the list with these decisions back at their places; the one of the greatest place comes first here, and is put back last
-abbrev pub put_back : List Taken → List Decision → List Decision
+abbrev pub put_back : List TakenOut → List Decision → List Decision
 put_back [] decisions = decisions
 put_back (taken ∷ more) decisions = insert (put_back more decisions) taken.place taken.decision
 
@@ -22,12 +22,12 @@ lists_of decisions [] = decisions ∷ []
 lists_of decisions (step ∷ older) = decisions ∷ lists_of (list_before step decisions) older
 
 -- they have lower places than this one
-abbrev pub AreBelow : ℕ → List Taken → Type 0
+abbrev pub AreBelow : ℕ → List TakenOut → Type 0
 AreBelow place [] = ⊤
 AreBelow place (taken ∷ more) = (taken.place < place) × AreBelow place more
 
 -- each place is one of the list into which the decision is put back, and those of the decisions behind it here are lower
-abbrev pub HavePlaces : List Taken → List Decision → Type 0
+abbrev pub HavePlaces : List TakenOut → List Decision → Type 0
 HavePlaces [] decisions = ⊤
 HavePlaces (taken ∷ more) decisions =
     (taken.place ≤ length (put_back more decisions)) × (AreBelow taken.place more × HavePlaces more decisions)

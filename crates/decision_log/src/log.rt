@@ -8,7 +8,7 @@ ghost use Rattle.decision_log.specs.Undoing.{Undoes, Pops, CopiesFormer};
 ghost use Rattle.decision_log.specs.Taking.{kept_of, TellsStep};
 
 use super::LogFault;
-use super::steps::{Step, Taken, count_left_out, put_all_back, put_copies_back, take_unflagged};
+use super::steps::{Step, TakenOut, count_left_out, put_all_back, put_copies_back, take_unflagged};
 use eu_name::sequence::Sequence;
 use model_core::decision::Decision;
 use std::alloc::{AllocError, Global};
@@ -171,7 +171,7 @@ fn copies(alloc: Global, decisions: &[Decision]) -> Result<Vec<Decision>, AllocE
 }
 
 // Copies of the decisions, with copies of those that were taken out at their places.
-fn copies_before(decisions: &Vec<Decision>, taken: &[Taken]) -> Result<Vec<Decision>, AllocError>
+fn copies_before(decisions: &Vec<Decision>, taken: &[TakenOut]) -> Result<Vec<Decision>, AllocError>
     requires { HavePlaces taken.now decisions.now.items }
     ensures { IfOk result (λ list. list.items ≡ put_back taken.now decisions.now.items) }
 {

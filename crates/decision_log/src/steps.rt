@@ -9,7 +9,7 @@ use std::alloc::AllocError;
 
 /// A decision that was taken out, with the place that it had.
 #[derive(Drop)]
-pub struct Taken {
+pub struct TakenOut {
     pub place: usize,
     pub decision: Decision,
 }
@@ -20,18 +20,18 @@ pub enum Step {
     /// A decision was put at the end.
     Push,
     /// These decisions were taken out, the one of the greatest place first.
-    Take(Vec<Taken>),
+    Take(Vec<TakenOut>),
 }
 
 /// Puts the decisions back at their places, for which there is room.
-pub fn put_all_back(decisions: &mut Vec<Decision>, taken: Vec<Taken>)
+pub fn put_all_back(decisions: &mut Vec<Decision>, taken: Vec<TakenOut>)
     requires places { HavePlaces taken.items decisions.old.items }
     requires room { vec_len decisions.old + vec_len taken ≤ vec_capacity decisions.old }
     ensures back { decisions.new.items ≡ put_back taken.items decisions.old.items }
     ensures capacity { vec_capacity decisions.new ≡ vec_capacity decisions.old }
 {
     let mut taken = taken;
-    while let Some(Taken { place, decision }) = taken.pop() {
+    while let Some(TakenOut { place, decision }) = taken.pop() {
         insert_in_room(decisions, place, decision);
     }
 }
@@ -50,7 +50,7 @@ fn insert_in_room(decisions: &mut Vec<Decision>, place: usize, decision: Decisio
 }
 
 /// Puts copies of the decisions back at their places.
-pub fn put_copies_back(decisions: &mut Vec<Decision>, taken: &[Taken]) -> Result<(), AllocError>
+pub fn put_copies_back(decisions: &mut Vec<Decision>, taken: &[TakenOut]) -> Result<(), AllocError>
     requires { HavePlaces taken.now decisions.old.items }
     ensures { OnOk result (decisions.new.items ≡ put_back taken.now decisions.old.items) }
 {
@@ -70,7 +70,11 @@ pub fn count_left_out(keep: &[bool]) -> usize
 }
 
 /// Takes the decisions out that have no flag, from the last one on.
-pub fn take_unflagged(decisions: &mut Vec<Decision>, keep: &[bool], room: Vec<Taken>) -> Vec<Taken>
+pub fn take_unflagged(
+    decisions: &mut Vec<Decision>,
+    keep: &[bool],
+    room: Vec<TakenOut>,
+) -> Vec<TakenOut>
     requires flags { length keep.now ≡ length decisions.old.items }
     requires empty { room.items ≡ [] }
     requires room { count_by not keep.now ≤ vec_capacity room }
@@ -88,7 +92,7 @@ pub fn take_unflagged(decisions: &mut Vec<Decision>, keep: &[bool], room: Vec<Ta
             continue;
         }
         let decision = decisions.remove(place);
-        taken.push_reserved(Taken { place, decision });
+        taken.push_reserved(TakenOut { place, decision });
     }
     taken
 }

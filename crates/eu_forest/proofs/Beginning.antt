@@ -1,6 +1,6 @@
 -- What is known before any walk.
 use Rattle.std.proofs.Common.{◌≡◌, ℕ, zero, suc, ◌+◌, List, [], ◌∷◌, ◌++◌, length, take, slice_get, Option, Some, None, inl, inr, refl, sym, ap, ◌∙◌, subst, arith, length-append}
-use Rattle.eu_forest.specs.declared.lineage.Standing.TheVariants.{Rooted}
+use Rattle.eu_forest.specs.declared.lineage.Rootedness.TheVariants.{Rooted}
 use Rattle.eu_forest.specs.declared.walk.Mark.{Mark}
 use Rattle.eu_forest.specs.declared.walk.Mark.TheVariants as marks
 use Rattle.eu_forest.specs.Walks.{AreBegun}

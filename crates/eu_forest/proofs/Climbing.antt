@@ -2,7 +2,7 @@
 use Rattle.std.proofs.Common.{◌≡◌, ℕ, ◌<◌, List, [], ◌∷◌, ◌++◌, length, sum_by, slice_set, slice_get, Option, Some, None, inl, inr, refl, sym, ap, ◌∙◌, subst, arith, length-set}
 use Rattle.std.proofs.lemmas.List.Sums.{sum_by-set}
 use Rattle.std.proofs.lemmas.Option.{slice_get_within, get_or_from_slice_get}
-use Rattle.eu_forest.specs.declared.lineage.Standing.TheVariants.{Rooted}
+use Rattle.eu_forest.specs.declared.lineage.Rootedness.TheVariants.{Rooted}
 use Rattle.eu_forest.specs.declared.walk.Mark.{Mark}
 use Rattle.eu_forest.specs.declared.walk.Mark.TheVariants as marks
 use Rattle.eu_forest.specs.Lines.{AreParents, StandsUnder}
@@ -45,10 +45,10 @@ walked_more mid path next unseen walked n place = (
 
 -- other things than the one that is walked are known as before
 known_other : (mid : List Mark) (next place : ℕ) → slice_get mid next ≡ Some marks.Unseen → KnowsTheSame mid (slice_set mid next (marks.Walked place))
-known_other mid next place unseen n standing = (
-  (λ known. get-set_other mid next n (marks.Walked place) (λ same. let P : ℕ → Type 0 = λ m. IsKnownAs mid m standing in let here = subst P same known in cc) ∙ known),
+known_other mid next place unseen n rootedness = (
+  (λ known. get-set_other mid next n (marks.Walked place) (λ same. let P : ℕ → Type 0 = λ m. IsKnownAs mid m rootedness in let here = subst P same known in cc) ∙ known),
   (λ known. elim (equal_or_not n next) [
-    | inl same ↦ (let P : ℕ → Type 0 = λ m. IsKnownAs (slice_set mid next (marks.Walked place)) m standing in
+    | inl same ↦ (let P : ℕ → Type 0 = λ m. IsKnownAs (slice_set mid next (marks.Walked place)) m rootedness in
         let here = subst P same known in
         let mark = get-set_same mid next (marks.Walked place) (slice_get_within mid next marks.Unseen unseen) in cc)
     | inr differ ↦ sym (get-set_other mid next n (marks.Walked place) differ) ∙ known

@@ -6,7 +6,7 @@ pub mod Jumping
 pub mod Known
 pub mod Lists
 pub mod Marking
-pub mod Settling
+pub mod Telling
 pub mod Unseen
 pub mod Ways
 pub mod Marked

@@ -1,8 +1,8 @@
 -- Things that stand under others: which are on a circle, and which lead up to one that stands under none.
 use Rattle.std.specs.Prelude.{◌≡◌, ℕ, ◌<◌, List, [], ◌∷◌, Option, Some, None, length, slice_get}
 use Rattle.std.specs.Option.{option_and_then}
-use Rattle.eu_forest.specs.declared.lineage.Standing.{Standing}
-use Rattle.eu_forest.specs.declared.lineage.Standing.TheVariants.{Rooted, OnCircle, Leading}
+use Rattle.eu_forest.specs.declared.lineage.Rootedness.{Rootedness}
+use Rattle.eu_forest.specs.declared.lineage.Rootedness.TheVariants.{Rooted, OnCircle, Leading}
 use Rattle.eu_forest.specs.declared.walk.Mark.{Mark}
 use Rattle.eu_forest.specs.declared.walk.Mark.TheVariants as marks
 
@@ -43,19 +43,19 @@ pub record IsLeading (parents : List (Option ℕ)) (number : ℕ) : Type 0 where
   pub off : IsOnCircle parents number → ⊥
 
 -- the thing stands so
-abbrev pub StandsSo : List (Option ℕ) → ℕ → Standing → Type 0
+abbrev pub StandsSo : List (Option ℕ) → ℕ → Rootedness → Type 0
 StandsSo parents number Rooted = IsRooted parents number
 StandsSo parents number OnCircle = IsOnCircle parents number
 StandsSo parents number Leading = IsLeading parents number
 
--- the standing that a mark says
-abbrev pub standing_of_mark : Mark → Option Standing
-standing_of_mark (marks.Known standing) = Some standing
-standing_of_mark mark = None
+-- the rootedness that a mark says
+abbrev pub rootedness_of_mark : Mark → Option Rootedness
+rootedness_of_mark (marks.Known rootedness) = Some rootedness
+rootedness_of_mark mark = None
 
--- how the thing of the number stands by the marks
-abbrev pub standing_in : List Mark → ℕ → Option Standing
-standing_in marked number = option_and_then standing_of_mark (slice_get marked number)
+-- the rootedness of the thing of the number by the marks
+abbrev pub rootedness_in : List Mark → ℕ → Option Rootedness
+rootedness_in marked number = option_and_then rootedness_of_mark (slice_get marked number)
 
 -- in the order each thing comes after the one that it stands under
 abbrev pub ParentsComeFirst : List (Option ℕ) → List ℕ → Type 0
@@ -63,12 +63,12 @@ ParentsComeFirst parents order =
     (place number parent : ℕ) → slice_get order place ≡ Some number → StandsUnder parents number parent
     → (earlier : ℕ) × (earlier < place) × (slice_get order earlier ≡ Some parent)
 
--- each thing has its standing, and nothing else has one; the order has the rooted ones, each after the one that it stands under
+-- each thing has its rootedness, and nothing else has one; the order has the rooted ones, each after the one that it stands under
 pub record IsLineageOf (parents : List (Option ℕ)) (marked : List Mark) (order : List ℕ) : Type 0 where
   pub count : length marked ≡ length parents
-  pub standing : (number : ℕ) → number < length parents
-      → (standing : Standing) × (standing_in marked number ≡ Some standing) × StandsSo parents number standing
+  pub rootedness : (number : ℕ) → number < length parents
+      → (rootedness : Rootedness) × (rootedness_in marked number ≡ Some rootedness) × StandsSo parents number rootedness
   pub ordered : ParentsComeFirst parents order
   pub sound : (place number : ℕ) → slice_get order place ≡ Some number → IsRooted parents number
-  pub whole : (number : ℕ) → standing_in marked number ≡ Some Rooted
+  pub whole : (number : ℕ) → rootedness_in marked number ≡ Some Rooted
       → (place : ℕ) × (slice_get order place ≡ Some number)

@@ -1,29 +1,29 @@
 -- What the walks do. The public calls promise none of it.
 use Rattle.std.specs.Prelude.{◌≡◌, ◌↔◌, ℕ, ◌<◌, ◌≤◌, List, [], ◌∷◌, ◌++◌, drop, reverse, take, Option}
 use Rattle.std.specs.Prelude.{Some, None, length, slice_get}
-use Rattle.eu_forest.specs.declared.lineage.Standing.{Standing}
-use Rattle.eu_forest.specs.declared.lineage.Standing.TheVariants.{Rooted, OnCircle, Leading}
+use Rattle.eu_forest.specs.declared.lineage.Rootedness.{Rootedness}
+use Rattle.eu_forest.specs.declared.lineage.Rootedness.TheVariants.{Rooted, OnCircle, Leading}
 use Rattle.eu_forest.specs.declared.walk.Mark.{Mark}
 use Rattle.eu_forest.specs.declared.walk.Mark.TheVariants as marks
 use Rattle.eu_forest.specs.declared.walk.End.{End}
 use Rattle.eu_forest.specs.declared.walk.End.TheVariants as ends
 use Rattle.eu_forest.specs.Lines.{StandsUnder, StandsSo, ParentsComeFirst}
 
--- the standing of the thing is known
-abbrev pub IsKnownAs : List Mark → ℕ → Standing → Type 0
-IsKnownAs marked number standing = slice_get marked number ≡ Some (marks.Known standing)
+-- the rootedness of the thing is known
+abbrev pub IsKnownAs : List Mark → ℕ → Rootedness → Type 0
+IsKnownAs marked number rootedness = slice_get marked number ≡ Some (marks.Known rootedness)
 
 -- the thing stands in the order
 abbrev pub StandsIn : List ℕ → ℕ → Type 0
 StandsIn order number = (place : ℕ) × (slice_get order place ≡ Some number)
 
 -- what is known is so, and so is what it stands under known; the order has the rooted things that are known
-pub record AreSettled (parents : List (Option ℕ)) (marked : List Mark) (order : List ℕ) : Type 0 where
+pub record AreTold (parents : List (Option ℕ)) (marked : List Mark) (order : List ℕ) : Type 0 where
   pub count : length marked ≡ length parents
-  pub known : (number : ℕ) (standing : Standing) → IsKnownAs marked number standing → StandsSo parents number standing
-  pub closed : (number : ℕ) (standing : Standing) (parent : ℕ)
-      → IsKnownAs marked number standing → StandsUnder parents number parent
-      → (above : Standing) × IsKnownAs marked parent above
+  pub known : (number : ℕ) (rootedness : Rootedness) → IsKnownAs marked number rootedness → StandsSo parents number rootedness
+  pub closed : (number : ℕ) (rootedness : Rootedness) (parent : ℕ)
+      → IsKnownAs marked number rootedness → StandsUnder parents number parent
+      → (above : Rootedness) × IsKnownAs marked parent above
   pub ordered : ParentsComeFirst parents order
   pub sound : (place number : ℕ) → slice_get order place ≡ Some number → IsKnownAs marked number Rooted
   pub whole : (number : ℕ) → IsKnownAs marked number Rooted → StandsIn order number
@@ -46,7 +46,7 @@ pub record IsMarked (parents : List (Option ℕ)) (marked : List Mark) (path : L
 -- things are known and in order, and no walk has begun
 pub record AreWalkable (parents : List (Option ℕ)) (marked : List Mark) (order : List ℕ) : Type 0 where
   pub marks_are : IsMarked parents marked []
-  pub settled : AreSettled parents marked order
+  pub told : AreTold parents marked order
 
 -- only what stands under nothing is known
 pub record AreBegun (parents : List (Option ℕ)) (marked : List Mark) (order : List ℕ) : Type 0 where
@@ -68,12 +68,12 @@ IsChain parents (number ∷ path) top = StandsUnder parents number (first_or pat
 
 -- the walk's end stands so
 abbrev pub IsEnd : List Mark → List ℕ → ℕ → End → Type 0
-IsEnd marked path top (ends.Known standing) = IsKnownAs marked top standing
+IsEnd marked path top (ends.Known rootedness) = IsKnownAs marked top rootedness
 IsEnd marked path top (ends.Back place) = slice_get path place ≡ Some top
 
 -- the same things are known as before, and in the same way
 abbrev pub KnowsTheSame : List Mark → List Mark → Type 0
-KnowsTheSame old new = (number : ℕ) (standing : Standing) → IsKnownAs old number standing ↔ IsKnownAs new number standing
+KnowsTheSame old new = (number : ℕ) (rootedness : Rootedness) → IsKnownAs old number rootedness ↔ IsKnownAs new number rootedness
 
 -- a walk from the thing of this number has gone up this path, below the top
 pub record HasClimbed (parents : List (Option ℕ)) (number : ℕ) (old new : List Mark) (path : List ℕ) (top : ℕ) : Type 0 where
@@ -91,8 +91,8 @@ pub record Climbs (parents : List (Option ℕ)) (number : ℕ) (old new : List M
 
 -- what was known is known in the same way, and this too
 pub record IsKnownFrom (old new : List Mark) (number : ℕ) : Type 0 where
-  pub keeps : (other : ℕ) (standing : Standing) → IsKnownAs old other standing → IsKnownAs new other standing
-  pub known : (standing : Standing) × IsKnownAs new number standing
+  pub keeps : (other : ℕ) (rootedness : Rootedness) → IsKnownAs old other rootedness → IsKnownAs new other rootedness
+  pub known : (rootedness : Rootedness) × IsKnownAs new number rootedness
 
 -- all things of the list get the mark, and no others
 pub record MarksAll (list : List ℕ) (mark : Mark) (old new : List Mark) : Type 0 where
@@ -101,26 +101,26 @@ pub record MarksAll (list : List ℕ) (mark : Mark) (old new : List Mark) : Type
   pub outside : (number : ℕ) → ((place : ℕ) → slice_get list place ≡ Some number → ⊥)
       → slice_get new number ≡ slice_get old number
 
--- how a thing stands, off the circle, that stands under one of this standing
-abbrev pub below_of : Standing → Standing
+-- the rootedness of a thing, off the circle, that stands under one of this rootedness
+abbrev pub below_of : Rootedness → Rootedness
 below_of Rooted = Rooted
 below_of OnCircle = Leading
 below_of Leading = Leading
 
 -- the order with the things of the path behind it, from the last one down, if they are rooted
-abbrev pub ordered_more : Standing → List ℕ → List ℕ → List ℕ
+abbrev pub ordered_more : Rootedness → List ℕ → List ℕ → List ℕ
 ordered_more Rooted order path = order ++ reverse path
-ordered_more standing order path = order
+ordered_more rootedness order path = order
 
 -- the end is one of a walk along this path
 abbrev pub IsEndAlong : List ℕ → End → Type 0
-IsEndAlong path (ends.Known standing) = Unit {0}
+IsEndAlong path (ends.Known rootedness) = Unit {0}
 IsEndAlong path (ends.Back place) = place ≤ length path
 
 -- the things of the path are marked by how the walk ended, and the order has them that are rooted
 abbrev pub Finishes : List ℕ → End → List Mark → List ℕ → List Mark → List ℕ → Type 0
-Finishes path (ends.Known standing) old order new ordered =
-    MarksAll path (marks.Known (below_of standing)) old new × (ordered ≡ ordered_more (below_of standing) order path)
+Finishes path (ends.Known rootedness) old order new ordered =
+    MarksAll path (marks.Known (below_of rootedness)) old new × (ordered ≡ ordered_more (below_of rootedness) order path)
 Finishes path (ends.Back place) old order new ordered =
     ((mid : List Mark) × MarksAll (drop place path) (marks.Known OnCircle) old mid
     × MarksAll (take place path) (marks.Known Leading) mid new)

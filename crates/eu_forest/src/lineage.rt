@@ -1,14 +1,14 @@
-//! Standings and the order of things.
+//! Which things are rooted, and their order.
 
 ghost use Rattle.std.specs.Prelude.{◌≡◌, ◌<◌, ◌↔◌, ℕ, Some, IfOk, length, slice_get};
-ghost use Rattle.eu_forest.specs.Lines.{AreParents, IsLineageOf, standing_in};
+ghost use Rattle.eu_forest.specs.Lines.{AreParents, IsLineageOf, rootedness_in};
 
 use super::walk::{Mark, begin, walk};
 use std::alloc::{AllocError, Global};
 
-/// How a thing stands.
+/// Where the line leads on which a thing stands.
 #[derive(Clone, Copy, Debug, PartialEq, Eq)]
-pub enum Standing {
+pub enum Rootedness {
     /// What it stands under leads up to a thing that stands under none.
     Rooted,
     /// It stands under itself, at once or over others.
@@ -17,7 +17,7 @@ pub enum Standing {
     Leading,
 }
 
-/// The standings of things, and the rooted ones in an order in which each comes after the one that it stands under.
+/// The rootedness of things, and the rooted ones in an order in which each comes after the one that it stands under.
 #[derive(Drop)]
 pub struct Lineage {
     pub marks: Vec<Mark>,
@@ -39,12 +39,12 @@ impl Lineage {
         Ok(Lineage { marks, order })
     }
 
-    /// How the thing of this number stands.
-    pub fn standing(&self, number: usize) -> Option<Standing>
-        ensures { result ≡ standing_in self.now.marks.items number }
+    /// The rootedness of the thing of this number.
+    pub fn rootedness(&self, number: usize) -> Option<Rootedness>
+        ensures { result ≡ rootedness_in self.now.marks.items number }
     {
         match self.marks.get(number)? {
-            Mark::Known(standing) => Some(*standing),
+            Mark::Known(rootedness) => Some(*rootedness),
             _ => None,
         }
     }

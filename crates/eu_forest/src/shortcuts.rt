@@ -191,10 +191,10 @@ fn note_shortcut(up: &[Option<usize>], shortcuts: &mut Vec<Option<Shortcut>>, nu
     ensures { AreShortcuts up.now shortcuts.new.items }
 {
     let found = found_shortcut(up, shortcuts.as_slice(), number);
-    put(shortcuts, number, found);
+    put_shortcut(shortcuts, number, found);
 }
 
-fn put(shortcuts: &mut Vec<Option<Shortcut>>, number: usize, found: Option<Shortcut>)
+fn put_shortcut(shortcuts: &mut Vec<Option<Shortcut>>, number: usize, found: Option<Shortcut>)
     ensures { shortcuts.new.items ≡ with_shortcut shortcuts.old.items number found }
 {
     if number < shortcuts.len() && shortcut_at(shortcuts.as_slice(), number).is_none() {

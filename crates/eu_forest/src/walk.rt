@@ -3,10 +3,10 @@
 ghost use Rattle.std.specs.Prelude.{◌≡◌, ◌<◌, ◌≤◌, ◌++◌, ℕ, [], IfOk, OnOk, All, length, drop, reverse};
 ghost use Rattle.eu_forest.specs.Lines.{AreParents};
 ghost use Rattle.eu_forest.specs.Walks.{AreBegun, AreWalkable, Climbs, Finishes, IsEndAlong, IsKnownFrom, IsMarked, MarksAll, below_of, ordered_more};
-ghost use Rattle.eu_forest.specs.declared.lineage.Standing.TheVariants as standings;
+ghost use Rattle.eu_forest.specs.declared.lineage.Rootedness.TheVariants as how;
 ghost use Rattle.eu_forest.specs.declared.walk.Mark.TheVariants as mark;
 
-use super::lineage::Standing;
+use super::lineage::Rootedness;
 use std::alloc::{AllocError, Global};
 
 /// What is known of a thing.
@@ -15,14 +15,14 @@ pub enum Mark {
     Unseen,
     /// It stands on the present walk, at this place.
     Walked(usize),
-    Known(Standing),
+    Known(Rootedness),
 }
 
 // Where a walk ends.
 #[derive(Clone, Copy)]
 enum End {
-    // At a thing of this standing.
-    Known(Standing),
+    // At a thing of this rootedness.
+    Known(Rootedness),
     // At the walk's thing of this place.
     Back(usize),
 }
@@ -41,7 +41,7 @@ pub fn begin(
         match parent {
             None => {
                 order.push(number)?;
-                marks.push(Mark::Known(Standing::Rooted))?;
+                marks.push(Mark::Known(Rootedness::Rooted))?;
             }
             Some(_) => marks.push(Mark::Unseen)?,
         }
@@ -49,7 +49,7 @@ pub fn begin(
     Ok(())
 }
 
-/// Walks up from the thing of this number, so that its standing is known.
+/// Walks up from the thing of this number, so that its rootedness is known.
 pub fn walk(
     alloc: Global,
     parents: &[Option<usize>],
@@ -59,8 +59,8 @@ pub fn walk(
 ) -> Result<(), AllocError>
     requires parents { AreParents parents.now }
     requires there { number < length parents.now }
-    requires settled { AreWalkable parents.now marks.old order.old.items }
-    ensures settled { OnOk result (AreWalkable parents.now marks.new order.new.items) }
+    requires told { AreWalkable parents.now marks.old order.old.items }
+    ensures told { OnOk result (AreWalkable parents.now marks.new order.new.items) }
     ensures known { OnOk result (IsKnownFrom marks.old marks.new number) }
 {
     let mut path: Vec<usize> = Vec::new(alloc);
@@ -80,10 +80,10 @@ fn finish(
     ensures { OnOk result (Finishes path.now end marks.old order.old.items marks.new order.new.items) }
 {
     match end {
-        End::Known(standing) => settle_line(path, standing, marks, order),
+        End::Known(rootedness) => mark_line(path, rootedness, marks, order),
         End::Back(place) => {
-            settle_circle(&path[place..], marks);
-            settle_line(&path[..place], Standing::OnCircle, marks, order)
+            mark_circle(&path[place..], marks);
+            mark_line(&path[..place], Rootedness::OnCircle, marks, order)
         }
     }
 }
@@ -104,7 +104,7 @@ fn climb(
     let mut next = number;
     loop {
         match marks[next] {
-            Mark::Known(standing) => return Ok(End::Known(standing)),
+            Mark::Known(rootedness) => return Ok(End::Known(rootedness)),
             Mark::Walked(place) => return Ok(End::Back(place)),
             Mark::Unseen => {}
         }
@@ -120,27 +120,27 @@ fn climb(
 }
 
 // Marks the things as standing on a circle.
-fn settle_circle(circle: &[usize], marks: &mut [Mark])
+fn mark_circle(circle: &[usize], marks: &mut [Mark])
     requires { All (λ number. number < length marks.old) circle.now }
-    ensures { MarksAll circle.now (mark.Known standings.OnCircle) marks.old marks.new }
+    ensures { MarksAll circle.now (mark.Known how.OnCircle) marks.old marks.new }
 {
     for number in circle {
-        marks[*number] = Mark::Known(Standing::OnCircle);
+        marks[*number] = Mark::Known(Rootedness::OnCircle);
     }
 }
 
-// Says how the things of the path stand, from its last one down, which stands under one of this standing.
-fn settle_line(
+// Says how the things of the path stand, from its last one down, which stands under one of this rootedness.
+fn mark_line(
     path: &[usize],
-    standing: Standing,
+    rootedness: Rootedness,
     marks: &mut [Mark],
     order: &mut Vec<usize>,
 ) -> Result<(), AllocError>
     requires { All (λ number. number < length marks.old) path.now }
-    ensures marks { OnOk result (MarksAll path.now (mark.Known (below_of standing)) marks.old marks.new) }
-    ensures order { OnOk result (order.new.items ≡ ordered_more (below_of standing) order.old.items path.now) }
+    ensures marks { OnOk result (MarksAll path.now (mark.Known (below_of rootedness)) marks.old marks.new) }
+    ensures order { OnOk result (order.new.items ≡ ordered_more (below_of rootedness) order.old.items path.now) }
 {
-    let below = below(standing);
+    let below = below(rootedness);
     put_in_order(path, below, order)?;
     for number in path {
         marks[*number] = Mark::Known(below);
@@ -151,12 +151,12 @@ fn settle_line(
 // Puts the things of the path at the end of the order from its last one down, if they are rooted.
 fn put_in_order(
     path: &[usize],
-    standing: Standing,
+    rootedness: Rootedness,
     order: &mut Vec<usize>,
 ) -> Result<(), AllocError>
-    ensures { OnOk result (order.new.items ≡ ordered_more standing order.old.items path.now) }
+    ensures { OnOk result (order.new.items ≡ ordered_more rootedness order.old.items path.now) }
 {
-    if let Standing::Rooted = standing {
+    if let Rootedness::Rooted = rootedness {
         for number in path.iter().rev().copied() {
             order.push(number)?;
         }
@@ -164,13 +164,13 @@ fn put_in_order(
     Ok(())
 }
 
-// How a thing stands, off the circle, that stands under one of this standing.
-fn below(standing: Standing) -> Standing
-    ensures { result ≡ below_of standing }
+// The rootedness of a thing, off the circle, that stands under one of this rootedness.
+fn below(rootedness: Rootedness) -> Rootedness
+    ensures { result ≡ below_of rootedness }
 {
-    match standing {
-        Standing::Rooted => Standing::Rooted,
-        Standing::OnCircle => Standing::Leading,
-        Standing::Leading => Standing::Leading,
+    match rootedness {
+        Rootedness::Rooted => Rootedness::Rooted,
+        Rootedness::OnCircle => Rootedness::Leading,
+        Rootedness::Leading => Rootedness::Leading,
     }
 }

@@ -8,7 +8,7 @@ ghost use Rattle.run_commands.specs.Statuses.{is_read, is_write};
 use eu_io::sink::Sink;
 use eu_io::source::Source;
 use plan_db::Db;
-use plan_db::release::let_go;
+use plan_db::release::discard;
 use run_commands::{RunEnd, RunFault};
 use session_core::Editor;
 use session_loop::fault::SessionFault;
@@ -47,7 +47,7 @@ fn edit_new<S: Source, O: Sink>(
 {
     let mut editor = editor;
     let ended = edit(alloc, &mut editor, input, out);
-    let_go(editor.into_db());
+    discard(editor.into_db());
     ended
 }
 

@@ -25,7 +25,7 @@ use Rattle.model_core.specs.Variables.{HasParameter}
 use Rattle.model_core.specs.Views.{IsTokenAt}
 use Rattle.model_core.proofs.Leading.{token_once}
 use Rattle.plan_defs.specs.Terms.{BelongsTo}
-use Rattle.plan_defs.specs.Flaws.{Flaw, Undecided, Undetermined, Unordered, Untimed, IsFlaw, IsUntimed, IsTimed, IsLeftOpen}
+use Rattle.plan_defs.specs.Flaws.{Flaw, Undecided, Undetermined, Unordered, Untimed, IsFlaw, IsUntimed, IsTimed, IsUnbound}
 use Rattle.plan_defs.specs.StatePlans.{IsSettledState}
 use Rattle.plan_states.proofs.Counting.{number_below, rule_number_below}
 use Rattle.plan_states.proofs.Following.{places_before}
@@ -168,7 +168,7 @@ module _ (model : Model) (decisions : List Decision) (state : State) (is_state :
       let found = get_from_contains state.tokens token there in (found.0, found.1)
 
   -- a variable without a value is a global or one of a token
-  by_name : (name : VarName) → IsUntimed name → IsLeftOpen decisions state name → IsGlobalFlaw state (Undetermined name) ⊎ IsTokenValueFlaw state (Undetermined name)
+  by_name : (name : VarName) → IsUntimed name → IsUnbound decisions state name → IsGlobalFlaw state (Undetermined name) ⊎ IsTokenValueFlaw state (Undetermined name)
   by_name (names.Global number) untimed left = inl (number, (names.Global number, refl, refl))
   by_name (names.Token token Start) untimed left = absurd untimed
   by_name (names.Token token End) untimed left = absurd untimed
@@ -194,7 +194,7 @@ module _ (model : Model) (decisions : List Decision) (state : State) (is_state :
   pub of_token_is_value : (flaw : Flaw) → IsTokenValueFlaw state flaw → IsValueFlaw flaw
   of_token_is_value flaw (place, sought) = let of = value_of_place state place flaw sought in (of.0, of.2)
 
-  by_time : (name : VarName) → IsTimed name → IsLeftOpen decisions state name → (place : ℕ) × IsTimeFlawOf state place (Untimed name)
+  by_time : (name : VarName) → IsTimed name → IsUnbound decisions state name → (place : ℕ) × IsTimeFlawOf state place (Untimed name)
   by_time (names.Global number) timed left = absurd timed
   by_time (names.Local token rule number) timed left = absurd timed
   by_time (names.Token token Start) timed left =
@@ -232,25 +232,25 @@ module _ (model : Model) (decisions : List Decision) (state : State) (is_state :
   pub undecided_none : (place : ℕ) → ((token : TokenName) → IsTokenAt state place token → (IsDecided model decisions token → ⊥) → ⊥) → NoneOf model decisions state (IsUndecidedAt state place)
   undecided_none place none flaw (token, here, is) has = none token here (subst (IsFlaw model decisions state) is has).1
 
-  -- ---- what is left open
+  -- ---- what is left unbound
 
   -- a flaw of a variable says what its name is left with
-  pub value_open : (flaw : Flaw) (name : VarName) → flaw ≡ Undetermined name → IsFlaw model decisions state flaw → IsUntimed name × IsLeftOpen decisions state name
-  value_open flaw name is has = subst (IsFlaw model decisions state) is has
+  pub value_unbound : (flaw : Flaw) (name : VarName) → flaw ≡ Undetermined name → IsFlaw model decisions state flaw → IsUntimed name × IsUnbound decisions state name
+  value_unbound flaw name is has = subst (IsFlaw model decisions state) is has
 
-  pub time_open : (flaw : Flaw) (name : VarName) → flaw ≡ Untimed name → IsFlaw model decisions state flaw → IsTimed name × IsLeftOpen decisions state name
-  time_open flaw name is has = subst (IsFlaw model decisions state) is has
+  pub time_unbound : (flaw : Flaw) (name : VarName) → flaw ≡ Untimed name → IsFlaw model decisions state flaw → IsTimed name × IsUnbound decisions state name
+  time_unbound flaw name is has = subst (IsFlaw model decisions state) is has
 
   -- no variable of a rejected token is a flaw
   pub rejected_value : (place : ℕ) → ((token : TokenName) → IsTokenAt state place token → IsRejected decisions token) → (flaw : Flaw) → IsValueFlawOf state place flaw → IsFlaw model decisions state flaw → ⊥
   rejected_value place rejected flaw sought has =
       let of = value_of_place state place flaw sought in
-      (value_open flaw of.0 of.2 has).1.kept (of.1.0, of.1.2, rejected of.1.0 of.1.1)
+      (value_unbound flaw of.0 of.2 has).1.kept (of.1.0, of.1.2, rejected of.1.0 of.1.1)
 
   pub rejected_time : (place : ℕ) → ((token : TokenName) → IsTokenAt state place token → IsRejected decisions token) → (flaw : Flaw) → IsTimeFlawOf state place flaw → IsFlaw model decisions state flaw → ⊥
   rejected_time place rejected flaw sought has =
       let of = time_of_place state place flaw sought in
-      (time_open flaw of.0 of.2 has).1.kept (of.1.0, of.1.2, rejected of.1.0 of.1.1)
+      (time_unbound flaw of.0 of.2 has).1.kept (of.1.0, of.1.2, rejected of.1.0 of.1.1)
 
   -- where the token isn't rejected, none of its variables is of a rejected token
   pub part_unrejected : (place : ℕ) (part : Part) → ((token : TokenName) → IsTokenAt state place token → IsRejected decisions token → ⊥) → IsOfUnrejected decisions state (at.Part place part)
@@ -296,7 +296,7 @@ module _ (model : Model) (decisions : List Decision) (state : State) (is_state :
       (λ other meant. meant.2 ∙ ap Undetermined (var_once state place meant.0 name meant.1 here))
 
   pub value_none : (place : VarPlace) → ((name : VarName) → IsVarAt state place name → HasSeveral state name → ⊥) → NoneOf model decisions state (IsValueAt state place)
-  value_none place none flaw (name, here, is) has = let left = (value_open flaw name is has).1 in none name here (left.domain, left.gives, left.several)
+  value_none place none flaw (name, here, is) has = let left = (value_unbound flaw name is has).1 in none name here (left.domain, left.gives, left.several)
 
   pub time_found : (place : VarPlace) → IsOfUnrejected decisions state place → IsTimedAt state place → ((name : VarName) × IsVarAt state place name × HasSeveral state name)
       → FirstAt model decisions state (IsTimeAt state place) (flaws.Time place)
@@ -306,13 +306,13 @@ module _ (model : Model) (decisions : List Decision) (state : State) (is_state :
       (λ other meant. meant.2 ∙ ap Untimed (var_once state place meant.0 name meant.1 here))
 
   pub time_none : (place : VarPlace) → ((name : VarName) → IsVarAt state place name → HasSeveral state name → ⊥) → NoneOf model decisions state (IsTimeAt state place)
-  time_none place none flaw (name, here, is) has = let left = (time_open flaw name is has).1 in none name here (left.domain, left.gives, left.several)
+  time_none place none flaw (name, here, is) has = let left = (time_unbound flaw name is has).1 in none name here (left.domain, left.gives, left.several)
 
   -- ---- how many of each there are
 
   pub global_below : (number : ℕ) (flaw : Flaw) → IsValueAt state (at.Global number) flaw → IsFlaw model decisions state flaw → number < length model.problem.globals
   global_below number flaw (name, here, is) has =
-      let left = (value_open flaw name is has).1 in
+      let left = (value_unbound flaw name is has).1 in
       (is_state.variables (names.Global number)).1 (left.domain, subst (λ (n : VarName). Gives state n left.domain) here left.gives)
 
   pub value_place_below : (place : ℕ) (flaw : Flaw) → IsValueFlawOf state place flaw → place < length state.tokens
@@ -324,14 +324,14 @@ module _ (model : Model) (decisions : List Decision) (state : State) (is_state :
   pub parameter_given : (place number : ℕ) (flaw : Flaw) → IsValueAt state (at.Part place (Param number)) flaw → IsFlaw model decisions state flaw
       → (token : TokenName) × IsTokenAt state place token × ((slot : Slot) × HasToken model token slot × ((variable : VarDecl) × HasParameter model slot.pred number variable))
   parameter_given place number flaw (name, (token, here, same), is) has =
-      let left = (value_open flaw name is has).1 in
+      let left = (value_unbound flaw name is has).1 in
       let about = (is_state.variables (names.Token token (Param number))).1 (left.domain, subst (λ (n : VarName). Gives state n left.domain) same left.gives) in
       (token, here, (about.1.1.0, about.1.1.1, (about.1.1.2.0, about.1.1.2.1)))
 
   pub local_given : (place rule number : ℕ) (flaw : Flaw) → IsValueAt state (at.Local place rule number) flaw → IsFlaw model decisions state flaw
       → (token : TokenName) × IsTokenAt state place token × ((domain : Domain) × Gives state (names.Local token rule number) domain)
   local_given place rule number flaw (name, (token, here, same), is) has =
-      let left = (value_open flaw name is has).1 in
+      let left = (value_unbound flaw name is has).1 in
       (token, here, (left.domain, subst (λ (n : VarName). Gives state n left.domain) same left.gives))
 
   -- ---- pairs

@@ -8,8 +8,8 @@ ghost use Rattle.flaw_core.specs.Rules.{IsLeastFor};
 ghost use Rattle.flaw_core.specs.Seeking.{FindsFirst, IsInactive, IsTokenFlaw, IsPairFlaw, IsLateFlaw, IsLaterFlaw, IsAnyFlaw};
 
 use super::flaw::Flaw;
-use super::times::open_time;
-use super::values::open_value;
+use super::times::unbound_time;
+use super::values::unbound_value;
 use model_core::model::Model;
 use model_core::view::{TokenState, View};
 use timeline_core::first_unordered;
@@ -75,7 +75,7 @@ fn late_flaw<V: View>(model: &Model, view: &V) -> Option<Flaw>
     if let Some(flaw) = unordered(model, view) {
         return Some(flaw);
     }
-    open_time(view)
+    unbound_time(view)
 }
 
 // The first flaw that is about no token of which nothing is decided.
@@ -84,7 +84,7 @@ fn later_flaw<V: View>(model: &Model, view: &V) -> Option<Flaw>
     requires least { IsLeastFor (V.model view.now) (V.decisions view.now) (V.state view.now) }
     ensures { FindsFirst (V.model view.now) (V.decisions view.now) (V.state view.now) IsLaterFlaw result }
 {
-    if let Some(flaw) = open_value(model, view) {
+    if let Some(flaw) = unbound_value(model, view) {
         return Some(flaw);
     }
     late_flaw(model, view)

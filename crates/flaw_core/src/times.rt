@@ -13,7 +13,7 @@ use eu_name::name::Part;
 use model_core::view::View;
 
 // The time at the place, if it has more than one value.
-fn open_at<V: View>(view: &V, at: VarPlace) -> Option<Flaw>
+fn unbound_at<V: View>(view: &V, at: VarPlace) -> Option<Flaw>
     requires least { IsLeastFor (V.model view.now) (V.decisions view.now) (V.state view.now) }
     requires kept { IsOfUnrejected (V.decisions view.now) (V.state view.now) at }
     requires timed { IsTimedAt (V.state view.now) at }
@@ -27,35 +27,35 @@ fn open_at<V: View>(view: &V, at: VarPlace) -> Option<Flaw>
 }
 
 // The start or the duration of the token at the place, if it has more than one value, where the token isn't rejected.
-fn open_in_token<V: View>(view: &V, place: u32) -> Option<Flaw>
+fn unbound_in_token<V: View>(view: &V, place: u32) -> Option<Flaw>
     requires least { IsLeastFor (V.model view.now) (V.decisions view.now) (V.state view.now) }
     requires kept { IsOfUnrejected (V.decisions view.now) (V.state view.now) (at.Part place Object) }
     ensures { FindsFirst (V.model view.now) (V.decisions view.now) (V.state view.now) (IsTimeFlawOf (V.state view.now) place) result }
 {
-    if let Some(flaw) = open_at(view, VarPlace::Part(place, Part::Start)) {
+    if let Some(flaw) = unbound_at(view, VarPlace::Part(place, Part::Start)) {
         return Some(flaw);
     }
-    open_at(view, VarPlace::Part(place, Part::Duration))
+    unbound_at(view, VarPlace::Part(place, Part::Duration))
 }
 
 // The start or the duration of the token at the place, if it has more than one value.
-fn open_of_token<V: View>(view: &V, place: u32) -> Option<Flaw>
+fn unbound_of_token<V: View>(view: &V, place: u32) -> Option<Flaw>
     requires { IsLeastFor (V.model view.now) (V.decisions view.now) (V.state view.now) }
     ensures { FindsFirst (V.model view.now) (V.decisions view.now) (V.state view.now) (IsTimeFlawOf (V.state view.now) place) result }
 {
     if is_rejected(view, place) {
         return None;
     }
-    open_in_token(view, place)
+    unbound_in_token(view, place)
 }
 
 /// The first start or duration that has more than one value.
-pub fn open_time<V: View>(view: &V) -> Option<Flaw>
+pub fn unbound_time<V: View>(view: &V) -> Option<Flaw>
     requires { IsLeastFor (V.model view.now) (V.decisions view.now) (V.state view.now) }
     ensures { FindsFirst (V.model view.now) (V.decisions view.now) (V.state view.now) IsTimeFlaw result }
 {
     for place in 0..view.count() {
-        if let Some(flaw) = open_of_token(view, place) {
+        if let Some(flaw) = unbound_of_token(view, place) {
             return Some(flaw);
         }
     }

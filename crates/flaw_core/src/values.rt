@@ -20,7 +20,7 @@ use model_core::model::Model;
 use model_core::view::View;
 
 // The variable at the place, if it has more than one value.
-fn open_at<V: View>(view: &V, at: VarPlace) -> Option<Flaw>
+fn unbound_at<V: View>(view: &V, at: VarPlace) -> Option<Flaw>
     requires least { IsLeastFor (V.model view.now) (V.decisions view.now) (V.state view.now) }
     requires kept { IsOfUnrejected (V.decisions view.now) (V.state view.now) at }
     requires untimed { IsUntimedAt (V.state view.now) at }
@@ -34,13 +34,13 @@ fn open_at<V: View>(view: &V, at: VarPlace) -> Option<Flaw>
 }
 
 // The first global that has more than one value.
-fn open_global<V: View>(model: &Model, view: &V) -> Option<Flaw>
+fn unbound_global<V: View>(model: &Model, view: &V) -> Option<Flaw>
     requires model { V.model view.now ≡ model.now }
     requires least { IsLeastFor (V.model view.now) (V.decisions view.now) (V.state view.now) }
     ensures { FindsFirst (V.model view.now) (V.decisions view.now) (V.state view.now) (IsGlobalFlaw (V.state view.now)) result }
 {
     for number in 0..model.problem.globals.len() {
-        if let Some(flaw) = open_at(view, VarPlace::Global(number as u32)) {
+        if let Some(flaw) = unbound_at(view, VarPlace::Global(number as u32)) {
             return Some(flaw);
         }
     }
@@ -48,7 +48,7 @@ fn open_global<V: View>(model: &Model, view: &V) -> Option<Flaw>
 }
 
 // The first parameter of the token at the place that has more than one value.
-fn open_parameter<V: View>(model: &Model, view: &V, place: u32, pred: u32) -> Option<Flaw>
+fn unbound_parameter<V: View>(model: &Model, view: &V, place: u32, pred: u32) -> Option<Flaw>
     requires model { V.model view.now ≡ model.now }
     requires least { IsLeastFor (V.model view.now) (V.decisions view.now) (V.state view.now) }
     requires at { (token : TokenName) × IsTokenAt (V.state view.now) place token
@@ -57,7 +57,7 @@ fn open_parameter<V: View>(model: &Model, view: &V, place: u32, pred: u32) -> Op
     ensures { FindsFirst (V.model view.now) (V.decisions view.now) (V.state view.now) (IsParameterFlaw (V.state view.now) place) result }
 {
     for number in 0..count_params(model, pred) {
-        if let Some(flaw) = open_at(view, VarPlace::Part(place, Part::Param(number))) {
+        if let Some(flaw) = unbound_at(view, VarPlace::Part(place, Part::Param(number))) {
             return Some(flaw);
         }
     }
@@ -65,7 +65,13 @@ fn open_parameter<V: View>(model: &Model, view: &V, place: u32, pred: u32) -> Op
 }
 
 // The first local of this rule of the token at the place that has more than one value.
-fn open_in_rule<V: View>(model: &Model, view: &V, place: u32, pred: u32, rule: u16) -> Option<Flaw>
+fn unbound_in_rule<V: View>(
+    model: &Model,
+    view: &V,
+    place: u32,
+    pred: u32,
+    rule: u16,
+) -> Option<Flaw>
     requires model { V.model view.now ≡ model.now }
     requires least { IsLeastFor (V.model view.now) (V.decisions view.now) (V.state view.now) }
     requires at { (token : TokenName) × IsTokenAt (V.state view.now) place token
@@ -79,7 +85,7 @@ fn open_in_rule<V: View>(model: &Model, view: &V, place: u32, pred: u32, rule: u
             rule,
             number,
         };
-        if let Some(flaw) = open_at(view, at) {
+        if let Some(flaw) = unbound_at(view, at) {
             return Some(flaw);
         }
     }
@@ -87,7 +93,7 @@ fn open_in_rule<V: View>(model: &Model, view: &V, place: u32, pred: u32, rule: u
 }
 
 // The first local of the token at the place that has more than one value.
-fn open_local<V: View>(model: &Model, view: &V, place: u32, pred: u32) -> Option<Flaw>
+fn unbound_local<V: View>(model: &Model, view: &V, place: u32, pred: u32) -> Option<Flaw>
     requires model { V.model view.now ≡ model.now }
     requires least { IsLeastFor (V.model view.now) (V.decisions view.now) (V.state view.now) }
     requires at { (token : TokenName) × IsTokenAt (V.state view.now) place token
@@ -96,7 +102,7 @@ fn open_local<V: View>(model: &Model, view: &V, place: u32, pred: u32) -> Option
     ensures { FindsFirst (V.model view.now) (V.decisions view.now) (V.state view.now) (IsLocalFlawAt (V.state view.now) place) result }
 {
     for rule in 0..count_rules(model, pred) {
-        if let Some(flaw) = open_in_rule(model, view, place, pred, rule) {
+        if let Some(flaw) = unbound_in_rule(model, view, place, pred, rule) {
             return Some(flaw);
         }
     }
@@ -104,7 +110,7 @@ fn open_local<V: View>(model: &Model, view: &V, place: u32, pred: u32) -> Option
 }
 
 // The first variable of the token at the place that has more than one value, where the token isn't rejected.
-fn open_in_token<V: View>(model: &Model, view: &V, place: u32, pred: u32) -> Option<Flaw>
+fn unbound_in_token<V: View>(model: &Model, view: &V, place: u32, pred: u32) -> Option<Flaw>
     requires model { V.model view.now ≡ model.now }
     requires least { IsLeastFor (V.model view.now) (V.decisions view.now) (V.state view.now) }
     requires at { (token : TokenName) × IsTokenAt (V.state view.now) place token
@@ -112,17 +118,17 @@ fn open_in_token<V: View>(model: &Model, view: &V, place: u32, pred: u32) -> Opt
     requires kept { IsOfUnrejected (V.decisions view.now) (V.state view.now) (at.Part place parts.Object) }
     ensures { FindsFirst (V.model view.now) (V.decisions view.now) (V.state view.now) (IsValueFlawOf (V.state view.now) place) result }
 {
-    if let Some(flaw) = open_at(view, VarPlace::Part(place, Part::Object)) {
+    if let Some(flaw) = unbound_at(view, VarPlace::Part(place, Part::Object)) {
         return Some(flaw);
     }
-    if let Some(flaw) = open_parameter(model, view, place, pred) {
+    if let Some(flaw) = unbound_parameter(model, view, place, pred) {
         return Some(flaw);
     }
-    open_local(model, view, place, pred)
+    unbound_local(model, view, place, pred)
 }
 
 // The first variable of the token at the place that has more than one value.
-fn open_of_token<V: View>(model: &Model, view: &V, place: u32) -> Option<Flaw>
+fn unbound_of_token<V: View>(model: &Model, view: &V, place: u32) -> Option<Flaw>
     requires model { V.model view.now ≡ model.now }
     requires least { IsLeastFor (V.model view.now) (V.decisions view.now) (V.state view.now) }
     ensures { FindsFirst (V.model view.now) (V.decisions view.now) (V.state view.now) (IsValueFlawOf (V.state view.now) place) result }
@@ -131,19 +137,19 @@ fn open_of_token<V: View>(model: &Model, view: &V, place: u32) -> Option<Flaw>
         return None;
     }
     match pred_at(model, view, place) {
-        Some(pred) => open_in_token(model, view, place, pred),
+        Some(pred) => unbound_in_token(model, view, place, pred),
         None => None,
     }
 }
 
 // The first variable of a token that has more than one value.
-fn open_of_tokens<V: View>(model: &Model, view: &V) -> Option<Flaw>
+fn unbound_of_tokens<V: View>(model: &Model, view: &V) -> Option<Flaw>
     requires model { V.model view.now ≡ model.now }
     requires least { IsLeastFor (V.model view.now) (V.decisions view.now) (V.state view.now) }
     ensures { FindsFirst (V.model view.now) (V.decisions view.now) (V.state view.now) (IsTokenValueFlaw (V.state view.now)) result }
 {
     for place in 0..view.count() {
-        if let Some(flaw) = open_of_token(model, view, place) {
+        if let Some(flaw) = unbound_of_token(model, view, place) {
             return Some(flaw);
         }
     }
@@ -151,13 +157,13 @@ fn open_of_tokens<V: View>(model: &Model, view: &V) -> Option<Flaw>
 }
 
 /// The first variable that has more than one value and is no time.
-pub fn open_value<V: View>(model: &Model, view: &V) -> Option<Flaw>
+pub fn unbound_value<V: View>(model: &Model, view: &V) -> Option<Flaw>
     requires model { V.model view.now ≡ model.now }
     requires least { IsLeastFor (V.model view.now) (V.decisions view.now) (V.state view.now) }
     ensures { FindsFirst (V.model view.now) (V.decisions view.now) (V.state view.now) IsValueFlaw result }
 {
-    if let Some(flaw) = open_global(model, view) {
+    if let Some(flaw) = unbound_global(model, view) {
         return Some(flaw);
     }
-    open_of_tokens(model, view)
+    unbound_of_tokens(model, view)
 }

@@ -51,13 +51,13 @@ pub fn has_several<V: View>(view: &V, at: VarPlace) -> bool
         ((name : Variable) → IsVarAt (V.state view.now) at name → HasSeveral (V.state view.now) name → ⊥) }
 {
     match domain_of(view, at) {
-        Some(domain) => is_open(domain),
+        Some(domain) => is_unbound(domain),
         None => false,
     }
 }
 
 // Whether the domain has more than one value.
-fn is_open(domain: &Dom) -> bool
+fn is_unbound(domain: &Dom) -> bool
     ensures { MatchBool result
         ((value : ℤ) → IsSingle domain.now value → ⊥)
         ((value : ℤ) × IsSingle domain.now value) }

@@ -36,7 +36,7 @@ use Rattle.eu_name.proofs.Members.{get_from_contains, get_same}
 use Rattle.eu_name.proofs.Ordered.{contains_head, contains_later, contains_cases, ordered_cons}
 use Rattle.plan_defs.proofs.Saying.{own_or_merged, own_or_rejected, taken_or_rejected, fact_or_not}
 use Rattle.plan_defs.specs.Unordered.{AreUnordered}
-use Rattle.plan_defs.specs.Flaws.{Flaw, Undecided, Undetermined, Unordered, Untimed, IsLeftOpen}
+use Rattle.plan_defs.specs.Flaws.{Flaw, Undecided, Undetermined, Unordered, Untimed, IsUnbound}
 use Rattle.law_search.specs.SwapLaws.{MayChangePlaces, count_of_tokens}
 use Rattle.law_search.proofs.Agreeing.{swap_is_there, swaps_well}
 use Rattle.law_search.proofs.Mapping.{contains_map}
@@ -159,7 +159,7 @@ module _ (model : Model) (decisions : List Decision) (state : State) (bound : �
           not_decided rejected (inr (inl taken)) = taken_or_rejected plan fits.is_plan.order token (agrees_taken model decisions plan fits token taken) rejected
           not_decided rejected (inr (inr kept_not)) = kept token belongs kept_not
 
-  pub value_covered : (name : VarName) → ((other : TokenName) → flaw ≡ Undecided other → ⊥) → IsLeftOpen decisions state name → AreValueChoices state name choices
+  pub value_covered : (name : VarName) → ((other : TokenName) → flaw ≡ Undecided other → ⊥) → IsUnbound decisions state name → AreValueChoices state name choices
       → AgreesWithSome model decisions choices plan
   value_covered name apart left values =
       let found = value_in name values.domain values.gives

@@ -20,7 +20,7 @@ use Rattle.model_core.specs.Decided.{IsActivated, IsActive}
 use Rattle.model_core.specs.Entries.{Entries}
 use Rattle.model_core.specs.State.{State, Gives}
 use Rattle.plan_defs.specs.Claims.{Claim, IsClaim, at_most, part_of}
-use Rattle.plan_defs.specs.Closure.{IsConsistentState, IsRespected}
+use Rattle.plan_defs.specs.Closure.{IsPropagatedState, IsRespected}
 use Rattle.plan_defs.specs.Situations.{situation_of}
 use Rattle.plan_defs.specs.Sums.{sum_of}
 use Rattle.plan_defs.specs.Support.{MayBe, Opens, IsOpen, IsSupportedToken, front_token, one_side, other_side}
@@ -189,10 +189,10 @@ module _ (model : Model) (decisions : List Decision) (state : State) (top : Toke
   pub on_more : (token : TokenName) (object : ℤ) → IsOn low token object → IsOn state token object
   on_more token object on = (on.0, (given_kept top state (names.Token token Object) on.0 on.1).0, on.2)
 
-  -- ---- it is consistent
+  -- ---- it is propagated
 
-  pub low_consistent : IsConsistentState model decisions state → IsConsistentState model decisions (pruned top state)
-  low_consistent is = record {
+  pub low_propagated : IsPropagatedState model decisions state → IsPropagatedState model decisions (pruned top state)
+  low_propagated is = record {
     is_state = pruned_state model top state is.is_state;
     tokens = λ token supported.
         let more = supported_further model _ _ fewer token supported in

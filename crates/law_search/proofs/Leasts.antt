@@ -21,7 +21,7 @@ use Rattle.plan_defs.proofs.Lower.{opens_further}
 use Rattle.law_search.specs.SwapLaws.{IsGrounded}
 use Rattle.law_search.proofs.Tops.{IsUnderTop, keeps_token, kept_token, dropped_token}
 use Rattle.law_search.proofs.Pruning.{pruned, given_kept, given_stays}
-use Rattle.law_search.proofs.KeepingFit.{left_no_less, left_no_more, fewer, supported_still, open_still, taking_place_clear, low_consistent}
+use Rattle.law_search.proofs.KeepingFit.{left_no_less, left_no_more, fewer, supported_still, open_still, taking_place_clear, low_propagated}
 
 -- what the numbers are of those that pass the test
 passing : {X : Type 0} (Has Other : X → ℤ → Type 0) (passes : X → Bool) → ((x : X) (number : ℤ) → passes x ≡ true → Has x number → Other x number)
@@ -153,7 +153,7 @@ module _ (model : Model) (decisions : List Decision) (state : State) (top : Toke
 
   pub low_closed : IsClosed model decisions state → IsClosed model decisions (pruned top state)
   low_closed is = record {
-    consistent = low_consistent model decisions state top grounded idle is.consistent;
+    consistent = low_propagated model decisions state top grounded idle is.consistent;
     reusables = λ value object capacity instant found kind within. capacity_still value instant capacity (is.reusables value object capacity instant found kind within);
     reservoirs = λ complete value object initial low high instant found kind within.
         level_still value instant initial low high (is.reservoirs (complete_more complete) value object initial low high instant found kind within);

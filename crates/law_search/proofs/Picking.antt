@@ -25,7 +25,7 @@ use Rattle.plan_defs.specs.Timelines.{IsOn}
 use Rattle.eu_name.proofs.Ordered.{contains_cases, contains_none}
 use Rattle.plan_defs.specs.Unordered.{AreUnordered}
 use Rattle.plan_defs.proofs.Filling.{same_some}
-use Rattle.plan_defs.specs.Flaws.{Flaw, Undecided, Undetermined, Unordered, Untimed, IsLeftOpen}
+use Rattle.plan_defs.specs.Flaws.{Flaw, Undecided, Undetermined, Unordered, Untimed, IsUnbound}
 use Rattle.law_search.proofs.Mapping.{map_contains}
 use Rattle.law_search.specs.Choices.{IsFlawBefore, IsActivationLeft, IsRejectionLeft, AreTokenChoices, AreValueChoices}
 use Rattle.law_search.specs.SearchLaws.{IsChoiceOf}
@@ -85,7 +85,7 @@ module _ (model : Model) (decisions : List Decision) (state : State) (bound : �
 
   -- ---- values
 
-  module _ (name : VarName) (apart : (other : TokenName) → flaw ≡ Undecided other → ⊥) (left : IsLeftOpen decisions state name) (values : AreValueChoices state name choices) where
+  module _ (name : VarName) (apart : (other : TokenName) → flaw ≡ Undecided other → ⊥) (left : IsUnbound decisions state name) (values : AreValueChoices state name choices) where
     counted : ((Counts model (IsTaken decisions) name → ⊥) → ⊥)
     counted not = by_owner (owner_of name)
       where

@@ -1,4 +1,4 @@
--- A consistent state without what stands under a token that isn't activated is consistent too.
+-- A propagated state without what stands under a token that isn't activated is propagated too.
 use Rattle.std.proofs.Common.{inl, inr, List, [], ◌∷◌, refl, sym, subst}
 use Rattle.std.specs.Prelude.{Contains, filter}
 use Rattle.std.specs.List.{AllZip}

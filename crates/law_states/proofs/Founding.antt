@@ -1,4 +1,4 @@
--- The least state of a settled list is above every consistent state, and has nothing that isn't supported.
+-- The least state of a settled list is above every propagated state, and has nothing that isn't supported.
 use Rattle.std.proofs.Common.{inl, inr, ⊎_elim, List, [], ◌∷◌, ◌++◌, refl, sym, subst}
 use Rattle.std.specs.Prelude.{Contains}
 use Rattle.std.proofs.lemmas.List.Elements.{Contains-append_left, Contains-push_cases}
@@ -13,14 +13,14 @@ use Rattle.model_core.specs.Lawful.{IsLawful}
 use Rattle.model_core.specs.State.{State, IsBelow}
 use Rattle.plan_defs.specs.declared.plan.Plan.{Plan}
 use Rattle.plan_defs.specs.Broken.{AgreesWith}
-use Rattle.plan_defs.specs.Closure.{IsConsistentState, IsClosed, IsLeast}
+use Rattle.plan_defs.specs.Closure.{IsPropagatedState, IsClosed, IsLeast}
 use Rattle.plan_defs.specs.Refusals.{IsKnown, IsAdmissible}
 use Rattle.model_core.specs.declared.refusal.Refusal.TheVariants.{Unknown}
 use Rattle.plan_defs.specs.Settling.{SettlesAfter, IsSettled}
 use Rattle.plan_defs.specs.Situations.{situation_of}
 use Rattle.plan_defs.specs.Support.{IsSupportedToken, IsSupportedBlock}
 use Rattle.plan_defs.specs.Valid.{IsValid}
-use Rattle.plan_defs.proofs.Lower.{Further, supported_further, front_consistent}
+use Rattle.plan_defs.proofs.Lower.{Further, supported_further, front_propagated}
 use Rattle.plan_defs.proofs.Knowing.{known_or_not}
 use Rattle.eu_name.proofs.Ordered.{contains_none}
 use Rattle.plan_defs.proofs.Settling.{IsSettled-push}
@@ -54,9 +54,9 @@ named_if_known P state each (Order one other) known = (each one known.0, each ot
 
 -- ---- least states
 
--- the state is above every consistent one, has what the decisions name, and nothing that isn't supported
+-- the state is above every propagated one, has what the decisions name, and nothing that isn't supported
 record IsTopFounded (model : Model) (decisions : List Decision) (state : State) : Type 0 where
-  above : (other : State) → IsConsistentState model decisions other → IsBelow state other
+  above : (other : State) → IsPropagatedState model decisions other → IsBelow state other
   known : (decision : Decision) → Contains decisions decision → IsKnown state decision
   tokens : (token : TokenName) → Contains state.tokens token → IsSupportedToken model (situation_of decisions state) token
   blocks : (block : TokenBlock) → Contains state.blocks block → (entries : Entries) × IsSupportedBlock model (situation_of decisions state) block entries
@@ -69,14 +69,14 @@ module _ (model : Model) (lawful : IsLawful model) where
       let same = (decides_once model decisions settled).one token (Reject token) (Merge token merged.0) rejected merged.1 refl refl in absurd (cc)
 
   module _ (decisions : List Decision) (state : State) (settled : IsSettled model decisions) (least : IsLeast model decisions state)
-      (there : (other : State) → IsConsistentState model decisions other → (decision : Decision) → Contains decisions decision → IsKnown other decision)
+      (there : (other : State) → IsPropagatedState model decisions other → (decision : Decision) → Contains decisions decision → IsKnown other decision)
       (named : (decision : Decision) → Contains decisions decision → AreNamed (IsSupportedToken model (situation_of decisions state)) decision) where
-    active_there : (other : State) → IsConsistentState model decisions other → (token : TokenName) → IsActive model decisions token → Contains other.tokens token
+    active_there : (other : State) → IsPropagatedState model decisions other → (token : TokenName) → IsActive model decisions token → Contains other.tokens token
     active_there other fit token (inl fact) = fit.tokens token (root_supported model decisions other token fact.1.0 fact.0 fact.1.1)
     active_there other fit token (inr activated) = there other fit (Activate token) activated
 
-    -- what is consistent and has the least state below it is closed
-    closed_above : (high : State) → IsConsistentState model decisions high → IsBelow high state → IsClosed model decisions high
+    -- what is propagated and has the least state below it is closed
+    closed_above : (high : State) → IsPropagatedState model decisions high → IsBelow high state → IsClosed model decisions high
     closed_above high fit below = record {
       consistent = fit;
       reusables = reusables_above model decisions high state fit.is_state least.closed.consistent.is_state below least.closed.reusables;
@@ -119,8 +119,8 @@ module _ (model : Model) (lawful : IsLawful model) where
       ]
     ]
 
-    next_below : (other : State) → IsConsistentState model longer other → IsBelow admissible.state other
-    next_below other fit = before.above other (front_consistent model kept (next ∷ []) other fit)
+    next_below : (other : State) → IsPropagatedState model longer other → IsBelow admissible.state other
+    next_below other fit = before.above other (front_propagated model kept (next ∷ []) other fit)
 
     further : (other : State) → IsBelow admissible.state other → Further (situation_of kept admissible.state) (situation_of longer other)
     further other below = record {
@@ -153,7 +153,7 @@ module _ (model : Model) (lawful : IsLawful model) where
 -- ---- the laws
 
 pub least_above : (model : Model) (decisions : List Decision) (state other : State) → IsLawful model → IsSettled model decisions → IsLeast model decisions state
-    → IsConsistentState model decisions other → IsBelow state other
+    → IsPropagatedState model decisions other → IsBelow state other
 least_above model decisions state other lawful settled least = (all_founded model lawful decisions settled state least).above other
 
 pub well_founded : (model : Model) (decisions : List Decision) (state : State) → IsLawful model → IsSettled model decisions → IsLeast model decisions state

@@ -36,7 +36,7 @@ use Rattle.plan_defs.specs.StatePlans.{GivesOnly, ArePartValues, TakesPlaceAs}
 use Rattle.plan_defs.specs.Surveying.{AreFirstValues, HasPartCount}
 use Rattle.plan_defs.proofs.Admitting.{admitted, target_of_model, token_of_state}
 use Rattle.plan_defs.proofs.Deciding.{DecidesOnce, decides_once}
-use Rattle.plan_defs.proofs.Determining.{single_or_not, left_open, part_flaw}
+use Rattle.plan_defs.proofs.Determining.{single_or_not, is_unbound, part_flaw}
 use Rattle.plan_defs.proofs.Kinding.{pred_of_slot}
 use Rattle.plan_defs.proofs.Parting.{part_there, has_part}
 use Rattle.plan_defs.proofs.Stating.{are_values, takes_not_rejected}
@@ -77,9 +77,9 @@ module _ (model : Model) (decisions : List Decision) (state : State) (plan : Pla
 
   several_flaw : (name : VarName) (domain : Domain) → Gives state name domain → ((value : ℤ) → IsSingle domain value → ⊥) → IsKept name → HasFlaw model decisions state
   several_flaw (variables.Global number) domain gives several kept =
-      (Undetermined (variables.Global number), (tt, left_open model decisions state is.settled.consistent (variables.Global number) domain gives several kept))
+      (Undetermined (variables.Global number), (tt, is_unbound model decisions state is.settled.consistent (variables.Global number) domain gives several kept))
   several_flaw (variables.Local token rule number) domain gives several kept =
-      (Undetermined (variables.Local token rule number), (tt, left_open model decisions state is.settled.consistent (variables.Local token rule number) domain gives several kept))
+      (Undetermined (variables.Local token rule number), (tt, is_unbound model decisions state is.settled.consistent (variables.Local token rule number) domain gives several kept))
   several_flaw (variables.Token token part) domain gives several kept =
       let about = (is_state.variables (variables.Token token part)).1 (domain, gives) in
       let flaw = part_flaw model decisions state is.settled.consistent token about.1.1.0 about.0 about.1.1.1 (owner_kept token part kept) part about.1.0 about.1.1.2

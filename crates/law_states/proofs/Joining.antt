@@ -1,4 +1,4 @@
--- Two consistent states lie below a third, which has what both have.
+-- Two propagated states lie below a third, which has what both have.
 use Rattle.std.proofs.Common.{◌≡◌, ℕ, List, [], ◌∷◌, refl, sym, ◌∙◌, subst}
 use Rattle.std.specs.Prelude.{Contains}
 use Rattle.std.specs.List.{AllZip}
@@ -25,7 +25,7 @@ use Rattle.model_core.specs.State.{State, Gives, IsAbout, IsBlockOf, IsBelow}
 use Rattle.model_core.specs.Tokens.{HasToken}
 use Rattle.model_core.specs.Variables.{HasBase, IsInBase}
 use Rattle.plan_defs.specs.Claims.{Claim}
-use Rattle.plan_defs.specs.Closure.{IsConsistentState, IsRespected}
+use Rattle.plan_defs.specs.Closure.{IsPropagatedState, IsRespected}
 use Rattle.plan_defs.specs.Consistency.{IsClaimConsistent, HasField}
 use Rattle.plan_defs.specs.Terms.{Argument, Value, Variable, HasDomain}
 use Rattle.plan_defs.proofs.Lower.{asks_as_much, turn_below}
@@ -52,8 +52,8 @@ pub record IsJoined (model : Model) (one other : State) (name : VarName) (domain
   pub gives_other : Gives other name second
   pub hull : IsHull first second domain
 
-module _ (model : Model) (decisions : List Decision) (lawful : IsLawful model) (one other : State) (one_fit : IsConsistentState model decisions one)
-    (other_fit : IsConsistentState model decisions other) where
+module _ (model : Model) (decisions : List Decision) (lawful : IsLawful model) (one other : State) (one_fit : IsPropagatedState model decisions one)
+    (other_fit : IsPropagatedState model decisions other) where
   joined_domain : (name : VarName) → IsAbout model one name → IsAbout model other name → (domain : Domain) × IsJoined model one other name domain
   joined_domain name about_one about_other =
       let first = (one_fit.is_state.variables name).0 about_one in
@@ -195,7 +195,7 @@ module _ (model : Model) (decisions : List Decision) (lawful : IsLawful model) (
           let all = all_argued claim.arguments is.domains its.domains is.have its.have in
           record { domains = all.domains; have = all.have; agree = covered_consistent (reach_of claim.kind) (Holds (HasField model) claim.kind) is.domains its.domains all.domains all.cover is.agree its.agree }
 
-      -- ---- it is consistent
+      -- ---- it is propagated
 
       respected : (decision : Decision) → IsRespected decision one → IsRespected decision other → IsRespected decision joined
       respected (Specify name value) is its = λ domain gives.
@@ -207,7 +207,7 @@ module _ (model : Model) (decisions : List Decision) (lawful : IsLawful model) (
       respected (Reject token) is its = tt
       respected (Order before after) is its = tt
 
-      consistent : IsConsistentState model decisions joined
+      consistent : IsPropagatedState model decisions joined
       consistent =
           let asks = asks_as_much model decisions joined one below_one in
           let asks_other = asks_as_much model decisions joined other below_other in

@@ -10,7 +10,7 @@ use Rattle.model_core.specs.declared.decision.Decision.TheVariants.{Specify, Act
 use Rattle.model_core.specs.declared.model.Model.{Model}
 use Rattle.model_core.specs.Decided.{IsTaken, IsActive, IsDecided}
 use Rattle.model_core.specs.State.{State, IsBelow}
-use Rattle.plan_defs.specs.Closure.{IsConsistentState, IsClosed, IsLeast}
+use Rattle.plan_defs.specs.Closure.{IsPropagatedState, IsClosed, IsLeast}
 use Rattle.plan_defs.specs.Refusals.{IsKnown, IsAlreadyDecided, NeedsActive, AreActive, Hinders, IsAdmissible}
 use Rattle.model_core.specs.declared.refusal.Refusal.TheVariants.{Unknown, Decided, NotInDomain, NotActive, NotSamePredicate, NotRejectable, SameToken, ActiveFull}
 use Rattle.model_core.specs.declared.refusal.Refusal.{Refusal}
@@ -22,7 +22,7 @@ use Rattle.plan_defs.proofs.Knowing.{known_or_not}
 use Rattle.plan_defs.proofs.Lower.{counts_further, supported_further, further_below}
 use Rattle.eu_name.proofs.Ordered.{contains_head, contains_cases, contains_none}
 use Rattle.plan_defs.proofs.Settling.{settled_few, IsSettled-push}
-use Rattle.law_states.proofs.Thinning.{IsPartOf, KeepsTokens, taken_more, active_more, decided_more, further_kept, fewer_consistent, closed_same, closed_undecided}
+use Rattle.law_states.proofs.Thinning.{IsPartOf, KeepsTokens, taken_more, active_more, decided_more, further_kept, fewer_propagated, closed_same, closed_undecided}
 
 -- ---- members
 
@@ -88,11 +88,11 @@ kept_least model kept (decision ∷ decisions) settled state (inr goes) least = 
 
 -- ---- two lists of which the one has less
 
--- each consistent state lies below the least one
+-- each propagated state lies below the least one
 abbrev pub LeastAreAbove : Model → Type 0
 LeastAreAbove model =
     (decisions : List Decision) (state other : State)
-    → IsSettled model decisions → IsLeast model decisions state → IsConsistentState model decisions other → IsBelow state other
+    → IsSettled model decisions → IsLeast model decisions state → IsPropagatedState model decisions other → IsBelow state other
 
 -- and the least one has no token that isn't supported
 abbrev pub LeastAreFounded : Model → Type 0
@@ -137,7 +137,7 @@ module _ (model : Model) (above : LeastAreAbove model) (founded : LeastAreFounde
   closed_thinned before more fewer state thinned closed = elim thinned.tokens [
     | inl keeps ↦ closed_same fewer more thinned.part state model keeps closed
     | inr misses ↦
-        let below = above misses.early misses.state state misses.settled misses.least (fewer_consistent misses.early more misses.part state model closed.consistent) in
+        let below = above misses.early misses.state state misses.settled misses.least (fewer_propagated misses.early more misses.part state model closed.consistent) in
         let first = founded misses.early misses.state misses.token misses.settled misses.least misses.known in
         let later = supported_further model (situation_of misses.early misses.state) (situation_of misses.early state)
         (further_below model misses.early misses.state state below) misses.token first in
@@ -160,7 +160,7 @@ module _ (model : Model) (above : LeastAreAbove model) (founded : LeastAreFounde
 
     module _ (state : State) (least : IsLeast model more state) (admits : IsAdmissible model fewer decision) where
       lower : IsBelow admits.state state
-      lower = above fewer admits.state state thinned.settled_fewer admits.least (fewer_consistent fewer more thinned.part state model least.closed.consistent)
+      lower = above fewer admits.state state thinned.settled_fewer admits.least (fewer_propagated fewer more thinned.part state model least.closed.consistent)
 
       known : (each : Decision) → IsKnown admits.state each → IsKnown state each
       known (Specify name value) p = let found = lower.variables name p.0 p.1 in (found.0, found.1)

@@ -31,7 +31,7 @@ use Rattle.model_core.specs.Standing.{IsTermSeen, IsItemSeen, IsSeen}
 use Rattle.model_core.specs.State.{State, Gives, StandsOpen, IsAbout, IsBlockOf, IsBelow}
 use Rattle.model_core.specs.Tokens.{HasToken, IsRoot, root_token, slot_token}
 use Rattle.plan_defs.specs.Claims.{Claim, IsClaim, ItemSays, part_of, at_most}
-use Rattle.plan_defs.specs.Closure.{IsConsistentState, IsClosed, IsRespected}
+use Rattle.plan_defs.specs.Closure.{IsPropagatedState, IsClosed, IsRespected}
 use Rattle.plan_defs.specs.Consistency.{IsClaimConsistent}
 use Rattle.plan_defs.specs.Situations.{situation_of}
 use Rattle.plan_defs.specs.Support.{IsSupportedToken, IsSupportedBlock}
@@ -71,7 +71,7 @@ root_supported model decisions state token root none is = record {
     no_split [] step back are = cc
     no_split (first ∷ front) step back are = cc
 
-module _ (model : Model) (decisions : List Decision) (state : State) (lawful : IsLawful model) (fit : IsConsistentState model decisions state)
+module _ (model : Model) (decisions : List Decision) (state : State) (lawful : IsLawful model) (fit : IsPropagatedState model decisions state)
     (named : (decision : Decision) → Contains decisions decision → AreNamed (IsSupportedToken model (situation_of decisions state)) decision) where
   abbrev Supported : TokenName → Type 0
   Supported token = IsSupportedToken model (situation_of decisions state) token
@@ -287,7 +287,7 @@ module _ (model : Model) (decisions : List Decision) (state : State) (lawful : I
       on_supported : (token : TokenName) (domain : Domain) → Gives pruned (names.Token token Object) domain → Supported token
       on_supported token domain gives = ((some.are token).0 ((whole.is_state.variables (names.Token token Object)).1 (domain, gives)).0).1
 
-      consistent : IsConsistentState model decisions pruned
+      consistent : IsPropagatedState model decisions pruned
       consistent =
           let asks = asks_as_much model decisions pruned state below in
           record {

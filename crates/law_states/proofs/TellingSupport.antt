@@ -1,4 +1,4 @@
--- Whether a token or a block is supported in a consistent state can be told.
+-- Whether a token or a block is supported in a propagated state can be told.
 use Rattle.std.proofs.Common.{◌≡◌, ℕ, inl, inr, ⊎_elim, List, [], ◌∷◌, ◌++◌, refl, sym, ap, ◌∙◌, subst}
 use Rattle.std.specs.Prelude.{Contains}
 use Rattle.std.proofs.lemmas.Bool.{cases_eq}
@@ -15,7 +15,7 @@ use Rattle.model_core.specs.Decided.{IsActivated, IsMerged, IsTaken}
 use Rattle.model_core.specs.Entries.{Entries}
 use Rattle.model_core.specs.Lawful.{IsToken}
 use Rattle.model_core.specs.State.{State, VarDomain, Gives}
-use Rattle.plan_defs.specs.Closure.{IsConsistentState}
+use Rattle.plan_defs.specs.Closure.{IsPropagatedState}
 use Rattle.plan_defs.specs.Situations.{situation_of}
 use Rattle.plan_defs.specs.Support.{IsOpen, AsksFor, IsSupportedToken, IsSupportedBlock, front_token}
 use Rattle.plan_defs.proofs.Knowing.{IsOrNot, given_or_not, same_token}
@@ -104,7 +104,7 @@ slot_or_not items slot = elim (any_or_not (λ what. OfSlot slot ≡ what) (is_sl
 
 -- ---- what is supported
 
-module _ (model : Model) (decisions : List Decision) (state : State) (fit : IsConsistentState model decisions state)
+module _ (model : Model) (decisions : List Decision) (state : State) (fit : IsPropagatedState model decisions state)
     (of_model : (token : TokenName) → IsActivated decisions token → IsToken model token) where
   tell : CanTell (situation_of decisions state)
   tell = record {

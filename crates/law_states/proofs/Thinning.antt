@@ -15,7 +15,7 @@ use Rattle.model_core.specs.declared.model.Model.{Model}
 use Rattle.model_core.specs.Decided.{IsTaken, IsActive, IsDecided}
 use Rattle.model_core.specs.State.{State}
 use Rattle.plan_defs.specs.Claims.{Claim, IsClaim, IsOfProblem, IsOfBlock}
-use Rattle.plan_defs.specs.Closure.{IsConsistentState, IsClosed}
+use Rattle.plan_defs.specs.Closure.{IsPropagatedState, IsClosed}
 use Rattle.plan_defs.specs.Resources.{IsActor, IsShare, SurelyChanges, MayChange, IsHighChange, IsLowChange}
 use Rattle.plan_defs.specs.Resources.{FitReusables, FitReservoirs, IsTokenComplete, IsCertain, IsOfRejected}
 use Rattle.plan_defs.specs.Situations.{situation_of}
@@ -116,9 +116,9 @@ module _ (fewer more : List Decision) (part : IsPartOf fewer more) where
         other_on = p.other_on;
       }
 
-      -- what is consistent for the longer list is consistent for the shorter one
-      pub fewer_consistent : IsConsistentState model more state → IsConsistentState model fewer state
-      fewer_consistent p = record {
+      -- what is propagated for the longer list is propagated for the shorter one
+      pub fewer_propagated : IsPropagatedState model more state → IsPropagatedState model fewer state
+      fewer_propagated p = record {
         is_state = p.is_state;
         tokens = λ token q. p.tokens token (supported_further model (situation_of fewer state) (situation_of more state) further_more token q);
         blocks = λ block entries q. p.blocks block entries (block_further model (situation_of fewer state) (situation_of more state) further_more block entries q);
@@ -259,7 +259,7 @@ module _ (fewer more : List Decision) (part : IsPartOf fewer more) where
         -- what is closed for the longer list is closed for the shorter one
         pub closed_same : IsClosed model more state → IsClosed model fewer state
         closed_same closed = record {
-          consistent = fewer_consistent closed.consistent;
+          consistent = fewer_propagated closed.consistent;
           reusables = fewer_reusables closed.reusables;
           reservoirs = fewer_reservoirs closed.reservoirs;
         }
@@ -268,7 +268,7 @@ module _ (fewer more : List Decision) (part : IsPartOf fewer more) where
       pub closed_undecided : (token : TokenName) → IsSupportedToken model (situation_of fewer state) token → (IsDecided model fewer token → ⊥)
           → IsClosed model more state → IsClosed model fewer state
       closed_undecided token supported undecided closed = record {
-        consistent = fewer_consistent closed.consistent;
+        consistent = fewer_propagated closed.consistent;
         reusables = fewer_reusables closed.reusables;
         reservoirs = λ complete. absurd (undecided (complete.tokens token supported));
       }

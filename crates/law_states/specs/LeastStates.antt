@@ -1,4 +1,4 @@
--- What the least state of a settled list is: above every consistent state, with all that the list names, and with nothing that
+-- What the least state of a settled list is: above every propagated state, with all that the list names, and with nothing that
 -- isn't supported; and what the plan of one without a flaw is.
 use Rattle.std.specs.Prelude.{List}
 use Rattle.model_core.specs.declared.decision.Decision.{Decision}
@@ -7,32 +7,32 @@ use Rattle.model_core.specs.Lawful.{IsLawful}
 use Rattle.model_core.specs.State.{State, IsBelow}
 use Rattle.plan_defs.specs.declared.plan.Plan.{Plan}
 use Rattle.plan_defs.specs.Broken.{AgreesWith}
-use Rattle.plan_defs.specs.Closure.{IsConsistentState, IsLeast}
+use Rattle.plan_defs.specs.Closure.{IsPropagatedState, IsLeast}
 use Rattle.plan_defs.specs.Settling.{IsSettled}
 use Rattle.plan_defs.specs.Valid.{IsValid}
 use Rattle.plan_defs.specs.Flaws.{HasFlaw}
 use Rattle.plan_defs.specs.StatePlans.{IsStatePlan}
 use Rattle.law_states.specs.Soundness.{IsWellFounded}
 
--- a consistent state that the two states lie below
+-- a propagated state that the two states lie below
 pub record HasUpper (model : Model) (decisions : List Decision) (one other : State) : Type 0 where
   pub upper : State
-  pub consistent : IsConsistentState model decisions upper
+  pub consistent : IsPropagatedState model decisions upper
   pub one_below : IsBelow upper one
   pub other_below : IsBelow upper other
 
--- two consistent states lie below a third
-abbrev pub ConsistentStatesHaveUppers : Type 0
-ConsistentStatesHaveUppers =
+-- two propagated states lie below a third
+abbrev pub PropagatedStatesHaveUppers : Type 0
+PropagatedStatesHaveUppers =
     (model : Model) (decisions : List Decision) (one other : State)
-    → IsLawful model → IsConsistentState model decisions one → IsConsistentState model decisions other
+    → IsLawful model → IsPropagatedState model decisions one → IsPropagatedState model decisions other
     → HasUpper model decisions one other
 
--- every consistent state lies below the least one, also where resources don't fit in it
+-- every propagated state lies below the least one, also where resources don't fit in it
 abbrev pub LeastStatesAreAbove : Type 0
 LeastStatesAreAbove =
     (model : Model) (decisions : List Decision) (state other : State)
-    → IsLawful model → IsSettled model decisions → IsLeast model decisions state → IsConsistentState model decisions other
+    → IsLawful model → IsSettled model decisions → IsLeast model decisions state → IsPropagatedState model decisions other
     → IsBelow state other
 
 -- the least state has what the list names, and nothing that isn't supported in it

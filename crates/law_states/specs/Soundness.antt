@@ -25,7 +25,7 @@ pub record IsWellFounded (model : Model) (decisions : List Decision) (state : St
   pub blocks : (block : TokenBlock) → Contains state.blocks block
       → (entries : Entries) × IsSupportedBlock model (situation_of decisions state) block entries
 
--- the plan is that of a founded state without a flaw, which is consistent for a settled list of a lawful model
+-- the plan is that of a founded state without a flaw, which is propagated for a settled list of a lawful model
 pub record IsFlawlessPlan (model : Model) (decisions : List Decision) (state : State) (plan : Plan) : Type 0 where
   pub settled : IsSettledState model decisions state
   pub founded : IsWellFounded model decisions state

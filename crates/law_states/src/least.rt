@@ -1,15 +1,15 @@
 //! Laws: what is in the least state of a settled list, and what lies below it.
 
-ghost use Rattle.law_states.specs.LeastStates.{ConsistentStatesHaveUppers, LeastStatesAreAbove};
+ghost use Rattle.law_states.specs.LeastStates.{PropagatedStatesHaveUppers, LeastStatesAreAbove};
 ghost use Rattle.law_states.specs.LeastStates.{LeastStatesAreWellFounded, PlansOfLeastStatesAreValid};
 
-/// Two consistent states lie below a third: it has what both have, and each variable may be what it
+/// Two propagated states lie below a third: it has what both have, and each variable may be what it
 /// may be in either.
-pub fn consistent_states_have_uppers()
-    ensures { ConsistentStatesHaveUppers }
+pub fn propagated_states_have_uppers()
+    ensures { PropagatedStatesHaveUppers }
 {}
 
-/// The least state of a settled list lies above every consistent state, has what the list names, and
+/// The least state of a settled list lies above every propagated state, has what the list names, and
 /// nothing that isn't supported in it.
 pub fn least_states_are_well_founded()
     ensures above { LeastStatesAreAbove }

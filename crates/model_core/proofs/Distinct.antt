@@ -25,13 +25,18 @@ pairs_back R xs ys pairs i j d below within =
     rw (get_or-append-add xs ys i d, get_or-append-add xs ys j d) at (pairs (length xs + i) (length xs + j) d order whole)
 
 -- equal things stand at one place of a list whose things differ
-pub place_once : {X : Type 0} (xs : List X) (i j : ℕ) (d : X) → AllPairs ◌≢◌ xs → i < length xs → j < length xs → get_or xs i d ≡ get_or xs j d → i ≡ j
-place_once xs i j d distinct first second same =
+pub index_once : {X : Type 0} (xs : List X) (i j : ℕ) (d : X) → AllPairs ◌≢◌ xs → i < length xs → j < length xs → get_or xs i d ≡ get_or xs j d → i ≡ j
+index_once xs i j d distinct first second same =
     elim (cases_order i j) [
       | inl equal ↦ equal
       | inr (inl below) ↦ absurd (distinct i j d below second same)
       | inr (inr above) ↦ absurd (distinct j i d above first (sym same))
     ]
+
+-- what is in a list once has one place
+pub place_once : {X : Type 0} (xs : List X) → AllPairs (λ one other. one ≢ other) xs → (j k : ℕ) (x : X) → slice_get xs j ≡ Some x → slice_get xs k ≡ Some x → j ≡ k
+place_once xs once j k x first second =
+    index_once xs j k x once (item_within xs j x first) (item_within xs k x second) (item_is xs j x x first ∙ sym (item_is xs k x x second))
 
 -- two things of a list that are called alike stand at one place, if all are called differently
 called_once : {X : Type 0} (name : X → List ℕ) (xs : List X) (i j : ℕ) (one other : X) → AllPairs ◌≢◌ (map name xs)
@@ -41,7 +46,7 @@ called_once name xs i j one other distinct first second same =
     let second_in = item_within xs j other second in
     let first_is : get_or (map name xs) i (name one) ≡ name one = get_or-map name xs i one (name one) first_in ∙ ap name (item_is xs i one one first) in
     let second_is : get_or (map name xs) j (name one) ≡ name other = get_or-map name xs j one (name one) second_in ∙ ap name (item_is xs j one other second) in
-    place_once (map name xs) i j (name one) distinct (omega (arith, length-map xs name, first_in)) (omega (arith, length-map xs name, second_in)) (first_is ∙ (same ∙ sym second_is))
+    index_once (map name xs) i j (name one) distinct (omega (arith, length-map xs name, first_in)) (omega (arith, length-map xs name, second_in)) (first_is ∙ (same ∙ sym second_is))
 
 pub global_once : (model : Model) (i j : ℕ) (one other : VarDecl) → IsLawful model → slice_get model.problem.globals i ≡ Some one → slice_get model.problem.globals j ≡ Some other
     → one.name ≡ other.name → i ≡ j

@@ -88,16 +88,16 @@ impl Model {
             ((part : Part) → IsPartWord self.now pred part word.now → ⊥)
             (λ part. IsPartWord self.now pred part word.now) }
     {
-        if is_same(word, b"start") {
+        if is_same_word(word, b"start") {
             return Some(Part::Start);
         }
-        if is_same(word, b"end") {
+        if is_same_word(word, b"end") {
             return Some(Part::End);
         }
-        if is_same(word, b"duration") {
+        if is_same_word(word, b"duration") {
             return Some(Part::Duration);
         }
-        if is_same(word, b"object") {
+        if is_same_word(word, b"object") {
             return Some(Part::Object);
         }
         Some(Part::Param(self.param_named(pred, word)?))
@@ -149,7 +149,7 @@ impl Model {
 }
 
 // Whether the two are one word.
-fn is_same(word: &[u8], other: &[u8]) -> bool
+fn is_same_word(word: &[u8], other: &[u8]) -> bool
     ensures { IsTrue result ↔ (word.now ≡ other.now) }
 {
     word == other

@@ -1,9 +1,9 @@
 -- Classes in line: those that lead up to one that extends none, and what a class that isn't rooted does.
 use Rattle.std.proofs.Common.{◌≡◌, ℕ, zero, suc, ◌<◌, List, [], ◌∷◌, length, map, slice_get, Option, Some, refl, sym, ap, ◌∙◌, subst, arith}
-use Rattle.eu_forest.specs.declared.lineage.Standing.{Standing}
-use Rattle.eu_forest.specs.declared.lineage.Standing.TheVariants.{Rooted, OnCircle, Leading}
+use Rattle.eu_forest.specs.declared.lineage.Rootedness.{Rootedness}
+use Rattle.eu_forest.specs.declared.lineage.Rootedness.TheVariants.{Rooted, OnCircle, Leading}
 use Rattle.eu_forest.specs.declared.walk.Mark.{Mark}
-use Rattle.eu_forest.specs.Lines.{AreParents, StandsUnder, LeadsUp, IsRooted, IsOnCircle, StandsSo, IsLineageOf, standing_in}
+use Rattle.eu_forest.specs.Lines.{AreParents, StandsUnder, LeadsUp, IsRooted, IsOnCircle, StandsSo, IsLineageOf, rootedness_in}
 use Rattle.eu_forest.proofs.Ways.{rooted_off}
 use Rattle.eu_name.proofs.Members.{get_below}
 use Rattle.model_core.specs.declared.class.Class.{Class}
@@ -50,11 +50,11 @@ module _ (model : Model) where
       line.no_circle number circle.parent circle.under (circle.path, leads_climbs circle.parent circle.path number circle.back)
 
   pub rooted_in_line : (parents : List (Option ℕ)) (marked : List Mark) (order : List ℕ) → parents ≡ parents_of model → IsLineageOf parents marked order → AreInLine model
-      → (number : ℕ) → number < length parents → standing_in marked number ≡ Some Rooted
+      → (number : ℕ) → number < length parents → rootedness_in marked number ≡ Some Rooted
   rooted_in_line parents marked order same are line number below =
-      let at = are.standing number below in by at.0 at.1 at.2
+      let at = are.rootedness number below in by at.0 at.1 at.2
     where
-      by : (standing : Standing) → standing_in marked number ≡ Some standing → StandsSo parents number standing → standing_in marked number ≡ Some Rooted
+      by : (rootedness : Rootedness) → rootedness_in marked number ≡ Some rootedness → StandsSo parents number rootedness → rootedness_in marked number ≡ Some Rooted
       by Rooted is stands = is
       by OnCircle is stands = absurd (circle_not_in_line number (subst (λ (l : List (Option ℕ)). IsOnCircle l number) same stands) line)
       by Leading is stands = absurd (circle_not_in_line stands.other (subst (λ (l : List (Option ℕ)). IsOnCircle l stands.other) same stands.circle) line)
@@ -77,17 +77,17 @@ module _ (model : Model) where
   }
 
   all_rooted : (parents : List (Option ℕ)) (marked : List Mark) (order : List ℕ) → IsLineageOf parents marked order
-      → ((number : ℕ) → number < length parents → standing_in marked number ≡ Some Rooted) → (number : ℕ) → number < length parents → IsRooted parents number
+      → ((number : ℕ) → number < length parents → rootedness_in marked number ≡ Some Rooted) → (number : ℕ) → number < length parents → IsRooted parents number
   all_rooted parents marked order are rooted number below =
-      let at = are.standing number below in
+      let at = are.rootedness number below in
       let same : at.0 ≡ Rooted = some_same at.0 Rooted (sym at.1 ∙ rooted number below) in
-      subst (λ (s : Standing). StandsSo parents number s) same at.2
+      subst (λ (s : Rootedness). StandsSo parents number s) same at.2
     where
-      some_same : (one other : Standing) → Some one ≡ Some other → one ≡ other
+      some_same : (one other : Rootedness) → Some one ≡ Some other → one ≡ other
       some_same one other same = cc
 
   pub parents_there : (parents : List (Option ℕ)) (marked : List Mark) (order : List ℕ) → parents ≡ parents_of model → AreParents parents → IsLineageOf parents marked order
-      → ((number : ℕ) → number < length parents → standing_in marked number ≡ Some Rooted) → AreInLine model × AreClassParents model parents
+      → ((number : ℕ) → number < length parents → rootedness_in marked number ≡ Some Rooted) → AreInLine model × AreClassParents model parents
   parents_there parents marked order same there are rooted =
       let P : List (Option ℕ) → Type 0 = λ l. (number : ℕ) → number < length l → IsRooted l number in
       let own = parents_are (subst P same (all_rooted parents marked order are rooted)) in

@@ -1,12 +1,12 @@
 //! What the classes extend.
 
 ghost use Rattle.std.specs.Prelude.{◌≡◌, ◌↔◌, ◌<◌, ℕ, Some, IfOk, IsTrue, MatchOption};
-ghost use Rattle.eu_forest.specs.declared.lineage.Standing.TheVariants.{Rooted};
-ghost use Rattle.eu_forest.specs.Lines.{AreParents, standing_in};
+ghost use Rattle.eu_forest.specs.declared.lineage.Rootedness.TheVariants.{Rooted};
+ghost use Rattle.eu_forest.specs.Lines.{AreParents, rootedness_in};
 ghost use Rattle.model_typing.specs.Ground.{AreClassParents};
 ghost use Rattle.model_lawful.specs.Classes.{AreInLine, parents_of};
 
-use eu_forest::{Lineage, Parents, Standing};
+use eu_forest::{Lineage, Parents, Rootedness};
 use model_core::class::Class;
 use model_core::model::Model;
 use std::alloc::{AllocError, Global};
@@ -56,23 +56,23 @@ fn are_there(parents: &[Option<usize>]) -> bool
 }
 
 // Whether a thing leads up to one that stands under none.
-fn is_rooted(standing: Option<Standing>) -> bool
-    ensures { IsTrue result ↔ (standing ≡ Some Rooted) }
+fn is_rooted(rootedness: Option<Rootedness>) -> bool
+    ensures { IsTrue result ↔ (rootedness ≡ Some Rooted) }
 {
-    match standing {
-        Some(Standing::Rooted) => true,
-        Some(Standing::OnCircle) => false,
-        Some(Standing::Leading) => false,
+    match rootedness {
+        Some(Rootedness::Rooted) => true,
+        Some(Rootedness::OnCircle) => false,
+        Some(Rootedness::Leading) => false,
         None => false,
     }
 }
 
 // Whether all of so many things lead up to one that stands under none.
 fn are_rooted(lineage: &Lineage, count: usize) -> bool
-    ensures { IsTrue result ↔ ((number : ℕ) → number < count → standing_in lineage.now.marks.items number ≡ Some Rooted) }
+    ensures { IsTrue result ↔ ((number : ℕ) → number < count → rootedness_in lineage.now.marks.items number ≡ Some Rooted) }
 {
     for number in 0..count {
-        if !is_rooted(lineage.standing(number)) {
+        if !is_rooted(lineage.rootedness(number)) {
             return false;
         }
     }

@@ -17,12 +17,12 @@ use model_core::variable::{Base, ValueKind, VarDecl};
 use model_typing::classes::are_objects_in;
 use model_typing::finding::pred_at;
 use model_typing::items::is_lawful_item;
-use model_typing::scope::Place;
+use model_typing::scope::TermScope;
 use model_typing::table::Classes;
 use model_typing::values::is_in_kind;
 
 /// How many lists a search may visit at most.
-pub const MOST_STEPS: u32 = 1_000_000;
+pub const MOST_VISITS: u32 = 1_000_000;
 
 /// How many facts a problem may have.
 pub const MOST_FACTS: usize = 512;
@@ -35,7 +35,7 @@ pub fn is_horizon(problem: &Problem) -> bool
         && problem.start < problem.end
         && is_value(problem.end)
         && 0 < problem.steps
-        && problem.steps <= MOST_STEPS
+        && problem.steps <= MOST_VISITS
 }
 
 // Whether roots of this kind are facts.
@@ -137,5 +137,5 @@ pub fn are_lawful_items(model: &Model, classes: &Classes, items: &[Item]) -> boo
     requires { IsGround model.now classes.now }
     ensures { IsTrue result ↔ All (IsLawfulItem model.now OfProblem) items.now }
 {
-    items.iter().all(|item| is_lawful_item(model, classes, Place::InProblem, item))
+    items.iter().all(|item| is_lawful_item(model, classes, TermScope::InProblem, item))
 }

@@ -34,7 +34,7 @@ fn are_sides(judge: Judge<'_>, seen: &[Name], left: Term, right: Term) -> bool
     ensures { IsTrue result ↔ AreSides judge.entry.model.now judge.entry.pred judge.entry.rule.now seen.now (left ∷ right ∷ []) }
 {
     let sides = [left, right];
-    are_comparable(judge.model, judge.classes, judge.place(), &sides)
+    are_comparable(judge.model, judge.classes, judge.scope(), &sides)
         && are_terms_among(seen, &sides)
 }
 
@@ -85,7 +85,7 @@ fn is_lawful_among(judge: Judge<'_>, seen: &[Name], item: &Item) -> bool
     requires lines { AreLinesOf judge.model.now judge.rule.now.locals judge.locals.now }
     ensures { IsTrue result ↔ IsLawfulAmong judge.entry.model.now judge.entry.pred judge.entry.rule.now seen.now item.now }
 {
-    is_lawful_item(judge.model, judge.classes, judge.place(), item) && is_item_among(seen, item)
+    is_lawful_item(judge.model, judge.classes, judge.scope(), item) && is_item_among(seen, item)
 }
 
 // Whether all three are so.

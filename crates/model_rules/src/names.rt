@@ -17,7 +17,7 @@ pub enum Name {
 }
 
 // Whether the two names are one.
-fn is_same(one: Name, other: Name) -> bool
+fn is_same_name(one: Name, other: Name) -> bool
     ensures { IsTrue result ↔ (one ≡ other) }
 {
     match (one, other) {
@@ -33,7 +33,7 @@ fn is_seen(seen: &[Name], name: Name) -> bool
     ensures { IsTrue result ↔ Contains seen.now name }
 {
     for other in seen {
-        if is_same(*other, name) {
+        if is_same_name(*other, name) {
             return true;
         }
     }

@@ -10,20 +10,20 @@ use Rattle.model_core.specs.declared.variable.ValueKind.{ValueKind}
 use Rattle.model_core.specs.declared.variable.ValueKind.TheVariants as kinds
 use Rattle.model_core.specs.declared.variable.VarDecl.{VarDecl}
 use Rattle.model_core.specs.Kinds.{Scope, OfProblem, OfRule, IsOfClass, IsOfKind, IsPartOfClass, IsPartOfKind}
-use Rattle.model_typing.specs.declared.scope.Place.{Place}
-use Rattle.model_typing.specs.declared.scope.Place.TheVariants as places
+use Rattle.model_typing.specs.declared.scope.TermScope.{TermScope}
+use Rattle.model_typing.specs.declared.scope.TermScope.TheVariants as scopes
 use Rattle.model_typing.specs.declared.line.Line.{Line}
 use Rattle.model_typing.specs.Lines.{AreLinesOf, IsLine, IsOnLine}
 
--- the scope of what stands at the place
-abbrev pub scope_of : Place → Scope
-scope_of places.InProblem = OfProblem
-scope_of (places.InRule pred rule locals) = OfRule pred rule.now
+-- the scope, without what is found of it
+abbrev pub scope_of : TermScope → Scope
+scope_of scopes.InProblem = OfProblem
+scope_of (scopes.InRule pred rule locals) = OfRule pred rule.now
 
--- the place in a rule has the lines of the rule's locals
-abbrev pub IsPlaced : Model → Place → Type 0
-IsPlaced model places.InProblem = ⊤
-IsPlaced model (places.InRule pred rule locals) = AreLinesOf model rule.now.locals locals.now
+-- the scope, if it is a rule, has the lines of the rule's locals
+abbrev pub HasLocalLines : Model → TermScope → Type 0
+HasLocalLines model scopes.InProblem = ⊤
+HasLocalLines model (scopes.InRule pred rule locals) = AreLinesOf model rule.now.locals locals.now
 
 -- the term isn't a value as it is written
 abbrev pub IsNamed : Term → Type 0

@@ -6,13 +6,13 @@ ghost use Rattle.model_core.specs.declared.variable.VarDecl.{VarDecl};
 ghost use Rattle.model_core.specs.Kinds.{AccessesField, IsOfKind};
 ghost use Rattle.model_typing.specs.declared.line.Line.TheVariants as lines;
 ghost use Rattle.model_typing.specs.Ground.{AreClassParents, IsGround};
-ghost use Rattle.model_typing.specs.Terms.{FieldFits, FitsOnLine, HasField, IsPlaced, scope_of};
+ghost use Rattle.model_typing.specs.Terms.{FieldFits, FitsOnLine, HasField, HasLocalLines, scope_of};
 
 use super::classes::parent_of;
 use super::kinds::is_of_kind;
 use super::line::Line;
 use super::lines::term_line;
-use super::scope::Place;
+use super::scope::TermScope;
 use super::table::Classes;
 use eu_forest::Parents;
 use model_core::item::Term;
@@ -40,11 +40,11 @@ fn field_at(model: &Model, class: u32, number: u32) -> Option<&VarDecl>
 }
 
 // Whether the class has the field, and the value is of its kind.
-fn field_fits(model: &Model, place: Place<'_>, class: u32, access: Access) -> bool
-    ensures { IsTrue result ↔ FieldFits model.now (scope_of place.entry) class access.field access.value }
+fn field_fits(model: &Model, scope: TermScope<'_>, class: u32, access: Access) -> bool
+    ensures { IsTrue result ↔ FieldFits model.now (scope_of scope.entry) class access.field access.value }
 {
     match field_at(model, class, access.field) {
-        Some(variable) => is_of_kind(model, place, variable.kind, access.value),
+        Some(variable) => is_of_kind(model, scope, variable.kind, access.value),
         None => false,
     }
 }
@@ -53,15 +53,15 @@ fn field_fits(model: &Model, place: Place<'_>, class: u32, access: Access) -> bo
 fn fits_above(
     model: &Model,
     parents: &Parents,
-    place: Place<'_>,
+    scope: TermScope<'_>,
     first: u32,
     access: Access,
 ) -> bool
     requires { AreClassParents model.now parents.now }
-    ensures { IsTrue result ↔ FitsOnLine model.now (scope_of place.entry) (lines.From first) access.field access.value }
+    ensures { IsTrue result ↔ FitsOnLine model.now (scope_of scope.entry) (lines.From first) access.field access.value }
 {
     let mut class = first;
-    while !field_fits(model, place, class, access) {
+    while !field_fits(model, scope, class, access) {
         match parent_of(model, class) {
             Some(parent) => class = parent,
             None => return false,
@@ -71,12 +71,12 @@ fn fits_above(
 }
 
 // Whether it is so of any class.
-fn fits_any(model: &Model, place: Place<'_>, access: Access) -> bool
+fn fits_any(model: &Model, scope: TermScope<'_>, access: Access) -> bool
     requires { length model.now.classes < 2 ^ 32 }
-    ensures { IsTrue result ↔ FitsOnLine model.now (scope_of place.entry) lines.Every access.field access.value }
+    ensures { IsTrue result ↔ FitsOnLine model.now (scope_of scope.entry) lines.Every access.field access.value }
 {
     for class in 0..model.classes.len() {
-        if field_fits(model, place, class as u32, access) {
+        if field_fits(model, scope, class as u32, access) {
             return true;
         }
     }
@@ -87,37 +87,42 @@ fn fits_any(model: &Model, place: Place<'_>, access: Access) -> bool
 fn fits_on_line(
     model: &Model,
     classes: &Classes,
-    place: Place<'_>,
+    scope: TermScope<'_>,
     line: Line,
     access: Access,
 ) -> bool
     requires { IsGround model.now classes.now }
-    ensures { IsTrue result ↔ FitsOnLine model.now (scope_of place.entry) line access.field access.value }
+    ensures { IsTrue result ↔ FitsOnLine model.now (scope_of scope.entry) line access.field access.value }
 {
     match line {
-        Line::From(first) => fits_above(model, &classes.parents, place, first, access),
-        Line::Every => fits_any(model, place, access),
+        Line::From(first) => fits_above(model, &classes.parents, scope, first, access),
+        Line::Every => fits_any(model, scope, access),
         Line::Nothing => false,
     }
 }
 
 // Whether the value fits the field of what is accessed, which is an object.
-fn accesses_object(model: &Model, classes: &Classes, place: Place<'_>, access: Access) -> bool
+fn accesses_object(model: &Model, classes: &Classes, scope: TermScope<'_>, access: Access) -> bool
     requires ground { IsGround model.now classes.now }
-    requires placed { IsPlaced model.now place }
-    ensures { IsOfKind model.now (scope_of place.entry) value_kinds.Object access.object
-        → (IsTrue result ↔ AccessesField model.now (scope_of place.entry) access.field access.object access.value) }
+    requires scoped { HasLocalLines model.now scope }
+    ensures { IsOfKind model.now (scope_of scope.entry) value_kinds.Object access.object
+        → (IsTrue result ↔ AccessesField model.now (scope_of scope.entry) access.field access.object access.value) }
 {
-    let line = term_line(model, classes, place, access.object);
-    fits_on_line(model, classes, place, line, access)
+    let line = term_line(model, classes, scope, access.object);
+    fits_on_line(model, classes, scope, line, access)
 }
 
 /// Whether the object has the field, and the value is of its kind.
-pub fn accesses_field(model: &Model, classes: &Classes, place: Place<'_>, access: Access) -> bool
+pub fn accesses_field(
+    model: &Model,
+    classes: &Classes,
+    scope: TermScope<'_>,
+    access: Access,
+) -> bool
     requires ground { IsGround model.now classes.now }
-    requires placed { IsPlaced model.now place }
-    ensures { IsTrue result ↔ AccessesField model.now (scope_of place.entry) access.field access.object access.value }
+    requires scoped { HasLocalLines model.now scope }
+    ensures { IsTrue result ↔ AccessesField model.now (scope_of scope.entry) access.field access.object access.value }
 {
-    is_of_kind(model, place, ValueKind::Object, access.object)
-        && accesses_object(model, classes, place, access)
+    is_of_kind(model, scope, ValueKind::Object, access.object)
+        && accesses_object(model, classes, scope, access)
 }

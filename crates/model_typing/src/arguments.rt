@@ -5,11 +5,11 @@ ghost use Rattle.domain_core.specs.Constraints.{arity_of};
 ghost use Rattle.domain_core.specs.declared.kind.Kind.TheVariants as constraints;
 ghost use Rattle.model_core.specs.Kinds.{AreArguments};
 ghost use Rattle.model_typing.specs.Ground.{IsGround};
-ghost use Rattle.model_typing.specs.Terms.{IsFactor, IsPlaced, scope_of};
+ghost use Rattle.model_typing.specs.Terms.{IsFactor, HasLocalLines, scope_of};
 
 use super::accesses::{Access, accesses_field};
 use super::kinds::is_of_kind;
-use super::scope::Place;
+use super::scope::TermScope;
 use super::table::Classes;
 use super::terms::{are_comparable, are_of_kind};
 use domain_core::kind::Kind;
@@ -43,37 +43,37 @@ fn is_factor(term: Term) -> bool
 }
 
 // Whether the terms may be a number, a factor and their product.
-fn are_product(model: &Model, place: Place<'_>, terms: &[Term]) -> bool
-    ensures { IsTrue result ↔ AreArguments model.now (scope_of place.entry) constraints.MulEq terms.now }
+fn are_product(model: &Model, scope: TermScope<'_>, terms: &[Term]) -> bool
+    ensures { IsTrue result ↔ AreArguments model.now (scope_of scope.entry) constraints.MulEq terms.now }
 {
     match terms {
-        [_, factor, _] => is_factor(*factor) && are_of_kind(model, place, ValueKind::Int, terms),
+        [_, factor, _] => is_factor(*factor) && are_of_kind(model, scope, ValueKind::Int, terms),
         _ => false,
     }
 }
 
 // Whether the terms may be a truth and what is compared with another.
-fn are_equality(model: &Model, classes: &Classes, place: Place<'_>, terms: &[Term]) -> bool
+fn are_equality(model: &Model, classes: &Classes, scope: TermScope<'_>, terms: &[Term]) -> bool
     requires { IsGround model.now classes.now }
-    ensures { IsTrue result ↔ AreArguments model.now (scope_of place.entry) constraints.TestEq terms.now }
+    ensures { IsTrue result ↔ AreArguments model.now (scope_of scope.entry) constraints.TestEq terms.now }
 {
     match terms {
         [truth, compared @ ..] => {
-            is_of_kind(model, place, ValueKind::Bool, *truth)
-                && are_comparable(model, classes, place, compared)
+            is_of_kind(model, scope, ValueKind::Bool, *truth)
+                && are_comparable(model, classes, scope, compared)
         }
         [] => false,
     }
 }
 
 // Whether the terms may be a truth and numbers that are put in order.
-fn are_ordering(model: &Model, place: Place<'_>, terms: &[Term]) -> bool
-    ensures { IsTrue result ↔ AreArguments model.now (scope_of place.entry) constraints.TestLeq terms.now }
+fn are_ordering(model: &Model, scope: TermScope<'_>, terms: &[Term]) -> bool
+    ensures { IsTrue result ↔ AreArguments model.now (scope_of scope.entry) constraints.TestLeq terms.now }
 {
     match terms {
         [truth, ordered @ ..] => {
-            is_of_kind(model, place, ValueKind::Bool, *truth)
-                && are_of_kind(model, place, ValueKind::Int, ordered)
+            is_of_kind(model, scope, ValueKind::Bool, *truth)
+                && are_of_kind(model, scope, ValueKind::Int, ordered)
         }
         [] => false,
     }
@@ -83,13 +83,13 @@ fn are_ordering(model: &Model, place: Place<'_>, terms: &[Term]) -> bool
 fn are_access(
     model: &Model,
     classes: &Classes,
-    place: Place<'_>,
+    scope: TermScope<'_>,
     field: u32,
     terms: &[Term],
 ) -> bool
     requires ground { IsGround model.now classes.now }
-    requires placed { IsPlaced model.now place }
-    ensures { IsTrue result ↔ AreArguments model.now (scope_of place.entry) (constraints.Field field) terms.now }
+    requires scoped { HasLocalLines model.now scope }
+    ensures { IsTrue result ↔ AreArguments model.now (scope_of scope.entry) (constraints.Field field) terms.now }
 {
     match terms {
         [object, value] => {
@@ -98,7 +98,7 @@ fn are_access(
                 object: *object,
                 value: *value,
             };
-            accesses_field(model, classes, place, access)
+            accesses_field(model, classes, scope, access)
         }
         _ => false,
     }
@@ -108,24 +108,24 @@ fn are_access(
 pub fn are_arguments(
     model: &Model,
     classes: &Classes,
-    place: Place<'_>,
+    scope: TermScope<'_>,
     kind: Kind,
     terms: &[Term],
 ) -> bool
     requires ground { IsGround model.now classes.now }
-    requires placed { IsPlaced model.now place }
-    ensures { IsTrue result ↔ AreArguments model.now (scope_of place.entry) kind terms.now }
+    requires scoped { HasLocalLines model.now scope }
+    ensures { IsTrue result ↔ AreArguments model.now (scope_of scope.entry) kind terms.now }
 {
     match kind {
-        Kind::Eq => are_comparable(model, classes, place, terms),
-        Kind::Neq => are_comparable(model, classes, place, terms),
-        Kind::Lt => are_of_kind(model, place, ValueKind::Int, terms),
-        Kind::Leq => are_of_kind(model, place, ValueKind::Int, terms),
-        Kind::AddEq => are_of_kind(model, place, ValueKind::Int, terms),
-        Kind::MulEq => are_product(model, place, terms),
-        Kind::TestEq => are_equality(model, classes, place, terms),
-        Kind::TestLeq => are_ordering(model, place, terms),
-        Kind::Field(field) => are_access(model, classes, place, field, terms),
+        Kind::Eq => are_comparable(model, classes, scope, terms),
+        Kind::Neq => are_comparable(model, classes, scope, terms),
+        Kind::Lt => are_of_kind(model, scope, ValueKind::Int, terms),
+        Kind::Leq => are_of_kind(model, scope, ValueKind::Int, terms),
+        Kind::AddEq => are_of_kind(model, scope, ValueKind::Int, terms),
+        Kind::MulEq => are_product(model, scope, terms),
+        Kind::TestEq => are_equality(model, classes, scope, terms),
+        Kind::TestLeq => are_ordering(model, scope, terms),
+        Kind::Field(field) => are_access(model, classes, scope, field, terms),
         Kind::AllDiff => false,
     }
 }

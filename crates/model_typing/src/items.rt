@@ -4,10 +4,10 @@ ghost use Rattle.std.specs.Prelude.{◌↔◌, IsTrue};
 ghost use Rattle.model_core.specs.declared.item.Item.TheVariants as items;
 ghost use Rattle.model_core.specs.Lawful.{IsLawfulItem};
 ghost use Rattle.model_typing.specs.Ground.{IsGround};
-ghost use Rattle.model_typing.specs.Terms.{HasSlot, IsPlaced, scope_of};
+ghost use Rattle.model_typing.specs.Terms.{HasSlot, HasLocalLines, scope_of};
 
 use super::arguments::{are_arguments, arity};
-use super::scope::Place;
+use super::scope::TermScope;
 use super::table::Classes;
 use domain_core::kind::Kind;
 use model_core::item::{Item, Term};
@@ -17,37 +17,37 @@ use model_core::model::Model;
 fn is_lawful_constraint(
     model: &Model,
     classes: &Classes,
-    place: Place<'_>,
+    scope: TermScope<'_>,
     kind: Kind,
     terms: &[Term],
 ) -> bool
     requires ground { IsGround model.now classes.now }
-    requires placed { IsPlaced model.now place }
-    ensures { IsTrue result ↔ IsLawfulItem model.now (scope_of place.entry) (items.Constraint kind terms.now) }
+    requires scoped { HasLocalLines model.now scope }
+    ensures { IsTrue result ↔ IsLawfulItem model.now (scope_of scope.entry) (items.Constraint kind terms.now) }
 {
-    terms.len() == arity(kind) && are_arguments(model, classes, place, kind, terms)
+    terms.len() == arity(kind) && are_arguments(model, classes, scope, kind, terms)
 }
 
-// Whether the place is in a rule that has the slot.
-fn has_slot(place: Place<'_>, number: u32) -> bool
-    ensures { IsTrue result ↔ HasSlot (scope_of place.entry) number }
+// Whether the scope is a rule that has the slot.
+fn has_slot(scope: TermScope<'_>, number: u32) -> bool
+    ensures { IsTrue result ↔ HasSlot (scope_of scope.entry) number }
 {
-    match place {
-        Place::InRule(_, rule, _) => (number as usize) < rule.slots.len(),
-        Place::InProblem => false,
+    match scope {
+        TermScope::InRule(_, rule, _) => (number as usize) < rule.slots.len(),
+        TermScope::InProblem => false,
     }
 }
 
-/// Whether the item may stand at the place, as far as it doesn't matter in which block of a rule.
-pub fn is_lawful_item(model: &Model, classes: &Classes, place: Place<'_>, item: &Item) -> bool
+/// Whether the item may stand in the scope, as far as it doesn't matter in which block of a rule.
+pub fn is_lawful_item(model: &Model, classes: &Classes, scope: TermScope<'_>, item: &Item) -> bool
     requires ground { IsGround model.now classes.now }
-    requires placed { IsPlaced model.now place }
-    ensures { IsTrue result ↔ IsLawfulItem model.now (scope_of place.entry) item.now }
+    requires scoped { HasLocalLines model.now scope }
+    ensures { IsTrue result ↔ IsLawfulItem model.now (scope_of scope.entry) item.now }
 {
     match item {
         Item::Constraint(kind, terms) => {
-            is_lawful_constraint(model, classes, place, *kind, terms.as_slice())
+            is_lawful_constraint(model, classes, scope, *kind, terms.as_slice())
         }
-        Item::Relation(_, number) => has_slot(place, *number),
+        Item::Relation(_, number) => has_slot(scope, *number),
     }
 }

@@ -7,7 +7,7 @@ ghost use Rattle.model_core.specs.Kinds.{IsOfKind, IsPartOfKind, OfRule};
 ghost use Rattle.model_typing.specs.Terms.{IsInner, IsJust, IsNamed, scope_of};
 
 use super::finding::{global_at, local_at, param_at, root_at, slot_at};
-use super::scope::Place;
+use super::scope::TermScope;
 use super::values::is_value_of;
 use eu_name::name::Part;
 use model_core::item::Term;
@@ -62,8 +62,8 @@ fn part_kind(model: &Model, pred: u32, part: Part) -> Option<ValueKind>
 }
 
 // The kind of a global.
-fn global_kind(model: &Model, place: Place<'_>, number: u32) -> Option<ValueKind>
-    ensures { IsJust result (λ kind. IsOfKind model.now (scope_of place.entry) kind (named_terms.Global number)) }
+fn global_kind(model: &Model, scope: TermScope<'_>, number: u32) -> Option<ValueKind>
+    ensures { IsJust result (λ kind. IsOfKind model.now (scope_of scope.entry) kind (named_terms.Global number)) }
 {
     match global_at(model, number) {
         Some(variable) => Some(variable.kind),
@@ -72,8 +72,8 @@ fn global_kind(model: &Model, place: Place<'_>, number: u32) -> Option<ValueKind
 }
 
 // The kind of a part of a root.
-fn root_kind(model: &Model, place: Place<'_>, number: u32, part: Part) -> Option<ValueKind>
-    ensures { IsJust result (λ kind. IsOfKind model.now (scope_of place.entry) kind (named_terms.Root number part)) }
+fn root_kind(model: &Model, scope: TermScope<'_>, number: u32, part: Part) -> Option<ValueKind>
+    ensures { IsJust result (λ kind. IsOfKind model.now (scope_of scope.entry) kind (named_terms.Root number part)) }
 {
     match root_at(model, number) {
         Some(root) => part_kind(model, root.pred, part),
@@ -116,39 +116,39 @@ fn inner_kind(model: &Model, pred: u32, rule: &Rule, term: Term) -> Option<Value
 }
 
 // The kind of a term that names something of a rule, which there is in rules alone.
-fn placed_kind(model: &Model, place: Place<'_>, term: Term) -> Option<ValueKind>
-    ensures { IsInner term → IsJust result (λ kind. IsOfKind model.now (scope_of place.entry) kind term) }
+fn scoped_kind(model: &Model, scope: TermScope<'_>, term: Term) -> Option<ValueKind>
+    ensures { IsInner term → IsJust result (λ kind. IsOfKind model.now (scope_of scope.entry) kind term) }
 {
-    match place {
-        Place::InRule(pred, rule, _) => inner_kind(model, pred, rule, term),
-        Place::InProblem => None,
+    match scope {
+        TermScope::InRule(pred, rule, _) => inner_kind(model, pred, rule, term),
+        TermScope::InProblem => None,
     }
 }
 
 /// The kind of a term that isn't a value as it is written.
-pub fn named_kind(model: &Model, place: Place<'_>, term: Term) -> Option<ValueKind>
-    ensures { IsNamed term → IsJust result (λ kind. IsOfKind model.now (scope_of place.entry) kind term) }
+pub fn named_kind(model: &Model, scope: TermScope<'_>, term: Term) -> Option<ValueKind>
+    ensures { IsNamed term → IsJust result (λ kind. IsOfKind model.now (scope_of scope.entry) kind term) }
 {
     match term {
         Term::Lit(_) => None,
-        Term::Global(number) => global_kind(model, place, number),
-        Term::Root(number, part) => root_kind(model, place, number, part),
-        Term::Here(_) => placed_kind(model, place, term),
-        Term::Slot(_, _) => placed_kind(model, place, term),
-        Term::Local(_) => placed_kind(model, place, term),
+        Term::Global(number) => global_kind(model, scope, number),
+        Term::Root(number, part) => root_kind(model, scope, number, part),
+        Term::Here(_) => scoped_kind(model, scope, term),
+        Term::Slot(_, _) => scoped_kind(model, scope, term),
+        Term::Local(_) => scoped_kind(model, scope, term),
     }
 }
 
 /// Whether the term may be named there, and is of the kind.
-pub fn is_of_kind(model: &Model, place: Place<'_>, kind: ValueKind, term: Term) -> bool
-    ensures { IsTrue result ↔ IsOfKind model.now (scope_of place.entry) kind term }
+pub fn is_of_kind(model: &Model, scope: TermScope<'_>, kind: ValueKind, term: Term) -> bool
+    ensures { IsTrue result ↔ IsOfKind model.now (scope_of scope.entry) kind term }
 {
     match term {
         Term::Lit(value) => is_value_of(model, kind, value),
-        Term::Global(_) => is_just(named_kind(model, place, term), kind),
-        Term::Root(_, _) => is_just(named_kind(model, place, term), kind),
-        Term::Here(_) => is_just(named_kind(model, place, term), kind),
-        Term::Slot(_, _) => is_just(named_kind(model, place, term), kind),
-        Term::Local(_) => is_just(named_kind(model, place, term), kind),
+        Term::Global(_) => is_just(named_kind(model, scope, term), kind),
+        Term::Root(_, _) => is_just(named_kind(model, scope, term), kind),
+        Term::Here(_) => is_just(named_kind(model, scope, term), kind),
+        Term::Slot(_, _) => is_just(named_kind(model, scope, term), kind),
+        Term::Local(_) => is_just(named_kind(model, scope, term), kind),
     }
 }

@@ -6,12 +6,12 @@ ghost use Rattle.model_core.specs.declared.item.Term.TheVariants as named_terms;
 ghost use Rattle.model_core.specs.Kinds.{IsObjectOf, IsPartOfClass, OfRule};
 ghost use Rattle.model_typing.specs.Ground.{AreClasses};
 ghost use Rattle.model_typing.specs.Lines.{AreLinesOf, IsLine, line_in, lines_in};
-ghost use Rattle.model_typing.specs.Terms.{IsInner, IsPartLine, IsPlaced, IsTermLine, scope_of};
+ghost use Rattle.model_typing.specs.Terms.{IsInner, IsPartLine, HasLocalLines, IsTermLine, scope_of};
 
 use super::classes::object_at;
 use super::finding::{pred_at, root_at, slot_at};
 use super::line::Line;
-use super::scope::Place;
+use super::scope::TermScope;
 use super::table::Classes;
 use eu_name::name::Part;
 use model_core::item::Term;
@@ -81,17 +81,23 @@ fn part_line(model: &Model, classes: &Classes, pred: u32, part: Part) -> Line
 }
 
 // The classes of which the global of this number is an object.
-fn global_line(model: &Model, classes: &Classes, place: Place<'_>, number: u32) -> Line
+fn global_line(model: &Model, classes: &Classes, scope: TermScope<'_>, number: u32) -> Line
     requires { AreClasses model.now classes.now }
-    ensures { IsTermLine model.now (scope_of place.entry) (named_terms.Global number) result }
+    ensures { IsTermLine model.now (scope_of scope.entry) (named_terms.Global number) result }
 {
     line_in(classes.globals.as_slice(), number as usize)
 }
 
 // The classes of which a part of the root's token is an object, by the predicate of the root.
-fn root_line(model: &Model, classes: &Classes, place: Place<'_>, number: u32, part: Part) -> Line
+fn root_line(
+    model: &Model,
+    classes: &Classes,
+    scope: TermScope<'_>,
+    number: u32,
+    part: Part,
+) -> Line
     requires { AreClasses model.now classes.now }
-    ensures { IsTermLine model.now (scope_of place.entry) (named_terms.Root number part) result }
+    ensures { IsTermLine model.now (scope_of scope.entry) (named_terms.Root number part) result }
 {
     match root_at(model, number) {
         Some(root) => part_line(model, classes, root.pred, part),
@@ -148,30 +154,32 @@ fn inner_line(
     }
 }
 
-// The classes of such a term by the rule of the place; in the problem there is no such term.
-fn placed_line(model: &Model, classes: &Classes, place: Place<'_>, term: Term) -> Line
+// The classes of such a term by the rule that is its scope; in the problem there is no such term.
+fn scoped_line(model: &Model, classes: &Classes, scope: TermScope<'_>, term: Term) -> Line
     requires classes { AreClasses model.now classes.now }
-    requires placed { IsPlaced model.now place }
-    ensures { IsInner term → IsTermLine model.now (scope_of place.entry) term result }
+    requires scoped { HasLocalLines model.now scope }
+    ensures { IsInner term → IsTermLine model.now (scope_of scope.entry) term result }
 {
-    match place {
-        Place::InRule(pred, rule, locals) => inner_line(model, classes, pred, rule, locals, term),
-        Place::InProblem => Line::Nothing,
+    match scope {
+        TermScope::InRule(pred, rule, locals) => {
+            inner_line(model, classes, pred, rule, locals, term)
+        }
+        TermScope::InProblem => Line::Nothing,
     }
 }
 
 /// The classes of which the term is an object, whatever it stands for, if it is one.
-pub fn term_line(model: &Model, classes: &Classes, place: Place<'_>, term: Term) -> Line
+pub fn term_line(model: &Model, classes: &Classes, scope: TermScope<'_>, term: Term) -> Line
     requires classes { AreClasses model.now classes.now }
-    requires placed { IsPlaced model.now place }
-    ensures { IsTermLine model.now (scope_of place.entry) term result }
+    requires scoped { HasLocalLines model.now scope }
+    ensures { IsTermLine model.now (scope_of scope.entry) term result }
 {
     match term {
         Term::Lit(value) => value_line(model, value),
-        Term::Global(number) => global_line(model, classes, place, number),
-        Term::Root(number, part) => root_line(model, classes, place, number, part),
-        Term::Here(_) => placed_line(model, classes, place, term),
-        Term::Slot(_, _) => placed_line(model, classes, place, term),
-        Term::Local(_) => placed_line(model, classes, place, term),
+        Term::Global(number) => global_line(model, classes, scope, number),
+        Term::Root(number, part) => root_line(model, classes, scope, number, part),
+        Term::Here(_) => scoped_line(model, classes, scope, term),
+        Term::Slot(_, _) => scoped_line(model, classes, scope, term),
+        Term::Local(_) => scoped_line(model, classes, scope, term),
     }
 }

@@ -6,7 +6,7 @@ ghost use Rattle.model_typing.specs.Ground.{IsGround};
 ghost use Rattle.model_typing.specs.Terms.{IsNamed, scope_of};
 
 use super::kinds::{is_of_kind, named_kind};
-use super::scope::Place;
+use super::scope::TermScope;
 use super::table::Classes;
 use model_core::item::Term;
 use model_core::model::Model;
@@ -41,42 +41,52 @@ fn first_named(terms: &[Term]) -> Option<Term>
 }
 
 /// Whether all the terms are of this kind.
-pub fn are_of_kind(model: &Model, place: Place<'_>, kind: ValueKind, terms: &[Term]) -> bool
-    ensures { IsTrue result ↔ AreOfKind model.now (scope_of place.entry) kind terms.now }
+pub fn are_of_kind(model: &Model, scope: TermScope<'_>, kind: ValueKind, terms: &[Term]) -> bool
+    ensures { IsTrue result ↔ AreOfKind model.now (scope_of scope.entry) kind terms.now }
 {
     terms
         .iter()
-        .all(|term| is_of_kind(model, place, kind, *term))
+        .all(|term| is_of_kind(model, scope, kind, *term))
 }
 
 // Whether all the terms, one of which is this, are of its kind.
-fn are_of_its_kind(model: &Model, place: Place<'_>, term: Term, terms: &[Term]) -> bool
+fn are_of_its_kind(model: &Model, scope: TermScope<'_>, term: Term, terms: &[Term]) -> bool
     requires named { IsNamed term }
     requires there { Contains terms.now term }
-    ensures { IsTrue result ↔ AreComparable model.now (scope_of place.entry) terms.now }
+    ensures { IsTrue result ↔ AreComparable model.now (scope_of scope.entry) terms.now }
 {
-    match named_kind(model, place, term) {
-        Some(kind) => are_of_kind(model, place, kind, terms),
+    match named_kind(model, scope, term) {
+        Some(kind) => are_of_kind(model, scope, kind, terms),
         None => false,
     }
 }
 
 // Whether values as they are written are of one kind; then they are whole numbers too.
-fn are_comparable_values(model: &Model, classes: &Classes, place: Place<'_>, terms: &[Term]) -> bool
+fn are_comparable_values(
+    model: &Model,
+    classes: &Classes,
+    scope: TermScope<'_>,
+    terms: &[Term],
+) -> bool
     requires ground { IsGround model.now classes.now }
     requires values { All (λ term. IsNamed term → ⊥) terms.now }
-    ensures { IsTrue result ↔ AreComparable model.now (scope_of place.entry) terms.now }
+    ensures { IsTrue result ↔ AreComparable model.now (scope_of scope.entry) terms.now }
 {
-    are_of_kind(model, place, ValueKind::Int, terms)
+    are_of_kind(model, scope, ValueKind::Int, terms)
 }
 
 /// Whether the terms are all of one kind.
-pub fn are_comparable(model: &Model, classes: &Classes, place: Place<'_>, terms: &[Term]) -> bool
+pub fn are_comparable(
+    model: &Model,
+    classes: &Classes,
+    scope: TermScope<'_>,
+    terms: &[Term],
+) -> bool
     requires { IsGround model.now classes.now }
-    ensures { IsTrue result ↔ AreComparable model.now (scope_of place.entry) terms.now }
+    ensures { IsTrue result ↔ AreComparable model.now (scope_of scope.entry) terms.now }
 {
     match first_named(terms) {
-        Some(term) => are_of_its_kind(model, place, term, terms),
-        None => are_comparable_values(model, classes, place, terms),
+        Some(term) => are_of_its_kind(model, scope, term, terms),
+        None => are_comparable_values(model, classes, scope, terms),
     }
 }

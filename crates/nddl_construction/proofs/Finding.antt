@@ -23,7 +23,7 @@ use Rattle.nddl_constructors.specs.Wants.{formal_kind}
 use Rattle.nddl_constructors.specs.Creations.{meaning_wants}
 use Rattle.nddl_construction.specs.declared.made.Datum.{Datum}
 use Rattle.nddl_construction.specs.declared.made.MadeObject.{MadeObject}
-use Rattle.nddl_construction.specs.Reading.{settled_data}
+use Rattle.nddl_construction.specs.Reading.{fine_data}
 use Rattle.nddl_construction.specs.Scene.{Grounds, Scenery}
 use Rattle.nddl_construction.specs.declared.builders.Builder.{Builder}
 use Rattle.nddl_construction.specs.declared.builders.Builders as code
@@ -177,16 +177,16 @@ scene_there facts entry builder values is =
 pub handed_over : (grounds : Grounds) (scene one : Scenery) (objects : List MadeObject) (wants kept : List (Option TypeKind))
     (body : List Set) (handed : Option (List Expr)) → scene ≡ one → handed ≡ handed_arguments (length wants) body
     → kept ≡ wants_handed wants body
-    → option_map_or (λ arguments. Some (settled_data grounds scene objects kept 0 arguments)) handed None
+    → option_map_or (λ arguments. Some (fine_data grounds scene objects kept 0 arguments)) handed None
     ≡ handed_data grounds one objects wants body
 handed_over grounds scene one objects wants kept body handed scenes is are =
-    ap (λ given. option_map_or (λ arguments. Some (settled_data grounds scene objects kept 0 arguments)) given None) is
+    ap (λ given. option_map_or (λ arguments. Some (fine_data grounds scene objects kept 0 arguments)) given None) is
     ∙ by (handed_arguments (length wants) body) are
   where
     by : (given : Option (List Expr)) → kept ≡ option_map_or (λ arguments. wants) given []
-        → option_map_or (λ arguments. Some (settled_data grounds scene objects kept 0 arguments)) given None
-        ≡ option_map_or (λ arguments. Some (settled_data grounds one objects wants 0 arguments)) given None
+        → option_map_or (λ arguments. Some (fine_data grounds scene objects kept 0 arguments)) given None
+        ≡ option_map_or (λ arguments. Some (fine_data grounds one objects wants 0 arguments)) given None
     by None same = refl
     by (Some arguments) same =
-        ap (λ wanted. Some (settled_data grounds scene objects wanted 0 arguments)) same
-        ∙ ap (λ around. Some (settled_data grounds around objects wants 0 arguments)) scenes
+        ap (λ wanted. Some (fine_data grounds scene objects wanted 0 arguments)) same
+        ∙ ap (λ around. Some (fine_data grounds around objects wants 0 arguments)) scenes

@@ -47,7 +47,7 @@ abbrev pub is_outside_meaning : Grounds → List MadeObject → Datum → TypeMe
 is_outside_meaning grounds objects datum meaning =
     is_foreign_datum grounds objects (Some meaning.kind) (Some datum) || not (is_datum_within objects meaning.extent datum)
 
--- A value lies outside of a type. Of what isn't settled nothing is said.
+-- A value lies outside of a type. Of what is faulty nothing is said.
 abbrev pub is_outside_type : Grounds → List MadeObject → types.Type → Option Datum → Bool
 is_outside_type grounds objects type None = false
 is_outside_type grounds objects type (Some datum) =

@@ -24,7 +24,7 @@ use Rattle.nddl_constructors.specs.Wants.{formal_kind}
 use Rattle.nddl_construction.specs.declared.made.Datum.{Datum}
 use Rattle.nddl_construction.specs.declared.made.MadeObject.{MadeObject}
 use Rattle.nddl_construction.specs.Fitting.{is_foreign_datum}
-use Rattle.nddl_construction.specs.Reading.{all_unmade_faults, datum_at, settled_data}
+use Rattle.nddl_construction.specs.Reading.{all_unmade_faults, datum_at, fine_data}
 use Rattle.nddl_construction.specs.Scene.{Grounds, Scenery}
 use Rattle.nddl_construction.specs.declared.passing.Passed.{Passed}
 use Rattle.nddl_construction.specs.Classes.{body_decl, constructor_at, constructor_formals, constructor_sets, is_building, line_up}
@@ -83,7 +83,8 @@ wants_above facts entry = meaning_wants facts (above facts.names facts.program e
 -- what those arguments stand for
 abbrev pub handed_data : Grounds → Scenery → List MadeObject → List (Option TypeKind) → List Set → Option (List (Option Datum))
 handed_data grounds scene objects wants body =
-    option_map_or (λ arguments. Some (settled_data grounds scene objects wants 0 arguments)) (handed_arguments (length wants) body) None
+    option_map_or (λ arguments. Some (fine_data grounds scene objects wants 0 arguments))
+    (handed_arguments (length wants) body) None
 
 -- the values that the constructor of the class of this number passes on, where it is passed these
 abbrev pub super_data : Grounds → List MadeObject → ℕ → List (Option Datum) → Member → Option (List (Option Datum))

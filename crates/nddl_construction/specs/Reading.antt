@@ -26,28 +26,29 @@ use Rattle.nddl_constructors.specs.Formals.{around_formals, formal_number}
 use Rattle.nddl_construction.specs.declared.made.Datum.{Datum}
 use Rattle.nddl_construction.specs.declared.made.Datum.TheVariants as datums
 use Rattle.nddl_construction.specs.declared.made.MadeObject.{MadeObject}
-use Rattle.nddl_construction.specs.declared.made.Standing.{Standing}
-use Rattle.nddl_construction.specs.declared.made.Standing.TheVariants as standings
+use Rattle.nddl_construction.specs.declared.made.NamedObject.{NamedObject}
+use Rattle.nddl_construction.specs.declared.made.NamedObject.TheVariants as named
 use Rattle.nddl_construction.specs.Fields.{field_datum}
 use Rattle.nddl_construction.specs.Scene.{Grounds, Scenery}
 
 -- ---- names
 
 -- what the name stands for, if it is that of an object which is made
-abbrev pub standing_datum : Option Standing → Option Datum
-standing_datum (Some (standings.Made datum)) = datum
-standing_datum standing = None
+abbrev pub named_datum : Option NamedObject → Option Datum
+named_datum (Some (named.Made datum)) = datum
+named_datum named_object = None
 
 -- what the name of this number and sort stands for
-abbrev pub sort_datum : List Standing → ℕ → Sort → Option Datum
-sort_datum standing entry (sorts.Member of place) = Some (datums.Member entry)
-sort_datum standing entry sorts.Object = standing_datum (slice_get standing entry)
-sort_datum standing entry sort = None
+abbrev pub sort_datum : List NamedObject → ℕ → Sort → Option Datum
+sort_datum named_objects entry (sorts.Member of place) = Some (datums.Member entry)
+sort_datum named_objects entry sorts.Object = named_datum (slice_get named_objects entry)
+sort_datum named_objects entry sort = None
 
 -- what the name of this number stands for
 abbrev pub entry_datum : Grounds → ℕ → Option Datum
 entry_datum grounds entry =
-    option_and_then (λ declared. sort_datum grounds.standing entry declared.sort) (slice_get grounds.facts.names entry)
+    option_and_then (λ declared. sort_datum grounds.named_objects entry declared.sort)
+    (slice_get grounds.facts.names entry)
 
 abbrev pub meaning_datum : Grounds → Option Meaning → Option Datum
 meaning_datum grounds (Some (meanings.Entry entry)) = entry_datum grounds entry
@@ -98,31 +99,32 @@ is_well_written grounds scene wanted expr =
 
 -- What a value stands for where this kind is wanted. What is wrong as it is written, or hangs on something faulty, stands
 -- for nothing, and nothing more is said of it.
-unfoldable pub settled_datum : Grounds → Scenery → List MadeObject → Option TypeKind → Expr → Option Datum
-settled_datum grounds scene objects wanted expr =
+unfoldable pub fine_datum : Grounds → Scenery → List MadeObject → Option TypeKind → Expr → Option Datum
+fine_datum grounds scene objects wanted expr =
     if is_well_written grounds scene wanted expr then expr_datum grounds scene objects expr else None
 
 -- what arguments stand for, of which the first has this number
-abbrev pub settled_data : Grounds → Scenery → List MadeObject → List (Option TypeKind) → ℕ → List Expr → List (Option Datum)
-settled_data grounds scene objects wants number [] = []
-settled_data grounds scene objects wants number (expr ∷ more) =
-    settled_datum grounds scene objects (wanted_at wants number) expr
-    ∷ settled_data grounds scene objects wants (number + 1) more
+abbrev pub fine_data : Grounds → Scenery → List MadeObject → List (Option TypeKind) → ℕ → List Expr → List (Option Datum)
+fine_data grounds scene objects wants number [] = []
+fine_data grounds scene objects wants number (expr ∷ more) =
+    fine_datum grounds scene objects (wanted_at wants number) expr
+    ∷ fine_data grounds scene objects wants (number + 1) more
 
 -- ---- objects that aren't made yet
 
-abbrev pub is_unmade_standing : Option Standing → Bool
-is_unmade_standing (Some standings.Unmade) = true
-is_unmade_standing standing = false
+abbrev pub is_unmade_object : Option NamedObject → Bool
+is_unmade_object (Some named.Unmade) = true
+is_unmade_object named_object = false
 
-abbrev pub is_unmade_sort : List Standing → ℕ → Sort → Bool
-is_unmade_sort standing entry sorts.Object = is_unmade_standing (slice_get standing entry)
-is_unmade_sort standing entry sort = false
+abbrev pub is_unmade_sort : List NamedObject → ℕ → Sort → Bool
+is_unmade_sort named_objects entry sorts.Object = is_unmade_object (slice_get named_objects entry)
+is_unmade_sort named_objects entry sort = false
 
 -- it is the name of an object that isn't made by now
 abbrev pub is_unmade_meaning : Grounds → Option Meaning → Bool
 is_unmade_meaning grounds (Some (meanings.Entry entry)) =
-    option_map_or (λ declared. is_unmade_sort grounds.standing entry declared.sort) (slice_get grounds.facts.names entry) false
+    option_map_or (λ declared. is_unmade_sort grounds.named_objects entry declared.sort)
+    (slice_get grounds.facts.names entry) false
 is_unmade_meaning grounds meaning = false
 
 -- a value names such an object at its front

@@ -6,15 +6,15 @@ use Rattle.nddl_resolve.specs.Seen.{seen_in}
 use Rattle.nddl_construction.specs.declared.made.Datum.{Datum}
 use Rattle.nddl_construction.specs.declared.made.Ground as ground_code
 use Rattle.nddl_construction.specs.declared.made.Scene as scene_code
-use Rattle.nddl_construction.specs.declared.made.Standing.{Standing}
+use Rattle.nddl_construction.specs.declared.made.NamedObject.{NamedObject}
 
--- the facts of a program, and what its names stand for by now
+-- the facts of a program, and the objects of its names by now
 pub record Grounds : Type 0 where
   pub facts : Facts
-  pub standing : List Standing
+  pub named_objects : List NamedObject
 
 abbrev pub grounds_of : ground_code.Ground → Grounds
-grounds_of footing = record { facts = facts_of footing.basis; standing = footing.standing.now }
+grounds_of footing = record { facts = facts_of footing.basis; named_objects = footing.named_objects.now }
 
 -- the declaration in which it is written, the formals that stand around, and their values
 pub record Scenery : Type 0 where

@@ -55,7 +55,7 @@ pub fn super_arguments(body: &[Set]) -> Option<&[Expr]>
     }
 }
 
-/// The same, if they are as many as are wanted.
+/// What a body hands to what the class extends, if that takes so many arguments.
 pub fn handed_arguments<'a>(count: usize, body: &'a [Set]) -> Option<&'a [Expr]>
     ensures { option_copied result ≡ handed_arguments count body.now }
 {

@@ -1,4 +1,4 @@
-//! What values stand for while objects are made: `settled_datum(alloc, footing, scene, objects, wanted, expr)?`.
+//! What values stand for while objects are made: `fine_datum(alloc, footing, scene, objects, wanted, expr)?`.
 //! In come the facts, what names stand for by now, and the objects so far; out go values, what constructors pass on,
 //! faults.
 //! Called by nddl_objects; single values by nddl_problem_check, nddl_env and nddl_instance.
@@ -21,7 +21,7 @@ pub use classes::{adding_up, made_class};
 pub use fields::SetFields;
 pub use fitting::{is_foreign_datum, is_outside_type};
 pub use kept::FieldTypes;
-pub use made::{Datum, FieldValue, Ground, MadeObject, Scene, Standing};
+pub use made::{Datum, FieldValue, Ground, MadeObject, NamedObject, Scene};
 pub use outside::is_outside_field;
-pub use passing::{Passed, note_passing, passed_down};
-pub use reading::{note_unmade, settled_data, settled_datum};
+pub use passing::{Invocation, Passed, note_passing, passed_down};
+pub use reading::{fine_data, fine_datum, note_unmade};

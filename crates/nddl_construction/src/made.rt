@@ -9,7 +9,7 @@ use nddl_constructors::Formals;
 use nddl_hierarchy::Basis;
 use nddl_symbols::Meaning;
 
-/// A value that is settled.
+/// What a value stands for.
 #[derive(Clone, Copy, Debug, PartialEq, Eq)]
 pub enum Datum {
     Number(i32),
@@ -37,20 +37,20 @@ pub struct MadeObject {
     pub fields: SetFields,
 }
 
-/// What a name of the files stands for where objects are made one after another.
+/// The object of a name of the files, where objects are made one after another.
 #[derive(Clone, Copy, Debug, PartialEq, Eq)]
-pub enum Standing {
-    /// It isn't the name of an object that is made by now.
+pub enum NamedObject {
+    /// No object of this name is made by now.
     Unmade,
-    /// The object that it names; none, where something is wrong with that.
+    /// The object that is made; none, where something is wrong with that.
     Made(Option<Datum>),
 }
 
-/// What is known of a program, and what its names stand for by now, by their numbers in the scope.
+/// What is known of a program, and the objects of its names by now, by the numbers of these in the scope.
 #[derive(Clone, Copy)]
 pub struct Ground<'a> {
     pub basis: Basis<'a>,
-    pub standing: &'a [Standing],
+    pub named_objects: &'a [NamedObject],
 }
 
 /// Where a value is written: the number of the declaration, the formals of the constructor, where it is in one, and their

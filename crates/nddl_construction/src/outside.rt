@@ -22,6 +22,14 @@ use nddl_symbols::Scope;
 use nddl_typeexpr::TypeMeaning;
 use std::alloc::{AllocError, Global};
 
+// A field with the number of the declaration in which it stands, and the name by which it is found there.
+#[derive(Clone, Copy)]
+struct FoundField<'a> {
+    number: usize,
+    name: &'a Text,
+    typed: &'a Typed,
+}
+
 /// Whether the value of the field of this name, which a constructor of the class of this number sets, lies outside of its
 /// type.
 pub fn is_outside_field(
@@ -111,9 +119,12 @@ fn is_outside_declared(
 {
     match footing.basis.members.field(number, name) {
         Some(typed) => {
-            let outside = is_outside_typed(
-                alloc, footing, types, objects, number, name, typed, value,
-            )?;
+            let field = FoundField {
+                number,
+                name,
+                typed,
+            };
+            let outside = is_outside_found(alloc, footing, types, objects, &field, value)?;
             Ok(Some(outside))
         }
         None => Ok(None),
@@ -121,23 +132,23 @@ fn is_outside_declared(
 }
 
 // Whether the value lies outside the type of this field, by what is kept of the type, if anything is.
-fn is_outside_typed(
+fn is_outside_found(
     alloc: Global,
     footing: &Ground<'_>,
     types: &FieldTypes,
     objects: &[MadeObject],
-    number: usize,
-    name: &Text,
-    typed: &Typed,
+    field: &FoundField<'_>,
     value: Option<Datum>,
 ) -> Result<bool, AllocError>
     requires types { AreFieldTypes (facts_of footing.now.basis) types.now }
-    requires typed { field_declared (facts_of footing.now.basis).program number name.now ≡ Some typed.now }
-    ensures { IfOk result (λ outside. outside ≡ is_outside_type (grounds_of footing.now) objects.now typed.now.declared value) }
+    requires found { field_declared (facts_of footing.now.basis).program field.now.number field.now.name.now
+        ≡ Some field.now.typed.now }
+    ensures { IfOk result (λ outside.
+        outside ≡ is_outside_type (grounds_of footing.now) objects.now field.now.typed.now.declared value) }
 {
-    match types.meaning(number, name) {
+    match types.meaning(field.number, field.name) {
         Some(meaning) => is_outside_known(alloc, footing, objects, meaning, value),
-        None => is_outside_type(alloc, footing, objects, &typed.declared, value),
+        None => is_outside_type(alloc, footing, objects, &field.typed.declared, value),
     }
 }
 

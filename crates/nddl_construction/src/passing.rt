@@ -4,15 +4,16 @@ ghost use Rattle.std.specs.Prelude.{◌≡◌, ◌++◌, IfOk, None, OnOk, Some}
 ghost use Rattle.std.specs.Option.{option_copied, option_map_or};
 ghost use Rattle.nddl_symbols.specs.Finding.{earliest_fault};
 ghost use Rattle.nddl_hierarchy.specs.Facts.{facts_of};
-ghost use Rattle.nddl_construction.specs.Reading.{settled_data};
+ghost use Rattle.nddl_construction.specs.Reading.{fine_data};
 ghost use Rattle.nddl_construction.specs.Scene.{grounds_of, scenery_of};
 ghost use Rattle.nddl_construction.specs.Builders.{AreBuilders, IsBuilderAt};
-ghost use Rattle.nddl_construction.specs.Passing.{constructor_scene, data_above, has_foreign_from, is_foreign_formal, passed_above, passed_down, passed_from, passed_here, passing_faults, read_faults, super_data};
+ghost use Rattle.nddl_construction.specs.Classes.{constructor_sets};
+ghost use Rattle.nddl_construction.specs.Passing.{constructor_scene, data_above, has_foreign_from, is_foreign_formal, passed_above, passed_down, passed_from, passed_here, passing_faults, read_faults, super_arguments, super_data};
 
 use super::builders::{Builder, Builders};
 use super::classes::{building_up, constructor_formals, constructor_sets};
 use super::handing::super_arguments;
-use crate::reading::{datum_at, note_all_unmade, settled_data};
+use crate::reading::{datum_at, fine_data, note_all_unmade};
 use crate::{Datum, Ground, MadeObject, Scene, is_foreign_datum};
 use eu_name::sequence::Sequence;
 use nddl_ast::TextKind;
@@ -30,6 +31,28 @@ pub struct Passed {
     pub values: Sequence<Option<Datum>>,
 }
 
+/// A constructor that is passed values: the number of its class, what is found of it, and the values.
+#[derive(Clone, Copy)]
+pub struct Invocation<'a> {
+    pub entry: usize,
+    pub builder: &'a Builder<'a>,
+    pub values: &'a [Option<Datum>],
+}
+
+impl<'a> Invocation<'a> {
+    /// The scene of the constructor's body.
+    pub fn scene(&self) -> Scene<'a>
+        ensures { scenery_of result ≡ record {
+          decl = self.now.builder.now.decl;
+          formals = self.now.builder.now.formals;
+          values = self.now.values.now;
+        } }
+    {
+        let builder = self.builder;
+        Scene::in_body(builder.decl, &builder.formals, self.values)
+    }
+}
+
 // What the arguments stand for that a constructor hands on.
 fn handed_data(
     alloc: Global,
@@ -38,34 +61,32 @@ fn handed_data(
     objects: &[MadeObject],
     builder: &Builder<'_>,
 ) -> Result<Option<Sequence<Option<Datum>>>, AllocError>
-    ensures { IfOk result (λ found. found ≡ option_map_or (λ arguments. Some (settled_data (grounds_of footing.now)
+    ensures { IfOk result (λ found. found ≡ option_map_or (λ arguments. Some (fine_data (grounds_of footing.now)
         (scenery_of scene.now) objects.now builder.now.wants.items 0 arguments)) (option_copied builder.now.handed) None) }
 {
     match builder.handed {
         Some(arguments) => {
             let wants = builder.wants.as_slice();
-            let found = settled_data(alloc, footing, scene, objects, wants, arguments)?;
+            let found = fine_data(alloc, footing, scene, objects, wants, arguments)?;
             Ok(Some(Sequence::from_vec(found)))
         }
         None => Ok(None),
     }
 }
 
-// The values that the constructor of the class of this number passes on, where it is passed these.
+// The values that the constructor passes on.
 fn super_data(
     alloc: Global,
     footing: &Ground<'_>,
     objects: &[MadeObject],
-    entry: usize,
-    values: &[Option<Datum>],
-    builder: &Builder<'_>,
+    invocation: &Invocation<'_>,
 ) -> Result<Option<Sequence<Option<Datum>>>, AllocError>
-    requires { IsBuilderAt (facts_of footing.now.basis) entry (Some builder.now) }
-    ensures { IfOk result (λ found.
-        found ≡ super_data (grounds_of footing.now) objects.now entry values.now builder.now.constructor.now) }
+    requires { IsBuilderAt (facts_of footing.now.basis) invocation.now.entry (Some invocation.now.builder.now) }
+    ensures { IfOk result (λ found. found ≡ super_data (grounds_of footing.now) objects.now invocation.now.entry
+        invocation.now.values.now invocation.now.builder.now.constructor.now) }
 {
-    let scene = Scene::in_body(builder.decl, &builder.formals, values);
-    handed_data(alloc, footing, &scene, objects, builder)
+    let scene = invocation.scene();
+    handed_data(alloc, footing, &scene, objects, invocation.builder)
 }
 
 fn copied(alloc: Global, values: &[Option<Datum>]) -> Result<Sequence<Option<Datum>>, AllocError>
@@ -93,7 +114,14 @@ fn data_above(
     match class {
         Meaning::BuiltIn(_) => Ok(None),
         Meaning::Entry(entry) => match builders.find(entry) {
-            Some(builder) => super_data(alloc, footing, objects, entry, values, builder),
+            Some(builder) => {
+                let invocation = Invocation {
+                    entry,
+                    builder,
+                    values,
+                };
+                super_data(alloc, footing, objects, &invocation)
+            }
             None => Ok(Some(copied(alloc, values)?)),
         },
     }
@@ -246,27 +274,37 @@ fn note_read(
     }
 }
 
-/// Notes all that is wrong with what the constructor of the class of this number is passed, and with what it hands on. In its
-/// scene the values are known that it is passed. The object is made by the `new` before the name at the place.
+// Notes what is wrong where the arguments are read that the constructor hands on.
+fn note_handed(footing: &Ground<'_>, invocation: &Invocation<'_>, first: &mut Option<Fault>)
+    requires { IsBuilderAt (facts_of footing.now.basis) invocation.now.entry (Some invocation.now.builder.now) }
+    ensures { first.new ≡ earliest_fault first.old (read_faults (grounds_of footing.now)
+        (constructor_scene (facts_of footing.now.basis) invocation.now.entry invocation.now.builder.now.constructor.now
+        invocation.now.values.now)
+        (super_arguments (constructor_sets invocation.now.builder.now.constructor.now))) }
+{
+    let scene = invocation.scene();
+    let body = constructor_sets(invocation.builder.constructor);
+    note_read(footing, &scene, super_arguments(body), first);
+}
+
+/// Notes all that is wrong with what a constructor is passed, and with what it hands on. The object is made by the
+/// `new` before the name at the place.
 #[tactic(auto, using(nddl_symbols::proofs::Earliest::earliest_append))]
 pub fn note_passing(
     alloc: Global,
     footing: &Ground<'_>,
-    scene: &Scene<'_>,
     objects: &[MadeObject],
     place: Place,
-    entry: usize,
-    builder: &Builder<'_>,
+    invocation: &Invocation<'_>,
     first: &mut Option<Fault>,
 ) -> Result<(), AllocError>
-    requires builder { IsBuilderAt (facts_of footing.now.basis) entry (Some builder.now) }
-    requires scene { scenery_of scene.now
-        ≡ constructor_scene (facts_of footing.now.basis) entry builder.now.constructor.now scene.now.values.now }
-    ensures { OnOk result (first.new ≡ earliest_fault first.old
-        (passing_faults (grounds_of footing.now) objects.now place entry scene.now.values.now builder.now.constructor.now)) }
+    requires { IsBuilderAt (facts_of footing.now.basis) invocation.now.entry (Some invocation.now.builder.now) }
+    ensures { OnOk result (first.new ≡ earliest_fault first.old (passing_faults (grounds_of footing.now) objects.now
+        place invocation.now.entry invocation.now.values.now invocation.now.builder.now.constructor.now)) }
 {
+    let builder = invocation.builder;
     let formals = constructor_formals(builder.constructor);
-    let is_foreign = has_foreign(alloc, footing, objects, scene.values, formals)?;
+    let is_foreign = has_foreign(alloc, footing, objects, invocation.values, formals)?;
     note_at(
         first,
         place.decl,
@@ -279,7 +317,6 @@ pub fn note_passing(
         place.at,
         kind_if(builder.is_wrong(), TextKind::WrongCount),
     );
-    let body = constructor_sets(builder.constructor);
-    note_read(footing, scene, super_arguments(body), first);
+    note_handed(footing, invocation, first);
     Ok(())
 }

@@ -4,10 +4,10 @@ ghost use Rattle.std.specs.Prelude.{◌≡◌, IfOk, slice_get};
 ghost use Rattle.nddl_symbols.specs.Finding.{earliest_fault};
 ghost use Rattle.nddl_resolve.specs.Seen.{seen_in};
 ghost use Rattle.nddl_constructors.specs.Formals.{formal_number};
-ghost use Rattle.nddl_construction.specs.Reading.{all_unmade_faults, data_behind, datum_at, datum_behind, entry_datum, expr_datum, first_datum, is_unmade, is_unmade_meaning, is_unmade_sort, is_unmade_standing, is_well_written, literal_datum, meaning_datum, path_datum, settled_data, settled_datum, sort_datum, standing_datum, unmade_faults};
+ghost use Rattle.nddl_construction.specs.Reading.{all_unmade_faults, data_behind, datum_at, datum_behind, entry_datum, expr_datum, fine_data, fine_datum, first_datum, is_unmade, is_unmade_meaning, is_unmade_object, is_unmade_sort, is_well_written, literal_datum, meaning_datum, named_datum, path_datum, sort_datum, unmade_faults};
 ghost use Rattle.nddl_construction.specs.Scene.{grounds_of, scenery_of};
 
-use super::made::{Datum, Ground, MadeObject, Scene, Standing};
+use super::made::{Datum, Ground, MadeObject, NamedObject, Scene};
 use eu_name::text::Text;
 use nddl_ast::TextKind;
 use nddl_ast::expression::{Constant, Expr};
@@ -22,29 +22,29 @@ use nddl_typeexpr::TypeKind;
 use std::alloc::{AllocError, Global};
 
 // What the name stands for, if it is that of an object which is made.
-fn standing_datum(standing: Option<Standing>) -> Option<Datum>
-    ensures { result ≡ standing_datum standing }
+fn named_datum(named_object: Option<NamedObject>) -> Option<Datum>
+    ensures { result ≡ named_datum named_object }
 {
-    match standing {
-        Some(Standing::Made(datum)) => datum,
+    match named_object {
+        Some(NamedObject::Made(datum)) => datum,
         _ => None,
     }
 }
 
-/// What the name of this number stands for, if it is an object's.
-pub fn standing_at(standing: &[Standing], entry: usize) -> Option<Standing>
-    ensures { result ≡ slice_get standing.now entry }
+/// The object of the name of this number.
+pub fn named_object_at(named_objects: &[NamedObject], entry: usize) -> Option<NamedObject>
+    ensures { result ≡ slice_get named_objects.now entry }
 {
-    Some(*standing.get(entry)?)
+    Some(*named_objects.get(entry)?)
 }
 
 // What the name of this number and sort stands for.
-fn sort_datum(standing: &[Standing], entry: usize, sort: Sort) -> Option<Datum>
-    ensures { result ≡ sort_datum standing.now entry sort }
+fn sort_datum(named_objects: &[NamedObject], entry: usize, sort: Sort) -> Option<Datum>
+    ensures { result ≡ sort_datum named_objects.now entry sort }
 {
     match sort {
         Sort::Member { .. } => Some(Datum::Member(entry)),
-        Sort::Object => standing_datum(standing_at(standing, entry)),
+        Sort::Object => named_datum(named_object_at(named_objects, entry)),
         _ => None,
     }
 }
@@ -54,7 +54,7 @@ fn entry_datum(footing: &Ground<'_>, entry: usize) -> Option<Datum>
     ensures { result ≡ entry_datum (grounds_of footing.now) entry }
 {
     let declared = footing.basis.types.scope.names().get(entry)?;
-    sort_datum(footing.standing, entry, declared.sort)
+    sort_datum(footing.named_objects, entry, declared.sort)
 }
 
 fn meaning_datum(footing: &Ground<'_>, meaning: Option<Meaning>) -> Option<Datum>
@@ -169,8 +169,8 @@ fn is_well_written(
 }
 
 /// What a value stands for where this kind is wanted, unless something is wrong with it as it is written.
-#[tactic(auto, unfolding(crate::specs::Reading::settled_datum))]
-pub fn settled_datum(
+#[tactic(auto, unfolding(crate::specs::Reading::fine_datum))]
+pub fn fine_datum(
     alloc: Global,
     footing: &Ground<'_>,
     scene: &Scene<'_>,
@@ -179,7 +179,7 @@ pub fn settled_datum(
     expr: &Expr,
 ) -> Result<Option<Datum>, AllocError>
     ensures { IfOk result (λ datum.
-        datum ≡ settled_datum (grounds_of footing.now) (scenery_of scene.now) objects.now wanted expr.now) }
+        datum ≡ fine_datum (grounds_of footing.now) (scenery_of scene.now) objects.now wanted expr.now) }
 {
     if is_well_written(alloc, footing, scene, wanted, expr)? {
         Ok(expr_datum(footing, scene, objects, expr))
@@ -189,7 +189,7 @@ pub fn settled_datum(
 }
 
 /// What arguments stand for where these kinds are wanted.
-pub fn settled_data(
+pub fn fine_data(
     alloc: Global,
     footing: &Ground<'_>,
     scene: &Scene<'_>,
@@ -198,31 +198,31 @@ pub fn settled_data(
     exprs: &[Expr],
 ) -> Result<Vec<Option<Datum>>, AllocError>
     ensures { IfOk result (λ found.
-        found.items ≡ settled_data (grounds_of footing.now) (scenery_of scene.now) objects.now wants.now 0 exprs.now) }
+        found.items ≡ fine_data (grounds_of footing.now) (scenery_of scene.now) objects.now wants.now 0 exprs.now) }
 {
     let mut found = Vec::new(alloc);
     for (number, expr) in exprs.iter().enumerate() {
         let wanted = wanted_at(wants, number);
-        let datum = settled_datum(alloc, footing, scene, objects, wanted, expr)?;
+        let datum = fine_datum(alloc, footing, scene, objects, wanted, expr)?;
         found.push(datum)?;
     }
     Ok(found)
 }
 
-fn is_unmade_standing(standing: Option<Standing>) -> bool
-    ensures { result ≡ is_unmade_standing standing }
+fn is_unmade_object(named_object: Option<NamedObject>) -> bool
+    ensures { result ≡ is_unmade_object named_object }
 {
-    match standing {
-        Some(Standing::Unmade) => true,
+    match named_object {
+        Some(NamedObject::Unmade) => true,
         _ => false,
     }
 }
 
-fn is_unmade_sort(standing: &[Standing], entry: usize, sort: Sort) -> bool
-    ensures { result ≡ is_unmade_sort standing.now entry sort }
+fn is_unmade_sort(named_objects: &[NamedObject], entry: usize, sort: Sort) -> bool
+    ensures { result ≡ is_unmade_sort named_objects.now entry sort }
 {
     match sort {
-        Sort::Object => is_unmade_standing(standing_at(standing, entry)),
+        Sort::Object => is_unmade_object(named_object_at(named_objects, entry)),
         _ => false,
     }
 }
@@ -233,7 +233,7 @@ fn is_unmade_meaning(footing: &Ground<'_>, meaning: Option<Meaning>) -> bool
 {
     match meaning {
         Some(Meaning::Entry(entry)) => match footing.basis.types.scope.names().get(entry) {
-            Some(declared) => is_unmade_sort(footing.standing, entry, declared.sort),
+            Some(declared) => is_unmade_sort(footing.named_objects, entry, declared.sort),
             None => false,
         },
         _ => false,

@@ -14,7 +14,7 @@ use Rattle.nddl_hierarchy.specs.Facts.{Facts}
 use Rattle.nddl_resolve.specs.declared.denoted.Denoted.{Denoted}
 use Rattle.nddl_resolve.specs.declared.denoted.Denoted.TheVariants as denoted
 use Rattle.nddl_resolve.specs.Paths.{Surroundings, expr_denoted}
-use Rattle.nddl_resolve.specs.Steps.{Understood}
+use Rattle.nddl_resolve.specs.Following.{Understood}
 use Rattle.nddl_constructors.specs.Wants.{wanted_at}
 
 -- another kind is wanted; where it isn't known which, nothing is said
@@ -27,7 +27,7 @@ abbrev pub constant_fault : Option TypeKind → Denoted → Option TextKind
 constant_fault wanted (denoted.Value kind constant) = fault_if (not constant || is_unwanted wanted kind) faults.WrongType
 constant_fault wanted (denoted.Token token) = Some faults.WrongType
 constant_fault wanted (denoted.Class class) = Some faults.WrongType
-constant_fault wanted denoted.Unsettled = None
+constant_fault wanted denoted.Faulty = None
 
 -- it means something, and nothing is wrong with that
 abbrev pub is_understood : Option TypeKind → Understood → Bool

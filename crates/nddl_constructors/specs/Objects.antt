@@ -24,7 +24,7 @@ use Rattle.nddl_typeexpr.specs.declared.kind.TypeKind.TheVariants as kinds
 use Rattle.nddl_typeexpr.specs.Bases.{base_kind}
 use Rattle.nddl_hierarchy.specs.Facts.{Facts}
 use Rattle.nddl_resolve.specs.Paths.{Surroundings, expr_denoted}
-use Rattle.nddl_resolve.specs.Steps.{Understood}
+use Rattle.nddl_resolve.specs.Following.{Understood}
 use Rattle.nddl_constructors.specs.Bodies.{named_bodies_faults}
 use Rattle.nddl_constructors.specs.Constants.{value_faults}
 use Rattle.nddl_constructors.specs.Creations.{class_alone, set_to_faults, is_of_class}

@@ -1,7 +1,6 @@
 //! What is wrong with the bodies of constructors, whether they are ever run or not.
 
 ghost use Rattle.std.specs.Prelude.{◌≡◌, IfOk, OnOk, map};
-ghost use Rattle.nddl_ast.specs.declared.declaration.Set.TheVariants.{Field};
 ghost use Rattle.nddl_symbols.specs.Finding.{earliest_fault};
 ghost use Rattle.nddl_hierarchy.specs.Facts.{facts_of};
 ghost use Rattle.nddl_resolve.specs.Paths.{around_of};
@@ -15,8 +14,7 @@ use super::wanted::meaning_wanted;
 use eu_name::text::Text;
 use nddl_ast::TextKind;
 use nddl_ast::declaration::{Member, Set, Typed};
-use nddl_ast::expression::{Expr, Init};
-use nddl_ast::name::Name;
+use nddl_ast::expression::Expr;
 use nddl_hierarchy::Basis;
 use nddl_hierarchy::lines::above;
 use nddl_resolve::fields::class_field;
@@ -150,6 +148,7 @@ fn note_sets(
 }
 
 // Notes all that is wrong with a part of a body.
+#[tactic(auto, using(nddl_symbols::proofs::Earliest::earliest_append))]
 fn note_set(
     alloc: Global,
     basis: &Basis<'_>,
@@ -163,9 +162,16 @@ fn note_set(
         (set_faults_in (facts_of basis.now) (around_of around.now) decl entry set.now)) }
 {
     match set {
-        Set::Field { name, value } => note_field(
-            alloc, basis, around, decl, entry, name, value, first,
-        ),
+        Set::Field { name, value } => {
+            let field = field_in_line(alloc, basis, entry, &name.text)?;
+            note_at(
+                first,
+                decl,
+                name.at,
+                kind_if(field.is_none(), TextKind::Unknown),
+            );
+            note_init(alloc, basis, around, decl, field_kind(field), value, first)
+        }
         Set::Super { arguments, .. } => note_super(
             alloc,
             basis,
@@ -176,31 +182,6 @@ fn note_set(
             first,
         ),
     }
-}
-
-// Notes all that is wrong where a field is set.
-#[tactic(auto, using(nddl_symbols::proofs::Earliest::earliest_append))]
-fn note_field(
-    alloc: Global,
-    basis: &Basis<'_>,
-    around: &Around<'_>,
-    decl: usize,
-    entry: usize,
-    name: &Name,
-    value: &Init,
-    first: &mut Option<Fault>,
-) -> Result<(), AllocError>
-    ensures { OnOk result (first.new ≡ earliest_fault first.old
-        (set_faults_in (facts_of basis.now) (around_of around.now) decl entry (Field name.now value.now))) }
-{
-    let field = field_in_line(alloc, basis, entry, &name.text)?;
-    note_at(
-        first,
-        decl,
-        name.at,
-        kind_if(field.is_none(), TextKind::Unknown),
-    );
-    note_init(alloc, basis, around, decl, field_kind(field), value, first)
 }
 
 // Notes all that is wrong with what is handed to what the class extends.

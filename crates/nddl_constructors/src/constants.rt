@@ -38,7 +38,7 @@ fn constant_fault(wanted: Option<TypeKind>, denoted: Denoted) -> Option<TextKind
         ),
         Denoted::Token(_) => Some(TextKind::WrongType),
         Denoted::Class(_) => Some(TextKind::WrongType),
-        Denoted::Unsettled => None,
+        Denoted::Faulty => None,
     }
 }
 

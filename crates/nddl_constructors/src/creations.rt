@@ -6,7 +6,7 @@ ghost use Rattle.nddl_symbols.specs.Finding.{earliest_fault};
 ghost use Rattle.nddl_hierarchy.specs.Facts.{facts_of};
 ghost use Rattle.nddl_resolve.specs.Paths.{around_of};
 ghost use Rattle.nddl_constructors.specs.Wanted.{wanted_kinds};
-ghost use Rattle.nddl_constructors.specs.Creations.{class_alone, creation_faults, creation_faults_by, set_to_faults, is_no_object, is_of_class, made_fault};
+ghost use Rattle.nddl_constructors.specs.Creations.{class_alone, creation_faults, set_to_faults, is_no_object, is_of_class, made_fault};
 
 use super::constants::{note_arguments, note_value};
 use super::wanted::{Wanted, meaning_wanted};
@@ -66,7 +66,7 @@ fn made_fault(
 }
 
 /// Notes all that is wrong with the `new`.
-#[tactic(auto, unfolding(crate::specs::Creations::creation_faults))]
+#[tactic(auto, using(nddl_symbols::proofs::Earliest::earliest_append), unfolding(crate::specs::Creations::creation_faults))]
 pub fn note_creation(
     alloc: Global,
     basis: &Basis<'_>,
@@ -81,31 +81,10 @@ pub fn note_creation(
     let scope = basis.types.scope;
     let meaning = scope.meaning(&creation.class.text);
     let wanted = meaning_wanted(alloc, basis, class_alone(scope, meaning))?;
-    note_creation_by(
-        alloc, basis, around, decl, creation, meaning, &wanted, first,
-    )
-}
-
-// Notes the same, where its class means this, and wants these arguments.
-#[tactic(auto, using(nddl_symbols::proofs::Earliest::earliest_append))]
-fn note_creation_by(
-    alloc: Global,
-    basis: &Basis<'_>,
-    around: &Around<'_>,
-    decl: usize,
-    creation: &Creation,
-    meaning: Option<Meaning>,
-    wanted: &Wanted<'_>,
-    first: &mut Option<Fault>,
-) -> Result<(), AllocError>
-    ensures { OnOk result (first.new ≡ earliest_fault first.old
-        (creation_faults_by (facts_of basis.now) (around_of around.now) decl creation.now meaning
-        (wanted_kinds (facts_of basis.now) wanted.now))) }
-{
     let arguments = creation.arguments.as_slice();
-    let fault = made_fault(basis, meaning, wanted, arguments.len());
+    let fault = made_fault(basis, meaning, &wanted, arguments.len());
     note_at(first, decl, creation.class.at, fault);
-    note_arguments(alloc, basis, around, decl, wanted, arguments, first)
+    note_arguments(alloc, basis, around, decl, &wanted, arguments, first)
 }
 
 /// Whether something else than an object is wanted.

@@ -4,9 +4,9 @@ use Rattle.std.specs.Prelude.{Option, Some, None, slice_get, slice_set, replicat
 use Rattle.std.specs.Option.{option_and_then}
 use Rattle.std.proofs.lemmas.Option.{same_Some, slice_get_within}
 use Rattle.std.proofs.lemmas.Bool.{cases_lt}
-use Rattle.eu_forest.specs.declared.lineage.Standing.{Standing}
-use Rattle.eu_forest.specs.declared.lineage.Standing.TheVariants as standings
-use Rattle.eu_forest.specs.Lines.{IsLineageOf, StandsUnder, standing_in}
+use Rattle.eu_forest.specs.declared.lineage.Rootedness.{Rootedness}
+use Rattle.eu_forest.specs.declared.lineage.Rootedness.TheVariants as how
+use Rattle.eu_forest.specs.Lines.{IsLineageOf, StandsUnder, rootedness_in}
 use Rattle.nddl_ast.specs.declared.declaration.Decl.{Decl}
 use Rattle.nddl_ast.specs.declared.expression.BaseType.{BaseType}
 use Rattle.nddl_ast.specs.declared.expression.BaseType.TheVariants as bases
@@ -216,7 +216,7 @@ module _ (facts : Facts) (order : List ℕ) (are : facts.parents ≡ parents_of 
       → declared_type facts.names facts.program entry ≡ Some declared
       → known_meaning (with_known facts known) other ≡ known_meaning (with_known facts (slice_set known entry meaning)) other
   keeps count place other entry known meaning declared upto at none fresh =
-      ap (λ o. if is_rooted (standing_in facts.marked other) then o else None)
+      ap (λ o. if is_rooted (rootedness_in facts.marked other) then o else None)
       (by (declared_type facts.names facts.program other) refl)
     where
       by : (o : Option types.Type) → declared_type facts.names facts.program other ≡ o
@@ -275,7 +275,7 @@ module _ (facts : Facts) (order : List ℕ) (are : facts.parents ≡ parents_of 
           stays (set_same known entry meaning (slot ∙ ap (λ m. Some m) (sym none))) (λ inside. slot ∙ ap (λ m. Some m) (sym none ∙ is))
       fresh (Some found) some within unseen =
           let told : Some found ≡ known_meaning (with_known facts known) entry = sym some ∙ is in
-          let type = typed (is_rooted (standing_in facts.marked entry)) (declared_type facts.names facts.program entry) refl told in
+          let type = typed (is_rooted (rootedness_in facts.marked entry)) (declared_type facts.names facts.program entry) refl told in
           let P : Option TypeMeaning → Type 0 = λ m. Settled facts order (count + 1) (slice_set known entry m) in
           subst P (sym some) (newly_known count entry known found type.0 here within unseen type.1 told settled)
         where
@@ -306,11 +306,11 @@ begins_settled facts order = record {
   rest = λ entry none within. none_at (length facts.names) entry within;
 }
 
-not_rooted : (standing : Option Standing) → (standing ≡ Some standings.Rooted → ⊥) → is_rooted standing ≡ false
+not_rooted : (rootedness : Option Rootedness) → (rootedness ≡ Some how.Rooted → ⊥) → is_rooted rootedness ≡ false
 not_rooted None never = refl
-not_rooted (Some standings.Rooted) never = absurd (never refl)
-not_rooted (Some standings.OnCircle) never = refl
-not_rooted (Some standings.Leading) never = refl
+not_rooted (Some how.Rooted) never = absurd (never refl)
+not_rooted (Some how.OnCircle) never = refl
+not_rooted (Some how.Leading) never = refl
 
 -- where all of the order has been dealt with, each name means what is known
 pub all_known : (facts : Facts) (order : List ℕ) (count : ℕ) (known : List (Option TypeMeaning)) → length order ≤ count
@@ -326,7 +326,7 @@ all_known facts order count known past are lineage settled = record {
   means = λ entry within. by entry within (seen_or_not order count entry);
 }
   where
-    unseen : (entry : ℕ) → (IsSeen order count entry → ⊥) → standing_in facts.marked entry ≡ Some standings.Rooted → ⊥
+    unseen : (entry : ℕ) → (IsSeen order count entry → ⊥) → rootedness_in facts.marked entry ≡ Some how.Rooted → ⊥
     unseen entry none rooted =
         let place = lineage.whole entry rooted in
         let less : place.0 < length order = slice_get_within order place.0 entry place.1 in
@@ -338,4 +338,4 @@ all_known facts order count known past are lineage settled = record {
     by entry within (inr none) =
         settled.rest entry none within
         ∙ ap (λ b. Some (if b then option_and_then (fine_meaning (with_known facts known)) (declared_type facts.names facts.program entry) else None))
-        (sym (not_rooted (standing_in facts.marked entry) (unseen entry none)))
+        (sym (not_rooted (rootedness_in facts.marked entry) (unseen entry none)))

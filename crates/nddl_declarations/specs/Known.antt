@@ -2,7 +2,7 @@
 use Rattle.std.specs.Prelude.{◌≡◌, ℕ, ◌<◌, List, ◌++◌, Option, Some, None, slice_get, slice_set, length}
 use Rattle.std.specs.Prelude.{if◌then◌else◌}
 use Rattle.std.specs.Option.{option_and_then}
-use Rattle.eu_forest.specs.Lines.{IsLineageOf, standing_in}
+use Rattle.eu_forest.specs.Lines.{IsLineageOf, rootedness_in}
 use Rattle.nddl_ast.specs.declared.declaration.Decl.{Decl}
 use Rattle.nddl_ast.specs.declared.expression.Type as types
 use Rattle.nddl_symbols.specs.declared.declared.Declared.{Declared}
@@ -37,7 +37,7 @@ declared_type names program entry =
 -- what the name of this number means as a typedef: what its type does, if it stands on no circle
 abbrev pub known_meaning : Facts → ℕ → Option TypeMeaning
 known_meaning facts entry =
-    if is_rooted (standing_in facts.marked entry)
+    if is_rooted (rootedness_in facts.marked entry)
     then option_and_then (fine_meaning facts) (declared_type facts.names facts.program entry)
     else None
 

@@ -4,64 +4,38 @@ ghost use Rattle.std.specs.Prelude.{◌≡◌, None, IfOk, map, replicate};
 ghost use Rattle.std.specs.Option.{option_copied};
 ghost use Rattle.eu_forest.specs.Lines.{IsLineageOf};
 ghost use Rattle.nddl_hierarchy.specs.Facts.{facts_of};
-ghost use Rattle.nddl_hierarchy.specs.Lines.{parents_of};
-ghost use Rattle.nddl_hierarchy.specs.Shorter.{AreShorter};
-ghost use Rattle.nddl_typeexpr.specs.declared.kind.Extent.TheVariants.{Whole};
 ghost use Rattle.nddl_declarations.specs.Known.{AreFacts, declared_type, known_meaning, with_meaning};
 
 use super::types::fine_meaning;
-use eu_forest::Lineage;
 use nddl_ast::declaration::Decl;
 use nddl_ast::expression::Type;
+use nddl_hierarchy::Basis;
 use nddl_hierarchy::circles::is_rooted;
 use nddl_hierarchy::decls::{decl_at, typedef_type};
-use nddl_hierarchy::{Basis, MemberIndex, Parents, ShortLines};
 use nddl_symbols::{Scope, Sort};
-use nddl_typeexpr::{Extent, TypeMeaning, Types};
+use nddl_typeexpr::{TypeMeaning, Types};
 use std::alloc::{AllocError, Global};
 
-/// What each name of the scope means as a typedef. The lineage is that of what the names stand under, and along `short` some
-/// classes are passed over.
+/// What each name of the scope means as a typedef, by all that is known of the program but what typedefs mean.
 pub fn known_meanings(
     alloc: Global,
-    scope: &Scope,
-    decls: &[&Decl],
-    members: &MemberIndex<'_>,
-    parents: &Parents,
-    lineage: &Lineage,
-    short: &ShortLines,
-    whole: &Extent,
+    basis: &Basis<'_>,
 ) -> Result<Vec<Option<TypeMeaning>>, AllocError>
-    requires members { members.now ≡ map (λ decl. decl.now) decls.now }
-    requires parents { parents.now ≡ parents_of scope.now (map (λ decl. decl.now) decls.now) }
-    requires lineage { IsLineageOf parents.now lineage.now.marks.items lineage.now.order.items }
-    requires short { AreShorter scope.now (map (λ decl. decl.now) decls.now) parents.now lineage.now.marks.items short.now }
-    requires whole { whole.now ≡ Whole }
-    ensures { IfOk result (λ known. AreFacts scope.now (map (λ decl. decl.now) decls.now)
+    requires { IsLineageOf basis.now.parents.now basis.now.lineage.now.marks.items basis.now.lineage.now.order.items }
+    ensures { IfOk result (λ known. AreFacts basis.now.types.scope.now (map (λ decl. decl.now) basis.now.decls.now)
         (record {
-          names = scope.now;
-          program = map (λ decl. decl.now) decls.now;
-          parents = parents.now;
-          marked = lineage.now.marks.items;
+          names = basis.now.types.scope.now;
+          program = map (λ decl. decl.now) basis.now.decls.now;
+          parents = basis.now.parents.now;
+          marked = basis.now.lineage.now.marks.items;
           known = known.items;
         })) }
 {
-    let mut known = nothing_known(alloc, scope.names().len())?;
-    let order = lineage.order();
+    let mut known = nothing_known(alloc, basis.types.scope.names().len())?;
+    let order = basis.lineage.order();
     for entry in order {
-        let meaning = meaning_by(
-            alloc,
-            &*scope,
-            &*decls,
-            &*members,
-            &*parents,
-            &*lineage,
-            &*short,
-            &*whole,
-            known.as_slice(),
-            *entry,
-        )?;
-        put(&mut known, *entry, meaning);
+        let meaning = meaning_by(alloc, &*basis, known.as_slice(), *entry)?;
+        put_meaning(&mut known, *entry, meaning);
     }
     Ok(known)
 }
@@ -77,46 +51,36 @@ fn nothing_known(alloc: Global, count: usize) -> Result<Vec<Option<TypeMeaning>>
     Ok(known)
 }
 
-// What the name of this number means by what is known.
+// What the name of this number means, where this is known of typedefs.
 fn meaning_by<'a>(
     alloc: Global,
-    scope: &'a Scope,
-    decls: &'a [&'a Decl],
-    members: &'a MemberIndex<'a>,
-    parents: &'a Parents,
-    lineage: &'a Lineage,
-    short: &'a ShortLines,
-    whole: &'a Extent,
+    basis: &'a Basis<'a>,
     known: &'a [Option<TypeMeaning>],
     entry: usize,
 ) -> Result<Option<TypeMeaning>, AllocError>
-    requires members { members.now ≡ map (λ decl. decl.now) decls.now }
-    requires parents { parents.now ≡ parents_of scope.now (map (λ decl. decl.now) decls.now) }
-    requires short { AreShorter scope.now (map (λ decl. decl.now) decls.now) parents.now lineage.now.marks.items short.now }
-    requires whole { whole.now ≡ Whole }
     ensures { IfOk result (λ meaning. meaning ≡ known_meaning
         (record {
-          names = scope.now;
-          program = map (λ decl. decl.now) decls.now;
-          parents = parents.now;
-          marked = lineage.now.marks.items;
+          names = basis.now.types.scope.now;
+          program = map (λ decl. decl.now) basis.now.decls.now;
+          parents = basis.now.parents.now;
+          marked = basis.now.lineage.now.marks.items;
           known = known.now;
         }) entry) }
 {
     let types = Types {
-        scope,
+        scope: basis.types.scope,
         known,
-        whole,
+        whole: basis.types.whole,
     };
-    let basis = Basis {
+    let informed = Basis {
         types,
-        decls,
-        members,
-        parents,
-        lineage,
-        short,
+        decls: basis.decls,
+        members: basis.members,
+        parents: basis.parents,
+        lineage: basis.lineage,
+        short: basis.short,
     };
-    entry_meaning(alloc, &basis, entry)
+    entry_meaning(alloc, &informed, entry)
 }
 
 // What the name of this number means.
@@ -127,7 +91,7 @@ fn entry_meaning(
 ) -> Result<Option<TypeMeaning>, AllocError>
     ensures { IfOk result (λ meaning. meaning ≡ known_meaning (facts_of basis.now) entry) }
 {
-    if !is_rooted(basis.lineage.standing(entry)) {
+    if !is_rooted(basis.lineage.rootedness(entry)) {
         return Ok(None);
     }
     match declared_type(basis.types.scope, basis.decls, entry) {
@@ -148,7 +112,7 @@ fn declared_type<'a>(scope: &Scope, decls: &[&'a Decl], entry: usize) -> Option<
 }
 
 // Writes down what the name of this number means.
-fn put(known: &mut Vec<Option<TypeMeaning>>, entry: usize, meaning: Option<TypeMeaning>)
+fn put_meaning(known: &mut Vec<Option<TypeMeaning>>, entry: usize, meaning: Option<TypeMeaning>)
     ensures { known.new.items ≡ with_meaning known.old.items entry meaning }
 {
     if entry < known.len() {

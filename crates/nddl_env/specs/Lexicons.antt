@@ -35,7 +35,7 @@ use Rattle.nddl_terms.specs.declared.stands.Stand.{Stand}
 use Rattle.nddl_terms.specs.declared.stands.Stand.TheVariants as stands
 use Rattle.nddl_terms.specs.Preds.{class_named}
 use Rattle.nddl_env.specs.Listing.{populations}
-use Rattle.nddl_env.specs.Objects.{standing_object}
+use Rattle.nddl_env.specs.Objects.{made_object}
 use Rattle.nddl_env.specs.Shapes.{World, entry_attributes, kind_class, number_attribute, part_attribute, shape_with}
 
 -- ---- classes
@@ -121,7 +121,8 @@ root_stand world number declared meant =
 -- what the object's name of this number stands for, which is declared as one of this class
 abbrev pub object_stand : World → ℕ → ℕ → Stand
 object_stand world entry class =
-    option_map_or (λ value. stands.Value (terms.Lit value) class) (standing_object (slice_get world.standing entry)) stands.Nothing
+    option_map_or (λ value. stands.Value (terms.Lit value) class) (made_object (slice_get world.named_objects entry))
+    stands.Nothing
 
 -- what the name of this number and sort stands for, which means this, behind so many globals and roots
 abbrev pub sort_stand : World → ℕ → ℕ → ℕ → Declared → Option Denoted → Sort → Stand

@@ -22,17 +22,17 @@ use Rattle.nddl_hierarchy.specs.Decls.{members_of}
 use Rattle.nddl_declarations.specs.Domains.{base_of, value_kind}
 use Rattle.nddl_types.specs.Classes.{class_number, given_fields, line_down}
 use Rattle.nddl_construction.specs.declared.made.MadeObject.{MadeObject}
-use Rattle.nddl_construction.specs.declared.made.Standing.{Standing}
+use Rattle.nddl_construction.specs.declared.made.NamedObject.{NamedObject}
 use Rattle.nddl_terms.specs.declared.lexicon.Attribute.{Attribute}
 use Rattle.nddl_terms.specs.declared.lexicon.Shape.{Shape}
 use Rattle.nddl_env.specs.declared.premises.Premises as code
 use Rattle.nddl_env.specs.Objects.{objects_base}
 
--- the facts of a program, its enums, what its names stand for, and its objects
+-- the facts of a program, its enums, the objects of its names, and all of its objects
 pub record World : Type 0 where
   pub facts : Facts
   pub enums : List Enum
-  pub standing : List Standing
+  pub named_objects : List NamedObject
   pub objects : List MadeObject
 
 -- that which the code keeps
@@ -40,14 +40,14 @@ abbrev pub world_of : code.Premises → World
 world_of premises = record {
   facts = facts_of premises.sources.basis;
   enums = premises.sources.enums.now;
-  standing = premises.standing.now;
+  named_objects = premises.named_objects.now;
   objects = premises.objects.now;
 }
 
 -- ---- types
 
 abbrev pub kind_base : World → TypeKind → Extent → Base
-kind_base world (kinds.Object class) extent = objects_base world.facts world.standing world.objects class extent
+kind_base world (kinds.Object class) extent = objects_base world.facts world.named_objects world.objects class extent
 kind_base world kind extent = base_of world.facts.names world.enums kind extent
 
 -- the class of what is of this kind, if it is one of objects

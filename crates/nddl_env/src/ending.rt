@@ -15,7 +15,7 @@ pub fn when<T: Drop>(done: Result<(), AllocError>, value: T) -> Result<T, AllocE
 }
 
 /// Puts what was made into its place, if it was.
-pub fn put<T: Drop>(made: Result<T, AllocError>, place: &mut T) -> Result<(), AllocError>
+pub fn put_made<T: Drop>(made: Result<T, AllocError>, place: &mut T) -> Result<(), AllocError>
     ensures { OnOk result (made ≡ Ok place.new) }
 {
     match made {

@@ -5,7 +5,7 @@ ghost use Rattle.nddl_env.specs.Lexicons.{lexicon_of, pred_shapes};
 ghost use Rattle.nddl_env.specs.Shapes.{world_of};
 
 use super::classes::class_shapes;
-use super::ending::{put, when};
+use super::ending::{put_made, when};
 use super::names::scope_stands;
 use super::predicates::pred_shapes;
 use super::premises::Premises;
@@ -40,11 +40,11 @@ fn indexed_preds(alloc: Global, premises: &Premises<'_>) -> Result<PredShapes, A
 fn fill(alloc: Global, premises: &Premises<'_>, lexicon: &mut Lexicon) -> Result<(), AllocError>
     ensures { OnOk result (lexicon.new ≡ lexicon_of (world_of premises.now)) }
 {
-    put(indexed_preds(alloc, premises), &mut lexicon.preds)?;
-    put(scope_stands(alloc, premises, &*lexicon), &mut lexicon.scope)?;
-    put(class_shapes(alloc, premises), &mut lexicon.classes)?;
-    put(premises.by_class.copy(alloc), &mut lexicon.populations)?;
-    put(scope_types(alloc, premises), &mut lexicon.types)
+    put_made(indexed_preds(alloc, premises), &mut lexicon.preds)?;
+    put_made(scope_stands(alloc, premises, &*lexicon), &mut lexicon.scope)?;
+    put_made(class_shapes(alloc, premises), &mut lexicon.classes)?;
+    put_made(premises.by_class.copy(alloc), &mut lexicon.populations)?;
+    put_made(scope_types(alloc, premises), &mut lexicon.types)
 }
 
 /// What is known of the program where its rules are unrolled.

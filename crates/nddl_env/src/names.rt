@@ -9,7 +9,7 @@ ghost use Rattle.nddl_terms.specs.declared.stands.Stand.TheVariants as stands;
 ghost use Rattle.nddl_env.specs.Lexicons.{asked_name, denoted_class, is_global_sort, is_root_sort, name_stand, object_stand, pred_shapes, root_of_class, root_stand, scope_stands, sort_stand, stand_if_first, token_class};
 ghost use Rattle.nddl_env.specs.Shapes.{world_of};
 
-use super::objects::standing_object;
+use super::objects::made_object;
 use super::premises::Premises;
 use super::shapes::kind_class;
 use eu_name::sequence::Sequence;
@@ -17,7 +17,7 @@ use model_core::item::Term;
 use nddl_ast::declaration::Decl;
 use nddl_ast::name::Name;
 use nddl_ast::path::last;
-use nddl_construction::reading::standing_at;
+use nddl_construction::reading::named_object_at;
 use nddl_declarations::values::value_at;
 use nddl_hierarchy::decls::decl_at;
 use nddl_resolve::Denoted;
@@ -27,6 +27,14 @@ use nddl_terms::lexicon::{Lexicon, as_number};
 use nddl_terms::stands::Stand;
 use nddl_types::numbers::{class_number, is_first};
 use std::alloc::{AllocError, Global};
+
+// Where a name stands in the scope: its number, and how many globals and roots come before it.
+#[derive(Clone, Copy)]
+struct Position {
+    number: usize,
+    globals: u32,
+    roots: u32,
+}
 
 // The declared class of what a name means, if that is an object.
 fn denoted_class(premises: &Premises<'_>, meant: Option<Denoted>) -> u32
@@ -104,7 +112,7 @@ fn root_stand(
 fn object_stand(premises: &Premises<'_>, entry: usize, class: u32) -> Result<Stand, AllocError>
     ensures { IfOk result (λ stand. stand ≡ object_stand (world_of premises.now) entry class) }
 {
-    match standing_object(standing_at(premises.standing, entry))? {
+    match made_object(named_object_at(premises.named_objects, entry))? {
         Some(value) => Ok(Stand::Value {
             term: Term::Lit(value),
             class,
@@ -134,48 +142,45 @@ fn class_stand(premises: &Premises<'_>, entry: usize) -> Stand
     ))
 }
 
-// What the name of this number stands for that means this, behind so many globals and roots.
+// What the name at this position stands for, which means this.
 fn sort_stand(
     premises: &Premises<'_>,
     lexicon: &Lexicon,
-    entry: usize,
-    globals: u32,
-    roots: u32,
+    position: Position,
     declared: &Declared,
     meant: Option<Denoted>,
 ) -> Result<Stand, AllocError>
     requires { lexicon.now.preds ≡ pred_shapes (world_of premises.now) }
-    ensures { IfOk result (λ stand. stand
-        ≡ sort_stand (world_of premises.now) entry globals roots declared.now meant declared.now.sort) }
+    ensures { IfOk result (λ stand. stand ≡ sort_stand (world_of premises.now) position.number position.globals
+        position.roots declared.now meant declared.now.sort) }
 {
     match declared.sort {
         Sort::Member { place, .. } => member_stand(place),
         Sort::Global => Ok(Stand::Value {
-            term: Term::Global(globals),
+            term: Term::Global(position.globals),
             class: denoted_class(premises, meant),
         }),
-        Sort::Object => object_stand(premises, entry, denoted_class(premises, meant)),
-        Sort::Root => root_stand(premises, lexicon, roots, declared, meant),
-        Sort::Forward | Sort::Body => Ok(class_stand(premises, entry)),
+        Sort::Object => object_stand(premises, position.number, denoted_class(premises, meant)),
+        Sort::Root => root_stand(premises, lexicon, position.roots, declared, meant),
+        Sort::Forward | Sort::Body => Ok(class_stand(premises, position.number)),
         _ => Ok(Stand::Nothing),
     }
 }
 
-// What the name of this number stands for.
+// What the name at this position stands for.
 fn name_stand(
     alloc: Global,
     premises: &Premises<'_>,
     lexicon: &Lexicon,
-    entry: usize,
-    globals: u32,
-    roots: u32,
+    position: Position,
     declared: &Declared,
 ) -> Result<Stand, AllocError>
     requires { lexicon.now.preds ≡ pred_shapes (world_of premises.now) }
-    ensures { IfOk result (λ stand. stand ≡ name_stand (world_of premises.now) entry globals roots declared.now) }
+    ensures { IfOk result (λ stand. stand ≡ name_stand (world_of premises.now) position.number position.globals
+        position.roots declared.now) }
 {
     let meant = file_denoted(alloc, &premises.sources.basis, &declared.name)?;
-    sort_stand(premises, lexicon, entry, globals, roots, declared, meant)
+    sort_stand(premises, lexicon, position, declared, meant)
 }
 
 // Puts what the name stands for behind the others, if nothing is declared under it before.
@@ -183,18 +188,20 @@ fn push_stand(
     alloc: Global,
     premises: &Premises<'_>,
     lexicon: &Lexicon,
-    entry: usize,
-    globals: u32,
-    roots: u32,
+    position: Position,
     declared: &Declared,
     stands: &mut Sequence<Stand>,
 ) -> Result<(), AllocError>
     requires { lexicon.now.preds ≡ pred_shapes (world_of premises.now) }
-    ensures { OnOk result (stands.new
-        ≡ stands.old ++ stand_if_first (world_of premises.now) entry globals roots declared.now) }
+    ensures { OnOk result (stands.new ≡ stands.old ++ stand_if_first (world_of premises.now) position.number
+        position.globals position.roots declared.now) }
 {
-    if is_first(premises.sources.basis.types.scope, entry, declared) {
-        stands.push(name_stand(alloc, premises, lexicon, entry, globals, roots, declared)?)
+    if is_first(
+        premises.sources.basis.types.scope,
+        position.number,
+        declared,
+    ) {
+        stands.push(name_stand(alloc, premises, lexicon, position, declared)?)
     } else {
         Ok(())
     }
@@ -244,16 +251,12 @@ pub fn scope_stands(
     let mut roots: u32 = 0;
     let names = premises.sources.basis.types.scope.names();
     for (entry, declared) in names.iter().enumerate() {
-        push_stand(
-            alloc,
-            premises,
-            lexicon,
-            entry,
+        let position = Position {
+            number: entry,
             globals,
             roots,
-            declared,
-            &mut stands,
-        )?;
+        };
+        push_stand(alloc, premises, lexicon, position, declared, &mut stands)?;
         globals = counted(globals, is_global(declared.sort))?;
         roots = counted(roots, is_root(declared.sort))?;
     }

@@ -5,14 +5,14 @@ ghost use Rattle.std.specs.List.{filter_map};
 ghost use Rattle.nddl_hierarchy.specs.Facts.{facts_of};
 ghost use Rattle.nddl_declarations.specs.Domains.{numbers_base};
 ghost use Rattle.nddl_env.specs.Listing.{class_population};
-ghost use Rattle.nddl_env.specs.Objects.{entry_object, objects_base, objects_of, standing_object};
+ghost use Rattle.nddl_env.specs.Objects.{entry_object, made_object, objects_base, objects_of};
 
 use super::listing::is_numbered;
 use super::premises::Premises;
 use eu_name::sequence::Sequence;
 use model_core::variable::Base;
-use nddl_construction::reading::standing_at;
-use nddl_construction::{Datum, MadeObject, Standing};
+use nddl_construction::reading::named_object_at;
+use nddl_construction::{Datum, MadeObject, NamedObject};
 use nddl_constructors::creations::is_of_class;
 use nddl_declarations::domains::numbers_base;
 use nddl_declarations::values::value_at;
@@ -57,36 +57,36 @@ pub fn class_population(
 }
 
 /// The object that a name of the files stands for.
-pub fn standing_object(standing: Option<Standing>) -> Result<Option<i32>, AllocError>
-    ensures { IfOk result (λ object. object ≡ standing_object standing) }
+pub fn made_object(named_object: Option<NamedObject>) -> Result<Option<i32>, AllocError>
+    ensures { IfOk result (λ object. object ≡ made_object named_object) }
 {
-    match standing {
-        Some(Standing::Made(Some(Datum::Object(number)))) => Ok(Some(value_at(number)?)),
+    match named_object {
+        Some(NamedObject::Made(Some(Datum::Object(number)))) => Ok(Some(value_at(number)?)),
         _ => Ok(None),
     }
 }
 
 // The object whose name has this number in the scope.
-fn entry_object(standing: &[Standing], entry: i32) -> Result<Option<i32>, AllocError>
-    ensures { IfOk result (λ object. object ≡ entry_object standing.now entry) }
+fn entry_object(named_objects: &[NamedObject], entry: i32) -> Result<Option<i32>, AllocError>
+    ensures { IfOk result (λ object. object ≡ entry_object named_objects.now entry) }
 {
     if entry < 0 {
         return Ok(None);
     }
-    standing_object(standing_at(standing, entry as usize))
+    made_object(named_object_at(named_objects, entry as usize))
 }
 
 // The objects whose names have these numbers in the scope.
 fn entry_objects(
     alloc: Global,
-    standing: &[Standing],
+    named_objects: &[NamedObject],
     entries: &[i32],
 ) -> Result<Vec<i32>, AllocError>
-    ensures { IfOk result (λ objects. objects.items ≡ filter_map (entry_object standing.now) entries.now) }
+    ensures { IfOk result (λ objects. objects.items ≡ filter_map (entry_object named_objects.now) entries.now) }
 {
     let mut objects = Vec::new(alloc);
     for entry in entries {
-        if let Some(object) = entry_object(standing, *entry)? {
+        if let Some(object) = entry_object(named_objects, *entry)? {
             objects.push(object)?;
         }
     }
@@ -94,10 +94,14 @@ fn entry_objects(
 }
 
 // What a variable of the written set may be.
-fn written_base(alloc: Global, standing: &[Standing], entries: &[i32]) -> Result<Base, AllocError>
-    ensures { IfOk result (λ base. base ≡ numbers_base (filter_map (entry_object standing.now) entries.now)) }
+fn written_base(
+    alloc: Global,
+    named_objects: &[NamedObject],
+    entries: &[i32],
+) -> Result<Base, AllocError>
+    ensures { IfOk result (λ base. base ≡ numbers_base (filter_map (entry_object named_objects.now) entries.now)) }
 {
-    let objects = entry_objects(alloc, standing, entries)?;
+    let objects = entry_objects(alloc, named_objects, entries)?;
     numbers_base(alloc, objects.as_slice())
 }
 
@@ -137,10 +141,10 @@ pub fn objects_base(
     extent: &Extent,
 ) -> Result<Base, AllocError>
     ensures { IfOk result (λ base. base ≡ objects_base (facts_of premises.now.sources.basis)
-        premises.now.standing.now premises.now.objects.now class extent.now) }
+        premises.now.named_objects.now premises.now.objects.now class extent.now) }
 {
     match extent {
-        Extent::Set(members) => written_base(alloc, premises.standing, members.as_slice()),
+        Extent::Set(members) => written_base(alloc, premises.named_objects, members.as_slice()),
         _ => class_base(alloc, premises, class),
     }
 }

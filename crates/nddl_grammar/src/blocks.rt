@@ -103,7 +103,7 @@ fn braces(cursor: &mut Cursor<'_>, left: u8) -> Result<StmtBlock, Stop>
     })
 }
 
-/// The same, where so many blocks may be nested, it among them.
+/// `"{" { Stmt } "}"`, where so many blocks may be nested, it among them.
 #[cycle(blocks)]
 pub fn block(cursor: &mut Cursor<'_>, left: u8) -> Result<StmtBlock, Stop>
     ensures { IsFound result cursor.new (block left cursor.old) }

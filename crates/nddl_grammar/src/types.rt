@@ -200,7 +200,7 @@ fn bounded_name(cursor: &mut Cursor<'_>) -> Result<(Bounds, (Name, ())), Stop>
     joined(bounds, rest)
 }
 
-/// The same behind the name with which the type begins.
+/// `Type Name ";"` behind the name with which the type begins.
 #[tactic(auto, unfolding(crate::specs::Productions::field_after))]
 pub fn field_after(cursor: &mut Cursor<'_>, first: Name) -> Result<Typed, Stop>
     ensures { IsFound result cursor.new (field_after first cursor.old) }

@@ -1,7 +1,7 @@
 -- The names that are noted along lines to which the same classes add members are the same.
 use Rattle.std.proofs.Common.{◌≡◌, ℕ, ◌&&◌, Bool, true, false, cond, List, [], ◌∷◌, refl, sym, ◌∙◌, ap}
 use Rattle.std.specs.Prelude.{Option, Some, None, Result, Ok, Err, IfOk, if◌then◌else◌}
-use Rattle.eu_forest.specs.Lines.{standing_in}
+use Rattle.eu_forest.specs.Lines.{rootedness_in}
 use Rattle.nddl_ast.specs.declared.declaration.Decl.{Decl}
 use Rattle.nddl_symbols.specs.declared.declared.Declared.{Declared}
 use Rattle.nddl_symbols.specs.declared.scope.Meaning.{Meaning}
@@ -56,7 +56,7 @@ same_noted names program noted one other same =
 
 -- so what a class extends that means this gives the names that are noted along such a line
 pub means_noted : {E : Type 0} (facts : Facts) (entry : ℕ) (line read : List ℕ) (noted : Result Noted E) → is_class_at facts.names entry ≡ true
-    → is_rooted (standing_in facts.marked entry) ≡ true → AddTheSame facts.names facts.program line (ancestry facts.parents entry) → read ≡ line
+    → is_rooted (rootedness_in facts.marked entry) ≡ true → AddTheSame facts.names facts.program line (ancestry facts.parents entry) → read ≡ line
     → IfOk noted (λ some. some ≡ line_noted facts.names facts.program [] read)
     → IfOk noted (λ some. some ≡ meaning_noted facts (Some (meanings.Entry entry)))
 means_noted facts entry line read (Err e) class rooted same is so_far = tt
@@ -65,4 +65,4 @@ means_noted facts entry line read (Ok some) class rooted same is so_far =
     so_far
     ∙ (ap (line_noted facts.names facts.program []) is
     ∙ (same_noted facts.names facts.program [] line (ancestry facts.parents entry) same
-    ∙ sym (ap (λ b. if b && is_rooted (standing_in facts.marked entry) then along else []) class ∙ ap (λ b. if b then along else []) rooted)))
+    ∙ sym (ap (λ b. if b && is_rooted (rootedness_in facts.marked entry) then along else []) class ∙ ap (λ b. if b then along else []) rooted)))

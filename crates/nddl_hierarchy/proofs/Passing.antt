@@ -5,10 +5,10 @@ use Rattle.std.specs.List.{filter}
 use Rattle.std.specs.Option.{option_and_then, option_map_or}
 use Rattle.std.proofs.lemmas.Bool.{cases_lt}
 use Rattle.std.proofs.lemmas.Option.{same_Some, slice_get_within}
-use Rattle.eu_forest.specs.declared.lineage.Standing.{Standing}
-use Rattle.eu_forest.specs.declared.lineage.Standing.TheVariants as standings
+use Rattle.eu_forest.specs.declared.lineage.Rootedness.{Rootedness}
+use Rattle.eu_forest.specs.declared.lineage.Rootedness.TheVariants as how
 use Rattle.eu_forest.specs.declared.walk.Mark.{Mark}
-use Rattle.eu_forest.specs.Lines.{IsLineageOf, LeadsUp, ParentsComeFirst, StandsUnder, standing_in}
+use Rattle.eu_forest.specs.Lines.{IsLineageOf, LeadsUp, ParentsComeFirst, StandsUnder, rootedness_in}
 use Rattle.eu_forest.proofs.Lists.{get-set_same, get-set_other}
 use Rattle.eu_forest.proofs.Marking.{equal_or_not}
 use Rattle.nddl_ast.specs.declared.declaration.Decl.{Decl}
@@ -197,14 +197,14 @@ module _ (test : ℕ → Bool) (parents : List (Option ℕ)) (order : List ℕ) 
 
     pub all_shorter : (marked : List Mark) → IsLineageOf parents marked order → AreShorterFor test parents marked short
     all_shorter marked lineage entry rooted =
-        let place = lineage.whole entry (by (standing_in marked entry) rooted) in
+        let place = lineage.whole entry (by (rootedness_in marked entry) rooted) in
         let is = lineage.sound place.0 entry place.1 in
         let way = short_way parents entry is.path is.root is.leads is.ends in
         lines (length short) place.0 entry is.path is.root place.1 is.leads is.ends (let long = all.long in omega arith)
         ∙ ap (filter test) (sym (ancestry_is parents entry is.path is.root is.leads is.ends))
       where
-        by : (o : Option Standing) → is_rooted o ≡ true → o ≡ Some standings.Rooted
+        by : (o : Option Rootedness) → is_rooted o ≡ true → o ≡ Some how.Rooted
         by None e = absurd (cc)
-        by (Some standings.Rooted) e = refl
-        by (Some standings.OnCircle) e = absurd (cc)
-        by (Some standings.Leading) e = absurd (cc)
+        by (Some how.Rooted) e = refl
+        by (Some how.OnCircle) e = absurd (cc)
+        by (Some how.Leading) e = absurd (cc)

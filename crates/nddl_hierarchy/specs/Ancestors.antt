@@ -4,7 +4,7 @@ use Rattle.std.specs.List.{list_any, flat_map}
 use Rattle.std.specs.Option.{option_map_or, option_and_then}
 use Rattle.eu_forest.specs.declared.walk.Mark.{Mark}
 use Rattle.eu_forest.specs.Ancestors.{ancestry}
-use Rattle.eu_forest.specs.Lines.{standing_in}
+use Rattle.eu_forest.specs.Lines.{rootedness_in}
 use Rattle.nddl_ast.specs.declared.declaration.Decl.{Decl}
 use Rattle.nddl_ast.specs.declared.declaration.Decl.TheVariants as decls
 use Rattle.nddl_ast.specs.declared.expression.Bounds.{Bounds}
@@ -97,7 +97,7 @@ is_outside names program parents marked class None = false
 is_outside names program parents marked class (Some (meanings.BuiltIn number)) =
     not (is_every class || is_same_meaning class (meanings.BuiltIn number))
 is_outside names program parents marked class (Some (meanings.Entry entry)) =
-    (is_class_at names entry && is_rooted (standing_in marked entry)) && not (is_under names program parents class entry)
+    (is_class_at names entry && is_rooted (rootedness_in marked entry)) && not (is_under names program parents class entry)
 
 -- the value names an object of another class
 abbrev pub is_foreign : List Declared → List Decl → List (Option ℕ) → List Mark → Meaning → Value → Bool

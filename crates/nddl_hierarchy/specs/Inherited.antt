@@ -1,7 +1,7 @@
 -- The names that a class has from those that it extends.
 use Rattle.std.specs.Prelude.{ℕ, ◌==◌, ◌&&◌, List, [], ◌∷◌, Option, Some, None, codes, if◌then◌else◌}
 use Rattle.std.specs.List.{filter_map}
-use Rattle.eu_forest.specs.Lines.{standing_in}
+use Rattle.eu_forest.specs.Lines.{rootedness_in}
 use Rattle.nddl_ast.specs.declared.declaration.Decl.{Decl}
 use Rattle.nddl_ast.specs.declared.declaration.Member.{Member}
 use Rattle.nddl_ast.specs.declared.declaration.Member.TheVariants as members
@@ -74,7 +74,7 @@ abbrev pub meaning_noted : Facts → Option Meaning → Noted
 meaning_noted facts None = []
 meaning_noted facts (Some (meanings.BuiltIn number)) = words_noted [] (builtin_members number)
 meaning_noted facts (Some (meanings.Entry entry)) =
-    if is_class_at facts.names entry && is_rooted (standing_in facts.marked entry)
+    if is_class_at facts.names entry && is_rooted (rootedness_in facts.marked entry)
     then line_noted facts.names facts.program [] (ancestry facts.parents entry) else []
 
 -- the names that a class has from those that it extends

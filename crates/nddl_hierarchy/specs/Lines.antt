@@ -2,10 +2,10 @@
 use Rattle.std.specs.Prelude.{ℕ, ◌+◌, Bool, true, false, List, [], ◌∷◌, ◌++◌, Option, Some, None, slice_get, length, map}
 use Rattle.std.specs.Prelude.{if◌then◌else◌}
 use Rattle.std.specs.Option.{option_map, option_and_then}
-use Rattle.eu_forest.specs.declared.lineage.Standing.{Standing}
-use Rattle.eu_forest.specs.declared.lineage.Standing.TheVariants as standings
+use Rattle.eu_forest.specs.declared.lineage.Rootedness.{Rootedness}
+use Rattle.eu_forest.specs.declared.lineage.Rootedness.TheVariants as how
 use Rattle.eu_forest.specs.declared.walk.Mark.{Mark}
-use Rattle.eu_forest.specs.Lines.{standing_in}
+use Rattle.eu_forest.specs.Lines.{rootedness_in}
 use Rattle.nddl_ast.specs.declared.declaration.Decl.{Decl}
 use Rattle.nddl_ast.specs.declared.expression.BaseType.{BaseType}
 use Rattle.nddl_ast.specs.declared.expression.BaseType.TheVariants as bases
@@ -72,13 +72,13 @@ parents_of names program =
 
 -- ---- what stands on a circle
 
-abbrev pub is_circle : Option Standing → Bool
-is_circle (Some standings.OnCircle) = true
-is_circle standing = false
+abbrev pub is_circle : Option Rootedness → Bool
+is_circle (Some how.OnCircle) = true
+is_circle rootedness = false
 
-abbrev pub is_rooted : Option Standing → Bool
-is_rooted (Some standings.Rooted) = true
-is_rooted standing = false
+abbrev pub is_rooted : Option Rootedness → Bool
+is_rooted (Some how.Rooted) = true
+is_rooted rootedness = false
 
 -- where a class or a typedef is declared: a class with its members
 abbrev pub declared_place : List Declared → Declared → Option Place
@@ -96,5 +96,5 @@ circle_fault place circle = []
 abbrev pub circle_faults : List Declared → List Mark → ℕ → List Declared → List Fault
 circle_faults names marked number [] = []
 circle_faults names marked number (declared ∷ more) =
-    circle_fault (declared_place names declared) (is_circle (standing_in marked number))
+    circle_fault (declared_place names declared) (is_circle (rootedness_in marked number))
     ++ circle_faults names marked (number + 1) more

@@ -4,7 +4,7 @@ use Rattle.std.specs.Prelude.{◌≡◌, ℕ, ◌||◌, Bool, true, false, List,
 use Rattle.std.specs.List.{filter, list_any}
 use Rattle.std.specs.Option.{option_and_then, option_map_or}
 use Rattle.eu_forest.specs.declared.walk.Mark.{Mark}
-use Rattle.eu_forest.specs.Lines.{standing_in}
+use Rattle.eu_forest.specs.Lines.{rootedness_in}
 use Rattle.nddl_ast.specs.declared.declaration.Decl.{Decl}
 use Rattle.nddl_ast.specs.declared.declaration.Member.{Member}
 use Rattle.nddl_ast.specs.declared.declaration.Member.TheVariants as members
@@ -100,7 +100,7 @@ passed_over test short (Some number) = if test number then Some number else pare
 -- The things stand under these as well: what leads up to a root has a line along them on which the same things pass the test.
 abbrev pub AreShorterFor : (ℕ → Bool) → List (Option ℕ) → List Mark → List (Option ℕ) → Type 0
 AreShorterFor test parents marked short =
-    (entry : ℕ) → is_rooted (standing_in marked entry) ≡ true
+    (entry : ℕ) → is_rooted (rootedness_in marked entry) ≡ true
     → KeepTheSame test (ancestry short entry) (ancestry parents entry)
 
 -- along the one lines the same classes add members, and along the other ones the same classes have a constructor

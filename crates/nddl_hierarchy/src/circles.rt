@@ -4,7 +4,7 @@ ghost use Rattle.std.specs.Prelude.{◌≡◌};
 ghost use Rattle.nddl_symbols.specs.Finding.{earliest_fault};
 ghost use Rattle.nddl_hierarchy.specs.Lines.{circle_fault, circle_faults, declared_place, is_circle, is_rooted};
 
-use eu_forest::{Lineage, Standing};
+use eu_forest::{Lineage, Rootedness};
 use nddl_ast::TextKind;
 use nddl_symbols::{Declared, Fault, Place, Scope, note_at};
 
@@ -16,7 +16,7 @@ pub fn note_circles(scope: &Scope, lineage: &Lineage, first: &mut Option<Fault>)
 {
     let names = scope.names();
     for (number, declared) in names.iter().enumerate() {
-        let circle = is_circle(lineage.standing(number));
+        let circle = is_circle(lineage.rootedness(number));
         note_circle(declared_place(scope, declared), circle, first);
     }
 }
@@ -32,21 +32,21 @@ fn note_circle(place: Option<Place>, circle: bool, first: &mut Option<Fault>)
     }
 }
 
-fn is_circle(standing: Option<Standing>) -> bool
-    ensures { result ≡ is_circle standing }
+fn is_circle(rootedness: Option<Rootedness>) -> bool
+    ensures { result ≡ is_circle rootedness }
 {
-    match standing {
-        Some(Standing::OnCircle) => true,
+    match rootedness {
+        Some(Rootedness::OnCircle) => true,
         _ => false,
     }
 }
 
 /// Whether it leads up to what stands under nothing.
-pub fn is_rooted(standing: Option<Standing>) -> bool
-    ensures { result ≡ is_rooted standing }
+pub fn is_rooted(rootedness: Option<Rootedness>) -> bool
+    ensures { result ≡ is_rooted rootedness }
 {
-    match standing {
-        Some(Standing::Rooted) => true,
+    match rootedness {
+        Some(Rootedness::Rooted) => true,
         _ => false,
     }
 }

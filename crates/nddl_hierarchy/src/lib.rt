@@ -14,6 +14,7 @@ pub mod names;
 pub mod objects;
 pub mod parents;
 pub mod shorter;
+pub mod spot;
 pub mod under;
 
 pub use basis::Basis;
@@ -22,3 +23,4 @@ pub use member_names::member_name;
 pub use members::MemberIndex;
 pub use names::{inherited, note_word};
 pub use shorter::{ShortLines, adding_line, building_line};
+pub use spot::Spot;

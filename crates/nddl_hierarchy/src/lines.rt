@@ -17,7 +17,7 @@ pub fn ancestry(alloc: Global, parents: &Parents, number: usize) -> Result<Vec<u
     line_along(alloc, parents.as_slice(), number)
 }
 
-/// The same, where the things stand under these.
+/// The thing and what it leads up to, along a list of what each thing stands under.
 pub fn line_along(
     alloc: Global,
     parents: &[Option<usize>],

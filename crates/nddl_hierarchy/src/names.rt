@@ -60,7 +60,7 @@ fn by_entry(alloc: Global, basis: &Basis<'_>, entry: usize) -> Result<NameIndex,
     ensures { IfOk result (λ noted. noted ≡ meaning_noted (facts_of basis.now) (Some (Entry entry))) }
 {
     let scope = basis.types.scope;
-    if scope.is_class(entry) && is_rooted(basis.lineage.standing(entry)) {
+    if scope.is_class(entry) && is_rooted(basis.lineage.rootedness(entry)) {
         let line = adding_line(alloc, basis, entry)?;
         line_index(alloc, scope, basis.decls, line.as_slice())
     } else {

@@ -156,7 +156,7 @@ fn is_outside_entry(
     ensures { IfOk result (λ outside. outside ≡ is_outside_in basis.now class (Some (Entry entry))) }
 {
     let scope = basis.types.scope;
-    if scope.is_class(entry) && is_rooted(basis.lineage.standing(entry)) {
+    if scope.is_class(entry) && is_rooted(basis.lineage.rootedness(entry)) {
         let under = is_under(alloc, basis, class, entry)?;
         Ok(!under)
     } else {

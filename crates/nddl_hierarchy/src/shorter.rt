@@ -94,7 +94,7 @@ fn shortened(
     for entry in order {
         let next = parent_in(parents, *entry);
         let passed = passed_over(marks, short.as_slice(), next);
-        put(&mut short, *entry, passed);
+        put_next(&mut short, *entry, passed);
     }
     Ok(short)
 }
@@ -155,7 +155,7 @@ fn is_marked(marks: &[bool], entry: usize) -> bool
 }
 
 // Writes down what the thing of this number stands under.
-fn put(short: &mut Vec<Option<usize>>, entry: usize, next: Option<usize>)
+fn put_next(short: &mut Vec<Option<usize>>, entry: usize, next: Option<usize>)
     ensures { short.new.items ≡ slice_set short.old.items entry next }
 {
     if entry < short.len() {
@@ -263,7 +263,7 @@ pub fn adding_line(alloc: Global, basis: &Basis<'_>, entry: usize) -> Result<Vec
     ensures { IfOk result (λ line. AddTheSame basis.now.types.scope.now
         (map (λ decl. decl.now) basis.now.decls.now) line.items (ancestry basis.now.parents.now entry)) }
 {
-    if is_rooted(basis.lineage.standing(entry)) {
+    if is_rooted(basis.lineage.rootedness(entry)) {
         line_along(alloc, basis.short.adding.as_slice(), entry)
     } else {
         ancestry(alloc, basis.parents, entry)
@@ -287,7 +287,7 @@ pub fn builders_over<'a>(basis: &Basis<'a>, entry: usize) -> &'a [Option<usize>]
     ensures { BuildTheSame basis.now.types.scope.now (map (λ decl. decl.now) basis.now.decls.now)
         (ancestry result.now entry) (ancestry basis.now.parents.now entry) }
 {
-    if is_rooted(basis.lineage.standing(entry)) {
+    if is_rooted(basis.lineage.rootedness(entry)) {
         basis.short.building.as_slice()
     } else {
         basis.parents.as_slice()

@@ -19,7 +19,7 @@ use Rattle.nddl_typeexpr.specs.declared.kind.TypeMeaning.{TypeMeaning}
 use Rattle.nddl_typeexpr.specs.Kinds.{is_ranged}
 use Rattle.nddl_declarations.specs.Known.{fine_meaning}
 use Rattle.nddl_declarations.specs.Domains.{value_kind}
-use Rattle.nddl_construction.specs.Reading.{settled_datum}
+use Rattle.nddl_construction.specs.Reading.{fine_datum}
 use Rattle.nddl_construction.specs.Scene.{Grounds}
 use Rattle.nddl_objects.specs.Modelled.{datum_value}
 use Rattle.nddl_objects.specs.Objects.{bare_scene}
@@ -28,12 +28,12 @@ use Rattle.nddl_env.specs.Shapes.{World, kind_base}
 
 -- what is known where the value is read as which a global begins: each object can be named
 abbrev pub world_grounds : World → Grounds
-world_grounds world = record { facts = world.facts; standing = world.standing }
+world_grounds world = record { facts = world.facts; named_objects = world.named_objects }
 
 -- the value as which a global of this kind begins
 abbrev pub begun_value : World → TypeKind → Expr → ℤ
 begun_value world kind expr =
-    datum_value world.facts.names (settled_datum (world_grounds world) (bare_scene 0) world.objects (Some kind) expr)
+    datum_value world.facts.names (fine_datum (world_grounds world) (bare_scene 0) world.objects (Some kind) expr)
 
 -- a domain of one value: a range if the values of the type are one, else a set
 abbrev pub single_domain : TypeKind → Extent → ℤ → Domain

@@ -7,7 +7,7 @@ use Rattle.nddl_symbols.specs.Scope.{builtin_number}
 use Rattle.nddl_terms.specs.declared.growth.Growth.{Growth}
 use Rattle.nddl_terms.specs.declared.stands.Stand.{Stand}
 use Rattle.nddl_terms.specs.declared.stands.Stand.TheVariants.{Class, Nothing}
-use Rattle.nddl_terms.specs.Paths.{Reached, stand_steps}
+use Rattle.nddl_terms.specs.Paths.{Reached, rest_stand}
 use Rattle.nddl_terms.specs.Readings.{Readings, readings_of}
 use Rattle.nddl_terms.specs.Stands.{stand_or_nothing}
 use Rattle.nddl_instance.specs.declared.outside.Outside as code
@@ -33,4 +33,4 @@ front_stand outside name = option_map_or Class (builtin_number name) (scoped_sta
 
 -- what the path stands for, and what there is then
 abbrev pub outer_path : Outsides → Path → Growth → Reached
-outer_path outside path growth = stand_steps outside.reading (front_stand outside path.first.text) path.rest growth
+outer_path outside path growth = rest_stand outside.reading (front_stand outside path.first.text) path.rest growth

@@ -70,7 +70,7 @@ fn add_outer_constraint(
     add_constraint_of(alloc, kind, terms, growth)
 }
 
-/// The same, if the word is a constraint.
+/// Adds the constraint that the word names, with these arguments, or nothing if it names none.
 pub fn add_word(
     alloc: Global,
     outside: &Outside<'_>,

@@ -14,7 +14,7 @@ use model_core::variable::{Base, VarDecl};
 use nddl_ast::declaration::Decl;
 use nddl_ast::expression::{Expr, Init};
 use nddl_ast::statement::Variable;
-use nddl_construction::{Ground, Scene, settled_datum};
+use nddl_construction::{Ground, Scene, fine_datum};
 use nddl_declarations::domains::{range, value_kind};
 use nddl_declarations::fine_meaning;
 use nddl_env::Premises;
@@ -42,7 +42,7 @@ fn world_grounds<'a>(premises: &Premises<'a>) -> Ground<'a>
 {
     Ground {
         basis: premises.sources.basis,
-        standing: premises.standing,
+        named_objects: premises.named_objects,
     }
 }
 
@@ -56,7 +56,7 @@ fn begun_value(
     ensures { IfOk result (λ value. value ≡ begun_value (world_of premises.now) kind expr.now) }
 {
     let footing = world_grounds(premises);
-    let datum = settled_datum(
+    let datum = fine_datum(
         alloc,
         &footing,
         &bare_scene(),

@@ -7,7 +7,7 @@ use eu_index::NameIndex;
 use eu_name::text::Text;
 use nddl_ast::name::{Name, Path};
 use nddl_symbols::builtin::builtin_number;
-use nddl_terms::paths::path_steps;
+use nddl_terms::paths::rest_stand;
 use nddl_terms::{Growth, Reading, Stand};
 use std::alloc::{AllocError, Global};
 
@@ -57,7 +57,7 @@ pub fn names_stand(
         ≡ (outer_path (outsides_of outside.now) (record { first = first.now; rest = rest.now }) growth.old).stand) }
 {
     let begin = front_stand(outside, &first.text);
-    path_steps(alloc, &outside.reading, begin, rest, growth)
+    rest_stand(alloc, &outside.reading, begin, rest, growth)
 }
 
 /// What the path stands for.

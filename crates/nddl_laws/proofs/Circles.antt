@@ -3,9 +3,9 @@ use Rattle.std.proofs.Common.{◌≡◌, ℕ, zero, suc, ◌+◌, ◌<◌, ◌�
 use Rattle.std.specs.Prelude.{Option, Some, None, slice_get, if◌then◌else◌, codes}
 use Rattle.std.specs.Option.{option_and_then, option_map, option_map_or}
 use Rattle.std.proofs.lemmas.Option.{same_Some, slice_get-map, slice_get_within}
-use Rattle.eu_forest.specs.declared.lineage.Standing.TheVariants as standings
+use Rattle.eu_forest.specs.declared.lineage.Rootedness.TheVariants as how
 use Rattle.eu_forest.specs.declared.walk.Mark.{Mark}
-use Rattle.eu_forest.specs.Lines.{IsLineageOf, IsOnCircle, LeadsUp, StandsUnder, standing_in}
+use Rattle.eu_forest.specs.Lines.{IsLineageOf, IsOnCircle, LeadsUp, StandsUnder, rootedness_in}
 use Rattle.model_core.specs.declared.class.Class.{Class}
 use Rattle.model_core.specs.declared.class.Enum.{Enum}
 use Rattle.model_core.specs.declared.model.Model.{Model}
@@ -32,7 +32,7 @@ use Rattle.nddl_types.specs.Table.{IsTable}
 use Rattle.nddl_laws.proofs.Nothing.{decls_fine, none_first, none_second}
 use Rattle.nddl_laws.proofs.Numbered.{entry_is, listed, numbered}
 use Rattle.nddl_laws.proofs.Parents.{decl_fine, extends_class, few_builtin, meant_class}
-use Rattle.nddl_laws.proofs.Standings.{one_standing}
+use Rattle.nddl_laws.proofs.Rootedness.{one_rootedness}
 
 -- ---- what a class extends
 
@@ -120,17 +120,17 @@ stands names program entry other it sort class =
 
 pub circle_fine : (names : List Declared) (marked : List Mark) (number : ℕ) (some : List Declared) (place : ℕ) (declared : Declared)
     → circle_faults names marked number some ≡ [] → slice_get some place ≡ Some declared
-    → circle_fault (declared_place names declared) (is_circle (standing_in marked (number + place))) ≡ []
+    → circle_fault (declared_place names declared) (is_circle (rootedness_in marked (number + place))) ≡ []
 circle_fine names marked number [] place declared fine is = absurd (cc)
 circle_fine names marked number (here ∷ some) zero declared fine is =
-    let first = none_first (circle_fault (declared_place names here) (is_circle (standing_in marked number))) (circle_faults names marked (number + 1) some) fine in
+    let first = none_first (circle_fault (declared_place names here) (is_circle (rootedness_in marked number))) (circle_faults names marked (number + 1) some) fine in
     let same : here ≡ declared = same_Some here declared is in
     let e : number ≡ number + 0 = omega arith in
-    sym (λ i. circle_fault (declared_place names (same i)) (is_circle (standing_in marked (e i)))) ∙ first
+    sym (λ i. circle_fault (declared_place names (same i)) (is_circle (rootedness_in marked (e i)))) ∙ first
 circle_fine names marked number (here ∷ some) (suc place) declared fine is =
-    let rest = none_second (circle_fault (declared_place names here) (is_circle (standing_in marked number))) (circle_faults names marked (number + 1) some) fine in
+    let rest = none_second (circle_fault (declared_place names here) (is_circle (rootedness_in marked number))) (circle_faults names marked (number + 1) some) fine in
     let e : number + 1 + place ≡ number + suc place = omega arith in
-    sym (ap (λ n. circle_fault (declared_place names declared) (is_circle (standing_in marked n))) e)
+    sym (ap (λ n. circle_fault (declared_place names declared) (is_circle (rootedness_in marked n))) e)
     ∙ circle_fine names marked (number + 1) some place declared rest is
 
 pub no_circle : (place : Option Place) (circle : Bool) (at : Place) → place ≡ Some at → circle_fault place circle ≡ [] → circle ≡ false
@@ -151,12 +151,12 @@ off_circle names program parents marked order entry declared decl lineage within
     ∙ ap (option_map (λ (other : Declared). other.place)) at.there) in
     let none = circle_fine names marked 0 names entry declared fine there in
     let e : 0 + entry ≡ entry = omega arith in
-    let off : is_circle (standing_in marked entry) ≡ false =
-    sym (ap (λ n. is_circle (standing_in marked n)) e)
-    ∙ no_circle (declared_place names declared) (is_circle (standing_in marked (0 + entry))) at.other.place placed none in
-    let found = lineage.standing entry within in
-    let same = one_standing parents entry found.0 standings.OnCircle found.2 circle in
-    let on : is_circle (standing_in marked entry) ≡ true = ap is_circle (found.1 ∙ ap (λ s. Some s) same) in
+    let off : is_circle (rootedness_in marked entry) ≡ false =
+    sym (ap (λ n. is_circle (rootedness_in marked n)) e)
+    ∙ no_circle (declared_place names declared) (is_circle (rootedness_in marked (0 + entry))) at.other.place placed none in
+    let found = lineage.rootedness entry within in
+    let same = one_rootedness parents entry found.0 how.OnCircle found.2 circle in
+    let on : is_circle (rootedness_in marked entry) ≡ true = ap is_circle (found.1 ∙ ap (λ s. Some s) same) in
     let never : true ≡ false = sym on ∙ off in cc
 
 pub circles_fine : (facts : Facts) → all_faults facts ≡ [] → circle_faults facts.names facts.marked 0 facts.names ≡ []

@@ -7,8 +7,8 @@ use Rattle.std.proofs.lemmas.List.{append-nil}
 use Rattle.std.proofs.lemmas.List.Concat.{flat_map-append}
 use Rattle.std.proofs.lemmas.List.Elements.{All-nil, All-cons, All-from_recursion, recursion_from_All, All-weaker}
 use Rattle.std.proofs.lemmas.Option.{same_Some, slice_get_within}
-use Rattle.eu_forest.specs.declared.lineage.Standing.TheVariants as standings
-use Rattle.eu_forest.specs.Lines.{IsRooted, StandsSo, StandsUnder, standing_in}
+use Rattle.eu_forest.specs.declared.lineage.Rootedness.TheVariants as how
+use Rattle.eu_forest.specs.Lines.{IsRooted, StandsSo, StandsUnder, rootedness_in}
 use Rattle.model_core.proofs.Items.{item_all}
 use Rattle.model_core.proofs.Words.{differing}
 use Rattle.nddl_ast.specs.declared.declaration.Decl.{Decl}
@@ -257,8 +257,8 @@ module _ (facts : Facts) (are : AreFacts (scope_names facts.program) facts.progr
 
   pub rooted_of : (entry : ℕ) → IsClassEntry facts.names entry → {other : ℕ} → StandsUnder facts.parents entry other → IsRooted facts.parents entry
   rooted_of entry is {other} under =
-      let found = are.lineage.standing entry (slice_get_within facts.parents entry (Some other) under) in
-      let same = same_Some found.0 standings.Rooted (sym found.1 ∙ class_rooted facts are fine entry is) in
+      let found = are.lineage.rootedness entry (slice_get_within facts.parents entry (Some other) under) in
+      let same = same_Some found.0 how.Rooted (sym found.1 ∙ class_rooted facts are fine entry is) in
       subst (StandsSo facts.parents entry) same found.2
 
   pub items_below : (entry other : ℕ) → IsClassEntry facts.names entry → above facts.names facts.program entry ≡ Some (meanings.Entry other)
@@ -294,7 +294,7 @@ module _ (facts : Facts) (are : AreFacts (scope_names facts.program) facts.progr
       let line = line_noted facts.names facts.program [] (ancestry facts.parents other) in
       let there : is_class_at facts.names other ≡ true =
       ap (λ o. option_map_or (λ (declared : Declared). is_class_sort declared.sort) o false) class.there ∙ class.sort in
-      let rooted : is_rooted (standing_in facts.marked other) ≡ true = ap is_rooted (class_rooted facts are fine other class) in
+      let rooted : is_rooted (rootedness_in facts.marked other) ≡ true = ap is_rooted (class_rooted facts are fine other class) in
       let noted : meaning_noted facts (Some (meanings.Entry other)) ≡ line = λ i. if there i && rooted i then line else [] in
       let V : Noted → Type 0 = λ n. AllByRecursion (λ (item : Item). is_some (noted_number n item.1) ≡ false) (own_items entry) in
       subst AreApart (sym (items_below entry other is up under))

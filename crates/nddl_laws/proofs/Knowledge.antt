@@ -4,9 +4,9 @@ use Rattle.std.specs.Prelude.{Option, Some, None, slice_get, if◌then◌else◌
 use Rattle.std.specs.Option.{option_and_then}
 use Rattle.std.proofs.lemmas.Option.{slice_get_past}
 use Rattle.std.proofs.lemmas.Bool.{cases_lt}
-use Rattle.eu_forest.specs.declared.lineage.Standing.{Standing}
-use Rattle.eu_forest.specs.declared.lineage.Standing.TheVariants as standings
-use Rattle.eu_forest.specs.Lines.{IsLineageOf, StandsUnder, standing_in}
+use Rattle.eu_forest.specs.declared.lineage.Rootedness.{Rootedness}
+use Rattle.eu_forest.specs.declared.lineage.Rootedness.TheVariants as how
+use Rattle.eu_forest.specs.Lines.{IsLineageOf, StandsUnder, rootedness_in}
 use Rattle.nddl_ast.specs.declared.declaration.Decl.{Decl}
 use Rattle.nddl_ast.specs.declared.expression.Type as types
 use Rattle.nddl_symbols.specs.declared.declared.Declared.{Declared}
@@ -17,27 +17,27 @@ use Rattle.nddl_hierarchy.specs.Facts.{Facts}
 use Rattle.nddl_hierarchy.specs.Lines.{is_rooted, parents_of}
 use Rattle.nddl_declarations.specs.Known.{AreFacts, declared_type, fine_meaning, known_meaning}
 use Rattle.nddl_declarations.proofs.Depends.{AgreesAt, fine_same, named_by, with_known}
-use Rattle.nddl_laws.proofs.Standings.{one_marking, same_places}
+use Rattle.nddl_laws.proofs.Rootedness.{one_marking, same_places}
 use Rattle.nddl_declarations.proofs.Settled.{typedef_under}
 
-pub rooted_is : (standing : Option Standing) → is_rooted standing ≡ true → standing ≡ Some standings.Rooted
+pub rooted_is : (rootedness : Option Rootedness) → is_rooted rootedness ≡ true → rootedness ≡ Some how.Rooted
 rooted_is None is = cc
-rooted_is (Some standings.Rooted) is = refl
-rooted_is (Some standings.OnCircle) is = cc
-rooted_is (Some standings.Leading) is = cc
+rooted_is (Some how.Rooted) is = refl
+rooted_is (Some how.OnCircle) is = cc
+rooted_is (Some how.Leading) is = cc
 
 module _ (facts : Facts) (order : List ℕ) (known other : List (Option TypeMeaning))
     (are : facts.parents ≡ parents_of facts.names facts.program) (lineage : IsLineageOf facts.parents facts.marked order)
     (long : length known ≡ length facts.names) (longer : length other ≡ length facts.names)
     (one : (entry : ℕ) → entry < length facts.names → slice_get known entry ≡ Some (known_meaning (with_known facts known) entry))
     (two : (entry : ℕ) → entry < length facts.names → slice_get other entry ≡ Some (known_meaning (with_known facts other) entry)) where
-  -- what an entry of this standing and this type means
+  -- what an entry of this rootedness and this type means
   abbrev meaning_by : Bool → Option types.Type → List (Option TypeMeaning) → Option TypeMeaning
   meaning_by rooted type list = if rooted then option_and_then (fine_meaning (with_known facts list)) type else None
 
   -- the same is known of an entry where it means the same
   same_here : (entry : ℕ) → entry < length facts.names → (rooted : Bool) (type : Option types.Type)
-      → is_rooted (standing_in facts.marked entry) ≡ rooted → declared_type facts.names facts.program entry ≡ type
+      → is_rooted (rootedness_in facts.marked entry) ≡ rooted → declared_type facts.names facts.program entry ≡ type
       → meaning_by rooted type known ≡ meaning_by rooted type other → slice_get known entry ≡ slice_get other entry
   same_here entry within rooted type is typed same =
       one entry within
@@ -57,7 +57,7 @@ module _ (facts : Facts) (order : List ℕ) (known other : List (Option TypeMean
     where
       by_type : parent < length facts.names → (o : Option types.Type) → declared_type facts.names facts.program parent ≡ o
           → slice_get known parent ≡ slice_get other parent
-      by_type within None is = same_here parent within (is_rooted (standing_in facts.marked parent)) None refl is refl
+      by_type within None is = same_here parent within (is_rooted (rootedness_in facts.marked parent)) None refl is refl
       by_type within (Some declared) is =
           let under = typedef_under facts.names facts.program entry parent type declared typed is named in
           let P : List (Option ℕ) → Type 0 = λ p. StandsUnder p entry parent in
@@ -74,7 +74,7 @@ module _ (facts : Facts) (order : List ℕ) (known other : List (Option TypeMean
       → slice_get known entry ≡ slice_get other entry
   known_upto zero place entry below at within = absurd (omega arith)
   known_upto (suc count) place entry below at within =
-      let rooted = is_rooted (standing_in facts.marked entry) in
+      let rooted = is_rooted (rootedness_in facts.marked entry) in
       let type = declared_type facts.names facts.program entry in
       same_here entry within rooted type refl refl (same (λ earlier parent less there inside. known_upto count earlier parent less there inside) rooted type refl)
     where
@@ -88,11 +88,11 @@ module _ (facts : Facts) (order : List ℕ) (known other : List (Option TypeMean
           fine_same facts known other type (agree count place entry at (omega arith) before type is (named_by facts.names type.base) refl)
 
   known_same : (entry : ℕ) → entry < length facts.names → slice_get known entry ≡ slice_get other entry
-  known_same entry within = by (is_rooted (standing_in facts.marked entry)) refl
+  known_same entry within = by (is_rooted (rootedness_in facts.marked entry)) refl
     where
-      by : (rooted : Bool) → is_rooted (standing_in facts.marked entry) ≡ rooted → slice_get known entry ≡ slice_get other entry
+      by : (rooted : Bool) → is_rooted (rootedness_in facts.marked entry) ≡ rooted → slice_get known entry ≡ slice_get other entry
       by true is =
-          let found = lineage.whole entry (rooted_is (standing_in facts.marked entry) is) in
+          let found = lineage.whole entry (rooted_is (rootedness_in facts.marked entry) is) in
           known_upto (suc found.0) found.0 entry (omega arith) found.1 within
       by false is = same_here entry within false (declared_type facts.names facts.program entry) is refl refl
 

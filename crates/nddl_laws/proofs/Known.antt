@@ -3,7 +3,7 @@ use Rattle.std.proofs.Common.{◌≡◌, ℕ, zero, suc, ◌<◌, Bool, true, fa
 use Rattle.std.specs.Prelude.{Option, Some, None, slice_get, if◌then◌else◌}
 use Rattle.std.specs.Option.{option_and_then, option_map, option_map_or}
 use Rattle.std.proofs.lemmas.Option.{same_Some, none-some, slice_get_within}
-use Rattle.eu_forest.specs.Lines.{StandsUnder, standing_in}
+use Rattle.eu_forest.specs.Lines.{StandsUnder, rootedness_in}
 use Rattle.nddl_ast.specs.declared.expression.BaseType.{BaseType}
 use Rattle.nddl_ast.specs.declared.expression.BaseType.TheVariants as bases
 use Rattle.nddl_ast.specs.declared.expression.Type as types
@@ -99,15 +99,15 @@ module _ (facts : Facts) (are : AreFacts (scope_names facts.program) facts.progr
 
   -- a known name is a typedef of a type that means the same, and stands on no circle
   record IsKnown (entry : ℕ) (meaning : TypeMeaning) : Type 0 where
-    rooted : is_rooted (standing_in facts.marked entry) ≡ true
+    rooted : is_rooted (rootedness_in facts.marked entry) ≡ true
     type : types.Type
     declared : declared_type facts.names facts.program entry ≡ Some type
     meant : fine_meaning facts type ≡ Some meaning
 
   is_known : (entry : ℕ) (meaning : TypeMeaning) → known_meaning facts entry ≡ Some meaning → IsKnown entry meaning
-  is_known entry meaning is = by (is_rooted (standing_in facts.marked entry)) refl (declared_type facts.names facts.program entry) refl is
+  is_known entry meaning is = by (is_rooted (rootedness_in facts.marked entry)) refl (declared_type facts.names facts.program entry) refl is
     where
-      by : (b : Bool) → is_rooted (standing_in facts.marked entry) ≡ b → (o : Option types.Type) → declared_type facts.names facts.program entry ≡ o
+      by : (b : Bool) → is_rooted (rootedness_in facts.marked entry) ≡ b → (o : Option types.Type) → declared_type facts.names facts.program entry ≡ o
           → (if b then option_and_then (fine_meaning facts) o else None) ≡ Some meaning → IsKnown entry meaning
       by false rooted o declared is = absurd (none-some meaning is)
       by true rooted None declared is = absurd (none-some meaning is)
@@ -228,7 +228,7 @@ module _ (facts : Facts) (are : AreFacts (scope_names facts.program) facts.progr
   known_fits : (entry : ℕ) (meaning : TypeMeaning) → known_meaning facts entry ≡ Some meaning → FitsHere meaning
   known_fits entry meaning is =
       let known = is_known entry meaning is in
-      let place = are.lineage.whole entry (rooted_is (standing_in facts.marked entry) known.rooted) in
+      let place = are.lineage.whole entry (rooted_is (rootedness_in facts.marked entry) known.rooted) in
       known_upto (suc place.0) place.0 entry meaning (omega arith) place.1 is
 
   -- what a type means fits

@@ -13,7 +13,7 @@ pub mod Knowledge
 pub mod Nothing
 pub mod Numbered
 pub mod Parents
-pub mod Standings
+pub mod Rootedness
 pub mod Anywhere
 pub mod Apart
 pub mod Bare

@@ -7,7 +7,7 @@ use Rattle.std.specs.Str.{bytes_eq}
 use Rattle.std.proofs.lemmas.List.Elements.{All-nil, All-cons, All-append, All-contains, All-head, All-tail, All-weaker}
 use Rattle.std.proofs.lemmas.Option.{same_Some, none-some, slice_get_within}
 use Rattle.eu_forest.specs.declared.walk.Mark.{Mark}
-use Rattle.eu_forest.specs.Lines.{standing_in}
+use Rattle.eu_forest.specs.Lines.{rootedness_in}
 use Rattle.model_core.specs.Naming.{token_part_words}
 use Rattle.model_core.proofs.Items.{item_at}
 use Rattle.nddl_ast.specs.declared.declaration.Decl.{Decl}
@@ -222,8 +222,8 @@ circles_in : (names : List Declared) (marked : List Mark) (count number : ℕ) (
     → All (λ (declared : Declared). declared.place.decl < count) some → All (IsIn count) (circle_faults names marked number some)
 circles_in names marked count number [] each all = All-nil (IsIn count)
 circles_in names marked count number (declared ∷ more) each all =
-    All-append (IsIn count) (circle_fault (declared_place names declared) (is_circle (standing_in marked number))) (circle_faults names marked (number + 1) more)
-    (circle_in count (declared_place names declared) (is_circle (standing_in marked number))
+    All-append (IsIn count) (circle_fault (declared_place names declared) (is_circle (rootedness_in marked number))) (circle_faults names marked (number + 1) more)
+    (circle_in count (declared_place names declared) (is_circle (rootedness_in marked number))
     (λ place is. each declared place is (All-head (λ (d : Declared). d.place.decl < count) declared more all)))
     (circles_in names marked count (number + 1) more each (All-tail (λ (d : Declared). d.place.decl < count) declared more all))
 

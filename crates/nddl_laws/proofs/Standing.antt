@@ -4,9 +4,9 @@ use Rattle.std.specs.Prelude.{Option, Some, None, slice_get, if◌then◌else◌
 use Rattle.std.specs.List.{flat_map}
 use Rattle.std.specs.Option.{option_and_then, option_map}
 use Rattle.std.proofs.lemmas.Option.{same_Some, none-some, slice_get_within}
-use Rattle.eu_forest.specs.declared.lineage.Standing.{Standing}
-use Rattle.eu_forest.specs.declared.lineage.Standing.TheVariants as standings
-use Rattle.eu_forest.specs.Lines.{IsOnCircle, LeadsUp, StandsSo, StandsUnder, standing_in}
+use Rattle.eu_forest.specs.declared.lineage.Rootedness.{Rootedness}
+use Rattle.eu_forest.specs.declared.lineage.Rootedness.TheVariants as how
+use Rattle.eu_forest.specs.Lines.{IsOnCircle, LeadsUp, StandsSo, StandsUnder, rootedness_in}
 use Rattle.eu_forest.proofs.Chains.{one_parent}
 use Rattle.nddl_ast.specs.declared.declaration.Decl.{Decl}
 use Rattle.nddl_ast.specs.declared.declaration.Decl.TheVariants as decls
@@ -39,7 +39,7 @@ use Rattle.nddl_laws.proofs.Values.{no_fault}
 use Rattle.nddl_laws.proofs.Circles.{body_is, circle_fine, circles_fine, class_sort_under, listed_at, no_circle, off_circle}
 use Rattle.nddl_laws.proofs.Nothing.{decls_fine, none_first}
 use Rattle.nddl_laws.proofs.Parents.{decl_fine, extends_class, few_builtin, meant_class}
-use Rattle.nddl_laws.proofs.Standings.{one_standing}
+use Rattle.nddl_laws.proofs.Rootedness.{one_rootedness}
 
 -- ---- classes
 
@@ -166,15 +166,15 @@ module _ (facts : Facts) (are : AreFacts (scope_names facts.program) facts.progr
   class_leads_not entry (parent ∷ path) other is leads circle =
       class_leads_not parent path other (class_above entry parent is leads.0) leads.1 circle
 
-  pub class_rooted : (entry : ℕ) → IsClassEntry facts.names entry → standing_in facts.marked entry ≡ Some standings.Rooted
+  pub class_rooted : (entry : ℕ) → IsClassEntry facts.names entry → rootedness_in facts.marked entry ≡ Some how.Rooted
   class_rooted entry is =
-      let found = are.lineage.standing entry (slice_get_within facts.parents entry _ (class_at entry is)) in
+      let found = are.lineage.rootedness entry (slice_get_within facts.parents entry _ (class_at entry is)) in
       found.1 ∙ ap (λ s. Some s) (by found.0 found.2)
     where
-      by : (standing : Standing) → StandsSo facts.parents entry standing → standing ≡ standings.Rooted
-      by standings.Rooted so = refl
-      by standings.OnCircle so = absurd (class_off entry is so)
-      by standings.Leading so = absurd (class_leads_not entry so.path so.other is so.leads so.circle)
+      by : (rootedness : Rootedness) → StandsSo facts.parents entry rootedness → rootedness ≡ how.Rooted
+      by how.Rooted so = refl
+      by how.OnCircle so = absurd (class_off entry is so)
+      by how.Leading so = absurd (class_leads_not entry so.path so.other is so.leads so.circle)
 
   -- ---- typedefs
 
@@ -239,12 +239,12 @@ module _ (facts : Facts) (are : AreFacts (scope_names facts.program) facts.progr
       ap (λ b. if b then place else Some is.declared.place) (ap is_class_sort is.sort) in
       let none = circle_fine facts.names facts.marked 0 facts.names entry is.declared (circles_fine facts fine) is.there in
       let e : 0 + entry ≡ entry = omega arith in
-      let off : is_circle (standing_in facts.marked entry) ≡ false =
-      sym (ap (λ n. is_circle (standing_in facts.marked n)) e)
-      ∙ no_circle (declared_place facts.names is.declared) (is_circle (standing_in facts.marked (0 + entry))) is.declared.place placed none in
-      let found = are.lineage.standing entry (slice_get_within facts.parents entry (Some circle.parent) circle.under) in
-      let same = one_standing facts.parents entry found.0 standings.OnCircle found.2 circle in
-      let on : is_circle (standing_in facts.marked entry) ≡ true = ap is_circle (found.1 ∙ ap (λ s. Some s) same) in
+      let off : is_circle (rootedness_in facts.marked entry) ≡ false =
+      sym (ap (λ n. is_circle (rootedness_in facts.marked n)) e)
+      ∙ no_circle (declared_place facts.names is.declared) (is_circle (rootedness_in facts.marked (0 + entry))) is.declared.place placed none in
+      let found = are.lineage.rootedness entry (slice_get_within facts.parents entry (Some circle.parent) circle.under) in
+      let same = one_rootedness facts.parents entry found.0 how.OnCircle found.2 circle in
+      let on : is_circle (rootedness_in facts.marked entry) ≡ true = ap is_circle (found.1 ∙ ap (λ s. Some s) same) in
       let never : true ≡ false = sym on ∙ off in cc
 
   typedef_leads_not : (entry : ℕ) (path : List ℕ) (other : ℕ) → IsTypedefEntry entry → LeadsUp facts.parents entry path other → IsOnCircle facts.parents other → ⊥
@@ -252,12 +252,12 @@ module _ (facts : Facts) (are : AreFacts (scope_names facts.program) facts.progr
   typedef_leads_not entry (parent ∷ path) other is leads circle =
       typedef_leads_not parent path other (typedef_above entry parent is leads.0) leads.1 circle
 
-  pub typedef_rooted : (entry : ℕ) → IsTypedefEntry entry → standing_in facts.marked entry ≡ Some standings.Rooted
+  pub typedef_rooted : (entry : ℕ) → IsTypedefEntry entry → rootedness_in facts.marked entry ≡ Some how.Rooted
   typedef_rooted entry is =
-      let found = are.lineage.standing entry (slice_get_within facts.parents entry _ (typedef_at_is entry is)) in
+      let found = are.lineage.rootedness entry (slice_get_within facts.parents entry _ (typedef_at_is entry is)) in
       found.1 ∙ ap (λ s. Some s) (by found.0 found.2)
     where
-      by : (standing : Standing) → StandsSo facts.parents entry standing → standing ≡ standings.Rooted
-      by standings.Rooted so = refl
-      by standings.OnCircle so = absurd (typedef_off entry is so)
-      by standings.Leading so = absurd (typedef_leads_not entry so.path so.other is so.leads so.circle)
+      by : (rootedness : Rootedness) → StandsSo facts.parents entry rootedness → rootedness ≡ how.Rooted
+      by how.Rooted so = refl
+      by how.OnCircle so = absurd (typedef_off entry is so)
+      by how.Leading so = absurd (typedef_leads_not entry so.path so.other is so.leads so.circle)

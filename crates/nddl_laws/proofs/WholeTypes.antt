@@ -5,7 +5,7 @@ use Rattle.std.specs.List.{flat_map, cons_option}
 use Rattle.std.specs.Option.{option_and_then, option_map, option_map_or}
 use Rattle.std.proofs.lemmas.Option.{same_Some, none-some, slice_get_within}
 use Rattle.std.proofs.lemmas.List.Elements.{All-head, All-tail}
-use Rattle.eu_forest.specs.Lines.{StandsUnder, standing_in}
+use Rattle.eu_forest.specs.Lines.{StandsUnder, rootedness_in}
 use Rattle.model_core.specs.declared.class.Enum.{Enum}
 use Rattle.model_core.specs.Naming.{names_of}
 use Rattle.model_core.proofs.Items.{item_all}
@@ -149,7 +149,7 @@ module _ (facts : Facts) (are : AreFacts (scope_names facts.program) facts.progr
         none = typedef_none facts decl.number stands.decl of.0 decl.none of.1;
       }
 
-  rooted_so : (entry : ℕ) → IsTypedefEntry facts are fine entry → is_rooted (standing_in facts.marked entry) ≡ true
+  rooted_so : (entry : ℕ) → IsTypedefEntry facts are fine entry → is_rooted (rootedness_in facts.marked entry) ≡ true
   rooted_so entry is = ap is_rooted (typedef_rooted facts are fine entry is)
 
   known_of : (entry : ℕ) (is : IsTypedefEntry facts are fine entry) (type : types.Type) (meaning : TypeMeaning)

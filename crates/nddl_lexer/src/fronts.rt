@@ -33,7 +33,7 @@ pub enum Class {
     Letter,
     /// A number or a decimal.
     Digit,
-    /// The same with a sign.
+    /// A number or a decimal with a sign.
     Sign,
     /// A string.
     Quote,

@@ -19,7 +19,7 @@ use Rattle.nddl_terms.specs.declared.stands.Stand.{Stand}
 use Rattle.nddl_terms.specs.declared.stands.Stand.TheVariants.{Value, Slot, Class}
 use Rattle.nddl_terms.specs.Growth.{with_item, with_slot}
 use Rattle.nddl_terms.specs.Lexicon.{class_objects, pred_class, pred_named}
-use Rattle.nddl_terms.specs.Paths.{Reached, stand_steps}
+use Rattle.nddl_terms.specs.Paths.{Reached, rest_stand}
 use Rattle.nddl_terms.specs.Readings.{Readings}
 use Rattle.nddl_terms.specs.Stands.{first_stand}
 use Rattle.nddl_declarations.specs.Domains.{numbers_base}
@@ -51,7 +51,7 @@ asked_nothing growth = record { wanted = record { pred = None; object = None }; 
 abbrev pub asked_behind : Readings → Stand → List Name → Growth → AskedSlot
 asked_behind reading begin names growth =
     option_map_or
-    (λ last. asked_of_owner reading.lexicon (stand_steps reading begin (take (length names - 1) names) growth) last.text)
+    (λ last. asked_of_owner reading.lexicon (rest_stand reading begin (take (length names - 1) names) growth) last.text)
     (slice_get names (length names - 1)) (asked_nothing growth)
 
 abbrev pub asked_path : Readings → List Made → Path → Growth → AskedSlot

@@ -14,7 +14,7 @@ use model_core::variable::Base;
 use nddl_ast::name::{Name, Path};
 use nddl_declarations::domains::numbers_base;
 use nddl_terms::growth::term_pair;
-use nddl_terms::paths::path_steps;
+use nddl_terms::paths::rest_stand;
 use nddl_terms::stands::first_stand;
 use nddl_terms::{Growth, Lexicon, Made, Reading, Stand};
 use std::alloc::{AllocError, Global};
@@ -66,7 +66,7 @@ pub fn asked_names(
 {
     match names.last() {
         Some(last) => {
-            let owner = path_steps(alloc, reading, begin, &names[..names.len() - 1], growth)?;
+            let owner = rest_stand(alloc, reading, begin, &names[..names.len() - 1], growth)?;
             wanted_of(reading.lexicon, owner, &last.text)
         }
         None => Ok(Wanted {
@@ -179,7 +179,7 @@ fn add_token(
     growth.add_item(Item::Relation(relation, number))
 }
 
-/// The same of what is wanted.
+/// The slot for the token that is wanted, with its object and its relation, if it has a predicate.
 pub fn add_wanted(
     alloc: Global,
     lexicon: &Lexicon,

@@ -1,19 +1,22 @@
 -- Objects that are made, step by step.
 use Rattle.std.proofs.Common.{◌≡◌, ℕ, zero, suc, ◌-◌, ◌<◌, true, List, length, refl, sym, ap, ◌∙◌, arith}
 use Rattle.std.specs.Prelude.{Option, Result, Ok, Err, OnOk, if◌then◌else◌}
+use Rattle.nddl_ast.specs.declared.declaration.Member.{Member}
+use Rattle.nddl_ast.specs.declared.declaration.Set.{Set}
 use Rattle.nddl_symbols.specs.declared.fault.Fault.{Fault}
 use Rattle.nddl_symbols.specs.declared.scope.Meaning.{Meaning}
 use Rattle.nddl_symbols.specs.Finding.{earliest_fault}
 use Rattle.nddl_hierarchy.specs.Facts.{Facts}
 use Rattle.nddl_hierarchy.specs.Shorter.{KeepTheSame}
+use Rattle.nddl_construction.specs.declared.made.Datum.{Datum}
 use Rattle.nddl_construction.specs.declared.made.FieldValue.{FieldValue}
-use Rattle.nddl_construction.specs.Scene.{Grounds}
+use Rattle.nddl_construction.specs.Scene.{Grounds, Scenery}
 use Rattle.nddl_construction.specs.declared.passing.Passed.{Passed}
-use Rattle.nddl_construction.specs.Classes.{is_adding, line_up}
-use Rattle.nddl_construction.specs.Passing.{passed_down}
-use Rattle.nddl_objects.specs.Construction.{Asked, Construction, Subject, has_room, object_begun, too_many, too_nested}
+use Rattle.nddl_construction.specs.Classes.{constructor_sets, is_adding, line_up}
+use Rattle.nddl_construction.specs.Passing.{constructor_scene, passed_down, passing_faults}
+use Rattle.nddl_objects.specs.Construction.{Asked, Construction, Subject, has_room, noted, object_begun, too_many, too_nested}
 use Rattle.nddl_objects.specs.Finished.{finished_faults}
-use Rattle.nddl_objects.specs.Made.{Makes, classes_run, fields_of, finished, made_by, object_made, object_run}
+use Rattle.nddl_objects.specs.Made.{Makes, body_run, classes_run, fields_of, finished, made_by, object_made, object_run, parts_run}
 use Rattle.nddl_objects.proofs.Setting.{same_finished}
 
 -- where there may be some levels, one is used up
@@ -76,3 +79,19 @@ finished_one facts subject class old new line fields (Ok done) same are_fields n
     ap with_first noted
     ∙ (ap (λ faults. with_first (earliest_fault old.first faults)) (same_finished facts fields subject.place line (line_up facts class) same)
     ∙ ap (λ f. with_first (earliest_fault old.first (finished_faults facts subject.place (line_up facts class) f))) are_fields)
+
+-- what is wrong with what a constructor is passed is noted, and then the parts of its body have run in its scene
+pub body_one : {X E : Type 0} (makes : Makes) (levels : ℕ) (grounds : Grounds) (subject : Subject) (entry : ℕ)
+    (values : List (Option Datum)) (constructor : Member) (scene : Scenery) (parts : List Set)
+    (old mid new : Construction) (result : Result X E)
+    → scene ≡ constructor_scene grounds.facts entry constructor values → parts ≡ constructor_sets constructor
+    → mid ≡ noted old (passing_faults grounds old.objects subject.place entry values constructor)
+    → OnOk result (new ≡ parts_run makes levels grounds scene subject entry parts mid)
+    → OnOk result (new ≡ body_run makes levels grounds subject entry values constructor old)
+body_one makes levels grounds subject entry values constructor scene parts old mid new (Err e) there are begun run = tt
+body_one makes levels grounds subject entry values constructor scene parts old mid new (Ok done) there are begun run =
+    let inside = constructor_scene grounds.facts entry constructor values in
+    run
+    ∙ (ap (λ around. parts_run makes levels grounds around subject entry parts mid) there
+    ∙ (ap (λ some. parts_run makes levels grounds inside subject entry some mid) are
+    ∙ ap (parts_run makes levels grounds inside subject entry (constructor_sets constructor)) begun))

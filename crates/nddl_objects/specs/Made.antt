@@ -22,7 +22,7 @@ use Rattle.nddl_construction.specs.declared.made.Datum.{Datum}
 use Rattle.nddl_construction.specs.declared.made.Datum.TheVariants as datums
 use Rattle.nddl_construction.specs.declared.made.FieldValue.{FieldValue}
 use Rattle.nddl_construction.specs.declared.made.MadeObject.{MadeObject}
-use Rattle.nddl_construction.specs.Reading.{all_unmade_faults, datum_at, settled_data, settled_datum, unmade_faults}
+use Rattle.nddl_construction.specs.Reading.{all_unmade_faults, datum_at, fine_data, fine_datum, unmade_faults}
 use Rattle.nddl_construction.specs.Scene.{Grounds, Scenery}
 use Rattle.nddl_construction.specs.Outside.{is_outside_field}
 use Rattle.nddl_construction.specs.declared.passing.Passed.{Passed}
@@ -67,7 +67,7 @@ asked_object grounds scene objects name entry creation class =
       entry = entry;
       place = record { decl = scene.decl; at = creation.class.at };
       class = class;
-      values = settled_data grounds scene objects (class_wants grounds.facts class) 0 creation.arguments;
+      values = fine_data grounds scene objects (class_wants grounds.facts class) 0 creation.arguments;
     }
 
 -- its arguments are read
@@ -101,7 +101,7 @@ new_datum levels facts creation so_far =
 abbrev pub value_set : Grounds → Scenery → Subject → ℕ → List ℕ → Expr → Builds
 value_set grounds scene subject entry name expr so_far =
     field_given grounds subject entry name
-    (settled_datum grounds scene so_far.objects (field_kind (field_in_line grounds.facts entry name)) expr)
+    (fine_datum grounds scene so_far.objects (field_kind (field_in_line grounds.facts entry name)) expr)
     (noted so_far (unmade_faults grounds scene expr))
 
 -- of one that is set to an object that is made for it, where this comes of what is asked for, at so many levels

@@ -12,8 +12,8 @@ use Rattle.nddl_symbols.specs.Scope.{named_number}
 use Rattle.nddl_hierarchy.specs.Facts.{Facts}
 use Rattle.nddl_constructors.specs.Objects.{written_faults}
 use Rattle.nddl_construction.specs.declared.made.Datum.{Datum}
-use Rattle.nddl_construction.specs.declared.made.Standing.{Standing}
-use Rattle.nddl_construction.specs.declared.made.Standing.TheVariants as standings
+use Rattle.nddl_construction.specs.declared.made.NamedObject.{NamedObject}
+use Rattle.nddl_construction.specs.declared.made.NamedObject.TheVariants as named
 use Rattle.nddl_construction.specs.Scene.{Grounds, Scenery}
 use Rattle.nddl_objects.specs.Construction.{Construction, construction_of, noted}
 use Rattle.nddl_objects.specs.Made.{made_by, new_datum, new_made}
@@ -22,18 +22,22 @@ use Rattle.nddl_objects.specs.Settings.{setting_data, setting_faults_of}
 
 -- ---- where the making has got to
 
--- the objects so far, what each name of the files stands for, and the values of the settings, if there are any
+-- the objects so far, the object of each name of the files, and the values of the settings, if there are any
 pub record Progress : Type 0 where
   pub so_far : Construction
-  pub standing : List Standing
+  pub named_objects : List NamedObject
   pub settings : List (Option Datum)
 
 abbrev pub progress_of : code.Program → Progress
 progress_of program =
-    record { so_far = construction_of program.making; standing = program.standing.items; settings = program.settings }
+    record {
+      so_far = construction_of program.making;
+      named_objects = program.named_objects.items;
+      settings = program.settings;
+    }
 
 abbrev pub progress_grounds : Facts → Progress → Grounds
-progress_grounds facts progress = record { facts = facts; standing = progress.standing }
+progress_grounds facts progress = record { facts = facts; named_objects = progress.named_objects }
 
 -- outside of constructors nothing stands around
 abbrev pub bare_scene : ℕ → Scenery
@@ -46,9 +50,9 @@ most_levels = 17
 -- ---- declarations
 
 -- the name of this number stands for this from now on
-abbrev pub stood : List Standing → Option ℕ → Option Datum → List Standing
-stood standing None datum = standing
-stood standing (Some entry) datum = slice_set standing entry (standings.Made datum)
+abbrev pub with_named : List NamedObject → Option ℕ → Option Datum → List NamedObject
+with_named named_objects None datum = named_objects
+with_named named_objects (Some entry) datum = slice_set named_objects entry (named.Made datum)
 
 -- the object of the name is made, and can then be named
 abbrev pub object_declared : Facts → ℕ → Variable → Creation → Progress → Progress
@@ -57,7 +61,7 @@ object_declared facts decl variable creation progress =
     let entry = named_number false facts.names variable.name.text in
     record {
       so_far = new_made (made_by most_levels grounds) grounds (bare_scene decl) variable.name.text entry creation progress.so_far;
-      standing = stood progress.standing entry (new_datum most_levels facts creation progress.so_far);
+      named_objects = with_named progress.named_objects entry (new_datum most_levels facts creation progress.so_far);
       settings = progress.settings;
     }
 
@@ -67,7 +71,7 @@ settings_declared facts decl creation progress =
     let grounds = progress_grounds facts progress in
     record {
       so_far = noted progress.so_far (setting_faults_of grounds (bare_scene decl) progress.so_far.objects creation);
-      standing = progress.standing;
+      named_objects = progress.named_objects;
       settings = setting_data grounds (bare_scene decl) progress.so_far.objects creation;
     }
 
@@ -102,7 +106,7 @@ first_progress facts =
         is_full = false;
         is_deep = false;
       };
-      standing = map (λ name. standings.Unmade) facts.names;
+      named_objects = map (λ name. named.Unmade) facts.names;
       settings = [];
     }
 

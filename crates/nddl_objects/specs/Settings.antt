@@ -10,7 +10,7 @@ use Rattle.nddl_typeexpr.specs.declared.kind.TypeKind.TheVariants as kinds
 use Rattle.nddl_construction.specs.declared.made.Datum.{Datum}
 use Rattle.nddl_construction.specs.declared.made.Datum.TheVariants as datums
 use Rattle.nddl_construction.specs.declared.made.MadeObject.{MadeObject}
-use Rattle.nddl_construction.specs.Reading.{all_unmade_faults, datum_at, settled_data}
+use Rattle.nddl_construction.specs.Reading.{all_unmade_faults, datum_at, fine_data}
 use Rattle.nddl_construction.specs.Scene.{Grounds, Scenery}
 use Rattle.nddl_objects.specs.Finished.{datum_below}
 
@@ -20,7 +20,7 @@ setting_wants = Some kinds.Int ∷ Some kinds.Int ∷ Some kinds.Int ∷ []
 
 -- what the arguments stand for
 abbrev pub setting_data : Grounds → Scenery → List MadeObject → Creation → List (Option Datum)
-setting_data grounds scene objects creation = settled_data grounds scene objects setting_wants 0 creation.arguments
+setting_data grounds scene objects creation = fine_data grounds scene objects setting_wants 0 creation.arguments
 
 abbrev pub is_below : Option Datum → ℤ → Bool
 is_below datum number = datum_below datum (Some (datums.Number number))

@@ -11,7 +11,7 @@ use nddl_hierarchy::Basis;
 /// What is known of a program before its objects are made, and what is found once of its classes: what the types of fields
 /// mean, as far as that is kept, and what of the constructors is the same for all objects.
 #[derive(Clone, Copy)]
-pub struct Groundwork<'a> {
+pub struct ClassFindings<'a> {
     pub basis: Basis<'a>,
     pub types: &'a FieldTypes,
     pub builders: &'a Builders<'a>,
@@ -19,7 +19,7 @@ pub struct Groundwork<'a> {
     ghost are_builders: { AreBuilders (facts_of basis) builders.now } by { builders_prop (facts_of basis) builders.now },
 }
 
-/// The same where objects are made, with what the names of the program stand for by now.
+/// What is at hand while objects are made: beside what is found once of the classes, what the names stand for by now.
 #[derive(Clone, Copy)]
 pub struct Blueprint<'a> {
     pub footing: Ground<'a>,

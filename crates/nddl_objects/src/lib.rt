@@ -12,8 +12,8 @@ pub mod objects;
 pub mod running;
 pub mod settings;
 
-pub use blueprint::{Blueprint, Groundwork};
-pub use making::{Making, Request};
+pub use blueprint::{Blueprint, ClassFindings};
+pub use making::{Instantiation, Making};
 pub use modelled::modelled_objects;
 pub use objects::{Program, make_objects};
 pub use running::make_new;

@@ -5,7 +5,8 @@ ghost use Rattle.nddl_objects.specs.Construction.{asked_of, object_begun, constr
 
 use eu_name::text::Text;
 use nddl_ast::TextKind;
-use nddl_construction::{Datum, FieldValue, MadeObject, SetFields};
+use nddl_ast::expression::Creation;
+use nddl_construction::{Datum, FieldValue, MadeObject, Scene, SetFields};
 use nddl_symbols::{Fault, Meaning, Place, kind_if, note_at};
 use std::alloc::{AllocError, Global};
 
@@ -38,12 +39,30 @@ pub struct Request<'a> {
     pub values: &'a [Option<Datum>],
 }
 
+/// A `new` that is carried out: where it is written, and the name of the object that it makes.
+#[derive(Clone, Copy)]
+pub struct Instantiation<'a> {
+    pub scene: Scene<'a>,
+    pub creation: &'a Creation,
+    pub name: &'a Text,
+    /// The number of the name in the scope, if it is declared there.
+    pub entry: Option<usize>,
+}
+
 /// An object that is being made: its name, the place of the name behind the `new` that makes it, and its number.
 #[derive(Clone, Copy)]
 pub struct Subject<'a> {
     pub name: &'a Text,
     pub place: Place,
     pub number: usize,
+}
+
+/// A constructor that runs: for which object, of the class of which number, and in which scene its body stands.
+#[derive(Clone, Copy)]
+pub struct Frame<'a> {
+    pub subject: Subject<'a>,
+    pub entry: usize,
+    pub scene: Scene<'a>,
 }
 
 impl Making {

@@ -5,14 +5,14 @@ ghost use Rattle.std.specs.Option.{option_map_or};
 ghost use Rattle.nddl_hierarchy.specs.Facts.{facts_of};
 ghost use Rattle.nddl_construction.specs.Scene.{scenery_of};
 ghost use Rattle.nddl_construction.specs.Builders.{IsBuilderAt};
-ghost use Rattle.nddl_construction.specs.Passing.{constructor_scene, passing_faults};
+ghost use Rattle.nddl_construction.specs.Passing.{passing_faults};
 ghost use Rattle.nddl_objects.specs.Blueprints.{grounds_in};
 ghost use Rattle.nddl_objects.specs.Construction.{asked_of, construction_of, noted, subject_of};
 ghost use Rattle.nddl_objects.specs.Made.{asked_object, body_run, builtin_run, class_run, classes_run, field_given, fields_of, finished, init_set, made_by, nested_name, nested_set, new_datum, new_made, next_datum, number_set, object_run, part_run, parts_run, value_set};
 
 use super::blueprint::Blueprint;
 use super::finished::note_finished;
-use super::making::{Making, Request, Subject};
+use super::making::{Frame, Instantiation, Making, Request, Subject};
 use eu_name::text::Text;
 use nddl_ast::TextKind;
 use nddl_ast::declaration::Set;
@@ -21,43 +21,42 @@ use nddl_ast::name::Name;
 use nddl_construction::classes::constructor_sets;
 use nddl_construction::reading::{datum_at, note_all_unmade};
 use nddl_construction::{
-    Builder, Datum, MadeObject, Passed, Scene, SetFields, adding_up, is_outside_field, made_class,
-    note_passing, note_unmade, passed_down, settled_data, settled_datum,
+    Datum, Invocation, MadeObject, Passed, SetFields, adding_up, fine_data, fine_datum,
+    is_outside_field, made_class, note_passing, note_unmade, passed_down,
 };
 use nddl_constructors::bodies::{field_in_line, field_kind};
 use nddl_constructors::class_wants;
 use nddl_symbols::{Meaning, Place, kind_if, note_at};
 use std::alloc::{AllocError, Global};
 
-// A constructor of the class of this number sets the field.
+// The constructor sets the field.
 fn set_field(
     alloc: Global,
     blueprint: &Blueprint<'_>,
-    subject: &Subject<'_>,
-    entry: usize,
+    frame: &Frame<'_>,
     name: &Text,
     value: Option<Datum>,
     making: &mut Making,
 ) -> Result<(), AllocError>
-    ensures { OnOk result (construction_of making.new
-        ≡ field_given (grounds_in blueprint.now) (subject_of subject.now) entry name.now value (construction_of making.old)) }
+    ensures { OnOk result (construction_of making.new ≡ field_given (grounds_in blueprint.now)
+        (subject_of frame.now.subject) frame.now.entry name.now value (construction_of making.old)) }
 {
     let is_outside = is_outside_field(
         alloc,
         &blueprint.footing,
         blueprint.types,
         making.objects.as_slice(),
-        entry,
+        frame.entry,
         name,
         value,
     )?;
     note_at(
         &mut making.first,
-        subject.place.decl,
-        subject.place.at,
+        frame.subject.place.decl,
+        frame.subject.place.at,
         kind_if(is_outside, TextKind::NotInDomain),
     );
-    making.set(subject, name, value)
+    making.set(&frame.subject, name, value)
 }
 
 // The name of an object that is made for a field.
@@ -176,72 +175,68 @@ fn class_datum(levels: usize, class: Option<Meaning>, making: &Making) -> Option
     }
 }
 
-/// Makes what the `new` asks for, under this name, where constructors may make objects so many levels deep, this one among
-/// them. Answers the object, if one is made.
+/// Makes what the `new` asks for, where constructors may make objects so many levels deep, this one among them. Answers
+/// the object, if one is made.
 #[cycle(making)]
 pub fn make_new(
     alloc: Global,
     blueprint: &Blueprint<'_>,
-    scene: &Scene<'_>,
-    name: &Text,
-    entry: Option<usize>,
-    creation: &Creation,
+    instantiation: &Instantiation<'_>,
     levels: usize,
     making: &mut Making,
 ) -> Result<Option<Datum>, AllocError>
-    ensures datum { IfOk result (λ datum.
-        datum ≡ new_datum levels (facts_of blueprint.now.footing.basis) creation.now (construction_of making.old)) }
+    ensures datum { IfOk result (λ datum. datum ≡ new_datum levels (facts_of blueprint.now.footing.basis)
+        instantiation.now.creation.now (construction_of making.old)) }
     ensures made { OnOk result (construction_of making.new ≡ new_made (made_by levels (grounds_in blueprint.now))
-        (grounds_in blueprint.now) (scenery_of scene.now) name.now entry creation.now (construction_of making.old)) }
+        (grounds_in blueprint.now) (scenery_of instantiation.now.scene) instantiation.now.name.now
+        instantiation.now.entry instantiation.now.creation.now (construction_of making.old)) }
 {
+    let creation = instantiation.creation;
     let class = made_class(alloc, &blueprint.footing.basis, creation)?;
     let datum = class_datum(levels, class, making);
     note_all_unmade(
         &blueprint.footing,
-        scene,
+        &instantiation.scene,
         creation.arguments.as_slice(),
         &mut making.first,
     );
-    make_class(
-        alloc, blueprint, scene, name, entry, creation, class, levels, making,
-    )?;
+    make_class(alloc, blueprint, instantiation, class, levels, making)?;
     Ok(datum)
 }
 
-// Makes an object of this class, if there is a class, with what the arguments are settled to.
+// Makes an object of this class, if there is a class, with what the arguments stand for.
 #[cycle(making)]
 fn make_class(
     alloc: Global,
     blueprint: &Blueprint<'_>,
-    scene: &Scene<'_>,
-    name: &Text,
-    entry: Option<usize>,
-    creation: &Creation,
+    instantiation: &Instantiation<'_>,
     class: Option<Meaning>,
     levels: usize,
     making: &mut Making,
 ) -> Result<(), AllocError>
     ensures { OnOk result (construction_of making.new ≡ option_map_or
-        (λ class. made_by levels (grounds_in blueprint.now) (asked_object (grounds_in blueprint.now) (scenery_of scene.now)
-        (construction_of making.old).objects name.now entry creation.now class) (construction_of making.old))
+        (λ class. made_by levels (grounds_in blueprint.now) (asked_object (grounds_in blueprint.now)
+        (scenery_of instantiation.now.scene) (construction_of making.old).objects instantiation.now.name.now
+        instantiation.now.entry instantiation.now.creation.now class) (construction_of making.old))
         class (construction_of making.old)) }
 {
     match class {
         Some(class) => {
+            let creation = instantiation.creation;
             let wants = class_wants(alloc, &blueprint.footing.basis, class)?;
-            let values = settled_data(
+            let values = fine_data(
                 alloc,
                 &blueprint.footing,
-                scene,
+                &instantiation.scene,
                 making.objects.as_slice(),
                 wants.as_slice(),
                 creation.arguments.as_slice(),
             )?;
             let request = Request {
-                name,
-                entry,
+                name: instantiation.name,
+                entry: instantiation.entry,
                 place: Place {
-                    decl: scene.decl,
+                    decl: instantiation.scene.decl,
                     at: creation.class.at,
                 },
                 class,
@@ -352,94 +347,66 @@ fn run_class(
     match class {
         Meaning::BuiltIn(number) => run_builtin(alloc, subject, number, values, making),
         Meaning::Entry(entry) => match blueprint.builders.find(entry) {
-            Some(builder) => run_body(
-                alloc, blueprint, subject, entry, values, builder, levels, making,
-            ),
+            Some(builder) => {
+                let invocation = Invocation {
+                    entry,
+                    builder,
+                    values,
+                };
+                run_body(alloc, blueprint, subject, &invocation, levels, making)
+            }
             None => Ok(()),
         },
     }
 }
 
-// Runs the constructor of the class of this number, which is passed these values.
+// Runs the constructor: notes what is wrong with what it is passed, and runs the parts of its body.
 #[cycle(making)]
 fn run_body(
     alloc: Global,
     blueprint: &Blueprint<'_>,
     subject: &Subject<'_>,
-    entry: usize,
-    values: &[Option<Datum>],
-    builder: &Builder<'_>,
+    invocation: &Invocation<'_>,
     levels: usize,
     making: &mut Making,
 ) -> Result<(), AllocError>
-    requires { IsBuilderAt (facts_of blueprint.now.footing.basis) entry (Some builder.now) }
+    requires { IsBuilderAt (facts_of blueprint.now.footing.basis) invocation.now.entry
+        (Some invocation.now.builder.now) }
     ensures { OnOk result (construction_of making.new ≡ body_run (made_by levels (grounds_in blueprint.now)) levels
-        (grounds_in blueprint.now) (subject_of subject.now) entry values.now builder.now.constructor.now
-        (construction_of making.old)) }
+        (grounds_in blueprint.now) (subject_of subject.now) invocation.now.entry invocation.now.values.now
+        invocation.now.builder.now.constructor.now (construction_of making.old)) }
 {
-    let scene = Scene::in_body(builder.decl, &builder.formals, values);
-    run_scene(
-        alloc, blueprint, &scene, subject, entry, builder, levels, making,
-    )
-}
-
-// Runs the constructor in this scene: notes what is wrong with what it is passed, and runs the parts of its body.
-#[cycle(making)]
-fn run_scene(
-    alloc: Global,
-    blueprint: &Blueprint<'_>,
-    scene: &Scene<'_>,
-    subject: &Subject<'_>,
-    entry: usize,
-    builder: &Builder<'_>,
-    levels: usize,
-    making: &mut Making,
-) -> Result<(), AllocError>
-    requires builder { IsBuilderAt (facts_of blueprint.now.footing.basis) entry (Some builder.now) }
-    requires scene { scenery_of scene.now ≡ constructor_scene (facts_of blueprint.now.footing.basis) entry
-        builder.now.constructor.now scene.now.values.now }
-    ensures { OnOk result (construction_of making.new ≡ body_run (made_by levels (grounds_in blueprint.now)) levels
-        (grounds_in blueprint.now) (subject_of subject.now) entry scene.now.values.now builder.now.constructor.now
-        (construction_of making.old)) }
-{
-    note_passed(alloc, blueprint, scene, subject, entry, builder, making)?;
-    run_parts(
-        alloc,
-        blueprint,
+    note_passed(alloc, blueprint, subject, invocation, making)?;
+    let scene = invocation.scene();
+    let frame = Frame {
+        subject: *subject,
+        entry: invocation.entry,
         scene,
-        subject,
-        entry,
-        constructor_sets(builder.constructor),
-        levels,
-        making,
-    )
+    };
+    let parts = constructor_sets(invocation.builder.constructor);
+    run_parts(alloc, blueprint, &frame, parts, levels, making)
 }
 
 // Notes what is wrong with what the constructor is passed, and hands on.
 fn note_passed(
     alloc: Global,
     blueprint: &Blueprint<'_>,
-    scene: &Scene<'_>,
     subject: &Subject<'_>,
-    entry: usize,
-    builder: &Builder<'_>,
+    invocation: &Invocation<'_>,
     making: &mut Making,
 ) -> Result<(), AllocError>
-    requires builder { IsBuilderAt (facts_of blueprint.now.footing.basis) entry (Some builder.now) }
-    requires scene { scenery_of scene.now ≡ constructor_scene (facts_of blueprint.now.footing.basis) entry
-        builder.now.constructor.now scene.now.values.now }
+    requires { IsBuilderAt (facts_of blueprint.now.footing.basis) invocation.now.entry
+        (Some invocation.now.builder.now) }
     ensures { OnOk result (construction_of making.new ≡ noted (construction_of making.old)
-        (passing_faults (grounds_in blueprint.now) (construction_of making.old).objects subject.now.place entry
-        scene.now.values.now builder.now.constructor.now)) }
+        (passing_faults (grounds_in blueprint.now) (construction_of making.old).objects subject.now.place
+        invocation.now.entry invocation.now.values.now invocation.now.builder.now.constructor.now)) }
 {
     note_passing(
         alloc,
         &blueprint.footing,
-        scene,
         making.objects.as_slice(),
         subject.place,
-        entry,
-        builder,
+        invocation,
         &mut making.first,
     )
 }
@@ -449,20 +416,17 @@ fn note_passed(
 fn run_parts(
     alloc: Global,
     blueprint: &Blueprint<'_>,
-    scene: &Scene<'_>,
-    subject: &Subject<'_>,
-    entry: usize,
+    frame: &Frame<'_>,
     parts: &[Set],
     levels: usize,
     making: &mut Making,
 ) -> Result<(), AllocError>
     ensures { OnOk result (construction_of making.new ≡ parts_run (made_by levels (grounds_in blueprint.now)) levels
-        (grounds_in blueprint.now) (scenery_of scene.now) (subject_of subject.now) entry parts.now (construction_of making.old)) }
+        (grounds_in blueprint.now) (scenery_of frame.now.scene) (subject_of frame.now.subject) frame.now.entry
+        parts.now (construction_of making.old)) }
 {
     for part in parts {
-        run_part(
-            alloc, blueprint, scene, subject, entry, part, levels, making,
-        )?;
+        run_part(alloc, blueprint, frame, part, levels, making)?;
     }
     Ok(())
 }
@@ -472,19 +436,18 @@ fn run_parts(
 fn run_part(
     alloc: Global,
     blueprint: &Blueprint<'_>,
-    scene: &Scene<'_>,
-    subject: &Subject<'_>,
-    entry: usize,
+    frame: &Frame<'_>,
     part: &Set,
     levels: usize,
     making: &mut Making,
 ) -> Result<(), AllocError>
     ensures { OnOk result (construction_of making.new ≡ part_run (made_by levels (grounds_in blueprint.now)) levels
-        (grounds_in blueprint.now) (scenery_of scene.now) (subject_of subject.now) entry part.now (construction_of making.old)) }
+        (grounds_in blueprint.now) (scenery_of frame.now.scene) (subject_of frame.now.subject) frame.now.entry
+        part.now (construction_of making.old)) }
 {
     match part {
         Set::Field { name, value } => set_init(
-            alloc, blueprint, scene, subject, entry, name, value, levels, making,
+            alloc, blueprint, frame, name, value, levels, making,
         ),
         Set::Super { .. } => Ok(()),
     }
@@ -495,23 +458,19 @@ fn run_part(
 fn set_init(
     alloc: Global,
     blueprint: &Blueprint<'_>,
-    scene: &Scene<'_>,
-    subject: &Subject<'_>,
-    entry: usize,
+    frame: &Frame<'_>,
     name: &Name,
     value: &Init,
     levels: usize,
     making: &mut Making,
 ) -> Result<(), AllocError>
     ensures { OnOk result (construction_of making.new ≡ init_set (made_by levels (grounds_in blueprint.now)) levels
-        (grounds_in blueprint.now) (scenery_of scene.now) (subject_of subject.now) entry name.now.text value.now
-        (construction_of making.old)) }
+        (grounds_in blueprint.now) (scenery_of frame.now.scene) (subject_of frame.now.subject) frame.now.entry
+        name.now.text value.now (construction_of making.old)) }
 {
     match value {
-        Init::Expr(expr) => set_value(alloc, blueprint, scene, subject, entry, name, expr, making),
-        Init::New(creation) => set_new(
-            alloc, blueprint, scene, subject, entry, name, creation, levels, making,
-        ),
+        Init::Expr(expr) => set_value(alloc, blueprint, frame, name, expr, making),
+        Init::New(creation) => set_new(alloc, blueprint, frame, name, creation, levels, making),
     }
 }
 
@@ -519,27 +478,26 @@ fn set_init(
 fn set_value(
     alloc: Global,
     blueprint: &Blueprint<'_>,
-    scene: &Scene<'_>,
-    subject: &Subject<'_>,
-    entry: usize,
+    frame: &Frame<'_>,
     name: &Name,
     expr: &Expr,
     making: &mut Making,
 ) -> Result<(), AllocError>
-    ensures { OnOk result (construction_of making.new ≡ value_set (grounds_in blueprint.now) (scenery_of scene.now)
-        (subject_of subject.now) entry name.now.text expr.now (construction_of making.old)) }
+    ensures { OnOk result (construction_of making.new ≡ value_set (grounds_in blueprint.now)
+        (scenery_of frame.now.scene) (subject_of frame.now.subject) frame.now.entry name.now.text expr.now
+        (construction_of making.old)) }
 {
-    let field = field_in_line(alloc, &blueprint.footing.basis, entry, &name.text)?;
-    let datum = settled_datum(
+    let field = field_in_line(alloc, &blueprint.footing.basis, frame.entry, &name.text)?;
+    let datum = fine_datum(
         alloc,
         &blueprint.footing,
-        scene,
+        &frame.scene,
         making.objects.as_slice(),
         field_kind(field),
         expr,
     )?;
-    note_unmade(&blueprint.footing, scene, expr, &mut making.first);
-    set_field(alloc, blueprint, subject, entry, &name.text, datum, making)
+    note_unmade(&blueprint.footing, &frame.scene, expr, &mut making.first);
+    set_field(alloc, blueprint, frame, &name.text, datum, making)
 }
 
 // Sets the field to an object that is made for it.
@@ -547,21 +505,23 @@ fn set_value(
 fn set_new(
     alloc: Global,
     blueprint: &Blueprint<'_>,
-    scene: &Scene<'_>,
-    subject: &Subject<'_>,
-    entry: usize,
+    frame: &Frame<'_>,
     name: &Name,
     creation: &Creation,
     levels: usize,
     making: &mut Making,
 ) -> Result<(), AllocError>
     ensures { OnOk result (construction_of making.new ≡ nested_set (made_by levels (grounds_in blueprint.now)) levels
-        (grounds_in blueprint.now) (scenery_of scene.now) (subject_of subject.now) entry name.now.text creation.now
-        (construction_of making.old)) }
+        (grounds_in blueprint.now) (scenery_of frame.now.scene) (subject_of frame.now.subject) frame.now.entry
+        name.now.text creation.now (construction_of making.old)) }
 {
-    let nested = nested_name(alloc, subject.name, &name.text)?;
-    let datum = make_new(
-        alloc, blueprint, scene, &nested, None, creation, levels, making,
-    )?;
-    set_field(alloc, blueprint, subject, entry, &name.text, datum, making)
+    let nested = nested_name(alloc, frame.subject.name, &name.text)?;
+    let instantiation = Instantiation {
+        scene: frame.scene,
+        creation,
+        name: &nested,
+        entry: None,
+    };
+    let datum = make_new(alloc, blueprint, &instantiation, levels, making)?;
+    set_field(alloc, blueprint, frame, &name.text, datum, making)
 }

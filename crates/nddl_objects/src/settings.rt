@@ -9,7 +9,7 @@ use eu_name::sequence::Sequence;
 use nddl_ast::TextKind;
 use nddl_ast::expression::Creation;
 use nddl_construction::reading::{datum_at, note_all_unmade};
-use nddl_construction::{Datum, Ground, MadeObject, Scene, settled_data};
+use nddl_construction::{Datum, Ground, MadeObject, Scene, fine_data};
 use nddl_symbols::{Fault, kind_if, note_at};
 use nddl_typeexpr::TypeKind;
 use std::alloc::{AllocError, Global};
@@ -76,7 +76,7 @@ pub fn read_settings(
 {
     let arguments = creation.arguments.as_slice();
     note_all_unmade(footing, scene, arguments, first);
-    let values = settled_data(alloc, footing, scene, objects, &WANTS, arguments)?;
+    let values = fine_data(alloc, footing, scene, objects, &WANTS, arguments)?;
     let is_wrong = are_wrong_settings(values.as_slice());
     note_at(
         first,

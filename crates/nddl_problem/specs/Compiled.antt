@@ -1,5 +1,5 @@
 -- The model of a program, and what is wrong first with its problem.
-use Rattle.std.specs.Prelude.{ℕ, List, ◌++◌, Option}
+use Rattle.std.specs.Prelude.{List, ◌++◌, Option}
 use Rattle.model_core.specs.declared.model.Model.{Model}
 use Rattle.nddl_symbols.specs.Joined.{joined_sites}
 use Rattle.nddl_symbols.specs.declared.fault.Fault.{Fault}

@@ -32,7 +32,7 @@ abbrev pub world_known : Known → World
 world_known known = record {
   facts = known.facts;
   enums = known.table.enums;
-  standing = (progress_known known).standing;
+  named_objects = (progress_known known).named_objects;
   objects = (progress_known known).so_far.objects;
 }
 

@@ -1,5 +1,5 @@
 -- What is answered of files that are compiled.
-use Rattle.std.specs.Prelude.{◌≡◌, List, Option, Some, None, Result, ⊤, ◌⊎◌, MatchResult}
+use Rattle.std.specs.Prelude.{◌≡◌, List, Some, None, Result, ⊤, ◌⊎◌, MatchResult}
 use Rattle.std.specs.Option.{option_and_then}
 use Rattle.model_core.specs.declared.model.Model.{Model}
 use Rattle.model_core.specs.Lawful.{IsLawful}

@@ -121,7 +121,7 @@ fn name_stock<'a>(
     };
     let premises = Premises {
         sources,
-        standing: stock.made.standing.as_slice(),
+        named_objects: stock.made.named_objects.as_slice(),
         objects: stock.made.making.objects.as_slice(),
         by_class: &stock.by_class,
     };

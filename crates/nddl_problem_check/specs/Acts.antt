@@ -23,7 +23,7 @@ use Rattle.nddl_hierarchy.specs.Facts.{Facts}
 use Rattle.nddl_resolve.specs.declared.denoted.Denoted.{Denoted}
 use Rattle.nddl_resolve.specs.declared.denoted.Denoted.TheVariants as denoted
 use Rattle.nddl_resolve.specs.Paths.{Surroundings, literal_denoted, path_denoted}
-use Rattle.nddl_resolve.specs.Steps.{Understood, settled}
+use Rattle.nddl_resolve.specs.Following.{Understood, or_faulty}
 use Rattle.nddl_rule_check.specs.Calls.{no_act_faults}
 use Rattle.nddl_rule_check.specs.Slots.{unwanted_faults}
 use Rattle.nddl_rule_check.specs.Values.{kind_of_value}
@@ -31,6 +31,7 @@ use Rattle.nddl_constructors.specs.Constants.{value_faults}
 use Rattle.nddl_constructors.specs.Formals.{around_formals}
 use Rattle.nddl_problem_check.specs.declared.acts.Act.{Act}
 use Rattle.nddl_problem_check.specs.declared.acts.Act.TheVariants as acts
+use Rattle.nddl_problem_check.specs.declared.acts.WrittenAct.{WrittenAct}
 
 -- outside of rules and constructors nothing but the files gives names
 abbrev pub nothing_around : Surroundings
@@ -53,18 +54,22 @@ act_named name = lookup (λ word. bytes_eq name word) act_words
 
 -- ---- what stands before an act
 
+-- the path before the act
+abbrev pub path_of_act : WrittenAct → Path
+path_of_act written = record { first = written.name.now; rest = written.names.now }
+
 -- what is wrong with what has to be a variable
 abbrev pub variable_kind_fault : Denoted → Option TextKind
 variable_kind_fault (denoted.Value kind true) = Some faults.WrongType
 variable_kind_fault (denoted.Value kind false) = None
 variable_kind_fault (denoted.Token token) = Some faults.WrongType
 variable_kind_fault (denoted.Class class) = Some faults.WrongType
-variable_kind_fault denoted.Unsettled = None
+variable_kind_fault denoted.Faulty = None
 
 -- what is wrong with what has to be a class
 abbrev pub class_kind_fault : Denoted → Option TextKind
 class_kind_fault (denoted.Class class) = None
-class_kind_fault denoted.Unsettled = None
+class_kind_fault denoted.Faulty = None
 class_kind_fault other = Some faults.WrongType
 
 -- the same of what is understood of a path that begins there, or what is wrong with that
@@ -128,7 +133,7 @@ abbrev pub specify_faults : Facts → ℕ → Path → Name → List Expr → Li
 specify_faults facts decl front name exprs =
     let found = file_path_denoted facts front in
     specified_faults decl front.first.at found
-    ++ decided_faults facts decl name.at (kind_of_value (settled found)) exprs
+    ++ decided_faults facts decl name.at (kind_of_value (or_faulty found)) exprs
 
 -- what is wrong with an act on what stands before it
 abbrev pub one_act_faults : Facts → ℕ → Path → Name → List Expr → Act → List Fault

@@ -21,7 +21,7 @@ use Rattle.nddl_typeexpr.specs.declared.kind.TypeKind.{TypeKind}
 use Rattle.nddl_typeexpr.specs.Bases.{base_kind}
 use Rattle.nddl_construction.specs.declared.made.MadeObject.{MadeObject}
 use Rattle.nddl_construction.specs.Fitting.{is_foreign_datum}
-use Rattle.nddl_construction.specs.Reading.{settled_datum}
+use Rattle.nddl_construction.specs.Reading.{fine_datum}
 use Rattle.nddl_construction.specs.Scene.{Grounds, grounds_of}
 use Rattle.nddl_objects.specs.Objects.{bare_scene}
 use Rattle.nddl_terms.specs.declared.lexicon.Lexicon.{Lexicon}
@@ -67,7 +67,7 @@ void_root_faults lexicon scope are_made decl ask =
 abbrev pub foreign_value_faults : Grounds → List MadeObject → ℕ → Option TypeKind → Expr → List Fault
 foreign_value_faults grounds objects decl kind expr =
     faults_here decl (expr_place expr)
-    (fault_if (is_foreign_datum grounds objects kind (settled_datum grounds (bare_scene decl) objects kind expr))
+    (fault_if (is_foreign_datum grounds objects kind (fine_datum grounds (bare_scene decl) objects kind expr))
     faults.NotInDomain)
 
 abbrev pub foreign_begun_faults : Grounds → List MadeObject → ℕ → Variable → Option Init → List Fault

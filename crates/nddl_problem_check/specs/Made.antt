@@ -16,7 +16,7 @@ use Rattle.nddl_hierarchy.specs.Facts.{Facts}
 use Rattle.nddl_resolve.specs.declared.denoted.Denoted.{Denoted}
 use Rattle.nddl_resolve.specs.declared.denoted.Denoted.TheVariants as denoted
 use Rattle.nddl_resolve.specs.Files.{file_denoted}
-use Rattle.nddl_resolve.specs.Steps.{Understood}
+use Rattle.nddl_resolve.specs.Following.{Understood}
 use Rattle.nddl_problem_check.specs.declared.acts.Act.{Act}
 use Rattle.nddl_problem_check.specs.declared.acts.Act.TheVariants as acts
 use Rattle.nddl_problem_check.specs.Acts.{act_named, file_path_denoted}

@@ -4,6 +4,8 @@ ghost use Rattle.std.specs.Prelude.{◌≡◌};
 ghost use Rattle.nddl_problem_check.specs.Acts.{act_named};
 
 use eu_name::text::Text;
+use nddl_ast::expression::Expr;
+use nddl_ast::name::Name;
 
 /// What is done with what stands before the word.
 #[derive(Clone, Copy)]
@@ -16,6 +18,15 @@ pub enum Act {
     Merge,
     /// No further object of a class is made, which says nothing.
     Close,
+}
+
+/// A call with an act as it is written: the names of the path before it, its own name, and its arguments.
+#[derive(Clone, Copy)]
+pub struct WrittenAct<'a> {
+    pub name: &'a Name,
+    pub names: &'a [Name],
+    pub act: &'a Name,
+    pub exprs: &'a [Expr],
 }
 
 /// The act of this name.

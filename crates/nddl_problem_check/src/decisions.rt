@@ -4,17 +4,16 @@ ghost use Rattle.std.specs.Prelude.{◌≡◌, ◌++◌, OnOk};
 ghost use Rattle.nddl_symbols.specs.Finding.{earliest_fault};
 ghost use Rattle.nddl_hierarchy.specs.Facts.{facts_of};
 ghost use Rattle.nddl_rule_check.specs.Calls.{no_act_faults};
-ghost use Rattle.nddl_problem_check.specs.Acts.{act_faults, class_kind_fault, closing_faults, decided_faults, file_path_denoted, merged_faults, none_taken_faults, one_act_faults, root_label_faults, specified_faults, specify_faults, variable_kind_fault};
+ghost use Rattle.nddl_problem_check.specs.Acts.{act_faults, class_kind_fault, closing_faults, decided_faults, file_path_denoted, merged_faults, none_taken_faults, one_act_faults, path_of_act, root_label_faults, specified_faults, specify_faults, variable_kind_fault};
 
-use super::acts::{Act, act_named};
+use super::acts::{Act, WrittenAct, act_named};
 use super::owners::{file_path_denoted, nothing_around};
 use super::roots::{note_root_argument, note_root_label};
 use nddl_ast::TextKind;
 use nddl_ast::expression::Expr;
-use nddl_ast::name::Name;
 use nddl_constructors::constants::note_value;
 use nddl_hierarchy::Basis;
-use nddl_resolve::denoted::settled;
+use nddl_resolve::denoted::or_faulty;
 use nddl_resolve::{Denoted, PathFault};
 use nddl_rule_check::values::kind_of_value;
 use nddl_symbols::{Fault, note_at};
@@ -32,7 +31,7 @@ fn variable_kind_fault(meant: Denoted) -> Option<TextKind>
             ..
         } => None,
         Denoted::Token(_) | Denoted::Class(_) => Some(TextKind::WrongType),
-        Denoted::Unsettled => None,
+        Denoted::Faulty => None,
     }
 }
 
@@ -41,7 +40,7 @@ fn class_kind_fault(meant: Denoted) -> Option<TextKind>
     ensures { result ≡ class_kind_fault meant }
 {
     match meant {
-        Denoted::Class(_) | Denoted::Unsettled => None,
+        Denoted::Class(_) | Denoted::Faulty => None,
         Denoted::Value { .. } | Denoted::Token(_) => Some(TextKind::WrongType),
     }
 }
@@ -123,152 +122,140 @@ fn note_merged(
     }
 }
 
-// Notes what is wrong with a `specify` behind these names.
+// Notes what is wrong with a `specify`.
 #[tactic(auto, using(nddl_symbols::proofs::Earliest::earliest_append))]
 fn note_specify(
     alloc: Global,
     basis: &Basis<'_>,
     decl: usize,
-    name: &Name,
-    names: &[Name],
-    act: &Name,
-    exprs: &[Expr],
+    written: &WrittenAct<'_>,
     first: &mut Option<Fault>,
 ) -> Result<(), AllocError>
     ensures { OnOk result (first.new ≡ earliest_fault first.old
-        (specify_faults (facts_of basis.now) decl (record { first = name.now; rest = names.now }) act.now exprs.now)) }
+        (specify_faults (facts_of basis.now) decl (path_of_act written.now) written.now.act.now written.now.exprs.now)) }
 {
-    let found = file_path_denoted(alloc, basis, name, names)?;
-    note_specified(decl, name.at, found, first);
-    let kind = kind_of_value(settled(found));
-    note_decided(alloc, basis, decl, act.at, kind, exprs, first)
+    let found = file_path_denoted(alloc, basis, written.name, written.names)?;
+    note_specified(decl, written.name.at, found, first);
+    let kind = kind_of_value(or_faulty(found));
+    note_decided(
+        alloc,
+        basis,
+        decl,
+        written.act.at,
+        kind,
+        written.exprs,
+        first,
+    )
 }
 
-// Notes what is wrong with an act without arguments on the token whose label these names are.
+// Notes what is wrong with an act without arguments on the token whose label stands before it.
 #[tactic(auto, using(nddl_symbols::proofs::Earliest::earliest_append))]
 fn note_bare_act(
     alloc: Global,
     basis: &Basis<'_>,
     decl: usize,
-    name: &Name,
-    names: &[Name],
-    act: &Name,
-    exprs: &[Expr],
+    written: &WrittenAct<'_>,
     first: &mut Option<Fault>,
 ) -> Result<(), AllocError>
     ensures { OnOk result (first.new ≡ earliest_fault first.old
-        (root_label_faults (facts_of basis.now) decl (record { first = name.now; rest = names.now })
-        ++ none_taken_faults decl act.now.at exprs.now)) }
+        (root_label_faults (facts_of basis.now) decl (path_of_act written.now)
+        ++ none_taken_faults decl written.now.act.now.at written.now.exprs.now)) }
 {
-    note_root_label(alloc, basis, decl, name, names, first)?;
-    note_none_taken(decl, act.at, exprs, first);
+    note_root_label(alloc, basis, decl, written.name, written.names, first)?;
+    note_none_taken(decl, written.act.at, written.exprs, first);
     Ok(())
 }
 
-// Notes what is wrong with a `merge` behind these names.
+// Notes what is wrong with a `merge`.
 #[tactic(auto, using(nddl_symbols::proofs::Earliest::earliest_append))]
 fn note_merge(
     alloc: Global,
     basis: &Basis<'_>,
     decl: usize,
-    name: &Name,
-    names: &[Name],
-    act: &Name,
-    exprs: &[Expr],
+    written: &WrittenAct<'_>,
     first: &mut Option<Fault>,
 ) -> Result<(), AllocError>
     ensures { OnOk result (first.new ≡ earliest_fault first.old
-        (root_label_faults (facts_of basis.now) decl (record { first = name.now; rest = names.now })
-        ++ merged_faults (facts_of basis.now) decl act.now.at exprs.now)) }
+        (root_label_faults (facts_of basis.now) decl (path_of_act written.now)
+        ++ merged_faults (facts_of basis.now) decl written.now.act.now.at written.now.exprs.now)) }
 {
-    note_root_label(alloc, basis, decl, name, names, first)?;
-    note_merged(alloc, basis, decl, act.at, exprs, first)
+    note_root_label(alloc, basis, decl, written.name, written.names, first)?;
+    note_merged(alloc, basis, decl, written.act.at, written.exprs, first)
 }
 
-// Notes what is wrong with a `close` behind these names.
+// Notes what is wrong with a `close`.
 #[tactic(auto, using(nddl_symbols::proofs::Earliest::earliest_append))]
 fn note_close(
     alloc: Global,
     basis: &Basis<'_>,
     decl: usize,
-    name: &Name,
-    names: &[Name],
-    act: &Name,
-    exprs: &[Expr],
+    written: &WrittenAct<'_>,
     first: &mut Option<Fault>,
 ) -> Result<(), AllocError>
     ensures { OnOk result (first.new ≡ earliest_fault first.old
-        (closing_faults decl name.now.at
-        (file_path_denoted (facts_of basis.now) (record { first = name.now; rest = names.now }))
-        ++ none_taken_faults decl act.now.at exprs.now)) }
+        (closing_faults decl written.now.name.now.at (file_path_denoted (facts_of basis.now) (path_of_act written.now))
+        ++ none_taken_faults decl written.now.act.now.at written.now.exprs.now)) }
 {
-    let found = file_path_denoted(alloc, basis, name, names)?;
-    note_closing(decl, name.at, found, first);
-    note_none_taken(decl, act.at, exprs, first);
+    let found = file_path_denoted(alloc, basis, written.name, written.names)?;
+    note_closing(decl, written.name.at, found, first);
+    note_none_taken(decl, written.act.at, written.exprs, first);
     Ok(())
 }
 
-// Notes what is wrong with an act behind these names.
+// Notes what is wrong with the act, which is this one.
 fn note_one_act(
     alloc: Global,
     basis: &Basis<'_>,
     decl: usize,
-    name: &Name,
-    names: &[Name],
-    act: &Name,
-    exprs: &[Expr],
+    written: &WrittenAct<'_>,
     done: Act,
     first: &mut Option<Fault>,
 ) -> Result<(), AllocError>
     ensures { OnOk result (first.new ≡ earliest_fault first.old
-        (one_act_faults (facts_of basis.now) decl (record { first = name.now; rest = names.now }) act.now exprs.now done)) }
+        (one_act_faults (facts_of basis.now) decl (path_of_act written.now) written.now.act.now written.now.exprs.now
+        done)) }
 {
     match done {
-        Act::Specify => note_specify(alloc, basis, decl, name, names, act, exprs, first),
-        Act::Activate => note_bare_act(alloc, basis, decl, name, names, act, exprs, first),
-        Act::Reject => note_bare_act(alloc, basis, decl, name, names, act, exprs, first),
-        Act::Merge => note_merge(alloc, basis, decl, name, names, act, exprs, first),
-        Act::Close => note_close(alloc, basis, decl, name, names, act, exprs, first),
+        Act::Specify => note_specify(alloc, basis, decl, written, first),
+        Act::Activate => note_bare_act(alloc, basis, decl, written, first),
+        Act::Reject => note_bare_act(alloc, basis, decl, written, first),
+        Act::Merge => note_merge(alloc, basis, decl, written, first),
+        Act::Close => note_close(alloc, basis, decl, written, first),
     }
 }
 
-// Notes what is wrong behind these names with an act that isn't there.
+// Notes what is wrong with the path before an act that isn't there, or else with its name.
 fn note_no_act(
     alloc: Global,
     basis: &Basis<'_>,
     decl: usize,
-    name: &Name,
-    names: &[Name],
-    act: &Name,
+    written: &WrittenAct<'_>,
     first: &mut Option<Fault>,
 ) -> Result<(), AllocError>
     ensures { OnOk result (first.new ≡ earliest_fault first.old
-        (no_act_faults decl act.now
-        (file_path_denoted (facts_of basis.now) (record { first = name.now; rest = names.now })))) }
+        (no_act_faults decl written.now.act.now
+        (file_path_denoted (facts_of basis.now) (path_of_act written.now)))) }
 {
-    match file_path_denoted(alloc, basis, name, names)? {
-        Ok(_) => note_at(first, decl, act.at, Some(TextKind::Unknown)),
+    match file_path_denoted(alloc, basis, written.name, written.names)? {
+        Ok(_) => note_at(first, decl, written.act.at, Some(TextKind::Unknown)),
         Err(fault) => note_at(first, decl, fault.at, Some(fault.kind)),
     }
     Ok(())
 }
 
-/// Notes what is wrong with the act of this name behind these names.
+/// Notes what is wrong with the act.
 pub fn note_act(
     alloc: Global,
     basis: &Basis<'_>,
     decl: usize,
-    name: &Name,
-    names: &[Name],
-    act: &Name,
-    exprs: &[Expr],
+    written: &WrittenAct<'_>,
     first: &mut Option<Fault>,
 ) -> Result<(), AllocError>
     ensures { OnOk result (first.new ≡ earliest_fault first.old
-        (act_faults (facts_of basis.now) decl (record { first = name.now; rest = names.now }) act.now exprs.now)) }
+        (act_faults (facts_of basis.now) decl (path_of_act written.now) written.now.act.now written.now.exprs.now)) }
 {
-    match act_named(&act.text) {
-        Some(done) => note_one_act(alloc, basis, decl, name, names, act, exprs, done, first),
-        None => note_no_act(alloc, basis, decl, name, names, act, first),
+    match act_named(&written.act.text) {
+        Some(done) => note_one_act(alloc, basis, decl, written, done, first),
+        None => note_no_act(alloc, basis, decl, written, first),
     }
 }

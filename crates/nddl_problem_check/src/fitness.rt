@@ -15,7 +15,7 @@ use nddl_ast::declaration::Decl;
 use nddl_ast::expression::{Expr, Init};
 use nddl_ast::statement::{Ask, Variable};
 use nddl_construction::fitting::is_foreign_datum;
-use nddl_construction::reading::settled_datum;
+use nddl_construction::reading::fine_datum;
 use nddl_construction::{Ground, MadeObject, Scene};
 use nddl_symbols::{Fault, kind_if, note_at};
 use nddl_terms::lexicon::{Attribute, Lexicon, as_number};
@@ -138,7 +138,7 @@ fn note_foreign_value(
         (foreign_value_faults (grounds_of start.now.footing) start.now.objects.now decl kind expr.now)) }
 {
     let scene = scene_of(decl);
-    let datum = settled_datum(alloc, &start.footing, &scene, start.objects, kind, expr)?;
+    let datum = fine_datum(alloc, &start.footing, &scene, start.objects, kind, expr)?;
     let is_foreign = is_foreign_datum(alloc, &start.footing, start.objects, kind, datum)?;
     note_at(
         first,

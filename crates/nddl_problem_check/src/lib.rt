@@ -15,6 +15,6 @@ pub mod posts;
 pub mod roots;
 pub mod texts;
 
-pub use acts::{Act, act_named};
+pub use acts::{Act, WrittenAct, act_named};
 pub use limits::note_problem_limits;
 pub use texts::note_problem_texts;

@@ -78,7 +78,7 @@ fn note_unfit_in(
     let start = Start {
         footing: Ground {
             basis: *basis,
-            standing: program.standing.as_slice(),
+            named_objects: program.named_objects.as_slice(),
         },
         objects: program.making.objects.as_slice(),
         lexicon,

@@ -39,7 +39,7 @@ fn names_reading(begin: Denoted, names: &[Name]) -> &[Name]
             ..
         } => names,
         Denoted::Token(_) => behind_part(names),
-        Denoted::Class(_) | Denoted::Unsettled => &[],
+        Denoted::Class(_) | Denoted::Faulty => &[],
     }
 }
 
@@ -48,7 +48,7 @@ fn means_value(found: Result<Denoted, PathFault>) -> bool
 {
     match found {
         Ok(Denoted::Value { .. }) => true,
-        Ok(Denoted::Token(_) | Denoted::Class(_) | Denoted::Unsettled) => false,
+        Ok(Denoted::Token(_) | Denoted::Class(_) | Denoted::Faulty) => false,
         Err(_) => false,
     }
 }

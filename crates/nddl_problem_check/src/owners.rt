@@ -10,7 +10,7 @@ use nddl_ast::name::Name;
 use nddl_constructors::formals::around_formals;
 use nddl_hierarchy::Basis;
 use nddl_resolve::files::file_denoted;
-use nddl_resolve::steps::{path_steps, unknown_at};
+use nddl_resolve::following::{rest_denoted, unknown_at};
 use nddl_resolve::{Around, Denoted, PathFault};
 use nddl_symbols::{Meaning, Scope, Sort};
 use std::alloc::{AllocError, Global};
@@ -78,7 +78,7 @@ pub fn file_path_denoted(
         ≡ file_path_denoted (facts_of basis.now) (record { first = first.now; rest = names.now })) }
 {
     match file_denoted(alloc, basis, &first.text)? {
-        Some(begin) => path_steps(alloc, basis, first.at, begin, names),
+        Some(begin) => rest_denoted(alloc, basis, first.at, begin, names),
         None => Ok(unknown_at(first.at)),
     }
 }

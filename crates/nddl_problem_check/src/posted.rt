@@ -11,7 +11,7 @@ use nddl_ast::name::Path;
 use nddl_ast::statement::Ask;
 use nddl_hierarchy::Basis;
 use nddl_resolve::files::file_denoted;
-use nddl_resolve::steps::{asked_by, unknown_at, wrong_at};
+use nddl_resolve::following::{asked_by, unknown_at, wrong_at};
 use nddl_resolve::{Denoted, PathFault};
 use nddl_rule_check::arguments::note_understood;
 use nddl_symbols::declared::is_posting;

@@ -7,6 +7,7 @@ ghost use Rattle.nddl_rule_check.specs.Calls.{constraint_call_faults};
 ghost use Rattle.nddl_problem_check.specs.Acts.{nothing_around};
 ghost use Rattle.nddl_problem_check.specs.Texts.{begun_faults, lone_call_faults, problem_call_faults, problem_decl_faults, problem_faults_from, problem_text_faults};
 
+use super::acts::WrittenAct;
 use super::decisions::{note_act, note_none_taken};
 use super::owners::nothing_around;
 use super::posted::note_posting;
@@ -16,7 +17,7 @@ use nddl_ast::name::Name;
 use nddl_ast::statement::{Call, Variable};
 use nddl_ast::{TextKind, front, last};
 use nddl_constructors::constants::note_value;
-use nddl_hierarchy::Basis;
+use nddl_hierarchy::{Basis, Spot};
 use nddl_rule_check::{constraint_named, note_constraint};
 use nddl_symbols::{Fault, note_at};
 use nddl_typeexpr::base::base_kind;
@@ -105,7 +106,13 @@ fn note_call(
     match front(&call.path) {
         Some(names) => {
             let act = last(&call.path);
-            note_act(alloc, basis, decl, name, names, act, exprs, first)
+            let written = WrittenAct {
+                name,
+                names,
+                act,
+                exprs,
+            };
+            note_act(alloc, basis, decl, &written, first)
         }
         None => note_lone_call(alloc, basis, decl, name, exprs, first),
     }
@@ -145,8 +152,12 @@ fn note_constraint_call(
 {
     match constraint_named(&name.text) {
         Some(kind) => {
+            let spot = Spot {
+                basis: *basis,
+                decl,
+            };
             let around = nothing_around();
-            note_constraint(alloc, basis, &around, decl, kind, name.at, exprs, first)
+            note_constraint(alloc, &spot, &around, kind, name.at, exprs, first)
         }
         None => {
             note_at(first, decl, name.at, Some(TextKind::Unknown));

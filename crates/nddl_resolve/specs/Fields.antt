@@ -24,7 +24,7 @@ use Rattle.nddl_resolve.specs.declared.denoted.Denoted.TheVariants as denoted
 -- a value of a type, constant or not; where the type means nothing, nothing is said of it
 abbrev pub type_value : List Declared → List (Option TypeMeaning) → Bool → types.Type → Denoted
 type_value names known constant type =
-    option_map_or (λ kind. denoted.Value kind constant) (base_kind names known type.base) denoted.Unsettled
+    option_map_or (λ kind. denoted.Value kind constant) (base_kind names known type.base) denoted.Faulty
 
 -- the field of this name that one of the classes of a line declares
 abbrev pub field_along : List Declared → List Decl → List ℕ → List ℕ → Option Typed

@@ -18,7 +18,7 @@ use Rattle.nddl_hierarchy.specs.Facts.{Facts}
 use Rattle.nddl_resolve.specs.declared.denoted.Denoted.{Denoted}
 use Rattle.nddl_resolve.specs.declared.denoted.Denoted.TheVariants as denoted
 use Rattle.nddl_resolve.specs.Fields.{type_value}
-use Rattle.nddl_resolve.specs.Steps.{asked_by, object_alone, settled}
+use Rattle.nddl_resolve.specs.Following.{asked_by, object_alone, or_faulty}
 
 -- with which type a variable is declared
 abbrev pub variable_type : Decl → Option types.Type
@@ -29,7 +29,7 @@ variable_type decl = None
 abbrev pub declared_value : Facts → Bool → Declared → Denoted
 declared_value facts constant declared =
     option_map_or (type_value facts.names facts.known constant)
-    (option_and_then variable_type (decl_of_name facts.program declared)) denoted.Unsettled
+    (option_and_then variable_type (decl_of_name facts.program declared)) denoted.Faulty
 
 -- ---- what can have tokens
 
@@ -58,13 +58,13 @@ declared_ask decl = None
 -- the token that is posted by this path, of an object or a class
 abbrev pub root_by : Facts → Path → Denoted
 root_by facts path =
-    option_map_or (λ owner. settled (asked_by facts owner path)) (file_owner facts path.first.text) denoted.Unsettled
+    option_map_or (λ owner. or_faulty (asked_by facts owner path)) (file_owner facts path.first.text) denoted.Faulty
 
 -- the token whose label the name is
 abbrev pub root_value : Facts → Declared → Denoted
 root_value facts declared =
     option_map_or (λ ask. root_by facts ask.path) (option_and_then declared_ask (decl_of_name facts.program declared))
-    denoted.Unsettled
+    denoted.Faulty
 
 -- ---- any name
 

@@ -1,6 +1,6 @@
 pub mod Fields
 pub mod Files
+pub mod Following
 pub mod Paths
 pub mod Predicates
 pub mod Seen
-pub mod Steps

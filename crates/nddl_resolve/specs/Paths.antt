@@ -19,7 +19,7 @@ use Rattle.nddl_resolve.specs.declared.denoted.TokenSort.{TokenSort}
 use Rattle.nddl_resolve.specs.Files.{file_denoted}
 use Rattle.nddl_resolve.specs.Predicates.{token_part}
 use Rattle.nddl_resolve.specs.Seen.{seen_in}
-use Rattle.nddl_resolve.specs.Steps.{Understood, asked_by, path_steps, unknown_at}
+use Rattle.nddl_resolve.specs.Following.{Understood, asked_by, rest_denoted, unknown_at}
 
 -- What names mean where a path stands, beside those of the files: the formals of a constructor, the variables of `foreach`,
 -- locals and labels of slots, of each the innermost last, and the token whose rule it is.
@@ -71,8 +71,8 @@ first_denoted facts around name =
 -- what the path means, or what is wrong with it
 abbrev pub path_denoted : Facts → Surroundings → Path → Understood
 path_denoted facts around path =
-    option_map_or (λ begin. path_steps facts path.first.at begin path.rest) (first_denoted facts around path.first.text)
-    (unknown_at path.first.at)
+    option_map_or (λ begin. rest_denoted facts path.first.at begin path.rest)
+    (first_denoted facts around path.first.text) (unknown_at path.first.at)
 
 -- the token for which the path asks, whose last name is a predicate, or what is wrong with it
 abbrev pub asked_token : Facts → Surroundings → Path → Understood

@@ -1,7 +1,7 @@
 //! What paths mean.
 
 ghost use Rattle.std.specs.Prelude.{◌≡◌};
-ghost use Rattle.nddl_resolve.specs.Steps.{object_alone, settled};
+ghost use Rattle.nddl_resolve.specs.Following.{object_alone, or_faulty};
 
 use super::seen::SeenNames;
 use eu_name::text::Text;
@@ -35,7 +35,7 @@ pub enum Denoted {
     /// A class, by what its name means in the scope.
     Class(Meaning),
     /// What hangs on something faulty, so that nothing is said of it.
-    Unsettled,
+    Faulty,
 }
 
 /// What is wrong with a path, at a byte of its declaration.
@@ -67,7 +67,7 @@ pub struct Around<'a> {
 }
 
 impl Denoted {
-    /// The same, if it is an object.
+    /// Itself if it is an object, and faulty otherwise.
     pub fn object_alone(self) -> Denoted
         ensures { result ≡ object_alone self }
     {
@@ -76,17 +76,17 @@ impl Denoted {
                 kind: TypeKind::Object(_),
                 ..
             } => self,
-            _ => Denoted::Unsettled,
+            _ => Denoted::Faulty,
         }
     }
 }
 
 /// What a path means for others, who say nothing of its faults.
-pub fn settled(found: Result<Denoted, PathFault>) -> Denoted
-    ensures { result ≡ settled found }
+pub fn or_faulty(found: Result<Denoted, PathFault>) -> Denoted
+    ensures { result ≡ or_faulty found }
 {
     match found {
         Ok(denoted) => denoted,
-        Err(_) => Denoted::Unsettled,
+        Err(_) => Denoted::Faulty,
     }
 }

@@ -27,7 +27,7 @@ pub fn type_value(types: &Types<'_>, constant: bool, written: &Type) -> Denoted
 {
     match base_kind(types, &written.base) {
         Some(kind) => Denoted::Value { kind, constant },
-        None => Denoted::Unsettled,
+        None => Denoted::Faulty,
     }
 }
 

@@ -5,9 +5,9 @@ ghost use Rattle.std.specs.Option.{option_copied};
 ghost use Rattle.nddl_hierarchy.specs.Facts.{facts_of};
 ghost use Rattle.nddl_resolve.specs.Files.{declared_ask, declared_value, file_denoted, file_owner, root_by, root_value, sort_denoted, sort_owner, variable_type};
 
-use super::denoted::{Denoted, settled};
+use super::denoted::{Denoted, or_faulty};
 use super::fields::type_value;
-use super::steps::asked_by;
+use super::following::asked_by;
 use eu_name::text::Text;
 use nddl_ast::declaration::Decl;
 use nddl_ast::expression::Type;
@@ -76,9 +76,9 @@ fn declared_value(basis: &Basis<'_>, constant: bool, declared: &Declared) -> Den
     match decl_at(basis.decls, declared.place.decl) {
         Some(decl) => match variable_type(decl) {
             Some(written) => type_value(&basis.types, constant, written),
-            None => Denoted::Unsettled,
+            None => Denoted::Faulty,
         },
-        None => Denoted::Unsettled,
+        None => Denoted::Faulty,
     }
 }
 
@@ -98,9 +98,9 @@ fn root_value(alloc: Global, basis: &Basis<'_>, declared: &Declared) -> Result<D
     match decl_at(basis.decls, declared.place.decl) {
         Some(decl) => match declared_ask(decl) {
             Some(ask) => root_by(alloc, basis, &ask.path),
-            None => Ok(Denoted::Unsettled),
+            None => Ok(Denoted::Faulty),
         },
-        None => Ok(Denoted::Unsettled),
+        None => Ok(Denoted::Faulty),
     }
 }
 
@@ -118,8 +118,8 @@ fn root_by(alloc: Global, basis: &Basis<'_>, path: &Path) -> Result<Denoted, All
     ensures { IfOk result (λ denoted. denoted ≡ root_by (facts_of basis.now) path.now) }
 {
     match file_owner(basis, &path.first.text) {
-        Some(owner) => Ok(settled(asked_by(alloc, basis, owner, path)?)),
-        None => Ok(Denoted::Unsettled),
+        Some(owner) => Ok(or_faulty(asked_by(alloc, basis, owner, path)?)),
+        None => Ok(Denoted::Faulty),
     }
 }
 

@@ -8,10 +8,10 @@
 pub mod denoted;
 pub mod fields;
 pub mod files;
+pub mod following;
 pub mod paths;
 pub mod predicates;
 pub mod seen;
-pub mod steps;
 
 pub use denoted::{Around, Denoted, PathFault, Predicate, Seen, TokenSort};
 pub use paths::{asked_token, expr_denoted, path_denoted};

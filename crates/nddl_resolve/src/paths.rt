@@ -7,9 +7,9 @@ ghost use Rattle.nddl_resolve.specs.Seen.{seen_in};
 
 use super::denoted::{Around, Denoted, PathFault};
 use super::files::file_denoted;
+use super::following::{asked_by, rest_denoted, unknown_at};
 use super::predicates::token_part;
 use super::seen::SeenNames;
-use super::steps::{asked_by, path_steps, unknown_at};
 use eu_name::text::Text;
 use nddl_ast::TextKind;
 use nddl_ast::expression::{Constant, Expr, Literal};
@@ -66,7 +66,7 @@ pub fn path_denoted(
 {
     let first = path.first.at;
     match first_denoted(alloc, basis, around, &path.first.text)? {
-        Some(begin) => path_steps(alloc, basis, first, begin, path.rest.as_slice()),
+        Some(begin) => rest_denoted(alloc, basis, first, begin, path.rest.as_slice()),
         None => Ok(unknown_at(first)),
     }
 }

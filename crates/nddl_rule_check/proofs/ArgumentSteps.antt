@@ -13,7 +13,7 @@ use Rattle.nddl_resolve.specs.declared.denoted.Denoted.{Denoted}
 use Rattle.nddl_ast.specs.declared.name.Name.{Name}
 use Rattle.nddl_ast.specs.declared.name.Path.{Path}
 use Rattle.nddl_resolve.specs.Paths.{Surroundings, path_denoted}
-use Rattle.nddl_resolve.specs.Steps.{Understood}
+use Rattle.nddl_resolve.specs.Following.{Understood}
 use Rattle.nddl_rule_check.specs.Calls.{no_act_faults}
 use Rattle.nddl_rule_check.specs.declared.asked.Asked.{Asked}
 use Rattle.nddl_rule_check.specs.Arguments.{argument_faults, arguments_faults, meant_by}

@@ -21,7 +21,7 @@ use Rattle.nddl_symbols.proofs.Earliest.{earliest_append}
 use Rattle.nddl_hierarchy.specs.Facts.{Facts}
 use Rattle.nddl_resolve.specs.Paths.{Surroundings}
 use Rattle.nddl_resolve.specs.declared.denoted.Denoted.{Denoted}
-use Rattle.nddl_resolve.specs.Steps.{Understood, settled}
+use Rattle.nddl_resolve.specs.Following.{Understood, or_faulty}
 use Rattle.nddl_rule_check.specs.Arguments.{condition_faults, init_faults}
 use Rattle.nddl_rule_check.specs.Calls.{rule_call_faults}
 use Rattle.nddl_rule_check.specs.Slots.{ask_faults, labelled_slot}
@@ -283,12 +283,12 @@ slot_step facts decl around lent own ask one two three (Ok done) lent_is ask_is 
 
 -- the label is seen
 pub slot_seen : {X E : Type 0} (facts : Facts) (around lent next : Surroundings) (ask : Ask) (found : Understood) (meant : Denoted) (result : Result X E)
-    → lent ≡ around → found ≡ labelled_slot facts lent ask.path → meant ≡ settled found
+    → lent ≡ around → found ≡ labelled_slot facts lent ask.path → meant ≡ or_faulty found
     → OnOk result (next ≡ seeing_label around ask.label meant) → OnOk result (next ≡ seeing_label around ask.label (slot_value facts around ask))
 slot_seen facts around lent next ask found meant (Err e) lent_is found_is meant_is next_is = tt
 slot_seen facts around lent next ask found meant (Ok done) lent_is found_is meant_is next_is =
     next_is ∙ ap (seeing_label around ask.label)
-    (meant_is ∙ ap settled (found_is ∙ ap (λ a. labelled_slot facts a ask.path) lent_is))
+    (meant_is ∙ ap or_faulty (found_is ∙ ap (λ a. labelled_slot facts a ask.path) lent_is))
 
 -- an `if` before other statements
 pub tested_on : {X E : Type 0} (facts : Facts) (decl : ℕ) (around lent next last : Surroundings) (own : Noted) (at : ℕ) (condition : Condition)

@@ -19,7 +19,7 @@ use Rattle.nddl_typeexpr.specs.Bases.{base_kind}
 use Rattle.nddl_hierarchy.specs.Facts.{Facts}
 use Rattle.nddl_resolve.specs.declared.denoted.Denoted.{Denoted}
 use Rattle.nddl_resolve.specs.Paths.{Surroundings, expr_denoted}
-use Rattle.nddl_resolve.specs.Steps.{Understood, settled}
+use Rattle.nddl_resolve.specs.Following.{Understood, or_faulty}
 use Rattle.nddl_rule_check.specs.declared.asked.Asked.{Asked}
 use Rattle.nddl_rule_check.specs.declared.asked.Asked.TheVariants as asked
 use Rattle.nddl_rule_check.specs.Constraints.{asked_at, takes}
@@ -32,7 +32,7 @@ understood_faults decl (Err fault) = faults_here decl fault.at (Some fault.kind)
 
 -- what an argument means for others, who say nothing of its faults
 abbrev pub meant_by : Facts → Surroundings → Expr → Denoted
-meant_by facts around expr = settled (expr_denoted facts around expr)
+meant_by facts around expr = or_faulty (expr_denoted facts around expr)
 
 -- What is wrong with an argument of which this is asked, where those that are compared before it are of this kind: what is
 -- wrong with it by itself, and that it isn't what is asked for.

@@ -18,7 +18,7 @@ use Rattle.nddl_resolve.specs.declared.denoted.Denoted.{Denoted}
 use Rattle.nddl_resolve.specs.declared.denoted.Denoted.TheVariants as denoted
 use Rattle.nddl_resolve.specs.Fields.{type_value}
 use Rattle.nddl_resolve.specs.Paths.{Surroundings}
-use Rattle.nddl_resolve.specs.Steps.{settled}
+use Rattle.nddl_resolve.specs.Following.{or_faulty}
 use Rattle.nddl_rule_check.specs.Arguments.{condition_faults, init_faults}
 use Rattle.nddl_rule_check.specs.Calls.{rule_call_faults}
 use Rattle.nddl_rule_check.specs.Slots.{ask_faults, labelled_slot}
@@ -42,7 +42,7 @@ slot_faults facts around decl own ask = ask_faults facts around decl ask ++ repe
 
 -- what the label means behind it
 abbrev pub slot_value : Facts → Surroundings → Ask → Denoted
-slot_value facts around ask = settled (labelled_slot facts around ask.path)
+slot_value facts around ask = or_faulty (labelled_slot facts around ask.path)
 
 -- what is wrong with the class of a `foreach`
 abbrev pub turn_faults : Facts → ℕ → Name → List Fault
@@ -52,7 +52,7 @@ turn_faults facts decl class =
 -- an object of this class, if there is nothing wrong with it
 abbrev pub object_unless : Option Meaning → Bool → Denoted
 object_unless (Some class) false = denoted.Value (kinds.Object class) true
-object_unless meaning is_wrong = denoted.Unsettled
+object_unless meaning is_wrong = denoted.Faulty
 
 -- what the variable of a `foreach` over this class means: an object that is known in each turn
 abbrev pub turn_value : Facts → Name → Denoted

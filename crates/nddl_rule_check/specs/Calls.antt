@@ -10,7 +10,7 @@ use Rattle.nddl_symbols.specs.Finding.{faults_here}
 use Rattle.nddl_ast.specs.Path.{last_name, path_before}
 use Rattle.nddl_hierarchy.specs.Facts.{Facts}
 use Rattle.nddl_resolve.specs.Paths.{Surroundings, path_denoted}
-use Rattle.nddl_resolve.specs.Steps.{Understood}
+use Rattle.nddl_resolve.specs.Following.{Understood}
 use Rattle.nddl_rule_check.specs.Arguments.{constraint_faults}
 use Rattle.nddl_rule_check.specs.Constraints.{constraint_named, relation_named}
 use Rattle.nddl_rule_check.specs.Slots.{relation_faults}

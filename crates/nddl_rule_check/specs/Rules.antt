@@ -21,7 +21,7 @@ use Rattle.nddl_resolve.specs.declared.denoted.Denoted.TheVariants as denoted
 use Rattle.nddl_resolve.specs.declared.denoted.Predicate.TheVariants as predicates
 use Rattle.nddl_resolve.specs.declared.denoted.TokenSort.{TokenSort}
 use Rattle.nddl_resolve.specs.Paths.{Surroundings}
-use Rattle.nddl_resolve.specs.Steps.{Understood, named_token}
+use Rattle.nddl_resolve.specs.Following.{Understood, named_token}
 use Rattle.nddl_rule_check.specs.Calls.{body_call_faults}
 use Rattle.nddl_rule_check.specs.Blocks.{block_faults}
 use Rattle.nddl_rule_check.specs.Seeing.{token_alone}
@@ -31,7 +31,7 @@ use Rattle.nddl_rule_check.specs.Seeing.{token_alone}
 -- a token of the predicate of this name of the class that this means
 abbrev pub token_named : Facts → Name → Option Meaning → Understood
 token_named facts predicate (Some class) = named_token facts class predicate
-token_named facts predicate None = Ok denoted.Unsettled
+token_named facts predicate None = Ok denoted.Faulty
 
 -- the same, unless this is wrong with the class
 abbrev pub token_unless : Facts → Name → Name → Option Meaning → Option TextKind → Understood

@@ -23,7 +23,7 @@ kind_of_value other = None
 abbrev pub is_unfit_value : Option TypeKind → Denoted → Bool
 is_unfit_value None (denoted.Value kind constant) = false
 is_unfit_value (Some wanted) (denoted.Value kind constant) = not (are_one_kind wanted kind)
-is_unfit_value wanted denoted.Unsettled = false
+is_unfit_value wanted denoted.Faulty = false
 is_unfit_value wanted other = true
 
 abbrev pub is_factor_constant : Constant → Bool

@@ -12,8 +12,8 @@ use domain_core::kind::Kind;
 use nddl_ast::TextKind;
 use nddl_ast::expression::{Expr, Init, Type};
 use nddl_ast::statement::Condition;
-use nddl_hierarchy::Basis;
-use nddl_resolve::denoted::settled;
+use nddl_hierarchy::{Basis, Spot};
+use nddl_resolve::denoted::or_faulty;
 use nddl_resolve::{Around, Denoted, PathFault, expr_denoted};
 use nddl_symbols::{Fault, kind_if, note_at};
 use nddl_typeexpr::TypeKind;
@@ -34,25 +34,24 @@ pub fn note_understood(decl: usize, found: Result<Denoted, PathFault>, first: &m
 #[tactic(auto, using(nddl_symbols::proofs::Earliest::earliest_append))]
 pub fn note_argument(
     alloc: Global,
-    basis: &Basis<'_>,
+    spot: &Spot<'_>,
     around: &Around<'_>,
-    decl: usize,
     asks: Asked,
     compared: Option<TypeKind>,
     expr: &Expr,
     first: &mut Option<Fault>,
 ) -> Result<Denoted, AllocError>
     ensures faults { OnOk result (first.new ≡ earliest_fault first.old
-        (argument_faults (facts_of basis.now) (around_of around.now) decl asks compared expr.now)) }
-    ensures meant { IfOk result (λ meant. meant ≡ meant_by (facts_of basis.now) (around_of around.now) expr.now) }
+        (argument_faults (facts_of spot.now.basis) (around_of around.now) spot.now.decl asks compared expr.now)) }
+    ensures meant { IfOk result (λ meant. meant ≡ meant_by (facts_of spot.now.basis) (around_of around.now) expr.now) }
 {
-    let found = expr_denoted(alloc, basis, around, expr)?;
-    note_understood(decl, found, first);
-    let meant = settled(found);
+    let found = expr_denoted(alloc, &spot.basis, around, expr)?;
+    note_understood(spot.decl, found, first);
+    let meant = or_faulty(found);
     let is_wrong = is_unfit(asks, compared, expr, meant);
     note_at(
         first,
-        decl,
+        spot.decl,
         expr.place(),
         kind_if(is_wrong, TextKind::WrongType),
     );
@@ -62,21 +61,20 @@ pub fn note_argument(
 /// Notes what is wrong with the arguments of a constraint whose name stands there.
 pub fn note_constraint(
     alloc: Global,
-    basis: &Basis<'_>,
+    spot: &Spot<'_>,
     around: &Around<'_>,
-    decl: usize,
     kind: Kind,
     at: u32,
     exprs: &[Expr],
     first: &mut Option<Fault>,
 ) -> Result<(), AllocError>
     ensures { OnOk result (first.new ≡ earliest_fault first.old
-        (constraint_faults (facts_of basis.now) (around_of around.now) decl kind at exprs.now)) }
+        (constraint_faults (facts_of spot.now.basis) (around_of around.now) spot.now.decl kind at exprs.now)) }
 {
     if takes(kind, exprs.len()) {
-        note_arguments(alloc, basis, around, decl, kind, exprs, first)
+        note_arguments(alloc, spot, around, kind, exprs, first)
     } else {
-        note_at(first, decl, at, Some(TextKind::WrongCount));
+        note_at(first, spot.decl, at, Some(TextKind::WrongCount));
         Ok(())
     }
 }
@@ -85,20 +83,19 @@ pub fn note_constraint(
 #[tactic(auto, using(nddl_symbols::proofs::Earliest::earliest_append))]
 fn note_arguments(
     alloc: Global,
-    basis: &Basis<'_>,
+    spot: &Spot<'_>,
     around: &Around<'_>,
-    decl: usize,
     kind: Kind,
     exprs: &[Expr],
     first: &mut Option<Fault>,
 ) -> Result<(), AllocError>
     ensures { OnOk result (first.new ≡ earliest_fault first.old
-        (arguments_faults (facts_of basis.now) (around_of around.now) decl kind 0 None exprs.now)) }
+        (arguments_faults (facts_of spot.now.basis) (around_of around.now) spot.now.decl kind 0 None exprs.now)) }
 {
     let mut compared = None;
     for (place, expr) in exprs.iter().enumerate() {
         let asks = asked_at(kind, place);
-        let meant = note_argument(alloc, basis, around, decl, asks, compared, expr, first)?;
+        let meant = note_argument(alloc, spot, around, asks, compared, expr, first)?;
         compared = compared_with(asks, compared, meant);
     }
     Ok(())
@@ -107,23 +104,22 @@ fn note_arguments(
 /// Notes what is wrong with what an `if` tests.
 pub fn note_condition(
     alloc: Global,
-    basis: &Basis<'_>,
+    spot: &Spot<'_>,
     around: &Around<'_>,
-    decl: usize,
     condition: &Condition,
     first: &mut Option<Fault>,
 ) -> Result<(), AllocError>
     ensures { OnOk result (first.new ≡ earliest_fault first.old
-        (condition_faults (facts_of basis.now) (around_of around.now) decl condition.now)) }
+        (condition_faults (facts_of spot.now.basis) (around_of around.now) spot.now.decl condition.now)) }
 {
     match condition {
         Condition::Truth(expr) => {
             let asks = Asked::Of(TypeKind::Bool);
-            note_argument(alloc, basis, around, decl, asks, None, expr, first)?;
+            note_argument(alloc, spot, around, asks, None, expr, first)?;
             Ok(())
         }
         Condition::Equal(one, other) | Condition::NotEqual(one, other) => {
-            note_compared(alloc, basis, around, decl, one, other, first)
+            note_compared(alloc, spot, around, one, other, first)
         }
     }
 }
@@ -132,45 +128,43 @@ pub fn note_condition(
 #[tactic(auto, using(nddl_symbols::proofs::Earliest::earliest_append))]
 fn note_compared(
     alloc: Global,
-    basis: &Basis<'_>,
+    spot: &Spot<'_>,
     around: &Around<'_>,
-    decl: usize,
     one: &Expr,
     other: &Expr,
     first: &mut Option<Fault>,
 ) -> Result<(), AllocError>
     ensures { OnOk result (first.new ≡ earliest_fault first.old
-        (compared_faults (facts_of basis.now) (around_of around.now) decl one.now other.now)) }
+        (compared_faults (facts_of spot.now.basis) (around_of around.now) spot.now.decl one.now other.now)) }
 {
     let asks = Asked::Compared;
-    let meant = note_argument(alloc, basis, around, decl, asks, None, one, first)?;
+    let meant = note_argument(alloc, spot, around, asks, None, one, first)?;
     let compared = compared_with(asks, None, meant);
-    note_argument(alloc, basis, around, decl, asks, compared, other, first)?;
+    note_argument(alloc, spot, around, asks, compared, other, first)?;
     Ok(())
 }
 
 /// Notes what is wrong with what a local variable of this type begins as.
 pub fn note_init(
     alloc: Global,
-    basis: &Basis<'_>,
+    spot: &Spot<'_>,
     around: &Around<'_>,
-    decl: usize,
     written: &Type,
     init: &Option<Init>,
     first: &mut Option<Fault>,
 ) -> Result<(), AllocError>
     ensures { OnOk result (first.new ≡ earliest_fault first.old
-        (init_faults (facts_of basis.now) (around_of around.now) decl written.now init.now)) }
+        (init_faults (facts_of spot.now.basis) (around_of around.now) spot.now.decl written.now init.now)) }
 {
     match init {
         None => Ok(()),
         Some(Init::New(creation)) => {
-            note_at(first, decl, creation.at, Some(TextKind::WrongType));
+            note_at(first, spot.decl, creation.at, Some(TextKind::WrongType));
             Ok(())
         }
         Some(Init::Expr(expr)) => {
-            let asks = asked_by_type(basis, written);
-            note_argument(alloc, basis, around, decl, asks, None, expr, first)?;
+            let asks = asked_by_type(&spot.basis, written);
+            note_argument(alloc, spot, around, asks, None, expr, first)?;
             Ok(())
         }
     }

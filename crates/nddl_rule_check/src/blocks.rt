@@ -17,9 +17,9 @@ use nddl_ast::TextKind;
 use nddl_ast::name::Name;
 use nddl_ast::statement::{Ask, Stmt, StmtBlock, Variable};
 use nddl_declarations::{class_fault, note_all_type_faults};
-use nddl_hierarchy::Basis;
+use nddl_hierarchy::Spot;
 use nddl_resolve::Denoted;
-use nddl_resolve::denoted::settled;
+use nddl_resolve::denoted::or_faulty;
 use nddl_resolve::fields::type_value;
 use nddl_symbols::repeats::note_repeated;
 use nddl_symbols::{Fault, Meaning, Scope, note_at};
@@ -31,22 +31,20 @@ use std::alloc::{AllocError, Global};
 #[cycle(judging)]
 pub fn note_block(
     alloc: Global,
-    basis: &Basis<'_>,
-    decl: usize,
+    spot: &Spot<'_>,
     block: &StmtBlock,
     visible: &mut Visible,
     first: &mut Option<Fault>,
 ) -> Result<(), AllocError>
     ensures faults { OnOk result (first.new ≡ earliest_fault first.old
-        (block_faults (facts_of basis.now) decl visible.old [] block.now.statements)) }
+        (block_faults (facts_of spot.now.basis) spot.now.decl visible.old [] block.now.statements)) }
     ensures seen { OnOk result (visible.new ≡ visible.old) }
 {
     let until = visible.until();
     let mut own = NameIndex::new(alloc);
     note_stmts(
         alloc,
-        basis,
-        decl,
+        spot,
         block.stmts.as_slice(),
         visible,
         &mut own,
@@ -59,19 +57,18 @@ pub fn note_block(
 #[cycle(judging)]
 fn note_stmts(
     alloc: Global,
-    basis: &Basis<'_>,
-    decl: usize,
+    spot: &Spot<'_>,
     stmts: &[Stmt],
     visible: &mut Visible,
     own: &mut NameIndex,
     first: &mut Option<Fault>,
 ) -> Result<(), AllocError>
     ensures faults { OnOk result (first.new ≡ earliest_fault first.old
-        (block_faults (facts_of basis.now) decl visible.old own.old (statements_of stmts.now))) }
+        (block_faults (facts_of spot.now.basis) spot.now.decl visible.old own.old (statements_of stmts.now))) }
     ensures seen { OnOk result (SeesMore visible.old visible.new) }
 {
     for stmt in stmts {
-        note_stmt(alloc, basis, decl, stmt, visible, own, first)?;
+        note_stmt(alloc, spot, stmt, visible, own, first)?;
     }
     Ok(())
 }
@@ -81,56 +78,56 @@ fn note_stmts(
 #[cycle(judging)]
 fn note_stmt(
     alloc: Global,
-    basis: &Basis<'_>,
-    decl: usize,
+    spot: &Spot<'_>,
     stmt: &Stmt,
     visible: &mut Visible,
     own: &mut NameIndex,
     first: &mut Option<Fault>,
 ) -> Result<(), AllocError>
     ensures faults { OnOk result ((more : Statements)
-        → earliest_fault first.new (block_faults (facts_of basis.now) decl visible.new own.new more)
-        ≡ earliest_fault first.old (block_faults (facts_of basis.now) decl visible.old own.old (with_statement stmt.now more))) }
+        → earliest_fault first.new (block_faults (facts_of spot.now.basis) spot.now.decl visible.new own.new more)
+        ≡ earliest_fault first.old
+        (block_faults (facts_of spot.now.basis) spot.now.decl visible.old own.old (with_statement stmt.now more))) }
     ensures seen { OnOk result (SeesMore visible.old visible.new) }
 {
     match stmt {
-        Stmt::Variable(variable) => note_local(alloc, basis, decl, variable, visible, own, first),
-        Stmt::Call(call) => note_rule_call(alloc, basis, &visible.around(), decl, call, first),
-        Stmt::Ask(ask) => note_slot(alloc, basis, decl, ask, visible, own, first),
+        Stmt::Variable(variable) => note_local(alloc, spot, variable, visible, own, first),
+        Stmt::Call(call) => note_rule_call(alloc, spot, &visible.around(), call, first),
+        Stmt::Ask(ask) => note_slot(alloc, spot, ask, visible, own, first),
         Stmt::If {
             condition,
             then,
             otherwise,
             ..
         } => {
-            note_condition(alloc, basis, &visible.around(), decl, condition, first)?;
-            note_block(alloc, basis, decl, then, visible, first)?;
-            note_otherwise(alloc, basis, decl, otherwise, visible, first)
+            note_condition(alloc, spot, &visible.around(), condition, first)?;
+            note_block(alloc, spot, then, visible, first)?;
+            note_otherwise(alloc, spot, otherwise, visible, first)
         }
         Stmt::Foreach {
             variable,
             class,
             body,
             ..
-        } => note_turns(alloc, basis, decl, variable, class, body, visible, first),
+        } => note_turns(alloc, spot, variable, class, body, visible, first),
     }
 }
 
 #[cycle(judging)]
 fn note_otherwise(
     alloc: Global,
-    basis: &Basis<'_>,
-    decl: usize,
+    spot: &Spot<'_>,
     otherwise: &Option<StmtBlock>,
     visible: &mut Visible,
     first: &mut Option<Fault>,
 ) -> Result<(), AllocError>
     ensures faults { OnOk result (first.new ≡ earliest_fault first.old
-        (option_map_or (λ block. block_faults (facts_of basis.now) decl visible.old [] block.statements) otherwise.now [])) }
+        (option_map_or (λ block. block_faults (facts_of spot.now.basis) spot.now.decl visible.old [] block.statements)
+        otherwise.now [])) }
     ensures seen { OnOk result (visible.new ≡ visible.old) }
 {
     match otherwise {
-        Some(block) => note_block(alloc, basis, decl, block, visible, first),
+        Some(block) => note_block(alloc, spot, block, visible, first),
         None => Ok(()),
     }
 }
@@ -140,8 +137,7 @@ fn note_otherwise(
 #[cycle(judging)]
 fn note_turns(
     alloc: Global,
-    basis: &Basis<'_>,
-    decl: usize,
+    spot: &Spot<'_>,
     variable: &Name,
     class: &Name,
     body: &StmtBlock,
@@ -149,26 +145,28 @@ fn note_turns(
     first: &mut Option<Fault>,
 ) -> Result<(), AllocError>
     ensures faults { OnOk result (first.new ≡ earliest_fault first.old
-        (turn_faults (facts_of basis.now) decl class.now
-        ++ block_faults (facts_of basis.now) decl
-        (seeing_turn visible.old variable.now (turn_value (facts_of basis.now) class.now)) [] body.now.statements)) }
+        (turn_faults (facts_of spot.now.basis) spot.now.decl class.now
+        ++ block_faults (facts_of spot.now.basis) spot.now.decl
+        (seeing_turn visible.old variable.now (turn_value (facts_of spot.now.basis) class.now)) []
+        body.now.statements)) }
     ensures seen { OnOk result (visible.new ≡ visible.old) }
 {
     let until = visible.until();
-    let turn = note_class(basis, decl, class, first);
+    let turn = note_class(spot, class, first);
     visible.see_turn(variable, turn)?;
-    note_block(alloc, basis, decl, body, visible, first)?;
+    note_block(alloc, spot, body, visible, first)?;
     visible.forget(until)
 }
 
 // Notes what is wrong with the class of a `foreach`. Answers what its variable means.
-fn note_class(basis: &Basis<'_>, decl: usize, class: &Name, first: &mut Option<Fault>) -> Denoted
-    ensures faults { first.new ≡ earliest_fault first.old (turn_faults (facts_of basis.now) decl class.now) }
-    ensures meant { result ≡ turn_value (facts_of basis.now) class.now }
+fn note_class(spot: &Spot<'_>, class: &Name, first: &mut Option<Fault>) -> Denoted
+    ensures faults { first.new ≡ earliest_fault first.old
+        (turn_faults (facts_of spot.now.basis) spot.now.decl class.now) }
+    ensures meant { result ≡ turn_value (facts_of spot.now.basis) class.now }
 {
-    let meaning = basis.types.scope.meaning(&class.text);
-    let kind = class_fault(basis.types.scope, meaning);
-    note_at(first, decl, class.at, kind);
+    let meaning = spot.basis.types.scope.meaning(&class.text);
+    let kind = class_fault(spot.basis.types.scope, meaning);
+    note_at(first, spot.decl, class.at, kind);
     object_unless(meaning, kind.is_some())
 }
 
@@ -181,7 +179,7 @@ fn object_unless(meaning: Option<Meaning>, is_wrong: bool) -> Denoted
             kind: TypeKind::Object(class),
             constant: true,
         },
-        _ => Denoted::Unsettled,
+        _ => Denoted::Faulty,
     }
 }
 
@@ -189,31 +187,29 @@ fn object_unless(meaning: Option<Meaning>, is_wrong: bool) -> Denoted
 #[tactic(auto, using(crate::proofs::Steps::local_step))]
 fn note_local(
     alloc: Global,
-    basis: &Basis<'_>,
-    decl: usize,
+    spot: &Spot<'_>,
     variable: &Variable,
     visible: &mut Visible,
     own: &mut NameIndex,
     first: &mut Option<Fault>,
 ) -> Result<(), AllocError>
     ensures faults { OnOk result (first.new ≡ earliest_fault first.old
-        (local_faults (facts_of basis.now) visible.old decl own.old variable.now)) }
+        (local_faults (facts_of spot.now.basis) visible.old spot.now.decl own.old variable.now)) }
     ensures seen { OnOk result (visible.new
-        ≡ seeing_local visible.old variable.now.name (local_value (facts_of basis.now) variable.now)) }
+        ≡ seeing_local visible.old variable.now.name (local_value (facts_of spot.now.basis) variable.now)) }
     ensures noted { OnOk result (own.new ≡ with_noted own.old variable.now.name.text 0) }
 {
-    note_all_type_faults(alloc, basis, decl, &variable.declared, first)?;
-    note_repeated(own, decl, &variable.name, first)?;
+    note_all_type_faults(alloc, &spot.basis, spot.decl, &variable.declared, first)?;
+    note_repeated(own, spot.decl, &variable.name, first)?;
     note_init(
         alloc,
-        basis,
+        spot,
         &visible.around(),
-        decl,
         &variable.declared,
         &variable.init,
         first,
     )?;
-    let meant = type_value(&basis.types, false, &variable.declared);
+    let meant = type_value(&spot.basis.types, false, &variable.declared);
     visible.see_local(&variable.name, meant)
 }
 
@@ -221,21 +217,20 @@ fn note_local(
 #[tactic(auto, using(crate::proofs::Steps::slot_step, crate::proofs::Steps::slot_seen))]
 fn note_slot(
     alloc: Global,
-    basis: &Basis<'_>,
-    decl: usize,
+    spot: &Spot<'_>,
     ask: &Ask,
     visible: &mut Visible,
     own: &mut NameIndex,
     first: &mut Option<Fault>,
 ) -> Result<(), AllocError>
     ensures faults { OnOk result (first.new ≡ earliest_fault first.old
-        (slot_faults (facts_of basis.now) visible.old decl own.old ask.now)) }
+        (slot_faults (facts_of spot.now.basis) visible.old spot.now.decl own.old ask.now)) }
     ensures seen { OnOk result (visible.new
-        ≡ seeing_label visible.old ask.now.label (slot_value (facts_of basis.now) visible.old ask.now)) }
+        ≡ seeing_label visible.old ask.now.label (slot_value (facts_of spot.now.basis) visible.old ask.now)) }
     ensures noted { OnOk result (own.new ≡ with_noted own.old ask.now.label.text 0) }
 {
-    note_ask(alloc, basis, &visible.around(), decl, ask, first)?;
-    note_repeated(own, decl, &ask.label, first)?;
-    let found = labelled_slot(alloc, basis, &visible.around(), &ask.path)?;
-    visible.see_label(&ask.label, settled(found))
+    note_ask(alloc, spot, &visible.around(), ask, first)?;
+    note_repeated(own, spot.decl, &ask.label, first)?;
+    let found = labelled_slot(alloc, &spot.basis, &visible.around(), &ask.path)?;
+    visible.see_label(&ask.label, or_faulty(found))
 }

@@ -14,7 +14,7 @@ use nddl_ast::expression::Expr;
 use nddl_ast::name::{Name, Path};
 use nddl_ast::statement::Call;
 use nddl_ast::{TextKind, front, last};
-use nddl_hierarchy::Basis;
+use nddl_hierarchy::Spot;
 use nddl_resolve::{Around, Denoted, PathFault, path_denoted};
 use nddl_symbols::{Fault, note_at};
 use std::alloc::{AllocError, Global};
@@ -22,111 +22,73 @@ use std::alloc::{AllocError, Global};
 /// Notes what is wrong with a call in a rule: a constraint or a relation.
 pub fn note_rule_call(
     alloc: Global,
-    basis: &Basis<'_>,
+    spot: &Spot<'_>,
     around: &Around<'_>,
-    decl: usize,
     call: &Call,
     first: &mut Option<Fault>,
 ) -> Result<(), AllocError>
     ensures { OnOk result (first.new ≡ earliest_fault first.old
-        (rule_call_faults (facts_of basis.now) (around_of around.now) decl call.now)) }
+        (rule_call_faults (facts_of spot.now.basis) (around_of around.now) spot.now.decl call.now)) }
 {
     let name = &call.path.first;
     match front(&call.path) {
-        Some(names) => note_act(
-            alloc,
-            basis,
-            around,
-            decl,
-            name,
-            names,
-            last(&call.path),
-            first,
-        ),
-        None => note_named(
-            alloc,
-            basis,
-            around,
-            decl,
-            name,
-            call.arguments.as_slice(),
-            first,
-        ),
+        Some(names) => note_act(alloc, spot, around, name, names, last(&call.path), first),
+        None => note_named(alloc, spot, around, name, call.arguments.as_slice(), first),
     }
 }
 
 /// Notes what is wrong with a call in the body of a predicate, which has no relations.
 pub fn note_body_call(
     alloc: Global,
-    basis: &Basis<'_>,
+    spot: &Spot<'_>,
     around: &Around<'_>,
-    decl: usize,
     call: &Call,
     first: &mut Option<Fault>,
 ) -> Result<(), AllocError>
     ensures { OnOk result (first.new ≡ earliest_fault first.old
-        (body_call_faults (facts_of basis.now) (around_of around.now) decl call.now)) }
+        (body_call_faults (facts_of spot.now.basis) (around_of around.now) spot.now.decl call.now)) }
 {
     let name = &call.path.first;
     match front(&call.path) {
-        Some(names) => note_act(
-            alloc,
-            basis,
-            around,
-            decl,
-            name,
-            names,
-            last(&call.path),
-            first,
-        ),
-        None => note_constraint_call(
-            alloc,
-            basis,
-            around,
-            decl,
-            name,
-            call.arguments.as_slice(),
-            first,
-        ),
+        Some(names) => note_act(alloc, spot, around, name, names, last(&call.path), first),
+        None => note_constraint_call(alloc, spot, around, name, call.arguments.as_slice(), first),
     }
 }
 
 // Notes what is wrong with a call of this name in a rule.
 fn note_named(
     alloc: Global,
-    basis: &Basis<'_>,
+    spot: &Spot<'_>,
     around: &Around<'_>,
-    decl: usize,
     name: &Name,
     exprs: &[Expr],
     first: &mut Option<Fault>,
 ) -> Result<(), AllocError>
     ensures { OnOk result (first.new ≡ earliest_fault first.old
-        (named_call_faults (facts_of basis.now) (around_of around.now) decl name.now exprs.now)) }
+        (named_call_faults (facts_of spot.now.basis) (around_of around.now) spot.now.decl name.now exprs.now)) }
 {
     match relation_named(&name.text) {
-        Some(_) => note_relation(alloc, basis, around, decl, name.at, exprs, first),
-        None => note_constraint_call(alloc, basis, around, decl, name, exprs, first),
+        Some(_) => note_relation(alloc, spot, around, name.at, exprs, first),
+        None => note_constraint_call(alloc, spot, around, name, exprs, first),
     }
 }
 
 // Notes what is wrong with a constraint of this name, or with the name.
 fn note_constraint_call(
     alloc: Global,
-    basis: &Basis<'_>,
+    spot: &Spot<'_>,
     around: &Around<'_>,
-    decl: usize,
     name: &Name,
     exprs: &[Expr],
     first: &mut Option<Fault>,
 ) -> Result<(), AllocError>
     ensures { OnOk result (first.new ≡ earliest_fault first.old
-        (constraint_call_faults (facts_of basis.now) (around_of around.now) decl name.now exprs.now)) }
+        (constraint_call_faults (facts_of spot.now.basis) (around_of around.now) spot.now.decl name.now exprs.now)) }
 {
     match constraint_named(&name.text) {
-        Some(kind) => note_constraint(alloc, basis, around, decl, kind, name.at, exprs, first),
+        Some(kind) => note_constraint(alloc, spot, around, kind, name.at, exprs, first),
         None => {
-            note_at(first, decl, name.at, Some(TextKind::Unknown));
+            note_at(first, spot.decl, name.at, Some(TextKind::Unknown));
             Ok(())
         }
     }
@@ -135,21 +97,21 @@ fn note_constraint_call(
 // Notes what is wrong with an act behind these names.
 fn note_act(
     alloc: Global,
-    basis: &Basis<'_>,
+    spot: &Spot<'_>,
     around: &Around<'_>,
-    decl: usize,
     name: &Name,
     names: &[Name],
     act: &Name,
     first: &mut Option<Fault>,
 ) -> Result<(), AllocError>
     ensures { OnOk result (first.new ≡ earliest_fault first.old
-        (no_act_faults decl act.now
-        (path_denoted (facts_of basis.now) (around_of around.now) (record { first = name.now; rest = names.now })))) }
+        (no_act_faults spot.now.decl act.now
+        (path_denoted (facts_of spot.now.basis) (around_of around.now)
+        (record { first = name.now; rest = names.now })))) }
 {
     let front = path_of(alloc, name, names)?;
-    let found = path_denoted(alloc, basis, around, &front)?;
-    note_no_act(decl, act, found, first);
+    let found = path_denoted(alloc, &spot.basis, around, &front)?;
+    note_no_act(spot.decl, act, found, first);
     Ok(())
 }
 

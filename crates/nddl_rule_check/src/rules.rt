@@ -15,8 +15,8 @@ use nddl_ast::declaration::{Decl, Member, PredicatePart};
 use nddl_ast::name::Name;
 use nddl_ast::statement::StmtBlock;
 use nddl_declarations::class_fault;
-use nddl_hierarchy::Basis;
-use nddl_resolve::steps::token_step;
+use nddl_hierarchy::{Basis, Spot};
+use nddl_resolve::following::token_denoted;
 use nddl_resolve::{Denoted, PathFault, Predicate, TokenSort};
 use nddl_symbols::{Fault, Meaning, note_at};
 use std::alloc::{AllocError, Global};
@@ -58,15 +58,19 @@ fn note_decl_rules(
 ) -> Result<(), AllocError>
     ensures { OnOk result (first.new ≡ earliest_fault first.old (decl_rule_faults (facts_of basis.now) number decl.now)) }
 {
+    let spot = Spot {
+        basis: *basis,
+        decl: number,
+    };
     match decl {
         Decl::Rule {
             class,
             predicate,
             body,
-        } => note_rule(alloc, basis, number, class, predicate, body, first),
+        } => note_rule(alloc, &spot, class, predicate, body, first),
         Decl::Class { name, members, .. } => {
             let meaning = basis.types.scope.meaning(&name.text);
-            note_class_rules(alloc, basis, number, members.as_slice(), meaning, first)
+            note_class_rules(alloc, &spot, members.as_slice(), meaning, first)
         }
         _ => Ok(()),
     }
@@ -75,40 +79,38 @@ fn note_decl_rules(
 // Notes what is wrong with a rule.
 fn note_rule(
     alloc: Global,
-    basis: &Basis<'_>,
-    decl: usize,
+    spot: &Spot<'_>,
     class: &Name,
     predicate: &Name,
     body: &StmtBlock,
     first: &mut Option<Fault>,
 ) -> Result<(), AllocError>
     ensures { OnOk result (first.new ≡ earliest_fault first.old
-        (rule_faults (facts_of basis.now) decl class.now predicate.now body.now)) }
+        (rule_faults (facts_of spot.now.basis) spot.now.decl class.now predicate.now body.now)) }
 {
-    let found = rule_token(alloc, basis, class, predicate)?;
-    note_token_rule(alloc, basis, decl, body, found, first)
+    let found = rule_token(alloc, &spot.basis, class, predicate)?;
+    note_token_rule(alloc, spot, body, found, first)
 }
 
 // Notes what is wrong with a rule of what is understood as its token.
 fn note_token_rule(
     alloc: Global,
-    basis: &Basis<'_>,
-    decl: usize,
+    spot: &Spot<'_>,
     body: &StmtBlock,
     found: Result<Denoted, PathFault>,
     first: &mut Option<Fault>,
 ) -> Result<(), AllocError>
     ensures { OnOk result (first.new ≡ earliest_fault first.old
-        (token_rule_faults (facts_of basis.now) decl body.now found)) }
+        (token_rule_faults (facts_of spot.now.basis) spot.now.decl body.now found)) }
 {
     match found {
         Err(fault) => {
-            note_at(first, decl, fault.at, Some(fault.kind));
+            note_at(first, spot.decl, fault.at, Some(fault.kind));
             Ok(())
         }
         Ok(Denoted::Token(token)) => {
             let mut visible = Visible::new(alloc, token);
-            note_block(alloc, basis, decl, body, &mut visible, first)
+            note_block(alloc, spot, body, &mut visible, first)
         }
         Ok(_) => Ok(()),
     }
@@ -141,25 +143,24 @@ fn token_of(
     ensures { IfOk result (λ found. found ≡ token_named (facts_of basis.now) predicate.now meaning) }
 {
     match meaning {
-        Some(class) => token_step(alloc, basis, at, Denoted::Class(class), predicate),
-        None => Ok(Ok(Denoted::Unsettled)),
+        Some(class) => token_denoted(alloc, basis, at, Denoted::Class(class), predicate),
+        None => Ok(Ok(Denoted::Faulty)),
     }
 }
 
 // Notes what is wrong with the constraints in the members of a class of which its name means this.
 fn note_class_rules(
     alloc: Global,
-    basis: &Basis<'_>,
-    decl: usize,
+    spot: &Spot<'_>,
     members: &[Member],
     meaning: Option<Meaning>,
     first: &mut Option<Fault>,
 ) -> Result<(), AllocError>
     ensures { OnOk result (first.new ≡ earliest_fault first.old
-        (class_rule_faults (facts_of basis.now) decl members.now meaning)) }
+        (class_rule_faults (facts_of spot.now.basis) spot.now.decl members.now meaning)) }
 {
     match meaning {
-        Some(Meaning::Entry(entry)) => note_members(alloc, basis, decl, entry, members, first),
+        Some(Meaning::Entry(entry)) => note_members(alloc, spot, entry, members, first),
         _ => Ok(()),
     }
 }
@@ -168,17 +169,16 @@ fn note_class_rules(
 #[tactic(auto, using(nddl_symbols::proofs::Earliest::earliest_append))]
 fn note_members(
     alloc: Global,
-    basis: &Basis<'_>,
-    decl: usize,
+    spot: &Spot<'_>,
     entry: usize,
     members: &[Member],
     first: &mut Option<Fault>,
 ) -> Result<(), AllocError>
     ensures { OnOk result (first.new ≡ earliest_fault first.old
-        (members_rule_faults (facts_of basis.now) decl entry 0 members.now)) }
+        (members_rule_faults (facts_of spot.now.basis) spot.now.decl entry 0 members.now)) }
 {
     for (place, member) in members.iter().enumerate() {
-        note_member(alloc, basis, decl, entry, place, member, first)?;
+        note_member(alloc, spot, entry, place, member, first)?;
     }
     Ok(())
 }
@@ -186,20 +186,19 @@ fn note_members(
 // Notes what is wrong with the constraints in the member of this place of a class.
 fn note_member(
     alloc: Global,
-    basis: &Basis<'_>,
-    decl: usize,
+    spot: &Spot<'_>,
     entry: usize,
     place: usize,
     member: &Member,
     first: &mut Option<Fault>,
 ) -> Result<(), AllocError>
     ensures { OnOk result (first.new ≡ earliest_fault first.old
-        (member_rule_faults (facts_of basis.now) decl entry place member.now)) }
+        (member_rule_faults (facts_of spot.now.basis) spot.now.decl entry place member.now)) }
 {
     match member {
         Member::Predicate { parts, .. } => {
             let token = member_token(entry, place);
-            note_body(alloc, basis, decl, token, parts.as_slice(), first)
+            note_body(alloc, spot, token, parts.as_slice(), first)
         }
         _ => Ok(()),
     }
@@ -208,17 +207,16 @@ fn note_member(
 // Notes what is wrong with the constraints in the body of the predicate of this token.
 fn note_body(
     alloc: Global,
-    basis: &Basis<'_>,
-    decl: usize,
+    spot: &Spot<'_>,
     token: TokenSort,
     parts: &[PredicatePart],
     first: &mut Option<Fault>,
 ) -> Result<(), AllocError>
     ensures { OnOk result (first.new ≡ earliest_fault first.old
-        (flat_map (part_rule_faults (facts_of basis.now) decl (token_alone token)) parts.now)) }
+        (flat_map (part_rule_faults (facts_of spot.now.basis) spot.now.decl (token_alone token)) parts.now)) }
 {
     let visible = Visible::new(alloc, token);
-    note_parts(alloc, basis, decl, parts, &visible, first)
+    note_parts(alloc, spot, parts, &visible, first)
 }
 
 // The token of the predicate that the class declares as its member of this place.
@@ -235,17 +233,16 @@ fn member_token(entry: usize, member: usize) -> TokenSort
 #[tactic(auto, using(nddl_symbols::proofs::Earliest::earliest_append))]
 fn note_parts(
     alloc: Global,
-    basis: &Basis<'_>,
-    decl: usize,
+    spot: &Spot<'_>,
     parts: &[PredicatePart],
     visible: &Visible,
     first: &mut Option<Fault>,
 ) -> Result<(), AllocError>
     ensures { OnOk result (first.new ≡ earliest_fault first.old
-        (flat_map (part_rule_faults (facts_of basis.now) decl visible.now) parts.now)) }
+        (flat_map (part_rule_faults (facts_of spot.now.basis) spot.now.decl visible.now) parts.now)) }
 {
     for part in parts {
-        note_part(alloc, basis, decl, part, visible, first)?;
+        note_part(alloc, spot, part, visible, first)?;
     }
     Ok(())
 }
@@ -253,21 +250,19 @@ fn note_parts(
 // Notes what is wrong with the part, but for parameters.
 fn note_part(
     alloc: Global,
-    basis: &Basis<'_>,
-    decl: usize,
+    spot: &Spot<'_>,
     part: &PredicatePart,
     visible: &Visible,
     first: &mut Option<Fault>,
 ) -> Result<(), AllocError>
     ensures { OnOk result (first.new ≡ earliest_fault first.old
-        (part_rule_faults (facts_of basis.now) decl visible.now part.now)) }
+        (part_rule_faults (facts_of spot.now.basis) spot.now.decl visible.now part.now)) }
 {
     match part {
         PredicatePart::Constraint(call) => note_body_call(
             alloc,
-            basis,
+            spot,
             &visible.around(),
-            decl,
             call,
             first,
         ),

@@ -14,8 +14,8 @@ use nddl_ast::TextKind;
 use nddl_ast::expression::Expr;
 use nddl_ast::name::{Name, Path};
 use nddl_ast::statement::Ask;
-use nddl_hierarchy::Basis;
-use nddl_resolve::steps::{token_step, unknown_at};
+use nddl_hierarchy::{Basis, Spot};
+use nddl_resolve::following::{token_denoted, unknown_at};
 use nddl_resolve::{
     Around, Denoted, PathFault, SeenNames, asked_token, expr_denoted, path_denoted,
 };
@@ -55,18 +55,17 @@ fn note_unwanted(decl: usize, at: u32, found: Result<Denoted, PathFault>, first:
 // Notes what is wrong with a name that has to be the label of a slot.
 fn note_label(
     alloc: Global,
-    basis: &Basis<'_>,
+    spot: &Spot<'_>,
     around: &Around<'_>,
-    decl: usize,
     path: &Path,
     first: &mut Option<Fault>,
 ) -> Result<(), AllocError>
     ensures { OnOk result (first.new ≡ earliest_fault first.old
-        (label_faults (facts_of basis.now) (around_of around.now) decl path.now)) }
+        (label_faults (facts_of spot.now.basis) (around_of around.now) spot.now.decl path.now)) }
 {
     if !is_label(around, &path.first.text) {
-        let found = path_denoted(alloc, basis, around, path)?;
-        note_unwanted(decl, path.first.at, found, first);
+        let found = path_denoted(alloc, &spot.basis, around, path)?;
+        note_unwanted(spot.decl, path.first.at, found, first);
     }
     Ok(())
 }
@@ -96,7 +95,7 @@ fn own_slot(
     ensures { IfOk result (λ found. found ≡ own_slot (facts_of basis.now) (around_of around.now) name.now) }
 {
     match around.token {
-        Some(token) => token_step(alloc, basis, name.at, Denoted::Class(token.class), name),
+        Some(token) => token_denoted(alloc, basis, name.at, Denoted::Class(token.class), name),
         None => Ok(unknown_at(name.at)),
     }
 }
@@ -104,21 +103,20 @@ fn own_slot(
 /// Notes what is wrong with a relation to a token that gets a label, but for the label.
 pub fn note_ask(
     alloc: Global,
-    basis: &Basis<'_>,
+    spot: &Spot<'_>,
     around: &Around<'_>,
-    decl: usize,
     ask: &Ask,
     first: &mut Option<Fault>,
 ) -> Result<(), AllocError>
     ensures { OnOk result (first.new ≡ earliest_fault first.old
-        (ask_faults (facts_of basis.now) (around_of around.now) decl ask.now)) }
+        (ask_faults (facts_of spot.now.basis) (around_of around.now) spot.now.decl ask.now)) }
 {
     match relation_named(&ask.word.text) {
         Some(_) => {
-            let found = labelled_slot(alloc, basis, around, &ask.path)?;
-            note_understood(decl, found, first);
+            let found = labelled_slot(alloc, &spot.basis, around, &ask.path)?;
+            note_understood(spot.decl, found, first);
         }
-        None => note_at(first, decl, ask.word.at, Some(TextKind::Unknown)),
+        None => note_at(first, spot.decl, ask.word.at, Some(TextKind::Unknown)),
     }
     Ok(())
 }
@@ -126,20 +124,19 @@ pub fn note_ask(
 /// Notes what is wrong with the arguments of a relation whose name stands there.
 pub fn note_relation(
     alloc: Global,
-    basis: &Basis<'_>,
+    spot: &Spot<'_>,
     around: &Around<'_>,
-    decl: usize,
     at: u32,
     exprs: &[Expr],
     first: &mut Option<Fault>,
 ) -> Result<(), AllocError>
     ensures { OnOk result (first.new ≡ earliest_fault first.old
-        (relation_faults (facts_of basis.now) (around_of around.now) decl at exprs.now)) }
+        (relation_faults (facts_of spot.now.basis) (around_of around.now) spot.now.decl at exprs.now)) }
 {
     match exprs {
-        [expr] => note_related(alloc, basis, around, decl, expr, first),
+        [expr] => note_related(alloc, spot, around, expr, first),
         _ => {
-            note_at(first, decl, at, Some(TextKind::WrongCount));
+            note_at(first, spot.decl, at, Some(TextKind::WrongCount));
             Ok(())
         }
     }
@@ -148,27 +145,26 @@ pub fn note_relation(
 // Notes what is wrong with the one argument of a relation.
 fn note_related(
     alloc: Global,
-    basis: &Basis<'_>,
+    spot: &Spot<'_>,
     around: &Around<'_>,
-    decl: usize,
     expr: &Expr,
     first: &mut Option<Fault>,
 ) -> Result<(), AllocError>
     ensures { OnOk result (first.new ≡ earliest_fault first.old
-        (related_faults (facts_of basis.now) (around_of around.now) decl expr.now)) }
+        (related_faults (facts_of spot.now.basis) (around_of around.now) spot.now.decl expr.now)) }
 {
     match expr {
         Expr::Path(path) => match path.rest.as_slice() {
-            [] => note_label(alloc, basis, around, decl, path, first),
+            [] => note_label(alloc, spot, around, path, first),
             _ => {
-                let found = asked_token(alloc, basis, around, path)?;
-                note_understood(decl, found, first);
+                let found = asked_token(alloc, &spot.basis, around, path)?;
+                note_understood(spot.decl, found, first);
                 Ok(())
             }
         },
         Expr::Literal(literal) => {
-            let found = expr_denoted(alloc, basis, around, expr)?;
-            note_unwanted(decl, literal.at, found, first);
+            let found = expr_denoted(alloc, &spot.basis, around, expr)?;
+            note_unwanted(spot.decl, literal.at, found, first);
             Ok(())
         }
     }

@@ -26,7 +26,7 @@ fn is_unfit_value(wanted: Option<TypeKind>, meant: Denoted) -> bool
     match (wanted, meant) {
         (None, Denoted::Value { .. }) => false,
         (Some(wanted), Denoted::Value { kind, .. }) => !are_one_kind(wanted, kind),
-        (_, Denoted::Unsettled) => false,
+        (_, Denoted::Faulty) => false,
         (_, Denoted::Token(_) | Denoted::Class(_)) => true,
     }
 }

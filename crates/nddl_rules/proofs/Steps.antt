@@ -92,21 +92,20 @@ call_on sources sight tally on old new call (Ok done) read counted = λ more. re
 }
 
 -- a `foreach`
-pub turns_on : {X E : Type 0} (sources : NameSources) (sight next : Sight) (tally on : Tally) (old new : List ReadName)
+pub turns_on : {X E : Type 0} (sources : NameSources) (sight next : Sight) (tally on : Tally) (old mid new : List ReadName)
     (at : ℕ) (variable class : Name) (body : Braces) (result : Result X E)
-    → OnOk result (new ≡ old ++ (scope_read sources.scope class
-    ++ block_names sources (with_turn sight variable.text tally.turns) (turn_more tally) body.statements))
+    → mid ≡ old ++ scope_read sources.scope class
+    → OnOk result (new ≡ mid ++ block_names sources (with_turn sight variable.text tally.turns) (turn_more tally) body.statements)
     → OnOk result (on ≡ tallied (turn_more tally) body.statements) → OnOk result (next ≡ sight)
     → OnOk result ((more : Statements)
     → ReadsTo sources sight next tally on old new (with_statement (stmts.Foreach at variable class body) more) more)
-turns_on sources sight next tally on old new at variable class body (Err e) read counted seen = tt
-turns_on sources sight next tally on old new at variable class body (Ok done) read counted seen = λ more.
+turns_on sources sight next tally on old mid new at variable class body (Err e) class_read read counted seen = tt
+turns_on sources sight next tally on old mid new at variable class body (Ok done) class_read read counted seen = λ more.
     let inside = block_names sources (with_turn sight variable.text tally.turns) (turn_more tally) body.statements in
     let behind = block_names sources sight (tallied (turn_more tally) body.statements) more in
     record {
-      names_are = one_on old new (scope_read sources.scope class ++ inside) (block_names sources next on more) behind read
-          (ap (λ s. block_names sources s on more) seen ∙ ap (λ t. block_names sources sight t more) counted)
-          ∙ ap (λ names. old ++ names) (append_assoc (scope_read sources.scope class) inside behind);
+      names_are = two_on old mid new (scope_read sources.scope class) inside (block_names sources next on more) behind class_read read
+          (ap (λ s. block_names sources s on more) seen ∙ ap (λ t. block_names sources sight t more) counted);
       tally_is = ap (λ t. tallied t more) counted;
       sees = subst (SeesFurther sight) (sym seen) (further_same sight);
     }
@@ -188,18 +187,14 @@ reads_step sources first sight next start tally on begin old new some i stmt wit
 
 -- ---- parts of a `foreach`
 
-pub turn_names : (sources : NameSources) (sight inner : Sight) (tally on : Tally) (old mid new : List ReadName) (variable class : Name) (body : Braces)
-    → mid ≡ old ++ scope_read sources.scope class → inner ≡ with_turn sight variable.text tally.turns → on ≡ turn_more tally
-    → new ≡ mid ++ block_names sources inner on body.statements
-    → new ≡ old ++ (scope_read sources.scope class
-    ++ block_names sources (with_turn sight variable.text tally.turns) (turn_more tally) body.statements)
-turn_names sources sight inner tally on old mid new variable class body class_read inner_is on_is body_read =
+pub turn_names : (sources : NameSources) (sight inner : Sight) (tally on : Tally) (old new : List ReadName) (variable : Name) (body : Braces)
+    → inner ≡ with_turn sight variable.text tally.turns → on ≡ turn_more tally
+    → new ≡ old ++ block_names sources inner on body.statements
+    → new ≡ old ++ block_names sources (with_turn sight variable.text tally.turns) (turn_more tally) body.statements
+turn_names sources sight inner tally on old new variable body inner_is on_is body_read =
     body_read
-    ∙ (ap (λ s. mid ++ block_names sources s on body.statements) inner_is
-    ∙ (ap (λ t. mid ++ block_names sources (with_turn sight variable.text tally.turns) t body.statements) on_is
-    ∙ (ap (λ names. names ++ block_names sources (with_turn sight variable.text tally.turns) (turn_more tally) body.statements) class_read
-    ∙ append_assoc old (scope_read sources.scope class)
-    (block_names sources (with_turn sight variable.text tally.turns) (turn_more tally) body.statements))))
+    ∙ (ap (λ s. old ++ block_names sources s on body.statements) inner_is
+    ∙ ap (λ t. old ++ block_names sources (with_turn sight variable.text tally.turns) t body.statements) on_is)
 
 pub turn_tally : (tally on last : Tally) (body : Braces) → on ≡ turn_more tally → last ≡ tallied on body.statements
     → last ≡ tallied (turn_more tally) body.statements

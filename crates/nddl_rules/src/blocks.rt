@@ -6,7 +6,7 @@ ghost use Rattle.nddl_ast.specs.Block.{statements_of, with_statement};
 ghost use Rattle.nddl_ast.specs.Tree.{Statements};
 ghost use Rattle.nddl_rules.specs.Blocks.{ReadsTo, asks_slot, block_names, call_tally, has_long_path, is_long_path, tallied};
 ghost use Rattle.nddl_rules.specs.Tally.{local_more, slot_more, turn_more};
-ghost use Rattle.nddl_rules.specs.Reads.{asked_read, exprs_read, local_read, scope_read, sources_of};
+ghost use Rattle.nddl_rules.specs.Reads.{asked_read, exprs_read, local_read, sources_of};
 ghost use Rattle.nddl_rules.specs.Sight.{SeesFurther, with_label, with_rule_local, with_turn};
 
 use crate::reads::{
@@ -94,7 +94,10 @@ fn push_stmt_names(
             class,
             body,
             ..
-        } => push_turns_names(sources, variable, class, body, sight, tally, names),
+        } => {
+            push_scope_read(sources.scope, class, names)?;
+            push_turns_names(sources, variable, body, sight, tally, names)
+        }
     }
 }
 
@@ -117,27 +120,24 @@ fn push_otherwise_names(
     }
 }
 
-// Puts the names of a `foreach` at the end. Its variable is seen in its block alone.
+// Puts the names of the block of a `foreach` at the end. Its variable is seen there alone.
 #[tactic(auto, using(crate::proofs::Steps::turn_names, crate::proofs::Steps::turn_tally, crate::proofs::Steps::turn_forgotten))]
 #[cycle(naming)]
 fn push_turns_names(
     sources: &NameSources<'_>,
     variable: &Name,
-    class: &Name,
     body: &StmtBlock,
     sight: &mut Sight,
     tally: &mut Tally,
     names: &mut Sequence<ReadName>,
 ) -> Result<(), AllocError>
     ensures names { OnOk result (names.new ≡ names.old
-        ++ (scope_read (sources_of sources.now).scope class.now
         ++ block_names (sources_of sources.now) (with_turn sight.old variable.now.text tally.old.turns)
-        (turn_more tally.old) body.now.statements)) }
+        (turn_more tally.old) body.now.statements) }
     ensures tally { OnOk result (tally.new ≡ tallied (turn_more tally.old) body.now.statements) }
     ensures seen { OnOk result (sight.new ≡ sight.old) }
 {
     let until = sight.until();
-    push_scope_read(sources.scope, class, names)?;
     sight.see_turn(&variable.text, tally.turns)?;
     *tally = tally.turn_more()?;
     push_block_names(sources, body, sight, tally, names)?;

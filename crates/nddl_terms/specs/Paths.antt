@@ -38,22 +38,22 @@ known_stand objects value fields number =
     option_map_or (λ content. Value (terms.Lit content) (attribute_class fields number)) (known_value objects value number) Nothing
 
 -- the field of this number of a variable, where its declared class has these: a local more
-abbrev pub read_step : Term → List Attribute → ℕ → Growth → Reached
-read_step object fields number growth =
+abbrev pub read_field : Term → List Attribute → ℕ → Growth → Reached
+read_field object fields number growth =
     option_map_or
     (λ attribute. reached (Value (terms.Local (length growth.locals)) attribute.shape.class)
     (with_access object number attribute.shape growth))
     (slice_get fields number) (reached Nothing growth)
 
 -- the field of this number of what the term is: of a known object what it has there, which is known too
-abbrev pub object_step : List Object → Term → List Attribute → ℕ → Growth → Reached
-object_step objects (terms.Lit value) fields number growth = reached (known_stand objects value fields number) growth
-object_step objects object fields number growth = read_step object fields number growth
+abbrev pub numbered_field : List Object → Term → List Attribute → ℕ → Growth → Reached
+numbered_field objects (terms.Lit value) fields number growth = reached (known_stand objects value fields number) growth
+numbered_field objects object fields number growth = read_field object fields number growth
 
-abbrev pub field_step : Readings → Term → ℕ → List ℕ → Growth → Reached
-field_step reading object class name growth =
+abbrev pub next_field : Readings → Term → ℕ → List ℕ → Growth → Reached
+next_field reading object class name growth =
     let fields = shape_fields reading.lexicon class in
-    option_map_or (λ number. object_step reading.objects object fields number growth) (attribute_number name fields)
+    option_map_or (λ number. numbered_field reading.objects object fields number growth) (attribute_number name fields)
     (reached Nothing growth)
 
 -- ---- parts of tokens
@@ -72,20 +72,20 @@ token_stand reading here pred name =
 -- ---- paths
 
 -- what the name stands for behind what stands for this: a field of an object, or a part of a token
-abbrev pub stand_step : Readings → Stand → Name → Growth → Reached
-stand_step reading (Value term class) name growth = field_step reading term class name.text growth
-stand_step reading (Slot number pred) name growth = reached (token_stand reading (Slot number pred) pred name.text) growth
-stand_step reading (Root number pred) name growth = reached (token_stand reading (Root number pred) pred name.text) growth
-stand_step reading (Class class) name growth = reached Nothing growth
-stand_step reading Nothing name growth = reached Nothing growth
+abbrev pub next_stand : Readings → Stand → Name → Growth → Reached
+next_stand reading (Value term class) name growth = next_field reading term class name.text growth
+next_stand reading (Slot number pred) name growth = reached (token_stand reading (Slot number pred) pred name.text) growth
+next_stand reading (Root number pred) name growth = reached (token_stand reading (Root number pred) pred name.text) growth
+next_stand reading (Class class) name growth = reached Nothing growth
+next_stand reading Nothing name growth = reached Nothing growth
 
 -- what the last of the names stands for
-abbrev pub stand_steps : Readings → Stand → List Name → Growth → Reached
-stand_steps reading here [] growth = reached here growth
-stand_steps reading here (name ∷ more) growth =
-    let next = stand_step reading here name growth in stand_steps reading next.stand more next.growth
+abbrev pub rest_stand : Readings → Stand → List Name → Growth → Reached
+rest_stand reading here [] growth = reached here growth
+rest_stand reading here (name ∷ more) growth =
+    let next = next_stand reading here name growth in rest_stand reading next.stand more next.growth
 
 -- what the path stands for, in these turns and with what the rule has so far
 abbrev pub path_stand : Readings → List Made → Path → Growth → Reached
 path_stand reading turns path growth =
-    stand_steps reading (first_stand reading turns growth path.first.at) path.rest growth
+    rest_stand reading (first_stand reading turns growth path.first.at) path.rest growth

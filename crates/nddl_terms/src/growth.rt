@@ -18,7 +18,7 @@ use std::alloc::{AllocError, Global};
 pub struct Growth {
     /// What was made of the locals of the text, in order: the latest comes last.
     pub named: Sequence<Made>,
-    /// The same of its slots.
+    /// What was made of the slots of the text, in order.
     pub asked: Sequence<Made>,
     /// The locals, by number.
     pub locals: Sequence<VarDecl>,

@@ -1,7 +1,7 @@
 //! What paths stand for in a rule.
 
 ghost use Rattle.std.specs.Prelude.{◌≡◌, IfOk, OnOk};
-ghost use Rattle.nddl_terms.specs.Paths.{field_step, known_value, known_stand, part_stand, path_stand, stand_step, stand_steps, read_step, token_stand};
+ghost use Rattle.nddl_terms.specs.Paths.{next_field, known_value, known_stand, part_stand, path_stand, next_stand, rest_stand, read_field, token_stand};
 ghost use Rattle.nddl_terms.specs.Readings.{readings_of};
 
 use super::growth::Growth;
@@ -37,15 +37,15 @@ fn known_stand(objects: &[Object], value: i32, fields: &[Attribute], number: usi
 }
 
 // The field of a variable: a local more.
-fn read_step(
+fn read_field(
     alloc: Global,
     object: Term,
     fields: &[Attribute],
     number: usize,
     growth: &mut Growth,
 ) -> Result<Stand, AllocError>
-    ensures grown { OnOk result (growth.new ≡ (read_step object fields.now number growth.old).growth) }
-    ensures stand { IfOk result (λ stand. stand ≡ (read_step object fields.now number growth.old).stand) }
+    ensures grown { OnOk result (growth.new ≡ (read_field object fields.now number growth.old).growth) }
+    ensures stand { IfOk result (λ stand. stand ≡ (read_field object fields.now number growth.old).stand) }
 {
     match fields.get(number) {
         Some(attribute) => {
@@ -61,7 +61,7 @@ fn read_step(
 }
 
 // The field of this name of what the term is: of a known object its value.
-fn field_step(
+fn next_field(
     alloc: Global,
     reading: &Reading<'_>,
     object: Term,
@@ -70,15 +70,15 @@ fn field_step(
     growth: &mut Growth,
 ) -> Result<Stand, AllocError>
     ensures grown { OnOk result (growth.new
-        ≡ (field_step (readings_of reading.now) object class name.now growth.old).growth) }
+        ≡ (next_field (readings_of reading.now) object class name.now growth.old).growth) }
     ensures stand { IfOk result (λ stand. stand
-        ≡ (field_step (readings_of reading.now) object class name.now growth.old).stand) }
+        ≡ (next_field (readings_of reading.now) object class name.now growth.old).stand) }
 {
     let fields = reading.lexicon.fields(class);
     match reading.lexicon.field_number(class, name) {
         Some(number) => match object {
             Term::Lit(value) => Ok(known_stand(reading.objects, value, fields, number)),
-            _ => read_step(alloc, object, fields, number, growth),
+            _ => read_field(alloc, object, fields, number, growth),
         },
         None => Ok(Stand::Nothing),
     }
@@ -117,7 +117,7 @@ fn token_stand(
 }
 
 // What the name stands for behind what stands for this.
-fn path_step(
+fn next_stand(
     alloc: Global,
     reading: &Reading<'_>,
     here: Stand,
@@ -125,12 +125,12 @@ fn path_step(
     growth: &mut Growth,
 ) -> Result<Stand, AllocError>
     ensures grown { OnOk result (growth.new
-        ≡ (stand_step (readings_of reading.now) here name.now growth.old).growth) }
+        ≡ (next_stand (readings_of reading.now) here name.now growth.old).growth) }
     ensures stand { IfOk result (λ stand. stand
-        ≡ (stand_step (readings_of reading.now) here name.now growth.old).stand) }
+        ≡ (next_stand (readings_of reading.now) here name.now growth.old).stand) }
 {
     match here {
-        Stand::Value { term, class } => field_step(alloc, reading, term, class, &name.text, growth),
+        Stand::Value { term, class } => next_field(alloc, reading, term, class, &name.text, growth),
         Stand::Slot { pred, .. } => token_stand(reading, here, pred, &name.text),
         Stand::Root { pred, .. } => token_stand(reading, here, pred, &name.text),
         _ => Ok(Stand::Nothing),
@@ -138,7 +138,7 @@ fn path_step(
 }
 
 /// What the last of the names stands for behind what stands for this.
-pub fn path_steps(
+pub fn rest_stand(
     alloc: Global,
     reading: &Reading<'_>,
     begin: Stand,
@@ -146,13 +146,13 @@ pub fn path_steps(
     growth: &mut Growth,
 ) -> Result<Stand, AllocError>
     ensures grown { OnOk result (growth.new
-        ≡ (stand_steps (readings_of reading.now) begin names.now growth.old).growth) }
+        ≡ (rest_stand (readings_of reading.now) begin names.now growth.old).growth) }
     ensures stand { IfOk result (λ stand. stand
-        ≡ (stand_steps (readings_of reading.now) begin names.now growth.old).stand) }
+        ≡ (rest_stand (readings_of reading.now) begin names.now growth.old).stand) }
 {
     let mut here = begin;
     for name in names {
-        here = path_step(alloc, reading, here, name, growth)?;
+        here = next_stand(alloc, reading, here, name, growth)?;
     }
     Ok(here)
 }
@@ -171,5 +171,5 @@ pub fn path_stand(
         ≡ (path_stand (readings_of reading.now) turns.now path.now growth.old).stand) }
 {
     let begin = first_stand(reading, turns, growth, path.first.at);
-    path_steps(alloc, reading, begin, path.rest.as_slice(), growth)
+    rest_stand(alloc, reading, begin, path.rest.as_slice(), growth)
 }

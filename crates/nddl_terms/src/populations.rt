@@ -43,7 +43,7 @@ impl Populations {
         }
     }
 
-    /// The same in memory of its own.
+    /// A copy in memory of its own.
     pub fn copy(&self, alloc: Global) -> Result<Populations, AllocError>
         ensures { IfOk result (λ copied. copied ≡ self.now) }
     {

@@ -10,6 +10,17 @@ use nddl_ast::TextKind;
 use nddl_ast::expression::BaseType;
 use nddl_symbols::{Meaning, Scope, Sort};
 
+/// What the base of a type means, where a range or a set may stand behind it.
+#[derive(Clone, Copy)]
+pub struct BaseMeaning<'a> {
+    /// The names of the program, for values that stand behind it.
+    pub scope: &'a Scope,
+    /// Of what its values are.
+    pub kind: TypeKind,
+    /// Which of the values of its kind it has.
+    pub extent: &'a Extent,
+}
+
 /// What is wrong with the base of a type.
 pub fn base_fault(scope: &Scope, base: &BaseType) -> Option<TextKind>
     ensures { result ≡ base_fault scope.now base.now }

@@ -61,7 +61,7 @@ impl Extent {
         }
     }
 
-    /// The same values in memory of their own.
+    /// A copy, of which a set shares its numbers.
     pub fn copy(&self) -> Result<Extent, AllocError>
         ensures { IfOk result (λ extent. extent ≡ self.now) }
     {

@@ -29,7 +29,7 @@ impl Members {
     {
         let mut distinct = IndexSet::new(alloc);
         for number in numbers {
-            put(&mut distinct, *number)?;
+            put_number(&mut distinct, *number)?;
         }
         let numbers = Rc::new(alloc, distinct)?;
         Ok(Members { numbers })
@@ -55,7 +55,7 @@ impl Members {
         self.numbers.as_ref().len()
     }
 
-    /// The same numbers.
+    /// A copy, which shares the memory of the numbers.
     pub fn copy(&self) -> Result<Members, AllocError>
         ensures { IfOk result (λ members. members ≡ self.now) }
     {
@@ -65,7 +65,7 @@ impl Members {
 }
 
 // Puts the number at the end, unless it is there.
-fn put(distinct: &mut IndexSet<i32>, number: i32) -> Result<(), AllocError>
+fn put_number(distinct: &mut IndexSet<i32>, number: i32) -> Result<(), AllocError>
     ensures { OnOk result (distinct.new.keys ≡ with_number distinct.old.keys number) }
 {
     distinct.insert(number)?;

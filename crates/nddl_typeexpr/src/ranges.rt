@@ -5,17 +5,16 @@ ghost use Rattle.nddl_symbols.specs.Finding.{earliest_fault};
 ghost use Rattle.nddl_typeexpr.specs.Values.{end_number};
 ghost use Rattle.nddl_typeexpr.specs.Bounds.{is_wrong_range, extent_between, range_faults};
 
-use super::kind::{Extent, TypeKind};
+use super::base::BaseMeaning;
+use super::kind::Extent;
 use super::values::{end_fault, end_number, value_fault};
 use nddl_ast::TextKind;
 use nddl_ast::expression::Value;
 use nddl_symbols::{Fault, Scope, kind_if, note_at};
 
-/// Notes what is wrong with a range that stands behind a type of this kind and these values.
+/// Notes what is wrong with a range behind this base, whose place is `at`.
 pub fn note_range_faults(
-    scope: &Scope,
-    kind: TypeKind,
-    extent: &Extent,
+    base: &BaseMeaning<'_>,
     decl: usize,
     at: u32,
     least: &Value,
@@ -23,11 +22,12 @@ pub fn note_range_faults(
     first: &mut Option<Fault>,
 )
     ensures { first.new ≡ earliest_fault first.old
-        (range_faults scope.now kind extent.now decl at least.now greatest.now) }
+        (range_faults base.now.scope.now base.now.kind base.now.extent.now decl at least.now greatest.now) }
 {
-    if extent.is_ranged(kind) {
+    let scope = base.scope;
+    if base.extent.is_ranged(base.kind) {
         let is_wrong = is_wrong_range(
-            extent,
+            base.extent,
             end_number(scope, least),
             end_number(scope, greatest),
         );

@@ -6,72 +6,60 @@ ghost use Rattle.nddl_typeexpr.specs.declared.kind.Extent.TheVariants.{Set};
 ghost use Rattle.nddl_typeexpr.specs.Members.{distinct_from};
 ghost use Rattle.nddl_typeexpr.specs.Bounds.{has_too_many, members_faults, own_numbers, set_faults};
 
-use super::kind::{Extent, TypeKind};
+use super::base::BaseMeaning;
+use super::kind::Extent;
 use super::members::Members;
 use super::values::{member_fault, own_number};
 use nddl_ast::TextKind;
 use nddl_ast::expression::Value;
-use nddl_symbols::{Fault, Scope, kind_if, note_at};
+use nddl_symbols::{Fault, kind_if, note_at};
 use std::alloc::{AllocError, Global};
 
-/// Notes what is wrong with a set that stands behind a type of this kind and these values.
+/// Notes what is wrong with a set behind this base, whose place is `at`.
 #[tactic(auto, using(nddl_symbols::proofs::Earliest::earliest_append))]
 pub fn note_set_faults(
     alloc: Global,
-    scope: &Scope,
-    kind: TypeKind,
-    extent: &Extent,
+    base: &BaseMeaning<'_>,
     decl: usize,
     at: u32,
     values: &[Value],
     first: &mut Option<Fault>,
 ) -> Result<(), AllocError>
     ensures { OnOk result (first.new ≡ earliest_fault first.old
-        (set_faults scope.now kind extent.now decl at values.now)) }
+        (set_faults base.now.scope.now base.now.kind base.now.extent.now decl at values.now)) }
 {
-    let is_long = has_too_many(alloc, scope, kind, extent, values)?;
+    let is_long = has_too_many(alloc, base, values)?;
     note_at(first, decl, at, kind_if(is_long, TextKind::LimitMembers));
-    note_members_faults(scope, kind, extent, decl, values, first);
+    note_members_faults(base, decl, values, first);
     Ok(())
 }
 
 // Notes what is wrong with each of the values.
 #[tactic(auto, using(nddl_symbols::proofs::Earliest::earliest_append))]
 fn note_members_faults(
-    scope: &Scope,
-    kind: TypeKind,
-    extent: &Extent,
+    base: &BaseMeaning<'_>,
     decl: usize,
     values: &[Value],
     first: &mut Option<Fault>,
 )
-    ensures { first.new ≡ earliest_fault first.old (members_faults scope.now kind extent.now decl values.now) }
+    ensures { first.new ≡ earliest_fault first.old
+        (members_faults base.now.scope.now base.now.kind base.now.extent.now decl values.now) }
 {
     for value in values {
-        note_at(
-            first,
-            decl,
-            value.place(),
-            member_fault(scope, kind, extent, value),
-        );
+        note_at(first, decl, value.place(), member_fault(base, value));
     }
 }
 
 // Whether the values have too many distinct ones that may be members.
 #[tactic(auto, using(crate::proofs::Counts::few_values))]
-fn has_too_many(
-    alloc: Global,
-    scope: &Scope,
-    kind: TypeKind,
-    extent: &Extent,
-    values: &[Value],
-) -> Result<bool, AllocError>
-    ensures { IfOk result (λ many. many ≡ has_too_many scope.now kind extent.now values.now) }
+fn has_too_many(alloc: Global, base: &BaseMeaning<'_>, values: &[Value]) -> Result<bool, AllocError>
+    ensures { IfOk result (λ many. many
+        ≡ has_too_many base.now.scope.now base.now.kind base.now.extent.now values.now) }
 {
     if values.len() <= 4096 {
         return Ok(false);
     }
-    let numbers = own_numbers(alloc, scope, kind, extent, values)?;
+    let numbers = own_numbers(alloc, base, values)?;
     let members = Members::of(alloc, numbers.as_slice())?;
     Ok(members.len() > 4096)
 }
@@ -79,16 +67,15 @@ fn has_too_many(
 // The numbers of the values that may be members.
 fn own_numbers(
     alloc: Global,
-    scope: &Scope,
-    kind: TypeKind,
-    extent: &Extent,
+    base: &BaseMeaning<'_>,
     values: &[Value],
 ) -> Result<Vec<i32>, AllocError>
-    ensures { IfOk result (λ numbers. numbers.items ≡ own_numbers scope.now kind extent.now values.now) }
+    ensures { IfOk result (λ numbers. numbers.items
+        ≡ own_numbers base.now.scope.now base.now.kind base.now.extent.now values.now) }
 {
     let mut numbers = Vec::new(alloc);
     for value in values {
-        if let Some(number) = own_number(scope, kind, extent, value) {
+        if let Some(number) = own_number(base, value) {
             numbers.push(number)?;
         }
     }
@@ -98,13 +85,12 @@ fn own_numbers(
 /// The set of the values that may be members.
 pub fn set_meaning(
     alloc: Global,
-    scope: &Scope,
-    kind: TypeKind,
-    extent: &Extent,
+    base: &BaseMeaning<'_>,
     values: &[Value],
 ) -> Result<Extent, AllocError>
-    ensures { IfOk result (λ set. set ≡ Set (distinct_from [] (own_numbers scope.now kind extent.now values.now))) }
+    ensures { IfOk result (λ set. set
+        ≡ Set (distinct_from [] (own_numbers base.now.scope.now base.now.kind base.now.extent.now values.now))) }
 {
-    let numbers = own_numbers(alloc, scope, kind, extent, values)?;
+    let numbers = own_numbers(alloc, base, values)?;
     Ok(Extent::Set(Members::of(alloc, numbers.as_slice())?))
 }

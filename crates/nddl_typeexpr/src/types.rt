@@ -6,8 +6,8 @@ ghost use Rattle.nddl_typeexpr.specs.declared.kind.Extent.TheVariants.{Whole};
 ghost use Rattle.nddl_typeexpr.specs.Bounds.{bounds_extent, bounds_faults};
 ghost use Rattle.nddl_typeexpr.specs.Types.{bounded_meaning, type_faults, type_meaning};
 
-use super::base::{base_extent, base_fault, base_kind};
-use super::kind::{Extent, TypeKind, TypeMeaning};
+use super::base::{BaseMeaning, base_extent, base_fault, base_kind};
+use super::kind::{Extent, TypeMeaning};
 use super::ranges::{note_range_faults, range_meaning};
 use super::sets::{note_set_faults, set_meaning};
 use nddl_ast::expression::{Bounds, Type};
@@ -44,33 +44,27 @@ pub fn note_type_faults(
     );
     match base_kind(types, &written.base) {
         Some(kind) => {
-            let extent = base_extent(types, &written.base);
-            note_bounds_faults(
-                alloc,
-                types.scope,
+            let base = BaseMeaning {
+                scope: types.scope,
                 kind,
-                extent,
-                decl,
-                &written.bounds,
-                first,
-            )
+                extent: base_extent(types, &written.base),
+            };
+            note_bounds_faults(alloc, &base, decl, &written.bounds, first)
         }
         None => Ok(()),
     }
 }
 
-// Notes what is wrong with a range or a set of a type of this kind and these values.
+// Notes what is wrong with a range or a set behind this base.
 fn note_bounds_faults(
     alloc: Global,
-    scope: &Scope,
-    kind: TypeKind,
-    extent: &Extent,
+    base: &BaseMeaning<'_>,
     decl: usize,
     bounds: &Bounds,
     first: &mut Option<Fault>,
 ) -> Result<(), AllocError>
     ensures { OnOk result (first.new ≡ earliest_fault first.old
-        (bounds_faults scope.now kind extent.now decl bounds.now)) }
+        (bounds_faults base.now.scope.now base.now.kind base.now.extent.now decl bounds.now)) }
 {
     match bounds {
         Bounds::All => Ok(()),
@@ -79,20 +73,11 @@ fn note_bounds_faults(
             least,
             greatest,
         } => {
-            note_range_faults(scope, kind, extent, decl, *at, least, greatest, first);
+            note_range_faults(base, decl, *at, least, greatest, first);
             Ok(())
         }
         Bounds::Set { at, values } => {
-            note_set_faults(
-                alloc,
-                scope,
-                kind,
-                extent,
-                decl,
-                *at,
-                values.as_slice(),
-                first,
-            )
+            note_set_faults(alloc, base, decl, *at, values.as_slice(), first)
         }
     }
 }
@@ -123,8 +108,12 @@ fn fine_meaning(
 {
     match base_kind(types, &written.base) {
         Some(kind) => {
-            let base = base_extent(types, &written.base);
-            let extent = bounds_extent(alloc, types.scope, kind, base, &written.bounds)?;
+            let base = BaseMeaning {
+                scope: types.scope,
+                kind,
+                extent: base_extent(types, &written.base),
+            };
+            let extent = bounds_extent(alloc, &base, &written.bounds)?;
             Ok(Some(TypeMeaning { kind, extent }))
         }
         None => Ok(None),
@@ -133,20 +122,19 @@ fn fine_meaning(
 
 fn bounds_extent(
     alloc: Global,
-    scope: &Scope,
-    kind: TypeKind,
-    base: &Extent,
+    base: &BaseMeaning<'_>,
     bounds: &Bounds,
 ) -> Result<Extent, AllocError>
-    ensures { IfOk result (λ extent. extent ≡ bounds_extent scope.now kind base.now bounds.now) }
+    ensures { IfOk result (λ extent. extent
+        ≡ bounds_extent base.now.scope.now base.now.kind base.now.extent.now bounds.now) }
 {
     match bounds {
-        Bounds::All => base.copy(),
+        Bounds::All => base.extent.copy(),
         Bounds::Range {
             least,
             greatest,
             ..
-        } => Ok(range_meaning(scope, least, greatest)),
-        Bounds::Set { values, .. } => set_meaning(alloc, scope, kind, base, values.as_slice()),
+        } => Ok(range_meaning(base.scope, least, greatest)),
+        Bounds::Set { values, .. } => set_meaning(alloc, base, values.as_slice()),
     }
 }

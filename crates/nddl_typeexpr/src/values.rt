@@ -5,6 +5,7 @@ ghost use Rattle.std.specs.Option.{option_and_then};
 ghost use Rattle.nddl_symbols.specs.Scope.{meaning_of};
 ghost use Rattle.nddl_typeexpr.specs.Values.{end_fault, end_number, fits, given_entry, given_fault, given_literal, given_meaning, given_value, member_fault, missing_fault, own_number, value_fault};
 
+use super::base::BaseMeaning;
 use super::kind::{Extent, TypeKind};
 use eu_name::text::Text;
 use nddl_ast::TextKind;
@@ -117,17 +118,12 @@ fn fits(kind: TypeKind, given: GivenKind) -> bool
     }
 }
 
-/// What is wrong with the value as a member of a type.
-pub fn member_fault(
-    scope: &Scope,
-    kind: TypeKind,
-    extent: &Extent,
-    value: &Value,
-) -> Option<TextKind>
-    ensures { result ≡ member_fault scope.now kind extent.now value.now }
+/// What is wrong with the value as a member of a type with this base.
+pub fn member_fault(base: &BaseMeaning<'_>, value: &Value) -> Option<TextKind>
+    ensures { result ≡ member_fault base.now.scope.now base.now.kind base.now.extent.now value.now }
 {
-    match given_by(scope, value) {
-        Some(given) => given_fault(kind, extent, given),
+    match given_by(base.scope, value) {
+        Some(given) => given_fault(base.kind, base.extent, given),
         None => Some(missing_fault(value)),
     }
 }
@@ -144,12 +140,12 @@ fn given_fault(kind: TypeKind, extent: &Extent, given: Given) -> Option<TextKind
     }
 }
 
-/// The number of the value, where it may be a member of the type.
-pub fn own_number(scope: &Scope, kind: TypeKind, extent: &Extent, value: &Value) -> Option<i32>
-    ensures { result ≡ own_number scope.now kind extent.now value.now }
+/// The number of the value, where it may be a member of a type with this base.
+pub fn own_number(base: &BaseMeaning<'_>, value: &Value) -> Option<i32>
+    ensures { result ≡ own_number base.now.scope.now base.now.kind base.now.extent.now value.now }
 {
-    let given = given_by(scope, value)?;
-    if fits(kind, given.kind) && extent.has(given.number) {
+    let given = given_by(base.scope, value)?;
+    if fits(base.kind, given.kind) && base.extent.has(given.number) {
         Some(given.number)
     } else {
         None

@@ -1,4 +1,3 @@
 pub mod Adding
 pub mod Splitting
 pub mod Answering
-pub mod Grounding

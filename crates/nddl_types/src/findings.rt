@@ -2,6 +2,7 @@
 
 ghost use Rattle.std.specs.Prelude.{◌≡◌, IfOk, map};
 ghost use Rattle.nddl_hierarchy.specs.Facts.{facts_of};
+ghost use Rattle.nddl_typeexpr.specs.declared.kind.Extent.TheVariants.{Whole};
 ghost use Rattle.nddl_declarations.specs.Known.{AreFacts};
 ghost use Rattle.nddl_types.specs.Grounds.{AreFound, AreLines, AreNames, facts_found, facts_in};
 
@@ -130,14 +131,36 @@ fn find_meanings(
         (facts_in scope.now (map (λ decl. decl.now) decls.now) lines.now known.items)) }
 {
     let whole = Extent::Whole;
-    known_meanings(
-        alloc,
+    meanings_along(alloc, &*scope, &*decls, &*members, &*lines, &whole)
+}
+
+// What the typedefs mean among the names, along these lines.
+fn meanings_along<'a>(
+    alloc: Global,
+    scope: &'a Scope,
+    decls: &'a [&'a Decl],
+    members: &'a MemberIndex<'a>,
+    lines: &'a Lines,
+    whole: &'a Extent,
+) -> Result<Vec<Option<TypeMeaning>>, AllocError>
+    requires members { members.now ≡ map (λ decl. decl.now) decls.now }
+    requires lines { AreLines scope.now (map (λ decl. decl.now) decls.now) lines.now }
+    requires whole { whole.now ≡ Whole }
+    ensures { IfOk result (λ known. AreFacts scope.now (map (λ decl. decl.now) decls.now)
+        (facts_in scope.now (map (λ decl. decl.now) decls.now) lines.now known.items)) }
+{
+    let types = Types {
         scope,
+        known: &[],
+        whole,
+    };
+    let basis = Basis {
+        types,
         decls,
         members,
-        &lines.parents,
-        &lines.lineage,
-        &lines.short,
-        &whole,
-    )
+        parents: &lines.parents,
+        lineage: &lines.lineage,
+        short: &lines.short,
+    };
+    known_meanings(alloc, &basis)
 }

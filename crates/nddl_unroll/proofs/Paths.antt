@@ -17,7 +17,7 @@ use Rattle.nddl_terms.specs.declared.stands.Stand.TheVariants.{Value, Slot, Root
 use Rattle.nddl_terms.specs.Growth.{with_access}
 use Rattle.nddl_terms.specs.Lexicon.{attribute_class, attribute_number, part_called, shape_fields}
 use Rattle.nddl_terms.specs.Names.{name_read_at}
-use Rattle.nddl_terms.specs.Paths.{Reached, known_value, object_step, part_stand, reached, read_step, stand_step, stand_steps}
+use Rattle.nddl_terms.specs.Paths.{Reached, known_value, numbered_field, part_stand, reached, read_field, next_stand, rest_stand}
 use Rattle.nddl_terms.specs.Readings.{Readings}
 use Rattle.nddl_terms.specs.Stands.{declared_stand, file_stand, first_stand, latest_stand, meaning_stand, stand_if_at, stand_or_nothing}
 use Rattle.nddl_unroll.specs.Reads.{file_reads, front_reads, meaning_reads}
@@ -49,7 +49,7 @@ known_field None class count = refl
 known_field (Some content) class count = refl
 
 known_leads : (reading : Readings) (value : ℤ) (fields : List Attribute) (count : ℕ) (growth : Growth) (found : Option ℕ)
-    → LeadsOn 0 count growth (option_map_or (λ number. object_step reading.objects (terms.Lit value) fields number growth) found (reached Nothing growth))
+    → LeadsOn 0 count growth (option_map_or (λ number. numbered_field reading.objects (terms.Lit value) fields number growth) found (reached Nothing growth))
 known_leads reading value fields count growth None = leads_nowhere 0 count growth
 known_leads reading value fields count growth (Some number) =
     let none = known_field (known_value reading.objects value number) (attribute_class fields number) (count - 1) in
@@ -63,7 +63,7 @@ attribute_leads object number count growth (Some attribute) some =
     record { first = 1; adds = adds_access object number attribute.shape growth; rest = omega (arith, some) }
 
 read_leads : (object : Term) (fields : List Attribute) (count : ℕ) (growth : Growth) (found : Option ℕ) → 1 ≤ count
-    → LeadsOn count count growth (option_map_or (λ number. read_step object fields number growth) found (reached Nothing growth))
+    → LeadsOn count count growth (option_map_or (λ number. read_field object fields number growth) found (reached Nothing growth))
 read_leads object fields count growth None some = leads_nowhere count count growth
 read_leads object fields count growth (Some number) some = attribute_leads object number count growth (slice_get fields number) some
 
@@ -79,42 +79,42 @@ root_leads reading number pred count growth None = leads_nowhere (count - 1) cou
 root_leads reading number pred count growth (Some part) =
     record { first = 0; adds = adds_any (extra_reads 0) growth; rest = omega arith }
 
-step_leads : (reading : Readings) (here : Stand) (name : Name) (count : ℕ) (growth : Growth) → 1 ≤ count
-    → LeadsOn (stand_reads here count) count growth (stand_step reading here name growth)
-step_leads reading (Value (terms.Lit value) class) name count growth some =
+next_leads : (reading : Readings) (here : Stand) (name : Name) (count : ℕ) (growth : Growth) → 1 ≤ count
+    → LeadsOn (stand_reads here count) count growth (next_stand reading here name growth)
+next_leads reading (Value (terms.Lit value) class) name count growth some =
     known_leads reading value (shape_fields reading.lexicon class) count growth (attribute_number name.text (shape_fields reading.lexicon class))
-step_leads reading (Value (terms.Here part) class) name count growth some =
+next_leads reading (Value (terms.Here part) class) name count growth some =
     read_leads (terms.Here part) (shape_fields reading.lexicon class) count growth (attribute_number name.text (shape_fields reading.lexicon class)) some
-step_leads reading (Value (terms.Slot number part) class) name count growth some =
+next_leads reading (Value (terms.Slot number part) class) name count growth some =
     read_leads (terms.Slot number part) (shape_fields reading.lexicon class) count growth (attribute_number name.text (shape_fields reading.lexicon class)) some
-step_leads reading (Value (terms.Local number) class) name count growth some =
+next_leads reading (Value (terms.Local number) class) name count growth some =
     read_leads (terms.Local number) (shape_fields reading.lexicon class) count growth (attribute_number name.text (shape_fields reading.lexicon class)) some
-step_leads reading (Value (terms.Global number) class) name count growth some =
+next_leads reading (Value (terms.Global number) class) name count growth some =
     read_leads (terms.Global number) (shape_fields reading.lexicon class) count growth (attribute_number name.text (shape_fields reading.lexicon class)) some
-step_leads reading (Value (terms.Root number part) class) name count growth some =
+next_leads reading (Value (terms.Root number part) class) name count growth some =
     read_leads (terms.Root number part) (shape_fields reading.lexicon class) count growth (attribute_number name.text (shape_fields reading.lexicon class)) some
-step_leads reading (Slot number pred) name count growth some =
+next_leads reading (Slot number pred) name count growth some =
     slot_leads reading number pred count growth (part_called reading.lexicon pred name.text)
-step_leads reading (Root number pred) name count growth some =
+next_leads reading (Root number pred) name count growth some =
     root_leads reading number pred count growth (part_called reading.lexicon pred name.text)
-step_leads reading (Class class) name count growth some = leads_nowhere 0 count growth
-step_leads reading Nothing name count growth some = leads_nowhere 0 count growth
+next_leads reading (Class class) name count growth some = leads_nowhere 0 count growth
+next_leads reading Nothing name count growth some = leads_nowhere 0 count growth
 
 -- the names read at most so many fields
-pub steps_add : (reading : Readings) (here : Stand) (names : List Name) (count : ℕ) (growth : Growth) → length names ≤ count
-    → Adds (extra_reads (stand_reads here count)) growth (stand_steps reading here names growth).growth
-steps_add reading here [] count growth within = adds_any (extra_reads (stand_reads here count)) growth
-steps_add reading here (name ∷ more) count growth within =
+pub rest_adds : (reading : Readings) (here : Stand) (names : List Name) (count : ℕ) (growth : Growth) → length names ≤ count
+    → Adds (extra_reads (stand_reads here count)) growth (rest_stand reading here names growth).growth
+rest_adds reading here [] count growth within = adds_any (extra_reads (stand_reads here count)) growth
+rest_adds reading here (name ∷ more) count growth within =
     let some : 1 ≤ count = omega (arith, within) in
     let fewer : length more ≤ count - 1 = omega (arith, within) in
-    let next = stand_step reading here name growth in
-    let leads = step_leads reading here name count growth some in
+    let next = next_stand reading here name growth in
+    let leads = next_leads reading here name count growth some in
     let left = stand_reads next.stand (count - 1) in
     adds_within (extra_and (extra_reads leads.first) (extra_reads left)) (extra_reads (stand_reads here count))
-    growth (stand_steps reading next.stand more next.growth).growth
+    growth (rest_stand reading next.stand more next.growth).growth
     (record { slots = omega arith; locals = leads.rest; items = leads.rest; guards = omega arith })
-    (adds_then (extra_reads leads.first) (extra_reads left) growth next.growth (stand_steps reading next.stand more next.growth).growth
-    leads.adds (steps_add reading next.stand more (count - 1) next.growth fewer))
+    (adds_then (extra_reads leads.first) (extra_reads left) growth next.growth (rest_stand reading next.stand more next.growth).growth
+    leads.adds (rest_adds reading next.stand more (count - 1) next.growth fewer))
 
 -- ---- first names
 
@@ -188,11 +188,11 @@ meaning_within reading turns growth (Some (meanings.BuiltIn class)) count sound 
 pub path_adds : (reading : Readings) (turns : List Made) (path : Path) (names : List Name) (count : ℕ) (growth : Growth)
     → length names ≤ count → Sound growth → EachMade IsKnownStand turns
     → Adds (extra_reads (front_reads reading.lexicon reading.names path count)) growth
-    (stand_steps reading (first_stand reading turns growth path.first.at) names growth).growth
+    (rest_stand reading (first_stand reading turns growth path.first.at) names growth).growth
 path_adds reading turns path names count growth within sound known =
     let here = first_stand reading turns growth path.first.at in
     adds_within (extra_reads (stand_reads here count)) (extra_reads (front_reads reading.lexicon reading.names path count)) growth
-    (stand_steps reading here names growth).growth
+    (rest_stand reading here names growth).growth
     (reads_within (stand_reads here count) (front_reads reading.lexicon reading.names path count)
     (meaning_within reading turns growth (name_read_at path.first.at reading.names) count sound known))
-    (steps_add reading here names count growth within)
+    (rest_adds reading here names count growth within)

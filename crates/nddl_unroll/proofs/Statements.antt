@@ -29,7 +29,7 @@ use Rattle.nddl_terms.specs.declared.stands.Stand.{Stand}
 use Rattle.nddl_terms.specs.declared.stands.Stand.TheVariants.{Value, Slot, Class, Nothing}
 use Rattle.nddl_terms.specs.Growth.{with_item, with_slot}
 use Rattle.nddl_terms.specs.Lexicon.{pred_class, pred_named}
-use Rattle.nddl_terms.specs.Paths.{stand_steps}
+use Rattle.nddl_terms.specs.Paths.{rest_stand}
 use Rattle.nddl_terms.specs.Readings.{Readings}
 use Rattle.nddl_terms.specs.Names.{name_read_at}
 use Rattle.nddl_terms.specs.Stands.{file_stand, first_stand, meaning_stand, stand_or_nothing}
@@ -91,13 +91,13 @@ object_few None = omega arith
 object_few (Some term) = omega arith
 
 -- nothing comes of what is nothing
-nothing_more : (reading : Readings) (names : List Name) (growth : Growth) → (stand_steps reading Nothing names growth).stand ≡ Nothing
+nothing_more : (reading : Readings) (names : List Name) (growth : Growth) → (rest_stand reading Nothing names growth).stand ≡ Nothing
 nothing_more reading [] growth = refl
 nothing_more reading (name ∷ more) growth = nothing_more reading more growth
 
 -- a class has no object that the slot's has to equal, nor has what stands behind it
 class_object : (reading : Readings) (class : ℕ) (names : List Name) (growth : Growth) (name : List ℕ)
-    → object_count (wanted_of reading.lexicon (stand_steps reading (Class class) names growth).stand name).object ≡ 0
+    → object_count (wanted_of reading.lexicon (rest_stand reading (Class class) names growth).stand name).object ≡ 0
 class_object reading class [] growth name = refl
 class_object reading class (next ∷ more) growth name =
     ap (λ stand. object_count (wanted_of reading.lexicon stand name).object) (nothing_more reading more growth)
@@ -112,7 +112,7 @@ few_anyway true object none = let zero = none refl in omega (arith, zero)
 few_anyway false object none = object_few object
 
 file_class : (reading : Readings) (found : Option Stand) (names : List Name) (growth : Growth) (name : List ℕ) → is_class_stand found ≡ true
-    → object_count (wanted_of reading.lexicon (stand_steps reading (stand_or_nothing found) names growth).stand name).object ≡ 0
+    → object_count (wanted_of reading.lexicon (rest_stand reading (stand_or_nothing found) names growth).stand name).object ≡ 0
 file_class reading (Some (Class class)) names growth name is = class_object reading class names growth name
 file_class reading found names growth name is = absurd (cc)
 
@@ -120,7 +120,7 @@ file_class reading found names growth name is = absurd (cc)
 class_first : (reading : Readings) (turns : List Made) (before : Growth) (found : Option Meaning) (names : List Name) (growth : Growth) (name : List ℕ)
     → is_class_meaning reading.lexicon found ≡ true
     → object_count (wanted_of reading.lexicon
-    (stand_steps reading (stand_or_nothing (option_and_then (meaning_stand reading turns before) found)) names growth).stand name).object ≡ 0
+    (rest_stand reading (stand_or_nothing (option_and_then (meaning_stand reading turns before) found)) names growth).stand name).object ≡ 0
 class_first reading turns before (Some (meanings.Scope place)) names growth name is =
     file_class reading (file_stand reading.lexicon place) names growth name is
 class_first reading turns before (Some (meanings.BuiltIn class)) names growth name is = class_object reading class names growth name
@@ -145,13 +145,13 @@ path_extra reading path =
 last_adds : (reading : Readings) (turns : List Made) (at : ℕ) (relation : Rel) (path : Path) (last : Option Name) (growth : Growth)
     → Sound growth → EachMade IsKnownStand turns
     → Adds (path_extra reading path) growth (with_asked reading.lexicon at relation (option_map_or
-    (λ name. asked_of_owner reading.lexicon (stand_steps reading (first_stand reading turns growth path.first.at)
+    (λ name. asked_of_owner reading.lexicon (rest_stand reading (first_stand reading turns growth path.first.at)
     (take (length path.rest - 1) path.rest) growth) name.text) last (asked_nothing growth)))
 last_adds reading turns at relation path None growth sound known = adds_any (path_extra reading path) growth
 last_adds reading turns at relation path (Some name) growth sound known =
     let front = take (length path.rest - 1) path.rest in
     let fewer : length front ≤ length path.rest - 1 = omega (arith, length-take (length path.rest - 1) path.rest) in
-    let owner = stand_steps reading (first_stand reading turns growth path.first.at) front growth in
+    let owner = rest_stand reading (first_stand reading turns growth path.first.at) front growth in
     let wanted = wanted_of reading.lexicon owner.stand name.text in
     let most = most_objects (begins_with_class reading.lexicon reading.names path) in
     let few = few_anyway (begins_with_class reading.lexicon reading.names path) wanted.object

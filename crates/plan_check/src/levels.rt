@@ -30,6 +30,14 @@ struct Act {
     quantity: i32,
 }
 
+// Where the level of a reservoir begins, and where it has to stay.
+#[derive(Clone, Copy)]
+struct Levels {
+    initial: i32,
+    low: i32,
+    high: i32,
+}
+
 // When a token with these values starts on the object, and with which quantity.
 fn act_by(values: &[i32], object: u32) -> Option<Act>
     ensures { MatchOption result
@@ -110,9 +118,7 @@ fn left_limits(
     plan: &Plan,
     by_object: &LinesByObject,
     object: u32,
-    initial: i32,
-    low: i32,
-    high: i32,
+    levels: Levels,
 ) -> Result<Option<i32>, AllocError>
     requires lawful { IsLawful model.now }
     requires orderly { IsOrderly plan.now }
@@ -120,11 +126,12 @@ fn left_limits(
     requires linked { AreLinked plan.now.lines (length model.now.objects) 0 by_object.now }
     requires there { object < length model.now.objects }
     ensures { IfOk result (FindsInstant (λ instant. IsInstant model.now instant
-        → IsLevelWithin model.now (pos object) instant plan.now initial low high)) }
+        → IsLevelWithin model.now (pos object) instant plan.now levels.initial levels.low levels.high)) }
 {
     let changes = changes_of(alloc, model, plan, by_object, object)?;
     let changes_by_line = changes.as_slice();
     let start = model.problem.start;
+    let Levels { initial, low, high } = levels;
     Ok(level_out(changes_by_line, initial, low, high, start))
 }
 
@@ -146,7 +153,8 @@ fn left_limits_of(
 {
     match object.kind {
         ObjectKind::Reservoir { initial, low, high } => {
-            left_limits(alloc, model, plan, by_object, number, initial, low, high)
+            let levels = Levels { initial, low, high };
+            left_limits(alloc, model, plan, by_object, number, levels)
         }
         ObjectKind::Plain | ObjectKind::Timeline | ObjectKind::Reusable { .. } => Ok(None),
     }

@@ -62,7 +62,7 @@ fn take_global(
 }
 
 // Takes the statement: a value is put behind those of the globals as long as these go on, and a line behind the lines.
-fn take(
+fn take_statement(
     statement: Statement,
     going_on: bool,
     globals: &mut Vec<i32>,
@@ -97,7 +97,7 @@ fn take_all(
             name: _name,
             statement,
         } = named;
-        going_on = take(statement, going_on, globals, lines)?;
+        going_on = take_statement(statement, going_on, globals, lines)?;
     }
     Ok(())
 }

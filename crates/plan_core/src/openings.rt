@@ -27,7 +27,7 @@ fn one_opening(cursor: &mut Cursor<'_>) -> Result<bool, Wrong>
     let Some((word, rest)) = word_behind(b"", cursor.rest) else {
         return Err(Wrong::Syntax);
     };
-    cursor.settle(rest, judge_opening(word))
+    cursor.pass_word(rest, judge_opening(word))
 }
 
 // Whether the word is one to seven digits.
@@ -54,7 +54,7 @@ fn one_count(cursor: &mut Cursor<'_>) -> Result<(), Wrong>
     let Some((word, rest)) = word_behind(b" ", cursor.rest) else {
         return Err(Wrong::Syntax);
     };
-    cursor.settle(rest, judge_count(word))
+    cursor.pass_word(rest, judge_count(word))
 }
 
 /// `plan`, with or without a line before it.

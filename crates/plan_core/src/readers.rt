@@ -61,7 +61,7 @@ pub fn one_keyword(cursor: &mut Cursor<'_>) -> Result<Keyword, Wrong>
     let Some((word, rest)) = word_behind(b"\n", cursor.rest) else {
         return Err(Wrong::Syntax);
     };
-    cursor.settle(rest, judge_keyword(word))
+    cursor.pass_word(rest, judge_keyword(word))
 }
 
 /// A value of the kind.
@@ -76,7 +76,7 @@ pub fn one_value(
     let Some((word, rest)) = word_behind(b" ", cursor.rest) else {
         return Err(Wrong::Syntax);
     };
-    cursor.settle(rest, judge_value(model, kind, word))
+    cursor.pass_word(rest, judge_value(model, kind, word))
 }
 
 /// A new name of a global.
@@ -92,7 +92,7 @@ pub fn one_global(
     let Some((word, rest)) = word_behind(b" ", cursor.rest) else {
         return Err(Wrong::Syntax);
     };
-    cursor.settle(rest, judge_global(alloc, model, known, word))
+    cursor.pass_word(rest, judge_global(alloc, model, known, word))
 }
 
 /// A new name of a token.
@@ -108,7 +108,7 @@ pub fn one_token(
     let Some((word, rest)) = word_behind(b" ", cursor.rest) else {
         return Err(Wrong::Syntax);
     };
-    cursor.settle(rest, judge_token(alloc, model, known, word))
+    cursor.pass_word(rest, judge_token(alloc, model, known, word))
 }
 
 /// A new name of a local.
@@ -124,7 +124,7 @@ pub fn one_local(
     let Some((word, rest)) = word_behind(b" ", cursor.rest) else {
         return Err(Wrong::Syntax);
     };
-    cursor.settle(rest, judge_local(alloc, model, known, word))
+    cursor.pass_word(rest, judge_local(alloc, model, known, word))
 }
 
 /// The token that another one is merged into.
@@ -139,7 +139,7 @@ pub fn one_target(
     let Some((word, rest)) = word_behind(b" ", cursor.rest) else {
         return Err(Wrong::Syntax);
     };
-    cursor.settle(rest, judge_target(alloc, model, word))
+    cursor.pass_word(rest, judge_target(alloc, model, word))
 }
 
 /// The predicate of this number.
@@ -155,7 +155,7 @@ pub fn one_predicate(
     let Some((word, rest)) = word_behind(b" ", cursor.rest) else {
         return Err(Wrong::Syntax);
     };
-    cursor.settle(rest, judge_predicate(model, number, word))
+    cursor.pass_word(rest, judge_predicate(model, number, word))
 }
 
 // The part of a token with its value.
@@ -233,7 +233,7 @@ fn one_label(cursor: &mut Cursor<'_>, params: &[VarDecl], expected: &[u8]) -> Re
     let Some((word, rest)) = word_behind(b" ", cursor.rest) else {
         return Err(Wrong::Syntax);
     };
-    cursor.settle(rest, judge_label(params, expected, word))
+    cursor.pass_word(rest, judge_label(params, expected, word))
 }
 
 // The parameter's name with its value.
@@ -251,7 +251,7 @@ fn one_parameter(
 }
 
 // Puts the value behind the others.
-fn push(values: &mut Vec<i32>, value: i32) -> Result<(), AllocError>
+fn push_value(values: &mut Vec<i32>, value: i32) -> Result<(), AllocError>
     ensures { OnOk result (values.new.items ≡ values.old.items ++ value ∷ []) }
 {
     values.push(value)?;
@@ -270,7 +270,7 @@ fn parameters(
 {
     for variable in params {
         let value = one_parameter(cursor, model, params, variable)?;
-        push(values, value)?;
+        push_value(values, value)?;
     }
     Ok(())
 }

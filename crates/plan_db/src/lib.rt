@@ -1,6 +1,6 @@
 //! The plan database: after every call, what the decisions still standing leave possible: `db.apply(&decision)?`.
 //! In comes a lawful model, then decisions, or what to take out or back; out go outcomes, domains, a view, stamps and edges.
-//! Called by solver_core and conflict_core, and by crates of the program. `let_go` is proved here once for all of them.
+//! Called by solver_core and conflict_core, and by crates of the program. `discard` is proved here once for all of them.
 //! Where memory is wanting in `reset` or `undo` it may be behind: then steps and questions answer `Behind` until `rebuild`.
 //! Knows nothing of texts, flaws and conflicts. How the state is kept, and what a step computes anew, may change.
 #![tactic(auto)]
@@ -20,5 +20,5 @@ pub use db_history::Subject;
 pub use db_refusals::StoreView;
 pub use edges::EdgeFault;
 pub use fault::{DbFault, Outcome, QueryFault};
-pub use release::let_go;
+pub use release::discard;
 pub use rewinding::{rewind, take_back};

@@ -3,6 +3,6 @@
 use crate::Db;
 
 /// Lets the database go.
-pub fn let_go(db: Db) {
+pub fn discard(db: Db) {
     drop(db);
 }

@@ -12,7 +12,7 @@ use Rattle.domain_core.specs.Consistency.{Ends, Admits, AreConsistent}
 use Rattle.domain_core.specs.Constraints.{HoldsOf}
 use Rattle.model_core.specs.State.{State, Gives, IsState, IsBelow}
 use Rattle.plan_defs.specs.Claims.{IsClaim, at_most}
-use Rattle.plan_defs.specs.Closure.{IsConsistentState}
+use Rattle.plan_defs.specs.Closure.{IsPropagatedState}
 use Rattle.plan_defs.specs.Laws.{Lowered, EndsBounded}
 use Rattle.plan_defs.specs.Terms.{Variable, HasDomain}
 use Rattle.plan_defs.proofs.Lower.{least_rises, greatest_falls}
@@ -52,7 +52,7 @@ module _ (model : Model) (state : State) (ok : IsState model state) (one other :
       subst (λ d. EndsInOrder d other_is) first (subst (EndsInOrder a) second ends)
 
 pub bounds_both : (model : Model) (decisions : List Decision) (high low : State) (one other : VarName)
-    → IsState model high → IsConsistentState model decisions low → IsBelow high low → IsClaim model decisions low (at_most (Variable one) (Variable other))
+    → IsState model high → IsPropagatedState model decisions low → IsBelow high low → IsClaim model decisions low (at_most (Variable one) (Variable other))
     → (first : Lowered high low one) (second : Lowered high low other) → EndsBounded first.above first.below second.above second.below
 bounds_both model decisions high low one other high_ok fit lower claim first second =
     let low_ok = fit.is_state in

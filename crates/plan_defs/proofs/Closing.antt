@@ -1,4 +1,4 @@
--- The own state of a valid plan is consistent for the decisions that the plan agrees with.
+-- The own state of a valid plan is propagated for the decisions that the plan agrees with.
 use Rattle.std.proofs.Common.{◌≡◌, ◌≢◌, ℕ, ◌+◌, ◌<◌, ◌≤◌, ◌⊎◌, ℤ, pos, ◌+ℤ◌, ◌≤ℤ◌, ◌<ℤ◌, Bool, true, false, List, [], ◌∷◌, ◌++◌, length, Some, ⊎_elim, inl, inr, refl, sym, ap, ◌∙◌, subst, arith}
 use Rattle.std.specs.Prelude.{All, AllPairs, Contains, slice_get, map, ⊤}
 use Rattle.std.specs.List.{AllZip}
@@ -52,7 +52,7 @@ use Rattle.plan_defs.specs.declared.plan.Place.TheVariants as places
 use Rattle.plan_defs.specs.declared.plan.Plan.{Plan}
 use Rattle.plan_defs.specs.Broken.{AgreesWith, IsTrueIn}
 use Rattle.plan_defs.specs.Claims.{Claim, IsClaim, IsOfProblem, IsOfBlock, IsOfToken, IsOfMerge, IsOfOrder, HasPart, lasts, equal, part_of, at_most}
-use Rattle.plan_defs.specs.Closure.{IsConsistentState, IsRespected}
+use Rattle.plan_defs.specs.Closure.{IsPropagatedState, IsRespected}
 use Rattle.plan_defs.specs.Consistency.{IsClaimConsistent, HasField}
 use Rattle.plan_defs.specs.PlanStates.{HasLine, IsOpenBlock, IsPlanState, HasPlanValues}
 use Rattle.plan_defs.specs.Plans.{IsPlanOf, IsLineBefore, IsLineOf, AreTokenValues, value_kinds, TakesPlaceWith, IsActivatedIn, IsTakenIn, HasPartValue, GivesValue, place_in_values, plan_situation}
@@ -527,7 +527,7 @@ module _ (model : Model) (decisions : List Decision) (plan : Plan) (state : Stat
       (turns one other takes.0 taken.0 share.apart takes.1 taken.1 share.timeline share.is_timeline
       (on_object one share.timeline takes.0 takes.1 share.one_on) (on_object other share.timeline taken.0 taken.1 share.other_on))
 
-  pub closed_but_resources : IsConsistentState model decisions state
+  pub closed_but_resources : IsPropagatedState model decisions state
   closed_but_resources = record {
     is_state = own.is_state;
     tokens = λ token supported. (own.tokens token).1 (token_line token supported);
@@ -538,8 +538,8 @@ module _ (model : Model) (decisions : List Decision) (plan : Plan) (state : Stat
     timelines = fit;
   }
 
--- the own state of a valid plan is consistent for what the plan agrees with
-pub consistent_state : (model : Model) (decisions : List Decision) (plan : Plan) (state : State) → IsLawful model → IsPlanOf model plan → IsValid model plan
-    → AgreesWith model plan decisions → IsPlanState model plan state → IsConsistentState model decisions state × HasPlanValues plan state
-consistent_state model decisions plan state lawful of_model valid agrees own =
+-- the own state of a valid plan is propagated for what the plan agrees with
+pub propagated_state : (model : Model) (decisions : List Decision) (plan : Plan) (state : State) → IsLawful model → IsPlanOf model plan → IsValid model plan
+    → AgreesWith model plan decisions → IsPlanState model plan state → IsPropagatedState model decisions state × HasPlanValues plan state
+propagated_state model decisions plan state lawful of_model valid agrees own =
     (closed_but_resources model decisions plan state lawful of_model valid agrees own, values_kept model decisions plan state lawful of_model valid agrees own)

@@ -41,7 +41,7 @@ use Rattle.plan_defs.specs.Sums.{sum_of}
 use Rattle.plan_defs.specs.Support.{MayBe, Opens, IsOpen, AsksFor, IsSupportedToken, front_token, one_side, other_side}
 use Rattle.plan_defs.specs.Terms.{Context, InRule, Argument, Value, Variable, HasDomain, Counts, ArgumentCounts}
 use Rattle.plan_defs.specs.Valid.{IsValid, Becomes, IsAsked, IsAskedToken, IsPartOf, IsOfSort, HasActed, AddedBy, TookBy, IsRise, LeavesLevel, IsLevelWithin}
-use Rattle.plan_defs.proofs.Closing.{last_step, LastStep, given, asked, root_becomes, taken_line, line_of, consistent_state}
+use Rattle.plan_defs.proofs.Closing.{last_step, LastStep, given, asked, root_becomes, taken_line, line_of, propagated_state}
 use Rattle.plan_defs.proofs.Filling.{IsTokensLine, tokens_of, shared, tokens_same, quantity_from_zero, acted, merged_acts, rejected_acts, sort_of, one_sort, produce_consume, produce_plain, consume_plain, same_some, fit_reusables}
 use Rattle.plan_defs.proofs.Lower.{HasBlock-map}
 use Rattle.eu_name.proofs.Members.{get_same}
@@ -382,7 +382,7 @@ module _ (model : Model) (decisions : List Decision) (plan : Plan) (state : Stat
 pub closed_state : (model : Model) (decisions : List Decision) (plan : Plan) (state : State) → IsLawful model → IsPlanOf model plan → IsValid model plan
     → AgreesWith model plan decisions → IsPlanState model plan state → IsClosed model decisions state × HasPlanValues plan state
 closed_state model decisions plan state lawful of_model valid agrees own =
-    let found = consistent_state model decisions plan state lawful of_model valid agrees own in (
+    let found = propagated_state model decisions plan state lawful of_model valid agrees own in (
       record {
         consistent = found.0;
         reusables = fit_reusables model decisions plan state lawful of_model valid agrees own;

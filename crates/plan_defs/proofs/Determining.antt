@@ -23,10 +23,10 @@ use Rattle.model_core.specs.State.{State, Gives, IsState, AreInOrder}
 use Rattle.model_core.specs.Tokens.{HasToken}
 use Rattle.model_core.specs.Variables.{HasPartBase}
 use Rattle.plan_defs.specs.Claims.{lasts}
-use Rattle.plan_defs.specs.Closure.{IsConsistentState}
+use Rattle.plan_defs.specs.Closure.{IsPropagatedState}
 use Rattle.plan_defs.specs.Terms.{HasDomain}
 use Rattle.plan_defs.proofs.States.{gives_same, gives_domain}
-use Rattle.plan_defs.specs.Flaws.{Flaw, Undetermined, Untimed, IsFlaw, IsOfRejectedToken, IsLeftOpen}
+use Rattle.plan_defs.specs.Flaws.{Flaw, Undetermined, Untimed, IsFlaw, IsOfRejectedToken, IsUnbound}
 use Rattle.plan_defs.specs.StatePlans.{GivesOnly}
 use Rattle.plan_defs.specs.Surveying.{IsUnorderedFlaw}
 
@@ -84,7 +84,7 @@ sum_single x y z a b x_ok y_ok z_ok one other consistent =
     let is_high = sum_of_two x y a b (greatest z) high.0 high.1 x_ok y_ok one other high.2 high.3 high.4 in
     single_from_ends z z_ok (is_low ∙ sym is_high)
 
-module _ (model : Model) (decisions : List Decision) (state : State) (consistent : IsConsistentState model decisions state) where
+module _ (model : Model) (decisions : List Decision) (state : State) (consistent : IsPropagatedState model decisions state) where
   is_state : IsState model state
   is_state = consistent.is_state
 
@@ -119,9 +119,9 @@ module _ (model : Model) (decisions : List Decision) (state : State) (consistent
   PartFlaw = (flaw : Flaw) × IsFlaw model decisions state flaw × (IsUnorderedFlaw flaw → ⊥)
 
   -- a variable of the token that has no value
-  pub left_open : (name : VarName) (domain : Domain) → Gives state name domain → ((value : ℤ) → IsSingle domain value → ⊥)
-      → (IsOfRejectedToken decisions name → ⊥) → IsLeftOpen decisions state name
-  left_open name domain gives several kept = record { domain = domain; gives = gives; several = several; kept = kept }
+  pub is_unbound : (name : VarName) (domain : Domain) → Gives state name domain → ((value : ℤ) → IsSingle domain value → ⊥)
+      → (IsOfRejectedToken decisions name → ⊥) → IsUnbound decisions state name
+  is_unbound name domain gives several kept = record { domain = domain; gives = gives; several = several; kept = kept }
 
   module _ (token : TokenName) (slot : Slot) (there : Contains state.tokens token) (has : HasToken model token slot) (kept : IsRejected decisions token → ⊥) where
     own : (part : Part) → IsOfRejectedToken decisions (variables.Token token part) → ⊥
@@ -133,9 +133,9 @@ module _ (model : Model) (decisions : List Decision) (state : State) (consistent
         let start = part_given token slot Start (Given _) there has refl in
         let duration = part_given token slot Duration (Given _) there has refl in
         elim (single_or_not start.0 (domain_ok _ start.0 start.1)) [
-          | inr many ↦ (Untimed (variables.Token token Start), (tt, left_open _ start.0 start.1 many (own Start)), λ (none : ⊥). none)
+          | inr many ↦ (Untimed (variables.Token token Start), (tt, is_unbound _ start.0 start.1 many (own Start)), λ (none : ⊥). none)
           | inl first ↦ elim (single_or_not duration.0 (domain_ok _ duration.0 duration.1)) [
-            | inr many ↦ (Untimed (variables.Token token Duration), (tt, left_open _ duration.0 duration.1 many (own Duration)), λ (none : ⊥). none)
+            | inr many ↦ (Untimed (variables.Token token Duration), (tt, is_unbound _ duration.0 duration.1 many (own Duration)), λ (none : ⊥). none)
             | inl second ↦
                 let claim = consistent.claims (lasts token) (inr (inr (inl (record { token = token; there = there; says = refl })))) in
                 let single = lasting token start.0 duration.0 end first.0 second.0 claim.domains start.1 duration.1 gives claim.have claim.agree first.1 second.1 in
@@ -143,20 +143,20 @@ module _ (model : Model) (decisions : List Decision) (state : State) (consistent
           ]
         ]
 
-    open_flaw : (part : Part) (domain : Domain) → Gives state (variables.Token token part) domain → ((value : ℤ) → IsSingle domain value → ⊥) → PartFlaw
-    open_flaw Start domain gives several = (Untimed (variables.Token token Start), (tt, left_open _ domain gives several (own Start)), λ (none : ⊥). none)
-    open_flaw End domain gives several = end_flaw domain gives several
-    open_flaw Duration domain gives several = (Untimed (variables.Token token Duration), (tt, left_open _ domain gives several (own Duration)), λ (none : ⊥). none)
-    open_flaw Object domain gives several = (Undetermined (variables.Token token Object), (tt, left_open _ domain gives several (own Object)), λ (none : ⊥). none)
-    open_flaw (Param number) domain gives several =
-        (Undetermined (variables.Token token (Param number)), (tt, left_open _ domain gives several (own (Param number))), λ (none : ⊥). none)
+    unbound_flaw : (part : Part) (domain : Domain) → Gives state (variables.Token token part) domain → ((value : ℤ) → IsSingle domain value → ⊥) → PartFlaw
+    unbound_flaw Start domain gives several = (Untimed (variables.Token token Start), (tt, is_unbound _ domain gives several (own Start)), λ (none : ⊥). none)
+    unbound_flaw End domain gives several = end_flaw domain gives several
+    unbound_flaw Duration domain gives several = (Untimed (variables.Token token Duration), (tt, is_unbound _ domain gives several (own Duration)), λ (none : ⊥). none)
+    unbound_flaw Object domain gives several = (Undetermined (variables.Token token Object), (tt, is_unbound _ domain gives several (own Object)), λ (none : ⊥). none)
+    unbound_flaw (Param number) domain gives several =
+        (Undetermined (variables.Token token (Param number)), (tt, is_unbound _ domain gives several (own (Param number))), λ (none : ⊥). none)
 
     -- a part of such a token that has no value
     pub part_flaw : (part : Part) (base : Base) → HasPartBase model slot part base → ((value : ℤ) → GivesOnly state (variables.Token token part) value → ⊥)
         → PartFlaw
     part_flaw part base is none =
         let given = part_given token slot part base there has is in
-        open_flaw part given.0 given.1 (λ value single. none value (given.0, given.1, single))
+        unbound_flaw part given.0 given.1 (λ value single. none value (given.0, given.1, single))
 
     -- it has a value where there is no such flaw
     pub part_value : (part : Part) (base : Base) → HasPartBase model slot part base
@@ -165,5 +165,5 @@ module _ (model : Model) (decisions : List Decision) (state : State) (consistent
         let given = part_given token slot part base there has is in
         elim (single_or_not given.0 (domain_ok _ given.0 given.1)) [
           | inl one ↦ (one.0, (given.0, given.1, one.1))
-          | inr many ↦ let flaw = open_flaw part given.0 given.1 many in absurd (flaw.2 (clear flaw.0 flaw.1))
+          | inr many ↦ let flaw = unbound_flaw part given.0 given.1 many in absurd (flaw.2 (clear flaw.0 flaw.1))
         ]

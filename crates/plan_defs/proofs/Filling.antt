@@ -39,7 +39,7 @@ use Rattle.plan_defs.specs.declared.plan.Place.TheVariants as places
 use Rattle.plan_defs.specs.declared.plan.Plan.{Plan}
 use Rattle.plan_defs.specs.Broken.{AgreesWith}
 use Rattle.plan_defs.specs.Claims.{HasPart}
-use Rattle.plan_defs.specs.Closure.{IsConsistentState}
+use Rattle.plan_defs.specs.Closure.{IsPropagatedState}
 use Rattle.plan_defs.specs.PlanStates.{HasLine, IsPlanState, HasPlanValues}
 use Rattle.plan_defs.specs.Plans.{IsPlanOf, IsLineBefore, order_name, TakesPlaceWith, GivesValue, HasPartValue, place_in_values}
 use Rattle.plan_defs.specs.Resources.{IsActor, MayBeOn, HasStarted, MayHaveStarted, HasNotEnded, IsLeastQuantity, IsGreatestQuantity, SurelyUses, IsShare, SurelyChanges, MayChange, IsHighChange, IsLowChange, KeepsCapacity, StaysWithin, FitReusables, IsInstant}
@@ -47,7 +47,7 @@ use Rattle.plan_defs.specs.Refusals.{IsDeclared}
 use Rattle.plan_defs.specs.Sums.{sum_of}
 use Rattle.plan_defs.specs.Timelines.{IsOn}
 use Rattle.plan_defs.specs.Valid.{IsValid, SuitsToken, IsOfSort, IsPartOf, HasActed, IsActing, UsesAt, AddedBy, TookBy, IsUsed, IsRise, LeavesLevel, IsWithinCapacity, IsLevelWithin}
-use Rattle.plan_defs.proofs.Closing.{suits, active_line, consistent_state}
+use Rattle.plan_defs.proofs.Closing.{suits, active_line, propagated_state}
 use Rattle.eu_name.proofs.Members.{get_same}
 use Rattle.eu_name.proofs.Ordered.{contains_head, contains_later, contains_cases, contains_none, ordered_head, ordered_tail, ordered_none, ordered_cons, same_members}
 use Rattle.plan_defs.proofs.Saying.{one_own, own_or_merged, own_or_rejected}

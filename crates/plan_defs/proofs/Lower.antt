@@ -23,7 +23,7 @@ use Rattle.model_core.specs.Decided.{IsActivated, IsTaken, IsActive}
 use Rattle.model_core.specs.Entries.{Entries}
 use Rattle.model_core.specs.State.{State, IsState, IsBelow}
 use Rattle.plan_defs.specs.Claims.{Claim, IsClaim, ItemSays, IsOfProblem, IsOfBlock}
-use Rattle.plan_defs.specs.Closure.{IsConsistentState}
+use Rattle.plan_defs.specs.Closure.{IsPropagatedState}
 use Rattle.plan_defs.specs.Laws.{AsksAsMuch, HaveToTurn, HasWhatIsAsked}
 use Rattle.plan_defs.specs.Situations.{Situation, situation_of}
 use Rattle.plan_defs.specs.Support.{MayBe, Opens, IsOpen, AsksFor, IsSupportedToken, IsSupportedBlock, one_side, other_side}
@@ -187,7 +187,7 @@ module _ (model : Model) (decisions : List Decision) (high low : State) (high_ok
     late = late_below one other p.late;
   }
 
-  pub has_what_is_asked : IsConsistentState model decisions low → HasWhatIsAsked model decisions high low
+  pub has_what_is_asked : IsPropagatedState model decisions low → HasWhatIsAsked model decisions high low
   has_what_is_asked fit =
       let asks = asks_as_much model decisions high low below in
       record {
@@ -245,9 +245,9 @@ module _ (model : Model) (front back : List Decision) where
       other_on = p.other_on;
     }
 
-    -- what is consistent for the list is consistent for its front
-    pub front_consistent : IsConsistentState model whole state → IsConsistentState model front state
-    front_consistent p = record {
+    -- what is propagated for the list is propagated for its front
+    pub front_propagated : IsPropagatedState model whole state → IsPropagatedState model front state
+    front_propagated p = record {
       is_state = p.is_state;
       tokens = λ token q. p.tokens token (supported_further model (situation_of front state) (situation_of whole state) further_longer token q);
       blocks = λ block entries q. p.blocks block entries (block_further model (situation_of front state) (situation_of whole state) further_longer block entries q);

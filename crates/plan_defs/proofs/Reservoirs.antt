@@ -1,4 +1,4 @@
--- Where no further token can come in a consistent state, none comes in a consistent state below it.
+-- Where no further token can come in a propagated state, none comes in a propagated state below it.
 use Rattle.std.proofs.Common.{◌≡◌, ℕ, ℤ, List, [], ◌∷◌, ◌++◌, ◌⊎◌, inl, inr, refl, sym, ◌∙◌, subst, append_assoc, append-nil, arith}
 use Rattle.std.proofs.lemmas.Int.{ints}
 use Rattle.std.specs.Prelude.{Contains}
@@ -21,7 +21,7 @@ use Rattle.model_core.specs.Entries.{Entries}
 use Rattle.model_core.specs.Numbers.{turned}
 use Rattle.model_core.specs.State.{State, IsState, IsBelow}
 use Rattle.model_core.specs.Tokens.{root_token}
-use Rattle.plan_defs.specs.Closure.{IsConsistentState, AreInPlace}
+use Rattle.plan_defs.specs.Closure.{IsPropagatedState, AreInPlace}
 use Rattle.plan_defs.specs.Resources.{OpensIn, IsOfRejected, IsCertain, IsTokenComplete, FitReservoirs}
 use Rattle.plan_defs.specs.Situations.{situation_of}
 use Rattle.plan_defs.specs.Support.{Selects, MayBe, Opens, IsOpen, AsksFor, IsSupportedToken, IsSupportedBlock, front_token, one_side, other_side}
@@ -58,7 +58,7 @@ one_selected : (guard : Guard) (v w : ℤ) → Selects guard Then v w → Select
 one_selected (Equal one other) v w p q = q p
 one_selected (Differ one other) v w p q = p q
 
-module _ (model : Model) (decisions : List Decision) (high low : State) (high_fit : IsConsistentState model decisions high) (low_fit : IsConsistentState model decisions low)
+module _ (model : Model) (decisions : List Decision) (high low : State) (high_fit : IsPropagatedState model decisions high) (low_fit : IsPropagatedState model decisions low)
     (below : IsBelow high low) (place : AreInPlace model decisions high) (complete : IsTokenComplete model decisions high) where
   low_ok : IsState model low
   low_ok = low_fit.is_state
@@ -213,7 +213,7 @@ module _ (model : Model) (decisions : List Decision) (high low : State) (high_fi
   }
 
 pub reservoirs_above : (model : Model) (decisions : List Decision) (high low : State)
-    → IsConsistentState model decisions high → IsConsistentState model decisions low → IsBelow high low
+    → IsPropagatedState model decisions high → IsPropagatedState model decisions low → IsBelow high low
     → AreInPlace model decisions high → FitReservoirs model decisions low → FitReservoirs model decisions high
 reservoirs_above model decisions high low high_fit low_fit below place fit complete value object initial bottom top instant is kind within =
     level_above model decisions high low high_fit.is_state low_fit.is_state below value instant place.active initial bottom top

@@ -24,9 +24,9 @@ use Rattle.plan_defs.specs.declared.plan.Line.{Line}
 use Rattle.plan_defs.specs.declared.plan.Line.TheVariants as lines
 use Rattle.plan_defs.specs.Plans.{place_in_values}
 use Rattle.plan_defs.proofs.States.{gives_same}
-use Rattle.plan_defs.specs.Flaws.{Flaw, Undecided, Undetermined, Unordered, Untimed, IsFlaw, HasFlaw, IsOfRejectedToken, IsLeftOpen}
+use Rattle.plan_defs.specs.Flaws.{Flaw, Undecided, Undetermined, Unordered, Untimed, IsFlaw, HasFlaw, IsOfRejectedToken, IsUnbound}
 use Rattle.plan_defs.specs.StatePlans.{GivesOnly, ArePartValues, TakesPlaceAs, IsTokenLine, IsLineIn, IsSettledState}
-use Rattle.plan_defs.specs.Surveying.{AreFirstValues, IsPartOpen, HasPartCount, IsOwnFlaw, IsOwnLine, IsStatedBy}
+use Rattle.plan_defs.specs.Surveying.{AreFirstValues, IsPartUnbound, HasPartCount, IsOwnFlaw, IsOwnLine, IsStatedBy}
 use Rattle.plan_defs.proofs.Deciding.{DecidesOnce, decides_once}
 use Rattle.plan_defs.proofs.Determining.{value_once, part_flaw}
 use Rattle.plan_defs.proofs.Parting.{part_there, has_part, part_below}
@@ -155,8 +155,8 @@ module _ (model : Model) (decisions : List Decision) (state : State) (settled : 
         record { slot = has.0; has_token = has.1; pred = pred.0; is_pred = pred.1 }
 
     -- a part without a value is a flaw, where the token isn't rejected
-    pub open_part : (count : ℕ) → HasPartCount model state place count → (IsRejected decisions token → ⊥) → (part : Part) × IsPartOpen state place count part → HasFlaw model decisions state
-    open_part count counts kept (part, is) =
+    pub unbound_part : (count : ℕ) → HasPartCount model state place count → (IsRejected decisions token → ⊥) → (part : Part) × IsPartUnbound state place count part → HasFlaw model decisions state
+    unbound_part count counts kept (part, is) =
         let f = found in
         let few = counts token f.slot f.pred at f.has_token f.is_pred in
         let base = has_part model f.slot f.pred part f.is_pred (omega (arith, is.below, few)) in
@@ -185,17 +185,17 @@ module _ (model : Model) (decisions : List Decision) (state : State) (settled : 
               let same : got.0 ≡ value = value_once state settled.consistent.is_state.order (variables.Token token part) got.0 value got.2 has in
               subst (λ v. slice_get values (place_in_values part) ≡ Some v) same got.1
 
-      not_open : (part : Part) → IsLeftOpen decisions state (variables.Token token part) → ⊥
-      not_open part is =
+      none_unbound : (part : Part) → IsUnbound decisions state (variables.Token token part) → ⊥
+      none_unbound part is =
           let got = given_value part is.domain is.gives in
           let same = gives_same state settled.consistent.is_state.order (variables.Token token part) got.2.0 is.domain got.2.1 is.gives in
           is.several got.0 (subst (λ d. IsSingle d got.0) same got.2.2)
 
       pub parts_clear : IsDecided model decisions token → (flaw : Flaw) → IsOwnFlaw token flaw → IsFlaw model decisions state flaw → ⊥
       parts_clear decided (Undecided other) own is = is.1 (subst (λ t. IsDecided model decisions t) (sym own) decided)
-      parts_clear decided (Undetermined name) own is = not_open own.0 (subst (λ n. IsLeftOpen decisions state n) own.1 is.1)
+      parts_clear decided (Undetermined name) own is = none_unbound own.0 (subst (λ n. IsUnbound decisions state n) own.1 is.1)
       parts_clear decided (Unordered one other) own is = own
-      parts_clear decided (Untimed name) own is = not_open own.0 (subst (λ n. IsLeftOpen decisions state n) own.1 is.1)
+      parts_clear decided (Untimed name) own is = none_unbound own.0 (subst (λ n. IsUnbound decisions state n) own.1 is.1)
 
     rejected_clear : IsRejected decisions token → (flaw : Flaw) → IsOwnFlaw token flaw → IsFlaw model decisions state flaw → ⊥
     rejected_clear rejected (Undecided other) own is = is.1 (subst (λ t. IsDecided model decisions t) (sym own) (inr (inr rejected)))

@@ -32,7 +32,7 @@ AreInBase model state =
 
 -- the state has all that is supported, within its bases, grants the decisions, all that is claimed is consistent in it, and
 -- timelines fit; resources are left aside
-pub record IsConsistentState (model : Model) (decisions : List Decision) (state : State) : Type 0 where
+pub record IsPropagatedState (model : Model) (decisions : List Decision) (state : State) : Type 0 where
   pub is_state : IsState model state
   pub tokens : (token : TokenName)
       → IsSupportedToken model (situation_of decisions state) token → Contains state.tokens token
@@ -43,9 +43,9 @@ pub record IsConsistentState (model : Model) (decisions : List Decision) (state 
   pub claims : (claim : Claim) → IsClaim model decisions state claim → IsClaimConsistent model state claim
   pub timelines : FitTimelines model decisions state
 
--- the state is consistent, and resources fit too
+-- the state is propagated, and resources fit too
 pub record IsClosed (model : Model) (decisions : List Decision) (state : State) : Type 0 where
-  pub consistent : IsConsistentState model decisions state
+  pub consistent : IsPropagatedState model decisions state
   pub reusables : FitReusables model decisions state
   pub reservoirs : FitReservoirs model decisions state
 

@@ -42,7 +42,7 @@ abbrev pub IsOfRejectedToken : List Decision → VarName → Type 0
 IsOfRejectedToken decisions name = (token : TokenName) × BelongsTo name token × IsRejected decisions token
 
 -- the state has the variable, with more than one value, and its token isn't rejected
-pub record IsLeftOpen (decisions : List Decision) (state : State) (name : VarName) : Type 0 where
+pub record IsUnbound (decisions : List Decision) (state : State) (name : VarName) : Type 0 where
   pub domain : Domain
   pub gives : Gives state name domain
   pub several : (value : ℤ) → IsSingle domain value → ⊥
@@ -52,9 +52,9 @@ module _ (model : Model) (decisions : List Decision) (state : State) where
   -- the state has this flaw
   abbrev pub IsFlaw : Flaw → Type 0
   IsFlaw (Undecided token) = Contains state.tokens token × (IsDecided model decisions token → ⊥)
-  IsFlaw (Undetermined name) = IsUntimed name × IsLeftOpen decisions state name
+  IsFlaw (Undetermined name) = IsUntimed name × IsUnbound decisions state name
   IsFlaw (Unordered one other) = IsTokenBefore one other × AreUnordered model decisions state one other
-  IsFlaw (Untimed name) = IsTimed name × IsLeftOpen decisions state name
+  IsFlaw (Untimed name) = IsTimed name × IsUnbound decisions state name
 
   -- it has some flaw
   abbrev pub HasFlaw : Type 0

@@ -11,7 +11,7 @@ use Rattle.model_core.specs.Entries.{Entries}
 use Rattle.model_core.specs.History.{History}
 use Rattle.model_core.specs.State.{State, Gives, IsState, IsBelow}
 use Rattle.plan_defs.specs.Claims.{Claim, IsClaim, at_most}
-use Rattle.plan_defs.specs.Closure.{IsConsistentState, IsLeast, IsCollapsed}
+use Rattle.plan_defs.specs.Closure.{IsPropagatedState, IsLeast, IsCollapsed}
 use Rattle.plan_defs.specs.Consistency.{IsClaimConsistent}
 use Rattle.plan_defs.specs.History.{IsHistory}
 use Rattle.plan_defs.specs.Refusals.{IsFirstRefusal}
@@ -91,7 +91,7 @@ pub record HasWhatIsAsked (model : Model) (decisions : List Decision) (high low 
   pub claims : (claim : Claim) → IsClaim model decisions high claim → IsClaimConsistent model low claim
   pub orders : (one other : TokenName) → HaveToTurn model decisions high one other → CanEndBefore model low other one
 
--- each state below that is consistent, or closed, has what is asked for
+-- each state below that is propagated, or closed, has what is asked for
 abbrev pub StatesBelowHaveWhatIsAsked : (Model → List Decision → State → Type 0) → Type 0
 StatesBelowHaveWhatIsAsked Fits =
     (model : Model) (decisions : List Decision) (high low : State)
@@ -143,11 +143,11 @@ NarrowingIsAStep Fits =
 
 -- ---- lists
 
--- a state that is consistent for a list is consistent for each front of it
-abbrev pub FrontsStayConsistent : Type 0
-FrontsStayConsistent =
+-- a state that is propagated for a list is propagated for each front of it
+abbrev pub FrontsStayPropagated : Type 0
+FrontsStayPropagated =
     (model : Model) (front back : List Decision) (state : State)
-    → IsConsistentState model (front ++ back) state → IsConsistentState model front state
+    → IsPropagatedState model (front ++ back) state → IsPropagatedState model front state
 
 -- what is left of a list is left of itself
 abbrev pub SettlingIsIdempotent : Type 0

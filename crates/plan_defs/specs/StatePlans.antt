@@ -15,7 +15,7 @@ use Rattle.model_core.specs.Tokens.{IsFact}
 use Rattle.plan_defs.specs.declared.plan.Line.{Line}
 use Rattle.plan_defs.specs.declared.plan.Line.TheVariants as lines
 use Rattle.plan_defs.specs.declared.plan.Plan.{Plan}
-use Rattle.plan_defs.specs.Closure.{IsConsistentState}
+use Rattle.plan_defs.specs.Closure.{IsPropagatedState}
 use Rattle.plan_defs.specs.Plans.{IsLineBefore, place_in_values}
 use Rattle.plan_defs.specs.Settling.{IsSettled}
 
@@ -57,8 +57,8 @@ module _ (model : Model) (decisions : List Decision) (state : State) where
     pub lines : (line : Line) → Contains plan.lines line ↔ IsLineIn line
     pub order : AllPairs IsLineBefore plan.lines
 
--- the model is lawful, the list of decisions settled, and the state consistent for it
+-- the model is lawful, the list of decisions settled, and the state propagated for it
 pub record IsSettledState (model : Model) (decisions : List Decision) (state : State) : Type 0 where
   pub lawful : IsLawful model
   pub settled : IsSettled model decisions
-  pub consistent : IsConsistentState model decisions state
+  pub consistent : IsPropagatedState model decisions state

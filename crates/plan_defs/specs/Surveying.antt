@@ -51,7 +51,7 @@ pub record AreFirstValues (state : State) (place count : ℕ) (values : List ℤ
       → GivesOnly state (variables.Token token part) value
 
 -- one of the first so many parts of the token at the place has no single value
-pub record IsPartOpen (state : State) (place count : ℕ) (part : Part) : Type 0 where
+pub record IsPartUnbound (state : State) (place count : ℕ) (part : Part) : Type 0 where
   pub below : place_in_values part < count
   pub none : (token : TokenName) (value : ℤ)
       → IsTokenAt state place token → GivesOnly state (variables.Token token part) value → ⊥

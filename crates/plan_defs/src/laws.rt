@@ -1,7 +1,7 @@
 //! Laws of the definitions.
 
-ghost use Rattle.plan_defs.specs.Closure.{IsConsistentState, IsClosed};
-ghost use Rattle.plan_defs.specs.Laws.{LeastIsOne, LeastIsNotCollapsed, BelowIsReflexive, BelowIsTransitive, BelowIsAntisymmetric, WhatIsAskedStays, OrdersStay, StatesBelowHaveWhatIsAsked, ClaimsOfOrderBoundBoth, StepsAddUp, NarrowingIsAStep, FrontsStayConsistent, SharesAreSums, ChangesAreSums, SettlingIsIdempotent, FrontsHaveLeastStates, HistoriesAreSettled, FirstRefusalIsOne};
+ghost use Rattle.plan_defs.specs.Closure.{IsPropagatedState, IsClosed};
+ghost use Rattle.plan_defs.specs.Laws.{LeastIsOne, LeastIsNotCollapsed, BelowIsReflexive, BelowIsTransitive, BelowIsAntisymmetric, WhatIsAskedStays, OrdersStay, StatesBelowHaveWhatIsAsked, ClaimsOfOrderBoundBoth, StepsAddUp, NarrowingIsAStep, FrontsStayPropagated, SharesAreSums, ChangesAreSums, SettlingIsIdempotent, FrontsHaveLeastStates, HistoriesAreSettled, FirstRefusalIsOne};
 ghost use Rattle.plan_defs.specs.PlanLaws.{FirstBrokenIsOne, ValidPlansBreakNone, ValidPlansAreClosed};
 
 /// Decisions leave one least state at most, and none where they collapse.
@@ -17,21 +17,22 @@ pub fn below_is_an_order()
     ensures antisymmetric { BelowIsAntisymmetric }
 {}
 
-/// What each step keeps of the consistent, or of the closed states below is kept by any list of steps.
+/// What each step keeps of the propagated, or of the closed states below is kept by any list of steps.
 pub fn steps_add_up()
-    ensures consistent { StepsAddUp IsConsistentState }
+    ensures propagated { StepsAddUp IsPropagatedState }
     ensures closed { StepsAddUp IsClosed }
 {}
 
-/// To give a variable a smaller domain is a step where all consistent, or all closed states below have their domain in it.
+/// To give a variable a smaller domain is a step where all propagated, or all closed states below have their domain in
+/// it.
 pub fn narrowing_is_a_step()
-    ensures consistent { NarrowingIsAStep IsConsistentState }
+    ensures propagated { NarrowingIsAStep IsPropagatedState }
     ensures closed { NarrowingIsAStep IsClosed }
 {}
 
-/// What a consistent, or a closed state below has where one variable is claimed to be at most another.
+/// What a propagated, or a closed state below has where one variable is claimed to be at most another.
 pub fn claims_of_order_bound_both()
-    ensures consistent { ClaimsOfOrderBoundBoth IsConsistentState }
+    ensures propagated { ClaimsOfOrderBoundBoth IsPropagatedState }
     ensures closed { ClaimsOfOrderBoundBoth IsClosed }
 {}
 
@@ -41,15 +42,15 @@ pub fn what_is_asked_stays()
     ensures orders { OrdersStay }
 {}
 
-/// Each consistent, or closed state below a state has what that state asks for.
+/// Each propagated, or closed state below a state has what that state asks for.
 pub fn states_below_have_what_is_asked()
-    ensures consistent { StatesBelowHaveWhatIsAsked IsConsistentState }
+    ensures propagated { StatesBelowHaveWhatIsAsked IsPropagatedState }
     ensures closed { StatesBelowHaveWhatIsAsked IsClosed }
 {}
 
-/// A state that is consistent for a list of decisions is consistent for each front of the list.
-pub fn fronts_stay_consistent()
-    ensures { FrontsStayConsistent }
+/// A state that is propagated for a list of decisions is so for each front of the list.
+pub fn fronts_stay_propagated()
+    ensures { FrontsStayPropagated }
 {}
 
 /// What is left of a list is left of itself, each front of it has a least state, and the lists of histories are settled.

@@ -100,7 +100,7 @@ pub fn broken_token(model: &Model, plan: &Plan) -> Option<Place>
 }
 
 // Whether the two are one token.
-fn is_same(one: &TokenName, other: &TokenName) -> bool
+fn is_same_token(one: &TokenName, other: &TokenName) -> bool
     ensures { MatchBool result (one.now ≡ other.now) (one.now ≡ other.now → ⊥) }
 {
     match order(one, other) {
@@ -118,7 +118,7 @@ fn suits_merge(model: &Model, plan: &Plan, token: &TokenName, target: &TokenName
         (SuitsMerge model.now plan.now token.now target.now)
         (SuitsMerge model.now plan.now token.now target.now → ⊥) }
 {
-    if is_same(target, token) {
+    if is_same_token(target, token) {
         return false;
     }
     if !have_same_predicate(model, token, target) {

@@ -10,7 +10,6 @@ use Rattle.model_core.specs.declared.variable.ValueKind.{ValueKind}
 use Rattle.model_core.specs.declared.variable.ValueKind.TheVariants as kinds
 use Rattle.model_core.specs.Lawful.{IsLawful}
 use Rattle.model_core.proofs.Distinct.{pairs_front, pairs_back, place_once}
-use Rattle.model_core.proofs.Items.{item_within, item_is}
 use Rattle.plan_text.specs.Values.{IsValueText}
 use Rattle.plan_resolve.proofs.Valuing.{value_small}
 
@@ -26,7 +25,7 @@ flat_distinct (first ∷ enums) (suc number) found pairs is =
 
 named_once : (names : List (List ℕ)) (i j : ℕ) (name : List ℕ) → AllPairs ◌≢◌ names → slice_get names i ≡ Some name → slice_get names j ≡ Some name → i ≡ j
 named_once names i j name distinct first second =
-    place_once names i j name distinct (item_within names i name first) (item_within names j name second) (item_is names i name name first ∙ sym (item_is names j name name second))
+    place_once names distinct i j name first second
 
 objects_once : (model : Model) (i j : ℕ) (one other : Object) → IsLawful model → slice_get model.objects i ≡ Some one → slice_get model.objects j ≡ Some other → one.name ≡ other.name → i ≡ j
 objects_once model i j one other lawful first second same =

@@ -25,7 +25,7 @@ use Rattle.plan_defs.specs.Plans.{IsLineOf, IsLineBefore, order_name}
 use Rattle.plan_defs.specs.Terms.{BelongsTo}
 use Rattle.plan_defs.proofs.Members.{all_from_get}
 use Rattle.plan_defs.proofs.States.{gives_same}
-use Rattle.plan_defs.specs.Flaws.{Flaw, Undecided, Undetermined, Unordered, Untimed, IsFlaw, IsLeftOpen}
+use Rattle.plan_defs.specs.Flaws.{Flaw, Undecided, Undetermined, Unordered, Untimed, IsFlaw, IsUnbound}
 use Rattle.plan_defs.specs.StatePlans.{GivesOnly, IsLineIn, IsSettledState}
 use Rattle.plan_defs.specs.Surveying.{AreMeant, Surveys, AreGlobalValues, IsFlawOf, IsLineOfToken, IsLineOfPlaces, IsFlawOfPlaces, IsUnorderedFlaw, IsOrderedPlan, IsOwnLine, IsOwnFlaw, IsLocalsLine, IsLocalsFlaw}
 use Rattle.plan_defs.proofs.Admitting.{token_of_state, target_of_model}
@@ -129,7 +129,7 @@ module _ (model : Model) (decisions : List Decision) (state : State) (settled : 
         let got = get_within globals number (omega (arith, below, are.long)) in
         (got.0, got.1, are.are number got.0 got.1)
 
-    no_global : (number : ℕ) → IsLeftOpen decisions state (variables.Global number) → ⊥
+    no_global : (number : ℕ) → IsUnbound decisions state (variables.Global number) → ⊥
     no_global number is =
         let got = global_given number is.domain is.gives in
         let same = gives_same state settled.consistent.is_state.order (variables.Global number) got.2.0 is.domain got.2.1 is.gives in

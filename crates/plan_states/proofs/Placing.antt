@@ -34,12 +34,12 @@ use Rattle.plan_states.specs.declared.fault.PlanOfFault.{PlanOfFault}
 use Rattle.plan_states.specs.declared.fault.PlanOfFault.TheVariants.{Open, Memory}
 use Rattle.plan_defs.specs.Flaws.{Flaw, Undecided, Undetermined, Unordered, Untimed, IsFlaw, HasFlaw, IsOfRejectedToken}
 use Rattle.plan_defs.specs.StatePlans.{GivesOnly, TakesPlaceAs, IsStatePlan, IsSettledState}
-use Rattle.plan_defs.specs.Surveying.{Surveys, AreFirstValues, AreGlobalValues, IsPartOpen, HasPartCount, IsRejectedState, IsStatedBy, IsOwnLine, IsOwnFlaw, IsLocalLine, IsLocalFlaw, IsLineOfToken, IsFlawOf, IsLineOfPlace, IsFlawOfPlace, IsLineOfPlaces, IsFlawOfPlaces, IsUnorderedFlaw, IsOrderedPlan}
+use Rattle.plan_defs.specs.Surveying.{Surveys, AreFirstValues, AreGlobalValues, IsPartUnbound, HasPartCount, IsRejectedState, IsStatedBy, IsOwnLine, IsOwnFlaw, IsLocalLine, IsLocalFlaw, IsLineOfToken, IsFlawOf, IsLineOfPlace, IsFlawOfPlace, IsLineOfPlaces, IsFlawOfPlaces, IsUnorderedFlaw, IsOrderedPlan}
 use Rattle.plan_states.proofs.Completing.{ordered_plan}
 use Rattle.plan_defs.proofs.Determining.{value_once}
 use Rattle.plan_states.proofs.Following.{places_before}
 use Rattle.plan_states.proofs.Gathering.{surveys_none, surveys_one, surveys_same}
-use Rattle.plan_defs.proofs.Stating.{own_once, open_part, states_merged, takes_not_rejected, merged_not_rejected}
+use Rattle.plan_defs.proofs.Stating.{own_once, unbound_part, states_merged, takes_not_rejected, merged_not_rejected}
 use Rattle.plan_defs.proofs.Telling.{one_at}
 use Rattle.plan_defs.specs.Unordered.{IsPairAt}
 
@@ -177,14 +177,14 @@ module _ (model : Model) (decisions : List Decision) (state : State) (settled : 
 
   -- a part of a token that takes place, or that is merged, has no value
   pub active_open : (place count : ℕ) (fact : Bool) → HasPartCount model state place count → ((token : TokenName) × IsTokenAt state place token × TakesPlaceAs model decisions fact token)
-      → (part : Part) × IsPartOpen state place count part → HasFlaw model decisions state
+      → (part : Part) × IsPartUnbound state place count part → HasFlaw model decisions state
   active_open place count fact counts takes is =
-      open_part model decisions state settled place takes.0 takes.1 count counts (λ rejected. takes_not_rejected model decisions state settled fact takes.0 takes.2 rejected) is
+      unbound_part model decisions state settled place takes.0 takes.1 count counts (λ rejected. takes_not_rejected model decisions state settled fact takes.0 takes.2 rejected) is
 
   pub merged_open : (place count target : ℕ) → HasPartCount model state place count → ((token : TokenName) × IsTokenAt state place token × IsMergedAt state decisions token target)
-      → (part : Part) × IsPartOpen state place count part → HasFlaw model decisions state
+      → (part : Part) × IsPartUnbound state place count part → HasFlaw model decisions state
   merged_open place count target counts merged is =
-      open_part model decisions state settled place merged.0 merged.1 count counts
+      unbound_part model decisions state settled place merged.0 merged.1 count counts
       (λ rejected. merged_not_rejected model decisions state settled merged.0 merged.2.0 merged.2.2 rejected) is
 
   pub merged_said : (place count target : ℕ) (values : List ℤ) (result : Result Line PlanOfFault) → HasPartCount model state place count → AreFirstValues state place count values

@@ -17,7 +17,7 @@ pub use fault::PlanOfFault;
 pub use making::plan_of;
 
 // Puts the item at the end of the list.
-fn put<T: Drop>(list: &mut Vec<T>, item: T) -> Result<(), PlanOfFault>
+fn push_item<T: Drop>(list: &mut Vec<T>, item: T) -> Result<(), PlanOfFault>
     ensures { MatchResult result
         (λ _. list.new.items ≡ list.old.items ++ item ∷ [])
         (λ fault. fault ≡ Memory) }

@@ -18,7 +18,7 @@ ghost use Rattle.plan_defs.specs.StatePlans.{IsSettledState};
 
 use super::fault::PlanOfFault;
 use super::parts::{name_at, pred_in};
-use super::put;
+use super::push_item;
 use eu_name::name::VarName;
 use model_core::model::Model;
 use model_core::view::View;
@@ -98,7 +98,7 @@ fn add_local<V: View>(
         return Err(PlanOfFault::Open);
     };
     let line = local_line(view, place, rule, number, value)?;
-    put(lines, line)
+    push_item(lines, line)
 }
 
 // Puts the lines of the locals of this rule of the token at the place behind the others.

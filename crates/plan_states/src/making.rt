@@ -13,7 +13,7 @@ ghost use Rattle.plan_defs.specs.Flaws.{HasFlaw};
 ghost use Rattle.plan_defs.specs.StatePlans.{GivesOnly, IsSettledState, IsStatePlan};
 
 use super::fault::PlanOfFault;
-use super::put;
+use super::push_item;
 use super::tokens::add_token;
 use eu_name::name::VarName;
 use eu_name::sequence::Sequence;
@@ -49,7 +49,7 @@ fn global_values<V: View>(alloc: Global, model: &Model, view: &V) -> Result<Vec<
         let Some(value) = global_value(view, number as u32) else {
             return Err(PlanOfFault::Open);
         };
-        put(&mut values, value)?;
+        push_item(&mut values, value)?;
     }
     Ok(values)
 }

@@ -11,10 +11,10 @@ ghost use Rattle.model_core.specs.Views.{IsTokenAt};
 ghost use Rattle.plan_defs.specs.Plans.{place_in_values};
 ghost use Rattle.plan_states.specs.declared.fault.PlanOfFault.TheVariants.{Open, Memory};
 ghost use Rattle.plan_defs.specs.StatePlans.{GivesOnly};
-ghost use Rattle.plan_defs.specs.Surveying.{AreFirstValues, IsPartOpen};
+ghost use Rattle.plan_defs.specs.Surveying.{AreFirstValues, IsPartUnbound};
 
 use super::fault::PlanOfFault;
-use super::put;
+use super::push_item;
 use eu_name::name::{Part, TokenName};
 use model_core::class::Pred;
 use model_core::model::Model;
@@ -59,14 +59,14 @@ pub fn part_values<V: View>(
     requires { AreInOrder (V.state view.now) }
     ensures { MatchResult result
         (λ values. AreFirstValues (V.state view.now) place count values.items)
-        (λ fault. fault ≡ Open → (part : Part) × IsPartOpen (V.state view.now) place count part) }
+        (λ fault. fault ≡ Open → (part : Part) × IsPartUnbound (V.state view.now) place count part) }
 {
     let mut values = Vec::new(alloc);
     for number in 0..count {
         let Some(value) = part_value(view, place, part_at(number)) else {
             return Err(PlanOfFault::Open);
         };
-        put(&mut values, value)?;
+        push_item(&mut values, value)?;
     }
     Ok(values)
 }

@@ -16,7 +16,7 @@ ghost use Rattle.plan_defs.specs.StatePlans.{IsSettledState, TakesPlaceAs};
 use super::fault::PlanOfFault;
 use super::locals::add_locals;
 use super::parts::{count_parts, name_at, part_values};
-use super::put;
+use super::push_item;
 use eu_name::name::TokenName;
 use eu_name::sequence::Sequence;
 use model_core::model::Model;
@@ -181,7 +181,7 @@ fn add_own<V: View>(
         (λ fault. fault ≡ Open → HasFlaw (V.model view.now) (V.decisions view.now) (V.state view.now)) }
 {
     let line = own_line(alloc, view, place, parts)?;
-    put(lines, line)
+    push_item(lines, line)
 }
 
 /// Puts the line of the token at the place and the lines of its locals behind the others.

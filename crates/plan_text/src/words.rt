@@ -68,7 +68,11 @@ pub fn is_word(word: &[u8], expected: &[u8]) -> bool
 
 impl<'a> Cursor<'a> {
     /// Goes behind the word that says this, and stays before one that is wrong.
-    pub fn settle<X: Drop>(&mut self, rest: &'a [u8], judged: Result<X, Wrong>) -> Result<X, Wrong>
+    pub fn pass_word<X: Drop>(
+        &mut self,
+        rest: &'a [u8],
+        judged: Result<X, Wrong>,
+    ) -> Result<X, Wrong>
         ensures judged { result ≡ judged }
         ensures rest { self.new.rest.now ≡ rest_behind judged self.old.rest.now rest.now }
     {

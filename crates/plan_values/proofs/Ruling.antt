@@ -1,14 +1,13 @@
--- The rules of tokens, and what stands in their open blocks.
-use Rattle.std.proofs.Common.{◌≡◌, ℕ, Bool, List, [], Option, Some, None, sym, ap, ◌∙◌, subst, arith}
-use Rattle.std.specs.Prelude.{slice_get, All, MatchBool, MatchOption}
+-- The rules of tokens, and whether their items are true.
+use Rattle.std.proofs.Common.{◌≡◌, ℕ, List, [], Option, Some, None, sym, ap, ◌∙◌, subst, arith}
+use Rattle.std.specs.Prelude.{slice_get, All, MatchOption}
 use Rattle.eu_name.specs.declared.name.Step.{Step}
 use Rattle.eu_name.specs.declared.name.TokenName.{TokenName}
 use Rattle.model_core.specs.declared.model.Model.{Model}
 use Rattle.model_core.specs.declared.model.Root.{Root}
 use Rattle.model_core.specs.declared.rule.Rule.{Rule}
 use Rattle.model_core.specs.declared.rule.Slot.{Slot}
-use Rattle.model_core.specs.Blocks.{Direct, Follows}
-use Rattle.model_core.specs.Entries.{Entries}
+use Rattle.model_core.specs.Blocks.{Follows}
 use Rattle.model_core.specs.Lookup.{LeadsOn}
 use Rattle.model_core.specs.Names.{token_at}
 use Rattle.model_core.specs.Numbers.{PlacedItem, items_from}
@@ -21,9 +20,8 @@ use Rattle.plan_defs.specs.declared.plan.Plan.{Plan}
 use Rattle.plan_defs.specs.Plans.{IsActivatedIn}
 use Rattle.plan_defs.specs.Terms.{InRule}
 use Rattle.plan_defs.specs.Valid.{IsTrueInRule}
-use Rattle.plan_values.specs.Openings.{Allows, StandsInside, StandsInRule}
+use Rattle.plan_values.specs.Openings.{Allows}
 use Rattle.plan_values.specs.Walks.{FirstFails, IsTruePlaced, HasRuleOf, IsAllTrue, IsFirstFalse}
-use Rattle.plan_values.proofs.Matching.{match_bool}
 
 -- ---- predicates
 
@@ -59,25 +57,6 @@ module _ (model : Model) (token : TokenName) (number : ℕ) where
       → (rule : Rule) → HasRuleOf model token number rule → ⊥
   no_rule pred (slot, has, same) none rule is =
       none rule (subst (λ (n : ℕ). HasRule model n number rule) (ap (λ (s : Slot). s.pred) (token_once model token is.slot slot is.has_token has) ∙ same) is.has_rule)
-
-  -- what stands in open blocks of the one rule
-  pub rule_answer : (plan : Plan) (rule : Rule) (top : Entries) (what : Direct) (answer : Bool) → HasRuleOf model token number rule → top ≡ rule.top
-      → MatchBool answer (StandsInside (Allows model plan (InRule token number)) top what) (StandsInside (Allows model plan (InRule token number)) top what → ⊥)
-      → MatchBool answer (StandsInRule model plan token number what) (StandsInRule model plan token number what → ⊥)
-  rule_answer plan rule top what answer is same stands = match_bool answer _ _ _ _
-      (λ inside. record {
-        slot = is.slot;
-        has_token = is.has_token;
-        rule = rule;
-        has_rule = is.has_rule;
-        inside = subst (λ (t : Entries). StandsInside (Allows model plan (InRule token number)) t what) same inside;
-      })
-      (λ none there.
-      let rules = one_rule there.rule rule (record { slot = there.slot; has_token = there.has_token; has_rule = there.has_rule }) is in
-      none (subst (λ (t : Entries). StandsInside (Allows model plan (InRule token number)) t what) (ap (λ (r : Rule). r.top) rules ∙ sym same) there.inside)) stands
-
-  pub nothing_stands : (plan : Plan) (what : Direct) → ((rule : Rule) → HasRuleOf model token number rule → ⊥) → StandsInRule model plan token number what → ⊥
-  nothing_stands plan what none there = none there.rule (record { slot = there.slot; has_token = there.has_token; has_rule = there.has_rule })
 
   -- ---- items
 

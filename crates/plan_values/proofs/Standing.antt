@@ -1,6 +1,6 @@
 -- What stands in the open blocks among some entries.
-use Rattle.std.proofs.Common.{◌≡◌, ℕ, zero, suc, Bool, List, [], ◌∷◌, Some, refl, sym, ap, subst}
-use Rattle.std.specs.Prelude.{Contains, slice_get, MatchBool, ◌↔◌}
+use Rattle.std.proofs.Common.{◌≡◌, ℕ, zero, suc, List, [], ◌∷◌, Some, refl, sym, ap, subst}
+use Rattle.std.specs.Prelude.{Contains, slice_get}
 use Rattle.eu_name.proofs.Members.{get_from_contains, contains_from_get}
 use Rattle.model_core.specs.declared.rule.Entry.{Entry}
 use Rattle.model_core.specs.declared.rule.Entry.TheVariants.{Slot, Local, Item, Branch}
@@ -9,10 +9,7 @@ use Rattle.model_core.specs.declared.rule.Side.{Side}
 use Rattle.model_core.specs.Block.{plain_entries}
 use Rattle.model_core.specs.Blocks.{Direct, OfSlot, OfLocal, OfItem, OfBranch, chosen, direct}
 use Rattle.model_core.specs.Entries.{Entries}
-use Rattle.plan_values.specs.declared.open.Standing.{Standing}
-use Rattle.plan_values.specs.declared.open.Standing.TheVariants as standings
-use Rattle.plan_values.specs.Openings.{standing_direct, entry_direct, StandsInside, StandsWith}
-use Rattle.plan_values.proofs.Matching.{match_bool}
+use Rattle.plan_values.specs.Openings.{entry_direct, StandsInside, StandsWith}
 
 -- what stands directly among entries
 abbrev pub standing : List Entry → List Direct
@@ -87,26 +84,3 @@ module _ (Allowed : Guard → Side → Type 0) where
     record { entry = k; side = side } ∷ path,
     (block, (guard, (then, otherwise, (direct_at entries k (Branch guard then otherwise) at, (allowed, way)))), there),
   )
-
-  -- what stands in a branch stands in the block that its guard opens
-  pub branch_answer : (entry : Entry) (guard : Guard) (then otherwise block : Entries) (found : Side) (what : Direct) (answer : Bool) → entry ≡ Branch guard then otherwise
-      → block ≡ chosen found then otherwise → ((side : Side) → Allowed guard side ↔ (side ≡ found))
-      → MatchBool answer (StandsInside Allowed block what) (StandsInside Allowed block what → ⊥)
-      → MatchBool answer (StandsWith Allowed entry what) (StandsWith Allowed entry what → ⊥)
-  branch_answer entry guard then otherwise block found what answer is same opens inside =
-      subst (λ (e : Entry). MatchBool answer (StandsWith Allowed e what) (StandsWith Allowed e what → ⊥)) (sym is)
-      (match_bool answer _ _ _ _
-      (λ stands. (found, (opens found).1 refl, subst (λ (b : Entries). StandsInside Allowed b what) same stands))
-      (λ none stands. none (subst (λ (b : Entries). StandsInside Allowed b what) (sym same)
-      (subst (λ (s : Side). StandsInside Allowed (chosen s then otherwise) what) ((opens stands.0).0 stands.1) stands.2))) inside)
-
-  pub closed_answer : (entry : Entry) (guard : Guard) (then otherwise : Entries) (what : Direct) → entry ≡ Branch guard then otherwise → ((side : Side) → Allowed guard side → ⊥)
-      → StandsWith Allowed entry what → ⊥
-  closed_answer entry guard then otherwise what is closed stands =
-      let within : StandsWith Allowed (Branch guard then otherwise) what = subst (λ (e : Entry). StandsWith Allowed e what) is stands in
-      closed within.0 within.1
-
--- a slot or a local is no branch
-pub no_branch : (what : Standing) (guard : Guard) (then otherwise : Entries) → OfBranch guard then otherwise ≡ standing_direct what → ⊥
-no_branch (standings.Slot number) guard then otherwise same = cc
-no_branch (standings.Local number) guard then otherwise same = cc

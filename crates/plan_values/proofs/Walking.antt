@@ -22,7 +22,7 @@ use Rattle.plan_defs.specs.declared.plan.Plan.{Plan}
 use Rattle.plan_defs.specs.Terms.{Context}
 use Rattle.plan_values.specs.Openings.{Allows, entry_direct}
 use Rattle.plan_values.specs.Truths.{IsTrueWhere}
-use Rattle.plan_values.specs.Walks.{FirstFails, Scans, IsOpened, IsClosed, IsReached, IsEntryReached, IsTruePlaced, items_of}
+use Rattle.plan_values.specs.Walks.{FirstFails, Scans, IsOpened, IsShut, IsReached, IsEntryReached, IsTruePlaced, items_of}
 use Rattle.plan_values.proofs.Matching.{read_item}
 use Rattle.plan_values.proofs.Standing.{direct_at}
 
@@ -62,9 +62,9 @@ module _ (Allowed : Guard → Side → Type 0) where
         follows_join top path (record { entry = place; side = side } ∷ []) block (chosen side then otherwise) way (guard, (then, otherwise, (at, (allowed, refl))))
 
     -- and else no way goes on there
-    turn_closed : (block : Entries) → Follows Allowed top path block → slice_get (direct block) place ≡ Some (OfBranch guard then otherwise) → (Allowed guard side → ⊥)
-        → IsClosed Allowed top (turned path place side)
-    turn_closed block way at none more last long =
+    turn_shut : (block : Entries) → Follows Allowed top path block → slice_get (direct block) place ≡ Some (OfBranch guard then otherwise) → (Allowed guard side → ⊥)
+        → IsShut Allowed top (turned path place side)
+    turn_shut block way at none more last long =
         let turn : Turn = record { entry = place; side = side } in
         let split = follows_split top path (turn ∷ more) last (subst (λ (p : List Turn). Follows Allowed top p last) (append_assoc path (turn ∷ []) more) long) in
         let same = follows_once top path split.0 block split.1 way in
@@ -73,17 +73,17 @@ module _ (Allowed : Guard → Side → Type 0) where
         let g : guard ≡ on.0 = cc in
         none (subst (λ (x : Guard). Allowed x side) (sym g) on.1.2.1.0)
 
-    closed_on : IsClosed Allowed top path → IsClosed Allowed top (turned path place side)
-    closed_on closed more last long =
+    shut_on : IsShut Allowed top path → IsShut Allowed top (turned path place side)
+    shut_on shut more last long =
         let turn : Turn = record { entry = place; side = side } in
-        closed (turn ∷ more) last (subst (λ (p : List Turn). Follows Allowed top p last) (append_assoc path (turn ∷ []) more) long)
+        shut (turn ∷ more) last (subst (λ (p : List Turn). Follows Allowed top p last) (append_assoc path (turn ∷ []) more) long)
 
     pub turn_reached : (block : Entries) (reached opened : Bool) → IsReached Allowed top path block reached → slice_get (direct block) place ≡ Some (OfBranch guard then otherwise)
         → MatchBool opened (IsOpened Allowed reached guard side) (IsOpened Allowed reached guard side → ⊥) → IsReached Allowed top (turned path place side) (chosen side then otherwise) opened
     turn_reached block true true way at is = turn_open block way at is.1
-    turn_reached block true false way at isnt = turn_closed block way at (λ allowed. isnt (refl, allowed))
-    turn_reached block false true closed at is = absurd (cc)
-    turn_reached block false false closed at isnt = closed_on closed
+    turn_reached block true false way at isnt = turn_shut block way at (λ allowed. isnt (refl, allowed))
+    turn_reached block false true shut at is = absurd (cc)
+    turn_reached block false false shut at isnt = shut_on shut
 
 -- ---- what is found in lists
 
@@ -225,8 +225,8 @@ module _ (model : Model) (plan : Plan) (context : Context) (top : Entries) where
   holds_reached : (path : List Turn) (item : what.Item) (reached : Bool) (block other : Entries) → (reached ≡ true → IsTrueWhere model plan context item)
       → IsReached Allowed top path block reached → Follows Allowed top path other → IsTrueWhere model plan context item
   holds_reached path item true block other holds way follows = holds refl
-  holds_reached path item false block other holds closed follows =
-      absurd (closed [] other (subst (λ (p : List Turn). Follows Allowed top p other) (sym (append-nil path)) follows))
+  holds_reached path item false block other holds shut follows =
+      absurd (shut [] other (subst (λ (p : List Turn). Follows Allowed top p other) (sym (append-nil path)) follows))
 
   pub item_passes : (path : List Turn) (place : ℕ) (entry : Entry) (item : what.Item) (reached : Bool) → entry ≡ Item item
       → (reached ≡ true → IsTrueWhere model plan context item) → IsEntryReached Allowed top path place entry reached

@@ -18,8 +18,6 @@ use Rattle.plan_defs.specs.declared.plan.Plan.{Plan}
 use Rattle.plan_defs.specs.Plans.{plan_situation}
 use Rattle.plan_defs.specs.Support.{Opens}
 use Rattle.plan_defs.specs.Terms.{Context, InRule}
-use Rattle.plan_values.specs.declared.open.Standing.{Standing}
-use Rattle.plan_values.specs.declared.open.Standing.TheVariants as standings
 use Rattle.plan_values.specs.Meanings.{CountsAt, HasTermValue}
 
 -- what is said of the term counts, and it has this value
@@ -38,11 +36,6 @@ Allows model plan context guard side = Opens model (plan_situation plan) context
 abbrev pub side_when : Bool → Side
 side_when true = Then
 side_when false = Otherwise
-
--- the slot or the local, as it stands in a block
-abbrev pub standing_direct : Standing → Direct
-standing_direct (standings.Slot number) = OfSlot number
-standing_direct (standings.Local number) = OfLocal number
 
 -- the entry, as it stands in a block
 abbrev pub entry_direct : Entry → Direct

@@ -44,12 +44,12 @@ abbrev pub IsOpened : (Guard → Side → Type 0) → Bool → Guard → Side �
 IsOpened Allowed reached guard side = (reached ≡ true) × Allowed guard side
 
 -- no way that begins with this one is open
-abbrev pub IsClosed : (Guard → Side → Type 0) → Entries → List Turn → Type 0
-IsClosed Allowed top path = (more : List Turn) (block : Entries) → Follows Allowed top (path ++ more) block → ⊥
+abbrev pub IsShut : (Guard → Side → Type 0) → Entries → List Turn → Type 0
+IsShut Allowed top path = (more : List Turn) (block : Entries) → Follows Allowed top (path ++ more) block → ⊥
 
 -- the way leads to the block, which is open; or what begins with the way isn't
 abbrev pub IsReached : (Guard → Side → Type 0) → Entries → List Turn → Entries → Bool → Type 0
-IsReached Allowed top path block reached = MatchBool reached (Follows Allowed top path block) (IsClosed Allowed top path)
+IsReached Allowed top path block reached = MatchBool reached (Follows Allowed top path block) (IsShut Allowed top path)
 
 -- the entry stands at the place of such a block
 abbrev pub IsEntryReached : (Guard → Side → Type 0) → Entries → List Turn → ℕ → Entry → Bool → Type 0

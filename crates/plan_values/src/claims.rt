@@ -83,25 +83,26 @@ fn are_true_of_two(model: &Model, plan: &Plan, at: Standpoint, kind: Kind, x: Te
     }
 }
 
-// Whether the three terms have values of which the constraint holds.
-fn are_true_of_three(
-    model: &Model,
-    plan: &Plan,
-    at: Standpoint,
+// A constraint of three terms.
+#[derive(Clone, Copy)]
+struct Ternary {
     kind: Kind,
     x: Term,
     y: Term,
     z: Term,
-) -> bool
+}
+
+// Whether the three terms have values of which the constraint holds.
+fn are_true_of_three(model: &Model, plan: &Plan, at: Standpoint, ternary: Ternary) -> bool
     requires { IsOrderly plan.now }
     ensures { MatchBool result
-        (AreTrueOf model.now plan.now (context_of at.entry) kind (x ∷ y ∷ z ∷ []))
-        (AreTrueOf model.now plan.now (context_of at.entry) kind (x ∷ y ∷ z ∷ []) → ⊥) }
+        (AreTrueOf model.now plan.now (context_of at.entry) ternary.kind (ternary.x ∷ ternary.y ∷ ternary.z ∷ []))
+        (AreTrueOf model.now plan.now (context_of at.entry) ternary.kind (ternary.x ∷ ternary.y ∷ ternary.z ∷ []) → ⊥) }
 {
-    match term_value(plan, at, x) {
-        Some(first) => match term_value(plan, at, y) {
-            Some(second) => match term_value(plan, at, z) {
-                Some(third) => holds_of_three(model, kind, first, second, third),
+    match term_value(plan, at, ternary.x) {
+        Some(first) => match term_value(plan, at, ternary.y) {
+            Some(second) => match term_value(plan, at, ternary.z) {
+                Some(third) => holds_of_three(model, ternary.kind, first, second, third),
                 None => false,
             },
             None => false,
@@ -119,7 +120,15 @@ pub fn are_true(model: &Model, plan: &Plan, at: Standpoint, kind: Kind, terms: &
 {
     match terms {
         [x, y] => are_true_of_two(model, plan, at, kind, *x, *y),
-        [x, y, z] => are_true_of_three(model, plan, at, kind, *x, *y, *z),
+        [x, y, z] => {
+            let ternary = Ternary {
+                kind,
+                x: *x,
+                y: *y,
+                z: *z,
+            };
+            are_true_of_three(model, plan, at, ternary)
+        }
         _ => false,
     }
 }

@@ -1,19 +1,17 @@
-//! Which blocks of rules are open by the values of a plan, and what stands in them.
+//! Which blocks of rules are open by the values of a plan.
 
 ghost use Rattle.std.specs.Prelude.{◌≡◌, ◌≢◌, ◌↔◌, ℤ, MatchBool, MatchOption};
 ghost use Rattle.model_core.specs.declared.rule.Side.{Side};
-ghost use Rattle.model_core.specs.Block.{plain_entries};
-ghost use Rattle.model_core.specs.Blocks.{chosen};
 ghost use Rattle.plan_defs.specs.Plans.{plan_situation};
 ghost use Rattle.plan_defs.specs.Support.{Opens};
 ghost use Rattle.plan_values.specs.Keys.{IsOrderly};
 ghost use Rattle.plan_values.specs.Meanings.{context_of};
-ghost use Rattle.plan_values.specs.Openings.{IsRead, AreRead, Allows, side_when, standing_direct, StandsWith, StandsInside};
+ghost use Rattle.plan_values.specs.Openings.{IsRead, AreRead, side_when};
 
 use super::terms::{Standpoint, term_counts, term_value};
 use model_core::item::Term;
 use model_core::model::Model;
-use model_core::rule::{Block, Entry, Guard, Side};
+use model_core::rule::{Guard, Side};
 use plan_defs::plan::Plan;
 
 // The value of the term, where what is said of it counts.
@@ -31,7 +29,7 @@ fn read(model: &Model, plan: &Plan, at: Standpoint, term: Term) -> Option<i32>
 }
 
 // Whether the two values are one.
-fn is_same(one: i32, other: i32) -> bool
+fn is_same_value(one: i32, other: i32) -> bool
     ensures { MatchBool result (one ≡ other) (one ≢ other) }
 {
     one == other
@@ -47,7 +45,7 @@ fn are_equal(model: &Model, plan: &Plan, at: Standpoint, one: Term, other: Term)
 {
     match read(model, plan, at, one) {
         Some(value) => match read(model, plan, at, other) {
-            Some(found) => Some(is_same(value, found)),
+            Some(found) => Some(is_same_value(value, found)),
             None => None,
         },
         None => None,
@@ -79,76 +77,4 @@ fn side_where(truth: bool) -> Side
     ensures { result ≡ side_when truth }
 {
     if truth { Side::Then } else { Side::Otherwise }
-}
-
-// The block on this side of a branch.
-fn block_on<'a>(side: Side, then: &'a Block, otherwise: &'a Block) -> &'a Block
-    ensures { result.now ≡ chosen side then.now otherwise.now }
-{
-    match side {
-        Side::Then => then,
-        Side::Otherwise => otherwise,
-    }
-}
-
-/// A slot or a local of a rule, by its number.
-#[derive(Clone, Copy)]
-pub enum Standing {
-    Slot(u32),
-    Local(u32),
-}
-
-// Whether this stands directly among the entries, or in an open block inside of them.
-#[cycle(standing)]
-pub fn stands_among(
-    model: &Model,
-    plan: &Plan,
-    at: Standpoint,
-    entries: &[Entry],
-    what: Standing,
-) -> bool
-    requires { IsOrderly plan.now }
-    ensures { MatchBool result
-        (StandsInside (Allows model.now plan.now (context_of at.entry)) (plain_entries entries.now) (standing_direct what))
-        (StandsInside (Allows model.now plan.now (context_of at.entry)) (plain_entries entries.now) (standing_direct what)
-        → ⊥) }
-{
-    for entry in entries {
-        if stands_with(model, plan, at, entry, what) {
-            return true;
-        }
-    }
-    false
-}
-
-// Whether the entry is this, or this stands in an open block of it.
-#[cycle(standing)]
-fn stands_with(model: &Model, plan: &Plan, at: Standpoint, entry: &Entry, what: Standing) -> bool
-    requires { IsOrderly plan.now }
-    ensures { MatchBool result
-        (StandsWith (Allows model.now plan.now (context_of at.entry)) entry.now (standing_direct what))
-        (StandsWith (Allows model.now plan.now (context_of at.entry)) entry.now (standing_direct what) → ⊥) }
-{
-    match entry {
-        Entry::Slot(slot) => match what {
-            Standing::Slot(number) => *slot == number,
-            Standing::Local(_) => false,
-        },
-        Entry::Local(local) => match what {
-            Standing::Local(number) => *local == number,
-            Standing::Slot(_) => false,
-        },
-        Entry::Item(_) => false,
-        Entry::Branch {
-            guard,
-            then,
-            otherwise,
-        } => match opened_side(model, plan, at, *guard) {
-            Some(side) => {
-                let block = block_on(side, then, otherwise);
-                stands_among(model, plan, at, block.entries.as_slice(), what)
-            }
-            None => false,
-        },
-    }
 }

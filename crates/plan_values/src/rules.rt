@@ -1,6 +1,6 @@
 //! What the rules of a token ask for in a plan.
 
-ghost use Rattle.std.specs.Prelude.{◌≡◌, ◌<◌, ℕ, MatchBool, MatchOption};
+ghost use Rattle.std.specs.Prelude.{◌≡◌, ◌<◌, ℕ, MatchOption};
 ghost use Rattle.model_core.specs.declared.rule.Rule.{Rule};
 ghost use Rattle.model_core.specs.declared.rule.Slot.{Slot};
 ghost use Rattle.model_core.specs.Block.{plain_entries};
@@ -8,11 +8,9 @@ ghost use Rattle.model_core.specs.Lawful.{IsLawful};
 ghost use Rattle.model_core.specs.Tokens.{HasToken, HasRule};
 ghost use Rattle.plan_defs.specs.Plans.{IsActivatedIn};
 ghost use Rattle.plan_values.specs.Keys.{IsOrderly};
-ghost use Rattle.plan_values.specs.Openings.{standing_direct, StandsInRule};
 ghost use Rattle.plan_values.specs.Walks.{HasRuleOf, IsFirstFalse, IsAllTrue};
 
 use super::items::false_among;
-use super::open::{Standing, stands_among};
 use super::terms::Standpoint;
 use super::tokens::pred_of;
 use eu_name::name::TokenName;
@@ -37,31 +35,6 @@ fn contents(block: &Block) -> &[Entry]
     ensures { plain_entries result.now ≡ block.now }
 {
     block.entries.as_slice()
-}
-
-/// Whether this stands in an open block of the token's rule of this number.
-pub fn stands_open(
-    model: &Model,
-    plan: &Plan,
-    token: &TokenName,
-    number: u16,
-    what: Standing,
-) -> bool
-    requires { IsOrderly plan.now }
-    ensures { MatchBool result
-        (StandsInRule model.now plan.now token.now number (standing_direct what))
-        (StandsInRule model.now plan.now token.now number (standing_direct what) → ⊥) }
-{
-    match rule_of(model, token, number) {
-        Some(rule) => {
-            let at = Standpoint::Rule {
-                token,
-                rule: number,
-            };
-            stands_among(model, plan, at, contents(&rule.top), what)
-        }
-        None => false,
-    }
 }
 
 /// The number of the first item in an open block of the token's rule of this number that isn't true.

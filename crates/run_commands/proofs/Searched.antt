@@ -9,8 +9,8 @@ abbrev failed_with : ℕ → SearchOutcome
 failed_with left = record { ending = Fails; left = left; left_out = false }
 
 -- it fails at its first visit
-pub collapsed_searches : (bound steps : ℕ) (old new : Database) → 0 < steps → HasCollapsed old → new ≡ old
-    → SearchesTo bound steps old collapsed_end new
+pub collapsed_searches : (bound budget : ℕ) (old new : Database) → 0 < budget → HasCollapsed old → new ≡ old
+    → SearchesTo bound budget old collapsed_end new
 collapsed_searches bound zero old new some collapsed same = absurd (omega (arith, some))
 collapsed_searches bound (suc more) old new some collapsed same =
     (failed_with more, (inl (collapsed, refl), (omega arith, refl, refl, same)))

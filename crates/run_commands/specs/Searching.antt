@@ -13,9 +13,9 @@ use Rattle.run_commands.specs.declared.status.RunEnd.TheVariants as run
 
 -- the search from the decisions that stand, under the bound and with so many visits, ends so and leaves that database
 abbrev pub SearchesTo : ℕ → ℕ → Database → SearchEnd → Database → Type 0
-SearchesTo bound steps old end new =
+SearchesTo bound budget old end new =
     (outcome : SearchOutcome)
-    × (Searches old.model bound steps (standing old.history) outcome × TellsEnd steps outcome old end new)
+    × (Searches old.model bound budget (standing old.history) outcome × TellsEnd budget outcome old end new)
 
 -- how the search from decisions that leave nothing ends
 abbrev pub collapsed_end : SearchEnd
@@ -29,13 +29,13 @@ end_of (Budget visits) = run.Budget
 
 -- what is told of a search from the database
 abbrev pub EndOutput : ℕ → ℕ → (SearchEnd → Database → List ℕ → Type 0) → Database → List ℕ → RunEnd → Type 0
-EndOutput bound steps Tells old out end =
-    (ending : SearchEnd) × ((new : Database) × (SearchesTo bound steps old ending new × Tells ending new out
+EndOutput bound budget Tells old out end =
+    (ending : SearchEnd) × ((new : Database) × (SearchesTo bound budget old ending new × Tells ending new out
     × (end ≡ end_of ending)))
 
 -- its end is printed, and behind it the plan that it finds
 abbrev pub SearchOutput : ℕ → ℕ → Database → List ℕ → RunEnd → Type 0
-SearchOutput bound steps old out end = EndOutput bound steps TellsSearch old out end
+SearchOutput bound budget old out end = EndOutput bound budget TellsSearch old out end
 
 -- the visits that are given, or else those of the model's text
 abbrev pub visits_of : Option ℕ → Model → ℕ

@@ -16,7 +16,7 @@ use eu_io::shelf::Shelf;
 use eu_name::text::Text;
 use model_core::model::Model;
 use plan_db::Db;
-use plan_db::release::let_go;
+use plan_db::release::discard;
 use plan_report::check_text;
 use run_load::pose;
 use std::alloc::Global;
@@ -53,7 +53,7 @@ fn check_posed<F: Shelf>(
     ensures no_write { is_write result ≡ false }
 {
     let checked = check_file(alloc, shelf, db.model(), plan);
-    let_go(db);
+    discard(db);
     checked
 }
 

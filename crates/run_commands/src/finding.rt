@@ -119,8 +119,8 @@ pub fn printed_trial(alloc: Global, db: &mut Db) -> Result<Printed, AllocError>
     requires sound { IsSound db.old.database }
     ensures { IfOk result (λ printed. TrialOutput db.old.database printed.text printed.end) }
 {
-    let steps = db.model().problem.steps;
-    match search(alloc, db, steps, TOKENS) {
+    let budget = db.model().problem.steps;
+    match search(alloc, db, budget, TOKENS) {
         Ok(end) => printed_end(alloc, db, end),
         Err(none) => Err(none),
     }

@@ -18,7 +18,7 @@ use eu_name::text::Text;
 use flaw_core::SearchEnd;
 use model_core::model::Model;
 use plan_db::Db;
-use plan_db::release::let_go;
+use plan_db::release::discard;
 use run_load::pose;
 use session_replies::end_text;
 use std::alloc::Global;
@@ -65,23 +65,23 @@ fn plan_posed(alloc: Global, db: Db, steps: Option<u32>, tokens: u32) -> Result<
     ensures no_read { is_read result ≡ false }
     ensures no_write { is_write result ≡ false }
 {
-    let visits = visits_of(steps, db.model());
+    let budget = visits_of(steps, db.model());
     let mut db = db;
-    let planned = plan_search(alloc, &mut db, visits, tokens);
-    let_go(db);
+    let planned = plan_search(alloc, &mut db, budget, tokens);
+    discard(db);
     planned
 }
 
 // What is printed of the search from the decisions that stand.
-fn plan_search(alloc: Global, db: &mut Db, steps: u32, tokens: u32) -> Result<Printed, RunFault>
+fn plan_search(alloc: Global, db: &mut Db, budget: u32, tokens: u32) -> Result<Printed, RunFault>
     requires ready { db.old.behind ≡ false }
-    requires some { 0 < steps }
+    requires some { 0 < budget }
     requires tokens { tokens ≤ 512 }
-    ensures planned { AnswersAs (SearchOutput tokens steps db.old.database) result }
+    ensures planned { AnswersAs (SearchOutput tokens budget db.old.database) result }
     ensures no_read { is_read result ≡ false }
     ensures no_write { is_write result ≡ false }
 {
-    match search(alloc, db, steps, tokens) {
+    match search(alloc, db, budget, tokens) {
         Ok(end) => plan_end(alloc, db, end),
         Err(_none) => Err(RunFault::Memory),
     }

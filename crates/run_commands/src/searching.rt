@@ -20,16 +20,16 @@ fn collapsed() -> SearchEnd
 
 /// Searches for a plan from the decisions that stand, in so many visits and with no more active tokens than the bound. Where it finds
 /// one its decisions then stand.
-pub fn search(alloc: Global, db: &mut Db, steps: u32, tokens: u32) -> Result<SearchEnd, AllocError>
+pub fn search(alloc: Global, db: &mut Db, budget: u32, tokens: u32) -> Result<SearchEnd, AllocError>
     requires ready { db.old.behind ≡ false }
-    requires some { 0 < steps }
+    requires some { 0 < budget }
     requires tokens { tokens ≤ 512 }
-    ensures searches { IfOk result (λ end. SearchesTo tokens steps db.old.database end db.new.database) }
+    ensures searches { IfOk result (λ end. SearchesTo tokens budget db.old.database end db.new.database) }
     ensures flawless { IfOk result (λ end. IsFlawlessEnd end db.new.database) }
     ensures ready { IfOk result (λ _. db.new.behind ≡ false) }
 {
     plain_searches_are_searches();
-    match solve(alloc, db, &Plain, steps, tokens) {
+    match solve(alloc, db, &Plain, budget, tokens) {
         Ok(end) => Ok(end),
         Err(SolveFault::InInconsistent) => Ok(collapsed()),
         Err(SolveFault::Behind | SolveFault::Memory) => Err(AllocError),

@@ -15,7 +15,7 @@ use eu_io::{CalmShelf, FileEntry};
 use eu_name::bytes::Bytes;
 use eu_name::text::Text;
 use plan_db::Db;
-use plan_db::release::let_go;
+use plan_db::release::discard;
 use problem_gen::{GenFault, generate};
 use run_load::pose;
 use std::alloc::{AllocError, Global};
@@ -135,7 +135,7 @@ fn body_posed(alloc: Global, db: Db) -> Result<Printed, RunFault>
 {
     let mut db = db;
     let tried = printed_trial(alloc, &mut db);
-    let_go(db);
+    discard(db);
     match tried {
         Ok(printed) => Ok(printed),
         Err(_none) => Err(RunFault::Memory),

@@ -19,7 +19,7 @@ use nddl_ast::declaration::FileDecls;
 use nddl_parser::read_all;
 use nddl_problem::compile;
 use plan_db::Db;
-use plan_db::release::let_go;
+use plan_db::release::discard;
 use std::alloc::Global;
 
 /// The database that the file of this name poses with those that it includes: that of their model, in which the decisions of
@@ -88,7 +88,7 @@ fn behind(done: Result<(), PoseFault>, db: Db) -> Result<Db, PoseFault>
     match done {
         Ok(()) => Ok(db),
         Err(fault) => {
-            let_go(db);
+            discard(db);
             Err(fault)
         }
     }

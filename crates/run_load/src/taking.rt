@@ -34,7 +34,7 @@ fn spoken_by(fault: DbFault) -> Result<Option<TextKind>, AllocError>
 
 // Takes the decision, or answers what speaks against it.
 #[tactic(auto, using(crate::proofs::Steps::spoken_ok, crate::proofs::Steps::applied_model, crate::proofs::Steps::applied_ready))]
-fn take(db: &mut Db, decision: &Decision) -> Result<Option<TextKind>, AllocError>
+fn take_decision(db: &mut Db, decision: &Decision) -> Result<Option<TextKind>, AllocError>
     requires { db.old.behind ≡ false }
     ensures taken { IfOk result (λ against. TakesUnless against db.old.database decision.now db.new.database) }
     ensures model { db.new.database.model ≡ db.old.database.model }
@@ -60,7 +60,7 @@ fn take_copy(db: &mut Db, place: usize) -> Result<Option<TextKind>, AllocError>
     ensures sound { IsSound db.new.database }
 {
     let decision = placed_at(db, place).decision.copy()?;
-    take(db, &decision)
+    take_decision(db, &decision)
 }
 
 // The decision of the text that is at this place.

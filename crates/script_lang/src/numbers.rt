@@ -9,10 +9,10 @@ use crate::words::two_words;
 use itoa::Buffer;
 
 /// The most visits that a search may be given.
-const STEPS_LIMIT: u32 = 1_000_000;
+const MOST_VISITS: u32 = 1_000_000;
 
 /// The most active tokens that a search may be given.
-const TOKENS_LIMIT: u32 = 512;
+const MOST_ACTIVE: u32 = 512;
 
 // The number that `parse` finds in the word: that of which the word is the text, if it is one's.
 fn parsed(word: &[u8]) -> Option<u32>
@@ -53,7 +53,7 @@ pub fn bounds(rest: &[u8]) -> Option<(u32, u32)>
         (λ bounds. AreBounds (words_of rest.now) bounds) }
 {
     let (steps, tokens) = two_words(rest)?;
-    let steps = number_within(steps, 1, STEPS_LIMIT)?;
-    let tokens = number_within(tokens, 0, TOKENS_LIMIT)?;
+    let steps = number_within(steps, 1, MOST_VISITS)?;
+    let tokens = number_within(tokens, 0, MOST_ACTIVE)?;
     Some((steps, tokens))
 }

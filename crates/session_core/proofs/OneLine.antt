@@ -22,7 +22,7 @@ use Rattle.model_core.specs.TokenStates.{HasTokenState, IsMergedAt}
 use Rattle.model_core.proofs.Leading.{token_once}
 use Rattle.plan_text.specs.Subjects.{IsPredicateText}
 use Rattle.plan_text.specs.Values.{IsValueText}
-use Rattle.db_decide.proofs.Placing.{place_once}
+use Rattle.model_core.proofs.Distinct.{place_once}
 use Rattle.eu_name.proofs.Members.{get_same}
 use Rattle.db_edges.specs.declared.edge.NamedEdge.{NamedEdge}
 use Rattle.db_edges.specs.declared.edge.Point.{Point}

@@ -21,7 +21,7 @@ use script_lang::{DecisionText, decision_asked};
 use std::alloc::{AllocError, Global};
 
 // Takes a decision that stands for one that is asked for.
-fn take(db: &mut Db, decision: Decision) -> Result<Outcome, StepStop>
+fn take_decision(db: &mut Db, decision: Decision) -> Result<Outcome, StepStop>
     requires { IsSound db.old.database }
     ensures { (command : Wanted) (asked : Taken)
         → AsksDecision db.old.database.model command asked → StandsForDecision decision asked
@@ -53,7 +53,7 @@ fn decide(db: &mut Db, index: &ModelIndex, asked: &DecisionText) -> Result<Outco
         return Err(StepStop::Refused(RefusalReason::Inconsistent));
     }
     match find_decision(db, index, asked) {
-        Ok(Some(decision)) => take(db, decision),
+        Ok(Some(decision)) => take_decision(db, decision),
         Ok(None) => Err(StepStop::Refused(RefusalReason::Decision(Refusal::Unknown))),
         Err(_none) => Err(StepStop::Memory),
     }

@@ -16,7 +16,7 @@ use crate::replies::{no_reply, refused};
 use crate::{Asked, RefusalReason, decide_reply, reset_reply, search_reply, sort_command, undo};
 use eu_name::bytes::Bytes;
 use plan_db::Db;
-use plan_db::release::let_go;
+use plan_db::release::discard;
 use plan_resolve::indexed::ModelIndex;
 use script_lang::{Command, LineFault, read_line};
 use session_loop::reply::{Answer, Responder};
@@ -56,7 +56,7 @@ impl Editor {
         match ModelIndex::new(alloc, db.model()) {
             Ok(index) => Ok(Editor { alloc, index, db }),
             Err(none) => {
-                let_go(db);
+                discard(db);
                 Err(none)
             }
         }

@@ -19,7 +19,8 @@ pub fn fault_writes_front<T: Responder>()
     ensures { WritesFront T.answers }
 {}
 
-/// The same of a session whose input and output are told.
+/// Where each line has one reply, and input and output are told, what was written before a fault comes first in the
+/// output of the lines of that input.
 pub fn fault_tells_front<T: Responder>()
     ensures { TellsFront T.answers }
 {}

@@ -96,10 +96,10 @@ module _ (model : Model) (state : State) where
   -- ---- the words
 
   -- the name of the variable at the place
-  pub open_put : {A E : Type 0} (place : VarPlace) (found : VarName) (gap old new : List ℕ) (r : Result A E) → IsVarAt state place found → OnOk r (WritesBehind gap (IsVariableWord model found) old new)
+  pub unbound_put : {A E : Type 0} (place : VarPlace) (found : VarName) (gap old new : List ℕ) (r : Result A E) → IsVarAt state place found → OnOk r (WritesBehind gap (IsVariableWord model found) old new)
       → OnOk r ((name : VarName) → IsVarAt state place name → WritesBehind gap (IsVariableWord model name) old new)
-  open_put place found gap old new (Ok x) at put = λ name is. subst (λ (n : VarName). WritesBehind gap (IsVariableWord model n) old new) (var_once state place found name at is) put
-  open_put place found gap old new (Err e) at put = tt
+  unbound_put place found gap old new (Ok x) at put = λ name is. subst (λ (n : VarName). WritesBehind gap (IsVariableWord model n) old new) (var_once state place found name at is) put
+  unbound_put place found gap old new (Err e) at put = tt
 
   pub found_base : (place : VarPlace) (found : VarName) → (name : VarName) × (IsVarAt state place name × ((base : Base) × HasBase model name base)) → IsVarAt state place found → (base : Base) × HasBase model found base
   found_base place found (name, (is, (base, has))) at = (base, subst (λ (n : VarName). HasBase model n base) (var_once state place name found is at) has)

@@ -25,7 +25,7 @@ use plan_text::writing::put_variable;
 use std::alloc::{AllocError, Global};
 
 // The name of the variable at the place, behind the gap.
-fn put_open<V: View>(
+fn put_unbound<V: View>(
     out: &mut Vec<u8>,
     gap: &[u8],
     alloc: Global,
@@ -57,12 +57,12 @@ fn put_subject<V: View>(
 {
     match flaw {
         Flaw::Token(place) => put_on_token(out, alloc, model, b"token", token_of(view, place)),
-        Flaw::Value(at) => put_open(out, b"variable ", alloc, model, view, at),
+        Flaw::Value(at) => put_unbound(out, b"variable ", alloc, model, view, at),
         Flaw::Pair(one, other) => {
             let (first, second) = (token_of(view, one), token_of(view, other));
             put_on_tokens(out, alloc, model, b"order", first, second)
         }
-        Flaw::Time(at) => put_open(out, b"time ", alloc, model, view, at),
+        Flaw::Time(at) => put_unbound(out, b"time ", alloc, model, view, at),
     }
 }
 

@@ -1,4 +1,4 @@
--- One step of a search after another.
+-- How a search advances, time after time.
 use Rattle.std.proofs.Common.{◌≡◌, ℕ, zero, suc, ◌+◌, ◌<◌, ◌≤◌, Bool, true, false, ◌||◌, List, [], ◌∷◌, ◌++◌, length, drop, reverse, Option, Some, None, Result, Ok, Err, IfOk, MatchBool, MatchOption, MatchResult, refl, sym, ap, ◌∙◌, subst, arith}
 use Rattle.std.specs.Prelude.{slice_get, Contains}
 use Rattle.std.specs.declared.alloc.AllocError.{AllocError}
@@ -84,7 +84,7 @@ module _ (First : Model → List Decision → State → Option Flaw → Type 0)
 
   -- ---- a list is visited
 
-  module _ (branches : List Branch) (visits : ℕ) (out : Bool) (held : Held) (within : visits < task.steps) (is : IsToVisit First Choices task branches visits out held) where
+  module _ (branches : List Branch) (visits : ℕ) (out : Bool) (held : Held) (within : visits < task.budget) (is : IsToVisit First Choices task branches visits out held) where
     -- what comes of the rest of the visit comes of the whole
     abbrev Says : ℕ → ℕ → Type 0
     Says depth units =
@@ -93,7 +93,7 @@ module _ (First : Model → List Decision → State → Option Flaw → Type 0)
     pub visit_fails : IsCollapsed task.database.model (standing held.database.history) → HasFailed First Choices task branches (visits + 1) out held
     visit_fails collapsed = at is.units is.depth is.spent is.enough is.says
       where
-        at : (units depth : ℕ) → visits + units ≡ task.steps → units ≤ depth → Says depth units → HasFailed First Choices task branches (visits + 1) out held
+        at : (units depth : ℕ) → visits + units ≡ task.budget → units ≤ depth → Says depth units → HasFailed First Choices task branches (visits + 1) out held
         at zero depth spent enough says = absurd (omega arith)
         at (suc units) zero spent enough says = absurd (omega arith)
         at (suc units) (suc depth) spent enough says = record {
@@ -113,7 +113,7 @@ module _ (First : Model → List Decision → State → Option Flaw → Type 0)
         → IsLooking First Choices task (record { flaw = flaw; next = 0 }) branches (visits + 1) (out || own) held
     visit_opens flaw own finds tells = at is.units is.depth is.spent is.enough is.says
       where
-        at : (units depth : ℕ) → visits + units ≡ task.steps → units ≤ depth → Says depth units
+        at : (units depth : ℕ) → visits + units ≡ task.budget → units ≤ depth → Says depth units
             → IsLooking First Choices task (record { flaw = flaw; next = 0 }) branches (visits + 1) (out || own) held
         at zero depth spent enough says = absurd (omega arith)
         at (suc units) zero spent enough says = absurd (omega arith)
@@ -138,7 +138,7 @@ module _ (First : Model → List Decision → State → Option Flaw → Type 0)
         → HasEnded First Choices task (Finds (standing held.database.history)) (visits + 1) out held
     visit_finds state least none = at is.units is.depth is.spent is.enough is.says
       where
-        at : (units depth : ℕ) → visits + units ≡ task.steps → units ≤ depth → Says depth units
+        at : (units depth : ℕ) → visits + units ≡ task.budget → units ≤ depth → Says depth units
             → HasEnded First Choices task (Finds (standing held.database.history)) (visits + 1) out held
         at zero depth spent enough says = absurd (omega arith)
         at (suc units) zero spent enough says = absurd (omega arith)
@@ -152,7 +152,7 @@ module _ (First : Model → List Decision → State → Option Flaw → Type 0)
 
   -- ---- what a visit sees of it
 
-  module _ (bound : ℕ) (same : task.bound ≡ bound) (branches : List Branch) (visits : ℕ) (out : Bool) (held : Held) (within : visits < task.steps)
+  module _ (bound : ℕ) (same : task.bound ≡ bound) (branches : List Branch) (visits : ℕ) (out : Bool) (held : Held) (within : visits < task.budget)
       (is : IsToVisit First Choices task branches visits out held) where
     seen : (visited : Visited) → IsVisited First Choices held.database.model bound (standing held.database.history) visited
         → IsVisited First Choices task.database.model task.bound (standing held.database.history) visited
@@ -346,12 +346,12 @@ module _ (First : Model → List Decision → State → Option Flaw → Type 0)
     on = record { ready = ready; model = ap (λ (d : Database). d.model) (sym same) };
     lefts = [];
     leads = (ap (λ (d : Database). d.history) (sym same), refl);
-    units = task.steps;
+    units = task.budget;
     spent = omega arith;
-    depth = task.steps;
+    depth = task.budget;
     enough = omega arith;
-    says = λ outcome first. subst (λ (d : Database). Visit task.steps task.steps (standing d.history) outcome) (sym same)
-        (begins Visit task.steps (standing held.database.history) task.steps outcome first);
+    says = λ outcome first. subst (λ (d : Database). Visit task.budget task.budget (standing d.history) outcome) (sym same)
+        (begins Visit task.budget (standing held.database.history) task.budget outcome first);
   }
 
   pub is_exhausted : (visits : ℕ) (out : Bool) (held : Held) → HasFailed First Choices task [] visits out held → HasEnded First Choices task Fails visits out held
@@ -363,13 +363,13 @@ module _ (First : Model → List Decision → State → Option Flaw → Type 0)
         (subst (λ (l : List LeftOver). SearchesOn Visit is.depth l is.units out (record { ending = Fails; left = is.units; left_out = out })) (sym is.leads.1) refl);
   }
 
-  pub is_stopped : (branches : List Branch) (visits : ℕ) (out : Bool) (held : Held) → task.steps ≤ visits → IsToVisit First Choices task branches visits out held
-      → HasEnded First Choices task Stops visits out held × (visits ≡ task.steps)
+  pub is_stopped : (branches : List Branch) (visits : ℕ) (out : Bool) (held : Held) → task.budget ≤ visits → IsToVisit First Choices task branches visits out held
+      → HasEnded First Choices task Stops visits out held × (visits ≡ task.budget)
   is_stopped branches visits out held spent is = at is.units is.spent is.says
     where
-      at : (units : ℕ) → visits + units ≡ task.steps
+      at : (units : ℕ) → visits + units ≡ task.budget
           → ((outcome : SearchOutcome) → VisitsFirst Visit is.depth (standing held.database.history) is.lefts units out outcome → IsWholeSearch First Choices task outcome)
-          → HasEnded First Choices task Stops visits out held × (visits ≡ task.steps)
+          → HasEnded First Choices task Stops visits out held × (visits ≡ task.budget)
       at (suc units) all says = absurd (omega arith)
       at zero all says = (
         record {

@@ -67,12 +67,12 @@ module _ (First : Model → List Decision → State → Option Flaw → Type 0)
 
   -- ---- what is answered
 
-  pub solves : (tokens steps : ℕ) (old new : Held) (result : Result SearchEnd SolveFault) → old.behind ≡ false → ((state : State) × HasLeast old.database state)
-      → RestsAs First Choices (record { database = old.database; bound = tokens; steps = steps }) result new → Solves First Choices tokens steps old result new
-  solves tokens steps old new (Ok end) ready some is = (record { before = ready; after = is.0 }, some, is.1)
-  solves tokens steps old new (Err Memory) ready some is = (record { before = ready; after = is.0 }, some, is.1)
-  solves tokens steps old new (Err Behind) ready some is = absurd is
-  solves tokens steps old new (Err InInconsistent) ready some is = absurd is
+  pub solves : (tokens budget : ℕ) (old new : Held) (result : Result SearchEnd SolveFault) → old.behind ≡ false → ((state : State) × HasLeast old.database state)
+      → RestsAs First Choices (record { database = old.database; bound = tokens; budget = budget }) result new → Solves First Choices tokens budget old result new
+  solves tokens budget old new (Ok end) ready some is = (record { before = ready; after = is.0 }, some, is.1)
+  solves tokens budget old new (Err Memory) ready some is = (record { before = ready; after = is.0 }, some, is.1)
+  solves tokens budget old new (Err Behind) ready some is = absurd is
+  solves tokens budget old new (Err InInconsistent) ready some is = absurd is
 
   -- ---- what that proves
 
@@ -84,15 +84,15 @@ module _ (First : Model → List Decision → State → Option Flaw → Type 0)
       (covers : (decisions : List Decision) (state : State) (flaw : Flaw) (choices : List Decision) (plan : Plan) → IsLeastFor old.database.model decisions state
       → First old.database.model decisions state (Some flaw) → Choices old.database.model decisions state bound flaw choices → IsPlanFor old.database.model decisions plan
       → IsCoveredBy old.database.model decisions bound flaw plan → AgreesWithSome old.database.model decisions choices plan) where
-    pub proves_plans : (steps : ℕ) (new : Held) (result : Result SearchEnd SolveFault) → RestsAs First Choices (record { database = old.database; bound = bound; steps = steps }) result new
+    pub proves_plans : (budget : ℕ) (new : Held) (result : Result SearchEnd SolveFault) → RestsAs First Choices (record { database = old.database; bound = bound; budget = budget }) result new
         → ProvesPlans bound old.database result new.database
-    proves_plans steps new (Ok (Found visits)) (ready, (outcome, whole, (spent, ends, model, more))) =
-        found_by_rule First Choices old.database.model lawful bound few clears admits covers steps steps (standing old.database.history) (standing new.database.history) outcome settled whole ends
-    proves_plans steps new (Ok (Exhausted visits left_out)) (ready, (outcome, whole, (spent, ends, out, same))) = λ plan fits covered.
-        none_by_rule First Choices old.database.model lawful bound few clears admits covers steps steps (standing old.database.history) outcome plan settled whole ends fits
+    proves_plans budget new (Ok (Found visits)) (ready, (outcome, whole, (spent, ends, model, more))) =
+        found_by_rule First Choices old.database.model lawful bound few clears admits covers budget budget (standing old.database.history) (standing new.database.history) outcome settled whole ends
+    proves_plans budget new (Ok (Exhausted visits left_out)) (ready, (outcome, whole, (spent, ends, out, same))) = λ plan fits covered.
+        none_by_rule First Choices old.database.model lawful bound few clears admits covers budget budget (standing old.database.history) outcome plan settled whole ends fits
         (subst (λ (b : Bool). (count_of_tokens plan ≤ bound) ⊎ (b ≡ false)) (sym out) covered)
-    proves_plans steps new (Ok (Budget visits)) is = tt
-    proves_plans steps new (Err fault) is = tt
+    proves_plans budget new (Ok (Budget visits)) is = tt
+    proves_plans budget new (Err fault) is = tt
 
 -- ---- what is kept
 

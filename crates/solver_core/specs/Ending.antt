@@ -36,13 +36,13 @@ module _ (First : Model → List Decision → State → Option Flaw → Type 0)
   EndsAs (Found visits) held =
       (out : Bool) × HasEnded First Choices task (Finds (standing held.database.history)) visits out held
   EndsAs (Exhausted visits left_out) held = HasEnded First Choices task Fails visits left_out held
-  EndsAs (Budget visits) held = (out : Bool) × (HasEnded First Choices task Stops visits out held × (visits ≡ task.steps))
+  EndsAs (Budget visits) held = (out : Bool) × (HasEnded First Choices task Stops visits out held × (visits ≡ task.budget))
 
   -- it ended so, and what was decided was taken back unless a list was found
   abbrev pub RestsAs : Result SearchEnd SolveFault → Held → Type 0
   RestsAs (Ok end) held = (held.behind ≡ false)
       × ((outcome : SearchOutcome) × IsWholeSearch First Choices task outcome
-      × TellsEnd task.steps outcome task.database end held.database)
+      × TellsEnd task.budget outcome task.database end held.database)
   RestsAs (Err Memory) held = (held.behind ≡ false) × (held.database ≡ task.database)
   RestsAs (Err Behind) held = ⊥
   RestsAs (Err InInconsistent) held = ⊥

@@ -21,27 +21,27 @@ use Rattle.solver_core.specs.declared.ending.SolveFault.TheVariants.{Behind, InI
 -- what the outcome of the search with so many units is told as, and what is left of the database: the list that is found, each
 -- decision of which can be undone, or else what there was
 abbrev pub TellsEnd : ℕ → SearchOutcome → Database → SearchEnd → Database → Type 0
-TellsEnd steps outcome old (Found visits) new =
-    (visits + outcome.left ≡ steps) × (outcome.ending ≡ Finds (standing new.history))
+TellsEnd budget outcome old (Found visits) new =
+    (visits + outcome.left ≡ budget) × (outcome.ending ≡ Finds (standing new.history))
     × (new.model ≡ old.model) × ((count : ℕ) × TakesMore count old.history new.history)
-TellsEnd steps outcome old (Exhausted visits left_out) new =
-    (visits + outcome.left ≡ steps) × (outcome.ending ≡ Fails) × (outcome.left_out ≡ left_out) × (new ≡ old)
-TellsEnd steps outcome old (Budget visits) new =
-    (visits + outcome.left ≡ steps) × (outcome.ending ≡ Stops) × (visits ≡ steps) × (new ≡ old)
+TellsEnd budget outcome old (Exhausted visits left_out) new =
+    (visits + outcome.left ≡ budget) × (outcome.ending ≡ Fails) × (outcome.left_out ≡ left_out) × (new ≡ old)
+TellsEnd budget outcome old (Budget visits) new =
+    (visits + outcome.left ≡ budget) × (outcome.ending ≡ Stops) × (visits ≡ budget) × (new ≡ old)
 
 -- what the rule finds first in a state, and what can be decided of it
 module _ (First : Model → List Decision → State → Option Flaw → Type 0)
     (Choices : Model → List Decision → State → ℕ → Flaw → List Decision → Type 0) where
   -- the search from the list that stands, under a bound and with so many units; it isn't made where that has collapsed
   abbrev pub Solves : ℕ → ℕ → Held → Result SearchEnd SolveFault → Held → Type 0
-  Solves bound steps old (Err Behind) new = StaysBehind old new
-  Solves bound steps old (Err InInconsistent) new = StaysSame old new × HasCollapsed old.database
-  Solves bound steps old (Err Memory) new =
+  Solves bound budget old (Err Behind) new = StaysBehind old new
+  Solves bound budget old (Err InInconsistent) new = StaysSame old new × HasCollapsed old.database
+  Solves bound budget old (Err Memory) new =
       StaysReady old new × ((state : State) × HasLeast old.database state) × (new.database ≡ old.database)
-  Solves bound steps old (Ok end) new =
+  Solves bound budget old (Ok end) new =
       StaysReady old new × ((state : State) × HasLeast old.database state)
-      × ((outcome : SearchOutcome) × SearchesBy First Choices old.database.model bound steps (standing old.database.history) outcome
-      × TellsEnd steps outcome old.database end new.database)
+      × ((outcome : SearchOutcome) × SearchesBy First Choices old.database.model bound budget (standing old.database.history) outcome
+      × TellsEnd budget outcome old.database end new.database)
 
 -- What the end proves: the list that is found has a least state without a flaw. Where the search is exhausted, no valid plan
 -- within the bound agrees with the list that stood, and where no activation was left out none of any size does.

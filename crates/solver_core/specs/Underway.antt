@@ -15,14 +15,14 @@ use Rattle.plan_db.specs.Answers.{Held}
 use Rattle.plan_db.specs.Rewinding.{IsTakenSince}
 use Rattle.solver_core.specs.declared.course.Branch.{Branch}
 use Rattle.solver_core.specs.declared.course.Course.{Course}
-use Rattle.solver_core.specs.declared.stepping.Step.{Step}
-use Rattle.solver_core.specs.declared.stepping.Step.TheVariants as step
+use Rattle.solver_core.specs.declared.advancing.Advanced.{Advanced}
+use Rattle.solver_core.specs.declared.advancing.Advanced.TheVariants as advanced
 
 -- a search from what a database holds, under a bound and with so many units
 pub record Task : Type 0 where
   pub database : Database
   pub bound : ℕ
-  pub steps : ℕ
+  pub budget : ℕ
 
 -- the database is ready, and of the model that is searched
 pub record IsReadyFor (task : Task) (held : Held) : Type 0 where
@@ -57,7 +57,7 @@ module _ (First : Model → List Decision → State → Option Flaw → Type 0)
 
   -- what the search comes to
   abbrev pub IsWholeSearch : SearchOutcome → Type 0
-  IsWholeSearch outcome = SearchesBy First Choices task.database.model task.bound task.steps (standing task.database.history) outcome
+  IsWholeSearch outcome = SearchesBy First Choices task.database.model task.bound task.budget (standing task.database.history) outcome
 
   -- a visit by the rule
   abbrev pub VisitsByRule : ℕ → ℕ → List Decision → SearchOutcome → Type 0
@@ -71,7 +71,7 @@ module _ (First : Model → List Decision → State → Option Flaw → Type 0)
     pub lefts : List LeftOver
     pub leads : LeadsTo most branches held.database.history lefts
     pub units : ℕ
-    pub spent : visits + units ≡ task.steps
+    pub spent : visits + units ≡ task.budget
     pub depth : ℕ
     pub enough : units ≤ depth
     pub says : (outcome : SearchOutcome) → Rest depth lefts units outcome → IsWholeSearch outcome
@@ -100,18 +100,19 @@ module _ (First : Model → List Decision → State → Option Flaw → Type 0)
   pub record HasEnded (ending : SearchEnding) (visits : ℕ) (out : Bool) (held : Held) : Type 0 where
     pub above : IsAbove task held
     pub units : ℕ
-    pub spent : visits + units ≡ task.steps
+    pub spent : visits + units ≡ task.budget
     pub whole : IsWholeSearch (record { ending = ending; left = units; left_out = out })
 
   -- the search came so far
   abbrev pub ComesTo : Course → Held → Type 0
   ComesTo course held = IsToVisit (reverse course.branches.items) course.visits course.left_out held
 
-  -- after a step it has found the list that stands, is exhausted, or is to visit a further list
-  abbrev pub StepComesTo : Step → Course → Held → Type 0
-  StepComesTo step.Found course held = HasEnded (Finds (standing held.database.history)) course.visits course.left_out held
-  StepComesTo step.Exhausted course held = HasEnded Fails course.visits course.left_out held
-  StepComesTo step.Taken course held = ComesTo course held
+  -- the search has advanced: it has found the list that stands, is exhausted, or is to visit a further list
+  abbrev pub HasAdvanced : Advanced → Course → Held → Type 0
+  HasAdvanced advanced.Found course held =
+      HasEnded (Finds (standing held.database.history)) course.visits course.left_out held
+  HasAdvanced advanced.Exhausted course held = HasEnded Fails course.visits course.left_out held
+  HasAdvanced advanced.Taken course held = ComesTo course held
 
   -- a choice of the flaw was taken, or none was left, and the list that stands has failed
   abbrev pub TakesNext : Bool → Course → Held → Type 0

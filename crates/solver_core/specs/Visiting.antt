@@ -1,4 +1,4 @@
--- What a visit sees, and what one step of a search comes to.
+-- What a visit sees, and what taking a choice comes to.
 use Rattle.std.specs.Prelude.{◌≡◌, ℕ, Bool, true, false, List, [], ◌∷◌}
 use Rattle.std.specs.Prelude.{◌++◌, Option, Some, None, Result, Ok, Err, MatchBool}
 use Rattle.std.specs.declared.alloc.AllocError.{AllocError}

@@ -4,10 +4,10 @@
 //! Knows nothing of texts, and of which flaw comes first. How the way to the present list is kept may change.
 #![tactic(auto)]
 
+mod advancing;
 mod course;
 mod ending;
 mod solving;
-mod stepping;
 mod taking;
 mod visiting;
 

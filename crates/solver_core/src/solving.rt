@@ -6,9 +6,9 @@ ghost use Rattle.solver_core.specs.Solving.{Solves, ProvesPlans};
 ghost use Rattle.solver_core.specs.Underway.{Task, IsAbove, ComesTo};
 ghost use Rattle.solver_core.specs.Ending.{EndsAs, IsFoundEnd, KeepsFound, RestsAs};
 
+use super::advancing::{Advanced, advance};
 use super::course::Course;
 use super::ending::SolveFault;
-use super::stepping::{Step, advance};
 use flaw_core::{FlawRule, SearchEnd};
 use plan_db::{Db, rewind};
 use std::alloc::{AllocError, Global};
@@ -18,25 +18,25 @@ fn search<R: FlawRule>(
     db: &mut Db,
     rule: &R,
     course: &mut Course,
-    steps: u32,
+    budget: u32,
     bound: u32,
 ) -> Result<SearchEnd, AllocError>
     ghost task: { Task }
     requires bound { (task.bound ≡ bound) × (bound ≤ 512) }
-    requires steps { task.steps ≡ steps }
+    requires budget { task.budget ≡ budget }
     requires comes { ComesTo (R.is_first rule.now) (R.are_choices rule.now) task course.old db.old }
     ensures { MatchResult result
         (λ end. EndsAs (R.is_first rule.now) (R.are_choices rule.now) task end db.new)
         (λ _. IsAbove task db.new) }
 {
-    while course.visits < steps {
+    while course.visits < budget {
         match advance(db, rule, course, bound)? {
-            Step::Found => return Ok(SearchEnd::Found(course.visits)),
-            Step::Exhausted => return Ok(SearchEnd::Exhausted(course.visits, course.left_out)),
-            Step::Taken => {}
+            Advanced::Found => return Ok(SearchEnd::Found(course.visits)),
+            Advanced::Exhausted => return Ok(SearchEnd::Exhausted(course.visits, course.left_out)),
+            Advanced::Taken => {}
         }
     }
-    Ok(SearchEnd::Budget(steps))
+    Ok(SearchEnd::Budget(budget))
 }
 
 // Searches from the list that stands.
@@ -44,12 +44,12 @@ fn search_anew<R: FlawRule>(
     alloc: Global,
     db: &mut Db,
     rule: &R,
-    steps: u32,
+    budget: u32,
     bound: u32,
 ) -> Result<SearchEnd, AllocError>
     ghost task: { Task }
     requires bound { (task.bound ≡ bound) × (bound ≤ 512) }
-    requires steps { task.steps ≡ steps }
+    requires budget { task.budget ≡ budget }
     requires begun { (task.database ≡ db.old.database) × (db.old.behind ≡ false) }
     ensures { MatchResult result
         (λ end. EndsAs (R.is_first rule.now) (R.are_choices rule.now) task end db.new)
@@ -60,7 +60,7 @@ fn search_anew<R: FlawRule>(
         visits: 0,
         left_out: false,
     };
-    search(db, rule, &mut course, steps, bound)
+    search(db, rule, &mut course, budget, bound)
 }
 
 // Whether a list was found.
@@ -103,17 +103,17 @@ fn run<R: FlawRule>(
     alloc: Global,
     db: &mut Db,
     rule: &R,
-    steps: u32,
+    budget: u32,
     bound: u32,
 ) -> Result<SearchEnd, SolveFault>
     ghost task: { Task }
     requires bound { (task.bound ≡ bound) × (bound ≤ 512) }
-    requires steps { task.steps ≡ steps }
+    requires budget { task.budget ≡ budget }
     requires begun { (task.database ≡ db.old.database) × (db.old.behind ≡ false) }
     ensures { RestsAs (R.is_first rule.now) (R.are_choices rule.now) task result db.new }
 {
     let before = db.history();
-    let end = search_anew(alloc, db, rule, steps, bound);
+    let end = search_anew(alloc, db, rule, budget, bound);
     keep_found(db, &end, before);
     or_memory(end)
 }
@@ -125,11 +125,11 @@ pub fn solve<R: FlawRule>(
     alloc: Global,
     db: &mut Db,
     rule: &R,
-    steps: u32,
+    budget: u32,
     tokens: u32,
 ) -> Result<SearchEnd, SolveFault>
     requires { tokens ≤ 512 }
-    ensures solves { Solves (R.is_first rule.now) (R.are_choices rule.now) tokens steps db.old result db.new }
+    ensures solves { Solves (R.is_first rule.now) (R.are_choices rule.now) tokens budget db.old result db.new }
     ensures proves { ProvesPlans tokens db.old.database result db.new.database }
 {
     if db.is_behind() {
@@ -138,5 +138,5 @@ pub fn solve<R: FlawRule>(
     if !db.is_consistent() {
         return Err(SolveFault::InInconsistent);
     }
-    run(alloc, db, rule, steps, tokens)
+    run(alloc, db, rule, budget, tokens)
 }

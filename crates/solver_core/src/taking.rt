@@ -23,7 +23,7 @@ fn want_of(fault: DbFault) -> AllocError
 }
 
 // Takes an admissible decision.
-fn take(db: &mut Db, choice: &Decision) -> Result<(), AllocError>
+fn take_choice(db: &mut Db, choice: &Decision) -> Result<(), AllocError>
     requires ready { db.old.behind ≡ false }
     requires admissible { IsAdmissible db.old.database.model (standing db.old.database.history) choice.now }
     ensures ok { OnOk result (db.new.database ≡ taken_in db.old.database.model (accepted db.old.database.history choice.now)) }
@@ -53,7 +53,7 @@ fn put_choice(
     ensures still { db.new.behind ≡ false }
 {
     course.branches.push(branch)?;
-    take(db, choice)
+    take_choice(db, choice)
 }
 
 // That a choice was taken, unless memory was wanting.

@@ -9,7 +9,7 @@ use Rattle.std.proofs.lemmas.List.Elements.{All-contains, All-weaker, Contains-a
 use Rattle.temporal_core.specs.declared.edges.Edge.{Edge}
 use Rattle.temporal_core.specs.Schedule.{KeepsEdge, IsSchedule, HasNoSchedule}
 use Rattle.temporal_core.specs.Cycle.{edges_at, LeavesAfter}
-use Rattle.temporal_core.specs.Settled.{value_at, AreSettled}
+use Rattle.temporal_core.specs.Satisfied.{value_at, AreSatisfied}
 use Rattle.temporal_core.specs.Canonical.{places_from}
 use Rattle.temporal_core.proofs.Members.{all_from_contains}
 use Rattle.eu_name.proofs.Members.{get_from_contains, get_below}
@@ -25,8 +25,8 @@ schedule_from_kept edges values keeps = (
   },
 )
 
-pub schedule_from_settled : (points : ℕ) (edges : List Edge) (values : List ℤ) → AreSettled points edges values → (value : ℕ → ℤ) × IsSchedule edges value
-schedule_from_settled points edges values settled = schedule_from_kept edges values settled.keeps
+pub schedule_from_satisfied : (points : ℕ) (edges : List Edge) (values : List ℤ) → AreSatisfied points edges values → (value : ℕ → ℤ) × IsSchedule edges value
+schedule_from_satisfied points edges values satisfied = schedule_from_kept edges values satisfied.keeps
 
 -- more edges have no schedule either
 pub HasNoSchedule-within : (edges more : List Edge) → ((edge : Edge) → Contains edges edge → Contains more edge) → HasNoSchedule edges → HasNoSchedule more

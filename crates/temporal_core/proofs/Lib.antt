@@ -3,7 +3,7 @@ pub mod Values
 pub mod Links
 pub mod Raising
 pub mod Walks
-pub mod Settling
+pub mod Satisfying
 pub mod Cycles
 pub mod Least
 pub mod Turning

@@ -8,7 +8,7 @@ use Rattle.std.proofs.lemmas.Bool.{cases_eq, cases_lt}
 use Rattle.temporal_core.specs.declared.edges.Edge.{Edge}
 use Rattle.temporal_core.specs.declared.graph.Graph.{Graph}
 use Rattle.temporal_core.specs.Network.{IsEdge}
-use Rattle.temporal_core.specs.Settled.{IsGraph, IsLastFrom}
+use Rattle.temporal_core.specs.Satisfied.{IsGraph, IsLastFrom}
 use Rattle.eu_name.proofs.Members.{get_below, get_same}
 use Rattle.temporal_core.proofs.Members.{get_before_push, get_push}
 

@@ -6,17 +6,17 @@ use Rattle.std.proofs.lemmas.Bool.{cases_eq}
 use Rattle.std.proofs.lemmas.Option.{slice_get-get_or}
 use Rattle.std.proofs.lemmas.List.Elements.{All-contains, Contains-append_left, Contains-append_right, Contains-append_cases, Contains-push_cases}
 use Rattle.temporal_core.specs.declared.edges.Edge.{Edge}
-use Rattle.temporal_core.specs.declared.settled.Settled.{Settled}
+use Rattle.temporal_core.specs.declared.satisfied.Satisfied.{Satisfied}
 use Rattle.temporal_core.specs.Schedule.{KeepsEdge, HasNoSchedule, IsSchedule}
 use Rattle.temporal_core.specs.Cycle.{edges_at}
-use Rattle.temporal_core.specs.Settled.{IsSettledGraph, HasPositiveCycle}
+use Rattle.temporal_core.specs.Satisfied.{IsSatisfiedGraph, HasPositiveCycle}
 use Rattle.temporal_core.specs.Canonical.{places_from, IsNextNeeded}
 use Rattle.eu_name.proofs.Members.{get_same}
 use Rattle.temporal_core.proofs.Members.{all_from_contains}
 use Rattle.temporal_core.proofs.Walks.{no_schedule, Contains-head}
 use Rattle.temporal_core.proofs.Cycles.{edges_at-cons}
-use Rattle.temporal_core.proofs.Settling.{HasPositiveCycle-within}
-use Rattle.temporal_core.proofs.Leaving.{schedule_from_settled, edges_at-contains, edges_at-stands, edges_at-within, Contains-places_from, places_from_bounds, kept_from_later}
+use Rattle.temporal_core.proofs.Satisfying.{HasPositiveCycle-within}
+use Rattle.temporal_core.proofs.Leaving.{schedule_from_satisfied, edges_at-contains, edges_at-stands, edges_at-within, Contains-places_from, places_from_bounds, kept_from_later}
 
 pub edges_at-append : (edges : List Edge) (one other : List ℕ) → edges_at edges (one ++ other) ≡ edges_at edges one ++ edges_at edges other
 edges_at-append edges [] other = refl
@@ -31,10 +31,10 @@ pub edges_at-take : (edges : List Edge) (places : List ℕ) (i : ℕ) (d : Edge)
 edges_at-take edges places i d inside within = ap (edges_at edges) (take_more places i 0 inside) ∙ edges_at-push edges (take i places) (get_or places i 0) d within
 
 -- the values keep these edges, in some order
-pub record IsSettledWith (points : ℕ) (edges : List Edge) (settled : Settled) : Type 0 where
-  pub settled_own : IsSettledGraph points settled.graph.edges.items settled
-  pub all : (edge : Edge) → Contains edges edge → Contains settled.graph.edges.items edge
-  pub only : (edge : Edge) → Contains settled.graph.edges.items edge → Contains edges edge
+pub record IsSatisfiedWith (points : ℕ) (edges : List Edge) (satisfied : Satisfied) : Type 0 where
+  pub satisfied_own : IsSatisfiedGraph points satisfied.graph.edges.items satisfied
+  pub all : (edge : Edge) → Contains edges edge → Contains satisfied.graph.edges.items edge
+  pub only : (edge : Edge) → Contains satisfied.graph.edges.items edge → Contains edges edge
 
 -- a schedule is one for fewer edges too
 pub schedule_for : (edges fewer : List Edge) (value : ℕ → ℤ) → ((edge : Edge) → Contains fewer edge → Contains edges edge) → IsSchedule edges value → IsSchedule fewer value
@@ -43,8 +43,8 @@ schedule_for edges fewer value within schedule = record {
   keeps = all_from_contains (KeepsEdge value) fewer (λ edge among. All-contains (KeepsEdge value) edges edge schedule.keeps (within edge among));
 }
 
-pub settled_own_edges : (points : ℕ) (edges : List Edge) (settled : Settled) → IsSettledGraph points edges settled → IsSettledGraph points settled.graph.edges.items settled
-settled_own_edges points edges settled is = subst (λ list. IsSettledGraph points list settled) (sym is.graph.list) is
+pub satisfied_own_edges : (points : ℕ) (edges : List Edge) (satisfied : Satisfied) → IsSatisfiedGraph points edges satisfied → IsSatisfiedGraph points satisfied.graph.edges.items satisfied
+satisfied_own_edges points edges satisfied is = subst (λ list. IsSatisfiedGraph points list satisfied) (sym is.graph.list) is
 
 module _ (points : ℕ) (edges : List Edge) (kept : List ℕ) where
   module _ (place : ℕ) (within : place < length edges) (d : Edge) where
@@ -72,11 +72,11 @@ module _ (points : ℕ) (edges : List Edge) (kept : List ℕ) where
         (cases_eq found.place place))
         (Contains-append_cases kept (places_from place (length edges)) found.place found.among)
 
-    module _ (old : Settled) (before : IsSettledWith points (edges_at edges (kept ++ places_from (place + 1) (length edges))) old) where
+    module _ (old : Satisfied) (before : IsSatisfiedWith points (edges_at edges (kept ++ places_from (place + 1) (length edges))) old) where
       -- the edge at the place was put in
-      pub with_more : (new : Settled) → IsSettledGraph points (old.graph.edges.items ++ get_or edges place d ∷ []) new → IsSettledWith points (edges_at edges (kept ++ places_from place (length edges))) new
+      pub with_more : (new : Satisfied) → IsSatisfiedGraph points (old.graph.edges.items ++ get_or edges place d ∷ []) new → IsSatisfiedWith points (edges_at edges (kept ++ places_from place (length edges))) new
       with_more new is = record {
-        settled_own = settled_own_edges points (old.graph.edges.items ++ get_or edges place d ∷ []) new is;
+        satisfied_own = satisfied_own_edges points (old.graph.edges.items ++ get_or edges place d ∷ []) new is;
         all = λ edge among. subst (λ list. Contains list edge) (sym is.graph.list)
             (⊎_elim (λ later. Contains-append_left old.graph.edges.items (get_or edges place d ∷ []) edge (before.all edge later))
             (λ same. Contains-append_right old.graph.edges.items (get_or edges place d ∷ []) edge (subst (Contains (get_or edges place d ∷ [])) same (Contains-head (get_or edges place d) [])))
@@ -94,7 +94,7 @@ module _ (points : ℕ) (edges : List Edge) (kept : List ℕ) where
             (HasPositiveCycle-within (old.graph.edges.items ++ get_or edges place d ∷ []) (edges_at edges (kept ++ places_from place (length edges)))
             (λ edge among. with_next edge (⊎_elim (λ was. inl (before.only edge was)) (λ same. inr same) (Contains-push_cases old.graph.edges.items (get_or edges place d) edge among))) found);
         some =
-            let own = schedule_from_settled points old.graph.edges.items old.values.items before.settled_own.values in
+            let own = schedule_from_satisfied points old.graph.edges.items old.values.items before.satisfied_own.values in
             (own.0, schedule_for old.graph.edges.items (edges_at edges (kept ++ places_from (place + 1) (length edges))) own.0 before.all own.1);
       }
 
@@ -103,22 +103,22 @@ Contains-take : {X : Type 0} (n : ℕ) (xs : List X) (x : X) → Contains (take 
 Contains-take n xs x among = subst (λ list. Contains list x) (take-append-drop n xs) (Contains-append_left (take n xs) (drop n xs) x among)
 
 -- the next of the kept edges is put in, or can't be
-module _ (points : ℕ) (edges : List Edge) (kept : List ℕ) (i : ℕ) (d : Edge) (inside : i < length kept) (within : All (λ place. place < length edges) kept) (old : Settled) (before : IsSettledGraph points (edges_at edges (take i kept)) old) where
+module _ (points : ℕ) (edges : List Edge) (kept : List ℕ) (i : ℕ) (d : Edge) (inside : i < length kept) (within : All (λ place. place < length edges) kept) (old : Satisfied) (before : IsSatisfiedGraph points (edges_at edges (take i kept)) old) where
   same_front : old.graph.edges.items ++ get_or edges (get_or kept i 0) d ∷ [] ≡ edges_at edges (take (i + 1) kept)
   same_front = ap (λ list. list ++ get_or edges (get_or kept i 0) d ∷ []) before.graph.list ∙ sym (edges_at-take edges kept i d inside (within i 0 inside))
 
-  pub kept_more : (new : Settled) → IsSettledGraph (length old.values.items) (old.graph.edges.items ++ get_or edges (get_or kept i 0) d ∷ []) new → IsSettledGraph points (edges_at edges (take (i + 1) kept)) new
-  kept_more new is = subst (λ list. IsSettledGraph points list new) same_front (subst (λ n. IsSettledGraph n (old.graph.edges.items ++ get_or edges (get_or kept i 0) d ∷ []) new) before.values.count is)
+  pub kept_more : (new : Satisfied) → IsSatisfiedGraph (length old.values.items) (old.graph.edges.items ++ get_or edges (get_or kept i 0) d ∷ []) new → IsSatisfiedGraph points (edges_at edges (take (i + 1) kept)) new
+  kept_more new is = subst (λ list. IsSatisfiedGraph points list new) same_front (subst (λ n. IsSatisfiedGraph n (old.graph.edges.items ++ get_or edges (get_or kept i 0) d ∷ []) new) before.values.count is)
 
   pub kept_cycle : HasPositiveCycle (old.graph.edges.items ++ get_or edges (get_or kept i 0) d ∷ []) → HasPositiveCycle (edges_at edges kept)
   kept_cycle found = HasPositiveCycle-within (edges_at edges (take (i + 1) kept)) (edges_at edges kept)
       (edges_at-within edges (take (i + 1) kept) kept (λ place among. Contains-take (i + 1) kept place among)) (subst HasPositiveCycle same_front found)
 
 -- at the end all are in, so there is a schedule
-pub with_all : (points : ℕ) (edges : List Edge) (kept : List ℕ) (first place : ℕ) (settled : Settled) → place ≤ first → IsSettledWith points (edges_at edges (kept ++ places_from place (length edges))) settled
+pub with_all : (points : ℕ) (edges : List Edge) (kept : List ℕ) (first place : ℕ) (satisfied : Satisfied) → place ≤ first → IsSatisfiedWith points (edges_at edges (kept ++ places_from place (length edges))) satisfied
     → HasNoSchedule (edges_at edges (kept ++ places_from first (length edges))) → ⊥
-with_all points edges kept first place settled order is none =
-    let own = schedule_from_settled points settled.graph.edges.items settled.values.items is.settled_own.values in
-    let all = schedule_for settled.graph.edges.items (edges_at edges (kept ++ places_from place (length edges))) own.0 is.all own.1 in
+with_all points edges kept first place satisfied order is none =
+    let own = schedule_from_satisfied points satisfied.graph.edges.items satisfied.values.items is.satisfied_own.values in
+    let all = schedule_for satisfied.graph.edges.items (edges_at edges (kept ++ places_from place (length edges))) own.0 is.all own.1 in
     none own.0 (schedule_for (edges_at edges (kept ++ places_from place (length edges))) (edges_at edges (kept ++ places_from first (length edges))) own.0
     (edges_at-within edges (kept ++ places_from first (length edges)) (kept ++ places_from place (length edges)) (λ other among. kept_from_later kept place first (length edges) other order among)) all)

@@ -8,7 +8,7 @@ use Rattle.std.proofs.lemmas.Bool.{cases_eq, cases_lt}
 use Rattle.temporal_core.specs.declared.edges.Edge.{Edge}
 use Rattle.temporal_core.specs.Schedule.{KeepsEdge}
 use Rattle.temporal_core.specs.Cycle.{LeadsFrom, gap_sum}
-use Rattle.temporal_core.specs.Settled.{IsLastFrom, value_at, Walk, RaisesEnd, RaisesFrom, IsStopped, Raises, Exceeds}
+use Rattle.temporal_core.specs.Satisfied.{IsLastFrom, value_at, Walk, RaisesEnd, RaisesFrom, IsStopped, Raises, Exceeds}
 use Rattle.eu_name.proofs.Members.{get_from_contains, get_below, contains_from_get, get_same}
 use Rattle.temporal_core.proofs.Members.{all_from_contains}
 use Rattle.temporal_core.proofs.Values.{value_at-set_same, value_at-set_other, total-set}

@@ -8,16 +8,16 @@ use Rattle.std.proofs.lemmas.Bool.{cases_eq, cases_lt}
 use Rattle.std.proofs.lemmas.Option.{slice_get-get_or, get_or_from_slice_get}
 use Rattle.std.proofs.lemmas.List.Elements.{All-nil, All-push, All-weaker, All-contains, Contains-append_left, Contains-append_right, Contains-append_cases, Contains-push, Contains-push_cases, Contains-get_or}
 use Rattle.temporal_core.specs.declared.edges.Edge.{Edge}
-use Rattle.temporal_core.specs.declared.settled.Settled.{Settled}
+use Rattle.temporal_core.specs.declared.satisfied.Satisfied.{Satisfied}
 use Rattle.temporal_core.specs.Network.{IsEdge}
 use Rattle.temporal_core.specs.Schedule.{KeepsEdge, IsSchedule, HasNoSchedule}
 use Rattle.temporal_core.specs.Cycle.{edges_at, LeavesAfter, LeavesNeeded}
-use Rattle.temporal_core.specs.Settled.{value_at, IsGraph, AreKept, IsSettledGraph, HasPositiveCycle}
+use Rattle.temporal_core.specs.Satisfied.{value_at, IsGraph, AreKept, IsSatisfiedGraph, HasPositiveCycle}
 use Rattle.temporal_core.specs.Canonical.{edge_at, idle_edge, missing, places_from, Stays, IsThinned, HasNoneFrom, HasSomeFrom, IsNextNeeded}
 use Rattle.temporal_core.proofs.Members.{all_from_contains}
 use Rattle.eu_name.proofs.Members.{get_from_contains, get_below}
 use Rattle.temporal_core.proofs.Walks.{none_keeps, Contains-cons_cases}
-use Rattle.temporal_core.proofs.Settling.{settled_modest}
+use Rattle.temporal_core.proofs.Satisfying.{satisfied_modest}
 use Rattle.temporal_core.proofs.Leaving.{edges_at-contains, edges_at-stands, none_at_more, Contains-places_from, places_from_bounds, places_from-next, leaves_next, leaves_rest}
 
 abbrev no_edge : Edge
@@ -59,7 +59,7 @@ among_stays kept first count place among =
     (λ in_rest. inr (places_from_bounds first count place in_rest).0)
     (Contains-append_cases kept (places_from first count) place among)
 
-module _ (points : ℕ) (edges : List Edge) (kept : List ℕ) (first : ℕ) (thinned : Settled) (is : IsThinned points edges kept first thinned) where
+module _ (points : ℕ) (edges : List Edge) (kept : List ℕ) (first : ℕ) (thinned : Satisfied) (is : IsThinned points edges kept first thinned) where
   -- each edge begins where the one in its place does
   pub same_from : (place : ℕ) → place < length edges → (edge_at edges place).from ≡ (edge_at thinned.graph.edges.items place).from
   same_from place within =
@@ -126,7 +126,7 @@ module _ (points : ℕ) (edges : List Edge) (kept : List ℕ) (first : ℕ) (thi
         )
 
 -- an edge of the graph is replaced
-module _ (points : ℕ) (edges : List Edge) (kept : List ℕ) (place : ℕ) (within : place < length edges) (old new : Settled) (values : new.values.items ≡ old.values.items) where
+module _ (points : ℕ) (edges : List Edge) (kept : List ℕ) (place : ℕ) (within : place < length edges) (old new : Satisfied) (values : new.values.items ≡ old.values.items) where
   -- it is left out
   pub left_out : All (λ other. other < place) kept → IsThinned points edges kept place old
       → IsGraph points (set old.graph.edges.items place (idle_edge (edge_at edges place))) new.graph → IsThinned points edges kept (place + 1) new
@@ -199,7 +199,7 @@ module _ (points : ℕ) (edges : List Edge) (kept : List ℕ) (place : ℕ) (wit
       }
 
 -- the next place stays
-pub stays_next : (points : ℕ) (edges : List Edge) (kept : List ℕ) (place : ℕ) (thinned : Settled) → 0 < length kept → IsThinned points edges kept place thinned
+pub stays_next : (points : ℕ) (edges : List Edge) (kept : List ℕ) (place : ℕ) (thinned : Satisfied) → 0 < length kept → IsThinned points edges kept place thinned
     → IsThinned points edges (kept ++ place ∷ []) (place + 1) thinned
 stays_next points edges kept place thinned some is =
     let same : missing (kept ++ place ∷ []) ≡ missing kept = get_or_append_left kept (place ∷ []) 0 0 some in
@@ -240,20 +240,20 @@ module _ (points : ℕ) (edges : List Edge) (first : ℕ) (thin : List Edge) (co
       (λ not. subst (IsEdge points) (sym (idle place (omega arith) within)) (idle_joins points (edge_at edges place) (at_place (IsEdge points) edges place joins within)))
       (cases_lt first place))
 
-  pub thinned_at_first : All (IsEdge points) edges → (thinned : Settled) → IsSettledGraph points thin thinned → IsThinned points edges (first ∷ []) (first + 1) thinned
-  thinned_at_first joins thinned settled = record {
+  pub thinned_at_first : All (IsEdge points) edges → (thinned : Satisfied) → IsSatisfiedGraph points thin thinned → IsThinned points edges (first ∷ []) (first + 1) thinned
+  thinned_at_first joins thinned satisfied = record {
     joins = joins;
-    graph = subst (λ items. IsGraph points items thinned.graph) (sym settled.graph.list) settled.graph;
+    graph = subst (λ items. IsGraph points items thinned.graph) (sym satisfied.graph.list) satisfied.graph;
     values = record {
-      few = settled.few;
-      count = settled.values.count;
+      few = satisfied.few;
+      count = satisfied.values.count;
       keeps = All-nil (KeepsEdge (value_at thinned.values.items));
-      low = settled.values.low;
-      high = settled_modest points thin thinned.values.items settled.few settled.graph.each settled.values;
+      low = satisfied.values.low;
+      high = satisfied_modest points thin thinned.values.items satisfied.few satisfied.graph.each satisfied.values;
     };
     keeps = λ place after within. subst (KeepsEdge (value_at thinned.values.items)) (behind place after within)
-        (at_place (KeepsEdge (value_at thinned.values.items)) thin place settled.values.keeps (omega (arith, count)));
-    count = ap length settled.graph.list ∙ count;
+        (at_place (KeepsEdge (value_at thinned.values.items)) thin place satisfied.values.keeps (omega (arith, count)));
+    count = ap length satisfied.graph.list ∙ count;
     each = λ place within.
         ⊎_elim
         (λ after. inr (after, inr (omega arith), listed place ∙ behind place after within))
@@ -267,7 +267,7 @@ module _ (points : ℕ) (edges : List Edge) (first : ℕ) (thin : List Edge) (co
   }
     where
       listed : (place : ℕ) → edge_at thinned.graph.edges.items place ≡ edge_at thin place
-      listed place = ap (λ items. edge_at items place) settled.graph.list
+      listed place = ap (λ items. edge_at items place) satisfied.graph.list
 
   -- they have a schedule
   pub thin_fits : IsNextNeeded edges [] 0 first → HasPositiveCycle thin → ⊥
@@ -321,7 +321,7 @@ behind_none edges last thin none = record {
 }
 
 -- the points are as many as the values
-pub own_points : (points : ℕ) (edges : List Edge) (kept : List ℕ) (first : ℕ) (thinned : Settled) → IsThinned points edges kept first thinned → IsThinned (length thinned.values.items) edges kept first thinned
+pub own_points : (points : ℕ) (edges : List Edge) (kept : List ℕ) (first : ℕ) (thinned : Satisfied) → IsThinned points edges kept first thinned → IsThinned (length thinned.values.items) edges kept first thinned
 own_points points edges kept first thinned is = subst (λ n. IsThinned n edges kept first thinned) (sym is.values.count) is
 
 -- from where no places are left those that stay have no schedule alone
@@ -336,13 +336,13 @@ none_alone edges kept first past none =
     none
 
 -- what a call leaves, at the points that there were before
-pub as_before : (points now : ℕ) (edges : List Edge) (kept : List ℕ) (first end : ℕ) (thinned : Settled) (done : Bool) → now ≡ points
+pub as_before : (points now : ℕ) (edges : List Edge) (kept : List ℕ) (first end : ℕ) (thinned : Satisfied) (done : Bool) → now ≡ points
     → MatchBool done (IsThinned now edges kept end thinned) (IsThinned now edges kept first thinned)
     → MatchBool done (IsThinned points edges kept end thinned) (IsThinned points edges kept first thinned)
 as_before points now edges kept first end thinned done same = subst (λ n. MatchBool done (IsThinned n edges kept end thinned) (IsThinned n edges kept first thinned)) same
 
 -- what stays so far: whatever is left from here on is left of all
-pub record IsLeaving (points : ℕ) (edges : List Edge) (kept : List ℕ) (next : ℕ) (thinned : Settled) : Type 0 where
+pub record IsLeaving (points : ℕ) (edges : List Edge) (kept : List ℕ) (next : ℕ) (thinned : Satisfied) : Type 0 where
   pub some : 0 < length kept
   pub before : All (λ place. place < next) kept
   pub within : next ≤ length edges
@@ -358,7 +358,7 @@ none_with edges kept place within none =
     ap (λ list. kept ++ list) (places_from-next place (length edges) within) ∙ sym (append_assoc kept (place ∷ []) rest) in
     subst (λ list. HasNoSchedule (edges_at edges list)) moved none
 
-pub leaving_first : (points : ℕ) (edges : List Edge) (first : ℕ) (thinned : Settled) → IsNextNeeded edges [] 0 first
+pub leaving_first : (points : ℕ) (edges : List Edge) (first : ℕ) (thinned : Satisfied) → IsNextNeeded edges [] 0 first
     → IsThinned points edges (first ∷ []) (first + 1) thinned → IsLeaving points edges (first ∷ []) (first + 1) thinned
 leaving_first points edges first thinned needed is = record {
   some = omega arith;
@@ -371,8 +371,8 @@ leaving_first points edges first thinned needed is = record {
       (leaves_next edges [] left 0 first needed.after needed.within needed.none needed.some leaves);
 }
 
-pub leaving_next : (points : ℕ) (edges : List Edge) (kept : List ℕ) (next : ℕ) (old : Settled) → IsLeaving points edges kept next old → (place : ℕ) → IsNextNeeded edges kept next place
-    → (new : Settled) → IsThinned points edges kept place new → IsLeaving points edges (kept ++ place ∷ []) (place + 1) new
+pub leaving_next : (points : ℕ) (edges : List Edge) (kept : List ℕ) (next : ℕ) (old : Satisfied) → IsLeaving points edges kept next old → (place : ℕ) → IsNextNeeded edges kept next place
+    → (new : Satisfied) → IsThinned points edges kept place new → IsLeaving points edges (kept ++ place ∷ []) (place + 1) new
 leaving_next points edges kept next old leaving place needed new is = record {
   some = omega (arith, length-append kept (place ∷ []), leaving.some);
   before = All-push (λ k. k < place + 1) kept place (All-weaker (λ k. k < next) (λ k. k < place + 1) (λ k less. omega (arith, needed.after)) kept leaving.before) (omega arith);
@@ -383,5 +383,5 @@ leaving_next points edges kept next old leaving place needed new is = record {
 }
 
 -- at the end all that stay are needed
-pub leaving_all : (points : ℕ) (edges : List Edge) (kept : List ℕ) (next : ℕ) (thinned : Settled) → IsLeaving points edges kept next thinned → HasNoSchedule (edges_at edges kept) → LeavesNeeded edges kept
+pub leaving_all : (points : ℕ) (edges : List Edge) (kept : List ℕ) (next : ℕ) (thinned : Satisfied) → IsLeaving points edges kept next thinned → HasNoSchedule (edges_at edges kept) → LeavesNeeded edges kept
 leaving_all points edges kept next thinned leaving none = leaving.leaves kept (leaves_rest edges kept (places_from next (length edges)) none)

@@ -7,7 +7,7 @@ use Rattle.std.proofs.lemmas.List.Elements.{All-map, All-weaker}
 use Rattle.temporal_core.specs.declared.edges.Edge.{Edge}
 use Rattle.temporal_core.specs.Network.{IsEdge}
 use Rattle.temporal_core.specs.Schedule.{KeepsEdge, IsSchedule, IsLeastValue, IsGreatestValue, AreLeastValues, AreGreatestValues}
-use Rattle.temporal_core.specs.Settled.{HasPositiveCycle}
+use Rattle.temporal_core.specs.Satisfied.{HasPositiveCycle}
 use Rattle.temporal_core.specs.Bounds.{reversed_edge, negative_of}
 use Rattle.temporal_core.proofs.Walks.{none_keeps}
 

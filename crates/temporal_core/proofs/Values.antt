@@ -3,7 +3,7 @@ use borrow.Author.Differences.{up, down}
 use Rattle.std.proofs.Common.{◌≡◌, ◌≢◌, ℕ, suc, zero, ◌+◌, ◌-◌, ◌<◌, ℤ, pos, ◌+ℤ◌, ◌≤ℤ◌, List, [], ◌∷◌, length, set, arith}
 use Rattle.std.proofs.lemmas.Int.{ints}
 use Rattle.std.proofs.lemmas.List.{get_or-set_same, get_or-set_other}
-use Rattle.temporal_core.specs.Settled.{value_at, value_sum}
+use Rattle.temporal_core.specs.Satisfied.{value_at, value_sum}
 
 pub value_at-set_same : (values : List ℤ) (point : ℕ) (value : ℤ) → point < length values → value_at (set values point value) point ≡ value
 value_at-set_same values point value h = get_or-set_same values point value (pos 0) h

@@ -8,7 +8,7 @@ use Rattle.temporal_core.specs.declared.edges.Edge.{Edge}
 use Rattle.temporal_core.specs.Network.{IsEdge}
 use Rattle.temporal_core.specs.Schedule.{KeepsEdge, HasNoSchedule}
 use Rattle.temporal_core.specs.Cycle.{LeadsFrom, gap_sum, LeadsBack, IsSimple}
-use Rattle.temporal_core.specs.Settled.{Walk, HasPositiveCycle}
+use Rattle.temporal_core.specs.Satisfied.{Walk, HasPositiveCycle}
 use Rattle.temporal_core.proofs.Raising.{gap_sum-append}
 
 pub Contains-head : {X : Type 0} (x : X) (xs : List X) → Contains (x ∷ xs) x

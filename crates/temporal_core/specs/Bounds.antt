@@ -3,7 +3,7 @@ use Rattle.std.specs.Prelude.{◌≡◌, ℕ, ℤ, pos, neg_ℤ, ◌-ℤ◌, ◌
 use Rattle.std.specs.Prelude.{◌<ℤ◌, List, Option, Some, None, MatchOption, ⊤}
 use Rattle.std.specs.Prelude.{slice_index_or}
 use Rattle.temporal_core.specs.declared.edges.Edge.{Edge}
-use Rattle.temporal_core.specs.Settled.{IsNear}
+use Rattle.temporal_core.specs.Satisfied.{IsNear}
 
 -- the edge with the flow of time turned round
 abbrev pub reversed_edge : Edge → Edge
@@ -20,8 +20,8 @@ far_below value = value -ℤ pos 1099511627776
 
 -- the value was raised, and is told as it lies from the origin; or it wasn't
 abbrev pub TellsPoint : ℤ → ℤ → ℤ → Option ℤ → Type 0
-TellsPoint value settled origin None = value ≤ℤ far_below settled
-TellsPoint value settled origin (Some told) = (far_below settled <ℤ value) × (told ≡ value -ℤ origin)
+TellsPoint value satisfied origin None = value ≤ℤ far_below satisfied
+TellsPoint value satisfied origin (Some told) = (far_below satisfied <ℤ value) × (told ≡ value -ℤ origin)
 
 -- the numbers that there are are near to 0
 abbrev pub AreNear : List (Option ℤ) → Type 0

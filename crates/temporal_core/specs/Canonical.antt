@@ -3,12 +3,12 @@ use Rattle.std.specs.Prelude.{◌≡◌, ℕ, ◌+◌, ◌-◌, ◌<◌, ◌≤�
 use Rattle.std.specs.Prelude.{List, [], ◌++◌, length, All, Contains, slice_index_or}
 use Rattle.std.specs.List.{range_with_len}
 use Rattle.temporal_core.specs.declared.edges.Edge.{Edge}
-use Rattle.temporal_core.specs.declared.settled.Settled.{Settled}
+use Rattle.temporal_core.specs.declared.satisfied.Satisfied.{Satisfied}
 use Rattle.temporal_core.specs.declared.thinned.Part.{Part}
 use Rattle.temporal_core.specs.Network.{IsEdge}
 use Rattle.temporal_core.specs.Schedule.{KeepsEdge, IsSchedule, HasNoSchedule}
 use Rattle.temporal_core.specs.Cycle.{edges_at, LeavesNeeded, IsPositiveCycle, BeginsLeast}
-use Rattle.temporal_core.specs.Settled.{value_at, IsGraph, AreKept, HasPositiveCycle}
+use Rattle.temporal_core.specs.Satisfied.{value_at, IsGraph, AreKept, HasPositiveCycle}
 
 -- the edge at the place
 abbrev pub edge_at : List Edge → ℕ → Edge
@@ -40,7 +40,7 @@ Stays kept first place = Contains kept place ⊎ (first ≤ place)
 
 -- a graph of the edges that stay and of those from the first on, but for the missing one: each of the others has an
 -- idle edge in its place. The values keep all edges behind the missing one.
-pub record IsThinned (points : ℕ) (edges : List Edge) (kept : List ℕ) (first : ℕ) (thinned : Settled) : Type 0 where
+pub record IsThinned (points : ℕ) (edges : List Edge) (kept : List ℕ) (first : ℕ) (thinned : Satisfied) : Type 0 where
   pub joins : All (IsEdge points) edges
   pub graph : IsGraph points thinned.graph.edges.items thinned.graph
   pub values : AreKept points [] thinned.values.items
@@ -64,7 +64,7 @@ HasSomeFrom edges kept place =
     (value : ℕ → ℤ) × IsSchedule (edges_at edges (kept ++ places_from place (length edges))) value
 
 -- one of the places from the first on and before the end is the next that is needed
-pub record IsNextPart (points : ℕ) (edges : List Edge) (kept : List ℕ) (part : Part) (thinned : Settled) : Type 0 where
+pub record IsNextPart (points : ℕ) (edges : List Edge) (kept : List ℕ) (part : Part) (thinned : Satisfied) : Type 0 where
   pub order : part.first < part.end
   pub within : part.end ≤ length edges
   pub thinned_first : IsThinned points edges kept part.first thinned

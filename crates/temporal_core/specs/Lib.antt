@@ -1,7 +1,7 @@
 pub mod Network
 pub mod Schedule
 pub mod Cycle
-pub mod Settled
+pub mod Satisfied
 pub mod Bounds
 pub mod Canonical
 pub mod TimeBounds

@@ -5,13 +5,13 @@ ghost use Rattle.std.specs.Prelude.{IfOk};
 ghost use Rattle.std.specs.Prelude.{IfErr, MatchOption, ⊤};
 ghost use Rattle.temporal_core.specs.Network.{IsEdge};
 ghost use Rattle.temporal_core.specs.Schedule.{IsSchedule, AreLeastValues, AreGreatestValues};
-ghost use Rattle.temporal_core.specs.Settled.{value_at, IsNear, far, IsSettledGraph, HasPositiveCycle};
+ghost use Rattle.temporal_core.specs.Satisfied.{value_at, IsNear, far, IsSatisfiedGraph, HasPositiveCycle};
 ghost use Rattle.temporal_core.specs.TimeBounds.{AreBounds, IsNoBounds};
 ghost use Rattle.temporal_core.specs.Bounds.{far_below, reversed_edge, negative_of, TellsPoint, AreNear};
 
 use super::canonical::canonical_cycle;
 use super::edges::{Edge, Edges};
-use super::settled::{Settled, raise, settle};
+use super::satisfied::{Satisfied, raise, satisfy};
 use eu_name::sequence::Sequence;
 use std::alloc::{AllocError, Global};
 
@@ -67,13 +67,13 @@ fn lowered(alloc: Global, values: &[i64]) -> Result<Vec<i64>, AllocError>
 }
 
 // What the value of a point says that was raised from far below, if it was.
-fn told(value: i64, settled: i64, origin: i64) -> Option<i64>
+fn told(value: i64, satisfied: i64, origin: i64) -> Option<i64>
     requires value { IsNear value }
-    requires settled { (pos 0 ≤ℤ settled) × (settled ≤ℤ far) }
+    requires satisfied { (pos 0 ≤ℤ satisfied) × (satisfied ≤ℤ far) }
     requires origin { (pos 0 ≤ℤ origin) × (origin ≤ℤ far) }
-    ensures { TellsPoint value settled origin result }
+    ensures { TellsPoint value satisfied origin result }
 {
-    if value > settled - FAR {
+    if value > satisfied - FAR {
         Some(value - origin)
     } else {
         None
@@ -84,38 +84,38 @@ fn told(value: i64, settled: i64, origin: i64) -> Option<i64>
 fn told_all(
     alloc: Global,
     values: &[i64],
-    settled: &[i64],
+    satisfied: &[i64],
     origin: i64,
 ) -> Result<Vec<Option<i64>>, AllocError>
-    requires count { length values.now ≡ length settled.now }
+    requires count { length values.now ≡ length satisfied.now }
     requires values { (point : ℕ) → IsNear (value_at values.now point) }
-    requires settled { (point : ℕ) → (pos 0 ≤ℤ value_at settled.now point) × (value_at settled.now point ≤ℤ far) }
+    requires satisfied { (point : ℕ) → (pos 0 ≤ℤ value_at satisfied.now point) × (value_at satisfied.now point ≤ℤ far) }
     requires origin { (pos 0 ≤ℤ origin) × (origin ≤ℤ far) }
-    ensures count { IfOk result (λ all. length all.items ≡ length settled.now) }
-    ensures each { IfOk result (λ all. (point : ℕ) → point < length settled.now
-        → TellsPoint (value_at values.now point) (value_at settled.now point) origin
+    ensures count { IfOk result (λ all. length all.items ≡ length satisfied.now) }
+    ensures each { IfOk result (λ all. (point : ℕ) → point < length satisfied.now
+        → TellsPoint (value_at values.now point) (value_at satisfied.now point) origin
         (slice_index_or all.items point None)) }
 {
-    let mut all = Vec::with_capacity(alloc, settled.len())?;
-    for point in 0..settled.len() {
-        all.push(told(values[point], settled[point], origin))?;
+    let mut all = Vec::with_capacity(alloc, satisfied.len())?;
+    for point in 0..satisfied.len() {
+        all.push(told(values[point], satisfied[point], origin))?;
     }
     Ok(all)
 }
 
 // The least value of each point. The origin is raised from far below to where it is: the points that this raises are as
 // low then as they can be, and the others can be as low as one likes.
-fn least_values(alloc: Global, settled: &Settled) -> Result<Vec<Option<i64>>, AllocError>
-    requires some { 0 < length settled.now.values.items }
-    requires settled { IsSettledGraph (length settled.now.values.items) settled.now.graph.edges.items settled.now }
+fn least_values(alloc: Global, satisfied: &Satisfied) -> Result<Vec<Option<i64>>, AllocError>
+    requires some { 0 < length satisfied.now.values.items }
+    requires satisfied { IsSatisfiedGraph (length satisfied.now.values.items) satisfied.now.graph.edges.items satisfied.now }
     ensures values { IfOk result (λ least.
-        AreLeastValues (length settled.now.values.items) settled.now.graph.edges.items least.items) }
+        AreLeastValues (length satisfied.now.values.items) satisfied.now.graph.edges.items least.items) }
     ensures near { IfOk result (λ least. AreNear least.items) }
 {
-    let first = settled.values.as_slice();
+    let first = satisfied.values.as_slice();
     let origin = first[0];
     let mut values = lowered(alloc, first)?;
-    if !raise(alloc, &settled.graph, &mut values, 0, origin, first.len())? {
+    if !raise(alloc, &satisfied.graph, &mut values, 0, origin, first.len())? {
         unreachable!();
     }
     let least = told_all(alloc, &values, first, origin)?;
@@ -131,10 +131,10 @@ fn least_of(alloc: Global, points: usize, edges: &[Edge]) -> Result<Vec<Option<i
     ensures values { IfOk result (λ least. AreLeastValues points edges.now least.items) }
     ensures near { IfOk result (λ least. AreNear least.items) }
 {
-    let Some(settled) = settle(alloc, points, edges)? else {
+    let Some(satisfied) = satisfy(alloc, points, edges)? else {
         unreachable!();
     };
-    least_values(alloc, &settled)
+    least_values(alloc, &satisfied)
 }
 
 // The edges with the flow of time turned round.
@@ -204,9 +204,9 @@ pub fn bounds(edges: &Edges) -> Result<TimeBounds, TimeFault>
     let alloc = edges.allocator();
     let points = edges.points() as usize;
     let list = edges.as_slice();
-    match settle(alloc, points, list)? {
-        Some(settled) => {
-            let lo = least_values(alloc, &settled)?;
+    match satisfy(alloc, points, list)? {
+        Some(satisfied) => {
+            let lo = least_values(alloc, &satisfied)?;
             let hi = greatest_values(alloc, points, list)?;
             Ok(TimeBounds {
                 lo: Sequence::from_vec(lo),

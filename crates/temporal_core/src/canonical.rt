@@ -9,11 +9,11 @@ ghost use Rattle.std.specs.Prelude.{◌≡◌, ℕ, ℤ, ◌+◌, ◌<◌, ◌�
 ghost use Rattle.temporal_core.specs.Network.{IsEdge};
 ghost use Rattle.temporal_core.specs.Schedule.{IsSchedule, HasNoSchedule};
 ghost use Rattle.temporal_core.specs.Cycle.{edges_at, LeavesNeeded, IsCanonicalCycle};
-ghost use Rattle.temporal_core.specs.Settled.{HasPositiveCycle};
+ghost use Rattle.temporal_core.specs.Satisfied.{HasPositiveCycle};
 ghost use Rattle.temporal_core.specs.Canonical.{edge_at, IsThinned, IsNextNeeded, AreNeeded, IsCycleOf};
 
 use super::edges::Edge;
-use super::settled::Settled;
+use super::satisfied::Satisfied;
 use super::thinned::{next_needed, thinned_from};
 use std::alloc::{AllocError, Global};
 
@@ -31,9 +31,9 @@ fn have_schedule(
         ((value : ℕ → ℤ) × IsSchedule (edges_at edges.now kept.now) value)
         (HasPositiveCycle (edges_at edges.now kept.now))) }
 {
-    let mut settled = Settled::new(alloc, points)?;
+    let mut satisfied = Satisfied::new(alloc, points)?;
     for place in kept {
-        if !settled.insert(edges[*place as usize])? {
+        if !satisfied.insert(edges[*place as usize])? {
             return Ok(false);
         }
     }
@@ -48,9 +48,9 @@ fn first_needed(alloc: Global, points: usize, edges: &[Edge]) -> Result<u32, All
     requires none { HasNoSchedule edges.now }
     ensures { IfOk result (IsNextNeeded edges.now [] 0) }
 {
-    let mut settled = Settled::new(alloc, points)?;
+    let mut satisfied = Satisfied::new(alloc, points)?;
     for place in (0..edges.len()).rev() {
-        if !settled.insert(edges[place])? {
+        if !satisfied.insert(edges[place])? {
             return Ok(place as u32);
         }
     }
@@ -63,7 +63,7 @@ fn needed_behind(
     alloc: Global,
     edges: &[Edge],
     first: u32,
-    thinned: &mut Settled,
+    thinned: &mut Satisfied,
 ) -> Result<Vec<u32>, AllocError>
     requires count { length edges.now < 4294967296 }
     requires first { IsNextNeeded edges.now [] 0 first }

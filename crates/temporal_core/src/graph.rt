@@ -4,7 +4,7 @@ ghost use Rattle.std.specs.Prelude.{◌≡◌, ℕ, ◌<◌, List, [], ◌∷◌
 ghost use Rattle.temporal_core.specs.declared.edges.Edge.{Edge as AnEdge};
 ghost use Rattle.temporal_core.specs.Network.{IsEdge};
 ghost use Rattle.temporal_core.specs.Canonical.{edge_at};
-ghost use Rattle.temporal_core.specs.Settled.{IsGraph};
+ghost use Rattle.temporal_core.specs.Satisfied.{IsGraph};
 
 use super::edges::Edge;
 use std::alloc::{AllocError, Global};

@@ -9,7 +9,7 @@ mod canonical;
 pub mod cycle;
 pub mod edges;
 mod graph;
-mod settled;
+mod satisfied;
 mod thinned;
 
 pub use bounds::{TimeBounds, TimeFault};

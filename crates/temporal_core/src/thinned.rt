@@ -12,7 +12,7 @@ ghost use Rattle.temporal_core.specs.Canonical.{edge_at, idle_edge, missing, Has
 ghost use Rattle.temporal_core.specs.Canonical.{IsNextNeeded, IsNextPart};
 
 use super::edges::Edge;
-use super::settled::{Settled, settle};
+use super::satisfied::{Satisfied, satisfy};
 use std::alloc::{AllocError, Global};
 
 // An edge from the same point that any values keep.
@@ -55,21 +55,21 @@ pub fn thinned_from(
     points: usize,
     edges: &[Edge],
     first: usize,
-) -> Result<Settled, AllocError>
+) -> Result<Satisfied, AllocError>
     requires few { points ≤ 65536 }
     requires edges { All (IsEdge points) edges.now }
     requires first { IsNextNeeded edges.now [] 0 first }
     ensures { IfOk result (IsThinned points edges.now (first ∷ []) (first + 1)) }
 {
     let thin = edges_behind(alloc, edges, first)?;
-    let Some(thinned) = settle(alloc, points, &thin)? else {
+    let Some(thinned) = satisfy(alloc, points, &thin)? else {
         unreachable!();
     };
     Ok(thinned)
 }
 
 // Leaves the edges of this part out.
-fn leave_out(edges: &[Edge], first: usize, end: usize, thinned: &mut Settled)
+fn leave_out(edges: &[Edge], first: usize, end: usize, thinned: &mut Satisfied)
     requires count { length thinned.old.graph.edges.items ≡ length edges.now }
     requires order { first ≤ end }
     requires end { end ≤ length edges.now }
@@ -82,7 +82,7 @@ fn leave_out(edges: &[Edge], first: usize, end: usize, thinned: &mut Settled)
 }
 
 // Puts the edges of this part back.
-fn put_back(edges: &[Edge], first: usize, end: usize, thinned: &mut Settled)
+fn put_back(edges: &[Edge], first: usize, end: usize, thinned: &mut Satisfied)
     requires count { length thinned.old.graph.edges.items ≡ length edges.now }
     requires order { first ≤ end }
     requires end { end ≤ length edges.now }
@@ -100,7 +100,7 @@ fn is_left_out(
     kept: &[u32],
     first: usize,
     end: usize,
-    thinned: &mut Settled,
+    thinned: &mut Satisfied,
 ) -> Result<bool, AllocError>
     requires kept { All (λ place. place < first) kept.now }
     requires some { 0 < length kept.now }
@@ -135,7 +135,7 @@ fn next_part(
     kept: &[u32],
     from: usize,
     many: usize,
-    thinned: &mut Settled,
+    thinned: &mut Satisfied,
 ) -> Result<Option<Part>, AllocError>
     requires count { length edges.now < 4294967296 }
     requires kept { All (λ place. place < from) kept.now }
@@ -168,7 +168,7 @@ fn needed_in(
     edges: &[Edge],
     kept: &[u32],
     part: Part,
-    thinned: &mut Settled,
+    thinned: &mut Satisfied,
 ) -> Result<u32, AllocError>
     requires count { length edges.now < 4294967296 }
     requires kept { All (λ place. place < part.first) kept.now }
@@ -198,7 +198,7 @@ pub fn next_needed(
     kept: &[u32],
     first: usize,
     many: usize,
-    thinned: &mut Settled,
+    thinned: &mut Satisfied,
 ) -> Result<Option<u32>, AllocError>
     requires count { length edges.now < 4294967296 }
     requires kept { All (λ place. place < first) kept.now }

@@ -1,4 +1,4 @@
-//! Networks: that there is memory for each call, which no clause says, what settling leaves in rows worked out by
+//! Networks: that there is memory for each call, which no clause says, what propagation leaves in rows worked out by
 //! hand, and how many narrowings it takes.
 
 ghost use Rattle.std.specs.Prelude.{◌≡◌, ◌<◌, length};
@@ -6,7 +6,7 @@ ghost use Rattle.constraint_net.specs.Marks.{KeepMarks};
 
 use super::shapes::Written::{Ends, Members};
 use super::shapes::{Shape, Written, made, shape};
-use constraint_net::NetArg::Lit;
+use constraint_net::NetArg::{Lit, Var};
 use constraint_net::laws::marks_stay;
 use constraint_net::{Net, NetFault};
 use domain_core::domain::{GREATEST_VALUE, LEAST_VALUE};
@@ -60,7 +60,7 @@ fn post_eq(net: &mut Net, x: usize, y: usize) -> bool {
     if net.get(x).is_none() || net.get(y).is_none() {
         return false;
     }
-    let args = [net.variable(x), net.variable(y)];
+    let args = [Var(x), Var(y)];
     net.post(Kind::Eq, &args).is_ok()
 }
 
@@ -68,7 +68,7 @@ fn post_lt(net: &mut Net, x: usize, y: usize) -> bool {
     if net.get(x).is_none() || net.get(y).is_none() {
         return false;
     }
-    let args = [net.variable(x), net.variable(y)];
+    let args = [Var(x), Var(y)];
     net.post(Kind::Lt, &args).is_ok()
 }
 
@@ -76,7 +76,7 @@ fn post_leq(net: &mut Net, x: usize, y: usize) -> bool {
     if net.get(x).is_none() || net.get(y).is_none() {
         return false;
     }
-    let args = [net.variable(x), net.variable(y)];
+    let args = [Var(x), Var(y)];
     net.post(Kind::Leq, &args).is_ok()
 }
 
@@ -85,7 +85,7 @@ fn post_thrice(net: &mut Net, x: usize, z: usize) -> bool {
     if net.get(x).is_none() || net.get(z).is_none() {
         return false;
     }
-    let args = [net.variable(x), Lit(3), net.variable(z)];
+    let args = [Var(x), Lit(3), Var(z)];
     net.post(Kind::MulEq, &args).is_ok()
 }
 
@@ -94,7 +94,7 @@ fn post_at_most_two(net: &mut Net, b: usize, x: usize) -> bool {
     if net.get(b).is_none() || net.get(x).is_none() {
         return false;
     }
-    let args = [net.variable(b), net.variable(x), Lit(2)];
+    let args = [Var(b), Var(x), Lit(2)];
     net.post(Kind::TestLeq, &args).is_ok()
 }
 
@@ -110,12 +110,12 @@ fn run_equal(
     net: &mut Net,
     alloc: Global,
 ) -> (bool, [Option<Shape>; 2], Option<Change>, [Option<Shape>; 2]) {
-    let made = make_equal(net, alloc) && net.settle_all().is_ok();
+    let made = make_equal(net, alloc) && net.propagate_all().is_ok();
     let before = [left(net, 0), left(net, 1)];
     let change = limit(net, 0, 5, 5);
-    let settled = net.settle_all().is_ok();
+    let propagated = net.propagate_all().is_ok();
     let after = [left(net, 0), left(net, 1)];
-    (made && settled, before, change, after)
+    (made && propagated, before, change, after)
 }
 
 #[derive(Clone, Copy)]
@@ -135,8 +135,8 @@ impl Run for Equal {
 
 #[test]
 fn a_range_and_a_set_are_equal(rt: HostRuntime) {
-    let (settled, before, change, after) = seen(rt.alloc(), &Equal);
-    assert!(rt; settled);
+    let (propagated, before, change, after) = seen(rt.alloc(), &Equal);
+    assert!(rt; propagated);
     assert!(rt; before == [Some((true, 2, 9, 8)), Some((false, 2, 9, 3))]);
     assert!(rt; change == Some(Change::Smaller));
     assert!(rt; after == [Some((true, 5, 5, 1)), Some((false, 5, 5, 1))]);
@@ -151,10 +151,10 @@ fn make_apart(net: &mut Net, alloc: Global) -> bool {
 
 /// What is left of the range and the set after the range has become less, and how often the set was written.
 fn run_apart(net: &mut Net, alloc: Global) -> (bool, [Option<Shape>; 2], Option<u64>) {
-    let made = make_apart(net, alloc) && net.settle_all().is_ok();
-    let settled = limit(net, 0, 4, 7).is_some() && net.settle_all().is_ok();
+    let made = make_apart(net, alloc) && net.propagate_all().is_ok();
+    let propagated = limit(net, 0, 4, 7).is_some() && net.propagate_all().is_ok();
     let after = [left(net, 0), left(net, 1)];
-    (made && settled, after, net.stamp(1))
+    (made && propagated, after, net.stamp(1))
 }
 
 #[derive(Clone, Copy)]
@@ -170,8 +170,8 @@ impl Run for Apart {
 
 #[test]
 fn a_set_that_stays_is_not_written(rt: HostRuntime) {
-    let (settled, after, written) = seen(rt.alloc(), &Apart);
-    assert!(rt; settled);
+    let (propagated, after, written) = seen(rt.alloc(), &Apart);
+    assert!(rt; propagated);
     assert!(rt; after == [Some((true, 4, 7, 4)), Some((false, 12, 20, 3))]);
     assert!(rt; written == Some(0));
 }
@@ -186,11 +186,11 @@ fn make_product(net: &mut Net, alloc: Global) -> bool {
 
 /// What is left of x, z and b, and again after b has become false.
 fn run_product(net: &mut Net, alloc: Global) -> (bool, [Option<Shape>; 3], [Option<Shape>; 3]) {
-    let made = make_product(net, alloc) && net.settle_all().is_ok();
+    let made = make_product(net, alloc) && net.propagate_all().is_ok();
     let before = [left(net, 0), left(net, 1), left(net, 2)];
-    let settled = limit(net, 2, 0, 0).is_some() && net.settle_all().is_ok();
+    let propagated = limit(net, 2, 0, 0).is_some() && net.propagate_all().is_ok();
     let after = [left(net, 0), left(net, 1), left(net, 2)];
-    (made && settled, before, after)
+    (made && propagated, before, after)
 }
 
 #[derive(Clone, Copy)]
@@ -205,9 +205,9 @@ impl Run for Product {
 }
 
 #[test]
-fn a_product_is_settled_before_and_after_a_test_is_false(rt: HostRuntime) {
-    let (settled, before, after) = seen(rt.alloc(), &Product);
-    assert!(rt; settled);
+fn a_product_is_propagated_before_and_after_a_test_is_false(rt: HostRuntime) {
+    let (propagated, before, after) = seen(rt.alloc(), &Product);
+    assert!(rt; propagated);
     let open = [
         Some((true, 0, 3, 4)),
         Some((true, 0, 9, 10)),
@@ -229,10 +229,10 @@ fn make_contradiction(net: &mut Net, alloc: Global) -> bool {
     added && post_lt(net, 0, 1) && post_lt(net, 1, 0)
 }
 
-/// Why the two can't be settled.
+/// Why the two can't be propagated.
 fn run_contradiction(net: &mut Net, alloc: Global) -> (bool, Option<NetFault>) {
     let made = make_contradiction(net, alloc);
-    (made, net.settle_all().err())
+    (made, net.propagate_all().err())
 }
 
 #[derive(Clone, Copy)]
@@ -261,7 +261,7 @@ fn post_field(net: &mut Net, objects: Dom) -> bool
     let Ok(object) = net.add_var(objects) else {
         return false;
     };
-    let args = [net.variable(object), Lit(5)];
+    let args = [Var(object), Lit(5)];
     net.post(Kind::Field(capacity), &args).is_ok()
 }
 
@@ -273,8 +273,8 @@ fn run_field(net: &mut Net, alloc: Global) -> (bool, Option<Shape>)
         Some(objects) => post_field(net, objects),
         None => false,
     };
-    let settled = net.settle_all().is_ok();
-    (posted && settled, left(net, 0))
+    let propagated = net.propagate_all().is_ok();
+    (posted && propagated, left(net, 0))
 }
 
 #[derive(Clone, Copy)]
@@ -306,14 +306,18 @@ fn make_chain(net: &mut Net, alloc: Global, count: usize) -> bool {
     true
 }
 
-/// How many narrowings settling takes after the first of so many variables has become less, and what is left of the
+/// How many narrowings propagation takes after the first of so many variables has become less, and what is left of the
 /// last one.
 fn run_chain(net: &mut Net, alloc: Global, count: usize) -> (bool, u64, Option<Shape>) {
-    let made = make_chain(net, alloc, count) && net.settle_all().is_ok();
+    let made = make_chain(net, alloc, count) && net.propagate_all().is_ok();
     let before = net.work();
-    let settled = limit(net, 0, 7, 9).is_some() && net.settle_all().is_ok();
+    let propagated = limit(net, 0, 7, 9).is_some() && net.propagate_all().is_ok();
     let spent = net.work().saturating_sub(before);
-    (made && settled, spent, left(net, count.saturating_sub(1)))
+    (
+        made && propagated,
+        spent,
+        left(net, count.saturating_sub(1)),
+    )
 }
 
 /// A chain of so many variables.
@@ -330,8 +334,8 @@ impl Run for Chain {
 
 #[test]
 fn a_chain_takes_three_narrowings_a_variable(rt: HostRuntime) {
-    let (settled, spent, last) = seen(rt.alloc(), &Chain(100));
-    assert!(rt; settled);
+    let (propagated, spent, last) = seen(rt.alloc(), &Chain(100));
+    assert!(rt; propagated);
     assert!(rt; spent <= 300, "{spent}");
     assert!(rt; last == Some((true, 7, 1000, 994)));
 }
@@ -347,15 +351,15 @@ fn keep(net: &mut Net, variable: usize, to: &Dom) -> bool
     net.limit(variable, to).is_ok()
 }
 
-/// Settles, and keeps the marks.
-fn settle(net: &mut Net) -> Option<NetFault>
+/// Propagates, and keeps the marks.
+fn propagate(net: &mut Net) -> Option<NetFault>
     ensures { KeepMarks net.old net.new }
 {
     marks_stay();
-    net.settle_all().err()
+    net.propagate_all().err()
 }
 
-/// Whether there was memory, what settling says twice, what a variable may be before and after going back, and how
+/// Whether there was memory, what propagation says twice, what a variable may be before and after going back, and how
 /// often variables were written.
 type Visited = (
     [bool; 2],
@@ -364,13 +368,13 @@ type Visited = (
     [Option<u64>; 3],
 );
 
-/// Settling after the first and the third variable became less, settling again, and the third before and after going
+/// Propagation after the first and the third variable became less, once more, and the third before and after going
 /// back, with how often it and the fourth were written.
 fn there_and_back(net: &mut Net, first: &Dom, third: &Dom) -> Visited {
     let mark = net.mark();
     let low = keep(net, 0, first);
     let high = keep(net, 2, third);
-    let faults = [settle(net), settle(net)];
+    let faults = [propagate(net), propagate(net)];
     let inside = left(net, 2);
     let risen = net.stamp(2);
     net.back_to(mark);
@@ -383,13 +387,13 @@ fn there_and_back(net: &mut Net, first: &Dom, third: &Dom) -> Visited {
 }
 
 /// Going there and back on a chain of three, and a fourth variable by itself: the faults, what the third may be, how
-/// often it and the fourth were written, and whether the network settles after going back.
+/// often it and the fourth were written, and whether the network propagates after going back.
 fn run_back(net: &mut Net, alloc: Global, first: &Dom, third: &Dom) -> Option<(Visited, bool)> {
     if !make_chain(net, alloc, 3) || add(net, alloc, Ends(0, 9)) != Some(3) {
         return None;
     }
     let visited = there_and_back(net, first, third);
-    Some((visited, net.settle_all().is_ok()))
+    Some((visited, net.propagate_all().is_ok()))
 }
 
 /// To where the first and the third variable of a chain become less, by their ends, and back.
@@ -430,12 +434,12 @@ fn a_chain_goes_back_to_a_mark(rt: HostRuntime) {
 }
 
 /// The first four variables on the list of those that have changed, after the first of a chain of three became less and
-/// the network settled.
+/// the network propagated.
 fn run_changed(net: &mut Net, alloc: Global) -> Option<[Option<usize>; 4]> {
     if !make_chain(net, alloc, 3) || add(net, alloc, Ends(0, 9)) != Some(3) {
         return None;
     }
-    if limit(net, 0, 7, 9).is_none() || net.settle_all().is_err() {
+    if limit(net, 0, 7, 9).is_none() || net.propagate_all().is_err() {
         return None;
     }
     Some([
@@ -464,7 +468,7 @@ fn a_network_tells_what_has_changed(rt: HostRuntime) {
 }
 
 #[test]
-fn a_collapsed_chain_settles_after_going_back(rt: HostRuntime) {
+fn a_collapsed_chain_is_propagated_after_going_back(rt: HostRuntime) {
     let faults = [Some(NetFault::Collapsed), Some(NetFault::Collapsed)];
     let shapes = [Some((true, 0, 5, 6)), Some((true, 0, 1000, 1001))];
     let visited = ([true, true], faults, shapes, [Some(1), Some(2), Some(0)]);

@@ -27,16 +27,16 @@ fn entry(alloc: Global, name: &str, bytes: &str) -> Result<FileEntry, AllocError
     })
 }
 
-fn put(entries: &mut Vec<FileEntry>, name: &str, bytes: &str) -> Result<(), AllocError> {
+fn put_file(entries: &mut Vec<FileEntry>, name: &str, bytes: &str) -> Result<(), AllocError> {
     let file = entry(*entries.allocator(), name, bytes)?;
     entries.push(file)?;
     Ok(())
 }
 
 fn put_three(entries: &mut Vec<FileEntry>) -> Result<(), AllocError> {
-    put(entries, "a", "first")?;
-    put(entries, "a", "second")?;
-    put(entries, "dir/b", "")?;
+    put_file(entries, "a", "first")?;
+    put_file(entries, "a", "second")?;
+    put_file(entries, "dir/b", "")?;
     Ok(())
 }
 

@@ -1,7 +1,7 @@
 //! Three tokens of one track in a circle: how often their starts were written, and the time edges of the circle.
 
 use super::asking::model_of;
-use super::deciding::take;
+use super::deciding::take_choice;
 use super::names::variable;
 use super::steps::is_taken;
 use super::trial::{Trial, told_on_rounds};
@@ -61,7 +61,7 @@ fn changes(before: Stamps, after: Stamps) -> [Change; 3] {
 // Takes the decision, and tells which starts were written.
 fn taken(alloc: Global, db: &mut Db, choice: &str) -> Option<[Change; 3]> {
     let before = stamps(alloc, db);
-    if is_taken(take(alloc, db, choice)) {
+    if is_taken(take_choice(alloc, db, choice)) {
         Some(changes(before, stamps(alloc, db)))
     } else {
         None

@@ -53,7 +53,7 @@ pub fn said(answer: Result<Outcome, DbFault>) -> Said {
 }
 
 /// Takes the decision, if the model has what it names.
-pub fn take(alloc: Global, db: &mut Db, choice: &str) -> Option<Said> {
+pub fn take_choice(alloc: Global, db: &mut Db, choice: &str) -> Option<Said> {
     match decision(alloc, model_of(db), choice) {
         Some(decision) => Some(said(db.apply(&decision))),
         None => None,
@@ -89,7 +89,7 @@ fn changed(alloc: Global, db: &mut Db, step: &str) -> Option<Said> {
         "undo" => Some(said(db.undo())),
         "backtrack" => Some(backtrack(db)),
         "rebuild" => rebuild(db),
-        _ => take(alloc, db, step),
+        _ => take_choice(alloc, db, step),
     }
 }
 

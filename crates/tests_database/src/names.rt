@@ -154,7 +154,7 @@ pub fn subject(alloc: Global, model: &Model, on: &str) -> Option<Subject>
 }
 
 /// Whether two decisions are the same.
-pub fn is_same(one: &Decision, other: &Decision) -> bool {
+pub fn is_same_decision(one: &Decision, other: &Decision) -> bool {
     match (one, other) {
         (Decision::Specify(name, value), Decision::Specify(other, number)) => name == other
             && value == number,

@@ -35,7 +35,7 @@ const ENDS: &str = "
 5 5 specify x 5, specify y 3 | InInconsistent 2 2
 ";
 
-fn take(alloc: Global, db: &mut Db, choice: &str) {
+fn take_choice(alloc: Global, db: &mut Db, choice: &str) {
     if let Some(decision) = decision(alloc, model_of(db), choice) {
         let _answer = db.apply(&decision);
     }
@@ -43,7 +43,7 @@ fn take(alloc: Global, db: &mut Db, choice: &str) {
 
 fn take_all(alloc: Global, db: &mut Db, choices: &str) {
     for choice in choices.split_terminator(", ") {
-        take(alloc, db, choice);
+        take_choice(alloc, db, choice);
     }
 }
 

@@ -4,7 +4,7 @@ ghost use Rattle.model_core.specs.Lawful.{IsLawful};
 
 use model_core::model::Model;
 use plan_db::Db;
-use plan_db::release::let_go;
+use plan_db::release::discard;
 use std::alloc::{AllocError, Global};
 use tests_samples::mission::mission;
 use tests_samples::rounds::rounds;
@@ -31,7 +31,7 @@ fn told_of<T: Trial>(alloc: Global, model: Model, trial: &T) -> Result<T::Told, 
 fn told_at_last<T: Trial>(alloc: Global, db: Db, trial: &T) -> T::Told {
     let mut db = db;
     let told = trial.tell(alloc, &mut db);
-    let_go(db);
+    discard(db);
     told
 }
 

@@ -1,6 +1,6 @@
 //! How much is done for a decision, and for building anew.
 
-use super::deciding::take;
+use super::deciding::take_choice;
 use super::steps::is_taken;
 use super::trial::{Trial, told_on_rounds};
 use plan_db::Db;
@@ -10,7 +10,7 @@ use std::test::Fail;
 // The narrowings for taking the decision, which fits.
 fn work_of(alloc: Global, db: &mut Db, choice: &str) -> Option<u64> {
     let before = db.work();
-    if is_taken(take(alloc, db, choice)) {
+    if is_taken(take_choice(alloc, db, choice)) {
         Some(db.work().saturating_sub(before))
     } else {
         None

@@ -55,7 +55,7 @@ pub fn assert_two_give<R: Abort + AllocGlobal>(rt: &R, text: &str, other: &str, 
     }
 }
 
-/// The same of one text.
+/// Asserts that the file `m` of the text alone is compiled to the model of these lines.
 pub fn assert_gives<R: Abort + AllocGlobal>(rt: &R, text: &str, wanted: &str) {
     assert_two_give(rt, text, "", wanted);
 }

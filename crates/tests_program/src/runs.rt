@@ -108,7 +108,7 @@ fn ran_words(
     ran_over(alloc, words, &mut shelf, input, fails, output)
 }
 
-/// The same of the words of a line.
+/// Whether the run of the words of a line writes this, and the number of its status.
 pub fn ran(
     alloc: Global,
     line: &str,
@@ -123,7 +123,8 @@ pub fn ran(
     }
 }
 
-/// The same over the one file `m.nddl`, where no call fails.
+/// Whether the run of a line over the one file `m.nddl`, in which no call fails, writes this, and the number of its
+/// status.
 pub fn prints_of(
     alloc: Global,
     line: &str,

@@ -46,7 +46,7 @@ goal(rover.Go g);
 rover.specify(false);
 "#;
 
-// The same in the canonical spelling.
+// That text in the canonical spelling.
 const CANONICAL: &[u8] = br#"#include "Plasma.nddl"
 #include "more.nddl"
 enum Colour { red , green }

@@ -12,22 +12,22 @@ use Rattle.constraint_net.proofs.domains.narrow_each.Goals as goal
 
 pub loop-place-init : goal.loop-place-init
 loop-place-init g c = record {
-  steps = none_yet (SupportedAt (g.C.Narrow.reach c.args.constraint.now) (g.C.Narrow.holds c.args.constraint.now) c.args.args.now) (present c.args.cells.now);
-  sinks = at_refl c.args.args.now c.args.since c.args.cells.now c.requires.sound.place;
+  steps = none_yet (SupportedAt (g.C.Narrow.reach c.args.constraint.now) (g.C.Narrow.holds c.args.constraint.now) c.args.gathered.args.now) (present c.args.cells.now);
+  sinks = at_refl c.args.gathered.args.now c.args.since c.args.cells.now c.requires.sound.place;
   alerts = alerts_refl (present c.args.cells.now) c.args.agenda.now;
   told_of_loss = inr (refl, refl);
 }
 
 pub narrow_at-requires-clause-sound : goal.narrow_at-requires-clause-sound
 narrow_at-requires-clause-sound g c =
-    let fits = SupportedAt (g.C.Narrow.reach c.args.constraint.now) (g.C.Narrow.holds c.args.constraint.now) c.args.args.now in
+    let fits = SupportedAt (g.C.Narrow.reach c.args.constraint.now) (g.C.Narrow.holds c.args.constraint.now) c.args.gathered.args.now in
     let loop = c.loop-place in
     let so_far = advanced (FitBefore fits loop.place) (present c.args.cells.now) (present loop.cells) loop.change c.requires.sound.are loop.invariant.steps in
     sound_along c.args.since c.args.cells.now loop.cells c.requires.sound loop.invariant.sinks.sinks so_far.within so_far.are
 
 pub narrow_at-requires-clause-ready : goal.narrow_at-requires-clause-ready
 narrow_at-requires-clause-ready g c =
-    let fits = SupportedAt (g.C.Narrow.reach c.args.constraint.now) (g.C.Narrow.holds c.args.constraint.now) c.args.args.now in
+    let fits = SupportedAt (g.C.Narrow.reach c.args.constraint.now) (g.C.Narrow.holds c.args.constraint.now) c.args.gathered.args.now in
     let loop = c.loop-place in
     let start = present c.args.cells.now in
     let same = steps_length (FitBefore fits loop.place) start (present loop.cells) (Ok loop.change) c.requires.sound.are loop.invariant.steps in
@@ -35,16 +35,16 @@ narrow_at-requires-clause-ready g c =
 
 pub narrow_at-requires-clause-arguments : goal.narrow_at-requires-clause-arguments
 narrow_at-requires-clause-arguments g c =
-    let fits = SupportedAt (g.C.Narrow.reach c.args.constraint.now) (g.C.Narrow.holds c.args.constraint.now) c.args.args.now in
+    let fits = SupportedAt (g.C.Narrow.reach c.args.constraint.now) (g.C.Narrow.holds c.args.constraint.now) c.args.gathered.args.now in
     let loop = c.loop-place in
     let start = present c.args.cells.now in
     let same = steps_length (FitBefore fits loop.place) start (present loop.cells) (Ok loop.change) c.requires.sound.are loop.invariant.steps in
-    subst (λ count. All (IsArgument count) c.args.args.now) (sym same) c.requires.arguments
+    subst (λ count. All (IsArgument count) c.args.gathered.args.now) (sym same) c.requires.arguments
 
 pub returns-in_err-narrow_at : goal.returns-in_err-narrow_at
 returns-in_err-narrow_at g c =
-    let fits = SupportedAt (g.C.Narrow.reach c.args.constraint.now) (g.C.Narrow.holds c.args.constraint.now) c.args.args.now in
-    let args = c.args.args.now in
+    let fits = SupportedAt (g.C.Narrow.reach c.args.constraint.now) (g.C.Narrow.holds c.args.constraint.now) c.args.gathered.args.now in
+    let args = c.args.gathered.args.now in
     let start = present c.args.cells.now in
     let loop = c.loop-place in
     let step = c.narrow_at in
@@ -60,8 +60,8 @@ returns-in_err-narrow_at g c =
 
 pub returns-in-Empty : goal.returns-in-Empty
 returns-in-Empty g c =
-    let fits = SupportedAt (g.C.Narrow.reach c.args.constraint.now) (g.C.Narrow.holds c.args.constraint.now) c.args.args.now in
-    let args = c.args.args.now in
+    let fits = SupportedAt (g.C.Narrow.reach c.args.constraint.now) (g.C.Narrow.holds c.args.constraint.now) c.args.gathered.args.now in
+    let args = c.args.gathered.args.now in
     let start = present c.args.cells.now in
     let loop = c.loop-place in
     let step = c.narrow_at in
@@ -78,8 +78,8 @@ returns-in-Empty g c =
 
 pub loop-place-preserved : goal.loop-place-preserved
 loop-place-preserved g c =
-    let fits = SupportedAt (g.C.Narrow.reach c.args.constraint.now) (g.C.Narrow.holds c.args.constraint.now) c.args.args.now in
-    let args = c.args.args.now in
+    let fits = SupportedAt (g.C.Narrow.reach c.args.constraint.now) (g.C.Narrow.holds c.args.constraint.now) c.args.gathered.args.now in
+    let args = c.args.gathered.args.now in
     let start = present c.args.cells.now in
     let loop = c.loop-place in
     let step = c.narrow_at in

@@ -10,8 +10,8 @@ returns-clause-posted c = λ old new kind args result posts mark domains constra
 pub returns-clause-limited : goal.returns-clause-limited
 returns-clause-limited c = λ old new variable to result limits mark domains constraints is. stays_limited mark domains constraints old new variable to result is limits
 
-pub returns-clause-settled : goal.returns-clause-settled
-returns-clause-settled c = λ old new down mark domains constraints is. stays_down mark domains constraints old new is down
+pub returns-clause-propagated : goal.returns-clause-propagated
+returns-clause-propagated c = λ old new down mark domains constraints is. stays_down mark domains constraints old new is down
 
 pub returns-clause-returned : goal.returns-clause-returned
 returns-clause-returned c = λ old new mark later domains constraints. stays_returned mark domains constraints old new later

@@ -25,8 +25,8 @@ returns-then-not-takes_place-2 c = λ model told.
     order_inactive model c.args.decisions.now (shown (named_content (snapshot_of c.args.store.now))) c.args.one.now c.args.other.now (there, here) (isnt c.if-are_ordered.ensures)
     (inr (λ active. isnt c.if-not-takes_place-2.ensures (active_kept model c.args.decisions.now (snapshot_of c.args.store.now) told c.args.other.now c.in-Some-state_of.second other active)))
 
-pub returns-then-is_same : goal.returns-then-is_same
-returns-then-is_same c = λ model told.
+pub returns-then-is_same_token : goal.returns-then-is_same_token
+returns-then-is_same_token c = λ model told.
     let one = subst (λ (past : TokenPast). IsKeptAs (tokens_now past) c.args.one.now c.in-Some.first) c.tokens.ensures c.in-Some.ensures in
     let other = subst (λ (past : TokenPast). IsKeptAs (tokens_now past) c.args.other.now c.in-Some-state_of.second) c.tokens-2.ensures c.in-Some-state_of.ensures in
     let there = kept_there model c.args.decisions.now (snapshot_of c.args.store.now) told c.args.one.now c.in-Some.first one in
@@ -34,7 +34,7 @@ returns-then-is_same c = λ model told.
     let first = kept_active model c.args.decisions.now (snapshot_of c.args.store.now) told c.args.one.now c.in-Some.first one (is_so c.if-not-takes_place.ensures) in
     let second = kept_active model c.args.decisions.now (snapshot_of c.args.store.now) told c.args.other.now c.in-Some-state_of.second other (is_so c.if-not-takes_place-2.ensures) in
     order_same model c.args.decisions.now (shown (named_content (snapshot_of c.args.store.now))) c.args.one.now c.args.other.now (there, here) (isnt c.if-are_ordered.ensures)
-    (λ needs. elim needs [ inl idle ↦ idle first | inr idle ↦ idle second ]) (is_so c.if-is_same.ensures)
+    (λ needs. elim needs [ inl idle ↦ idle first | inr idle ↦ idle second ]) (is_so c.if-is_same_token.ensures)
 
 pub returns : goal.returns
 returns c = λ model told.
@@ -45,4 +45,4 @@ returns c = λ model told.
     let first = kept_active model c.args.decisions.now (snapshot_of c.args.store.now) told c.args.one.now c.in-Some.first one (is_so c.if-not-takes_place.ensures) in
     let second = kept_active model c.args.decisions.now (snapshot_of c.args.store.now) told c.args.other.now c.in-Some-state_of.second other (is_so c.if-not-takes_place-2.ensures) in
     order_free model c.args.decisions.now (shown (named_content (snapshot_of c.args.store.now))) c.args.one.now c.args.other.now (there, here) (isnt c.if-are_ordered.ensures)
-    (λ needs. elim needs [ inl idle ↦ idle first | inr idle ↦ idle second ]) (isnt c.if-is_same.ensures)
+    (λ needs. elim needs [ inl idle ↦ idle first | inr idle ↦ idle second ]) (isnt c.if-is_same_token.ensures)

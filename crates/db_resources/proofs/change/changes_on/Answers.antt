@@ -11,7 +11,7 @@ pub loop-actor-preserved : goal.loop-actor-preserved
 loop-actor-preserved g c =
     let state = g.V.View.state c.args.view.now in
     picks_more (IsChangeOf state (to_z w32 (of_z w32 c.args.object)) c.args.extreme) c.args.actors.now c.loop-actor.actor-index no_actor
-    c.loop-actor.found.items c.put.new.list.items c.change_on.result c.loop-actor-test.true c.loop-actor.invariant c.change_on.ensures c.in_ok-put.ensures
+    c.loop-actor.found.items c.push_found.new.list.items c.change_on.result c.loop-actor-test.true c.loop-actor.invariant c.change_on.ensures c.in_ok-push_found.ensures
 
 pub returns : goal.returns
 returns g c =

@@ -17,8 +17,8 @@ reservoirs_fit-requires-clause-sound c =
     (sound c.args.model.now c.args.decisions.now c.args.store.now c.is_sound.ensures
     (c.settled_lists_decide_once.ensures c.args.model.now c.args.decisions.now c.requires.settled) c.requires.rest c.requires.lawful)
 
-pub are_all_settled-requires-clause-there : goal.are_all_settled-requires-clause-there
-are_all_settled-requires-clause-there c =
+pub are_all_certain-requires-clause-there : goal.are_all_certain-requires-clause-there
+are_all_certain-requires-clause-there c =
     blocks_there c.args.model.now c.args.decisions.now c.args.store.now c.is_sound.ensures
     (c.settled_lists_decide_once.ensures c.args.model.now c.args.decisions.now c.requires.settled) c.requires.rest
 
@@ -47,6 +47,6 @@ returns c =
     let levels = FitLevels c.args.model.now c.args.decisions.now (seen_state c.args.store.now) in
     let told = subst (λ (seen : Seen). IsTrue c.in_ok-reservoirs_fit.field-0 ↔ FitLevels seen.model seen.decisions (seen_state seen.stored)) c.new.ensures c.in_ok-reservoirs_fit.ensures in
     levels_open c.args.model.now c.args.decisions.now c.args.store.now c.is_sound.ensures
-    (c.settled_lists_decide_once.ensures c.args.model.now c.args.decisions.now c.requires.settled) c.requires.rest c.in_ok-settled.settled
+    (c.settled_lists_decide_once.ensures c.args.model.now c.args.decisions.now c.requires.settled) c.requires.rest c.in_ok-certain.certain
     (subst (λ (past : TokenPast). AreAllDecided (tokens_now past)) c.tokens.ensures c.if-not-are_all_decided.ensures)
-    (isnt (subst (λ answer. IsTrue answer ↔ levels) misfits told)) c.in_ok-settled.ensures
+    (isnt (subst (λ answer. IsTrue answer ↔ levels) misfits told)) c.in_ok-certain.ensures

@@ -13,6 +13,6 @@ pub returns : goal.returns
 returns c =
     let P : List (Option Shortcut) → Type 0 = λ list. AreShortcuts c.args.up.now list in
     let Q : List (Option Shortcut) → Type 0 = λ list. IfSome c.found_shortcut-found.result (IsShortcut c.args.up.now list c.args.number) in
-    subst P (sym c.put.ensures)
+    subst P (sym c.put_shortcut.ensures)
     (noted_right c.args.up.now c.args.shortcuts.now.items c.requires c.args.number c.found_shortcut-found.result
     (subst Q c.as_slice.ensures.value c.found_shortcut-found.ensures))

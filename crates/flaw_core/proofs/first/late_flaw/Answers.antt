@@ -9,4 +9,4 @@ pub returns-in-Some : goal.returns-in-Some
 returns-in-Some g c = found_left (g.V.View.model c.args.view.now) (g.V.View.decisions c.args.view.now) (g.V.View.state c.args.view.now) IsPairFlaw IsTimeFlaw IsLateFlaw (λ flaw sought has. sought) c.in-Some.flaw (λ flaw sought. inl sought) pairs_first c.in-Some.ensures
 
 pub returns : goal.returns
-returns g c = finds_right (g.V.View.model c.args.view.now) (g.V.View.decisions c.args.view.now) (g.V.View.state c.args.view.now) IsPairFlaw IsTimeFlaw IsLateFlaw (λ flaw sought has. sought) _ (λ flaw sought. inr sought) c.in_default.ensures c.open_time.ensures
+returns g c = finds_right (g.V.View.model c.args.view.now) (g.V.View.decisions c.args.view.now) (g.V.View.state c.args.view.now) IsPairFlaw IsTimeFlaw IsLateFlaw (λ flaw sought has. sought) _ (λ flaw sought. inr sought) c.in_default.ensures c.unbound_time.ensures

@@ -7,5 +7,5 @@ use Rattle.model_typing.proofs.lines.global_line.Goals as goal
 
 pub returns : goal.returns
 returns c =
-    global_lined c.args.model.now c.line_in.result (scope_of c.args.place) c.args.classes.now.globals.items c.requires.globals_are c.args.number
+    global_lined c.args.model.now c.line_in.result (scope_of c.args.scope) c.args.classes.now.globals.items c.requires.globals_are c.args.number
     (c.line_in.ensures ∙ ap (λ (listed : List Line). line_in listed c.args.number) c.as_slice.ensures.value)

@@ -9,11 +9,11 @@ use Rattle.model_typing.proofs.lines.term_line.Goals as goal
 pub returns-in-Lit : goal.returns-in-Lit
 returns-in-Lit c =
     let cast : to_z w32 (of_z w32 c.in-Lit.value) ≡ c.in-Lit.value = omega (arith, ints) in
-    subst (λ (t : Term). IsTermLine c.args.model.now (scope_of c.args.place) t c.value_line.result) (sym c.in-Lit.is)
+    subst (λ (t : Term). IsTermLine c.args.model.now (scope_of c.args.scope) t c.value_line.result) (sym c.in-Lit.is)
     (λ kind. subst (λ (v : ℤ). IsLine c.args.model.now c.value_line.result (λ class. IsObjectOf c.args.model.now class v)) cast c.value_line.ensures)
 
 pub returns-in-Global : goal.returns-in-Global
-returns-in-Global c = subst (λ (t : Term). IsTermLine c.args.model.now (scope_of c.args.place) t c.global_line.result) (sym c.in-Global.is) c.global_line.ensures
+returns-in-Global c = subst (λ (t : Term). IsTermLine c.args.model.now (scope_of c.args.scope) t c.global_line.result) (sym c.in-Global.is) c.global_line.ensures
 
 pub returns-in-Root : goal.returns-in-Root
-returns-in-Root c = subst (λ (t : Term). IsTermLine c.args.model.now (scope_of c.args.place) t c.root_line.result) (sym c.in-Root.is) c.root_line.ensures
+returns-in-Root c = subst (λ (t : Term). IsTermLine c.args.model.now (scope_of c.args.scope) t c.root_line.result) (sym c.in-Root.is) c.root_line.ensures

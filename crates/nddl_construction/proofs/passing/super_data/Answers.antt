@@ -11,11 +11,12 @@ use Rattle.nddl_construction.proofs.passing.super_data.Goals as goal
 pub returns : goal.returns
 returns c =
     let facts = facts_of c.args.footing.now.basis in
-    let builder = c.args.builder.now in
-    let values = c.args.values.now in
+    let invocation = c.args.invocation.now in
+    let builder = invocation.builder.now in
+    let values = invocation.values.now in
     IfOk-weaker c.handed_data.result _ _ (λ found is.
     is
-    ∙ handed_over (grounds_of c.args.footing.now) (scenery_of c.in_body-scene.result)
-    (constructor_scene facts c.args.entry builder.constructor.now values) c.args.objects.now (wants_above facts c.args.entry)
+    ∙ handed_over (grounds_of c.args.footing.now) (scenery_of c.scene-scene.result)
+    (constructor_scene facts invocation.entry builder.constructor.now values) c.args.objects.now (wants_above facts invocation.entry)
     builder.wants.items (constructor_sets builder.constructor.now) (option_copied builder.handed)
-    (c.in_body-scene.ensures ∙ scene_there facts c.args.entry builder values c.requires) c.requires.3 c.requires.4) c.handed_data.ensures
+    (c.scene-scene.ensures ∙ scene_there facts invocation.entry builder values c.requires) c.requires.3 c.requires.4) c.handed_data.ensures

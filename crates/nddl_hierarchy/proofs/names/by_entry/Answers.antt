@@ -8,5 +8,5 @@ pub returns-in_ok-line : goal.returns-in_ok-line
 returns-in_ok-line c =
     means_noted (facts_of c.args.basis.now) c.args.entry c.in_ok-line.line.items c.as_slice.result.now c.line_index.result
     (sym c.is_class.ensures ∙ c.if-is_class.true)
-    (sym (ap is_rooted c.standing.ensures) ∙ (sym c.is_rooted.ensures ∙ c.if-is_rooted.true))
+    (sym (ap is_rooted c.rootedness.ensures) ∙ (sym c.is_rooted.ensures ∙ c.if-is_rooted.true))
     c.in_ok-line.ensures c.as_slice.ensures.value c.line_index.ensures

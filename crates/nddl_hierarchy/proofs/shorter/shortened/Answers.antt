@@ -26,7 +26,7 @@ loop-entry-preserved c =
     let inside = (within_way parents entry rooted.path rooted.root rooted.leads rooted.ends).0 in
     let P : List (Option ℕ) → Type 0 = λ some. ArePassed test parents order (count + 1) some in
     let next = c.passed_over-passed.ensures ∙ (λ i. passed_over test (c.as_slice.ensures.value i) (c.parent_in-next.ensures i)) in
-    subst P (sym (c.put.ensures ∙ ap (λ n. slice_set short entry n) next))
+    subst P (sym (c.put_next.ensures ∙ ap (λ n. slice_set short entry n) next))
     (passes_on test parents order lineage.ordered count entry short here inside c.loop-entry.invariant)
 
 pub returns : goal.returns

@@ -6,7 +6,7 @@ use Rattle.nddl_objects.proofs.objects.declare_all.Goals as goal
 
 pub loop-number-preserved : goal.loop-number-preserved
 loop-number-preserved c =
-    let facts = facts_of c.args.groundwork.now.basis in
+    let facts = facts_of c.args.findings.now.basis in
     going_step (λ number decl. one_declared facts number decl.now)
     (λ number decls. all_declared facts number (map (λ decl. decl.now) decls)) (λ number decl decls progress. refl)
     c.args.decls.now c.loop-number.number c.index-decls-number.result (progress_of c.loop-number.program)

@@ -6,7 +6,7 @@ use Rattle.nddl_objects.proofs.objects.declare_object.Goals as goal
 
 pub returns : goal.returns
 returns c =
-    object_placed (facts_of c.args.groundwork.now.basis) c.args.decl c.args.variable.now c.args.creation.now
-    (progress_of c.args.program.now) (construction_of c.make_declared.new.making) c.stand.new.standing.items
+    object_placed (facts_of c.args.findings.now.basis) c.args.decl c.args.variable.now c.args.creation.now
+    (progress_of c.args.program.now) (construction_of c.make_declared.new.making) c.name_object.new.named_objects.items
     c.as_slice.result.now c.entry-entry.result c.in_ok-datum.datum c.as_slice.ensures.value c.in_ok-datum.ensures.made
-    c.entry-entry.ensures.number c.in_ok-datum.ensures.datum c.stand.ensures
+    c.entry-entry.ensures.number c.in_ok-datum.ensures.datum c.name_object.ensures

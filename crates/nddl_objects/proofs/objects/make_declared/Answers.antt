@@ -10,8 +10,8 @@ use Rattle.nddl_objects.proofs.objects.make_declared.Goals as goal
 
 pub returns-clause-made : goal.returns-clause-made
 returns-clause-made c =
-    let facts = facts_of c.args.groundwork.now.basis in
-    let grounds : Grounds = record { facts = facts; standing = c.args.standing.now } in
+    let facts = facts_of c.args.findings.now.basis in
+    let grounds : Grounds = record { facts = facts; named_objects = c.args.named_objects.now } in
     placed (made_by most_levels grounds) grounds (scenery_of c.scene_of.result) (bare_scene c.args.decl)
     c.args.variable.now.name.text c.entry-entry.result (named_number false facts.names c.args.variable.now.name.text)
     c.args.creation.now (construction_of c.args.making.now) (construction_of c.make_new.new.making) c.make_new.result

@@ -8,10 +8,12 @@ use Rattle.nddl_rule_check.proofs.arguments.note_arguments.Goals as goal
 
 pub loop-place-preserved : goal.loop-place-preserved
 loop-place-preserved c =
-    arguments_step (facts_of c.args.basis.now) (around_of c.args.around.now) c.args.decl c.args.kind c.args.exprs.now c.loop-place.place
+    let facts = facts_of c.args.spot.now.basis in
+    let decl = c.args.spot.now.decl in
+    arguments_step facts (around_of c.args.around.now) decl c.args.kind c.args.exprs.now c.loop-place.place
     c.index-exprs-place.result c.asked_at-asks.result c.in_ok-meant.meant c.loop-place.compared c.compared_with-compared.result c.loop-place.first
     c.note_argument.new.first
     (earliest_fault c.args.first.now
-    (arguments_faults (facts_of c.args.basis.now) (around_of c.args.around.now) c.args.decl c.args.kind 0 None c.args.exprs.now))
+    (arguments_faults facts (around_of c.args.around.now) decl c.args.kind 0 None c.args.exprs.now))
     c.loop-place-test.true c.index-exprs-place.is c.asked_at-asks.ensures c.in_ok-meant.ensures.meant c.compared_with-compared.ensures
     c.in_ok-meant.ensures.faults c.loop-place.invariant

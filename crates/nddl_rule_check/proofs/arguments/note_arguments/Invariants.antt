@@ -10,6 +10,6 @@ use Rattle.nddl_rule_check.proofs.arguments.note_arguments.Given as goal
 abbrev pub invariant-loop-place : goal.invariant-loop-place
 invariant-loop-place l =
     earliest_fault l.first
-    (arguments_faults (facts_of l.basis) (around_of l.around) l.decl l.kind l.place l.compared (drop l.place l.exprs))
+    (arguments_faults (facts_of l.spot.basis) (around_of l.around) l.spot.decl l.kind l.place l.compared (drop l.place l.exprs))
     ≡ earliest_fault l.initial.first
-    (arguments_faults (facts_of l.basis) (around_of l.around) l.decl l.kind 0 None l.exprs)
+    (arguments_faults (facts_of l.spot.basis) (around_of l.around) l.spot.decl l.kind 0 None l.exprs)

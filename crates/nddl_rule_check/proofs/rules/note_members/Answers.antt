@@ -6,7 +6,9 @@ use Rattle.nddl_rule_check.proofs.rules.note_members.Goals as goal
 
 pub loop-place-preserved : goal.loop-place-preserved
 loop-place-preserved c =
-    members_step (facts_of c.args.basis.now) c.args.decl c.args.entry c.args.members.now c.loop-place.place c.index-members-place.result
+    let facts = facts_of c.args.spot.now.basis in
+    let decl = c.args.spot.now.decl in
+    members_step facts decl c.args.entry c.args.members.now c.loop-place.place c.index-members-place.result
     c.loop-place.first c.note_member.new.first
-    (earliest_fault c.args.first.now (members_rule_faults (facts_of c.args.basis.now) c.args.decl c.args.entry 0 c.args.members.now))
+    (earliest_fault c.args.first.now (members_rule_faults facts decl c.args.entry 0 c.args.members.now))
     c.loop-place-test.true c.index-members-place.is c.in_ok-note_member.ensures c.loop-place.invariant

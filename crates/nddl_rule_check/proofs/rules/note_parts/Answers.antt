@@ -7,8 +7,10 @@ use Rattle.nddl_rule_check.proofs.rules.note_parts.Goals as goal
 
 pub loop-part-preserved : goal.loop-part-preserved
 loop-part-preserved c =
-    flat_step (part_rule_faults (facts_of c.args.basis.now) c.args.decl c.args.visible.now) c.args.parts.now c.loop-part.part-index
+    let facts = facts_of c.args.spot.now.basis in
+    let decl = c.args.spot.now.decl in
+    flat_step (part_rule_faults facts decl c.args.visible.now) c.args.parts.now c.loop-part.part-index
     c.part-item.result c.loop-part.first c.note_part.new.first
     (earliest_fault c.args.first.now
-    (flat_map (part_rule_faults (facts_of c.args.basis.now) c.args.decl c.args.visible.now) c.args.parts.now))
+    (flat_map (part_rule_faults facts decl c.args.visible.now) c.args.parts.now))
     c.loop-part-test.true c.part-item.is c.in_ok-note_part.ensures c.loop-part.invariant

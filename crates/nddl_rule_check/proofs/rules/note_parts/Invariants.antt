@@ -8,5 +8,5 @@ use Rattle.nddl_rule_check.proofs.rules.note_parts.Given as goal
 -- the earliest so far and of those of the parts that are left is the earliest of all
 abbrev pub invariant-loop-part : goal.invariant-loop-part
 invariant-loop-part l =
-    earliest_fault l.first (flat_map (part_rule_faults (facts_of l.basis) l.decl l.visible) (drop l.part-index l.parts))
-    ≡ earliest_fault l.initial.first (flat_map (part_rule_faults (facts_of l.basis) l.decl l.visible) l.parts)
+    earliest_fault l.first (flat_map (part_rule_faults (facts_of l.spot.basis) l.spot.decl l.visible) (drop l.part-index l.parts))
+    ≡ earliest_fault l.initial.first (flat_map (part_rule_faults (facts_of l.spot.basis) l.spot.decl l.visible) l.parts)

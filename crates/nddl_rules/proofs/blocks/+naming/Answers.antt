@@ -38,13 +38,15 @@ push_stmt_names-returns-in_ok-push_block_names-in-If t c =
     c.in_ok-push_block_names-in-If.ensures.tally c.in_ok-push_block_names-in-If.ensures.seen c.push_otherwise_names.ensures.names
     c.push_otherwise_names.ensures.tally c.push_otherwise_names.ensures.seen)
 
-pub push_stmt_names-returns-in-Foreach : goal.push_stmt_names-returns-in-Foreach
-push_stmt_names-returns-in-Foreach t c =
+pub push_stmt_names-returns-in_ok-push_scope_read-in-Foreach :
+    goal.push_stmt_names-returns-in_ok-push_scope_read-in-Foreach
+push_stmt_names-returns-in_ok-push_scope_read-in-Foreach t c =
     reads_at (sources_of c.args.sources.now) c.args.sight.now c.push_turns_names.new.sight c.args.tally.now c.push_turns_names.new.tally
     c.args.names.now c.push_turns_names.new.names _ c.args.stmt.now c.push_turns_names.result c.in-Foreach.is
     (turns_on (sources_of c.args.sources.now) c.args.sight.now c.push_turns_names.new.sight c.args.tally.now c.push_turns_names.new.tally
-    c.args.names.now c.push_turns_names.new.names c.in-Foreach.at c.in-Foreach.variable c.in-Foreach.class c.in-Foreach.body
-    c.push_turns_names.result c.push_turns_names.ensures.names c.push_turns_names.ensures.tally c.push_turns_names.ensures.seen)
+    c.args.names.now c.push_scope_read.new.names c.push_turns_names.new.names c.in-Foreach.at c.in-Foreach.variable
+    c.in-Foreach.class c.in-Foreach.body c.push_turns_names.result c.in_ok-push_scope_read-in-Foreach.ensures
+    c.push_turns_names.ensures.names c.push_turns_names.ensures.tally c.push_turns_names.ensures.seen)
 
 pub push_stmts_names-loop-stmt-init : goal.push_stmts_names-loop-stmt-init
 push_stmts_names-loop-stmt-init t c =

@@ -1,6 +1,6 @@
-use Rattle.std.proofs.Common.{◌≡◌, ℤ, pos, List, All, sym, subst, w32, to_z, of_z, arith}
+use Rattle.std.proofs.Common.{◌≡◌, ℤ, pos, List, All, FitsSigned, sym, subst, w32, to_z, of_z, rules, arith}
 use Rattle.std.specs.Prelude.{IfSome, IfNone}
-use Rattle.std.proofs.lemmas.Int.{ints}
+use Rattle.std.proofs.lemmas.Int.{ints, to_z-of_z}
 use Rattle.resource_profile.specs.declared.level.LevelChange.{LevelChange}
 use Rattle.resource_profile.specs.Level.{IsSmall, IsOutFrom}
 use Rattle.resource_profile.specs.Instant.{IsFirst}
@@ -22,11 +22,15 @@ returns c =
     let early = c.requires.lawful.horizon.start in
     let order = c.requires.lawful.horizon.order in
     let end = c.requires.lawful.horizon.end in
-    let initial : to_z w32 (of_z w32 c.args.initial) ≡ c.args.initial = omega (arith, ints) in
-    let low : to_z w32 (of_z w32 c.args.low) ≡ c.args.low = omega (arith, ints) in
-    let high : to_z w32 (of_z w32 c.args.high) ≡ c.args.high = omega (arith, ints) in
+    let levels = c.args.levels in
+    let initial_fits : FitsSigned w32 levels.initial = search rules in
+    let low_fits : FitsSigned w32 levels.low = search rules in
+    let high_fits : FitsSigned w32 levels.high = search rules in
+    let initial = to_z-of_z w32 levels.initial initial_fits in
+    let low = to_z-of_z w32 levels.low low_fits in
+    let high = to_z-of_z w32 levels.high high_fits in
     let start : to_z w32 (of_z w32 model.problem.start) ≡ model.problem.start = omega (arith, ints, early, order, end) in
     let collected = subst (λ (xs : List LevelChange). Collects (IsChangeOf model (pos c.args.object)) plan.lines xs) (sym c.as_slice-changes_by_line.ensures.value) c.in_ok-changes.ensures in
-    out_found model plan c.requires.lawful c.requires.orderly c.requires.tokens (pos c.args.object) changes collected c.args.initial c.args.low c.args.high found
+    out_found model plan c.requires.lawful c.requires.orderly c.requires.tokens (pos c.args.object) changes collected levels.initial levels.low levels.high found
     (along_four (λ i l h s. IfSome found (IsFirst (IsOutFrom changes i l h s))) _ _ _ _ _ _ _ _ initial low high start c.level_out.ensures.first)
     (along_four (λ i l h s. IfNone found ((instant : ℤ) → IsOutFrom changes i l h s instant → ⊥)) _ _ _ _ _ _ _ _ initial low high start c.level_out.ensures.none)

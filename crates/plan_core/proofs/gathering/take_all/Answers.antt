@@ -12,7 +12,7 @@ loop-named-init c = none_taken_at c.args.globals.now.items c.args.lines.now.item
 
 pub loop-named-preserved : goal.loop-named-preserved
 loop-named-preserved c =
-    takes_named c.loop-named.yielded c.in-Some.named c.loop-named.going_on c.in_ok-going_on.going_on c.loop-named.globals.items c.take.new.globals.items c.loop-named.lines.items c.take.new.lines.items
+    takes_named c.loop-named.yielded c.in-Some.named c.loop-named.going_on c.in_ok-going_on.going_on c.loop-named.globals.items c.take_statement.new.globals.items c.loop-named.lines.items c.take_statement.new.lines.items
     c.in_ok-going_on.ensures c.loop-named.invariant
 
 pub returns-clause-globals : goal.returns-clause-globals

@@ -11,18 +11,18 @@ returns-in_err-value c =
     rw (p.1, p.2) (parameter_stops c.args.model.now (names_of c.args.params.now) c.args.params.now c.loop-variable.variable-index c.variable-item.result _ c.args.cursor.now.rest.now c.loop-variable.cursor.rest.now _
     c.args.values.now.items c.loop-variable.values.items c.loop-variable-test.true c.variable-item.is c.in_err-value.ensures c.loop-variable.invariant)
 
-pub returns-in_err-push : goal.returns-in_err-push
-returns-in_err-push c =
-    let p = err_from_is_err_and c.from_residual-in_err-push.result c.from_residual-in_err-push.ensures.1 in
+pub returns-in_err-push_value : goal.returns-in_err-push_value
+returns-in_err-push_value c =
+    let p = err_from_is_err_and c.from_residual-in_err-push_value.result c.from_residual-in_err-push_value.ensures.1 in
     rw p.1 (parameter_memory c.args.model.now (names_of c.args.params.now) c.args.params.now c.loop-variable.variable-index c.variable-item.result _ c.args.cursor.now.rest.now c.loop-variable.cursor.rest.now _
     c.args.values.now.items c.loop-variable.values.items c.loop-variable-test.true c.variable-item.is p.2 c.loop-variable.invariant)
 
 pub loop-variable-preserved : goal.loop-variable-preserved
 loop-variable-preserved c =
     one_parameter_more c.args.model.now (names_of c.args.params.now) c.args.params.now c.loop-variable.variable-index c.variable-item.result c.in_ok-value.value (to_z w32 (of_z w32 c.in_ok-value.value)) c.args.cursor.now.rest.now c.loop-variable.cursor.rest.now
-    c.one_parameter.new.cursor.rest.now c.args.values.now.items c.loop-variable.values.items c.push.new.values.items
+    c.one_parameter.new.cursor.rest.now c.args.values.now.items c.loop-variable.values.items c.push_value.new.values.items
     (parameter_kept c.args.model.now (names_of c.args.params.now) c.variable-item.result c.loop-variable.cursor.rest.now c.one_parameter.new.cursor.rest.now c.in_ok-value.value c.requires c.in_ok-value.ensures)
-    c.loop-variable-test.true c.variable-item.is c.in_ok-value.ensures c.in_ok-push.ensures c.loop-variable.invariant
+    c.loop-variable-test.true c.variable-item.is c.in_ok-value.ensures c.in_ok-push_value.ensures c.loop-variable.invariant
 
 pub returns : goal.returns
 returns c =

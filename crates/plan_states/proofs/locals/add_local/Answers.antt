@@ -15,9 +15,9 @@ pub returns-in_default-single : goal.returns-in_default-single
 returns-in_default-single g c = λ same. local_open (g.V.View.model c.args.view.now) (g.V.View.decisions c.args.view.now) (g.V.View.state c.args.view.now) c.requires.settled c.args.place c.args.rule c.args.number c.in-Some.domain.now c.in-Some.ensures c.in_default-single.ensures.none c.requires.kept
 
 pub returns : goal.returns
-returns g c = after_step _ _ _ c.put.result c.put.ensures (λ is.
+returns g c = after_step _ _ _ c.push_item.result c.push_item.ensures (λ is.
     let fits : FitsSigned w32 c.in-Some-single.value = search rules in
     let said = subst (λ v. (token : TokenName) × IsTokenAt (g.V.View.state c.args.view.now) c.args.place token × (c.in_ok-line.line ≡ lines.Local (variables.Local token c.args.rule c.args.number) v))
     (to_z-of_z w32 c.in-Some-single.value fits) c.in_ok-line.ensures.line in
-    local_put (g.V.View.model c.args.view.now) (g.V.View.decisions c.args.view.now) (g.V.View.state c.args.view.now) c.requires.settled c.args.place c.args.rule c.args.number c.in-Some.domain.now c.in-Some-single.value c.in_ok-line.line c.args.lines.now.items c.put.new.list.items
+    local_put (g.V.View.model c.args.view.now) (g.V.View.decisions c.args.view.now) (g.V.View.state c.args.view.now) c.requires.settled c.args.place c.args.rule c.args.number c.in-Some.domain.now c.in-Some-single.value c.in_ok-line.line c.args.lines.now.items c.push_item.new.list.items
     c.in-Some.ensures c.in-Some-single.ensures.some said is)

@@ -15,8 +15,8 @@ returns-in_default g c = λ same.
 pub loop-number-preserved : goal.loop-number-preserved
 loop-number-preserved g c =
     let fits : FitsSigned w32 c.in-Some.value = search rules in
-    let is = subst (λ v. c.put.new.list.items ≡ c.loop-number.values.items ++ v ∷ []) (to_z-of_z w32 c.in-Some.value fits) c.in_ok-put.ensures in
-    globals_more (g.V.View.state c.args.view.now) c.loop-number.number c.loop-number.values.items c.put.new.list.items c.in-Some.value c.loop-number.invariant is c.in-Some.ensures
+    let is = subst (λ v. c.push_item.new.list.items ≡ c.loop-number.values.items ++ v ∷ []) (to_z-of_z w32 c.in-Some.value fits) c.in_ok-push_item.ensures in
+    globals_more (g.V.View.state c.args.view.now) c.loop-number.number c.loop-number.values.items c.push_item.new.list.items c.in-Some.value c.loop-number.invariant is c.in-Some.ensures
 
 pub returns : goal.returns
 returns g c = record {

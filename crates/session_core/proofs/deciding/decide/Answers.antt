@@ -8,7 +8,7 @@ returns-then-not-is_consistent c = (c.if-not-is_consistent.ensures.state c.requi
 pub returns-in-Ok-Some : goal.returns-in-Ok-Some
 returns-in-Ok-Some c =
     let found = rw c.in-Ok-Some.field-0-is at c.in-Ok-Some.ensures.found in
-    c.take.ensures (decision_command c.args.asked.now) found.0 found.1.0 found.1.1
+    c.take_decision.ensures (decision_command c.args.asked.now) found.0 found.1.0 found.1.1
 
 pub returns-in-Ok-None : goal.returns-in-Ok-None
 returns-in-Ok-None c =

@@ -9,4 +9,4 @@ abbrev pub invariant-loop-course : goal.invariant-loop-course
 invariant-loop-course g l = ComesTo (g.R.FlawRule.is_first l.rule) (g.R.FlawRule.are_choices l.rule) g.task l.course l.db
 
 abbrev pub decreases-loop-course : goal.decreases-loop-course
-decreases-loop-course g l = l.steps - l.course.visits
+decreases-loop-course g l = l.budget - l.course.visits

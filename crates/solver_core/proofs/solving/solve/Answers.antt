@@ -10,7 +10,7 @@ returns-then-not-is_consistent-clause-solves g c =
 pub returns-clause-solves : goal.returns-clause-solves
 returns-clause-solves g c =
     let ready = sym c.if-is_behind.ensures in
-    solves (g.R.FlawRule.is_first c.args.rule.now) (g.R.FlawRule.are_choices c.args.rule.now) c.args.tokens c.args.steps c.args.db.now c.run.new.db c.run.result ready (c.if-not-is_consistent.ensures.state ready) c.run.ensures
+    solves (g.R.FlawRule.is_first c.args.rule.now) (g.R.FlawRule.are_choices c.args.rule.now) c.args.tokens c.args.budget c.args.db.now c.run.new.db c.run.result ready (c.if-not-is_consistent.ensures.state ready) c.run.ensures
 
 pub returns-clause-proves : goal.returns-clause-proves
 returns-clause-proves g c =
@@ -21,4 +21,4 @@ returns-clause-proves g c =
     (g.met.R.FlawRule.clears c.args.rule.now model)
     (λ decisions state flaw choices choice. g.met.R.FlawRule.admits c.args.rule.now model decisions state c.args.tokens flaw choices choice c.requires)
     (λ decisions state flaw choices plan. g.met.R.FlawRule.covers c.args.rule.now model decisions state c.args.tokens flaw choices plan)
-    c.args.steps c.run.new.db c.run.result c.run.ensures
+    c.args.budget c.run.new.db c.run.result c.run.ensures

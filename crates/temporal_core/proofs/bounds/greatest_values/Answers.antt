@@ -3,7 +3,7 @@ use Rattle.std.specs.Prelude.{All}
 use Rattle.std.proofs.lemmas.Result.{IfOk-weaker}
 use Rattle.temporal_core.specs.Network.{IsEdge}
 use Rattle.temporal_core.specs.Schedule.{AreLeastValues, AreGreatestValues}
-use Rattle.temporal_core.specs.Settled.{HasPositiveCycle}
+use Rattle.temporal_core.specs.Satisfied.{HasPositiveCycle}
 use Rattle.temporal_core.specs.Bounds.{reversed_edge, negative_of}
 use Rattle.temporal_core.proofs.Turning as turning
 use Rattle.temporal_core.proofs.bounds.greatest_values.Goals as goal

@@ -1,7 +1,7 @@
 use Rattle.std.proofs.Common.{ℕ, ℤ, MatchBool, sym, subst}
 use Rattle.temporal_core.specs.Schedule.{IsSchedule, HasNoSchedule}
 use Rattle.temporal_core.specs.Cycle.{edges_at}
-use Rattle.temporal_core.specs.Settled.{HasPositiveCycle}
+use Rattle.temporal_core.specs.Satisfied.{HasPositiveCycle}
 use Rattle.temporal_core.proofs.canonical.needed.Goals as goal
 
 pub unreachable-requires : goal.unreachable-requires

@@ -1,7 +1,7 @@
 use Rattle.std.proofs.Common.{ℕ, ℤ, ◌∷◌, ◌++◌, [], MatchBool, length, subst, arith}
 use Rattle.temporal_core.specs.Network.{IsEdge}
 use Rattle.temporal_core.specs.Schedule.{IsSchedule}
-use Rattle.temporal_core.specs.Settled.{HasPositiveCycle}
+use Rattle.temporal_core.specs.Satisfied.{HasPositiveCycle}
 use Rattle.temporal_core.specs.Canonical.{edge_at, missing}
 use Rattle.temporal_core.proofs.Thinning.{at_place, missing_before, own_points, thinned_values, none_thinned, some_thinned}
 use Rattle.temporal_core.proofs.thinned.is_left_out.Goals as goal

@@ -2,7 +2,7 @@ use Rattle.std.proofs.Common.{◌≡◌, ◌<◌, length, set, refl, sym, ap, �
 use Rattle.std.proofs.lemmas.List.{length-set}
 use Rattle.std.proofs.lemmas.List.Elements.{All-weaker}
 use Rattle.temporal_core.specs.Network.{IsEdge}
-use Rattle.temporal_core.specs.Settled.{IsGraph}
+use Rattle.temporal_core.specs.Satisfied.{IsGraph}
 use Rattle.temporal_core.specs.Canonical.{edge_at, idle_edge, IsThinned}
 use Rattle.temporal_core.proofs.Thinning.{at_place, idle_joins, same_from, left_out}
 use Rattle.temporal_core.proofs.thinned.leave_out.Goals as goal

@@ -7,4 +7,4 @@ back_to-requires c =
     let constraints = c.args.net.now.constraints in
     let low = c.keep-low.ensures mark domains constraints c.mark-mark.ensures.is in
     let high = c.keep-high.ensures mark domains constraints low in
-    (domains, constraints, c.settle-2.ensures mark domains constraints (c.settle.ensures mark domains constraints high))
+    (domains, constraints, c.propagate-2.ensures mark domains constraints (c.propagate.ensures mark domains constraints high))

@@ -15,5 +15,5 @@ returns-clause-stamps c = λ rest. elim c.if-not-fit.branch [
   | then-not-fit w ↦ absurd (apart c.if-not-fit.self-inside.footing rest (ap (λ (inside : Inside). inside.footing) w.self-inside-is))
   | else-not-fit w ↦
       subst (λ (inside : Inside). FollowStamps c.args.self.now.stored inside.store) (sym w.self-inside-is)
-      (subst (λ (stood : Stood). FollowStamps stood.stored c.push.new.store) c.self.view_is (c.in_ok-fit.ensures.stamps w.if-not-fit.false))
+      (subst (λ (stood : Stood). FollowStamps stood.stored c.push_last_decision.new.store) c.self.view_is (c.in_ok-fit.ensures.stamps w.if-not-fit.false))
 ]

@@ -12,10 +12,10 @@ pub loop-number-preserved : goal.loop-number-preserved
 loop-number-preserved c =
     let P : List Mark → Type 0 = λ m. AreKnownBelow c.args.parents.now m c.walk.new.order.items (c.loop-number.number + 1) in
     let e = take_front c.walk.new.marks (drop (length c.walk.new.marks) c.loop-number.marks.items) c.loop-number.marks.len
-    (omega (arith, c.loop-number.marks.ok.0, c.loop-number.invariant.walkable.marks_are.count, c.in_ok-walk.ensures.settled.marks_are.count)) in
+    (omega (arith, c.loop-number.marks.ok.0, c.loop-number.invariant.walkable.marks_are.count, c.in_ok-walk.ensures.told.marks_are.count)) in
     subst P (sym e)
     (known_more c.args.parents.now _ c.walk.new.marks c.loop-number.order.items c.walk.new.order.items c.loop-number.number c.loop-number.invariant
-    c.in_ok-walk.ensures.settled
+    c.in_ok-walk.ensures.told
     (let Q : List Mark → Type 0 = λ m. IsKnownFrom m c.walk.new.marks c.loop-number.number in subst Q c.as_mut_slice.ensures.value c.in_ok-walk.ensures.known))
 
 pub returns : goal.returns

@@ -1,0 +1,25 @@
+use Rattle.std.proofs.Common.{sym, subst}
+use Rattle.cell_store.specs.Cells.{present}
+use Rattle.constraint_net.specs.Networks.{AllConsistent}
+use Rattle.constraint_net.specs.Waiting.{IsKeptAgenda}
+use Rattle.constraint_net.proofs.Keepers.{kept_propagated, propagated_down}
+use Rattle.constraint_net.proofs.network.Net.propagate_all.Goals as goal
+
+pub propagate-requires-clause-kept : goal.propagate-requires-clause-kept
+propagate-requires-clause-kept c =
+    let net = c.self.inside in
+    subst (λ tables. IsKeptAgenda tables net.constraints (present net.domains.cells) net.domains.agenda) (sym c.as_slice.ensures.value) c.self.invariant.agenda
+
+pub invariant_of-self : goal.invariant_of-self
+invariant_of-self c =
+    let net = c.self.inside in
+    kept_propagated (AllConsistent c.as_slice.result.now net.constraints) net.domains c.propagate.new.domains net.tables net.constraints net.marked c.propagate.result c.propagate.ensures.propagated c.propagate.ensures.sinks
+    (subst (λ tables. IsKeptAgenda tables net.constraints (present c.propagate.new.domains.cells) c.propagate.new.domains.agenda) c.as_slice.ensures.value c.propagate.ensures.kept) c.self.invariant
+
+pub returns-clause-others : goal.returns-clause-others
+returns-clause-others c =
+    let net = c.self.inside in
+    propagated_down c.args.self.now net.domains c.propagate.new.domains net.tables net.constraints net.marked c.self.view_is c.self.invariant
+    (kept_propagated (AllConsistent c.as_slice.result.now net.constraints) net.domains c.propagate.new.domains net.tables net.constraints net.marked c.propagate.result c.propagate.ensures.propagated c.propagate.ensures.sinks
+    (subst (λ tables. IsKeptAgenda tables net.constraints (present c.propagate.new.domains.cells) c.propagate.new.domains.agenda) c.as_slice.ensures.value c.propagate.ensures.kept) c.self.invariant)
+    c.propagate.ensures.sinks c.propagate.ensures.notes

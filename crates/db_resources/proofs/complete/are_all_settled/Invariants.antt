@@ -1,6 +1,0 @@
-use Rattle.std.proofs.Common.{ℕ, ◌<◌}
-use Rattle.db_resources.specs.Completeness.{AreSettledAt}
-use Rattle.db_resources.proofs.complete.are_all_settled.Given as goal
-
-abbrev pub invariant-loop-number : goal.invariant-loop-number
-invariant-loop-number l = (n : ℕ) → n < l.number → AreSettledAt l.model l.store n

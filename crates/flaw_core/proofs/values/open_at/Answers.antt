@@ -1,9 +1,0 @@
--- The variable at the place, where it has several values.
-use Rattle.flaw_core.proofs.Sorting.{value_found, value_none}
-use Rattle.flaw_core.proofs.values.open_at.Goals as goal
-
-pub returns-then-has_several : goal.returns-then-has_several
-returns-then-has_several g c = value_found (g.V.View.model c.args.view.now) (g.V.View.decisions c.args.view.now) (g.V.View.state c.args.view.now) c.requires.least.least.closed.consistent.is_state c.args.at c.requires.kept c.requires.untimed c.if-has_several.ensures
-
-pub returns-else-has_several : goal.returns-else-has_several
-returns-else-has_several g c = value_none (g.V.View.model c.args.view.now) (g.V.View.decisions c.args.view.now) (g.V.View.state c.args.view.now) c.requires.least.least.closed.consistent.is_state c.args.at c.if-has_several.ensures

@@ -1,7 +1,0 @@
-use Rattle.solver_core.proofs.stepping.advance.Given as goal
-
-abbrev pub ghost-go_back : goal.ghost-go_back
-ghost-go_back g a = g.task
-
-abbrev pub ghost-go_on : goal.ghost-go_on
-ghost-go_on g a = g.task

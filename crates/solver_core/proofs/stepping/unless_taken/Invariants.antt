@@ -1,4 +1,0 @@
-use Rattle.solver_core.proofs.stepping.unless_taken.Given as goal
-
-abbrev pub ghost-go_back : goal.ghost-go_back
-ghost-go_back g a = g.task

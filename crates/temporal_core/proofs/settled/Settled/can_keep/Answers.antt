@@ -1,6 +1,0 @@
-use Rattle.std.proofs.Common.{◌∷◌, ◌++◌, []}
-use Rattle.temporal_core.proofs.Settling.{schedule_or_cycle}
-use Rattle.temporal_core.proofs.settled.Settled.can_keep.Goals as goal
-
-pub returns : goal.returns
-returns c = schedule_or_cycle (c.args.self.now.graph.edges.items ++ c.args.edge ∷ []) c.keep_too.new.values _ c.in_ok-done.ensures.kept
