@@ -39,8 +39,10 @@ use Rattle.model_core.proofs.Words.{is_among, not_contained, is_plain, plain_nam
 use Rattle.eu_name.proofs.Ordered.{contains_cases, contains_none, ordered_none, ordered_one}
 use Rattle.law_examples.specs.Cases.{lone_goal, ruled, localised, two_facts, tool, battery, goal_and_fact, limited, at_most_one}
 use Rattle.law_examples.specs.Globals.{declared_x, problem_with, problem_of, free_x, low_x, at_most_1}
+use Rattle.law_examples.specs.Plans.{localised_rejectable}
 use Rattle.law_examples.specs.Refused.{alone, two_goals, mixed, facts_and_goal, many_roots}
 use Rattle.law_examples.specs.Scenes.{the_object, both_objects, object_called, predicate_called, predicate_of, label_of, root_of, roots_from, scene_with, guarded, with_local}
+use Rattle.law_examples.specs.Searched.{declared_to, twice_is, halved}
 use Rattle.law_examples.specs.Worlds.{class_with, object_with, declared_c, declared_field, declared_v, declared_y, field_is, no_choice, one_choice, fielded, free_two, low_two}
 use Rattle.law_examples.proofs.Closed.{guarded_follows}
 use Rattle.law_examples.proofs.Domains.{object_domain, both_domain}
@@ -186,6 +188,21 @@ free_lawful = x_lawful [] (omega arith) (none (IsLawfulItem free_x OfProblem))
 
 pub low_lawful : IsLawful low_x
 low_lawful = x_lawful (at_most_1 ∷ []) (omega arith) (one (IsLawfulItem low_x OfProblem) at_most_1 (x_item []))
+
+-- x is from 0 to a number that is twice x
+pub halved_lawful : (number : ℕ) → number ≤ 10 → IsLawful (halved number)
+halved_lawful number few =
+    let variable : IsOfKind (halved number) OfProblem kinds.Int (term.Global 0) = (declared_to number, refl, refl) in
+    let value : IsOfKind (halved number) OfProblem kinds.Int (term.Lit (pos number)) = (omega (arith, ints), omega (arith, ints, few)) in
+    world_lawful [] [] (declared_to number ∷ []) (twice_is number ∷ []) (omega arith) (omega arith) (omega arith) (omega arith) (no_class (halved number)) (none (IsLawfulObject (halved number)))
+    (one (IsLawfulVariable (halved number)) (declared_to number) (int_variable (halved number) (codes "x") number (omega (arith, few))))
+    (one Named (declared_to number) (plain_name (codes "x") refl))
+    (one (IsLawfulItem (halved number) OfProblem) (twice_is number) (
+      refl,
+      with_first (IsOfKind (halved number) OfProblem kinds.Int) (term.Global 0) (term.Global 0 ∷ term.Lit (pos number) ∷ []) variable
+          (two (IsOfKind (halved number) OfProblem kinds.Int) (term.Global 0) (term.Lit (pos number)) variable value),
+    ))
+    refl refl
 
 x_and_y_lawful : (items : List Item) → length items ≤ 10 → All (IsLawfulItem (problem_of (declared_x ∷ declared_y ∷ []) items) OfProblem) items → IsLawful (problem_of (declared_x ∷ declared_y ∷ []) items)
 x_and_y_lawful items few are_items =
@@ -562,13 +579,17 @@ ruled_lawful =
       few_rules = omega arith;
     }) (none (IsLawfulItem ruled OfProblem))
 
-local_entry : (path : List Turn) (place : ℕ) (what : Direct) → StandsAt with_local.top path place what → ((place < 2 ^ 16) × IsLawfulEntry localised 0 with_local path what) × ((path ≡ []) × (place ≡ 0))
-local_entry path place what p = at place (subst (λ e. slice_get (direct e) place ≡ Some what) (way_is (λ guard side. ⊤) path p.block p.way).1 p.stands)
+-- a rule with a local
+abbrev localised_by : RootKind → Model
+localised_by root_kind = scene_with [] kind.Plain pred.Plain (0 ∷ []) (with_local ∷ []) (root_kind ∷ [])
+
+local_entry : (root_kind : RootKind) (path : List Turn) (place : ℕ) (what : Direct) → StandsAt with_local.top path place what → ((place < 2 ^ 16) × IsLawfulEntry (localised_by root_kind) 0 with_local path what) × ((path ≡ []) × (place ≡ 0))
+local_entry root_kind path place what p = at place (subst (λ e. slice_get (direct e) place ≡ Some what) (way_is (λ guard side. ⊤) path p.block p.way).1 p.stands)
   where
-    at : (place : ℕ) → slice_get (OfLocal 0 ∷ []) place ≡ Some what → ((place < 2 ^ 16) × IsLawfulEntry localised 0 with_local path what) × ((path ≡ []) × (place ≡ 0))
+    at : (place : ℕ) → slice_get (OfLocal 0 ∷ []) place ≡ Some what → ((place < 2 ^ 16) × IsLawfulEntry (localised_by root_kind) 0 with_local path what) × ((path ≡ []) × (place ≡ 0))
     at (suc place) stands = absurd (cc)
     at zero stands = (
-      ((let e : 2 ^ 16 ≡ 65536 = refl in omega (arith, e)), subst (IsLawfulEntry localised 0 with_local path) (same_some (OfLocal 0) what stands) (_, refl)),
+      ((let e : 2 ^ 16 ≡ 65536 = refl in omega (arith, e)), subst (IsLawfulEntry (localised_by root_kind) 0 with_local path) (same_some (OfLocal 0) what stands) (_, refl)),
       ((way_is (λ guard side. ⊤) path p.block p.way).0, refl),
     )
 
@@ -577,27 +598,33 @@ local_stands zero less = record {
   path = [];
   place = 0;
   stands = record { block = with_local.top; way = refl; stands = refl };
-  only = λ other number p. (local_entry other number (OfLocal 0) p).1;
+  only = λ other number p. (local_entry Goal other number (OfLocal 0) p).1;
 }
 local_stands (suc number) less = absurd (omega (arith, less))
 
-pub localised_lawful : IsLawful localised
-localised_lawful =
-    one_root_lawful [] kind.Plain pred.Plain (0 ∷ []) (with_local ∷ []) Goal tt (omega arith) (record {
+localised_is_lawful : (root_kind : RootKind) → IsLawful (localised_by root_kind)
+localised_is_lawful root_kind =
+    one_root_lawful [] kind.Plain pred.Plain (0 ∷ []) (with_local ∷ []) root_kind tt (omega arith) (record {
       listed = with_local ∷ [];
       are = (refl, tt);
       few = record { rules = omega arith; slots = (let p : 0 ≤ 128 = omega arith in p); locals = (let p : 1 ≤ 128 = omega arith in p); items = (let p : 0 ≤ 1024 = omega arith in p); guards = (let p : 0 ≤ 1024 = omega arith in p) };
-      lawful = one (IsLawfulRule localised 0) with_local (record {
-        entries = λ path place what p. (local_entry path place what p).0;
+      lawful = one (IsLawfulRule (localised_by root_kind) 0) with_local (record {
+        entries = λ path place what p. (local_entry root_kind path place what p).0;
         nested = λ path block way. let e = ap length (way_is (λ guard side. ⊤) path block way).0 in omega (arith, e);
-        slots = none (IsLawfulSlot localised);
+        slots = none (IsLawfulSlot (localised_by root_kind));
         slots_stand = λ number less. absurd (omega (arith, less));
-        locals = one (IsLawfulVariable localised) _ (int_variable localised [] 2 (omega arith));
+        locals = one (IsLawfulVariable (localised_by root_kind)) _ (int_variable (localised_by root_kind) [] 2 (omega arith));
         unnamed = one (λ (variable : VarDecl). variable.name ≡ []) _ refl;
         locals_stand = local_stands;
       });
       few_rules = omega arith;
-    }) (none (IsLawfulItem localised OfProblem))
+    }) (none (IsLawfulItem (localised_by root_kind) OfProblem))
+
+pub localised_lawful : IsLawful localised
+localised_lawful = localised_is_lawful Goal
+
+pub localised_rejectable_lawful : IsLawful localised_rejectable
+localised_rejectable_lawful = localised_is_lawful Rejectable
 
 -- ---- many roots
 

@@ -16,3 +16,10 @@ pub mod Reasons
 pub mod Locals
 pub mod Lawful
 pub mod Swaps
+pub mod Planned
+pub mod Broken
+pub mod Sharing
+pub mod Unasked
+pub mod Agreed
+pub mod Halving
+pub mod Left

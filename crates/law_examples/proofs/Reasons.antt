@@ -46,15 +46,15 @@ module _ (items : List Item) (kinds : List RootKind) where
   abbrev model : Model
   model = scene_with items kind.Plain pred.Plain [] [] kinds
 
-  is_kind : (number : ℕ) (root_kind : RootKind) → slice_get kinds number ≡ Some root_kind → IsRootOfKind model root_kind (root_token number)
+  pub is_kind : (number : ℕ) (root_kind : RootKind) → slice_get kinds number ≡ Some root_kind → IsRootOfKind model root_kind (root_token number)
   is_kind number root_kind at = (refl, (root_of (0 + number) root_kind, root_get 0 kinds number root_kind at, refl))
 
-  kind_is : (number : ℕ) (root_kind wanted : RootKind) → slice_get kinds number ≡ Some root_kind → IsRootOfKind model wanted (root_token number) → root_kind ≡ wanted
+  pub kind_is : (number : ℕ) (root_kind wanted : RootKind) → slice_get kinds number ≡ Some root_kind → IsRootOfKind model wanted (root_token number) → root_kind ≡ wanted
   kind_is number root_kind wanted at is =
       let found = get_root 0 kinds number is.1.0 is.1.1 in
       same_some root_kind found.0 (sym at ∙ found.1.0) ∙ (ap (λ (r : Root). r.kind) found.1.1 ∙ is.1.2)
 
-  undecided : (number : ℕ) (root_kind : RootKind) → slice_get kinds number ≡ Some root_kind → (root_kind ≡ Fact → ⊥) → IsDecided model [] (root_token number) → ⊥
+  pub undecided : (number : ℕ) (root_kind : RootKind) → slice_get kinds number ≡ Some root_kind → (root_kind ≡ Fact → ⊥) → IsDecided model [] (root_token number) → ⊥
   undecided number root_kind at none (inl fact) = none (kind_is number root_kind Fact at fact)
   undecided number root_kind at none (inr (inl (inl activation))) = contains_none (Activate (root_token number)) activation
   undecided number root_kind at none (inr (inl (inr merge))) = contains_none (Merge (root_token number) merge.0) merge.1
@@ -64,23 +64,23 @@ module _ (items : List Item) (kinds : List RootKind) where
   inactive number root_kind at none (inl fact) = none (kind_is number root_kind Fact at fact)
   inactive number root_kind at none (inr activation) = contains_none (Activate (root_token number)) activation
 
-no_goal : Goal ≡ Fact → ⊥
+pub no_goal : Goal ≡ Fact → ⊥
 no_goal e = cc
 
-no_rejectable : Rejectable ≡ Fact → ⊥
+pub no_rejectable : Rejectable ≡ Fact → ⊥
 no_rejectable e = cc
 
 untaken : (token : TokenName) → IsTaken [] token → ⊥
 untaken token (inl activation) = contains_none (Activate token) activation
 untaken token (inr merge) = contains_none (Merge token merge.0) merge.1
 
-one_there : Contains one_token.tokens (root_token 0)
+pub one_there : Contains one_token.tokens (root_token 0)
 one_there = contains_head (root_token 0) []
 
-first_there : Contains two_tokens.tokens (root_token 0)
+pub first_there : Contains two_tokens.tokens (root_token 0)
 first_there = contains_head (root_token 0) (root_token 1 ∷ [])
 
-second_there : Contains two_tokens.tokens (root_token 1)
+pub second_there : Contains two_tokens.tokens (root_token 1)
 second_there = (1, omega arith, refl)
 
 -- ---- variables
@@ -276,7 +276,7 @@ target_inactive = record { hinders = inactive [] (Goal ∷ Goal ∷ []) 1 Goal r
     first SameToken less h = omega (arith, less)
     first ActiveFull less h = omega (arith, less)
 
-same_predicate : HaveSamePredicate goal_and_fact (root_token 0) (root_token 1)
+pub same_predicate : HaveSamePredicate goal_and_fact (root_token 0) (root_token 1)
 same_predicate = record {
   slot = record { pred = 0; object = Given both_objects };
   other_slot = record { pred = 0; object = Given both_objects };
@@ -344,7 +344,7 @@ order_of_one = record { hinders = refl; first = first }
     first SameToken less h = omega (arith, less)
     first ActiveFull less h = omega (arith, less)
 
-differ : HaveSamePredicate mixed (root_token 0) (root_token 1) → ⊥
+pub differ : HaveSamePredicate mixed (root_token 0) (root_token 1) → ⊥
 differ p =
     let one : p.slot ≡ record { pred = 0; object = Given both_objects } = p.has_one.reached ∙ ap slot_of (sym (same_some _ p.has_one.root p.has_one.is_root)) in
     let other : p.other_slot ≡ record { pred = 1; object = Given both_objects } = p.has_other.reached ∙ ap slot_of (sym (same_some _ p.has_other.root p.has_other.is_root)) in

@@ -95,10 +95,10 @@ no_object globals items value object is = let none = is.2 in absurd (cc)
 
 -- ---- the variable x
 
-gives_x : (domain : Domain) → Gives (with_x domain) (Global 0) domain
+pub gives_x : (domain : Domain) → Gives (with_x domain) (Global 0) domain
 gives_x domain = contains_head _ []
 
-is_x : (domain : Domain) (name : VarName) (other : Domain) → Gives (with_x domain) name other → (name ≡ Global 0) × (domain ≡ other)
+pub is_x : (domain : Domain) (name : VarName) (other : Domain) → Gives (with_x domain) name other → (name ≡ Global 0) × (domain ≡ other)
 is_x domain name other gives =
     let same = only_member (record { name = Global 0; domain = domain }) (record { name = name; domain = other }) gives in
     (sym (ap (λ (e : VarDomain). e.name) same), ap (λ (e : VarDomain). e.domain) same)

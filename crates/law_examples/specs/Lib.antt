@@ -5,3 +5,6 @@ pub mod Relations
 pub mod Worlds
 pub mod Refused
 pub mod Swaps
+pub mod Plans
+pub mod Searched
+pub mod Flaws

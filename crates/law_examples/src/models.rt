@@ -7,7 +7,9 @@ ghost use Rattle.model_core.specs.declared.model.RootKind.TheVariants.{Goal, Rej
 ghost use Rattle.law_examples.specs.Cases.{lone_goal, ruled, localised, two_facts, tool, battery, goal_and_fact};
 ghost use Rattle.law_examples.specs.Cases.{limited};
 ghost use Rattle.law_examples.specs.Globals.{problem_of, free_x, low_x};
+ghost use Rattle.law_examples.specs.Plans.{localised_rejectable};
 ghost use Rattle.law_examples.specs.Refused.{alone, two_goals, mixed, many_roots};
+ghost use Rattle.law_examples.specs.Searched.{halved};
 ghost use Rattle.law_examples.specs.Worlds.{no_choice, one_choice, fielded, free_two, low_two};
 
 /// Those without tokens.
@@ -20,6 +22,8 @@ pub fn problems_of_variables_are_lawful()
     ensures void { IsLawful no_choice }
     ensures given { IsLawful one_choice }
     ensures field { IsLawful fielded }
+    ensures odd { IsLawful (halved 3) }
+    ensures even { IsLawful (halved 6) }
 {}
 
 /// Those with tokens.
@@ -27,6 +31,7 @@ pub fn problems_of_tokens_are_lawful()
     ensures lone_goal { IsLawful lone_goal }
     ensures ruled { IsLawful ruled }
     ensures localised { IsLawful localised }
+    ensures localised_rejectable { IsLawful localised_rejectable }
     ensures plain_facts { IsLawful (two_facts Plain) }
     ensures timeline_facts { IsLawful (two_facts Timeline) }
     ensures small_tool { IsLawful (tool 1) }

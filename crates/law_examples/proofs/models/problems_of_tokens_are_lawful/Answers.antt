@@ -1,4 +1,4 @@
-use Rattle.law_examples.proofs.Lawful.{lone_goal_lawful, ruled_lawful, localised_lawful, plain_facts_lawful, timeline_facts_lawful, small_tool_lawful, tool_lawful, battery_lawful, goal_and_fact_lawful, limited_lawful, limited_fact_lawful, fact_lawful, rejectable_lawful, two_goals_lawful, mixed_lawful, many_lawful}
+use Rattle.law_examples.proofs.Lawful.{lone_goal_lawful, ruled_lawful, localised_lawful, localised_rejectable_lawful, plain_facts_lawful, timeline_facts_lawful, small_tool_lawful, tool_lawful, battery_lawful, goal_and_fact_lawful, limited_lawful, limited_fact_lawful, fact_lawful, rejectable_lawful, two_goals_lawful, mixed_lawful, many_lawful}
 use Rattle.law_examples.proofs.models.problems_of_tokens_are_lawful.Goals as goal
 
 pub returns-clause-lone_goal : goal.returns-clause-lone_goal
@@ -9,6 +9,9 @@ returns-clause-ruled c = ruled_lawful
 
 pub returns-clause-localised : goal.returns-clause-localised
 returns-clause-localised c = localised_lawful
+
+pub returns-clause-localised_rejectable : goal.returns-clause-localised_rejectable
+returns-clause-localised_rejectable c = localised_rejectable_lawful
 
 pub returns-clause-plain_facts : goal.returns-clause-plain_facts
 returns-clause-plain_facts c = plain_facts_lawful

@@ -1,4 +1,5 @@
-use Rattle.law_examples.proofs.Lawful.{empty_lawful, free_lawful, low_lawful, free_two_lawful, low_two_lawful, void_lawful, given_lawful, field_lawful}
+use Rattle.law_examples.proofs.Lawful.{empty_lawful, free_lawful, low_lawful, free_two_lawful, low_two_lawful, void_lawful, given_lawful, field_lawful, halved_lawful}
+use Rattle.std.proofs.Common.{arith}
 use Rattle.law_examples.proofs.models.problems_of_variables_are_lawful.Goals as goal
 
 pub returns-clause-empty : goal.returns-clause-empty
@@ -24,3 +25,9 @@ returns-clause-given c = given_lawful
 
 pub returns-clause-field : goal.returns-clause-field
 returns-clause-field c = field_lawful
+
+pub returns-clause-odd : goal.returns-clause-odd
+returns-clause-odd c = halved_lawful 3 (omega arith)
+
+pub returns-clause-even : goal.returns-clause-even
+returns-clause-even c = halved_lawful 6 (omega arith)
