@@ -1,30 +1,10 @@
 //! Domains: that there is memory for sets and copies, which no clause says, and the calls on both kinds by hand.
 
+use super::rows::{Row, assert_rows, both};
+use super::shapes::Written::{Ends, Members};
+use super::shapes::{Shape, Written, made, shape};
 use domain_core::{Change, Dom, SetFault};
 use std::alloc::Global;
-
-/// A domain in a form that can be compared: whether it is a range, its ends and how many values it has.
-type Shape = (bool, i32, i32, u32);
-
-fn shape(domain: &Dom) -> Shape {
-    (domain.is_range(), domain.lo(), domain.hi(), domain.count())
-}
-
-/// A range by its ends, or a set by its members.
-#[derive(Clone, Copy)]
-enum Written {
-    Ends(i32, i32),
-    Members(&'static [i32]),
-}
-
-use Written::{Ends, Members};
-
-fn made(alloc: Global, written: Written) -> Option<Dom> {
-    match written {
-        Ends(lo, hi) => Dom::range(lo, hi),
-        Members(members) => Dom::set_of(alloc, members).ok(),
-    }
-}
 
 /// The shape of a copy.
 fn copied(domain: &Dom) -> Option<Shape> {
@@ -69,18 +49,24 @@ fn set_of_many(alloc: Global, count: i32) -> Option<Result<Shape, SetFault>> {
     }
 }
 
-/// Lists, and the shapes of their sets, or why they have none.
-const LISTS: [(&[i32], Result<Shape, SetFault>); 3] = [
-    (&[7, -3, 7, 1_000_000, 0, -3], Ok((false, -3, 1_000_000, 4))),
-    (&[], Err(SetFault::Empty)),
-    (&[1, 1_000_001], Err(SetFault::OutOfRange)),
+/// A list, and the shape of its set, or why it has none.
+struct Listed(&'static [i32], Result<Shape, SetFault>);
+
+impl Row for Listed {
+    fn holds(&self, alloc: Global) -> bool {
+        set_of(alloc, self.0) == self.1
+    }
+}
+
+static LISTS: [Listed; 3] = [
+    Listed(&[7, -3, 7, 1_000_000, 0, -3], Ok((false, -3, 1_000_000, 4))),
+    Listed(&[], Err(SetFault::Empty)),
+    Listed(&[1, 1_000_001], Err(SetFault::OutOfRange)),
 ];
 
 #[test]
 fn sets_are_made_of_lists(rt: HostRuntime) {
-    for (place, (values, wanted)) in LISTS.iter().enumerate() {
-        assert!(rt; set_of(rt.alloc(), *values) == *wanted, "{place}");
-    }
+    assert_rows(&rt, &LISTS);
 }
 
 /// Whether so many numbers have a set of them all.
@@ -99,20 +85,23 @@ fn sets_have_4096_members_at_most(rt: HostRuntime) {
     assert!(rt; is_too_many(rt.alloc(), 4097));
 }
 
-/// Domains, and the shapes of their copies.
-const COPIES: [(Written, Shape); 2] = [
-    (Members(&[5, 2]), (false, 2, 5, 2)),
-    (Ends(-2, 2), (true, -2, 2, 5)),
+/// A domain, and the shape of its copy.
+struct CopyOf(Written, Shape);
+
+impl Row for CopyOf {
+    fn holds(&self, alloc: Global) -> bool {
+        copied_from(alloc, self.0) == Some(self.1)
+    }
+}
+
+static COPIES: [CopyOf; 2] = [
+    CopyOf(Members(&[5, 2]), (false, 2, 5, 2)),
+    CopyOf(Ends(-2, 2), (true, -2, 2, 5)),
 ];
 
 #[test]
 fn copies_are_equal(rt: HostRuntime) {
-    for (place, (written, wanted)) in COPIES.iter().enumerate() {
-        assert!(rt;
-            copied_from(rt.alloc(), *written) == Some(*wanted),
-            "{place}"
-        );
-    }
+    assert_rows(&rt, &COPIES);
 }
 
 /// What meeting the other domain answers and leaves.
@@ -122,49 +111,52 @@ fn met_with(own: &mut Dom, other: &Dom) -> (Change, Shape) {
 }
 
 fn met(alloc: Global, own: Written, other: Written) -> Option<(Change, Shape)> {
-    match (made(alloc, own), made(alloc, other)) {
-        (Some(mut own), Some(other)) => Some(met_with(&mut own, &other)),
-        _ => None,
+    match both(made(alloc, own), made(alloc, other)) {
+        Some((mut own, other)) => Some(met_with(&mut own, &other)),
+        None => None,
     }
 }
 
 /// What is met with what, the answer, and what is left.
-const MEETINGS: [(Written, Written, Change, Shape); 5] = [
-    (
+struct Meeting(Written, Written, Change, Shape);
+
+impl Row for Meeting {
+    fn holds(&self, alloc: Global) -> bool {
+        met(alloc, self.0, self.1) == Some((self.2, self.3))
+    }
+}
+
+static MEETINGS: [Meeting; 5] = [
+    Meeting(
         Ends(1, 7),
         Members(&[0, 2, 4, 6, 8]),
         Change::Smaller,
         (true, 2, 6, 5),
     ),
-    (
+    Meeting(
         Members(&[0, 2, 4, 6, 8]),
         Ends(2, 5),
         Change::Smaller,
         (false, 2, 4, 2),
     ),
-    (
+    Meeting(
         Members(&[2, 4]),
         Members(&[3, 6, 9]),
         Change::Empty,
         (false, 2, 4, 2),
     ),
-    (
+    Meeting(
         Members(&[3, 6, 9]),
         Members(&[0, 2, 4, 6, 8]),
         Change::Smaller,
         (false, 6, 6, 1),
     ),
-    (Ends(2, 5), Ends(0, 9), Change::Same, (true, 2, 5, 4)),
+    Meeting(Ends(2, 5), Ends(0, 9), Change::Same, (true, 2, 5, 4)),
 ];
 
 #[test]
 fn domains_are_met(rt: HostRuntime) {
-    for (place, (own, other, change, left)) in MEETINGS.iter().enumerate() {
-        assert!(rt;
-            met(rt.alloc(), *own, *other) == Some((*change, *left)),
-            "{place}"
-        );
-    }
+    assert_rows(&rt, &MEETINGS);
 }
 
 /// What taking the value out answers and leaves.
@@ -181,20 +173,23 @@ fn dropped(alloc: Global, own: Written, value: i32) -> Option<(Change, Shape)> {
 }
 
 /// What is taken out of what, the answer, and what is left.
-const DROPS: [(Written, i32, Change, Shape); 5] = [
-    (Ends(2, 6), 4, Change::Same, (true, 2, 6, 5)),
-    (Ends(2, 6), 6, Change::Smaller, (true, 2, 5, 4)),
-    (Members(&[2, 4]), 3, Change::Same, (false, 2, 4, 2)),
-    (Members(&[2, 4]), 2, Change::Smaller, (false, 4, 4, 1)),
-    (Members(&[4]), 4, Change::Empty, (false, 4, 4, 1)),
+struct TakenOut(Written, i32, Change, Shape);
+
+impl Row for TakenOut {
+    fn holds(&self, alloc: Global) -> bool {
+        dropped(alloc, self.0, self.1) == Some((self.2, self.3))
+    }
+}
+
+static DROPS: [TakenOut; 5] = [
+    TakenOut(Ends(2, 6), 4, Change::Same, (true, 2, 6, 5)),
+    TakenOut(Ends(2, 6), 6, Change::Smaller, (true, 2, 5, 4)),
+    TakenOut(Members(&[2, 4]), 3, Change::Same, (false, 2, 4, 2)),
+    TakenOut(Members(&[2, 4]), 2, Change::Smaller, (false, 4, 4, 1)),
+    TakenOut(Members(&[4]), 4, Change::Empty, (false, 4, 4, 1)),
 ];
 
 #[test]
 fn values_are_taken_out(rt: HostRuntime) {
-    for (place, (own, value, change, left)) in DROPS.iter().enumerate() {
-        assert!(rt;
-            dropped(rt.alloc(), *own, *value) == Some((*change, *left)),
-            "{place}"
-        );
-    }
+    assert_rows(&rt, &DROPS);
 }

@@ -20,6 +20,8 @@ mod problems;
 #[cfg(test)]
 mod profiles;
 #[cfg(test)]
+mod rows;
+#[cfg(test)]
 mod sample;
 #[cfg(test)]
 mod shapes;

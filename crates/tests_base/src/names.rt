@@ -1,5 +1,6 @@
 //! Names: that there is memory for them, how they are read and written, and their order as one would write it.
 
+use super::rows::{Ordered, Row, assert_ordered, assert_rows};
 use eu_name::bytes::Bytes;
 use eu_name::name_order::{order, var_order};
 use eu_name::sequence::Sequence;
@@ -17,16 +18,20 @@ fn describe_steps(words: &mut String, steps: &[Step]) -> Result<(), AllocError> 
     Ok(())
 }
 
+/// Puts the last part of a name into words.
+fn describe_tail(words: &mut String, tail: &Tail) -> Result<(), AllocError> {
+    match tail {
+        Tail::None => Ok(()),
+        Tail::Part(part) => write!(words, ", its {}", part.as_str()),
+        Tail::Local { rule, number } => write!(words, ", local {number} of rule {rule}"),
+    }
+}
+
 /// Puts what a name says into words.
 fn describe(words: &mut String, name: &NameText) -> Result<(), AllocError> {
     words.push_str(name.label.as_str())?;
     describe_steps(words, name.steps.as_slice())?;
-    match &name.tail {
-        Tail::None => {}
-        Tail::Part(part) => write!(words, ", its {}", part.as_str())?,
-        Tail::Local { rule, number } => write!(words, ", local {number} of rule {rule}")?,
-    }
-    Ok(())
+    describe_tail(words, &name.tail)
 }
 
 /// What a name says, in words.
@@ -47,7 +52,7 @@ fn says(alloc: Global, name: &NameText, words: &str) -> bool {
 }
 
 /// Whether the name is written so.
-fn is_written(alloc: Global, name: &NameText, text: &str) -> bool {
+pub fn is_written(alloc: Global, name: &NameText, text: &str) -> bool {
     match write_name(alloc, name) {
         Ok(written) => written.as_slice() == text.as_bytes(),
         Err(_) => false,
@@ -70,31 +75,37 @@ fn is_refused(alloc: Global, text: &str) -> bool {
     }
 }
 
-/// Names, and what they say.
-const NAMES: [(&str, &str); 9] = [
-    ("g", "g"),
-    ("g/0:2", "g, slot 2 of rule 0"),
-    (
+/// A name, and what it says.
+struct Read(&'static str, &'static str);
+
+impl Row for Read {
+    fn holds(&self, alloc: Global) -> bool {
+        is_read(alloc, self.0, self.1)
+    }
+}
+
+static NAMES: [Read; 9] = [
+    Read("g", "g"),
+    Read("g/0:2", "g, slot 2 of rule 0"),
+    Read(
         "_k/65535:0/1:10",
         "_k, slot 0 of rule 65535, slot 10 of rule 1",
     ),
-    ("g.start", "g, its start"),
-    ("g/0:2.x9", "g, slot 2 of rule 0, its x9"),
-    ("g/0!3", "g, local 3 of rule 0"),
-    ("g/0:2/0!3", "g, slot 2 of rule 0, local 3 of rule 0"),
-    ("!0", "!0"),
-    ("!65535", "!65535"),
+    Read("g.start", "g, its start"),
+    Read("g/0:2.x9", "g, slot 2 of rule 0, its x9"),
+    Read("g/0!3", "g, local 3 of rule 0"),
+    Read("g/0:2/0!3", "g, slot 2 of rule 0, local 3 of rule 0"),
+    Read("!0", "!0"),
+    Read("!65535", "!65535"),
 ];
 
 #[test]
 fn names_are_read_and_written(rt: HostRuntime) {
-    for (text, words) in &NAMES {
-        assert!(rt; is_read(rt.alloc(), *text, *words), "{text}");
-    }
+    assert_rows(&rt, &NAMES);
 }
 
 /// Texts that are no names.
-const OTHERS: [&str; 32] = [
+static OTHERS: [&str; 32] = [
     "",
     "class",
     "inf",
@@ -160,43 +171,32 @@ fn token_order(one: &TokenName, other: &TokenName) -> Option<Ordering> {
 }
 
 /// A root and the steps from it.
-type Steps = (u32, &'static [(u16, u16)]);
+struct Steps(u32, &'static [(u16, u16)]);
 
-/// How the tokens compare.
-fn tokens_compared(alloc: Global, one: Steps, other: Steps) -> Option<Ordering> {
-    match (token(alloc, one.0, one.1), token(alloc, other.0, other.1)) {
-        (Ok(one), Ok(other)) => token_order(&one, &other),
-        _ => None,
+impl Ordered for Steps {
+    fn compared(&self, alloc: Global, other: &Steps) -> Option<Ordering> {
+        match (token(alloc, self.0, self.1), token(alloc, other.0, other.1)) {
+            (Ok(one), Ok(other)) => token_order(&one, &other),
+            _ => None,
+        }
     }
 }
 
 /// Tokens in ascending order.
-const TOKENS: [Steps; 8] = [
-    (1, &[]),
-    (2, &[]),
-    (0, &[(9, 9)]),
-    (1, &[(0, 3)]),
-    (1, &[(1, 2)]),
-    (1, &[(1, 3)]),
-    (0, &[(0, 0), (0, 1)]),
-    (0, &[(0, 1), (0, 0)]),
+static TOKENS: [Steps; 8] = [
+    Steps(1, &[]),
+    Steps(2, &[]),
+    Steps(0, &[(9, 9)]),
+    Steps(1, &[(0, 3)]),
+    Steps(1, &[(1, 2)]),
+    Steps(1, &[(1, 3)]),
+    Steps(0, &[(0, 0), (0, 1)]),
+    Steps(0, &[(0, 1), (0, 0)]),
 ];
-
-/// The first of the tokens that doesn't compare with this one as their places do.
-fn wrong_token(alloc: Global, place: usize, one: Steps) -> Option<usize> {
-    for (other_place, other) in TOKENS.iter().enumerate() {
-        if tokens_compared(alloc, one, *other) != Some(place.cmp(&other_place)) {
-            return Some(other_place);
-        }
-    }
-    None
-}
 
 #[test]
 fn tokens_are_in_order(rt: HostRuntime) {
-    for (place, one) in TOKENS.iter().enumerate() {
-        assert!(rt; wrong_token(rt.alloc(), place, *one).is_none(), "{place}");
-    }
+    assert_ordered(&rt, &TOKENS);
 }
 
 /// A variable of a token, or a global variable in place of it.
@@ -228,57 +228,65 @@ fn variable_order(one: &VarName, other: &VarName) -> Option<Ordering> {
     }
 }
 
-/// How the variables compare, of the tokens that a step leads to from these roots.
-fn variables_compared(
-    alloc: Global,
-    one: (u32, Variable),
-    other: (u32, Variable),
-) -> Option<Ordering> {
-    match (
-        token(alloc, one.0, &[(0, 2)]),
-        token(alloc, other.0, &[(0, 2)]),
-    ) {
-        (Ok(token), Ok(second)) => {
-            variable_order(&name_of(token, one.1), &name_of(second, other.1))
+/// A variable of the token that a step leads to from the root.
+struct Placed(u32, Variable);
+
+impl Placed {
+    fn named(&self, alloc: Global) -> Option<VarName> {
+        match token(alloc, self.0, &[(0, 2)]) {
+            Ok(token) => Some(name_of(token, self.1)),
+            Err(_) => None,
         }
-        _ => None,
+    }
+}
+
+impl Ordered for Placed {
+    fn compared(&self, alloc: Global, other: &Placed) -> Option<Ordering> {
+        match (self.named(alloc), other.named(alloc)) {
+            (Some(one), Some(other)) => variable_order(&one, &other),
+            _ => None,
+        }
     }
 }
 
 /// Variables in ascending order.
-const VARIABLES: [(u32, Variable); 11] = [
-    (9, Variable::Global(0)),
-    (0, Variable::Global(7)),
-    (1, Variable::Part(Part::Object)),
-    (1, Variable::Part(Part::Start)),
-    (1, Variable::Part(Part::End)),
-    (1, Variable::Part(Part::Duration)),
-    (1, Variable::Part(Part::Param(0))),
-    (1, Variable::Part(Part::Param(65_535))),
-    (1, Variable::Local(0, 5)),
-    (1, Variable::Local(2, 4)),
-    (2, Variable::Part(Part::Object)),
+static VARIABLES: [Placed; 11] = [
+    Placed(9, Variable::Global(0)),
+    Placed(0, Variable::Global(7)),
+    Placed(1, Variable::Part(Part::Object)),
+    Placed(1, Variable::Part(Part::Start)),
+    Placed(1, Variable::Part(Part::End)),
+    Placed(1, Variable::Part(Part::Duration)),
+    Placed(1, Variable::Part(Part::Param(0))),
+    Placed(1, Variable::Part(Part::Param(65_535))),
+    Placed(1, Variable::Local(0, 5)),
+    Placed(1, Variable::Local(2, 4)),
+    Placed(2, Variable::Part(Part::Object)),
 ];
 
 #[test]
 fn variables_are_in_order(rt: HostRuntime) {
-    for (place, one) in VARIABLES.iter().enumerate() {
-        for (other_place, other) in VARIABLES.iter().enumerate() {
-            let found = variables_compared(rt.alloc(), *one, *other);
-            assert!(rt;
-                found == Some(place.cmp(&other_place)),
-                "{place} and {other_place}"
-            );
-        }
+    assert_ordered(&rt, &VARIABLES);
+}
+
+fn has_copied_text(text: &Text, characters: &str) -> bool {
+    match text.copy() {
+        Ok(copied) => copied.as_str() == characters,
+        Err(_) => false,
     }
 }
 
 /// Whether a copy of the text is the text.
 fn is_copied_text(alloc: Global, characters: &str) -> bool {
     match Text::from_str(alloc, characters) {
-        Ok(text) => text
-            .copy()
-            .is_ok_and(|copied| copied.as_str() == characters),
+        Ok(text) => has_copied_text(&text, characters),
+        Err(_) => false,
+    }
+}
+
+fn has_copied_bytes(bytes: &Bytes, slice: &[u8]) -> bool {
+    match bytes.copy() {
+        Ok(copied) => copied.as_slice() == slice,
         Err(_) => false,
     }
 }
@@ -286,7 +294,7 @@ fn is_copied_text(alloc: Global, characters: &str) -> bool {
 /// Whether a copy of the bytes is the bytes.
 fn are_copied_bytes(alloc: Global, slice: &[u8]) -> bool {
     match Bytes::from_slice(alloc, slice) {
-        Ok(bytes) => bytes.copy().is_ok_and(|copied| copied.as_slice() == slice),
+        Ok(bytes) => has_copied_bytes(&bytes, slice),
         Err(_) => false,
     }
 }

@@ -3,6 +3,7 @@
 
 ghost use Rattle.std.specs.Prelude.{◌≡◌};
 
+use super::rows::{Row, assert_rows, both};
 use super::shapes::Written::{Ends, Members};
 use super::shapes::{Shape, Written, made, shape};
 use Change::{Empty, Same, Smaller};
@@ -29,9 +30,9 @@ fn pair<C: Narrow>(
 ) -> Option<(Change, [Shape; 2])>
     requires { C.count constraint.now ≡ 2 }
 {
-    match (made(alloc, args[0]), made(alloc, args[1])) {
-        (Some(x), Some(y)) => Some(narrowed_pair(constraint, [x, y])),
-        _ => None,
+    match both(made(alloc, args[0]), made(alloc, args[1])) {
+        Some((x, y)) => Some(narrowed_pair(constraint, [x, y])),
+        None => None,
     }
 }
 
@@ -61,74 +62,75 @@ fn narrowed_two(
     }
 }
 
-/// Constraints and two arguments, what is answered, and what is left.
-const PAIRS: [(OfTwo, [Written; 2], Change, [Shape; 2]); 9] = [
-    (
+/// A constraint and two arguments, what is answered, and what is left.
+struct TwoArgs(OfTwo, &'static [Written; 2], Change, [Shape; 2]);
+
+impl Row for TwoArgs {
+    fn holds(&self, alloc: Global) -> bool {
+        narrowed_two(alloc, self.0, *self.1) == Some((self.2, self.3))
+    }
+}
+
+static PAIRS: [TwoArgs; 9] = [
+    TwoArgs(
         OfTwo::Equal,
-        [Ends(0, 9), Members([2, 5, 12])],
+        &[Ends(0, 9), Members(&[2, 5, 12])],
         Smaller,
         [(true, 2, 5, 4), (false, 2, 5, 2)],
     ),
-    (
+    TwoArgs(
         OfTwo::Apart,
-        [Ends(0, 9), Ends(9, 9)],
+        &[Ends(0, 9), Ends(9, 9)],
         Smaller,
         [(true, 0, 8, 9), (true, 9, 9, 1)],
     ),
-    (
+    TwoArgs(
         OfTwo::Apart,
-        [Ends(0, 9), Members([4, 4, 4])],
+        &[Ends(0, 9), Members(&[4, 4, 4])],
         Same,
         [(true, 0, 9, 10), (false, 4, 4, 1)],
     ),
-    (
+    TwoArgs(
         OfTwo::Apart,
-        [Ends(3, 3), Ends(3, 3)],
+        &[Ends(3, 3), Ends(3, 3)],
         Empty,
         [(true, 3, 3, 1), (true, 3, 3, 1)],
     ),
-    (
+    TwoArgs(
         OfTwo::Less,
-        [Ends(0, 9), Ends(0, 9)],
+        &[Ends(0, 9), Ends(0, 9)],
         Smaller,
         [(true, 0, 8, 9), (true, 1, 9, 9)],
     ),
-    (
+    TwoArgs(
         OfTwo::AtMost,
-        [Ends(3, 9), Members([1, 4, 7])],
+        &[Ends(3, 9), Members(&[1, 4, 7])],
         Smaller,
         [(true, 3, 7, 5), (false, 4, 7, 2)],
     ),
-    (
+    TwoArgs(
         OfTwo::Thrice,
-        [Ends(0, 3), Ends(1, 8)],
+        &[Ends(0, 3), Ends(1, 8)],
         Smaller,
         [(true, 1, 2, 2), (true, 3, 6, 4)],
     ),
-    (
+    TwoArgs(
         OfTwo::MinusThrice,
-        [Ends(-5, 5), Ends(-8, 2)],
+        &[Ends(-5, 5), Ends(-8, 2)],
         Smaller,
         [(true, 0, 2, 3), (true, -6, 0, 7)],
     ),
-    (
+    TwoArgs(
         OfTwo::MinusThrice,
-        [Ends(0, 2), Members([-6, -1, 0])],
+        &[Ends(0, 2), Members(&[-6, -1, 0])],
         Smaller,
         [(true, 0, 2, 3), (false, -6, 0, 2)],
     ),
 ];
 
-/// Whether the constraint answers and leaves what the row says.
-fn are_two_narrowed(alloc: Global, row: &(OfTwo, [Written; 2], Change, [Shape; 2])) -> bool {
-    narrowed_two(alloc, row.0, row.1) == Some((row.2, row.3))
-}
-
 #[test]
 fn two_arguments_are_narrowed(rt: HostRuntime) {
-    for (place, row) in PAIRS.iter().enumerate() {
-        assert!(rt; are_two_narrowed(rt.alloc(), row), "{place}");
-    }
+    assert_rows(&rt, &PAIRS);
 }
 
 /// What the constraint answers and leaves of three domains.
@@ -151,13 +153,10 @@ fn triple<C: Narrow>(
 ) -> Option<(Change, [Shape; 3])>
     requires { C.count constraint.now ≡ 3 }
 {
-    match (
-        made(alloc, args[0]),
-        made(alloc, args[1]),
-        made(alloc, args[2]),
-    ) {
-        (Some(x), Some(y), Some(z)) => Some(narrowed_triple(constraint, [x, y, z])),
-        _ => None,
+    let second_and_third = both(made(alloc, args[1]), made(alloc, args[2]));
+    match both(made(alloc, args[0]), second_and_third) {
+        Some((x, (y, z))) => Some(narrowed_triple(constraint, [x, y, z])),
+        None => None,
     }
 }
 
@@ -181,50 +180,55 @@ fn narrowed_three(
     }
 }
 
-/// Constraints and three arguments, what is answered, and what is left.
-const TRIPLES: [(OfThree, [Written; 3], Change, [Shape; 3]); 5] = [
-    (
+/// A constraint and three arguments, what is answered, and what is left.
+struct ThreeArgs(OfThree, &'static [Written; 3], Change, [Shape; 3]);
+
+impl Row for ThreeArgs {
+    fn holds(&self, alloc: Global) -> bool {
+        narrowed_three(alloc, self.0, *self.1) == Some((self.2, self.3))
+    }
+}
+
+static TRIPLES: [ThreeArgs; 5] = [
+    ThreeArgs(
         OfThree::Sum,
-        [Ends(0, 10), Ends(2, 3), Ends(1, 6)],
+        &[Ends(0, 10), Ends(2, 3), Ends(1, 6)],
         Smaller,
         [(true, 0, 4, 5), (true, 2, 3, 2), (true, 2, 6, 5)],
     ),
-    (
+    ThreeArgs(
         OfThree::WhetherEqual,
-        [Members([0, 1, 1]), Members([1, 2, 2]), Members([3, 4, 4])],
+        &[
+            Members(&[0, 1, 1]),
+            Members(&[1, 2, 2]),
+            Members(&[3, 4, 4]),
+        ],
         Smaller,
         [(false, 0, 0, 1), (false, 1, 2, 2), (false, 3, 4, 2)],
     ),
-    (
+    ThreeArgs(
         OfThree::WhetherEqual,
-        [Members([1, 1, 1]), Members([1, 2, 3]), Ends(2, 9)],
+        &[Members(&[1, 1, 1]), Members(&[1, 2, 3]), Ends(2, 9)],
         Smaller,
         [(false, 1, 1, 1), (false, 2, 3, 2), (true, 2, 3, 2)],
     ),
-    (
+    ThreeArgs(
         OfThree::WhetherAtMost,
-        [Members([0, 1, 1]), Ends(0, 2), Ends(2, 9)],
+        &[Members(&[0, 1, 1]), Ends(0, 2), Ends(2, 9)],
         Smaller,
         [(false, 1, 1, 1), (true, 0, 2, 3), (true, 2, 9, 8)],
     ),
-    (
+    ThreeArgs(
         OfThree::WhetherAtMost,
-        [Members([0, 0, 0]), Ends(0, 9), Ends(3, 7)],
+        &[Members(&[0, 0, 0]), Ends(0, 9), Ends(3, 7)],
         Smaller,
         [(false, 0, 0, 1), (true, 4, 9, 6), (true, 3, 7, 5)],
     ),
 ];
 
-/// Whether the constraint answers and leaves what the row says.
-fn are_three_narrowed(alloc: Global, row: &(OfThree, [Written; 3], Change, [Shape; 3])) -> bool {
-    narrowed_three(alloc, row.0, row.1) == Some((row.2, row.3))
-}
-
 #[test]
 fn three_arguments_are_narrowed(rt: HostRuntime) {
-    for (place, row) in TRIPLES.iter().enumerate() {
-        assert!(rt; are_three_narrowed(rt.alloc(), row), "{place}");
-    }
+    assert_rows(&rt, &TRIPLES);
 }
 
 /// A field of three objects.
@@ -256,38 +260,39 @@ fn field_narrowed(alloc: Global, args: [Written; 2]) -> Option<(Change, [Shape; 
     }
 }
 
-/// Objects and values, what is answered, and what is left.
-const FIELDS: [([Written; 2], Change, [Shape; 2]); 4] = [
-    (
-        [Members([0, 1, 2]), Ends(20, 25)],
+/// Objects and values, what the field answers, and what is left.
+struct OfField(&'static [Written; 2], Change, [Shape; 2]);
+
+impl Row for OfField {
+    fn holds(&self, alloc: Global) -> bool {
+        field_narrowed(alloc, *self.0) == Some((self.1, self.2))
+    }
+}
+
+static FIELDS: [OfField; 4] = [
+    OfField(
+        &[Members(&[0, 1, 2]), Ends(20, 25)],
         Smaller,
         [(false, 0, 2, 2), (true, 20, 20, 1)],
     ),
-    (
-        [Members([1, 1, 1]), Members([20, 25, 30])],
+    OfField(
+        &[Members(&[1, 1, 1]), Members(&[20, 25, 30])],
         Smaller,
         [(false, 1, 1, 1), (false, 30, 30, 1)],
     ),
-    (
-        [Members([0, 1, 2]), Members([20, 25, 30])],
+    OfField(
+        &[Members(&[0, 1, 2]), Members(&[20, 25, 30])],
         Smaller,
         [(false, 0, 2, 3), (false, 20, 30, 2)],
     ),
-    (
-        [Members([1, 1, 1]), Members([10, 20, 40])],
+    OfField(
+        &[Members(&[1, 1, 1]), Members(&[10, 20, 40])],
         Empty,
         [(false, 1, 1, 1), (false, 10, 40, 3)],
     ),
 ];
 
-/// Whether the field answers and leaves what the row says.
-fn is_field_narrowed(alloc: Global, row: &([Written; 2], Change, [Shape; 2])) -> bool {
-    field_narrowed(alloc, row.0) == Some((row.1, row.2))
-}
-
 #[test]
 fn a_field_is_narrowed(rt: HostRuntime) {
-    for (place, row) in FIELDS.iter().enumerate() {
-        assert!(rt; is_field_narrowed(rt.alloc(), row), "{place}");
-    }
+    assert_rows(&rt, &FIELDS);
 }

@@ -6,6 +6,7 @@ ghost use Rattle.constraint_net.specs.Marks.{KeepMarks};
 
 use super::shapes::Written::{Ends, Members};
 use super::shapes::{Shape, Written, made, shape};
+use Posted::{AtMostTwo, Equal, Less, Thrice};
 use constraint_net::NetArg::{Lit, Var};
 use constraint_net::laws::marks_stay;
 use constraint_net::{Net, NetFault};
@@ -98,157 +99,201 @@ fn post_at_most_two(net: &mut Net, b: usize, x: usize) -> bool {
     net.post(Kind::TestLeq, &args).is_ok()
 }
 
-/// A range and a set that are equal.
-fn make_equal(net: &mut Net, alloc: Global) -> bool {
-    let added = add(net, alloc, Ends(0, 10)) == Some(0)
-        && add(net, alloc, Members([2, 5, 9])) == Some(1);
-    added && post_eq(net, 0, 1)
-}
-
-/// What is left of the range and the set, and again after the range has become a single value.
-fn run_equal(
-    net: &mut Net,
-    alloc: Global,
-) -> (bool, [Option<Shape>; 2], Option<Change>, [Option<Shape>; 2]) {
-    let made = make_equal(net, alloc) && net.propagate_all().is_ok();
-    let before = [left(net, 0), left(net, 1)];
-    let change = limit(net, 0, 5, 5);
-    let propagated = net.propagate_all().is_ok();
-    let after = [left(net, 0), left(net, 1)];
-    (made && propagated, before, change, after)
-}
-
+/// A constraint, by the numbers of its variables.
 #[derive(Clone, Copy)]
-struct Equal;
+enum Posted {
+    Equal(usize, usize),
+    Less(usize, usize),
+    Thrice(usize, usize),
+    AtMostTwo(usize, usize),
+}
 
-impl Run for Equal {
-    type Seen = (bool, [Option<Shape>; 2], Option<Change>, [Option<Shape>; 2]);
-
-    fn run(
-        &self,
-        net: &mut Net,
-        alloc: Global,
-    ) -> (bool, [Option<Shape>; 2], Option<Change>, [Option<Shape>; 2]) {
-        run_equal(net, alloc)
+fn post(net: &mut Net, posted: Posted) -> bool {
+    match posted {
+        Equal(x, y) => post_eq(net, x, y),
+        Less(x, y) => post_lt(net, x, y),
+        Thrice(x, z) => post_thrice(net, x, z),
+        AtMostTwo(b, x) => post_at_most_two(net, b, x),
     }
 }
+
+/// Whether there are variables with these domains now, numbered from zero.
+fn are_added(net: &mut Net, alloc: Global, domains: &[Written]) -> bool {
+    for (number, written) in domains.iter().enumerate() {
+        if add(net, alloc, *written) != Some(number) {
+            return false;
+        }
+    }
+    true
+}
+
+fn are_posted(net: &mut Net, constraints: &[Posted]) -> bool {
+    for posted in constraints {
+        if !post(net, *posted) {
+            return false;
+        }
+    }
+    true
+}
+
+/// Variables by their domains, and constraints on them.
+#[derive(Clone, Copy)]
+struct Network {
+    domains: &'static [Written],
+    constraints: &'static [Posted],
+}
+
+fn is_made(net: &mut Net, alloc: Global, network: &Network) -> bool {
+    are_added(net, alloc, network.domains) && are_posted(net, network.constraints)
+}
+
+fn is_propagated(net: &mut Net) -> bool {
+    net.propagate_all().is_ok()
+}
+
+/// What the first three variables may still be.
+fn first_three(net: &Net) -> [Option<Shape>; 3] {
+    [left(net, 0), left(net, 1), left(net, 2)]
+}
+
+/// Whether a network was made and propagates, what is left of its variables, what limiting one of them answers, what is
+/// left then, and whether the second was never written.
+type Narrowed = (
+    bool,
+    [Option<Shape>; 3],
+    Option<Change>,
+    [Option<Shape>; 3],
+    bool,
+);
+
+/// A network, and a variable of it that is limited to a range.
+#[derive(Clone, Copy)]
+struct Limited {
+    network: Network,
+    variable: usize,
+    range: (i32, i32),
+}
+
+impl Run for Limited {
+    type Seen = Narrowed;
+
+    fn run(&self, net: &mut Net, alloc: Global) -> Narrowed {
+        let made = is_made(net, alloc, &self.network) && is_propagated(net);
+        let before = first_three(net);
+        let change = limit(net, self.variable, self.range.0, self.range.1);
+        let propagated = is_propagated(net);
+        (
+            made && propagated,
+            before,
+            change,
+            first_three(net),
+            net.stamp(1) == Some(0),
+        )
+    }
+}
+
+/// A range and a set that are equal, and the range becomes a single value.
+static EQUAL: Limited = Limited {
+    network: Network {
+        domains: &[Ends(0, 10), Members(&[2, 5, 9])],
+        constraints: &[Equal(0, 1)],
+    },
+    variable: 0,
+    range: (5, 5),
+};
+
+static EQUAL_LEFT: Narrowed = (
+    true,
+    [Some((true, 2, 9, 8)), Some((false, 2, 9, 3)), None],
+    Some(Change::Smaller),
+    [Some((true, 5, 5, 1)), Some((false, 5, 5, 1)), None],
+    false,
+);
 
 #[test]
 fn a_range_and_a_set_are_equal(rt: HostRuntime) {
-    let (propagated, before, change, after) = seen(rt.alloc(), &Equal);
-    assert!(rt; propagated);
-    assert!(rt; before == [Some((true, 2, 9, 8)), Some((false, 2, 9, 3))]);
-    assert!(rt; change == Some(Change::Smaller));
-    assert!(rt; after == [Some((true, 5, 5, 1)), Some((false, 5, 5, 1))]);
+    let left = EQUAL_LEFT;
+    assert!(rt; seen(rt.alloc(), &EQUAL) == left);
 }
 
-/// A range that is less than each member of a set.
-fn make_apart(net: &mut Net, alloc: Global) -> bool {
-    let added = add(net, alloc, Ends(0, 10)) == Some(0)
-        && add(net, alloc, Members([12, 15, 20])) == Some(1);
-    added && post_lt(net, 0, 1)
-}
+/// A range that is less than each member of a set, and the range becomes less.
+static APART: Limited = Limited {
+    network: Network {
+        domains: &[Ends(0, 10), Members(&[12, 15, 20])],
+        constraints: &[Less(0, 1)],
+    },
+    variable: 0,
+    range: (4, 7),
+};
 
-/// What is left of the range and the set after the range has become less, and how often the set was written.
-fn run_apart(net: &mut Net, alloc: Global) -> (bool, [Option<Shape>; 2], Option<u64>) {
-    let made = make_apart(net, alloc) && net.propagate_all().is_ok();
-    let propagated = limit(net, 0, 4, 7).is_some() && net.propagate_all().is_ok();
-    let after = [left(net, 0), left(net, 1)];
-    (made && propagated, after, net.stamp(1))
-}
-
-#[derive(Clone, Copy)]
-struct Apart;
-
-impl Run for Apart {
-    type Seen = (bool, [Option<Shape>; 2], Option<u64>);
-
-    fn run(&self, net: &mut Net, alloc: Global) -> (bool, [Option<Shape>; 2], Option<u64>) {
-        run_apart(net, alloc)
-    }
-}
+static APART_LEFT: Narrowed = (
+    true,
+    [Some((true, 0, 10, 11)), Some((false, 12, 20, 3)), None],
+    Some(Change::Smaller),
+    [Some((true, 4, 7, 4)), Some((false, 12, 20, 3)), None],
+    true,
+);
 
 #[test]
 fn a_set_that_stays_is_not_written(rt: HostRuntime) {
-    let (propagated, after, written) = seen(rt.alloc(), &Apart);
-    assert!(rt; propagated);
-    assert!(rt; after == [Some((true, 4, 7, 4)), Some((false, 12, 20, 3))]);
-    assert!(rt; written == Some(0));
+    let left = APART_LEFT;
+    assert!(rt; seen(rt.alloc(), &APART) == left);
 }
 
-/// z is three times x, and b says whether x is at most 2.
-fn make_product(net: &mut Net, alloc: Global) -> bool {
-    let added = add(net, alloc, Ends(0, 10)) == Some(0)
-        && add(net, alloc, Ends(0, 10)) == Some(1)
-        && add(net, alloc, Members([0, 1, 1])) == Some(2);
-    added && post_thrice(net, 0, 1) && post_at_most_two(net, 2, 0)
-}
+/// z is three times x, b says whether x is at most 2, and b becomes false.
+static PRODUCT: Limited = Limited {
+    network: Network {
+        domains: &[Ends(0, 10), Ends(0, 10), Members(&[0, 1, 1])],
+        constraints: &[Thrice(0, 1), AtMostTwo(2, 0)],
+    },
+    variable: 2,
+    range: (0, 0),
+};
 
-/// What is left of x, z and b, and again after b has become false.
-fn run_product(net: &mut Net, alloc: Global) -> (bool, [Option<Shape>; 3], [Option<Shape>; 3]) {
-    let made = make_product(net, alloc) && net.propagate_all().is_ok();
-    let before = [left(net, 0), left(net, 1), left(net, 2)];
-    let propagated = limit(net, 2, 0, 0).is_some() && net.propagate_all().is_ok();
-    let after = [left(net, 0), left(net, 1), left(net, 2)];
-    (made && propagated, before, after)
-}
-
-#[derive(Clone, Copy)]
-struct Product;
-
-impl Run for Product {
-    type Seen = (bool, [Option<Shape>; 3], [Option<Shape>; 3]);
-
-    fn run(&self, net: &mut Net, alloc: Global) -> (bool, [Option<Shape>; 3], [Option<Shape>; 3]) {
-        run_product(net, alloc)
-    }
-}
-
-#[test]
-fn a_product_is_propagated_before_and_after_a_test_is_false(rt: HostRuntime) {
-    let (propagated, before, after) = seen(rt.alloc(), &Product);
-    assert!(rt; propagated);
-    let open = [
+static PRODUCT_LEFT: Narrowed = (
+    true,
+    [
         Some((true, 0, 3, 4)),
         Some((true, 0, 9, 10)),
         Some((false, 0, 1, 2)),
-    ];
-    assert!(rt; before == open);
-    let decided = [
+    ],
+    Some(Change::Smaller),
+    [
         Some((true, 3, 3, 1)),
         Some((true, 9, 9, 1)),
         Some((false, 0, 0, 1)),
-    ];
-    assert!(rt; after == decided);
+    ],
+    false,
+);
+
+#[test]
+fn a_product_is_propagated_before_and_after_a_test_is_false(rt: HostRuntime) {
+    let left = PRODUCT_LEFT;
+    assert!(rt; seen(rt.alloc(), &PRODUCT) == left);
 }
 
-/// Each of two variables is less than the other.
-fn make_contradiction(net: &mut Net, alloc: Global) -> bool {
-    let added = add(net, alloc, Ends(LEAST_VALUE, GREATEST_VALUE)) == Some(0)
-        && add(net, alloc, Ends(LEAST_VALUE, GREATEST_VALUE)) == Some(1);
-    added && post_lt(net, 0, 1) && post_lt(net, 1, 0)
-}
-
-/// Why the two can't be propagated.
-fn run_contradiction(net: &mut Net, alloc: Global) -> (bool, Option<NetFault>) {
-    let made = make_contradiction(net, alloc);
-    (made, net.propagate_all().err())
-}
-
-#[derive(Clone, Copy)]
-struct Contradiction;
-
-impl Run for Contradiction {
+/// Whether a network was made, and why it can't be propagated.
+impl Run for Network {
     type Seen = (bool, Option<NetFault>);
 
     fn run(&self, net: &mut Net, alloc: Global) -> (bool, Option<NetFault>) {
-        run_contradiction(net, alloc)
+        let made = is_made(net, alloc, self);
+        (made, net.propagate_all().err())
     }
 }
 
+/// Each of two variables is less than the other.
+static CONTRADICTION: Network = Network {
+    domains: &[
+        Ends(LEAST_VALUE, GREATEST_VALUE),
+        Ends(LEAST_VALUE, GREATEST_VALUE),
+    ],
+    constraints: &[Less(0, 1), Less(1, 0)],
+};
+
 #[test]
 fn orders_that_contradict_each_other_collapse(rt: HostRuntime) {
-    assert!(rt; seen(rt.alloc(), &Contradiction) == (true, Some(NetFault::Collapsed)));
+    assert!(rt; seen(rt.alloc(), &CONTRADICTION) == (true, Some(NetFault::Collapsed)));
 }
 
 /// Objects with 5 in a field.
@@ -265,16 +310,14 @@ fn post_field(net: &mut Net, objects: Dom) -> bool
     net.post(Kind::Field(capacity), &args).is_ok()
 }
 
-/// What is left of the objects.
-fn run_field(net: &mut Net, alloc: Global) -> (bool, Option<Shape>)
+/// Whether there is such a field now.
+fn is_field_posted(net: &mut Net, alloc: Global) -> bool
     requires { length net.old.tables ≡ 0 }
 {
-    let posted = match made(alloc, Members([0, 1, 2])) {
+    match made(alloc, Members(&[0, 1, 2])) {
         Some(objects) => post_field(net, objects),
         None => false,
-    };
-    let propagated = net.propagate_all().is_ok();
-    (posted && propagated, left(net, 0))
+    }
 }
 
 #[derive(Clone, Copy)]
@@ -283,8 +326,11 @@ struct FieldRead;
 impl Run for FieldRead {
     type Seen = (bool, Option<Shape>);
 
+    /// What is left of the objects.
     fn run(&self, net: &mut Net, alloc: Global) -> (bool, Option<Shape>) {
-        run_field(net, alloc)
+        let posted = is_field_posted(net, alloc);
+        let propagated = is_propagated(net);
+        (posted && propagated, left(net, 0))
     }
 }
 
@@ -306,20 +352,6 @@ fn make_chain(net: &mut Net, alloc: Global, count: usize) -> bool {
     true
 }
 
-/// How many narrowings propagation takes after the first of so many variables has become less, and what is left of the
-/// last one.
-fn run_chain(net: &mut Net, alloc: Global, count: usize) -> (bool, u64, Option<Shape>) {
-    let made = make_chain(net, alloc, count) && net.propagate_all().is_ok();
-    let before = net.work();
-    let propagated = limit(net, 0, 7, 9).is_some() && net.propagate_all().is_ok();
-    let spent = net.work().saturating_sub(before);
-    (
-        made && propagated,
-        spent,
-        left(net, count.saturating_sub(1)),
-    )
-}
-
 /// A chain of so many variables.
 #[derive(Clone, Copy)]
 struct Chain(usize);
@@ -327,8 +359,14 @@ struct Chain(usize);
 impl Run for Chain {
     type Seen = (bool, u64, Option<Shape>);
 
+    /// How many narrowings propagation takes after the first variable has become less, and what is left of the last one.
     fn run(&self, net: &mut Net, alloc: Global) -> (bool, u64, Option<Shape>) {
-        run_chain(net, alloc, self.0)
+        let made = make_chain(net, alloc, self.0) && is_propagated(net);
+        let before = net.work();
+        let propagated = limit(net, 0, 7, 9).is_some() && is_propagated(net);
+        let spent = net.work().saturating_sub(before);
+        let last = left(net, self.0.saturating_sub(1));
+        (made && propagated, spent, last)
     }
 }
 
@@ -338,6 +376,11 @@ fn a_chain_takes_three_narrowings_a_variable(rt: HostRuntime) {
     assert!(rt; propagated);
     assert!(rt; spent <= 300, "{spent}");
     assert!(rt; last == Some((true, 7, 1000, 994)));
+}
+
+/// A chain of three variables, and a fourth by itself.
+fn make_three_and_one(net: &mut Net, alloc: Global) -> bool {
+    make_chain(net, alloc, 3) && add(net, alloc, Ends(0, 9)) == Some(3)
 }
 
 /// Limits the variable, where there is one, and keeps the marks.
@@ -368,12 +411,29 @@ type Visited = (
     [Option<u64>; 3],
 );
 
+/// Limits the variable to a range, and keeps the marks.
+fn keep_range(net: &mut Net, variable: usize, ends: (i32, i32)) -> bool
+    ensures { KeepMarks net.old net.new }
+{
+    match Dom::range(ends.0, ends.1) {
+        Some(range) => keep(net, variable, &range),
+        None => false,
+    }
+}
+
+/// To where the first and the third variable of a chain become less, by their ends, and back.
+#[derive(Clone, Copy)]
+struct Journey {
+    first: (i32, i32),
+    third: (i32, i32),
+}
+
 /// Propagation after the first and the third variable became less, once more, and the third before and after going
 /// back, with how often it and the fourth were written.
-fn there_and_back(net: &mut Net, first: &Dom, third: &Dom) -> Visited {
+fn there_and_back(net: &mut Net, journey: &Journey) -> Visited {
     let mark = net.mark();
-    let low = keep(net, 0, first);
-    let high = keep(net, 2, third);
+    let low = keep_range(net, 0, journey.first);
+    let high = keep_range(net, 2, journey.third);
     let faults = [propagate(net), propagate(net)];
     let inside = left(net, 2);
     let risen = net.stamp(2);
@@ -386,34 +446,14 @@ fn there_and_back(net: &mut Net, first: &Dom, third: &Dom) -> Visited {
     )
 }
 
-/// Going there and back on a chain of three, and a fourth variable by itself: the faults, what the third may be, how
-/// often it and the fourth were written, and whether the network propagates after going back.
-fn run_back(net: &mut Net, alloc: Global, first: &Dom, third: &Dom) -> Option<(Visited, bool)> {
-    if !make_chain(net, alloc, 3) || add(net, alloc, Ends(0, 9)) != Some(3) {
-        return None;
-    }
-    let visited = there_and_back(net, first, third);
-    Some((visited, net.propagate_all().is_ok()))
-}
-
-/// To where the first and the third variable of a chain become less, by their ends, and back.
-#[derive(Clone, Copy)]
-struct Journey {
-    first: (i32, i32),
-    third: (i32, i32),
-}
-
 impl Run for Journey {
-    type Seen = Option<(Visited, bool)>;
+    type Seen = (bool, Visited, bool);
 
-    fn run(&self, net: &mut Net, alloc: Global) -> Option<(Visited, bool)> {
-        match Dom::range(self.first.0, self.first.1) {
-            Some(first) => match Dom::range(self.third.0, self.third.1) {
-                Some(third) => run_back(net, alloc, &first, &third),
-                None => None,
-            },
-            None => None,
-        }
+    /// Whether there was memory for the network, what was seen on the way, and whether it propagates after going back.
+    fn run(&self, net: &mut Net, alloc: Global) -> (bool, Visited, bool) {
+        let made = make_three_and_one(net, alloc);
+        let visited = there_and_back(net, self);
+        (made, visited, is_propagated(net))
     }
 }
 
@@ -430,41 +470,37 @@ fn a_chain_goes_back_to_a_mark(rt: HostRuntime) {
         first: (7, 9),
         third: (0, 1000),
     };
-    assert!(rt; seen(rt.alloc(), &journey) == Some((visited, true)));
+    assert!(rt; seen(rt.alloc(), &journey) == (true, visited, true));
 }
 
-/// The first four variables on the list of those that have changed, after the first of a chain of three became less and
-/// the network propagated.
-fn run_changed(net: &mut Net, alloc: Global) -> Option<[Option<usize>; 4]> {
-    if !make_chain(net, alloc, 3) || add(net, alloc, Ends(0, 9)) != Some(3) {
-        return None;
-    }
-    if limit(net, 0, 7, 9).is_none() || net.propagate_all().is_err() {
-        return None;
-    }
-    Some([
+/// The first four variables on the list of those that have changed.
+fn first_changed(net: &mut Net) -> [Option<usize>; 4] {
+    [
         net.next_changed(),
         net.next_changed(),
         net.next_changed(),
         net.next_changed(),
-    ])
+    ]
 }
 
 #[derive(Clone, Copy)]
 struct Changes;
 
 impl Run for Changes {
-    type Seen = Option<[Option<usize>; 4]>;
+    type Seen = (bool, [Option<usize>; 4]);
 
-    fn run(&self, net: &mut Net, alloc: Global) -> Option<[Option<usize>; 4]> {
-        run_changed(net, alloc)
+    /// What has changed after the first variable became less and the network propagated.
+    fn run(&self, net: &mut Net, alloc: Global) -> (bool, [Option<usize>; 4]) {
+        let made = make_three_and_one(net, alloc);
+        let propagated = limit(net, 0, 7, 9).is_some() && is_propagated(net);
+        (made && propagated, first_changed(net))
     }
 }
 
 #[test]
 fn a_network_tells_what_has_changed(rt: HostRuntime) {
     let changed = [Some(0), Some(1), Some(2), None];
-    assert!(rt; seen(rt.alloc(), &Changes) == Some(changed));
+    assert!(rt; seen(rt.alloc(), &Changes) == (true, changed));
 }
 
 #[test]
@@ -476,5 +512,5 @@ fn a_collapsed_chain_is_propagated_after_going_back(rt: HostRuntime) {
         first: (7, 9),
         third: (0, 5),
     };
-    assert!(rt; seen(rt.alloc(), &journey) == Some((visited, true)));
+    assert!(rt; seen(rt.alloc(), &journey) == (true, visited, true));
 }

@@ -4,12 +4,14 @@ ghost use Rattle.model_core.specs.declared.variable.Base.{Base};
 ghost use Rattle.model_core.specs.Lawful.{IsLawful};
 ghost use Rattle.model_core.specs.Variables.{HasBase};
 
+use super::names;
+use super::rows::{Row, assert_rows};
 use super::sample::sample;
+use Named::{Token, Variable};
 use eu_name::name::{Part, TokenName, VarName};
 use eu_name::name_text::NameText;
 use eu_name::reading::read_name;
 use eu_name::sequence::Sequence;
-use eu_name::writing::write_name;
 use model_core::decision::Decision;
 use model_core::model::Model;
 use std::alloc::Global;
@@ -17,43 +19,59 @@ use std::alloc::Global;
 /// A token in numbers: its root, how many steps there are, and the rule and the slot of the last.
 type Numbers = (u32, usize, u16, u16);
 
-/// Texts, and the tokens that they name.
-const TOKENS: [(&str, Option<Numbers>); 11] = [
-    ("here", Some((0, 0, 0, 0))),
-    ("here/0:0", Some((0, 1, 0, 0))),
-    ("here/0:0/0:0", Some((0, 2, 0, 0))),
-    ("there", None),
-    ("total", None),
-    ("here/1:0", None),
-    ("here/0:1", None),
-    ("here/0:0/0:1", None),
-    ("here.start", None),
-    ("here/0!0", None),
-    ("!1", None),
+/// A global, or a part or a local of a token, with its number.
+type Described = (&'static str, Numbers, u32);
+
+/// A text, and the token or the variable of the small problem that it names.
+enum Named {
+    Token(&'static str, Option<Numbers>),
+    Variable(&'static str, Option<Described>),
+}
+
+impl Row for Named {
+    fn holds(&self, alloc: Global) -> bool {
+        match sample(alloc) {
+            Ok(model) => holds_in(alloc, &model, self),
+            Err(_) => false,
+        }
+    }
+}
+
+static TOKENS: [Named; 11] = [
+    Token("here", Some((0, 0, 0, 0))),
+    Token("here/0:0", Some((0, 1, 0, 0))),
+    Token("here/0:0/0:0", Some((0, 2, 0, 0))),
+    Token("there", None),
+    Token("total", None),
+    Token("here/1:0", None),
+    Token("here/0:1", None),
+    Token("here/0:0/0:1", None),
+    Token("here.start", None),
+    Token("here/0!0", None),
+    Token("!1", None),
 ];
 
-/// Texts, and what they name: a global, or a part or a local of a token, with its number.
-const VARIABLES: [(&str, Option<(&str, Numbers, u32)>); 20] = [
-    ("total", Some(("global", (0, 0, 0, 0), 0))),
-    ("!1", Some(("global", (0, 0, 0, 0), 1))),
-    ("here.start", Some(("start", (0, 0, 0, 0), 0))),
-    ("here.end", Some(("end", (0, 0, 0, 0), 0))),
-    ("here.duration", Some(("duration", (0, 0, 0, 0), 0))),
-    ("here.object", Some(("object", (0, 0, 0, 0), 0))),
-    ("here.place", Some(("param", (0, 0, 0, 0), 0))),
-    ("here/0:0.place", Some(("param", (0, 1, 0, 0), 0))),
-    ("here/0!0", Some(("local", (0, 0, 0, 0), 0))),
-    ("here/0:0/0!0", Some(("local", (0, 1, 0, 0), 0))),
-    ("here", None),
-    ("there.start", None),
-    ("total.start", None),
-    ("total/0:0", None),
-    ("!0", None),
-    ("!2", None),
-    ("here.speed", None),
-    ("here/0:1.start", None),
-    ("here/1!0", None),
-    ("here/0!1", None),
+static VARIABLES: [Named; 20] = [
+    Variable("total", Some(("global", (0, 0, 0, 0), 0))),
+    Variable("!1", Some(("global", (0, 0, 0, 0), 1))),
+    Variable("here.start", Some(("start", (0, 0, 0, 0), 0))),
+    Variable("here.end", Some(("end", (0, 0, 0, 0), 0))),
+    Variable("here.duration", Some(("duration", (0, 0, 0, 0), 0))),
+    Variable("here.object", Some(("object", (0, 0, 0, 0), 0))),
+    Variable("here.place", Some(("param", (0, 0, 0, 0), 0))),
+    Variable("here/0:0.place", Some(("param", (0, 1, 0, 0), 0))),
+    Variable("here/0!0", Some(("local", (0, 0, 0, 0), 0))),
+    Variable("here/0:0/0!0", Some(("local", (0, 1, 0, 0), 0))),
+    Variable("here", None),
+    Variable("there.start", None),
+    Variable("total.start", None),
+    Variable("total/0:0", None),
+    Variable("!0", None),
+    Variable("!2", None),
+    Variable("here.speed", None),
+    Variable("here/0:1.start", None),
+    Variable("here/1!0", None),
+    Variable("here/0!1", None),
 ];
 
 // The token in numbers.
@@ -66,7 +84,7 @@ fn numbers(token: &TokenName) -> Numbers {
 }
 
 // The variable in numbers, with the word for what it is.
-fn described(variable: &VarName) -> (&'static str, Numbers, u32) {
+fn described(variable: &VarName) -> Described {
     match variable {
         VarName::Global(number) => ("global", (0, 0, 0, 0), *number),
         VarName::Token(token, Part::Start) => ("start", numbers(token), 0),
@@ -94,19 +112,13 @@ fn is_written(alloc: Global, model: &Model, variable: &VarName, text: &str) -> b
     requires { (base : Base) × HasBase model.now variable.now base }
 {
     match model.var_text(variable) {
-        Ok(name) =>
-            matches!(write_name(alloc, &name), Ok(spelling) if spelling.as_slice() == text.as_bytes()),
+        Ok(name) => names::is_written(alloc, &name, text),
         Err(_) => false,
     }
 }
 
 // The variable that the name names in the model, where the text is how it is written.
-fn variable_in(
-    alloc: Global,
-    model: &Model,
-    name: &NameText,
-    text: &str,
-) -> Option<(&'static str, Numbers, u32)>
+fn variable_in(alloc: Global, model: &Model, name: &NameText, text: &str) -> Option<Described>
     requires { IsLawful model.now }
 {
     match model.resolve_var(name) {
@@ -129,7 +141,7 @@ fn token_named(alloc: Global, model: &Model, text: &str) -> Option<Numbers>
 }
 
 // The variable of the model that the text names.
-fn variable_named(alloc: Global, model: &Model, text: &str) -> Option<(&'static str, Numbers, u32)>
+fn variable_named(alloc: Global, model: &Model, text: &str) -> Option<Described>
     requires { IsLawful model.now }
 {
     match read_name(alloc, text.as_bytes()) {
@@ -138,43 +150,42 @@ fn variable_named(alloc: Global, model: &Model, text: &str) -> Option<(&'static 
     }
 }
 
-// Whether the text names the token in the small problem.
-fn names_token(alloc: Global, row: &(&str, Option<Numbers>)) -> bool {
-    match sample(alloc) {
-        Ok(model) => token_named(alloc, &model, row.0) == row.1,
-        Err(_) => false,
-    }
-}
-
-// Whether the text names the variable in the small problem.
-fn names_variable(alloc: Global, row: &(&str, Option<(&str, Numbers, u32)>)) -> bool {
-    match sample(alloc) {
-        Ok(model) => variable_named(alloc, &model, row.0) == row.1,
-        Err(_) => false,
+// Whether the text names this in the model.
+fn holds_in(alloc: Global, model: &Model, named: &Named) -> bool
+    requires { IsLawful model.now }
+{
+    match named {
+        Token(text, token) => token_named(alloc, model, *text) == *token,
+        Variable(text, variable) => variable_named(alloc, model, *text) == *variable,
     }
 }
 
 #[test]
 fn texts_name_tokens(rt: HostRuntime) {
-    for row in &TOKENS {
-        assert!(rt; names_token(rt.alloc(), row), "{}", row.0);
-    }
+    assert_rows(&rt, &TOKENS);
 }
 
 #[test]
 fn texts_name_variables(rt: HostRuntime) {
-    for row in &VARIABLES {
-        assert!(rt; names_variable(rt.alloc(), row), "{}", row.0);
+    assert_rows(&rt, &VARIABLES);
+}
+
+/// A kind of decision, and the numbers in it: a variable and its value, or roots.
+struct CopiesDecision(&'static str, u32, i32);
+
+impl Row for CopiesDecision {
+    fn holds(&self, alloc: Global) -> bool {
+        let copied = copied(alloc, self.0, self.1, self.2);
+        copied == Some((self.0, self.1, i64::from(self.2)))
     }
 }
 
-/// The kinds of decisions, each with the numbers in it: a variable and its value, or roots.
-const DECISIONS: [(&str, u32, i32); 5] = [
-    ("specify", 7, -5),
-    ("activate", 1, 0),
-    ("reject", 2, 0),
-    ("merge", 3, 4),
-    ("order", 5, 6),
+static DECISIONS: [CopiesDecision; 5] = [
+    CopiesDecision("specify", 7, -5),
+    CopiesDecision("activate", 1, 0),
+    CopiesDecision("reject", 2, 0),
+    CopiesDecision("merge", 3, 4),
+    CopiesDecision("order", 5, 6),
 ];
 
 fn root(alloc: Global, number: u32) -> TokenName {
@@ -227,9 +238,5 @@ fn copied(alloc: Global, kind: &str, number: u32, other: i32) -> Option<(&'stati
 
 #[test]
 fn decisions_are_copied(rt: HostRuntime) {
-    for (kind, number, other) in &DECISIONS {
-        assert!(rt;
-            copied(rt.alloc(), kind, *number, *other) == Some((*kind, *number, i64::from(*other)))
-        );
-    }
+    assert_rows(&rt, &DECISIONS);
 }

@@ -3,7 +3,9 @@
 ghost use Rattle.std.specs.Prelude.{◌≤ℤ◌, pos};
 ghost use Rattle.resource_profile.specs.Level.{IsSmall};
 
+use super::rows::{Row, assert_rows};
 use resource_profile::{LevelChange, Use, level_out, over_use};
+use std::alloc::Global;
 
 fn usage(from: i32, until: i32, quantity: i32) -> Use
     requires { pos 0 ≤ℤ quantity }
@@ -36,20 +38,26 @@ fn over(capacity: u16) -> Option<i32> {
     over_use(&uses, i32::from(capacity))
 }
 
-/// Capacities, and when they are exceeded.
-const CAPACITIES: [(u16, Option<i32>); 5] = [
-    (0, Some(2)),
-    (1, Some(2)),
-    (2, Some(4)),
-    (3, Some(20)),
-    (4, None),
+/// A capacity, and when it is exceeded.
+struct Capacity(u16, Option<i32>);
+
+impl Row for Capacity {
+    fn holds(&self, _alloc: Global) -> bool {
+        over(self.0) == self.1
+    }
+}
+
+static CAPACITIES: [Capacity; 5] = [
+    Capacity(0, Some(2)),
+    Capacity(1, Some(2)),
+    Capacity(2, Some(4)),
+    Capacity(3, Some(20)),
+    Capacity(4, None),
 ];
 
 #[test]
 fn finds_the_first_over_use(rt: HostRuntime) {
-    for (capacity, expected) in &CAPACITIES {
-        assert!(rt; over(*capacity) == *expected, "at {capacity}");
-    }
+    assert_rows(&rt, &CAPACITIES);
 }
 
 /// When a level is out of its limits that is 3 at first, 8 from 2 on, 4 from 6 on, 9 from 8 on and -1 from 10 on, where
@@ -65,24 +73,27 @@ fn out(low: i32, high: i32, from: i32) -> Option<i32> {
     level_out(&changes, 3, low, high, from)
 }
 
-/// Limits and first instants, and when the level is out of them.
-const LIMITS: [(i32, i32, i32, Option<i32>); 8] = [
-    (0, 10, -5, Some(10)),
-    (0, 8, -5, Some(8)),
-    (0, 7, -5, Some(2)),
-    (0, 7, 3, Some(3)),
-    (0, 7, 6, Some(8)),
-    (4, 9, -5, Some(-5)),
-    (-1, 9, 0, None),
-    (0, 9, 11, Some(11)),
+/// Limits and the first instant, and when the level is out of them.
+struct Within(i32, i32, i32, Option<i32>);
+
+impl Row for Within {
+    fn holds(&self, _alloc: Global) -> bool {
+        out(self.0, self.1, self.2) == self.3
+    }
+}
+
+static LIMITS: [Within; 8] = [
+    Within(0, 10, -5, Some(10)),
+    Within(0, 8, -5, Some(8)),
+    Within(0, 7, -5, Some(2)),
+    Within(0, 7, 3, Some(3)),
+    Within(0, 7, 6, Some(8)),
+    Within(4, 9, -5, Some(-5)),
+    Within(-1, 9, 0, None),
+    Within(0, 9, 11, Some(11)),
 ];
 
 #[test]
 fn finds_the_first_level_out(rt: HostRuntime) {
-    for (low, high, from, expected) in &LIMITS {
-        assert!(rt;
-            out(*low, *high, *from) == *expected,
-            "in {low} to {high} from {from}"
-        );
-    }
+    assert_rows(&rt, &LIMITS);
 }

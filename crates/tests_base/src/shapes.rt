@@ -14,13 +14,13 @@ pub fn shape(domain: &Dom) -> Shape {
 #[derive(Clone, Copy)]
 pub enum Written {
     Ends(i32, i32),
-    Members([i32; 3]),
+    Members(&'static [i32]),
 }
 
 /// The domain that is written so.
 pub fn made(alloc: Global, written: Written) -> Option<Dom> {
     match written {
         Written::Ends(lo, hi) => Dom::range(lo, hi),
-        Written::Members(members) => Dom::set_of(alloc, members.as_slice()).ok(),
+        Written::Members(members) => Dom::set_of(alloc, members).ok(),
     }
 }

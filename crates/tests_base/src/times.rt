@@ -2,6 +2,7 @@
 
 ghost use Rattle.std.specs.Prelude.{◌<◌, ◌≤◌};
 
+use super::rows::{Row, assert_rows};
 use std::alloc::Global;
 use temporal_core::bounds::bounds;
 use temporal_core::edges::Edges;
@@ -71,9 +72,9 @@ fn have_a_cycle(alloc: Global, points: u32, list: &[Written], places: &[u32]) ->
     are_added(&mut edges, list) && is_told(&edges, places)
 }
 
-const THREE: [Written; 3] = [(0, 0, 1), (1, 3, 2), (2, -10, 0)];
+static THREE: [Written; 3] = [(0, 0, 1), (1, 3, 2), (2, -10, 0)];
 
-const FOUR: [Written; 2] = [(0, 5, 1), (2, -1, 0)];
+static FOUR: [Written; 2] = [(0, 5, 1), (2, -1, 0)];
 
 #[test]
 fn points_have_bounds(rt: HostRuntime) {
@@ -144,21 +145,27 @@ fn is_cycle(alloc: Global, places: &[u32]) -> Option<bool> {
 }
 
 /// Places of edges, and whether they are such a cycle.
-const PLACES: [(&[u32], bool); 9] = [
-    (&[0, 3], true),
-    (&[3, 0], true),
-    (&[4], true),
-    (&[0, 1, 2], false),
-    (&[0, 3, 0, 3], false),
-    (&[0, 1], false),
-    (&[3], false),
-    (&[], false),
-    (&[5], false),
+struct Placed(&'static [u32], bool);
+
+impl Row for Placed {
+    fn holds(&self, alloc: Global) -> bool {
+        is_cycle(alloc, self.0) == Some(self.1)
+    }
+}
+
+static PLACES: [Placed; 9] = [
+    Placed(&[0, 3], true),
+    Placed(&[3, 0], true),
+    Placed(&[4], true),
+    Placed(&[0, 1, 2], false),
+    Placed(&[0, 3, 0, 3], false),
+    Placed(&[0, 1], false),
+    Placed(&[3], false),
+    Placed(&[], false),
+    Placed(&[5], false),
 ];
 
 #[test]
 fn tells_cycles_from_others(rt: HostRuntime) {
-    for (place, (places, expected)) in PLACES.iter().enumerate() {
-        assert!(rt; is_cycle(rt.alloc(), *places) == Some(*expected), "{place}");
-    }
+    assert_rows(&rt, &PLACES);
 }

@@ -1,9 +1,7 @@
 //! What is wrong first with the names and types of texts, by hand from what the language allows.
 
-use super::answers::Sought;
-use super::repeating::repeated;
-use super::rows::{Asked, assert_rows};
-use std::alloc::{AllocError, Global};
+use super::asked::Sought;
+use super::rows::assert_rows;
 
 // A text, and maybe that of the file `q`.
 const FIRST: &str = "
@@ -83,31 +81,19 @@ eq(q, 1); N::P { x y; } class A { } typedef A T; A x = new T(1); x.close(); | fi
 
 #[test]
 fn texts_have_these_first_faults(rt: HostRuntime) {
-    assert_rows(&rt, &Sought::Fault, FIRST);
-}
-
-/// The first fault of a text with a repeated piece.
-struct WithPieces;
-
-impl Asked for WithPieces {
-    fn answer(&self, alloc: Global, given: &str) -> Result<String, AllocError> {
-        match repeated(alloc, given) {
-            Ok(text) => Sought::Fault.answer(alloc, text.as_str()),
-            Err(none) => Err(none),
-        }
-    }
+    assert_rows(&rt, Sought::Fault, "", FIRST);
 }
 
 const PIECES: &str = "
-enum E { m<, m#> } | 4095 | fine
-enum E { m<, m#> } | 4096 | Limit:members m 7
-int {-1, -1<, #>} x; | 4095 | fine
-int {-1, -1<, #>} x; | 4096 | Limit:members m 4
-class A { predicate P { <int v#;> } } | 32 | fine
-class A { predicate P { <int v#;> } } | 33 | Limit:parameters m 20
+enum E { m<<4095 , m#>> } | fine
+enum E { m<<4096 , m#>> } | Limit:members m 7
+int {-1, -1<<4095 , #>>} x; | fine
+int {-1, -1<<4096 , #>>} x; | Limit:members m 4
+class A { predicate P { <<32 int v#;>> } } | fine
+class A { predicate P { <<33 int v#;>> } } | Limit:parameters m 20
 ";
 
 #[test]
 fn members_and_parameters_are_limited(rt: HostRuntime) {
-    assert_rows(&rt, &WithPieces, PIECES);
+    assert_rows(&rt, Sought::Fault, "", PIECES);
 }

@@ -5,21 +5,17 @@
 #![tactic(auto)]
 
 #[cfg(test)]
-mod answers;
+mod asked;
 #[cfg(test)]
 mod faults;
 #[cfg(test)]
 mod programs;
-#[cfg(test)]
-mod repeating;
 #[cfg(test)]
 mod rows;
 #[cfg(test)]
 mod rules;
 #[cfg(test)]
 mod scopes;
-#[cfg(test)]
-mod shelves;
 #[cfg(test)]
 mod sites;
 #[cfg(test)]

@@ -1,45 +1,7 @@
 //! What is wrong first with whole programs, by hand from what the language allows.
 
-ghost use Rattle.nddl_laws.specs.Given.{AreGiven};
-
-use super::answers::fault_words;
-use super::repeating::repeated;
-use super::rows::{Asked, assert_rows};
-use super::shelves::pair;
-use nddl_ast::declaration::FileDecls;
-use nddl_parser::read_all;
-use nddl_problem::compile;
-use std::alloc::{AllocError, Global};
-
-/// What is wrong first with the files.
-fn answer(alloc: Global, files: &[FileDecls]) -> Result<String, AllocError>
-    requires { AreGiven files.now }
-{
-    match compile(alloc, files) {
-        Ok(_) => String::from_str(alloc, "fine"),
-        Err(fault) => fault_words(alloc, &fault),
-    }
-}
-
-/// What is wrong first with the file `m` of the first text, beside a file `q` of the second.
-#[tactic(auto, using(crate::proofs::Given::read_given))]
-fn told(alloc: Global, text: &str, other: &str) -> Result<String, AllocError> {
-    let mut files = pair(alloc, text, other)?;
-    match read_all(alloc, &mut files, "m") {
-        Ok(read) => answer(alloc, read.as_slice()),
-        Err(_) => String::from_str(alloc, "not read"),
-    }
-}
-
-/// What is wrong first with a text, and maybe that of the file `q`.
-struct Program;
-
-impl Asked for Program {
-    fn answer(&self, alloc: Global, given: &str) -> Result<String, AllocError> {
-        let (text, other) = given.split_once(" | ").unwrap_or((given, ""));
-        told(alloc, text, other)
-    }
-}
+use super::asked::Sought;
+use super::rows::assert_rows;
 
 const STATED: &str = "
 eq(q, 1); A::P { } class A { predicate P { } } | Unknown m 3
@@ -87,7 +49,7 @@ Reusable u = new Reusable(3); goal(u.uses g); | fine
 
 #[test]
 fn constraints_and_posted_tokens_have_these_first_faults(rt: HostRuntime) {
-    assert_rows(&rt, &Program, STATED);
+    assert_rows(&rt, Sought::Program, "", STATED);
 }
 
 const BEGUN: &str = "
@@ -128,7 +90,7 @@ class A { int k; A() { k = 1; } predicate P { int v; } } A a = new A(); goal(a.P
 
 #[test]
 fn globals_and_decisions_have_these_first_faults(rt: HostRuntime) {
-    assert_rows(&rt, &Program, BEGUN);
+    assert_rows(&rt, Sought::Program, "", BEGUN);
 }
 
 const MADE: &str = "
@@ -165,55 +127,43 @@ int x; #include \"q\" eq(y, 1); | eq(z, 1); | Unknown q 3
 
 #[test]
 fn objects_and_files_have_these_first_faults(rt: HostRuntime) {
-    assert_rows(&rt, &Program, MADE);
-}
-
-/// What is wrong first with a text with a repeated piece.
-struct WithPieces;
-
-impl Asked for WithPieces {
-    fn answer(&self, alloc: Global, given: &str) -> Result<String, AllocError> {
-        match repeated(alloc, given) {
-            Ok(text) => told(alloc, text.as_str(), ""),
-            Err(none) => Err(none),
-        }
-    }
+    assert_rows(&rt, Sought::Program, "", MADE);
 }
 
 const PIECES: &str = "
-class A { predicate P { } } A a = new A(); <goal(a.P g#);> | 4096 | fine
-class A { predicate P { } } A a = new A(); <goal(a.P g#);> | 4097 | Limit:roots m 64469
-class A { predicate P { } } A a = new A(); <fact(a.P g#);> | 512 | fine
-class A { predicate P { } } A a = new A(); <fact(a.P g#);> | 513 | Limit:facts m 7613
-<int x#;> | 4096 | fine
-<int x#;> | 4097 | Limit:globals m 39854
-class K { int k; K(int n) { k = n; } } class L { K f; L() { f = new K(1); } } L o = new L(); L x; <int y#;> eq(x.f.k, 1); eq(x.f, x.f); \
-    | 4091 | fine
-class K { int k; K(int n) { k = n; } } class L { K f; L() { f = new K(1); } } L o = new L(); L x; <int y#;> eq(x.f.k, 1); eq(x.f, x.f); \
-    eq(y0, x.f.k); | 4091 | Limit:globals m 39934
-class K { int k; K(int n) { k = n; } } class L { K f; L() { f = new K(1); } } L o = new L(); L x; <int y#;> eq(o.f.k, 1); eq(x.f, x.f); \
-    x.f.k.specify(1); | 4092 | Limit:globals m 39937
-class A { } <A a# = new A();> | 4096 | fine
-class A { } <A a# = new A();> | 4097 | Limit:objects m 72644
-class A { int k; A() { k = 1; } predicate P { int v; bool b; } predicate Q { } } A r = new A(); A::P { <leq(v, #); >} | 1024 | fine
-class A { int k; A() { k = 1; } predicate P { int v; bool b; } predicate Q { } } A r = new A(); A::P { <leq(v, #); >} | 1025 | \
+class A { predicate P { } } A a = new A(); <<4096 goal(a.P g#);>> | fine
+class A { predicate P { } } A a = new A(); <<4097 goal(a.P g#);>> | Limit:roots m 64469
+class A { predicate P { } } A a = new A(); <<512 fact(a.P g#);>> | fine
+class A { predicate P { } } A a = new A(); <<513 fact(a.P g#);>> | Limit:facts m 7613
+<<4096 int x#;>> | fine
+<<4097 int x#;>> | Limit:globals m 39854
+class K { int k; K(int n) { k = n; } } class L { K f; L() { f = new K(1); } } L o = new L(); L x; <<4091 int y#;>> eq(x.f.k, 1); eq(x.f, x.f); \
+    | fine
+class K { int k; K(int n) { k = n; } } class L { K f; L() { f = new K(1); } } L o = new L(); L x; <<4091 int y#;>> eq(x.f.k, 1); eq(x.f, x.f); \
+    eq(y0, x.f.k); | Limit:globals m 39934
+class K { int k; K(int n) { k = n; } } class L { K f; L() { f = new K(1); } } L o = new L(); L x; <<4092 int y#;>> eq(o.f.k, 1); eq(x.f, x.f); \
+    x.f.k.specify(1); | Limit:globals m 39937
+class A { } <<4096 A a# = new A();>> | fine
+class A { } <<4097 A a# = new A();>> | Limit:objects m 72644
+class A { int k; A() { k = 1; } predicate P { int v; bool b; } predicate Q { } } A r = new A(); A::P { <<1024 leq(v, #); >>} | fine
+class A { int k; A() { k = 1; } predicate P { int v; bool b; } predicate Q { } } A r = new A(); A::P { <<1025 leq(v, #); >>} | \
     Limit:items m 96
-class A { int k; A() { k = 1; } predicate P { int v; bool b; } predicate Q { } } A r = new A(); A::P { <if (v == #) { } >} | 1024 | fine
-class A { int k; A() { k = 1; } predicate P { int v; bool b; } predicate Q { } } A r = new A(); A::P { <if (v == #) { } >} | 1025 | \
+class A { int k; A() { k = 1; } predicate P { int v; bool b; } predicate Q { } } A r = new A(); A::P { <<1024 if (v == #) { } >>} | fine
+class A { int k; A() { k = 1; } predicate P { int v; bool b; } predicate Q { } } A r = new A(); A::P { <<1025 if (v == #) { } >>} | \
     Limit:guards m 96
-class A { int k; A() { k = 1; } predicate P { int v; bool b; } predicate Q { } } A r = new A(); A::P { <any(object.Q s#); >} | 128 | fine
-class A { int k; A() { k = 1; } predicate P { int v; bool b; } predicate Q { } } A r = new A(); A::P { <any(object.Q s#); >} | 129 | \
+class A { int k; A() { k = 1; } predicate P { int v; bool b; } predicate Q { } } A r = new A(); A::P { <<128 any(object.Q s#); >>} | fine
+class A { int k; A() { k = 1; } predicate P { int v; bool b; } predicate Q { } } A r = new A(); A::P { <<129 any(object.Q s#); >>} | \
     Limit:slots m 96
-class A { int k; A() { k = 1; } predicate P { int v; bool b; } predicate Q { } } A r = new A(); A::P { <int x#; >} | 128 | fine
-class A { int k; A() { k = 1; } predicate P { int v; bool b; } predicate Q { } } A r = new A(); A::P { <int x#; >} | 129 | Limit:locals m 96
-class A { predicate P { } } <A::P { eq(duration, #); } > | 1024 | fine
-class A { predicate P { } } <A::P { eq(duration, #); } > | 1025 | Limit:rules m 28614
-class A { predicate P { } } <A a# = new A();> A::P { foreach (o in A) { foreach (p in A) { } } } | 255 | fine
-class A { predicate P { } } <A a# = new A();> A::P { foreach (o in A) { foreach (p in A) { } } } | 256 | Limit:turns m 4271
-class A { predicate P {  <leq(start, #); >} } | 1025 | Limit:items m 20
+class A { int k; A() { k = 1; } predicate P { int v; bool b; } predicate Q { } } A r = new A(); A::P { <<128 int x#; >>} | fine
+class A { int k; A() { k = 1; } predicate P { int v; bool b; } predicate Q { } } A r = new A(); A::P { <<129 int x#; >>} | Limit:locals m 96
+class A { predicate P { } } <<1024 A::P { eq(duration, #); } >> | fine
+class A { predicate P { } } <<1025 A::P { eq(duration, #); } >> | Limit:rules m 28614
+class A { predicate P { } } <<255 A a# = new A();>> A::P { foreach (o in A) { foreach (p in A) { } } } | fine
+class A { predicate P { } } <<256 A a# = new A();>> A::P { foreach (o in A) { foreach (p in A) { } } } | Limit:turns m 4271
+class A { predicate P {  <<1025 leq(start, #); >>} } | Limit:items m 20
 ";
 
 #[test]
 fn programs_are_limited(rt: HostRuntime) {
-    assert_rows(&rt, &WithPieces, PIECES);
+    assert_rows(&rt, Sought::Program, "", PIECES);
 }

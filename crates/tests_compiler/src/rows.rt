@@ -1,13 +1,28 @@
 //! Tables in texts: a row is a line, and its last field, behind ` | `, is what is answered to what stands before it. One text
 //! costs the prover little, where an array of as many texts costs it seconds.
 
+use super::asked::{Sought, told};
 use std::alloc::{AllocError, Global};
 use std::process::Abort;
+use tests_samples::repeating::repeated;
 
-/// What is asked of each row of a table.
-pub trait Asked {
-    /// What is answered to this, in words.
-    fn answer(&self, alloc: Global, given: &str) -> Result<String, AllocError>;
+/// What is asked of the text, where there is one, beside a file `q` of the other.
+fn told_beside(
+    alloc: Global,
+    sought: Sought,
+    text: Result<String, AllocError>,
+    other: &str,
+) -> Result<String, AllocError> {
+    match text {
+        Ok(text) => told(alloc, sought, text.as_str(), other),
+        Err(none) => Err(none),
+    }
+}
+
+/// What is asked of a text, in which a piece may be repeated, and maybe that of the file `q`.
+fn answer(alloc: Global, sought: Sought, other: &str, given: &str) -> Result<String, AllocError> {
+    let (text, other) = given.split_once(" | ").unwrap_or((given, other));
+    told_beside(alloc, sought, repeated(alloc, text), other)
 }
 
 /// Whether these are the words, up to blanks at their end.
@@ -18,28 +33,16 @@ fn is_text(found: Result<String, AllocError>, wanted: &str) -> bool {
     }
 }
 
-/// Asserts that this is answered so.
-pub fn assert_answer<R: Abort + AllocGlobal, A: Asked>(
-    rt: &R,
-    asked: &A,
-    given: &str,
-    wanted: &str,
-) {
-    if !is_text(asked.answer(rt.alloc(), given), wanted) {
-        panic!(rt; "{given} | {wanted}");
+fn assert_row<R: Abort + AllocGlobal>(rt: &R, sought: Sought, other: &str, row: &str) {
+    let (given, wanted) = row.rsplit_once(" | ").unwrap_or((row, ""));
+    if !is_text(answer(rt.alloc(), sought, other, given), wanted) {
+        panic!(rt; "{row}");
     }
 }
 
-fn assert_row<R: Abort + AllocGlobal, A: Asked>(rt: &R, asked: &A, row: &str) {
-    if !row.is_empty() {
-        let (given, wanted) = row.rsplit_once(" | ").unwrap_or((row, ""));
-        assert_answer(rt, asked, given, wanted);
-    }
-}
-
-/// Asserts that each row of the table is answered so. Empty lines are no rows.
-pub fn assert_rows<R: Abort + AllocGlobal, A: Asked>(rt: &R, asked: &A, table: &str) {
-    for row in table.split('\n') {
-        assert_row(rt, asked, row);
+/// Asserts that each row of the table is answered so, with this text of the file `q` where the row has none.
+pub fn assert_rows<R: Abort + AllocGlobal>(rt: &R, sought: Sought, other: &str, table: &str) {
+    for row in table.trim().split('\n') {
+        assert_row(rt, sought, other, row);
     }
 }

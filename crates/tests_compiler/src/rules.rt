@@ -1,12 +1,11 @@
 //! Copies of rules.
 
-use super::rows::{Asked, assert_rows};
-use super::shelves::shelf;
+use super::asked::Sought;
+use super::rows::assert_rows;
 use nddl_ast::Copies;
 use nddl_ast::declaration::{Decl, FileDecls};
 use nddl_ast::same::Same;
 use nddl_ast::statement::StmtBlock;
-use nddl_parser::read_all;
 use std::alloc::{AllocError, Global};
 
 /// Whether a copy of the block is the same, at the same place.
@@ -30,22 +29,9 @@ fn first_is_copied(files: &[FileDecls]) -> Result<bool, AllocError> {
     }
 }
 
-/// Whether the first declaration of this text is such a rule.
-fn copied(alloc: Global, text: &str) -> Result<bool, AllocError> {
-    let mut files = shelf(alloc, text)?;
-    match read_all(alloc, &mut files, "m") {
-        Ok(read) => first_is_copied(read.as_slice()),
-        Err(_) => Ok(false),
-    }
-}
-
-/// Whether a copy of a rule is the same.
-struct RuleCopy;
-
-impl Asked for RuleCopy {
-    fn answer(&self, alloc: Global, given: &str) -> Result<String, AllocError> {
-        format!(in alloc; "{:?}", copied(alloc, given))
-    }
+/// Whether the first declaration is such a rule, in words.
+pub fn copy_words(alloc: Global, files: &[FileDecls]) -> Result<String, AllocError> {
+    format!(in alloc; "{:?}", first_is_copied(files))
 }
 
 const RULES: &str = "
@@ -57,5 +43,5 @@ A::P { foreach (o in C) { if (o == p) { } goal(o.Q g); int {1, 2} k; } before(o.
 
 #[test]
 fn copies_of_rules_are_the_same(rt: HostRuntime) {
-    assert_rows(&rt, &RuleCopy, RULES);
+    assert_rows(&rt, Sought::Copy, "", RULES);
 }

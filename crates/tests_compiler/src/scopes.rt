@@ -1,11 +1,11 @@
 //! The names that declarations give to the scope of a program, with what they are by hand.
 
-use super::rows::{Asked, assert_answer, assert_rows};
-use super::shelves::shelf;
+use super::asked::Sought;
+use super::rows::assert_rows;
 use nddl_ast::declaration::{Decl, FileDecls};
-use nddl_parser::read_all;
-use nddl_symbols::{Sort, declared_names};
+use nddl_symbols::{Declared, Sort, declared_names};
 use std::alloc::{AllocError, Global};
+use tests_samples::lines::Lines;
 
 fn word(sort: Sort) -> &'static str {
     match sort {
@@ -30,43 +30,40 @@ fn listed(alloc: Global, file: &FileDecls) -> Result<Vec<&Decl>, AllocError> {
     Ok(decls)
 }
 
-/// The names that the declarations give, each with what it is and where it stands.
+/// Each name with what it is and where it stands.
+fn lines_of(alloc: Global, names: &[Declared]) -> Result<String, AllocError> {
+    let mut lines = Lines::new(alloc);
+    for declared in names {
+        lines.say(word(declared.sort));
+        lines.say(" ");
+        lines.number(declared.place.decl);
+        lines.numbered(":", declared.place.at);
+        lines.say(" ");
+    }
+    lines.into_text()
+}
+
+/// The names that the declarations give.
 fn words(alloc: Global, decls: &[&Decl]) -> Result<String, AllocError> {
-    let names = declared_names(alloc, decls)?;
-    let mut words = String::new(alloc);
-    for declared in names.as_slice() {
-        let place = declared.place;
-        let sort = word(declared.sort);
-        write!(words, "{sort} {}:{} ", place.decl, place.at)?;
+    match declared_names(alloc, decls) {
+        Ok(names) => lines_of(alloc, names.as_slice()),
+        Err(none) => Err(none),
     }
-    Ok(words)
 }
 
-fn first_told(alloc: Global, files: &[FileDecls]) -> Result<String, AllocError> {
+/// Those of the declarations of the file.
+fn file_words(alloc: Global, file: &FileDecls) -> Result<String, AllocError> {
+    match listed(alloc, file) {
+        Ok(decls) => words(alloc, decls.as_slice()),
+        Err(none) => Err(none),
+    }
+}
+
+/// Those of the first file.
+pub fn names_words(alloc: Global, files: &[FileDecls]) -> Result<String, AllocError> {
     match files.first() {
-        Some(file) => {
-            let decls = listed(alloc, file)?;
-            words(alloc, decls.as_slice())
-        }
+        Some(file) => file_words(alloc, file),
         None => String::from_str(alloc, "no file"),
-    }
-}
-
-/// Those of the file `m` of this text.
-fn told(alloc: Global, text: &str) -> Result<String, AllocError> {
-    let mut files = shelf(alloc, text)?;
-    match read_all(alloc, &mut files, "m") {
-        Ok(read) => first_told(alloc, read.as_slice()),
-        Err(_) => String::from_str(alloc, "not read"),
-    }
-}
-
-/// The names that a text declares.
-struct Declared;
-
-impl Asked for Declared {
-    fn answer(&self, alloc: Global, given: &str) -> Result<String, AllocError> {
-        told(alloc, given)
     }
 }
 
@@ -79,6 +76,6 @@ PlannerConfig p = new PlannerConfig(0, 10, 5); eq(p, 1); A::P { } | config 0:14
 
 #[test]
 fn declarations_give_these_names(rt: HostRuntime) {
-    assert_answer(&rt, &Declared, "", "");
-    assert_rows(&rt, &Declared, NAMES);
+    assert_rows(&rt, Sought::Names, "", "");
+    assert_rows(&rt, Sought::Names, "", NAMES);
 }

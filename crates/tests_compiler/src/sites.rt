@@ -1,39 +1,32 @@
 //! The sites of joined declarations, with what they are by hand.
 
-use super::rows::{Asked, assert_answer, assert_rows};
-use super::shelves::shelf;
+use super::asked::Sought;
+use super::rows::assert_rows;
 use nddl_ast::declaration::FileDecls;
-use nddl_parser::read_all;
-use nddl_symbols::join;
+use nddl_symbols::{Site, join};
 use std::alloc::{AllocError, Global};
+use tests_samples::lines::Lines;
 
-/// The joined declarations, each as the number of its file and its number there.
-fn words(alloc: Global, files: &[FileDecls]) -> Result<String, AllocError> {
-    let sites = join(alloc, files)?;
-    let mut words = String::new(alloc);
-    for site in sites.as_slice() {
-        write!(words, "{}:{} ", site.file, site.decl)?;
+/// Each site as the number of its file and its number there.
+fn lines_of(alloc: Global, sites: &[Site]) -> Result<String, AllocError> {
+    let mut lines = Lines::new(alloc);
+    for site in sites {
+        lines.number(site.file);
+        lines.begin(":", site.decl);
     }
-    Ok(words)
+    lines.into_text()
 }
 
-/// Those of the file `m` of this text.
-fn told(alloc: Global, text: &str) -> Result<String, AllocError> {
-    let mut files = shelf(alloc, text)?;
-    match read_all(alloc, &mut files, "m") {
-        Ok(read) => words(alloc, read.as_slice()),
-        Err(_) => String::from_str(alloc, "not read"),
+/// The joined declarations.
+pub fn site_words(alloc: Global, files: &[FileDecls]) -> Result<String, AllocError> {
+    match join(alloc, files) {
+        Ok(sites) => lines_of(alloc, sites.as_slice()),
+        Err(none) => Err(none),
     }
 }
 
-/// The joined declarations of a text.
-struct Joined;
-
-impl Asked for Joined {
-    fn answer(&self, alloc: Global, given: &str) -> Result<String, AllocError> {
-        told(alloc, given)
-    }
-}
+// A file that includes one that includes the first.
+const OTHER: &str = "int a; #include \"r\" int b;";
 
 const JOINED: &str = "
 int x; int y; | 0:0 0:1
@@ -45,6 +38,6 @@ int x; #include \"q\" int y; | 0:0 1:0 2:0 1:2 0:2
 
 #[test]
 fn declarations_of_an_include_stand_at_its_place(rt: HostRuntime) {
-    assert_answer(&rt, &Joined, "", "");
-    assert_rows(&rt, &Joined, JOINED);
+    assert_rows(&rt, Sought::Sites, OTHER, "");
+    assert_rows(&rt, Sought::Sites, OTHER, JOINED);
 }

@@ -1,54 +1,55 @@
 //! What is wrong first with the rules of texts, and the trees of rules, by hand from what the language allows.
 
-use super::answers::{Sought, fault_words, told};
-use super::rows::{Asked, assert_rows};
-use eu_name::name::Part;
+use super::asked::{Sought, fault_words};
+use super::rows::assert_rows;
 use nddl_ast::declaration::FileDecls;
 use nddl_rules::rules;
 use nddl_terms::{Meaning, RuleTree};
 use nddl_types::TypeTable;
 use std::alloc::{AllocError, Global};
+use tests_samples::lines::Lines;
+use tests_samples::variables::tell_part;
 
-fn meaning_words(alloc: Global, meaning: Meaning) -> Result<String, AllocError> {
+fn tell_meaning(meaning: Meaning, lines: &mut Lines) {
     match meaning {
-        Meaning::Turn(number) => format!(in alloc; "t{number}"),
-        Meaning::Local(number) => format!(in alloc; "l{number}"),
-        Meaning::Slot(number) => format!(in alloc; "s{number}"),
-        Meaning::Scope(number) => format!(in alloc; "f{number}"),
-        Meaning::BuiltIn(number) => format!(in alloc; "b{number}"),
-        Meaning::Here(Part::Start) => String::from_str(alloc, "start"),
-        Meaning::Here(Part::End) => String::from_str(alloc, "end"),
-        Meaning::Here(Part::Duration) => String::from_str(alloc, "duration"),
-        Meaning::Here(Part::Object) => String::from_str(alloc, "object"),
-        Meaning::Here(Part::Param(number)) => format!(in alloc; "p{number}"),
+        Meaning::Turn(number) => lines.numbered("t", number),
+        Meaning::Local(number) => lines.numbered("l", number),
+        Meaning::Slot(number) => lines.numbered("s", number),
+        Meaning::Scope(number) => lines.numbered("f", number),
+        Meaning::BuiltIn(number) => lines.numbered("b", number),
+        Meaning::Here(part) => tell_part(part, lines),
     }
 }
 
-/// The predicate, the file, the place of the rule (its declaration and the byte of its name) and how many statements, and each
-/// name that is read, with its place and what it means.
-fn push_tree(alloc: Global, tree: &RuleTree, words: &mut String) -> Result<(), AllocError> {
-    write!(
-        words,
-        "{} {} {} {} {}:",
-        tree.pred,
-        tree.file.as_str(),
-        tree.place.decl,
-        tree.place.at,
-        tree.body.len()
-    )?;
+/// The predicate, the file, the place of the rule (its declaration and the byte of its name) and how many statements.
+fn tell_head(tree: &RuleTree, lines: &mut Lines) {
+    lines.numbered("", tree.pred);
+    lines.say(" ");
+    lines.say(tree.file.as_str());
+    lines.begin(" ", tree.place.decl);
+    lines.numbered("", tree.place.at);
+    lines.say(" ");
+    lines.number(tree.body.len());
+    lines.say(":");
+}
+
+/// Behind the head, each name that is read, with its place and what it means.
+fn tell_tree(tree: &RuleTree, lines: &mut Lines) {
+    tell_head(tree, lines);
     for name in tree.names.as_slice() {
-        let meaning = meaning_words(alloc, name.meaning)?;
-        write!(words, " {} {}", name.at, meaning.as_str())?;
+        lines.numbered(" ", name.at);
+        lines.say(" ");
+        tell_meaning(name.meaning, lines);
     }
-    words.push_str("; ")
+    lines.say("; ");
 }
 
 fn trees_words(alloc: Global, trees: &[RuleTree]) -> Result<String, AllocError> {
-    let mut words = String::new(alloc);
+    let mut lines = Lines::new(alloc);
     for tree in trees {
-        push_tree(alloc, tree, &mut words)?;
+        tell_tree(tree, &mut lines);
     }
-    Ok(words)
+    lines.into_text()
 }
 
 /// What is wrong first with the rules of files with this table, or their trees.
@@ -66,15 +67,6 @@ pub fn rules_words(
 /// A class with a field, two predicates, of which one has parameters, and an object of it.
 const CLASSES: &str =
     "class A { int k; A() { k = 1; } predicate P { int v; bool b; } predicate Q { } } A r = new A();";
-
-/// The trees of a text beside the classes.
-struct OverClasses;
-
-impl Asked for OverClasses {
-    fn answer(&self, alloc: Global, given: &str) -> Result<String, AllocError> {
-        told(alloc, Sought::Trees, given, CLASSES)
-    }
-}
 
 const FAULTS: &str = "
 #include \"q\" A::P { eq(v, b); } | WrongType m 26
@@ -103,7 +95,7 @@ const FAULTS: &str = "
 
 #[test]
 fn rules_have_these_first_faults(rt: HostRuntime) {
-    assert_rows(&rt, &OverClasses, FAULTS);
+    assert_rows(&rt, Sought::Trees, CLASSES, FAULTS);
 }
 
 /// A text, maybe that of the file `q`, and the trees of their rules: what each name means by its number, as a turn, a local, a
@@ -126,5 +118,5 @@ class N; class N { predicate P { } } int z; N::P { eq(z, 1); Timeline t; N n; } 
 
 #[test]
 fn rules_have_these_trees(rt: HostRuntime) {
-    assert_rows(&rt, &Sought::Trees, TREES);
+    assert_rows(&rt, Sought::Trees, "", TREES);
 }

@@ -1,15 +1,14 @@
-//! Three tokens of one track in a circle: how often their starts were written, and the time edges of the circle.
+//! Three tokens of one track in a circle: how often each variable was written, and the time edges of the circle.
 
 use super::asking::model_of;
 use super::deciding::take_choice;
 use super::names::variable;
-use super::steps::is_taken;
+use super::reasons::are_edges;
+use super::steps::{is_taken, is_text};
 use super::trial::{Trial, told_on_rounds};
-use plan_db::{Db, NamedEdge, Point};
-use std::alloc::{AllocError, Global};
-
-// What was written how often, or nothing of what is asked.
-type Stamps = [Option<u64>; 3];
+use plan_db::Db;
+use std::alloc::Global;
+use std::process::Abort;
 
 // Whether a stamp is greater than an earlier one, the same, or neither.
 #[derive(Clone, Copy, Debug, PartialEq, Eq)]
@@ -17,6 +16,8 @@ enum Change {
     Written,
     Same,
     Untold,
+    /// The turn isn't taken.
+    Refused,
 }
 
 fn stamp(alloc: Global, db: &Db, name: &str) -> Option<u64> {
@@ -24,13 +25,6 @@ fn stamp(alloc: Global, db: &Db, name: &str) -> Option<u64> {
         Some(variable) => db.stamp(&variable),
         None => None,
     }
-}
-
-// The stamps of the three starts.
-fn stamps(alloc: Global, db: &Db) -> Stamps {
-    let one = stamp(alloc, db, "one.start");
-    let two = stamp(alloc, db, "two.start");
-    [one, two, stamp(alloc, db, "three.start")]
 }
 
 fn compare(before: Option<u64>, after: Option<u64>) -> Change {
@@ -48,140 +42,124 @@ fn compare(before: Option<u64>, after: Option<u64>) -> Change {
     }
 }
 
-fn changes(before: Stamps, after: Stamps) -> [Change; 3] {
-    let [one, two, three] = before;
-    let [first, second, third] = after;
-    [
-        compare(one, first),
-        compare(two, second),
-        compare(three, third),
-    ]
-}
-
-// Takes the decision, and tells which starts were written.
-fn taken(alloc: Global, db: &mut Db, choice: &str) -> Option<[Change; 3]> {
-    let before = stamps(alloc, db);
-    if is_taken(take_choice(alloc, db, choice)) {
-        Some(changes(before, stamps(alloc, db)))
+// Takes a decision, or the last one back, and answers whether that is done.
+fn take_turn(alloc: Global, db: &mut Db, turn: &str) -> bool {
+    if turn == "back" {
+        db.backtrack().is_ok()
     } else {
-        None
+        is_taken(take_choice(alloc, db, turn))
     }
 }
 
-// Takes the last decision back, and tells which starts were written.
-fn taken_back(alloc: Global, db: &mut Db) -> Option<[Change; 3]> {
-    let before = stamps(alloc, db);
-    match db.backtrack() {
-        Ok(()) => Some(changes(before, stamps(alloc, db))),
-        Err(_fault) => None,
+// Takes the turn, and tells what becomes of the stamp of the variable.
+fn change_by(alloc: Global, db: &mut Db, turn: &str, name: &str) -> Change {
+    let before = stamp(alloc, db, name);
+    if take_turn(alloc, db, turn) {
+        compare(before, stamp(alloc, db, name))
+    } else {
+        Change::Refused
     }
 }
 
 fn activate_all(alloc: Global, db: &mut Db) -> bool {
     let mut all = true;
     for choice in ["activate one", "activate two", "activate three"] {
-        all = all && taken(alloc, db, choice).is_some();
+        all = all && take_turn(alloc, db, choice);
     }
     all
 }
 
-// The first is put before the second, that is taken back, and then the circle is gone round, with what is written at each step.
-const ROUND: &str = "order one two | [Written, Written, Same]
-back | [Written, Written, Same]
-order one two | [Written, Written, Same]
-order two three | [Written, Written, Written]
-order three one | [Untold, Untold, Untold]";
+// The first is put before the second, that is taken back, and then the circle is gone round.
+const ROUND: [&str; 5] = [
+    "order one two",
+    "back",
+    "order one two",
+    "order two three",
+    "order three one",
+];
 
-fn written(alloc: Global, db: &mut Db, turn: &str) -> Option<[Change; 3]> {
-    if turn == "back" {
-        taken_back(alloc, db)
-    } else {
-        taken(alloc, db, turn)
+/// A variable, of which it is told what becomes of its stamp at each turn of the round.
+#[derive(Clone, Copy)]
+struct Watched(&'static str);
+
+fn changes(alloc: Global, db: &mut Db, name: &str) -> [Change; 5] {
+    let [ahead, back, again, on, round] = ROUND;
+    let ahead = change_by(alloc, db, ahead, name);
+    let back = change_by(alloc, db, back, name);
+    let again = change_by(alloc, db, again, name);
+    let on = change_by(alloc, db, on, name);
+    [ahead, back, again, on, change_by(alloc, db, round, name)]
+}
+
+impl Trial for Watched {
+    type Told = [Change; 5];
+
+    fn tell(&self, alloc: Global, db: &mut Db) -> [Change; 5] {
+        if activate_all(alloc, db) {
+            changes(alloc, db, self.0)
+        } else {
+            [Change::Refused; 5]
+        }
     }
 }
 
-fn is_text(found: Result<String, AllocError>, wanted: &str) -> bool {
-    match found {
-        Ok(found) => found.as_str() == wanted,
+// All variables, and what becomes of their stamps. The horizon is from 0 to 10, and a token lasts one tick at least. One before
+// two takes a tick from the end of the first and from the beginning of the second, so both last 9 at most; two before three
+// takes a further one from each, and two from the beginning of the third. Round the circle nothing is possible.
+const STAMPS: &str =
+    "one.start one.end one.duration two.start two.end two.duration | [Written, Written, Written, Written, Untold]
+three.start three.end three.duration | [Same, Same, Same, Written, Untold]
+one.object two.object three.object x y z | [Same, Same, Same, Same, Untold]
+link.start link.end link.duration link.object | [Same, Same, Same, Same, Untold]
+other.start other.end other.duration other.object | [Same, Same, Same, Same, Untold]
+lost.start lost.end lost.duration lost.object | [Same, Same, Same, Same, Untold]";
+
+fn is_changed(alloc: Global, name: &'static str, wanted: &str) -> bool {
+    match told_on_rounds(alloc, &Watched(name)) {
+        Ok(changes) => is_text(format!(in alloc; "{changes:?}"), wanted),
         Err(_none) => false,
     }
 }
 
-// Whether this is written at the turn.
-fn is_written(alloc: Global, db: &mut Db, row: &str) -> bool {
-    let (turn, wanted) = row.split_once(" | ").unwrap_or((row, ""));
-    match written(alloc, db, turn) {
-        Some(changes) => is_text(format!(in alloc; "{changes:?}"), wanted),
-        None => false,
+fn assert_changed<R: Abort + AllocGlobal>(rt: &R, row: &'static str) {
+    let (names, wanted) = row.split_once(" | ").unwrap_or((row, ""));
+    for name in names.split(' ') {
+        if !is_changed(rt.alloc(), name, wanted) {
+            panic!(rt; "{name}");
+        }
+    }
+}
+
+#[test]
+fn stamps_follow_the_circle(rt: HostRuntime) {
+    for row in STAMPS.split('\n') {
+        assert_changed(&rt, row);
     }
 }
 
 fn goes_round(alloc: Global, db: &mut Db) -> bool {
     let mut all = true;
-    for row in ROUND.split('\n') {
-        all = all && is_written(alloc, db, row);
+    for turn in &ROUND {
+        all = all && take_turn(alloc, db, turn);
     }
     all
 }
 
-// A point in time, by the number of its root.
-#[derive(Clone, Copy, Debug, PartialEq, Eq)]
-enum At {
-    Origin,
-    Start(u32),
-    End(u32),
-}
-
-fn place_of(point: &Point) -> At {
-    match point {
-        Point::Origin => At::Origin,
-        Point::Start(token) => At::Start(token.root),
-        Point::End(token) => At::End(token.root),
-    }
-}
-
 // The edges that have to be there, in order: those of each token by itself, and those of the orders.
-const EDGES: &str = "Origin 0 Start(0)
-End(0) -10 Origin
-Start(0) 1 End(0)
-End(0) -8 Start(0)
-Origin 0 Start(1)
-End(1) -10 Origin
-Start(1) 1 End(1)
-End(1) -8 Start(1)
-Origin 0 Start(2)
-End(2) -10 Origin
-Start(2) 1 End(2)
-End(2) -8 Start(2)
-End(0) 0 Start(1)
-End(1) 0 Start(2)
-End(2) 0 Start(0)";
-
-fn is_edge(alloc: Global, edge: &NamedEdge, wanted: Option<&str>) -> bool {
-    let (from, to) = (place_of(&edge.from), place_of(&edge.to));
-    is_text(
-        format!(in alloc; "{from:?} {} {to:?}", edge.gap),
-        wanted.unwrap_or(""),
-    )
-}
-
-fn are_edges(alloc: Global, edges: &[NamedEdge]) -> bool {
-    let mut wanted = EDGES.split('\n');
-    let mut all = true;
-    for edge in edges {
-        all = all && is_edge(alloc, edge, wanted.next());
-    }
-    all && wanted.next().is_none()
-}
+const EDGES: &str =
+    "origin 0 one.start, one.end -10 origin, one.start 1 one.end, one.end -8 one.start, \
+    origin 0 two.start, two.end -10 origin, two.start 1 two.end, two.end -8 two.start, \
+    origin 0 three.start, three.end -10 origin, three.start 1 three.end, three.end -8 three.start, \
+    one.end 0 two.start, two.end 0 three.start, three.end 0 one.start";
 
 fn has_edges(alloc: Global, db: &Db) -> bool {
     match db.time_edges() {
-        Ok(edges) => are_edges(alloc, edges.as_slice()),
+        Ok(edges) => are_edges(alloc, model_of(db), edges.as_slice(), EDGES),
         Err(_fault) => false,
     }
 }
 
-// Whether there are no edges before the last decision, each step writes what it should, and the edges are there in the end.
+// Whether there are no edges before the last decision, each turn is taken, and the edges are there in the end.
 fn is_told(alloc: Global, db: &mut Db) -> bool {
     let free = activate_all(alloc, db) && db.time_edges().is_err();
     free && goes_round(alloc, db) && has_edges(alloc, db)

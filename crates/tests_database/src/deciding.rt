@@ -6,10 +6,10 @@ use super::asking::{
 };
 use super::names::{decision, parts, subject};
 use super::reasons::{has_no_reason, is_conflict, is_cycle};
-use super::steps::Said;
+use super::steps::{Said, is_text};
 use super::trial::Trial;
 use plan_db::{Db, DbFault, Outcome, QueryFault};
-use std::alloc::{AllocError, Global};
+use std::alloc::Global;
 
 /// The plan of the mission where `here` is merged.
 const MERGED: &str = "plan
@@ -93,14 +93,6 @@ fn changed(alloc: Global, db: &mut Db, step: &str) -> Option<Said> {
     }
 }
 
-// Whether these are the words.
-fn is_text(found: Result<String, AllocError>, wanted: &str) -> bool {
-    match found {
-        Ok(found) => found.as_str() == wanted,
-        Err(_none) => false,
-    }
-}
-
 // Whether the variable has this least, this greatest, and so many values.
 fn is_domain(alloc: Global, db: &Db, name: &str, wanted: &str) -> bool {
     match domain(alloc, db, name) {
@@ -136,7 +128,7 @@ fn plan_text(name: &str) -> &'static str {
     if name == "MERGED" { MERGED } else { ACTIVE }
 }
 
-// Whether the values, tokens and decisions are so; none, where another thing is asked for.
+// Whether the values and what has become of a token are so, or what is listed; none, where another thing is asked for.
 fn is_so(alloc: Global, db: &Db, step: &str, wanted: &str) -> Option<bool> {
     let (word, rest) = parts(step);
     match word {
@@ -144,6 +136,14 @@ fn is_so(alloc: Global, db: &Db, step: &str, wanted: &str) -> Option<bool> {
         "unknown" => Some(is_untold(alloc, db, rest, QueryFault::Unknown)),
         "unseen" => Some(is_unseen(db)),
         "fate" => Some(is_fate(alloc, db, rest, wanted)),
+        _ => is_listed(alloc, db, step, wanted),
+    }
+}
+
+// Whether the tokens, their order and the decisions are so; none, where another thing is asked for.
+fn is_listed(alloc: Global, db: &Db, step: &str, wanted: &str) -> Option<bool> {
+    let (word, rest) = parts(step);
+    match word {
         "tokens" => Some(has_tokens(alloc, db, rest)),
         "ordered" => Some(are_ordered(alloc, db, rest, wanted)),
         "stand" => Some(stand(alloc, model_of(db), db.decisions(), rest)),

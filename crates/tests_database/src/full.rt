@@ -50,8 +50,14 @@ impl Trial for Links {
     }
 }
 
+fn is_full(told: Result<Result<(u32, Said), AllocError>, AllocError>) -> bool {
+    match told {
+        Ok(Ok((count, Said::Refused(fault)))) => count == 512 && fault == DbFault::ActiveFull,
+        _ => false,
+    }
+}
+
 #[test]
 fn no_more_are_active_than_may_be(rt: HostRuntime) {
-    let told = told_on_rounds(rt.alloc(), &Links);
-    assert!(rt; told == Ok(Ok((512, Said::Refused(DbFault::ActiveFull)))));
+    assert!(rt; is_full(told_on_rounds(rt.alloc(), &Links)));
 }

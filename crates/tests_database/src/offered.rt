@@ -1,9 +1,11 @@
 //! Calls that are offered and that the program doesn't make: which orders of two tokens are left, and what a step was.
 
+use super::steps::is_text;
 use decision_log::{Log, LogStep};
 use eu_name::name::VarName;
 use model_core::decision::Decision;
 use std::alloc::{AllocError, Global};
+use tests_samples::lines::Lines;
 use timeline_core::ForcedOrder::{First, Neither, Open, Second};
 use timeline_core::{Ends, ForcedOrder, forced};
 
@@ -35,23 +37,24 @@ fn orders_are_left_or_forced(rt: HostRuntime) {
 }
 
 // What a step was: put at the end, or taken out with this global first.
-#[derive(Clone, Copy, Debug, PartialEq, Eq)]
-enum Told {
-    Pushed,
-    TakenOut(u32),
-    OfToken,
-    NoStep,
+fn tell_step(log: &Log, number: u64, lines: &mut Lines) {
+    match log.step_at(number) {
+        None => lines.say("none"),
+        Some(LogStep::Push) => lines.say("pushed"),
+        Some(LogStep::Take(Decision::Specify(VarName::Global(global), _))) => {
+            lines.numbered("out ", *global)
+        }
+        Some(LogStep::Take(_)) => lines.say("of a token"),
+    }
+    lines.end_line();
 }
 
-fn step_told(log: &Log, number: u64) -> Told {
-    match log.step_at(number) {
-        None => Told::NoStep,
-        Some(LogStep::Push) => Told::Pushed,
-        Some(LogStep::Take(Decision::Specify(VarName::Global(global), _))) => {
-            Told::TakenOut(*global)
-        }
-        Some(LogStep::Take(_)) => Told::OfToken,
+fn steps_told(alloc: Global, log: &Log) -> Result<String, AllocError> {
+    let mut lines = Lines::new(alloc);
+    for number in [0, 2, 3, 4, u64::MAX] {
+        tell_step(log, number, &mut lines);
     }
+    lines.into_text()
 }
 
 fn push_value(log: &mut Log, global: u32) -> Result<(), AllocError> {
@@ -68,29 +71,23 @@ fn leave_first(log: &mut Log) -> Result<(), AllocError> {
 }
 
 // Three globals get values, and those of the last two are taken out.
-fn steps(alloc: Global) -> Result<[Told; 5], AllocError> {
+fn take_steps(log: &mut Log) -> Result<(), AllocError> {
+    for global in [7, 8, 9] {
+        push_value(log, global)?;
+    }
+    leave_first(log)
+}
+
+// What some steps of the log were. Only at its end the log is let go, since a proof goes through all that it drops.
+fn steps(alloc: Global) -> Result<String, AllocError> {
     let mut log = Log::new(alloc);
-    push_value(&mut log, 7)?;
-    push_value(&mut log, 8)?;
-    push_value(&mut log, 9)?;
-    leave_first(&mut log)?;
-    Ok([
-        step_told(&log, 0),
-        step_told(&log, 2),
-        step_told(&log, 3),
-        step_told(&log, 4),
-        step_told(&log, u64::MAX),
-    ])
+    match take_steps(&mut log) {
+        Ok(()) => steps_told(alloc, &log),
+        Err(none) => Err(none),
+    }
 }
 
 #[test]
 fn steps_are_told_by_number(rt: HostRuntime) {
-    let wanted = [
-        Told::Pushed,
-        Told::Pushed,
-        Told::TakenOut(8),
-        Told::NoStep,
-        Told::NoStep,
-    ];
-    assert!(rt; steps(rt.alloc()) == Ok(wanted));
+    assert!(rt; is_text(steps(rt.alloc()), "pushed\npushed\nout 8\nnone\nnone\n"));
 }

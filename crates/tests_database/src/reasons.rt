@@ -64,7 +64,8 @@ fn is_edge(alloc: Global, model: &Model, edge: &NamedEdge, wanted: Option<&str>)
         && is_point(alloc, model, &edge.to, to)
 }
 
-fn are_edges(alloc: Global, model: &Model, edges: &[NamedEdge], wanted: &str) -> bool
+/// Whether the edges are those of these names, between commas, in this order.
+pub fn are_edges(alloc: Global, model: &Model, edges: &[NamedEdge], wanted: &str) -> bool
     requires { IsLawful model.now }
 {
     let mut wanted = wanted.split_terminator(", ");

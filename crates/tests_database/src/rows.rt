@@ -369,10 +369,18 @@ cycle origin 4 one.start, one.start 3 one.end, one.end -6 origin
 why specify one.start 4, specify one.end 6, specify one.duration 3
 ";
 
-// Asserts that no step of the row was answered otherwise; the first that was is told by its number.
-fn assert_right<R: Abort>(rt: &R, row: &str, wrong: Result<Option<usize>, AllocError>) {
-    if wrong != Ok(None) {
-        panic!(rt; "{wrong:?} in {row}");
+// The number of the first step that was answered otherwise, or that of the title where there was no memory.
+fn wrong_in(told: Result<Option<usize>, AllocError>) -> Option<usize> {
+    match told {
+        Ok(wrong) => wrong,
+        Err(_none) => Some(0),
+    }
+}
+
+// Asserts that no step of the row was answered otherwise.
+fn assert_right<R: Abort>(rt: &R, row: &str, told: Result<Option<usize>, AllocError>) {
+    if let Some(number) = wrong_in(told) {
+        panic!(rt; "{number} in {row}");
     }
 }
 

@@ -1,6 +1,15 @@
 //! What steps on a database answer, in plain values.
 
 use plan_db::DbFault;
+use std::alloc::AllocError;
+
+/// Whether these are the words.
+pub fn is_text(found: Result<String, AllocError>, wanted: &str) -> bool {
+    match found {
+        Ok(found) => found.as_str() == wanted,
+        Err(_none) => false,
+    }
+}
 
 /// What a call that changes decisions answers.
 #[derive(Clone, Copy, Debug, PartialEq, Eq)]

@@ -2,13 +2,13 @@
 
 ghost use Rattle.nddl_laws.specs.Given.{AreGiven};
 
-use super::models::model_lines;
 use nddl_ast::TextFault;
 use nddl_ast::declaration::FileDecls;
 use nddl_parser::read_all;
 use nddl_problem::compile;
 use std::alloc::{AllocError, Global};
 use std::process::Abort;
+use tests_samples::models::model_lines;
 use tests_samples::shelves::shelf_of;
 
 fn fault_line(alloc: Global, fault: &TextFault) -> Result<String, AllocError> {

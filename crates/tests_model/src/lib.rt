@@ -5,17 +5,9 @@
 #![tactic(auto)]
 
 #[cfg(test)]
-mod blocks;
-#[cfg(test)]
 mod compiled;
 #[cfg(test)]
-mod items;
-#[cfg(test)]
 mod lawful;
-#[cfg(test)]
-mod lines;
-#[cfg(test)]
-mod models;
 #[cfg(test)]
 mod parts;
 #[cfg(test)]
@@ -28,5 +20,3 @@ mod rows;
 mod ruled;
 #[cfg(test)]
 mod unrolled;
-#[cfg(test)]
-mod variables;

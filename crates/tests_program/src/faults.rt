@@ -1,9 +1,10 @@
 //! What is left of a run where a call of the outside fails.
 
 use super::rows::{assert_none, assert_runs, files_of, text_in};
-use super::runs::{Fails, NONE, prints_of, ran};
+use super::runs::{CALM, Fails, NONE, Ran, is_run, ran};
 use super::texts::text_of;
-use std::alloc::{AllocError, Global};
+use std::alloc::Global;
+use tests_samples::shelves::{add_file, entry};
 
 /// Two variables and a plan of them, and lines over them.
 const COMMON: &str = "m.nddl
@@ -144,7 +145,13 @@ fn length_of(text: &[u8], lines: usize) -> usize {
 /// How many lines end in so many first bytes.
 fn lines_in(text: &[u8], bytes: usize) -> usize {
     let front = &text[..bytes.min(text.len())];
-    front.iter().filter(|byte| **byte == b'\n').count()
+    let mut lines: usize = 0;
+    for byte in front {
+        if *byte == b'\n' {
+            lines = lines.saturating_add(1);
+        }
+    }
+    lines
 }
 
 /// The call behind so many.
@@ -154,16 +161,10 @@ fn next_call(calls: usize) -> u64 {
 
 /// Whether the script of these sections writes just so many lines of its output where a call fails, and the number of the
 /// status.
-fn stopped(
-    alloc: Global,
-    sections: &str,
-    most: usize,
-    fails: Fails,
-    lines: usize,
-) -> Result<(bool, u8), AllocError> {
-    let output = text_in(sections, "output").as_bytes();
+fn stopped(alloc: Global, sections: &str, most: usize, fails: Fails, lines: usize) -> Ran {
+    let output = text_in(sections, "", "output").as_bytes();
     let front = &output[..length_of(output, lines).min(output.len())];
-    let input = text_in(sections, "input").as_bytes();
+    let input = text_in(sections, "", "input").as_bytes();
     match files_of(alloc, sections, "") {
         Ok(files) => ran(alloc, "script m.nddl", files, (input, most), fails, front),
         Err(none) => Err(none),
@@ -219,13 +220,13 @@ y [0 10]
 ";
 
 /// Whether so many lines are written where the write behind them fails, and the number of the status.
-fn written(alloc: Global, script: &str, lines: usize) -> Result<(bool, u8), AllocError> {
+fn written(alloc: Global, script: &str, lines: usize) -> Ran {
     let fails = (NONE, NONE, next_call(lines));
     stopped(alloc, script, 4_096, fails, lines)
 }
 
 /// Whether so many bytes of the edits are answered where the read behind them fails, and the number of the status.
-fn read(alloc: Global, edits: &[u8], bytes: usize) -> Result<(bool, u8), AllocError> {
+fn read(alloc: Global, edits: &[u8], bytes: usize) -> Ran {
     let lines = lines_in(edits, bytes);
     let fails = (NONE, next_call(bytes), NONE);
     stopped(alloc, EDITED, 1, fails, lines)
@@ -234,7 +235,7 @@ fn read(alloc: Global, edits: &[u8], bytes: usize) -> Result<(bool, u8), AllocEr
 /// The first of so many numbers of lines behind which a failed write leaves something else than these.
 fn wrong_write(alloc: Global, script: &str, pieces: usize) -> Option<usize> {
     for lines in 0..pieces {
-        if written(alloc, script, lines) != Ok((true, 21)) {
+        if !is_run(written(alloc, script, lines), 21) {
             return Some(lines);
         }
     }
@@ -244,7 +245,7 @@ fn wrong_write(alloc: Global, script: &str, pieces: usize) -> Option<usize> {
 /// The first number of bytes of the edits behind which a failed read leaves something else than it should.
 fn wrong_read(alloc: Global, edits: &[u8]) -> Option<usize> {
     for bytes in 0..edits.len() + 1 {
-        if read(alloc, edits, bytes) != Ok((true, 20)) {
+        if !is_run(read(alloc, edits, bytes), 20) {
             return Some(bytes);
         }
     }
@@ -260,28 +261,38 @@ fn a_failed_write_leaves_the_lines_before(rt: HostRuntime) {
 
 #[test]
 fn no_line_is_written_behind_the_last(rt: HostRuntime) {
-    assert!(rt; written(rt.alloc(), ORDERS, 15) == Ok((true, 0)));
-    assert!(rt; written(rt.alloc(), FOUND_THEN, 13) == Ok((true, 0)));
+    assert!(rt; is_run(written(rt.alloc(), ORDERS, 15), 0));
+    assert!(rt; is_run(written(rt.alloc(), FOUND_THEN, 13), 0));
 }
 
 #[test]
 fn a_failed_read_leaves_the_lines_before(rt: HostRuntime) {
-    let edits = text_in(EDITED, "input").as_bytes();
+    let edits = text_in(EDITED, "", "input").as_bytes();
     assert_none(&rt, wrong_read(rt.alloc(), edits));
+}
+
+/// Whether a script over this file, without any input, writes nothing, and the number of its status.
+fn ran_silent(alloc: Global, file: &[u8]) -> Ran {
+    let mut files = Vec::new(alloc);
+    match add_file(&mut files, entry(alloc, "m.nddl", file)) {
+        Ok(()) => ran(alloc, "script m.nddl", files, (b"", 16), CALM, b""),
+        Err(none) => Err(none),
+    }
 }
 
 /// Whether so many first bytes of a file, without any input, end with one of these numbers: that the file is fine, or
 /// that it has a fault.
-fn is_read(alloc: Global, file: &[u8], count: usize) -> Result<bool, AllocError> {
-    let front = &file[..count.min(file.len())];
-    let (silent, status) = prints_of(alloc, "script m.nddl", front, b"", b"")?;
-    Ok((silent && status == 0) || (!silent && status == 3))
+fn is_read(alloc: Global, file: &[u8], count: usize) -> bool {
+    match ran_silent(alloc, &file[..count.min(file.len())]) {
+        Ok((silent, status)) => (silent && status == 0) || (!silent && status == 3),
+        Err(_none) => false,
+    }
 }
 
 /// The first number of bytes whose front of the file ends otherwise.
 fn wrong_front(alloc: Global, file: &[u8]) -> Option<usize> {
     for count in 0..file.len() + 1 {
-        if is_read(alloc, file, count) != Ok(true) {
+        if !is_read(alloc, file, count) {
             return Some(count);
         }
     }

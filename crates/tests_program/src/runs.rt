@@ -16,21 +16,42 @@ pub const NONE: u64 = 9_999_999;
 pub type Fails = (u64, u64, u64);
 
 /// No call fails.
-const CALM: Fails = (NONE, NONE, NONE);
+pub const CALM: Fails = (NONE, NONE, NONE);
+
+/// Whether a run wrote what it should, and the number of its status.
+pub type Ran = Result<(bool, u8), AllocError>;
+
+/// Whether the run wrote what it should, and ended with this status.
+pub fn is_run(ran: Ran, status: u8) -> bool {
+    match ran {
+        Ok((wrote, number)) => wrote && number == status,
+        Err(_none) => false,
+    }
+}
+
+fn add_word(words: &mut Vec<Text>, word: Result<Text, AllocError>) -> Result<(), AllocError> {
+    match word {
+        Ok(word) => {
+            words.push(word)?;
+            Ok(())
+        }
+        Err(none) => Err(none),
+    }
+}
+
+fn add_words(alloc: Global, words: &mut Vec<Text>, line: &str) -> Result<(), AllocError> {
+    for word in line.split_whitespace() {
+        add_word(words, Text::from_str(alloc, word))?;
+    }
+    Ok(())
+}
 
 pub fn words_of(alloc: Global, line: &str) -> Result<Vec<Text>, AllocError> {
     let mut words = Vec::new(alloc);
-    for word in line.split_whitespace() {
-        words.push(Text::from_str(alloc, word)?)?;
+    match add_words(alloc, &mut words, line) {
+        Ok(()) => Ok(words),
+        Err(none) => Err(none),
     }
-    Ok(words)
-}
-
-pub fn entry(alloc: Global, name: &str, text: &[u8]) -> Result<FileEntry, AllocError> {
-    Ok(FileEntry {
-        name: Text::from_str(alloc, name)?,
-        bytes: Bytes::from_slice(alloc, text)?,
-    })
 }
 
 /// Input that comes so many bytes a call, of which one call fails.
@@ -76,7 +97,7 @@ fn ran_from(
     source: &mut MemSource,
     fails: u64,
     output: &[u8],
-) -> Result<(bool, u8), AllocError> {
+) -> Ran {
     let mut sink = sink_of(alloc, output.len(), fails)?;
     let status = europa(alloc, words, shelf, source, &mut sink);
     Ok((sink.as_slice() == output, status.number()))
@@ -90,7 +111,7 @@ fn ran_over(
     input: (&[u8], usize),
     fails: Fails,
     output: &[u8],
-) -> Result<(bool, u8), AllocError> {
+) -> Ran {
     let mut source = source_of(alloc, input.0, input.1, fails.1)?;
     ran_from(alloc, words, shelf, &mut source, fails.2, output)
 }
@@ -103,7 +124,7 @@ fn ran_words(
     input: (&[u8], usize),
     fails: Fails,
     output: &[u8],
-) -> Result<(bool, u8), AllocError> {
+) -> Ran {
     let mut shelf = shelf_of(alloc, files, fails.0)?;
     ran_over(alloc, words, &mut shelf, input, fails, output)
 }
@@ -116,22 +137,9 @@ pub fn ran(
     input: (&[u8], usize),
     fails: Fails,
     output: &[u8],
-) -> Result<(bool, u8), AllocError> {
+) -> Ran {
     match words_of(alloc, line) {
         Ok(words) => ran_words(alloc, words.as_slice(), files, input, fails, output),
         Err(none) => Err(none),
     }
-}
-
-/// Whether the run of a line over the one file `m.nddl`, in which no call fails, writes this, and the number of its
-/// status.
-pub fn prints_of(
-    alloc: Global,
-    line: &str,
-    file: &[u8],
-    input: &[u8],
-    output: &[u8],
-) -> Result<(bool, u8), AllocError> {
-    let files = vec![in alloc; entry(alloc, "m.nddl", file)?]?;
-    ran(alloc, line, files, (input, 4_096), CALM, output)
 }

@@ -209,14 +209,24 @@ fact ( spirit . At here ) ;
 here . location . specify ( lander ) ;
 ";
 
+/// What stands behind its name and a line feed in this section, where that is the name.
+fn section_text<'a>(section: &'a str, name: &str) -> Option<&'a str> {
+    match section.split_once('\n') {
+        Some((found, text)) => { if found == name { Some(text) } else { None } }
+        None => None,
+    }
+}
+
+/// The text of this name among the sections, where there is one.
+pub fn section_in<'a>(sections: &'a str, separator: &str, name: &str) -> Option<&'a str> {
+    let mut found = None;
+    for section in sections.split(separator) {
+        found = found.or(section_text(section, name));
+    }
+    found
+}
+
 /// The text of this name, or the word itself.
 pub fn text_of(word: &str) -> &str {
-    for row in TEXTS.split("\n== ") {
-        if let Some((name, text)) = row.split_once('\n') {
-            if name == word {
-                return text;
-            }
-        }
-    }
-    word
+    section_in(TEXTS, "\n== ", word).unwrap_or(word)
 }

@@ -1,28 +1,24 @@
 //! Files of the language over a shelf in memory, with what they are read as by hand.
 
 use super::faults::described;
-use super::rows::{Asked, assert_answer, assert_rows};
+use super::includes::put_file;
+use super::rows::{Asked, assert_answer, assert_rows, filled};
 use eu_io::calm::shelf::CalmShelf;
 use eu_io::shelf::FileEntry;
-use eu_name::bytes::Bytes;
-use eu_name::text::Text;
 use nddl_ast::declaration::FileDecls;
 use nddl_parser::read_all;
 use std::alloc::{AllocError, Global};
 
-fn entry(alloc: Global, name: &str, text: &str) -> Result<FileEntry, AllocError> {
-    Ok(FileEntry {
-        name: Text::from_str(alloc, name)?,
-        bytes: Bytes::from_slice(alloc, text.as_bytes())?,
-    })
+fn put_two(files: &mut Vec<FileEntry>, text: &str) -> Result<(), AllocError> {
+    put_file(files, "m.nddl", text)?;
+    put_file(files, "q", "int k;")
 }
 
-/// A shelf with a file `m.nddl` of this text, and a file `q` that declares one variable.
-fn shelf(alloc: Global, text: &str) -> Result<CalmShelf, AllocError> {
+/// A file `m.nddl` of this text, and a file `q` that declares one variable.
+fn two_files(alloc: Global, text: &str) -> Result<Vec<FileEntry>, AllocError> {
     let mut files = Vec::new(alloc);
-    files.push(entry(alloc, "m.nddl", text)?)?;
-    files.push(entry(alloc, "q", "int k;")?)?;
-    Ok(CalmShelf::new(files))
+    let done = put_two(&mut files, text);
+    filled(files, done)
 }
 
 /// The names of the files, each with the count of its declarations.
@@ -34,10 +30,10 @@ fn counts(alloc: Global, files: &[FileDecls]) -> Result<String, AllocError> {
     Ok(words)
 }
 
-/// What the file of this text is read as, in words.
-fn told(alloc: Global, text: &str) -> Result<String, AllocError> {
-    let mut files = shelf(alloc, text)?;
-    match read_all(alloc, &mut files, "m.nddl") {
+/// What the file `m.nddl` is read as, in words.
+fn told(alloc: Global, files: Vec<FileEntry>) -> Result<String, AllocError> {
+    let mut shelf = CalmShelf::new(files);
+    match read_all(alloc, &mut shelf, "m.nddl") {
         Ok(read) => counts(alloc, read.as_slice()),
         Err(fault) => described(alloc, &fault),
     }
@@ -48,7 +44,10 @@ struct Read;
 
 impl Asked for Read {
     fn answer(&self, alloc: Global, given: &str) -> Result<String, AllocError> {
-        told(alloc, given)
+        match two_files(alloc, given) {
+            Ok(files) => told(alloc, files),
+            Err(none) => Err(none),
+        }
     }
 }
 

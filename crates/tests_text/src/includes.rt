@@ -1,7 +1,7 @@
 //! Files with their includes over shelves in memory, with a reader of its own for texts.
 
 use super::faults::described;
-use super::rows::{Asked, assert_answer, assert_rows};
+use super::rows::{Asked, assert_answer, assert_rows, filled};
 use eu_io::calm::shelf::CalmShelf;
 use eu_io::memory::shelf::MemShelf;
 use eu_io::shelf::{FileEntry, Shelf};
@@ -78,15 +78,28 @@ fn entry(alloc: Global, name: &str, text: &[u8]) -> Result<FileEntry, AllocError
     })
 }
 
-/// The files of a shelf, each as its name, `>` and its text, between blanks.
-fn files_of(alloc: Global, shelf: &str) -> Result<Vec<FileEntry>, AllocError> {
-    let mut files = Vec::new(alloc);
+/// Puts the file of this name and text on the list.
+pub fn put_file(files: &mut Vec<FileEntry>, name: &str, text: &str) -> Result<(), AllocError> {
+    let file = entry(*files.allocator(), name, text.as_bytes())?;
+    files.push(file)?;
+    Ok(())
+}
+
+/// Puts on the list the files of a shelf, each as its name, `>` and its text, between blanks.
+fn put_files(files: &mut Vec<FileEntry>, shelf: &str) -> Result<(), AllocError> {
     for file in shelf.split(' ') {
         if let Some((name, text)) = file.split_once('>') {
-            files.push(entry(alloc, name, text.as_bytes())?)?;
+            put_file(files, name, text)?;
         }
     }
-    Ok(files)
+    Ok(())
+}
+
+/// The files of a shelf.
+fn files_of(alloc: Global, shelf: &str) -> Result<Vec<FileEntry>, AllocError> {
+    let mut files = Vec::new(alloc);
+    let done = put_files(&mut files, shelf);
+    filled(files, done)
 }
 
 /// The names of the files that were read.
@@ -149,16 +162,22 @@ fn files_are_read_each_before_its_includes(rt: HostRuntime) {
     assert_rows(&rt, &Files, FILES);
 }
 
-/// A file `m` that includes the files from 0 up to a number, of which there are so many.
-fn row_files(alloc: Global, included: u32, held: u32) -> Result<String, AllocError> {
-    let mut files = String::from_str(alloc, "m>")?;
+fn put_row(files: &mut String, included: u32, held: u32) -> Result<(), AllocError> {
+    files.push_str("m>")?;
     for number in 0..included {
         write!(files, "{number},")?;
     }
     for number in 0..held {
         write!(files, " {number}>")?;
     }
-    Ok(files)
+    Ok(())
+}
+
+/// A file `m` that includes the files from 0 up to a number, of which there are so many.
+fn row_files(alloc: Global, included: u32, held: u32) -> Result<String, AllocError> {
+    let mut files = String::new(alloc);
+    let done = put_row(&mut files, included, held);
+    filled(files, done)
 }
 
 /// What comes of one of these files.
@@ -206,14 +225,18 @@ fn there_are_at_most_64_files(rt: HostRuntime) {
     assert_answer(&rt, &LACKING, "m", "Absent m 63");
 }
 
-/// A file 0 that includes 1, which includes 2, and so on, where there are so many.
-fn chain_files(alloc: Global, held: u32, last: &str) -> Result<String, AllocError> {
-    let mut files = String::new(alloc);
+fn put_chain(files: &mut String, held: u32, last: &str) -> Result<(), AllocError> {
     for number in 1..held {
         write!(files, "{}>{number} ", number - 1)?;
     }
-    files.push_str(last)?;
-    Ok(files)
+    files.push_str(last)
+}
+
+/// A file 0 that includes 1, which includes 2, and so on, where there are so many.
+fn chain_files(alloc: Global, held: u32, last: &str) -> Result<String, AllocError> {
+    let mut files = String::new(alloc);
+    let done = put_chain(&mut files, held, last);
+    filled(files, done)
 }
 
 /// What comes of the first of so many files, where this is the last one.
@@ -244,11 +267,18 @@ fn long_file(alloc: Global, count: usize) -> Result<FileEntry, AllocError> {
     })
 }
 
+fn put_long(files: &mut Vec<FileEntry>, count: usize) -> Result<(), AllocError> {
+    put_file(files, "m", "-,a")?;
+    let file = long_file(*files.allocator(), count)?;
+    files.push(file)?;
+    Ok(())
+}
+
 /// A file `m`, which includes `a`, and a file `a` of so many bytes.
 fn with_long_file(alloc: Global, count: usize) -> Result<Vec<FileEntry>, AllocError> {
-    let mut files = files_of(alloc, "m>-,a")?;
-    files.push(long_file(alloc, count)?)?;
-    Ok(files)
+    let mut files = Vec::new(alloc);
+    let done = put_long(&mut files, count);
+    filled(files, done)
 }
 
 /// What comes of one of these files.

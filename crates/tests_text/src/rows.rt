@@ -43,3 +43,11 @@ pub fn assert_rows<R: Abort + AllocGlobal, A: Asked>(rt: &R, asked: &A, table: &
         assert_row(rt, asked, row);
     }
 }
+
+/// What was filled, where there was memory for all of it. No other exit drops it.
+pub fn filled<T: Drop>(value: T, done: Result<(), AllocError>) -> Result<T, AllocError> {
+    match done {
+        Ok(()) => Ok(value),
+        Err(none) => Err(none),
+    }
+}

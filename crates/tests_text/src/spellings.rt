@@ -67,7 +67,7 @@ rover . specify ( false ) ;
 "#;
 
 /// The canonical spelling of the text, if it has no fault.
-fn spelling_of(alloc: Global, text: &[u8]) -> Option<Bytes> {
+pub fn spelling_of(alloc: Global, text: &[u8]) -> Option<Bytes> {
     match tree_of(alloc, text) {
         Ok(tree) => print(alloc, tree.as_slice()).ok(),
         Err(_) => None,

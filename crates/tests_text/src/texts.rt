@@ -1,10 +1,9 @@
 //! Texts, with the count of declarations or the fault that each has.
 
 use super::rows::{Asked, assert_rows};
+use super::spellings::spelling_of;
 use super::trees::{are_alike, tree_of};
-use eu_name::bytes::Bytes;
 use nddl_parser::ParseFault;
-use nddl_print::print;
 use std::alloc::{AllocError, Global};
 
 /// How many declarations the text has, or its fault.
@@ -12,14 +11,6 @@ fn count_of(alloc: Global, text: &str) -> Result<usize, ParseFault> {
     match tree_of(alloc, text.as_bytes()) {
         Ok(tree) => Ok(tree.len()),
         Err(fault) => Err(fault),
-    }
-}
-
-/// The canonical spelling of the text, if it has no fault.
-fn spelling_of(alloc: Global, text: &[u8]) -> Option<Bytes> {
-    match tree_of(alloc, text) {
-        Ok(tree) => print(alloc, tree.as_slice()).ok(),
-        Err(_) => None,
     }
 }
 
