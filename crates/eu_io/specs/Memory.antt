@@ -1,13 +1,13 @@
 -- What sources and sinks in memory hold, and which calls of an object in memory fail.
 use Rattle.std.specs.Prelude.{ℕ, ◌-◌, min, Bool, ◌&&◌, List, length, nat_eq, nat_lt, nat_le}
 use Rattle.std.specs.List.{list_any}
-use Rattle.eu_io.specs.Faults.{raised, counted}
+use Rattle.eu_io.specs.Faults.{FaultState, after, raised}
 
--- the numbers of the calls that fail, how many calls there were, and how many of them failed
+-- the numbers of the calls that fail, how many calls there were, and which of them failed
 pub record CallState : Type 0 where
   pub fails : List ℕ
   pub made : ℕ
-  pub faults : ℕ
+  pub faults : FaultState
 
 -- the bytes that a source has left, and the most that one call gives
 pub record SourceState : Type 0 where
@@ -26,10 +26,10 @@ pub record StoreState : Type 0 where
   pub room : ℕ
   pub most : ℕ
 
--- a sink that fails only where it is full, and how many calls have failed
+-- a sink that fails only where it is full, and which calls have failed
 pub record CalmSinkState : Type 0 where
   pub store : StoreState
-  pub faults : ℕ
+  pub faults : FaultState
 
 -- a sink of which some calls fail
 pub record MemSinkState : Type 0 where
@@ -43,7 +43,7 @@ fails_next calls = list_any (λ call. nat_eq call (raised calls.made)) calls.fai
 -- the calls after one more, which failed or not
 abbrev pub after_call : CallState → Bool → CallState
 after_call calls failed =
-    record { fails = calls.fails; made = raised calls.made; faults = counted failed calls.faults }
+    record { fails = calls.fails; made = raised calls.made; faults = after failed calls.faults }
 
 -- how many bytes of a piece of this length a call takes
 abbrev pub taken_count : StoreState → ℕ → ℕ

@@ -1,9 +1,13 @@
 mod Comings
+mod Halting
 mod Once
 mod Planned
 mod Printing
 mod Ranging
 mod Requests
+mod Scripted
 mod Scripts
 mod Searching
+mod Stepping
+mod Tried
 mod Written

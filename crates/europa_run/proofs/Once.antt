@@ -2,7 +2,6 @@
 use Rattle.std.proofs.Common.{◌≡◌, ℕ, List, [], ◌++◌, inl, inr, sym, ap, ◌∙◌, subst}
 use Rattle.run_words.specs.declared.request.Request.TheVariants.{Script}
 use Rattle.session_loop.specs.declared.fault.SessionFault.{SessionFault}
-use Rattle.session_loop.specs.declared.fault.SessionFault.TheVariants as fault
 use Rattle.session_loop.specs.Ends.{begun}
 use Rattle.session_loop.specs.Laws.{HasOneReply, IsFront}
 use Rattle.session_loop.specs.Lines.{lines_of}
@@ -14,6 +13,7 @@ use Rattle.run_load.specs.Laws.{IsPosedOnce, PosedIsSound}
 use Rattle.run_commands.specs.declared.status.RunEnd.{RunEnd}
 use Rattle.run_commands.specs.declared.status.RunFault.TheVariants.{Read, Write, Memory}
 use Rattle.session_core.specs.LineReplies.{AnswersLine}
+use Rattle.europa_run.specs.declared.stopping.Halt.TheVariants.{Outside, InSession}
 use Rattle.europa_run.specs.Laws.{HasOneOutput, FaultLeavesFront}
 use Rattle.europa_run.specs.Output.{Given, SessionOutput, Output}
 use Rattle.europa_run.specs.Runs.{Leavings, StopsScript}
@@ -52,10 +52,8 @@ module _ (posed_once : IsPosedOnce) (one_reply : HasOneReply AnswersLine) (once 
       (front.0, script.1.1 ∙ (front.1 ∙ ap (λ l. l ++ front.0) (sym stops.out)))
 
   pub fault_front : FaultLeavesFront
-  fault_front words given leavings Read (inl nothing) whole end output = none_front leavings.out whole nothing.0
-  fault_front words given leavings Read (inr stops) whole end output = stopped_front words given leavings fault.ReadFault stops whole end output
-  fault_front words given leavings Write (inl loses) whole end output =
+  fault_front words given leavings (Outside Read) nothing whole end output = none_front leavings.out whole nothing.0
+  fault_front words given leavings (Outside Write) loses whole end output =
       (loses.0, (once words given (leavings.out ++ loses.0) whole loses.1.0 end loses.1.1 output).0)
-  fault_front words given leavings Write (inr stops) whole end output = stopped_front words given leavings fault.WriteFault stops whole end output
-  fault_front words given leavings Memory (inl nothing) whole end output = none_front leavings.out whole nothing.0
-  fault_front words given leavings Memory (inr stops) whole end output = stopped_front words given leavings fault.Memory stops whole end output
+  fault_front words given leavings (Outside Memory) nothing whole end output = none_front leavings.out whole nothing.0
+  fault_front words given leavings (InSession fault) stops whole end output = stopped_front words given leavings fault stops whole end output

@@ -1,5 +1,6 @@
 -- What the session of a script leaves is what the run of the words leaves.
 use Rattle.std.proofs.Common.{◌≡◌, ℕ, List, [], ◌++◌, Some, Result, Ok, Err, inl, inr, refl, sym, ap, ◌∙◌, subst, append-nil}
+use Rattle.std.proofs.KnownBytes.{Appends-nil}
 use Rattle.run_words.specs.declared.request.Request.{Request}
 use Rattle.run_words.specs.declared.request.Request.TheVariants.{Script}
 use Rattle.run_words.specs.Requests.{Asks}
@@ -15,12 +16,14 @@ use Rattle.plan_db.specs.Answers.{Held}
 use Rattle.plan_db.specs.Database.{Database}
 use Rattle.run_commands.specs.declared.status.RunEnd.{RunEnd}
 use Rattle.run_commands.specs.declared.status.RunEnd.TheVariants.{Done, LinesSpent}
-use Rattle.run_commands.specs.declared.status.RunFault.{RunFault}
 use Rattle.session_core.specs.LineReplies.{AnswersLine}
 use Rattle.europa_run.specs.declared.answering.Answer.TheVariants as answer
 use Rattle.europa_run.specs.Output.{Given, given_by, end_of, Output}
-use Rattle.europa_run.specs.Pieces.{Comes, ended_by, Streams, EditTells, RunsRequest}
-use Rattle.europa_run.specs.Runs.{HoldsSession, StopsScript, RunLeaves, Outside}
+use Rattle.europa_run.specs.Pieces.{Comes, RunsRequest}
+use Rattle.europa_run.specs.Halts.{in_session}
+use Rattle.europa_run.specs.Runs.{HoldsSession, StopsScript, RunLeaves}
+use Rattle.europa_run.specs.Steps.{Told, ended_by, Streams, EditTells}
+use Rattle.europa_run.proofs.Written.{appended}
 
 -- where there was no memory to begin with, nothing was taken and nothing written
 pub session_unbegun : (start : Database) (streams : Streams) → EditTells start streams streams (ended_by (Err fault.Memory))
@@ -30,11 +33,11 @@ session_unbegun start streams = (
     Err fault.Memory,
     (
       refl,
-      λ input before told_left told_written. (
+      λ input told_left. (
         record { taken = []; left = input; out = []; last = begun start },
         refl,
         told_left,
-        told_written ∙ ap Some (sym (append-nil before)),
+        Appends-nil streams.written,
         refl,
         inl (record { answered = []; later = lines_of input; split = refl; session = refl }),
       ),
@@ -65,7 +68,7 @@ module _ (words : List (List ℕ)) (given : Given) (file : List ℕ) (database :
   }
 
   session_leaves : (passage : Passage Database) (end : Result SessionEnd SessionFault) → given.input ≡ input_of passage → Ends AnswersLine (begun database) passage end
-      → RunLeaves words given (record { left = passage.left; out = passage.out }) (ended_by end)
+      → RunLeaves words given (record { left = passage.left; out = passage.out }) (in_session (ended_by end))
   session_leaves passage (Ok OfInput) is ends =
       let whole : passage.taken ≡ given.input = sym (is ∙ (ap (λ l. passage.taken ++ l) ends.0 ∙ append-nil passage.taken)) in (
         session_output passage AtEnd (subst (λ l. Session AnswersLine (begun database) (lines_of l) (course_of passage AtEnd)) whole ends.1),
@@ -87,26 +90,26 @@ module _ (words : List (List ℕ)) (given : Given) (file : List ℕ) (database :
     session_output passage AtLimit (subst (λ l. Session AnswersLine (begun database) (lines_of l) (course_of passage AtLimit)) (sym is) ends),
     λ done. absurd (spent_done done),
   )
-  session_leaves passage (Err fault.ReadFault) is ends = inr (stops passage fault.ReadFault is ends)
-  session_leaves passage (Err fault.WriteFault) is ends = inr (stops passage fault.WriteFault is ends)
-  session_leaves passage (Err fault.Memory) is ends = inr (stops passage fault.Memory is ends)
+  session_leaves passage (Err fault.ReadFault) is ends = stops passage fault.ReadFault is ends
+  session_leaves passage (Err fault.WriteFault) is ends = stops passage fault.WriteFault is ends
+  session_leaves passage (Err fault.Memory) is ends = stops passage fault.Memory is ends
 
 -- what is told of the session is what the run leaves
-pub session_runs : (request : Request (List ℕ)) (old new : Outside) (held : Held) (ended : Result RunEnd RunFault)
+pub session_runs : (request : Request (List ℕ)) (old new : Told) (held : Held) (ended : Result RunEnd SessionFault)
     → ((files : List FileEntry) → old.files ≡ Some files → Comes files request (Ok (answer.Session held)))
     → EditTells held.database (record { left = old.left; written = old.written }) (record { left = new.left; written = new.written }) ended
-    → RunsRequest request old new ended
+    → RunsRequest request old new (in_session ended)
 session_runs request old new held ended comes (last, (end, (is, tells))) = λ words asks files input before told_files told_left told_written.
     let script = comes files told_files in
-    let p = tells input before told_left told_written in
+    let p = tells input told_left in
     let passage = p.0 in
     let holds : HoldsSession words (given_by files input) script.0 held.database =
     record { asks = subst (λ (r : Request (List ℕ)). Asks words r) script.1.0 asks; posed = script.1.1 } in (
       record { left = passage.left; out = passage.out },
       (
         p.2,
-        p.3,
-        subst (RunLeaves words (given_by files input) (record { left = passage.left; out = passage.out })) (sym is)
+        appended old.written new.written before passage.out told_written p.3,
+        subst (λ (e : Result RunEnd SessionFault). RunLeaves words (given_by files input) (record { left = passage.left; out = passage.out }) (in_session e)) (sym is)
             (session_leaves words (given_by files input) script.0 held.database holds passage end p.1 p.5),
       ),
     )

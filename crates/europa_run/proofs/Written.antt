@@ -14,11 +14,14 @@ use Rattle.run_commands.specs.declared.status.RunFault.TheVariants.{Read, Write,
 use Rattle.run_commands.specs.Printed.{Prints}
 use Rattle.europa_run.specs.declared.answering.Answer.TheVariants as answer
 use Rattle.europa_run.specs.Output.{given_by, is_script, RequestOutput, Output}
-use Rattle.europa_run.specs.Pieces.{Comes, RunsRequest, UsagePrints}
-use Rattle.europa_run.specs.Runs.{LeavesNoInput, Outside, RunsTo}
+use Rattle.europa_run.specs.Pieces.{Comes, RunsRequest}
+use Rattle.europa_run.specs.declared.stopping.Halt.TheVariants.{Outside}
+use Rattle.europa_run.specs.Halts.{outside}
+use Rattle.europa_run.specs.Runs.{LeavesNoInput, RunsTo}
+use Rattle.europa_run.specs.Steps.{Told, UsagePrints}
 
 -- what is appended to what is told is told
-appended : (old new : Option (List ℕ)) (before bytes : List ℕ) → old ≡ Some before → Appends old new bytes → new ≡ Some (before ++ bytes)
+pub appended : (old new : Option (List ℕ)) (before bytes : List ℕ) → old ≡ Some before → Appends old new bytes → new ≡ Some (before ++ bytes)
 appended None new before bytes is appends = absurd (let no : ⊥ = cc in no)
 appended (Some text) None before bytes is appends = absurd appends
 appended (Some text) (Some more) before bytes is appends =
@@ -33,15 +36,15 @@ no_script : (words : List (List ℕ)) (request : Request (List ℕ)) → Asks wo
 no_script words request asks not file script =
     let is : true ≡ false = ap is_script (asks_once words (Script file) request script asks) ∙ not in cc
 
-module _ (words : List (List ℕ)) (old new : Outside) (unread : new.left ≡ old.left) where
+module _ (words : List (List ℕ)) (old new : Told) (unread : new.left ≡ old.left) where
   -- nothing was written
-  pub read_runs : new.written ≡ old.written → RunsTo words old new (Err Read)
+  pub read_runs : new.written ≡ old.written → RunsTo words old new (Err (Outside Read))
   read_runs same = λ files input before told_files told_left told_written.
-      (record { left = input; out = [] }, (unread ∙ told_left, same ∙ told_written ∙ ap Some (sym (append-nil before)), inl (refl, refl)))
+      (record { left = input; out = [] }, (unread ∙ told_left, same ∙ told_written ∙ ap Some (sym (append-nil before)), (refl, refl)))
 
-  pub memory_runs : new.written ≡ old.written → RunsTo words old new (Err Memory)
+  pub memory_runs : new.written ≡ old.written → RunsTo words old new (Err (Outside Memory))
   memory_runs same = λ files input before told_files told_left told_written.
-      (record { left = input; out = [] }, (unread ∙ told_left, same ∙ told_written ∙ ap Some (sym (append-nil before)), inl (refl, refl)))
+      (record { left = input; out = [] }, (unread ∙ told_left, same ∙ told_written ∙ ap Some (sym (append-nil before)), (refl, refl)))
 
   -- all of the output was written
   whole_runs : (text : List ℕ) (end : RunEnd) → Appends old.written new.written text
@@ -59,18 +62,18 @@ module _ (words : List (List ℕ)) (old new : Outside) (unread : new.left ≡ ol
 
   -- a front of it was
   front_runs : (front lost : List ℕ) (end : RunEnd) → Appends old.written new.written front
-      → ((files : List FileEntry) (input : List ℕ) → old.files ≡ Some files → Output words (given_by files input) (front ++ lost) end) → RunsTo words old new (Err Write)
+      → ((files : List FileEntry) (input : List ℕ) → old.files ≡ Some files → Output words (given_by files input) (front ++ lost) end) → RunsTo words old new (Err (Outside Write))
   front_runs front lost end appends gives = λ files input before told_files told_left told_written. (
     record { left = input; out = front },
     (
       unread ∙ told_left,
       appended old.written new.written before front told_written appends,
-      inl (lost, (end, gives files input told_files)),
+      (lost, (end, gives files input told_files)),
     ),
   )
 
   -- the usage
-  pub usage_runs : (ended : Result RunEnd RunFault) → AreNoCommand words → UsagePrints old.written new.written ended → RunsTo words old new ended
+  pub usage_runs : (ended : Result RunEnd RunFault) → AreNoCommand words → UsagePrints old.written new.written ended → RunsTo words old new (outside ended)
   usage_runs (Ok end) none p =
       whole_runs p.0 end p.1.0 (λ files input told. inl (none, p.1.1))
       (λ files input told done. absurd (done_usage (sym done ∙ p.1.1.1)))
@@ -79,10 +82,10 @@ module _ (words : List (List ℕ)) (old new : Outside) (unread : new.left ≡ ol
   usage_runs (Err Memory) none p = memory_runs p
 
 -- what a request comes to is printed
-module _ (request : Request (List ℕ)) (old new : Outside) (unread : new.left ≡ old.left) where
+module _ (request : Request (List ℕ)) (old new : Told) (unread : new.left ≡ old.left) where
   pub printed_runs : (printed : Printed) (ended : Result RunEnd RunFault)
       → ((files : List FileEntry) → old.files ≡ Some files → Comes files request (Ok (answer.Printed printed)))
-      → Prints printed old.written new.written ended → RunsRequest request old new ended
+      → Prints printed old.written new.written ended → RunsRequest request old new (outside ended)
   printed_runs printed (Ok end) comes p = λ words asks.
       whole_runs words old new unread printed.text end p.0
       (λ files input told. inr (request, (asks, subst (λ (e : RunEnd). RequestOutput request (given_by files input) printed.text e) (sym p.1) ((comes files told).0 input))))
@@ -95,7 +98,7 @@ module _ (request : Request (List ℕ)) (old new : Outside) (unread : new.left �
 
   -- nothing is, for want of memory or after a failed read
   pub unanswered_runs : (fault : RunFault) → ((files : List FileEntry) → old.files ≡ Some files → Comes files request (Err fault)) → new.written ≡ old.written
-      → RunsRequest request old new (Err fault)
+      → RunsRequest request old new (Err (Outside fault))
   unanswered_runs Read comes same = λ words asks. read_runs words old new unread same
   unanswered_runs Write comes same = λ words asks files input before told_files told_left told_written. absurd (comes files told_files)
   unanswered_runs Memory comes same = λ words asks. memory_runs words old new unread same

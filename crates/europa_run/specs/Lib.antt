@@ -1,4 +1,6 @@
+pub mod Halts
 pub mod Laws
 pub mod Output
 pub mod Pieces
 pub mod Runs
+pub mod Steps

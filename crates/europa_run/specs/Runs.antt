@@ -1,11 +1,9 @@
 -- What a run of the program leaves: its output or, after a fault, what was written of it and what was lost.
-use Rattle.std.specs.Prelude.{◌≡◌, ℕ, Bool, true, false, List, [], ◌++◌, ◌⊎◌, Option, Some, Result, Ok, Err}
+use Rattle.std.specs.Prelude.{◌≡◌, ℕ, List, [], ◌++◌, ◌⊎◌, Some, Result, Ok, Err}
 use Rattle.run_words.specs.declared.request.Request.TheVariants.{Script}
 use Rattle.run_words.specs.Requests.{Asks}
-use Rattle.eu_io.specs.Faults.{raised}
 use Rattle.eu_io.specs.declared.shelf.FileEntry.{FileEntry}
 use Rattle.session_loop.specs.declared.fault.SessionFault.{SessionFault}
-use Rattle.session_loop.specs.declared.fault.SessionFault.TheVariants as session
 use Rattle.session_loop.specs.Ends.{Passage, input_of, begun, Ends}
 use Rattle.session_loop.specs.Lines.{lines_of}
 use Rattle.session_loop.specs.Sessions.{AtAnswer, Course, Session}
@@ -13,12 +11,14 @@ use Rattle.plan_db.specs.Database.{Database}
 use Rattle.run_load.specs.Posing.{IsPosed}
 use Rattle.run_commands.specs.declared.status.RunEnd.{RunEnd}
 use Rattle.run_commands.specs.declared.status.RunEnd.TheVariants.{Done}
-use Rattle.run_commands.specs.declared.status.RunFault.{RunFault}
 use Rattle.run_commands.specs.declared.status.RunFault.TheVariants.{Read, Write, Memory}
 use Rattle.run_commands.specs.declared.status.Status.{Status}
-use Rattle.run_commands.specs.Statuses.{status_of}
 use Rattle.session_core.specs.LineReplies.{AnswersLine}
+use Rattle.europa_run.specs.declared.stopping.Halt.{Halt}
+use Rattle.europa_run.specs.declared.stopping.Halt.TheVariants.{Outside, InSession}
+use Rattle.europa_run.specs.Halts.{Calls, FailsOnce, halted_status}
 use Rattle.europa_run.specs.Output.{Given, given_by, Output}
+use Rattle.europa_run.specs.Steps.{Told, RunsInSteps}
 
 -- the bytes of its input that a run left, and what it wrote
 pub record Leavings : Type 0 where
@@ -63,42 +63,28 @@ abbrev pub LeavesNoInput : List (List ℕ) → Given → Leavings → Type 0
 LeavesNoInput words given leavings =
     (file : List ℕ) → Asks words (Script file) → (leavings.left ≡ []) ⊎ QuitsScript words given
 
--- What a run leaves that ends so: the defined output. After a failed read either nothing was done, or the script's session stopped
--- there; after a failed write a front of the output was written, or the session stopped there; and where memory ran out nothing
--- was done, or the session stopped there.
-abbrev pub RunLeaves : List (List ℕ) → Given → Leavings → Result RunEnd RunFault → Type 0
+-- What a run leaves that ends so: the defined output. Where a read of a file failed, and where memory ran out in no session, nothing
+-- was done; where a write failed in no session a front of the output was written; and a fault of a session stopped that session.
+abbrev pub RunLeaves : List (List ℕ) → Given → Leavings → Result RunEnd Halt → Type 0
 RunLeaves words given leavings (Ok end) =
     Output words given leavings.out end × (end ≡ Done → LeavesNoInput words given leavings)
-RunLeaves words given leavings (Err Read) = LeavesAll given leavings ⊎ StopsScript words given leavings session.ReadFault
-RunLeaves words given leavings (Err Write) = LosesRest words given leavings ⊎ StopsScript words given leavings session.WriteFault
-RunLeaves words given leavings (Err Memory) = LeavesAll given leavings ⊎ StopsScript words given leavings session.Memory
-
--- the files, the bytes that the input has left and those that the output has so far, where these are told
-pub record Outside : Type 0 where
-  pub files : Option (List FileEntry)
-  pub left : Option (List ℕ)
-  pub written : Option (List ℕ)
+RunLeaves words given leavings (Err (Outside Read)) = LeavesAll given leavings
+RunLeaves words given leavings (Err (Outside Write)) = LosesRest words given leavings
+RunLeaves words given leavings (Err (Outside Memory)) = LeavesAll given leavings
+RunLeaves words given leavings (Err (InSession fault)) = StopsScript words given leavings fault
 
 -- where all is told, this is what the run leaves
-abbrev pub RunsTo : List (List ℕ) → Outside → Outside → Result RunEnd RunFault → Type 0
+abbrev pub RunsTo : List (List ℕ) → Told → Told → Result RunEnd Halt → Type 0
 RunsTo words old new ended =
     (files : List FileEntry) (input before : List ℕ)
     → old.files ≡ Some files → old.left ≡ Some input → old.written ≡ Some before
     → (leavings : Leavings) × ((new.left ≡ Some leavings.left) × (new.written ≡ Some (before ++ leavings.out))
     × RunLeaves words (given_by files input) leavings ended)
 
--- the same of a run by its status
-abbrev pub Runs : List (List ℕ) → Outside → Outside → Status → Type 0
-Runs words old new status = (ended : Result RunEnd RunFault) × ((status ≡ status_of ended) × RunsTo words old new ended)
-
--- how many calls of the shelf failed, and how many reads of the input
-pub record ReadFaults : Type 0 where
-  pub of_shelf : ℕ
-  pub of_input : ℕ
-
--- where a read failed, one of the two counts is one more; otherwise both are what they were
-abbrev pub RaisesReads : Bool → ReadFaults → ReadFaults → Type 0
-RaisesReads true old new =
-    ((new.of_shelf ≡ raised old.of_shelf) × (new.of_input ≡ old.of_input))
-    ⊎ ((new.of_shelf ≡ old.of_shelf) × (new.of_input ≡ raised old.of_input))
-RaisesReads false old new = (new.of_shelf ≡ old.of_shelf) × (new.of_input ≡ old.of_input)
+-- how the run ended, by its status: what it leaves where all is told, what it does step by step, and which of its calls failed
+pub record Runs (words : List (List ℕ)) (old new : Told) (earlier later : Calls) (status : Status) : Type 0 where
+  pub ended : Result RunEnd Halt
+  pub is : status ≡ halted_status ended
+  pub leaves : RunsTo words old new ended
+  pub steps : RunsInSteps words old new ended
+  pub fails : FailsOnce ended earlier later

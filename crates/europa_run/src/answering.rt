@@ -2,7 +2,7 @@
 
 ghost use Rattle.std.specs.Prelude.{◌≡◌, List, Some, true, false, IfOk};
 ghost use Rattle.eu_io.specs.declared.shelf.FileEntry.{FileEntry};
-ghost use Rattle.eu_io.specs.Faults.{counted};
+ghost use Rattle.eu_io.specs.Faults.{counted, NoneAfter};
 ghost use Rattle.run_words.specs.declared.request.Request.TheVariants.{Script as AskedScript};
 ghost use Rattle.europa_run.specs.Output.{asks_files, is_script};
 ghost use Rattle.europa_run.specs.Pieces.{Comes, IsInRange, is_session, told_answer};
@@ -47,6 +47,7 @@ pub fn answer_request<F: Shelf>(
     ensures comes { (files : List FileEntry) → F.files shelf.old ≡ Some files → Comes files request.now result }
     ensures of_script { IfOk result (λ answer. is_session answer ≡ true → is_script request.now ≡ true) }
     ensures counted { F.faults shelf.new ≡ counted (is_read result) (F.faults shelf.old) }
+    ensures last { NoneAfter (is_read result) (F.has_failed shelf.new) }
     ensures unasked { asks_files request.now ≡ false → shelf.new ≡ shelf.old }
     ensures no_read { asks_files request.now ≡ false → is_read result ≡ false }
     ensures no_write { is_write result ≡ false }
@@ -69,6 +70,7 @@ pub fn answer_request<F: Shelf>(
 fn script<F: Shelf>(alloc: Global, shelf: &mut F, file: &Text) -> Result<Answer, RunFault>
     ensures comes { (files : List FileEntry) → F.files shelf.old ≡ Some files → Comes files (AskedScript file.now) result }
     ensures counted { F.faults shelf.new ≡ counted (is_read result) (F.faults shelf.old) }
+    ensures last { NoneAfter (is_read result) (F.has_failed shelf.new) }
     ensures no_write { is_write result ≡ false }
 {
     match pose(alloc, shelf, file) {

@@ -7,6 +7,7 @@
 mod answering;
 pub mod laws;
 pub mod run;
+pub mod stopping;
 mod talking;
 
 pub use run::europa;

@@ -1,5 +1,5 @@
 -- What answers say that may also come for want of memory or from a shelf that failed.
-use Rattle.std.specs.Prelude.{◌≡◌, ℕ, List, Result, Ok, Err, IsSome, ⊤}
+use Rattle.std.specs.Prelude.{◌≡◌, ℕ, Bool, true, List, Result, Ok, Err, IsSome, ⊤}
 use Rattle.eu_io.specs.Faults.{raised}
 use Rattle.nddl_ast.specs.declared.declaration.Decl.{Decl}
 use Rattle.nddl_ast.specs.declared.declaration.FileDecls.{FileDecls}
@@ -37,3 +37,8 @@ TellsOutcome Is (Err all.Memory) = ⊤
 abbrev pub CountsReads : {T : Type 0} → Result T ReadAllFault → ℕ → ℕ → Type 0
 CountsReads (Err all.ReadFault) old new = new ≡ raised old
 CountsReads other old new = new ≡ old
+
+-- where a call of the shelf failed it was the last one
+abbrev pub NoReadAfter : {T : Type 0} → Result T ReadAllFault → Bool → Type 0
+NoReadAfter (Err all.ReadFault) last = last ≡ true
+NoReadAfter other last = ⊤

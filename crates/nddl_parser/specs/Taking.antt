@@ -1,5 +1,5 @@
 -- What the pieces of the work do. The public calls promise none of it.
-use Rattle.std.specs.Prelude.{◌≡◌, ℕ, List, length, Option, Result, Ok, Err, ⊤}
+use Rattle.std.specs.Prelude.{◌≡◌, ℕ, Bool, true, List, length, Option, Result, Ok, Err, ⊤}
 use Rattle.eu_io.specs.Faults.{raised}
 use Rattle.eu_io.specs.declared.shelf.FileEntry.{FileEntry}
 use Rattle.eu_io.specs.declared.shelf.ShelfFail.{ShelfFail}
@@ -28,6 +28,11 @@ fail_of shelf.Memory = fetch.Memory
 abbrev pub CountsFetch : {T : Type 0} → Result T FetchFail → ℕ → ℕ → Type 0
 CountsFetch (Err fetch.ReadFault) old new = new ≡ raised old
 CountsFetch other old new = new ≡ old
+
+-- where the call of the shelf failed it was the last one
+abbrev pub NoFetchAfter : {T : Type 0} → Result T FetchFail → Bool → Type 0
+NoFetchAfter (Err fetch.ReadFault) last = last ≡ true
+NoFetchAfter other last = ⊤
 
 -- the text of the file or why it isn't read, unless there was no memory or the call of the shelf failed
 abbrev pub Fetches : Option (List FileEntry) → ℕ → ℕ → List ℕ → Result (List ℕ) FetchFail → Type 0

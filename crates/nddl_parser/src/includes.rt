@@ -1,7 +1,7 @@
 //! A file and those that it includes, each after the one that includes it.
 
 ghost use Rattle.std.specs.Prelude.{◌≡◌};
-ghost use Rattle.nddl_parser.specs.Outcomes.{CountsReads, TellsOutcome};
+ghost use Rattle.nddl_parser.specs.Outcomes.{CountsReads, NoReadAfter, TellsOutcome};
 ghost use Rattle.nddl_parser.specs.Visits.{ComesOf, FollowsIncludes, Visits, ReadsAll};
 
 use super::fault::ReadAllFault;
@@ -31,6 +31,7 @@ pub fn read_all<F: Shelf, R: TextReader>(
     ensures told { TellsOutcome (ReadsAll (R.reads reader.now) (F.files shelf.old) name.now) result }
     ensures kept { F.files shelf.new ≡ F.files shelf.old }
     ensures counted { CountsReads result (F.faults shelf.old) (F.faults shelf.new) }
+    ensures last { NoReadAfter result (F.has_failed shelf.new) }
 {
     let ask = Ask {
         name: Text::from_str(alloc, name)?,
@@ -54,6 +55,7 @@ fn visit<F: Shelf, R: TextReader>(
     ensures told { TellsOutcome (Visits (R.reads reader.now) (F.files shelf.old) levels ask.now before) result }
     ensures kept { F.files shelf.new ≡ F.files shelf.old }
     ensures counted { CountsReads result (F.faults shelf.old) (F.faults shelf.new) }
+    ensures last { NoReadAfter result (F.has_failed shelf.new) }
 {
     let mut read = before;
     let includes = take_file(alloc, shelf, reader, &mut read, ask, levels)?;
@@ -83,6 +85,7 @@ fn follow<F: Shelf, R: TextReader>(
         (FollowsIncludes (Visits (R.reads reader.now) (F.files shelf.old) levels) file.now includes.now before) result }
     ensures kept { F.files shelf.new ≡ F.files shelf.old }
     ensures counted { CountsReads result (F.faults shelf.old) (F.faults shelf.new) }
+    ensures last { NoReadAfter result (F.has_failed shelf.new) }
 {
     let mut read = before;
     for include in includes {
@@ -106,6 +109,7 @@ fn enter<F: Shelf, R: TextReader>(
         (ComesOf (Visits (R.reads reader.now) (F.files shelf.old) levels) file.now include.now read) result }
     ensures kept { F.files shelf.new ≡ F.files shelf.old }
     ensures counted { CountsReads result (F.faults shelf.old) (F.faults shelf.new) }
+    ensures last { NoReadAfter result (F.has_failed shelf.new) }
 {
     if is_skipped(include.name.as_slice(), read.as_slice()) {
         return Ok(read);

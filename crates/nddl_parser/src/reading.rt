@@ -1,7 +1,7 @@
 //! A file of the language with those that it includes.
 
 ghost use Rattle.std.specs.Prelude.{◌≡◌};
-ghost use Rattle.nddl_parser.specs.Outcomes.{CountsReads, TellsOutcome};
+ghost use Rattle.nddl_parser.specs.Outcomes.{CountsReads, NoReadAfter, TellsOutcome};
 ghost use Rattle.nddl_parser.specs.Visits.{ReadsAll};
 ghost use Rattle.nddl_parser.specs.Language.{ReadsAs};
 
@@ -23,6 +23,7 @@ pub fn read_all<F: Shelf>(
     ensures told { TellsOutcome (ReadsAll ReadsAs (F.files shelf.old) name.now) result }
     ensures kept { F.files shelf.new ≡ F.files shelf.old }
     ensures counted { CountsReads result (F.faults shelf.old) (F.faults shelf.new) }
+    ensures last { NoReadAfter result (F.has_failed shelf.new) }
 {
     reading::read_all(alloc, shelf, &Language, name)
 }

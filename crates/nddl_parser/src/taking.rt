@@ -2,9 +2,9 @@
 
 ghost use Rattle.std.specs.Prelude.{◌≡◌, ◌≤◌, ◌++◌, ◌∷◌, [], IfOk, length};
 ghost use Rattle.nddl_parser.specs.Limits.{most_bytes};
-ghost use Rattle.nddl_parser.specs.Outcomes.{CountsReads};
+ghost use Rattle.nddl_parser.specs.Outcomes.{CountsReads, NoReadAfter};
 ghost use Rattle.nddl_parser.specs.Includes.{includes_of};
-ghost use Rattle.nddl_parser.specs.Taking.{fail_of, CountsFetch, Fetches, HasDecls, ParsesFile, TakesFile};
+ghost use Rattle.nddl_parser.specs.Taking.{fail_of, CountsFetch, NoFetchAfter, Fetches, HasDecls, ParsesFile, TakesFile};
 
 use super::fault::{ReadAllFault, Refusal};
 use super::include::{Ask, Include, includes_in};
@@ -56,6 +56,7 @@ fn fetch<F: Shelf>(
     ensures fetched { Fetches (F.files shelf.old) count levels name.now result }
     ensures kept { F.files shelf.new ≡ F.files shelf.old }
     ensures counted { CountsFetch result (F.faults shelf.old) (F.faults shelf.new) }
+    ensures last { NoFetchAfter result (F.has_failed shelf.new) }
 {
     let text = shelf.get(name, MOST_BYTES)?;
     if count >= MOST_FILES {
@@ -95,6 +96,7 @@ fn declarations<F: Shelf, R: TextReader>(
     ensures declared { HasDecls (R.reads reader.now) (F.files shelf.old) count levels ask.now result }
     ensures kept { F.files shelf.new ≡ F.files shelf.old }
     ensures counted { CountsReads result (F.faults shelf.old) (F.faults shelf.new) }
+    ensures last { NoReadAfter result (F.has_failed shelf.new) }
 {
     match fetch(shelf, ask.name.as_str(), count, levels) {
         Ok(text) => parse(alloc, reader, &ask.name, text.as_slice()),
@@ -139,6 +141,7 @@ pub fn take_file<F: Shelf, R: TextReader>(
     ensures taken { TakesFile (R.reads reader.now) (F.files shelf.old) levels ask.now read.old read.new result }
     ensures kept { F.files shelf.new ≡ F.files shelf.old }
     ensures counted { CountsReads result (F.faults shelf.old) (F.faults shelf.new) }
+    ensures last { NoReadAfter result (F.has_failed shelf.new) }
 {
     let decls = declarations(alloc, shelf, reader, ask, read.len(), levels)?;
     let file = file_of(&ask.name, decls)?;

@@ -47,11 +47,7 @@ is_write (Err fault.Read) = false
 is_write (Err fault.Write) = true
 is_write (Err fault.Memory) = false
 
--- the same of a status
+-- whether it is the status of a run that a failed read stopped
 abbrev pub is_read_status : Status → Bool
 is_read_status status.ReadFault = true
 is_read_status other = false
-
-abbrev pub is_write_status : Status → Bool
-is_write_status status.WriteFault = true
-is_write_status other = false

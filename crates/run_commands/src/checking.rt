@@ -2,7 +2,7 @@
 
 ghost use Rattle.std.specs.Prelude.{◌≡◌, List, Some, false};
 ghost use Rattle.eu_io.specs.declared.shelf.FileEntry.{FileEntry};
-ghost use Rattle.eu_io.specs.Faults.{counted};
+ghost use Rattle.eu_io.specs.Faults.{counted, NoneAfter};
 ghost use Rattle.eu_io.specs.Files.{file_named};
 ghost use Rattle.model_core.specs.Lawful.{IsLawful};
 ghost use Rattle.run_commands.specs.Checking.{CheckOutput, CheckedOutput, PlanFileOutput, checked_end};
@@ -32,6 +32,7 @@ pub fn check<F: Shelf>(
     ensures checked { (files : List FileEntry) → F.files shelf.old ≡ Some files
         → AnswersAs (CheckOutput files file.now plan.now) result }
     ensures reads { F.faults shelf.new ≡ counted (is_read result) (F.faults shelf.old) }
+    ensures last { NoneAfter (is_read result) (F.has_failed shelf.new) }
     ensures no_write { is_write result ≡ false }
 {
     match pose(alloc, shelf, file) {
@@ -50,6 +51,7 @@ fn check_posed<F: Shelf>(
     ensures checked { (files : List FileEntry) → F.files shelf.old ≡ Some files
         → AnswersAs (PlanFileOutput db.database.model plan.now (file_named plan.now files)) result }
     ensures reads { F.faults shelf.new ≡ counted (is_read result) (F.faults shelf.old) }
+    ensures last { NoneAfter (is_read result) (F.has_failed shelf.new) }
     ensures no_write { is_write result ≡ false }
 {
     let checked = check_file(alloc, shelf, db.model(), plan);
@@ -68,6 +70,7 @@ fn check_file<F: Shelf>(
     ensures checked { (files : List FileEntry) → F.files shelf.old ≡ Some files
         → AnswersAs (PlanFileOutput model.now plan.now (file_named plan.now files)) result }
     ensures reads { F.faults shelf.new ≡ counted (is_read result) (F.faults shelf.old) }
+    ensures last { NoneAfter (is_read result) (F.has_failed shelf.new) }
     ensures no_write { is_write result ≡ false }
 {
     match read_content(alloc, shelf, plan) {

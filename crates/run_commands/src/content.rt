@@ -2,7 +2,7 @@
 
 ghost use Rattle.std.specs.Prelude.{◌≡◌, IfOk, List, Some, false};
 ghost use Rattle.eu_io.specs.declared.shelf.FileEntry.{FileEntry};
-ghost use Rattle.eu_io.specs.Faults.{counted};
+ghost use Rattle.eu_io.specs.Faults.{counted, NoneAfter};
 ghost use Rattle.eu_io.specs.Files.{file_named};
 ghost use Rattle.run_commands.specs.Contents.{IsContent, IsShort, told_content};
 ghost use Rattle.run_commands.specs.Statuses.{is_read, is_write};
@@ -47,6 +47,7 @@ pub fn read_content<F: Shelf>(
     ensures short { IfOk result IsShort }
     ensures kept { F.files shelf.new ≡ F.files shelf.old }
     ensures counted { F.faults shelf.new ≡ counted (is_read result) (F.faults shelf.old) }
+    ensures last { NoneAfter (is_read result) (F.has_failed shelf.new) }
     ensures no_write { is_write result ≡ false }
 {
     match shelf.get(file.as_str(), FILE_LIMIT) {

@@ -2,7 +2,7 @@
 
 ghost use Rattle.std.specs.Prelude.{◌≡◌, ◌<◌, ◌≤◌, List, Some, IfSome, false};
 ghost use Rattle.eu_io.specs.declared.shelf.FileEntry.{FileEntry};
-ghost use Rattle.eu_io.specs.Faults.{counted};
+ghost use Rattle.eu_io.specs.Faults.{counted, NoneAfter};
 ghost use Rattle.plan_db.specs.Database.{IsSound};
 ghost use Rattle.session_replies.specs.Texts.{IsFlawlessEnd, TellsSearch};
 ghost use Rattle.run_commands.specs.Planning.{PlanOutput};
@@ -37,6 +37,7 @@ pub fn plan<F: Shelf>(
     ensures planned { (files : List FileEntry) → F.files shelf.old ≡ Some files
         → AnswersAs (PlanOutput files file.now steps tokens) result }
     ensures reads { F.faults shelf.new ≡ counted (is_read result) (F.faults shelf.old) }
+    ensures last { NoneAfter (is_read result) (F.has_failed shelf.new) }
     ensures no_write { is_write result ≡ false }
 {
     match pose(alloc, shelf, file) {

@@ -1,7 +1,7 @@
 //! Writing what is printed.
 
 ghost use Rattle.std.specs.Prelude.{◌≡◌, false};
-ghost use Rattle.eu_io.specs.Faults.{counted};
+ghost use Rattle.eu_io.specs.Faults.{counted, NoneAfter};
 ghost use Rattle.run_commands.specs.Printed.{Prints};
 ghost use Rattle.run_commands.specs.Statuses.{is_read, is_write};
 
@@ -14,6 +14,7 @@ use session_loop::write_lines;
 pub fn print<O: Sink>(out: &mut O, printed: &Printed) -> Result<RunEnd, RunFault>
     ensures prints { Prints printed.now (O.written out.old) (O.written out.new) result }
     ensures writes { O.faults out.new ≡ counted (is_write result) (O.faults out.old) }
+    ensures last { NoneAfter (is_write result) (O.has_failed out.new) }
     ensures no_read { is_read result ≡ false }
 {
     match write_lines(out, printed.text.as_slice()) {

@@ -2,7 +2,7 @@
 
 ghost use Rattle.std.specs.Prelude.{◌≡◌, ◌≤◌, List, Some, length, false};
 ghost use Rattle.eu_io.specs.declared.shelf.FileEntry.{FileEntry};
-ghost use Rattle.eu_io.specs.Faults.{counted};
+ghost use Rattle.eu_io.specs.Faults.{counted, NoneAfter};
 ghost use Rattle.eu_io.specs.Files.{file_named};
 ghost use Rattle.run_commands.specs.Showing.{FailOutput, TextOutput, ShowOutput, TreeOutput};
 ghost use Rattle.run_commands.specs.Printed.{AnswersAs, file_limit};
@@ -24,6 +24,7 @@ pub fn show<F: Shelf>(alloc: Global, shelf: &mut F, file: &Text) -> Result<Print
     ensures shown { (files : List FileEntry) → F.files shelf.old ≡ Some files
         → AnswersAs (ShowOutput file.now (file_named file.now files)) result }
     ensures reads { F.faults shelf.new ≡ counted (is_read result) (F.faults shelf.old) }
+    ensures last { NoneAfter (is_read result) (F.has_failed shelf.new) }
     ensures no_write { is_write result ≡ false }
 {
     match read_content(alloc, shelf, file) {

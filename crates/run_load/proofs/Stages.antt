@@ -1,8 +1,8 @@
 -- From what is read, compiled and decided to what is answered.
-use Rattle.std.proofs.Common.{◌≡◌, ℕ, false, List, Option, Some, Result, Ok, Err, inl, inr, refl, sym, ap, ◌∙◌, subst}
+use Rattle.std.proofs.Common.{◌≡◌, ℕ, Bool, false, List, Option, Some, Result, Ok, Err, inl, inr, refl, sym, ap, ◌∙◌, subst}
 use Rattle.std.specs.Prelude.{IfOk, MatchResult}
 use Rattle.eu_io.specs.declared.shelf.FileEntry.{FileEntry}
-use Rattle.eu_io.specs.Faults.{counted}
+use Rattle.eu_io.specs.Faults.{counted, NoneAfter}
 use Rattle.model_core.specs.declared.model.Model.{Model}
 use Rattle.model_core.specs.declared.model.Placed.{Placed}
 use Rattle.nddl_ast.specs.declared.declaration.FileDecls.{FileDecls}
@@ -12,7 +12,7 @@ use Rattle.nddl_ast.specs.declared.kind.TextKind.{TextKind}
 use Rattle.nddl_parser.specs.declared.fault.ReadAllFault.{ReadAllFault}
 use Rattle.nddl_parser.specs.declared.fault.ReadAllFault.TheVariants as all
 use Rattle.nddl_parser.specs.Faults.{fault_kind}
-use Rattle.nddl_parser.specs.Outcomes.{FilesOutcome, TellsOutcome, CountsReads}
+use Rattle.nddl_parser.specs.Outcomes.{FilesOutcome, TellsOutcome, CountsReads, NoReadAfter}
 use Rattle.nddl_parser.specs.Visits.{ReadsAll}
 use Rattle.nddl_parser.specs.Language.{ReadsAs}
 use Rattle.nddl_laws.specs.Given.{AreGiven}
@@ -147,3 +147,16 @@ counted_wrong all.ReadFault pose.Memory old new counts is = absurd (is refl)
 counted_wrong wrong (pose.Text kind file at) old new counts is = counts
 counted_wrong wrong pose.Read old new counts is = absurd (let no : ⊥ = cc in no)
 counted_wrong wrong pose.Memory old new counts is = counts
+
+-- where no call of the shelf failed, nothing is said of the last one
+pub last_none : (result : Result Held PoseFault) (last : Bool) → is_read_fault result ≡ false → NoneAfter (is_read_fault result) last
+last_none result last none = subst (λ (b : Bool). NoneAfter b last) (sym none) tt
+
+pub last_wrong : (wrong : ReadAllFault) (fault : PoseFault) (last : Bool) → NoReadAfter {T = List FileDecls} (Err wrong) last → IsAnswerTo wrong fault
+    → NoneAfter (is_read_fault {T = Held} (Err fault)) last
+last_wrong all.ReadFault (pose.Text kind file at) last stops is = tt
+last_wrong all.ReadFault pose.Read last stops is = stops
+last_wrong all.ReadFault pose.Memory last stops is = tt
+last_wrong wrong (pose.Text kind file at) last stops is = tt
+last_wrong wrong pose.Read last stops is = absurd (let no : ⊥ = cc in no)
+last_wrong wrong pose.Memory last stops is = tt

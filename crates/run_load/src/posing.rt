@@ -2,7 +2,7 @@
 
 ghost use Rattle.std.specs.Prelude.{◌≡◌, false, List, Some, Ok, Err, IfOk, MatchResult};
 ghost use Rattle.eu_io.specs.declared.shelf.FileEntry.{FileEntry};
-ghost use Rattle.eu_io.specs.Faults.{counted};
+ghost use Rattle.eu_io.specs.Faults.{counted, NoneAfter};
 ghost use Rattle.model_core.specs.declared.model.Model.{Model as Problem};
 ghost use Rattle.model_core.specs.Lawful.{IsLawful};
 ghost use Rattle.nddl_laws.specs.Given.{AreGiven};
@@ -24,13 +24,14 @@ use std::alloc::Global;
 
 /// The database that the file of this name poses with those that it includes: that of their model, in which the decisions of
 /// the text are taken. Each is a step that can be undone.
-#[tactic(auto, using(crate::proofs::Stages::read_posed, crate::proofs::Stages::unread_posed, crate::proofs::Stages::given, crate::proofs::Stages::counted_none, crate::proofs::Stages::counted_wrong))]
+#[tactic(auto, using(crate::proofs::Stages::read_posed, crate::proofs::Stages::unread_posed, crate::proofs::Stages::given, crate::proofs::Stages::counted_none, crate::proofs::Stages::counted_wrong, crate::proofs::Stages::last_none, crate::proofs::Stages::last_wrong))]
 pub fn pose<F: Shelf>(alloc: Global, shelf: &mut F, name: &Text) -> Result<Db, PoseFault>
     ensures posed { (files : List FileEntry) → F.files shelf.old ≡ Some files → TellsPosed (Poses files name.now) result }
     ensures ready { IfOk result (λ db. db.behind ≡ false) }
     ensures sound { IfOk result (λ db. IsSound db.database) }
     ensures kept { F.files shelf.new ≡ F.files shelf.old }
     ensures counted { F.faults shelf.new ≡ counted (is_read_fault result) (F.faults shelf.old) }
+    ensures last { NoneAfter (is_read_fault result) (F.has_failed shelf.new) }
 {
     match read_all(alloc, shelf, name.as_str()) {
         Ok(files) => pose_read(alloc, files.as_slice()),

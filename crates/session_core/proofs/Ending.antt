@@ -5,9 +5,15 @@ use Rattle.std.proofs.lemmas.List.Elements.{Contains-append_left}
 use Rattle.model_core.specs.declared.decision.Decision.{Decision}
 use Rattle.model_core.specs.History.{standing}
 use Rattle.model_core.specs.Lawful.{IsLawful}
+use Rattle.model_core.specs.State.{State}
 use Rattle.law_states.proofs.Founding.{plan_is_valid}
 use Rattle.plan_db.specs.Database.{Database, taken_in}
+use Rattle.plan_defs.specs.declared.plan.Plan.{Plan}
+use Rattle.plan_defs.specs.Broken.{AgreesWith}
+use Rattle.plan_defs.specs.Closure.{IsLeast}
 use Rattle.plan_defs.specs.Settling.{IsSettled}
+use Rattle.plan_defs.specs.StatePlans.{IsStatePlan}
+use Rattle.plan_defs.specs.Valid.{IsValid}
 use Rattle.plan_defs.proofs.Settling.{least_same}
 use Rattle.law_search.specs.Search.{SearchOutcome, Searches}
 use Rattle.law_search.proofs.Searching.{found_by, none_by}
@@ -31,18 +37,31 @@ heads one other reply xs ys p q =
     let same : one ∷ xs ≡ other ∷ ys = sym p ∙ q in
     let is : one ≡ other = cc in is
 
+module _ (old : Database) (lawful : IsLawful old.model) (settled : IsSettled old.model (standing old.history)) (bound steps : ℕ) (few : bound ≤ 512) (new : Database) where
+  -- the plan of what is found is valid, and agrees with what stood and with what stands now
+  pub plan_proves : (outcome : SearchOutcome) (visits : ℕ) (state : State) (plan : Plan) → Searches old.model bound steps (standing old.history) outcome
+      → TellsEnd steps outcome old (Found visits) new → IsLeast old.model (standing new.history) state → IsStatePlan old.model (standing new.history) state plan
+      → IsValid old.model plan × AgreesWith old.model plan (standing old.history) × AgreesWith old.model plan (standing new.history)
+  plan_proves outcome visits state plan searches ends least is_plan =
+      let list = standing new.history in
+      let found = found_by old.model lawful bound few steps steps (standing old.history) list outcome settled searches ends.1 in
+      let states = least_same old.model list state found.state least found.least in
+      let flawless : HasFlaw old.model list state → ⊥ = subst (λ s. HasFlaw old.model list s → ⊥) (sym states) found.flawless in
+      let right = plan_is_valid old.model list state plan lawful found.settled least flawless is_plan in (
+        right.0,
+        λ decision there.
+            right.1 decision (subst (λ (l : List Decision). Contains l decision) (sym found.longer) (Contains-append_left (standing old.history) found.more decision there)),
+        right.1,
+      )
+
 module _ (old : Database) (lawful : IsLawful old.model) (settled : IsSettled old.model (standing old.history)) (bound steps : ℕ) (few : bound ≤ 512) (new : Database) (reply : List ℕ) where
   pub found_proves : (outcome : SearchOutcome) (visits : ℕ) → Searches old.model bound steps (standing old.history) outcome → TellsEnd steps outcome old (Found visits) new
       → TellsSearch (Found visits) new reply → ProvesPlan old new steps reply
   found_proves outcome visits searches ends (text, (is, shows)) =
-      let list = standing new.history in
-      let found = found_by old.model lawful bound few steps steps (standing old.history) list outcome settled searches ends.1 in
       let models = ends.2 in
       let same : new ≡ taken_in old.model new.history = λ i. record { model = models i; history = new.history } in
       let told : IsStandingPlan (taken_in old.model new.history) text = subst (λ (d : Database). IsStandingPlan d text) same is in
-      let states = least_same old.model list told.0 found.state told.2.0 found.least in
-      let flawless : HasFlaw old.model list told.0 → ⊥ = subst (λ s. HasFlaw old.model list s → ⊥) (sym states) found.flawless in
-      let right = plan_is_valid old.model list told.0 told.1 lawful found.settled told.2.0 flawless told.2.1 in
+      let right = plan_proves old lawful settled bound steps few new outcome visits told.0 told.1 searches ends told.2.0 told.2.1 in
       record {
         visits = visits;
         few = omega (arith, ends.0);
@@ -51,9 +70,8 @@ module _ (old : Database) (lawful : IsLawful old.model) (settled : IsSettled old
         plan = told.1;
         is_text = told.2.2;
         valid = right.0;
-        agrees_before = λ decision there.
-            right.1 decision (subst (λ (l : List Decision). Contains l decision) (sym found.longer) (Contains-append_left (standing old.history) found.more decision there));
-        agrees_now = right.1;
+        agrees_before = right.1;
+        agrees_now = right.2;
       }
 
   pub exhausted_proves : (outcome : SearchOutcome) (visits : ℕ) (left_out : Bool) → Searches old.model bound steps (standing old.history) outcome

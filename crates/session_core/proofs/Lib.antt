@@ -17,3 +17,4 @@ pub mod OneTelling
 pub mod OneSearch
 pub mod Answering
 pub mod Ending
+mod AlongSession

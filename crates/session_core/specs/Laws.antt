@@ -1,7 +1,8 @@
--- What the reply to a search proves.
-use Rattle.std.specs.Prelude.{◌≡◌, ℕ, ◌≤◌, ◌⊎◌, Bool, false, List, ◌++◌, codes, Ok}
+-- What the reply to a search proves, and what a session is made of.
+use Rattle.std.specs.Prelude.{◌≡◌, ◌≢◌, ℕ, ◌≤◌, ◌⊎◌, Bool, true, false, List, [], ◌∷◌, ◌++◌, codes, Ok}
 use Rattle.std.specs.Fmt.{decimal}
 use Rattle.session_loop.specs.declared.reply.Answer.{Answer}
+use Rattle.session_loop.specs.Sessions.{Standing, Ending, AtEnd, Course, IsAnswered, Session}
 use Rattle.model_core.specs.History.{standing}
 use Rattle.plan_text.specs.PlanTexts.{IsPlanText}
 use Rattle.plan_db.specs.Database.{Database}
@@ -62,3 +63,51 @@ PrintedEndsProve =
     (old new : Database) (line : List ℕ) (bound steps : ℕ) (answer : Answer)
     → ReadsLine line (Ok (Solve steps bound)) → AnswersLine old line answer new
     → ProvesEnd old new bound steps answer.reply
+
+-- ---- along a session
+
+-- the session has ended within these lines, or where the next one came: all that it wrote is the output of these
+abbrev pub EndsWithin : Standing Database → List (List ℕ) → Course Database → Type 0
+EndsWithin start before course =
+    (course.ending ≢ AtEnd)
+    × ((ending : Ending) × Session AnswersLine start before (record { out = course.out; ending = ending; last = course.last }))
+
+-- what is written behind this answer: nothing where it ends the session, and else the output of the later lines
+abbrev pub IsWrittenBehind : Answer → Standing Database → List (List ℕ) → List ℕ → Type 0
+IsWrittenBehind answer new later rest =
+    ((answer.goes_on ≡ false) × (rest ≡ []))
+    ⊎ ((answer.goes_on ≡ true) × ((course : Course Database) × (Session AnswersLine new later course × (rest ≡ course.out))))
+
+-- The line has this answer in the session. Those before it are answered, and leave a database of the same model. The output is
+-- that of those before it, then its reply, and then what is written behind.
+pub record HasTurn (start : Standing Database) (before : List (List ℕ)) (line : List ℕ) (later : List (List ℕ))
+    (course : Course Database) : Type 0 where
+  pub front : List ℕ
+  pub old : Standing Database
+  pub reached : Session AnswersLine start before (record { out = front; ending = AtEnd; last = old })
+  pub same_model : old.responder.model ≡ start.responder.model
+  pub answer : Answer
+  pub new : Standing Database
+  pub answered : IsAnswered AnswersLine old line answer new
+  pub rest : List ℕ
+  pub behind : IsWrittenBehind answer new later rest
+  pub out : course.out ≡ front ++ (answer.reply ++ rest)
+
+-- the line has an answer, and where it asks for a search the reply proves what it says of the database that it finds
+abbrev pub ProvesTurn : Standing Database → List (List ℕ) → List ℕ → List (List ℕ) → Course Database → Type 0
+ProvesTurn start before line later course =
+    (turn : HasTurn start before line later course)
+    × ((steps bound : ℕ) → ReadsLine line (Ok (Solve steps bound))
+    → ProvesEnd turn.old.responder turn.new.responder bound steps turn.answer.reply)
+
+-- so it is with each of the lines, unless the session has ended before it
+abbrev pub ProvesLines : Standing Database → List (List ℕ) → Course Database → Type 0
+ProvesLines start lines course =
+    (before : List (List ℕ)) (line : List ℕ) (later : List (List ℕ)) → lines ≡ before ++ line ∷ later
+    → EndsWithin start before course ⊎ ProvesTurn start before line later course
+
+-- each session is made of its replies so
+abbrev pub SolvedEndsProve : Type 0
+SolvedEndsProve =
+    (start : Standing Database) (lines : List (List ℕ)) (course : Course Database)
+    → Session AnswersLine start lines course → ProvesLines start lines course

@@ -2,7 +2,7 @@
 
 ghost use Rattle.session_loop.specs.Laws.{HasOneReply};
 ghost use Rattle.session_core.specs.LineReplies.{AnswersLine};
-ghost use Rattle.session_core.specs.Laws.{PrintedEndsProve};
+ghost use Rattle.session_core.specs.Laws.{PrintedEndsProve, SolvedEndsProve};
 
 use law_states::flawless::a_state_has_one_plan;
 use script_lang::laws::lines_have_one_answer;
@@ -21,4 +21,12 @@ pub fn printed_ends_prove()
     ensures { PrintedEndsProve }
 {
     lines_have_one_answer();
+}
+
+/// A law: what a session writes is the replies to its lines, one after another, and the reply to each line that asks for a search
+/// proves what it says of the database that the line finds.
+pub fn solved_ends_prove()
+    ensures { SolvedEndsProve }
+{
+    printed_ends_prove();
 }

@@ -192,8 +192,8 @@ fault_writes_front answers only = fault_front answers only
 
 -- the same of a session whose input and output are told
 pub fault_tells_front : {R : Type 0} (answers : Answering R) → TellsFront answers
-fault_tells_front answers only old new fault tells input before is was =
-    let told = tells input before is was in
+fault_tells_front answers only old new fault tells input is =
+    let told = tells input is in
     let passage = told.0 in (
       passage.out,
       told.3,

@@ -1,6 +1,6 @@
 -- Lemmas on what each way to end says, one line at a time.
 use Rattle.std.proofs.Common.{◌≡◌, ◌≢◌, ℕ, ◌+◌, ◌-◌, ◌*◌, ◌<◌, ◌≤◌, Bool, true, false, List, [], ◌∷◌, ◌++◌, ◌⊎◌, Option, None, Some, Ok, Err, length, refl, sym, ap, ◌∙◌, subst, inl, inr, arith}
-use Rattle.std.specs.Prelude.{not, if◌then◌else◌}
+use Rattle.std.specs.Prelude.{if◌then◌else◌}
 use Rattle.std.proofs.lemmas.List.{append_assoc, append-nil, length-append}
 use Rattle.std.specs.declared.result.Result.{Result}
 use Rattle.std.specs.Io.KnownBytes.{Appends, IsAtEnd}
@@ -27,15 +27,6 @@ nothing_left (Some bytes) e = e
 
 some_longer : (n : ℕ) (line : List ℕ) → n < length line → line ≢ []
 some_longer n line longer e = omega (arith, ap length e)
-
--- what a test of `!goes_on` says
-pub ends_here : (goes_on : Bool) → not goes_on ≡ true → goes_on ≡ false
-ends_here true e = absurd (let no : ⊥ = cc in no)
-ends_here false e = refl
-
-pub goes_here : (goes_on : Bool) → not goes_on ≡ false → goes_on ≡ true
-goes_here true e = refl
-goes_here false e = absurd (let no : ⊥ = cc in no)
 
 -- what a desk has of a scene
 abbrev pub desk_of : {R : Type 0} → Scene R → Desk R

@@ -1,5 +1,6 @@
 -- What each way to end a session says of the bytes that were taken and written, and of the responder that it leaves.
 use Rattle.std.specs.Prelude.{◌≡◌, ℕ, Bool, true, false, List, [], ◌∷◌, ◌++◌, ◌⊎◌, Option, Some, Result, Ok, Err}
+use Rattle.std.specs.Io.KnownBytes.{Appends}
 use Rattle.session_loop.specs.declared.fault.SessionFault.{SessionFault}
 use Rattle.session_loop.specs.declared.fault.SessionFault.TheVariants.{ReadFault, WriteFault, LinesSpent, Memory}
 use Rattle.session_loop.specs.declared.reply.Answer.{Answer}
@@ -74,13 +75,12 @@ pub record Scene (R : Type 0) : Type 0 where
 abbrev pub begun : {R : Type 0} → R → Standing R
 begun responder = record { responder = responder; count = 0 }
 
--- Where the input is told, and what was written before: a front of the input was taken and the rest is left, output
--- was appended, and this is what the end says of them.
+-- Where the input is told: a front of it was taken and the rest is left, output was appended, and this is what the end says of them.
 abbrev pub SessionTells : {R : Type 0} → Answering R → Scene R → Scene R → Result SessionEnd SessionFault → Type 0
 SessionTells {R} answers old new end =
-    (input before : List ℕ) → old.left ≡ Some input → old.written ≡ Some before
+    (input : List ℕ) → old.left ≡ Some input
     → (passage : Passage R) × (input ≡ input_of passage) × (new.left ≡ Some passage.left)
-    × (new.written ≡ Some (before ++ passage.out))
+    × Appends old.written new.written passage.out
     × (new.responder ≡ passage.last.responder) × Ends answers (begun old.responder) passage end
 
 -- whether a read ended the session

@@ -1,5 +1,6 @@
 -- Laws of sessions, where each line has one answer, or some.
 use Rattle.std.specs.Prelude.{◌≡◌, ℕ, List, ◌++◌, Some, Err}
+use Rattle.std.specs.Io.KnownBytes.{Appends}
 use Rattle.session_loop.specs.declared.fault.SessionFault.{SessionFault}
 use Rattle.session_loop.specs.declared.reply.Answer.{Answer}
 use Rattle.session_loop.specs.Answering.{Answering}
@@ -38,10 +39,10 @@ WritesFront {R} answers = HasOneReply answers
     → Ends answers start passage (Err fault) → Session answers start (lines_of (input_of passage)) whole
     → IsFront passage.out whole.out
 
--- the same of a session whose input is told, and what was written before: the input's lines have the whole output
+-- the same of a session whose input is told: its lines have the whole output
 abbrev pub TellsFront : {R : Type 0} → Answering R → Type 0
 TellsFront {R} answers = HasOneReply answers
     → (old new : Scene R) (fault : SessionFault) → SessionTells answers old new (Err fault)
-    → (input before : List ℕ) → old.left ≡ Some input → old.written ≡ Some before
-    → (out : List ℕ) × (new.written ≡ Some (before ++ out))
+    → (input : List ℕ) → old.left ≡ Some input
+    → (out : List ℕ) × Appends old.written new.written out
     × ((whole : Course R) → Session answers (begun old.responder) (lines_of input) whole → IsFront out whole.out)

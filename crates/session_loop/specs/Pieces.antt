@@ -1,5 +1,5 @@
 -- What the pieces of the loop do. The public calls promise none of it.
-use Rattle.std.specs.Prelude.{◌≡◌, ◌≢◌, ℕ, ◌+◌, ◌<◌, Bool, true, false, List, []}
+use Rattle.std.specs.Prelude.{◌≡◌, ◌≢◌, ℕ, ◌+◌, ◌<◌, ◌≤◌, Bool, true, false, List, []}
 use Rattle.std.specs.Prelude.{◌∷◌, ◌++◌, ◌⊎◌, length, ⊤, Option, Some, None, Result, Ok, Err}
 use Rattle.std.specs.Io.KnownBytes.{Consumes, Appends, IsAtEnd, Keeps}
 use Rattle.session_loop.specs.declared.fault.SessionFault.{SessionFault}
@@ -11,6 +11,8 @@ use Rattle.session_loop.specs.Held.{HoldsLine}
 use Rattle.session_loop.specs.declared.answering.Answered.{Answered}
 use Rattle.session_loop.specs.declared.reply.Answer.{Answer}
 use Rattle.session_loop.specs.declared.talk.SessionEnd.{SessionEnd}
+use Rattle.session_loop.specs.declared.talk.Turn.{Turn}
+use Rattle.session_loop.specs.declared.talk.Turn.TheVariants.{Goes, Stops}
 use Rattle.session_loop.specs.Answering.{Answering}
 use Rattle.session_loop.specs.Ends.{Ends, Scene}
 use Rattle.session_loop.specs.Lines.{cost_of, most}
@@ -119,3 +121,12 @@ Talks {R} answers stage old new end = (taken out : List ℕ) × (last : Standing
     × Appends old.written new.written out × (new.responder ≡ last.responder)
     × Ends answers (record { responder = old.responder; count = stage.count })
     (record { taken = stage.held ++ taken; left = known_rest new.left; out = out; last = last }) end
+
+-- A turn was taken, with these bytes held then. Where the session goes on, its lines count more, and what is said of the
+-- session from there on is said of it from here on; where it ends, this is what the end says.
+abbrev pub TurnTalks : {R : Type 0} → Answering R → Stage → Scene R → Scene R → List ℕ → Result Turn SessionFault → Type 0
+TurnTalks {R} answers stage old new held (Ok (Goes count)) = (stage.count < count) × (count ≤ most)
+    × ((last : Scene R) (end : Result SessionEnd SessionFault) → Talks answers (record { count = count; held = held }) new last end
+    → Talks answers stage old last end)
+TurnTalks answers stage old new held (Ok (Stops end)) = Talks answers stage old new (Ok end)
+TurnTalks answers stage old new held (Err fault) = Talks answers stage old new (Err fault)

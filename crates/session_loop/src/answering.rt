@@ -1,7 +1,7 @@
 //! One line answered, and its reply written.
 
 ghost use Rattle.std.specs.Prelude.{◌≡◌, ℕ, List, ◌+◌, ◌/◌, ◌^◌, ◌<◌, ◌≤◌, max};
-ghost use Rattle.eu_io.specs.Faults.{counted};
+ghost use Rattle.eu_io.specs.Faults.{counted, NoneAfter};
 ghost use Rattle.session_loop.specs.Ends.{is_write_fault};
 ghost use Rattle.session_loop.specs.Held.{HoldsLine};
 ghost use Rattle.session_loop.specs.Lines.{most};
@@ -45,6 +45,7 @@ pub fn answer_line<T: Responder, O: Sink>(
         (record { responder = responder.old; written = O.written out.old })
         (record { responder = responder.new; written = O.written out.new }) result }
     ensures writes { O.faults out.new ≡ counted (is_write_fault result) (O.faults out.old) }
+    ensures last { NoneAfter (is_write_fault result) (O.has_failed out.new) }
 {
     let count = count + cost_of(line.len());
     if count > MOST {

@@ -1,7 +1,7 @@
 //! Lines cut from the bytes of a source.
 
 ghost use Rattle.std.specs.Prelude.{◌≡◌, ◌<◌, ◌≤◌, ℕ, ◌+◌, ◌*◌, ◌^◌, length, take, slice_index, IfOk, OnOk};
-ghost use Rattle.eu_io.specs.Faults.{counted};
+ghost use Rattle.eu_io.specs.Faults.{counted, NoneAfter};
 ghost use Rattle.session_loop.specs.Ends.{is_read_fault};
 ghost use Rattle.session_loop.specs.Pieces.{IsOneLine, MovesLine, CutsLine, AtEndCuts};
 
@@ -75,6 +75,7 @@ pub fn next_line<S: Source>(
         (record { left = S.left input.new; held = inflow.new }) line.new longest result }
     ensures bound { OnOk result (line.new.length < 2 ^ 63) }
     ensures reads { S.faults input.new ≡ counted (is_read_fault result) (S.faults input.old) }
+    ensures last { NoneAfter (is_read_fault result) (S.has_failed input.new) }
 {
     line.clear();
     loop {

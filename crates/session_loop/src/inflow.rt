@@ -1,9 +1,9 @@
 //! Bytes that were read ahead.
 
-ghost use Rattle.std.specs.Prelude.{◌≡◌, ◌≢◌, ◌<◌, ◌≤◌, ℕ, [], ◌++◌, length, drop, take, vec_len, IfOk, IsTrue, ◌↔◌};
+ghost use Rattle.std.specs.Prelude.{◌≡◌, ◌≢◌, ◌<◌, ◌≤◌, ℕ, [], ◌++◌, length, drop, take, vec_len, is_err, IfOk, IsTrue, ◌↔◌};
 ghost use Rattle.std.specs.Io.{ReadsAtMost};
 ghost use Rattle.std.specs.Io.KnownBytes.{ReadConsumes};
-ghost use Rattle.eu_io.specs.Faults.{CountsFailures};
+ghost use Rattle.eu_io.specs.Faults.{CountsFailures, NoneAfter};
 ghost use Rattle.session_loop.specs.Pieces.{Fills, Refills};
 
 use eu_io::fault::Failed;
@@ -69,6 +69,7 @@ impl Inflow {
     pub fn fill<S: Source>(&mut self, input: &mut S) -> Result<bool, Failed>
         ensures bytes { Fills (S.left input.old) (S.left input.new) result self.new }
         ensures counted { CountsFailures result (S.faults input.old) (S.faults input.new) }
+        ensures last { NoneAfter (is_err result) (S.has_failed input.new) }
     {
         let count = read_into(input, &mut self.room)?;
         self.start = 0;
@@ -80,6 +81,7 @@ impl Inflow {
     pub fn refill<S: Source>(&mut self, input: &mut S) -> Result<bool, Failed>
         ensures bytes { Refills (S.left input.old) (S.left input.new) self.old self.new result }
         ensures counted { CountsFailures result (S.faults input.old) (S.faults input.new) }
+        ensures last { NoneAfter (is_err result) (S.has_failed input.new) }
     {
         if !self.is_empty() {
             return Ok(true);
@@ -94,6 +96,7 @@ fn read_into<S: Source>(input: &mut S, room: &mut Vec<u8>) -> Result<usize, Fail
     ensures bound { ReadsAtMost result room.new.items }
     ensures bytes { ReadConsumes (S.left input.old) (S.left input.new) result room.new.items }
     ensures counted { CountsFailures result (S.faults input.old) (S.faults input.new) }
+    ensures last { S.has_failed input.new ≡ is_err result }
 {
     input.read(room.as_mut_slice())
 }

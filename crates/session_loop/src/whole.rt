@@ -1,8 +1,8 @@
 //! Writes that hand over all they are given.
 
-ghost use Rattle.std.specs.Prelude.{◌≡◌, ℕ, List, ◌+◌, ◌<◌, ◌≤◌, length, min};
+ghost use Rattle.std.specs.Prelude.{◌≡◌, ℕ, List, ◌+◌, ◌<◌, ◌≤◌, length, min, is_err};
 ghost use Rattle.std.specs.List.{prefix_len};
-ghost use Rattle.eu_io.specs.Faults.{CountsFailures};
+ghost use Rattle.eu_io.specs.Faults.{CountsFailures, NoneAfter};
 ghost use Rattle.session_loop.specs.Writing.{WritesWhole, is_before_feed};
 
 use eu_io::fault::Failed;
@@ -12,6 +12,7 @@ use eu_io::sink::Sink;
 pub fn write_whole<O: Sink>(out: &mut O, piece: &[u8]) -> Result<(), Failed>
     ensures bytes { WritesWhole (O.written out.old) (O.written out.new) result piece.now }
     ensures counted { CountsFailures result (O.faults out.old) (O.faults out.new) }
+    ensures last { NoneAfter (is_err result) (O.has_failed out.new) }
 {
     let mut taken = 0;
     while taken < piece.len() {
@@ -44,6 +45,7 @@ fn line_len(text: &[u8]) -> usize
 pub fn write_lines<O: Sink>(out: &mut O, text: &[u8]) -> Result<(), Failed>
     ensures bytes { WritesWhole (O.written out.old) (O.written out.new) result text.now }
     ensures counted { CountsFailures result (O.faults out.old) (O.faults out.new) }
+    ensures last { NoneAfter (is_err result) (O.has_failed out.new) }
 {
     let mut rest = text;
     while !rest.is_empty() {

@@ -2,6 +2,7 @@
 
 ghost use Rattle.std.specs.Prelude.{◌≡◌, ◌≢◌, ◌↔◌, ◌≤◌, length, IfOk};
 ghost use Rattle.std.specs.IoError.{error_kind};
+ghost use Rattle.eu_io.specs.Faults.{no_faults};
 
 use crate::fault_count::FaultCount;
 use crate::shelf::{Shelf, ShelfFail};
@@ -19,9 +20,9 @@ pub struct FileShelf<R: Files + AllocGlobal> {
 }
 
 impl<R: Files + AllocGlobal> Model for FileShelf<R> {
-    ghost use Rattle.std.specs.Prelude.{ℕ};
+    ghost use Rattle.eu_io.specs.Faults.{FaultState};
 
-    ghost Value = { ℕ };
+    ghost Value = { FaultState };
 
     ghost view = { λ inside. inside.faults };
 }
@@ -29,7 +30,7 @@ impl<R: Files + AllocGlobal> Model for FileShelf<R> {
 impl<R: Files + AllocGlobal> FileShelf<R> {
     /// A shelf over this runtime, or over a reference to one. No call has failed yet.
     pub fn new(runtime: R) -> FileShelf<R>
-        ensures { result ≡ 0 }
+        ensures { result ≡ no_faults }
     {
         FileShelf {
             runtime,
@@ -39,7 +40,7 @@ impl<R: Files + AllocGlobal> FileShelf<R> {
 
     /// How many calls have failed.
     pub fn faults(&self) -> u64
-        ensures { result ≡ self.now }
+        ensures { result ≡ self.now.count }
     {
         self.faults.get()
     }
@@ -47,21 +48,22 @@ impl<R: Files + AllocGlobal> FileShelf<R> {
 
 impl<R: Files + AllocGlobal> Shelf for FileShelf<R> {
     ghost use Rattle.std.specs.Prelude.{◌≡◌, None};
-    ghost use Rattle.eu_io.specs.Files.{Gets, CountsFaults};
+    ghost use Rattle.eu_io.specs.Files.{Gets, CountsFaults, is_failed};
 
     ghost files = { λ _. None };
 
-    ghost faults = { λ shelf. shelf };
+    ghost faults = { λ shelf. shelf.count };
+
+    ghost has_failed = { λ shelf. shelf.last };
 
     #[tactic(auto, using(crate::proofs::Untold::untold_gets))]
     fn get(&mut self, name: &str, limit: u64) -> Result<Bytes, ShelfFail>
         ensures given { Gets None name.now limit result }
-        ensures counted { CountsFaults result self.old self.new }
+        ensures counted { CountsFaults result self.old.count self.new.count }
+        ensures last { self.new.last ≡ is_failed result }
     {
         let answer = read_file(&self.runtime, name, limit);
-        if matches!(answer, Err(ShelfFail::Failed)) {
-            self.faults.raise();
-        }
+        self.faults.note(matches!(answer, Err(ShelfFail::Failed)));
         answer
     }
 }

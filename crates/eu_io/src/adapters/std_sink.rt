@@ -1,9 +1,9 @@
 //! A writer of std as a sink.
 
-ghost use Rattle.std.specs.Prelude.{◌≡◌, ◌<◌, length, None, IfOk};
+ghost use Rattle.std.specs.Prelude.{◌≡◌, ◌<◌, length, is_err, None, IfOk};
 ghost use Rattle.std.specs.Io.{WritesAtMost};
 ghost use Rattle.std.specs.Io.KnownBytes.{WriteAppends};
-ghost use Rattle.eu_io.specs.Faults.{CountsFailures};
+ghost use Rattle.eu_io.specs.Faults.{CountsFailures, no_faults};
 
 use crate::fault::Failed;
 use crate::fault_count::FaultCount;
@@ -32,7 +32,7 @@ impl<W: Write> Model for StdSink<W> {
 impl<W: Write> StdSink<W> {
     /// A sink over this writer. No call has failed yet.
     pub fn new(writer: W) -> StdSink<W>
-        ensures { result ≡ record { inner = writer; faults = 0 } }
+        ensures { result ≡ record { inner = writer; faults = no_faults } }
     {
         StdSink {
             writer,
@@ -50,7 +50,7 @@ impl<W: Write> StdSink<W> {
 
     /// How many calls have failed.
     pub fn faults(&self) -> u64
-        ensures { result ≡ self.now.faults }
+        ensures { result ≡ self.now.faults.count }
     {
         self.faults.get()
     }
@@ -59,18 +59,24 @@ impl<W: Write> StdSink<W> {
 impl<W: Write> Sink for StdSink<W> {
     ghost written = { λ _. None };
 
-    ghost faults = { λ sink. sink.faults };
+    ghost faults = { λ sink. sink.faults.count };
+
+    ghost has_failed = { λ sink. sink.faults.last };
 
     fn write(&mut self, piece: &[u8]) -> Result<usize, Failed>
         ensures bound { WritesAtMost result piece.now }
         ensures moves { IfOk result (λ count. 0 < length piece.now → 0 < count) }
-        ensures counted { CountsFailures result self.old.faults self.new.faults }
+        ensures counted { CountsFailures result self.old.faults.count self.new.faults.count }
+        ensures last { self.new.faults.last ≡ is_err result }
         ensures writer { WriteAppends (W.contents self.old.inner) (W.contents self.new.inner) result piece.now }
     {
         match self.writer.write(piece) {
-            Ok(count) if count > 0 || piece.is_empty() => Ok(count),
+            Ok(count) if count > 0 || piece.is_empty() => {
+                self.faults.note(false);
+                Ok(count)
+            }
             _ => {
-                self.faults.raise();
+                self.faults.note(true);
                 Err(Failed)
             }
         }

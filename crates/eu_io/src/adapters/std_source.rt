@@ -1,9 +1,9 @@
 //! A reader of std as a source.
 
-ghost use Rattle.std.specs.Prelude.{◌≡◌, None};
+ghost use Rattle.std.specs.Prelude.{◌≡◌, is_err, None};
 ghost use Rattle.std.specs.Io.{ReadsAtMost};
 ghost use Rattle.std.specs.Io.KnownBytes.{ReadConsumes};
-ghost use Rattle.eu_io.specs.Faults.{CountsFailures};
+ghost use Rattle.eu_io.specs.Faults.{CountsFailures, no_faults};
 
 use crate::fault::Failed;
 use crate::fault_count::FaultCount;
@@ -31,7 +31,7 @@ impl<R: Read> Model for StdSource<R> {
 impl<R: Read> StdSource<R> {
     /// A source over this reader. No call has failed yet.
     pub fn new(reader: R) -> StdSource<R>
-        ensures { result ≡ record { inner = reader; faults = 0 } }
+        ensures { result ≡ record { inner = reader; faults = no_faults } }
     {
         StdSource {
             reader,
@@ -49,7 +49,7 @@ impl<R: Read> StdSource<R> {
 
     /// How many calls have failed.
     pub fn faults(&self) -> u64
-        ensures { result ≡ self.now.faults }
+        ensures { result ≡ self.now.faults.count }
     {
         self.faults.get()
     }
@@ -58,17 +58,23 @@ impl<R: Read> StdSource<R> {
 impl<R: Read> Source for StdSource<R> {
     ghost left = { λ _. None };
 
-    ghost faults = { λ source. source.faults };
+    ghost faults = { λ source. source.faults.count };
+
+    ghost has_failed = { λ source. source.faults.last };
 
     fn read(&mut self, buffer: &mut [u8]) -> Result<usize, Failed>
         ensures bound { ReadsAtMost result buffer.new }
-        ensures counted { CountsFailures result self.old.faults self.new.faults }
+        ensures counted { CountsFailures result self.old.faults.count self.new.faults.count }
+        ensures last { self.new.faults.last ≡ is_err result }
         ensures reader { ReadConsumes (R.remaining self.old.inner) (R.remaining self.new.inner) result buffer.new }
     {
         match self.reader.read(buffer) {
-            Ok(count) => Ok(count),
+            Ok(count) => {
+                self.faults.note(false);
+                Ok(count)
+            }
             Err(_) => {
-                self.faults.raise();
+                self.faults.note(true);
                 Err(Failed)
             }
         }

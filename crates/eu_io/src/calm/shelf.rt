@@ -33,18 +33,21 @@ impl CalmShelf {
 }
 
 impl Shelf for CalmShelf {
-    ghost use Rattle.std.specs.Prelude.{◌≡◌, ◌≢◌, Some, Err};
-    ghost use Rattle.eu_io.specs.Files.{Gets, CountsFaults};
+    ghost use Rattle.std.specs.Prelude.{◌≡◌, ◌≢◌, false, Some, Err};
+    ghost use Rattle.eu_io.specs.Files.{Gets, CountsFaults, is_failed};
     ghost use Rattle.eu_io.specs.MemoryFiles.{HasWithin};
 
     ghost files = { λ shelf. Some shelf };
 
     ghost faults = { λ _. 0 };
 
+    ghost has_failed = { λ _. false };
+
     fn get(&mut self, name: &str, limit: u64) -> Result<Bytes, ShelfFail>
         ensures given { Gets (Some self.old) name.now limit result }
         ensures kept { Some self.new ≡ Some self.old }
         ensures counted { CountsFaults result 0 0 }
+        ensures last { false ≡ is_failed result }
         ensures calm { result ≢ Err ShelfFail.Failed }
         ensures memory { result ≡ Err ShelfFail.Memory → HasWithin self.old name.now limit }
     {

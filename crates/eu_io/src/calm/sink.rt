@@ -3,7 +3,7 @@
 ghost use Rattle.std.specs.Prelude.{◌≡◌, ◌<◌, ◌++◌, [], length, take, is_err, Some, IfOk, OnErr};
 ghost use Rattle.std.specs.Io.{WritesAtMost};
 ghost use Rattle.std.specs.Io.KnownBytes.{WriteAppends};
-ghost use Rattle.eu_io.specs.Faults.{CountsFailures, StaysTold};
+ghost use Rattle.eu_io.specs.Faults.{CountsFailures, StaysTold, no_faults};
 ghost use Rattle.eu_io.specs.Memory.{taken_count, overflows};
 
 use crate::fault::Failed;
@@ -36,7 +36,7 @@ impl CalmSink {
         requires { 0 < most }
         ensures store { IfOk result (λ sink.
             sink.store ≡ record { written = []; room = room; most = most }) }
-        ensures faults { IfOk result (λ sink. sink.faults ≡ 0) }
+        ensures faults { IfOk result (λ sink. sink.faults ≡ no_faults) }
     {
         Ok(CalmSink {
             store: Store::new(alloc, room, most)?,
@@ -61,7 +61,7 @@ impl CalmSink {
 
     /// How many calls have failed.
     pub fn faults(&self) -> u64
-        ensures { result ≡ self.now.faults }
+        ensures { result ≡ self.now.faults.count }
     {
         self.faults.get()
     }
@@ -70,14 +70,17 @@ impl CalmSink {
 impl Sink for CalmSink {
     ghost written = { λ sink. Some sink.store.written };
 
-    ghost faults = { λ sink. sink.faults };
+    ghost faults = { λ sink. sink.faults.count };
+
+    ghost has_failed = { λ sink. sink.faults.last };
 
     fn write(&mut self, piece: &[u8]) -> Result<usize, Failed>
         ensures bound { WritesAtMost result piece.now }
         ensures moves { IfOk result (λ count. 0 < length piece.now → 0 < count) }
         ensures bytes { WriteAppends (Some self.old.store.written) (Some self.new.store.written) result piece.now }
         ensures told { StaysTold (Some self.old.store.written) (Some self.new.store.written) }
-        ensures counted { CountsFailures result self.old.faults self.new.faults }
+        ensures counted { CountsFailures result self.old.faults.count self.new.faults.count }
+        ensures last { self.new.faults.last ≡ is_err result }
         ensures fails { is_err result ≡ overflows self.old.store (length piece.now) }
         ensures count { IfOk result (λ count. count ≡ taken_count self.old.store (length piece.now)) }
         ensures ok { IfOk result (λ count.
@@ -85,9 +88,7 @@ impl Sink for CalmSink {
         ensures err { OnErr result (self.new.store ≡ self.old.store) }
     {
         let taken = self.store.append(piece);
-        if taken.is_err() {
-            self.faults.raise();
-        }
+        self.faults.note(taken.is_err());
         taken
     }
 }

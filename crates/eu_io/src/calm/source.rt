@@ -1,6 +1,6 @@
 //! A source in memory that never fails.
 
-ghost use Rattle.std.specs.Prelude.{◌≡◌, ◌<◌, ◌++◌, min, length, take, drop, Some, Ok};
+ghost use Rattle.std.specs.Prelude.{◌≡◌, ◌<◌, ◌++◌, min, false, is_err, length, take, drop, Some, Ok};
 ghost use Rattle.std.specs.Io.{ReadsAtMost};
 ghost use Rattle.std.specs.Io.KnownBytes.{ReadConsumes};
 ghost use Rattle.eu_io.specs.Faults.{CountsFailures, StaysTold};
@@ -49,11 +49,14 @@ impl Source for CalmSource {
 
     ghost faults = { λ _. 0 };
 
+    ghost has_failed = { λ _. false };
+
     fn read(&mut self, buffer: &mut [u8]) -> Result<usize, Failed>
         ensures bound { ReadsAtMost result buffer.new }
         ensures bytes { ReadConsumes (Some self.old.left) (Some self.new.left) result buffer.new }
         ensures told { StaysTold (Some self.old.left) (Some self.new.left) }
         ensures counted { CountsFailures result 0 0 }
+        ensures last { false ≡ is_err result }
         ensures calm { result ≡ Ok (min self.old.most (min (length self.old.left) (length buffer.old))) }
         ensures most { self.new.most ≡ self.old.most }
     {

@@ -1,13 +1,13 @@
 //! Which calls of an object fail.
 
-ghost use Rattle.std.specs.Prelude.{◌≡◌};
-ghost use Rattle.eu_io.specs.Faults.{raised};
+ghost use Rattle.std.specs.Prelude.{◌≡◌, true};
+ghost use Rattle.eu_io.specs.Faults.{no_faults, after};
 ghost use Rattle.eu_io.specs.Memory.{fails_next, after_call};
 
 use crate::fault_count::FaultCount;
 use std::marker::Model;
 
-/// The numbers of the calls that fail, and counts of the calls so far and of those that failed.
+/// The numbers of the calls that fail, a count of the calls so far, and which of them failed.
 #[derive(Drop)]
 pub struct Calls {
     fails: Vec<u64>,
@@ -26,7 +26,7 @@ impl Model for Calls {
 impl Calls {
     /// No call so far. The first call has the number 1.
     pub fn new(fails: Vec<u64>) -> Calls
-        ensures { result ≡ record { fails = fails.items; made = 0; faults = 0 } }
+        ensures { result ≡ record { fails = fails.items; made = 0; faults = no_faults } }
     {
         Calls {
             fails,
@@ -42,22 +42,20 @@ impl Calls {
     {
         self.made = self.made.saturating_add(1);
         let named = self.fails.contains(&self.made);
-        if named {
-            self.faults.raise();
-        }
+        self.faults.note(named);
         named
     }
 
     /// Counts a failure of the call that was counted last.
     pub fn fail(&mut self)
-        ensures { self.new ≡ record self.old { faults = raised self.old.faults } }
+        ensures { self.new ≡ record self.old { faults = after true self.old.faults } }
     {
-        self.faults.raise();
+        self.faults.note(true);
     }
 
     /// How many calls have failed.
     pub fn faults(&self) -> u64
-        ensures { result ≡ self.now.faults }
+        ensures { result ≡ self.now.faults.count }
     {
         self.faults.get()
     }

@@ -1,6 +1,7 @@
 //! A shelf in memory that fails where it is told to.
 
 ghost use Rattle.std.specs.Prelude.{◌≡◌};
+ghost use Rattle.eu_io.specs.Faults.{no_faults};
 
 use super::calls::Calls;
 use crate::calm::shelf::CalmShelf;
@@ -27,7 +28,7 @@ impl MemShelf {
     /// A shelf of these files, which was not called yet.
     pub fn new(files: Vec<FileEntry>, fails: Vec<u64>) -> MemShelf
         ensures entries { result.entries ≡ files.items }
-        ensures calls { result.calls ≡ record { fails = fails.items; made = 0; faults = 0 } }
+        ensures calls { result.calls ≡ record { fails = fails.items; made = 0; faults = no_faults } }
     {
         MemShelf {
             calm: CalmShelf::new(files),
@@ -37,7 +38,7 @@ impl MemShelf {
 
     /// How many calls have failed.
     pub fn faults(&self) -> u64
-        ensures { result ≡ self.now.calls.faults }
+        ensures { result ≡ self.now.calls.faults.count }
     {
         self.calls.faults()
     }
@@ -45,18 +46,21 @@ impl MemShelf {
 
 impl Shelf for MemShelf {
     ghost use Rattle.std.specs.Prelude.{◌≡◌, Some, Err, IsTrue, ◌↔◌, nat_eq};
-    ghost use Rattle.eu_io.specs.Files.{Gets, CountsFaults};
+    ghost use Rattle.eu_io.specs.Files.{Gets, CountsFaults, is_failed};
     ghost use Rattle.eu_io.specs.Memory.{fails_next, after_call};
     ghost use Rattle.eu_io.specs.MemoryFiles.{HasWithin};
 
     ghost files = { λ shelf. Some shelf.entries };
 
-    ghost faults = { λ shelf. shelf.calls.faults };
+    ghost faults = { λ shelf. shelf.calls.faults.count };
+
+    ghost has_failed = { λ shelf. shelf.calls.faults.last };
 
     fn get(&mut self, name: &str, limit: u64) -> Result<Bytes, ShelfFail>
         ensures given { Gets (Some self.old.entries) name.now limit result }
         ensures kept { Some self.new.entries ≡ Some self.old.entries }
-        ensures counted { CountsFaults result self.old.calls.faults self.new.calls.faults }
+        ensures counted { CountsFaults result self.old.calls.faults.count self.new.calls.faults.count }
+        ensures last { self.new.calls.faults.last ≡ is_failed result }
         ensures fails { (result ≡ Err ShelfFail.Failed) ↔ IsTrue (fails_next self.old.calls) }
         ensures memory { result ≡ Err ShelfFail.Memory → HasWithin self.old.entries name.now limit }
         ensures calls { self.new.calls ≡ after_call self.old.calls (fails_next self.old.calls) }

@@ -3,7 +3,7 @@
 ghost use Rattle.std.specs.Prelude.{◌≡◌, ◌<◌, ◌++◌, ◌||◌, [], length, take, is_err, Some, IfOk, OnErr};
 ghost use Rattle.std.specs.Io.{WritesAtMost};
 ghost use Rattle.std.specs.Io.KnownBytes.{WriteAppends};
-ghost use Rattle.eu_io.specs.Faults.{CountsFailures, StaysTold};
+ghost use Rattle.eu_io.specs.Faults.{CountsFailures, StaysTold, no_faults};
 ghost use Rattle.eu_io.specs.Memory.{fails_next, after_call, taken_count, overflows};
 
 use super::calls::Calls;
@@ -41,7 +41,7 @@ impl MemSink {
         ensures store { IfOk result (λ sink.
             sink.store ≡ record { written = []; room = room; most = most }) }
         ensures calls { IfOk result (λ sink.
-            sink.calls ≡ record { fails = fails.items; made = 0; faults = 0 }) }
+            sink.calls ≡ record { fails = fails.items; made = 0; faults = no_faults }) }
     {
         Ok(MemSink {
             store: Store::new(alloc, room, most)?,
@@ -66,7 +66,7 @@ impl MemSink {
 
     /// How many calls have failed.
     pub fn faults(&self) -> u64
-        ensures { result ≡ self.now.calls.faults }
+        ensures { result ≡ self.now.calls.faults.count }
     {
         self.calls.faults()
     }
@@ -75,14 +75,17 @@ impl MemSink {
 impl Sink for MemSink {
     ghost written = { λ sink. Some sink.store.written };
 
-    ghost faults = { λ sink. sink.calls.faults };
+    ghost faults = { λ sink. sink.calls.faults.count };
+
+    ghost has_failed = { λ sink. sink.calls.faults.last };
 
     fn write(&mut self, piece: &[u8]) -> Result<usize, Failed>
         ensures bound { WritesAtMost result piece.now }
         ensures moves { IfOk result (λ count. 0 < length piece.now → 0 < count) }
         ensures bytes { WriteAppends (Some self.old.store.written) (Some self.new.store.written) result piece.now }
         ensures told { StaysTold (Some self.old.store.written) (Some self.new.store.written) }
-        ensures counted { CountsFailures result self.old.calls.faults self.new.calls.faults }
+        ensures counted { CountsFailures result self.old.calls.faults.count self.new.calls.faults.count }
+        ensures last { self.new.calls.faults.last ≡ is_err result }
         ensures fails { is_err result ≡ (fails_next self.old.calls || overflows self.old.store (length piece.now)) }
         ensures count { IfOk result (λ count. count ≡ taken_count self.old.store (length piece.now)) }
         ensures ok { IfOk result (λ count.

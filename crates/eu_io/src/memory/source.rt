@@ -3,7 +3,7 @@
 ghost use Rattle.std.specs.Prelude.{◌≡◌, ◌<◌, min, length, is_err, IfOk, Some};
 ghost use Rattle.std.specs.Io.{ReadsAtMost};
 ghost use Rattle.std.specs.Io.KnownBytes.{ReadConsumes};
-ghost use Rattle.eu_io.specs.Faults.{CountsFailures, StaysTold};
+ghost use Rattle.eu_io.specs.Faults.{CountsFailures, StaysTold, no_faults};
 ghost use Rattle.eu_io.specs.Memory.{fails_next, after_call};
 
 use super::calls::Calls;
@@ -34,7 +34,7 @@ impl MemSource {
         requires { 0 < most }
         ensures left { result.left ≡ bytes }
         ensures most { result.most ≡ most }
-        ensures calls { result.calls ≡ record { fails = fails.items; made = 0; faults = 0 } }
+        ensures calls { result.calls ≡ record { fails = fails.items; made = 0; faults = no_faults } }
     {
         MemSource {
             calm: CalmSource::new(bytes, most),
@@ -44,7 +44,7 @@ impl MemSource {
 
     /// How many calls have failed.
     pub fn faults(&self) -> u64
-        ensures { result ≡ self.now.calls.faults }
+        ensures { result ≡ self.now.calls.faults.count }
     {
         self.calls.faults()
     }
@@ -53,13 +53,16 @@ impl MemSource {
 impl Source for MemSource {
     ghost left = { λ source. Some source.left };
 
-    ghost faults = { λ source. source.calls.faults };
+    ghost faults = { λ source. source.calls.faults.count };
+
+    ghost has_failed = { λ source. source.calls.faults.last };
 
     fn read(&mut self, buffer: &mut [u8]) -> Result<usize, Failed>
         ensures bound { ReadsAtMost result buffer.new }
         ensures bytes { ReadConsumes (Some self.old.left) (Some self.new.left) result buffer.new }
         ensures told { StaysTold (Some self.old.left) (Some self.new.left) }
-        ensures counted { CountsFailures result self.old.calls.faults self.new.calls.faults }
+        ensures counted { CountsFailures result self.old.calls.faults.count self.new.calls.faults.count }
+        ensures last { self.new.calls.faults.last ≡ is_err result }
         ensures fails { is_err result ≡ fails_next self.old.calls }
         ensures count { IfOk result (λ count.
             count ≡ min self.old.most (min (length self.old.left) (length buffer.old))) }

@@ -1,6 +1,6 @@
 use Rattle.std.proofs.Common.{subst}
 use Rattle.plan_db.specs.Database.{Database}
-use Rattle.europa_run.specs.Pieces.{EditTells}
+use Rattle.europa_run.specs.Steps.{EditTells}
 use Rattle.europa_run.proofs.Scripts.{session_unbegun}
 use Rattle.europa_run.proofs.talking.talk.Goals as goal
 
