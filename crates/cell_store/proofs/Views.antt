@@ -14,7 +14,7 @@ use Rattle.cell_store.specs.declared.trail.Entry.{Entry}
 use Rattle.cell_store.specs.declared.trail.Entry.TheVariants.{Added, Narrowed}
 use Rattle.cell_store.specs.Cells.{Celled, domain_at, present, stamped, IsPlace, KeepsPast, WritesCell, NarrowsCell, AddsCell}
 use Rattle.cell_store.specs.Kept.{domains_before, past_of, saved_at, IsTrail, cell_domains, view_of, IsKept}
-use Rattle.cell_store.specs.Writing.{MeetsCell, MeetsBehind, SavesAt, StaysAt}
+use Rattle.cell_store.specs.Writing.{MeetsCell, MeetsBehind, SavesAt, StaysAt, TakesBack}
 use Rattle.cell_store.proofs.Lists.{set-set}
 use Rattle.cell_store.proofs.Rewriting.{rewritten, equal_cases, length-past_of}
 
@@ -316,10 +316,32 @@ get-missed cells shown cell is past = elim (cases_lt cell (length cells)) [
   | inr above ↦ sym (slice_get_past (present shown) cell (omega (arith, above, ap length is, length-map cells (λ c. c.domain))))
 ]
 
--- a cell of which nothing may be left stays
-pub stays_empty : (cells : List Cell) (cell behind : ℕ) (to : Domain) (was left : Cell) → slice_get cells cell ≡ Some was → MeetsBehind behind to was Empty left
-    → (slice_set cells cell left ≡ cells) × Keeps (Has to) was.domain Empty was.domain
-stays_empty cells cell behind to was left stood meets = (
-  ap (slice_set cells cell) (λ i. record { domain = meets.kept.0 i; stamp = meets.stamp i; saved = meets.saved i }) ∙ set-stood cells cell was stood,
-  (refl, meets.kept.1),
-)
+-- the cell was written, or stays with the trail as it was
+pub saves : (cells : List Cell) (trail longer back : List Entry) (cell : ℕ) (to : Domain) (was left found : Cell) (change : Change) → slice_get cells cell ≡ Some was → found ≡ was
+    → MeetsBehind (length longer) to was change left → longer ≡ trail ++ Narrowed cell found.domain found.saved ∷ [] → TakesBack change longer back
+    → SavesAt cell to (cells, trail) (Ok change) (slice_set cells cell left, back)
+saves cells trail longer back cell to was left found Same stood is meets more taken = record {
+  was = was;
+  stood = stood;
+  kept = (refl, meets.kept.1);
+  cells = ap (slice_set cells cell) (λ i. record { domain = meets.kept.0 i; stamp = meets.stamp i; saved = meets.saved i }) ∙ set-stood cells cell was stood;
+  trail = taken trail (Narrowed cell found.domain found.saved) more;
+}
+saves cells trail longer back cell to was left found Empty stood is meets more taken = record {
+  was = was;
+  stood = stood;
+  kept = (refl, meets.kept.1);
+  cells = ap (slice_set cells cell) (λ i. record { domain = meets.kept.0 i; stamp = meets.stamp i; saved = meets.saved i }) ∙ set-stood cells cell was stood;
+  trail = taken trail (Narrowed cell found.domain found.saved) more;
+}
+saves cells trail longer back cell to was left found Smaller stood is meets more taken =
+    let count : length longer ≡ length trail + 1 = omega (arith, ap length more, length-append trail (Narrowed cell found.domain found.saved ∷ [])) in
+    let saved = meets.saved ∙ count in
+    record {
+      was = was;
+      left = left.domain;
+      stood = stood;
+      kept = meets.kept;
+      cells = ap (slice_set cells cell) (λ i. record { domain = left.domain; stamp = meets.stamp i; saved = saved i });
+      trail = taken ∙ (more ∙ ap (λ (c : Cell). trail ++ Narrowed cell c.domain c.saved ∷ []) is);
+    }

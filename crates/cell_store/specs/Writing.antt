@@ -68,6 +68,12 @@ SavesAt cell to old (Ok Smaller) new = SavesCell cell to old new
 SavesAt cell to old (Ok Empty) new = StaysAt cell to Empty old new
 SavesAt cell to old (Err none) new = (new.0 ≡ old.0) × (new.1 ≡ old.1)
 
+-- what was written stays on the trail, and else its last entry is taken off
+abbrev pub TakesBack : Change → List Entry → List Entry → Type 0
+TakesBack Same old new = (front : List Entry) (last : Entry) → old ≡ front ++ last ∷ [] → new ≡ front
+TakesBack Smaller old new = new ≡ old
+TakesBack Empty old new = (front : List Entry) (last : Entry) → old ≡ front ++ last ∷ [] → new ≡ front
+
 -- the entry is taken back: the last cell goes, or a cell has its former domain, and one write more
 abbrev pub UndoesEntry : Entry → List Cell → List Cell → Type 0
 UndoesEntry Added old new = (last : Cell) × (old ≡ new ++ last ∷ [])

@@ -1,8 +1,9 @@
 //! Cells and the trail of what was written to them.
 
-ghost use Rattle.std.specs.Prelude.{◌<◌, ◌≤◌, length, reverse};
+ghost use Rattle.std.specs.Prelude.{◌≡◌, ◌<◌, ◌≤◌, List, [], ◌∷◌, ◌++◌, length, reverse};
 ghost use Rattle.cell_store.specs.Kept.{IsKept};
-ghost use Rattle.cell_store.specs.Writing.{MeetsCell, MeetsBehind, MeetsAt, SavesAt, StepsBack, UndoesEntry, ReturnsTo};
+ghost use Rattle.cell_store.specs.Writing.{MeetsCell, MeetsBehind, MeetsAt, SavesAt, TakesBack, StepsBack, UndoesEntry, ReturnsTo};
+ghost use Rattle.cell_store.specs.declared.trail.Entry.{Entry};
 ghost use Rattle.cell_store.specs.declared.trail.Entry.TheVariants.{Narrowed};
 
 use super::steps::Trail;
@@ -78,17 +79,26 @@ pub fn meet_and_save(
         return Ok(Change::Same);
     }
     trail.narrow(cell, &found.domain, found.saved)?;
-    match cells[cell].meet_behind(to, trail.len()) {
-        Change::Smaller => return Ok(Change::Smaller),
-        Change::Same => {
-            let _unused = trail.pop();
-            return Ok(Change::Same);
-        }
-        Change::Empty => {
-            let _unused = trail.pop();
-            return Ok(Change::Empty);
-        }
+    let change = cells[cell].meet_behind(to, trail.len());
+    take_back(trail, change);
+    Ok(change)
+}
+
+// Takes the last entry off again, unless the change made the cell smaller.
+fn take_back(trail: &mut Trail, change: Change)
+    ensures { TakesBack change trail.old trail.new }
+{
+    match change {
+        Change::Smaller => {}
+        Change::Same | Change::Empty => take_off(trail),
     }
+}
+
+// Takes the last entry off.
+fn take_off(trail: &mut Trail)
+    ensures { (front : List Entry) (last : Entry) → trail.old ≡ front ++ last ∷ [] → trail.new ≡ front }
+{
+    let _entry = trail.pop();
 }
 
 /// Goes back along the trail until it has this length.

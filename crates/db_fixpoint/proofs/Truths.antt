@@ -20,9 +20,9 @@ use Rattle.constraint_net.specs.Arguments.{IsArgument, domain_of}
 use Rattle.constraint_net.specs.Networks.{Network}
 use Rattle.constraint_net.specs.declared.constraint.NetArg.{NetArg}
 use Rattle.constraint_net.proofs.Within.{argument_is}
-use Rattle.rule_engine.specs.Guards.{asks_equal, opened_side, AlwaysSelects}
+use Rattle.rule_engine.specs.Guards.{asks_equal, AlwaysSelects}
 use Rattle.plan_defs.specs.Situations.{situation_of}
-use Rattle.plan_defs.specs.Support.{MayBe, one_side, other_side}
+use Rattle.plan_defs.specs.Support.{MayBe, one_side, other_side, side_when}
 use Rattle.plan_defs.specs.Terms.{Context, Argument, Value, Variable, HasDomain, ArgumentCounts}
 use Rattle.eu_name.proofs.Members.{get_below, get_within}
 use Rattle.db_refine.specs.Claims.{IsNamedArgument}
@@ -51,17 +51,17 @@ module _ (one other : Domain) (is_one : IsDomain one) (is_other : IsDomain other
 
   module _ (guard : Guard) where
     abbrev Found : Option Bool → Type 0
-    Found truth = MatchOption truth ((side : Side) → AlwaysSelects guard side one other → ⊥) (λ t. AlwaysSelects guard (opened_side t) one other)
+    Found truth = MatchOption truth ((side : Side) → AlwaysSelects guard side one other → ⊥) (λ t. AlwaysSelects guard (side_when t) one other)
 
-    truth_found : (truth : Option Bool) → Found truth → (side : Side) → AlwaysSelects guard side one other → (t : Bool) × (truth ≡ Some t) × (opened_side t ≡ side)
+    truth_found : (truth : Option Bool) → Found truth → (side : Side) → AlwaysSelects guard side one other → (t : Bool) × (truth ≡ Some t) × (side_when t ≡ side)
     truth_found None none side always = absurd (none side always)
-    truth_found (Some t) is side always = (t, refl, side_alone guard (opened_side t) side is always)
+    truth_found (Some t) is side always = (t, refl, side_alone guard (side_when t) side is always)
 
-    truth_selects : (truth : Option Bool) → Found truth → (t : Bool) → truth ≡ Some t → AlwaysSelects guard (opened_side t) one other
+    truth_selects : (truth : Option Bool) → Found truth → (t : Bool) → truth ≡ Some t → AlwaysSelects guard (side_when t) one other
     truth_selects None none t e = absurd (cc)
     truth_selects (Some u) is t e =
         let same : u ≡ t = cc in
-        subst (λ (b : Bool). AlwaysSelects guard (opened_side b) one other) same is
+        subst (λ (b : Bool). AlwaysSelects guard (side_when b) one other) same is
 
 -- ---- terms
 
@@ -121,7 +121,7 @@ module _ (model : Model) (decisions : List Decision) (content : Content) (contex
         → IsTermArgument content context (one_side guard) a → IsTermArgument content context (other_side guard) b
         → TermCounts model (IsTaken decisions) context (one_side guard) → TermCounts model (IsTaken decisions) context (other_side guard)
         → (truth : Option Bool) → IsTruth (asks_equal guard) (domain_of content.domains a) (domain_of content.domains b) truth
-        → (found : Option Side) → ((side : Side) → (found ≡ Some side) ↔ ((t : Bool) × (truth ≡ Some t) × (opened_side t ≡ side)))
+        → (found : Option Side) → ((side : Side) → (found ≡ Some side) ↔ ((t : Bool) × (truth ≡ Some t) × (side_when t ≡ side)))
         → OpensOnly model (situation_of decisions (shown content)) context guard found
     opens_only once long a b ok_a ok_b stands_a stands_b is_a is_b counts_a counts_b truth is found sides =
         let one = domain_of content.domains a in
@@ -167,7 +167,7 @@ module _ (model : Model) (stored : Stored) (sound : IsSnapshot (snapshot_of stor
 
   pub side_found : (decisions : List Decision) → TermCounts model (IsTaken decisions) context s × TermCounts model (IsTaken decisions) context t
       → (equal : Bool) → asks_equal guard ≡ equal → (truth : Option Bool) → IsTruth equal (domain_of net.domains a) (domain_of net.domains b) truth
-      → (found : Option Side) → ((side : Side) → (found ≡ Some side) ↔ ((u : Bool) × (truth ≡ Some u) × (opened_side u ≡ side)))
+      → (found : Option Side) → ((side : Side) → (found ≡ Some side) ↔ ((u : Bool) × (truth ≡ Some u) × (side_when u ≡ side)))
       → OpensOnly model (situation_of decisions (shown content)) context guard found
   side_found decisions counts equal asks truth is found sides =
       let once = names_are_once (snapshot_of stored) sound in

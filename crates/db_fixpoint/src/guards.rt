@@ -4,13 +4,13 @@ ghost use Rattle.std.specs.Prelude.{◌≡◌, ◌↔◌, ◌<◌, Bool, Some, L
 ghost use Rattle.domain_core.specs.Domain.{Range, IsValue};
 ghost use Rattle.model_core.specs.declared.decision.Decision.{Decision};
 ghost use Rattle.model_core.specs.Decided.{IsTaken};
-ghost use Rattle.rule_engine.specs.Guards.{asks_equal, opened_side};
+ghost use Rattle.rule_engine.specs.Guards.{asks_equal};
 ghost use Rattle.model_core.specs.declared.rule.Side.{Side as Way};
 ghost use Rattle.token_store.specs.Tokens.{tokens_now};
 ghost use Rattle.constraint_net.specs.Arguments.{IsArgument, domain_of};
 ghost use Rattle.constraint_net.specs.declared.constraint.NetArg.TheVariants.{Var};
 ghost use Rattle.plan_defs.specs.Situations.{situation_of};
-ghost use Rattle.plan_defs.specs.Support.{one_side, other_side};
+ghost use Rattle.plan_defs.specs.Support.{one_side, other_side, side_when};
 ghost use Rattle.model_core.specs.Content.{shown};
 ghost use Rattle.db_refine.specs.Coming.{IsTermThere};
 ghost use Rattle.db_store.specs.Stores.{snapshot_of};
@@ -104,7 +104,7 @@ fn truth_of(net: &Net, equal: bool, one: NetArg, other: NetArg) -> Option<bool>
 
 // The side that opens where the guard has this truth.
 fn side_of(truth: Option<bool>) -> Option<Side>
-    ensures { (side : Way) → (result ≡ Some side) ↔ ((found : Bool) × (truth ≡ Some found) × (opened_side found ≡ side)) }
+    ensures { (side : Way) → (result ≡ Some side) ↔ ((found : Bool) × (truth ≡ Some found) × (side_when found ≡ side)) }
 {
     match truth {
         Some(true) => Some(Side::Then),

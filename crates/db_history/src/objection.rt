@@ -1,6 +1,5 @@
 //! Whether a decision may be taken.
 
-ghost use Rattle.std.specs.Prelude.{◌≡◌};
 ghost use Rattle.model_core.specs.History.{standing};
 ghost use Rattle.plan_defs.specs.Settling.{IsSettled};
 ghost use Rattle.db_history.specs.Advancing.{IsLeastOf};

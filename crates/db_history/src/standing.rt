@@ -9,7 +9,7 @@ ghost use Rattle.db_store.specs.declared.store.Mark.{Mark as Marked};
 ghost use Rattle.db_store.specs.Stores.{snapshot_of};
 ghost use Rattle.db_store.specs.StoreMarks.{IsStoreMark, CanGoBack, GoesBackTo};
 ghost use Rattle.db_store.specs.Stamps.{FollowStamps};
-ghost use Rattle.db_history.specs.declared.footing.Footing.TheVariants.{Rest, Fallen, Void};
+ghost use Rattle.db_history.specs.declared.footing.Footing.TheVariants.{Rest};
 ghost use Rattle.db_history.specs.Advancing.{but_last, EndsAdmissibly};
 ghost use Rattle.db_history.specs.Standing.{KeepsList, StandsForList, GoesOnTo};
 ghost use Rattle.db_history.specs.Seated.{AreSeatedAt};

@@ -1,6 +1,6 @@
 //! What a decision is on.
 
-ghost use Rattle.std.specs.Prelude.{◌≡◌, ◌↔◌, ◌<◌, IsTrue, Contains, MatchOption, length, slice_get, Some};
+ghost use Rattle.std.specs.Prelude.{◌≡◌, ◌↔◌, IsTrue, Contains, MatchOption, slice_get, Some};
 ghost use Rattle.model_core.specs.declared.decision.Decision.{Decision as Taken};
 ghost use Rattle.db_history.specs.Subjects.{IsOfSubject};
 

@@ -5,7 +5,7 @@ use Rattle.std.specs.Option.{option_and_then}
 use Rattle.std.proofs.lemmas.Option.{same_Some, slice_get_within}
 use Rattle.eu_forest.specs.Ancestors.{parent_in}
 use Rattle.eu_forest.specs.Lines.{LeadsUp, StandsUnder}
-use Rattle.eu_forest.specs.Members.{AreGathered, AreHandedUp, AreMembers, IsWithin, Joins, PutsOwn, has_member, is_owner, marked_by, marks_at}
+use Rattle.eu_forest.specs.Members.{AreGathered, AreHandedUp, AreMembers, IsWithin, Joins, PutsOwn, has_member, is_owner, is_marked, marks_at}
 use Rattle.eu_forest.proofs.Marked.{is_own, own_is}
 use Rattle.eu_forest.proofs.Sharing.{at_own, at_set, set_length}
 
@@ -22,7 +22,7 @@ none_gathered parents owners count = record {
     length_is zero = refl
     length_is (suc things) = ap suc (length_is things)
 
-    unmarked : (some number : ℕ) → marked_by (replicate some false) number ≡ true → ⊥
+    unmarked : (some number : ℕ) → is_marked (replicate some false) number ≡ true → ⊥
     unmarked zero number e = cc
     unmarked (suc some) zero e = cc
     unmarked (suc some) (suc number) e = unmarked some number e
@@ -62,15 +62,15 @@ put_step : (parents owners : List (Option ℕ)) (count thing : ℕ) (old : List 
 put_step parents owners count thing old here so_far = record {
   things = set_length old thing (map (is_owner thing) owners) ∙ so_far.things;
   sound = λ other number has. elim (at_set old thing (map (is_owner thing) owners) other) [
-    | inl same ↦ so_far.sound other number (ap (λ some. marked_by some number) (sym same) ∙ has)
-    | inr set ↦ (thing, own_is thing owners number (ap (λ some. marked_by some number) (sym set.1) ∙ has), ([], set.0))
+    | inl same ↦ so_far.sound other number (ap (λ some. is_marked some number) (sym same) ∙ has)
+    | inr set ↦ (thing, own_is thing owners number (ap (λ some. is_marked some number) (sym set.1) ∙ has), ([], set.0))
   ];
   own = λ owner number less at within. elim (at_set old thing (map (is_owner thing) owners) owner) [
     | inl same ↦ elim (below_cases number count less) [
-      | inl low ↦ ap (λ some. marked_by some number) same ∙ so_far.own owner number low at within
+      | inl low ↦ ap (λ some. is_marked some number) same ∙ so_far.own owner number low at within
       | inr now ↦ own_now owner number now at within
     ]
-    | inr set ↦ ap (λ some. marked_by some number) set.1
+    | inr set ↦ ap (λ some. is_marked some number) set.1
         ∙ is_own thing owners number (at ∙ ap (λ n. Some (Some n)) set.0)
   ];
 }
@@ -81,7 +81,7 @@ put_step parents owners count thing old here so_far = record {
         let same : owner ≡ thing = owner_same owners count thing owner here (ap (slice_get owners) (sym now) ∙ at) in
         let inside : thing < length old = (let long = so_far.things in omega (arith, within, same, long)) in
         ap (λ n. has_member (slice_set old thing (map (is_owner thing) owners)) n number) same
-        ∙ (ap (λ some. marked_by some number) (at_own old thing (map (is_owner thing) owners) inside)
+        ∙ (ap (λ some. is_marked some number) (at_own old thing (map (is_owner thing) owners) inside)
         ∙ is_own thing owners number (at ∙ ap (λ n. Some (Some n)) same))
 
 pub own_put : (parents owners : List (Option ℕ)) (count thing : ℕ) (old new : List (List Bool)) → slice_get owners count ≡ Some (Some thing)

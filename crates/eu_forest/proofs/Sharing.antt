@@ -4,7 +4,7 @@ use Rattle.std.specs.Prelude.{Option, Some, None, slice_get, slice_set}
 use Rattle.std.specs.Option.{option_map, option_map_or}
 use Rattle.std.proofs.lemmas.List.{length-append}
 use Rattle.std.proofs.lemmas.Option.{same_Some, slice_get-map}
-use Rattle.eu_forest.specs.Members.{AreShared, IsWithin, Joins, Shares, are_marked, has_member, list_at, marked_by, marks_at, numbers_marked, numbers_of, place_or_first}
+use Rattle.eu_forest.specs.Members.{AreShared, IsWithin, Joins, Shares, are_marked, has_member, list_at, is_marked, marks_at, numbers_marked, numbers_of, place_or_first}
 use Rattle.eu_forest.proofs.Marked.{either_marked, one_marked, same_numbers}
 
 -- what is marked for each thing
@@ -103,7 +103,7 @@ pub shared_more : (marks : List (List Bool)) (more : List Bool) (places : List �
 shared_more marks more places shared = record {
   placed = λ thing place at. let less : place < length marks = shared.placed thing place at in let long = longer marks more in omega (arith, less, long);
   first = let long = longer marks more in omega (arith, long);
-  none = λ number is. shared.none number (ap (λ some. marked_by some number) (sym (before marks more 0 shared.first)) ∙ is);
+  none = λ number is. shared.none number (ap (λ some. is_marked some number) (sym (before marks more 0 shared.first)) ∙ is);
 }
 
 set_cases : (places : List ℕ) (thing place other found : ℕ) → slice_get (slice_set places thing place) other ≡ Some found
@@ -142,7 +142,7 @@ shared_first marks count things is = subst (λ some. AreShared some (replicate t
     zeros (suc count) zero place at = sym (same_Some 0 place at)
     zeros (suc count) (suc thing) place at = zeros count thing place at
 
-    idle : (count number : ℕ) → marked_by (replicate count false) number ≡ true → ⊥
+    idle : (count number : ℕ) → is_marked (replicate count false) number ≡ true → ⊥
     idle zero number e = cc
     idle (suc count) zero e = cc
     idle (suc count) (suc number) e = idle count number e
@@ -172,21 +172,21 @@ set_length (y ∷ some) (suc thing) x = ap suc (set_length some thing x)
 
 -- what is put there comes from the two, and has all of the first
 joins_put : (old new : List (List Bool)) (thing other : ℕ) (more : List Bool) → new ≡ slice_set old thing more
-    → ((number : ℕ) → marked_by more number ≡ true → (has_member old thing number ≡ true) ⊎ (has_member old other number ≡ true))
-    → ((number : ℕ) → has_member old thing number ≡ true → marked_by more number ≡ true)
+    → ((number : ℕ) → is_marked more number ≡ true → (has_member old thing number ≡ true) ⊎ (has_member old other number ≡ true))
+    → ((number : ℕ) → has_member old thing number ≡ true → is_marked more number ≡ true)
     → Joins thing other old new
 joins_put old new thing other more is sound keeps = subst (λ some. Joins thing other old some) (sym is) (record {
   count = set_length old thing more;
   sound = λ here number has. elim (at_set old thing more here) [
-    | inl same ↦ inl (ap (λ some. marked_by some number) (sym same) ∙ has)
-    | inr set ↦ elim (sound number (ap (λ some. marked_by some number) (sym set.1) ∙ has)) [
+    | inl same ↦ inl (ap (λ some. is_marked some number) (sym same) ∙ has)
+    | inr set ↦ elim (sound number (ap (λ some. is_marked some number) (sym set.1) ∙ has)) [
       | inl first ↦ inl (ap (λ n. has_member old n number) set.0 ∙ first)
       | inr second ↦ inr (set.0, second)
     ]
   ];
   keeps = λ here number has. elim (at_set old thing more here) [
-    | inl same ↦ ap (λ some. marked_by some number) same ∙ has
-    | inr set ↦ ap (λ some. marked_by some number) set.1 ∙ keeps number (ap (λ n. has_member old n number) (sym set.0) ∙ has)
+    | inl same ↦ ap (λ some. is_marked some number) same ∙ has
+    | inr set ↦ ap (λ some. is_marked some number) set.1 ∙ keeps number (ap (λ n. has_member old n number) (sym set.0) ∙ has)
   ];
 })
 
@@ -220,9 +220,9 @@ list_of (first ∷ marks) (suc place) = list_of marks place
 
 -- what marks nothing has no numbers
 no_numbers : (marks : List Bool) → IsWithin marks [] → numbers_marked 0 marks ≡ []
-no_numbers marks none = same_numbers marks [] 0 (λ number. by number (marked_by marks number) refl (none number))
+no_numbers marks none = same_numbers marks [] 0 (λ number. by number (is_marked marks number) refl (none number))
   where
-    by : (number : ℕ) (b : Bool) → marked_by marks number ≡ b → (marked_by marks number ≡ true → false ≡ true) → marked_by marks number ≡ false
+    by : (number : ℕ) (b : Bool) → is_marked marks number ≡ b → (is_marked marks number ≡ true → false ≡ true) → is_marked marks number ≡ false
     by number true is never = absurd (let e : false ≡ true = never is in cc)
     by number false is never = is
 

@@ -13,20 +13,20 @@ is_owner thing None = false
 is_owner thing (Some owner) = owner == thing
 
 -- the member of this number is marked
-abbrev pub marked_by : List Bool → ℕ → Bool
-marked_by marks number = option_map_or (λ mark. mark) (slice_get marks number) false
+abbrev pub is_marked : List Bool → ℕ → Bool
+is_marked marks number = option_map_or (λ mark. mark) (slice_get marks number) false
 
 -- marked are those of the one, of which the first has this number, and those that are so in the other
 abbrev pub marked_from : ℕ → List Bool → List Bool → List Bool
 marked_from number [] other = []
-marked_from number (mark ∷ more) other = (mark || marked_by other number) ∷ marked_from (number + 1) more other
+marked_from number (mark ∷ more) other = (mark || is_marked other number) ∷ marked_from (number + 1) more other
 
 abbrev pub are_marked : List Bool → List Bool → List Bool
 are_marked one other = marked_from 0 one other
 
 -- what is marked in the one is so in the other
 abbrev pub IsWithin : List Bool → List Bool → Type 0
-IsWithin one other = (number : ℕ) → marked_by one number ≡ true → marked_by other number ≡ true
+IsWithin one other = (number : ℕ) → is_marked one number ≡ true → is_marked other number ≡ true
 
 -- the numbers of those that are marked, of which the first has this number
 abbrev pub numbers_marked : ℕ → List Bool → List ℕ
@@ -40,12 +40,12 @@ abbrev pub marks_at : List (List Bool) → ℕ → List Bool
 marks_at found thing = option_map_or (λ marks. marks) (slice_get found thing) []
 
 -- the list at this place, which is empty where there is none
-abbrev pub list_at : List (List ℤ) → ℕ → List ℤ
+abbrev pub list_at : {X : Type 0} → List (List X) → ℕ → List X
 list_at lists place = option_map_or (λ list. list) (slice_get lists place) []
 
 -- the thing has the member
 abbrev pub has_member : List (List Bool) → ℕ → ℕ → Bool
-has_member found thing number = marked_by (marks_at found thing) number
+has_member found thing number = is_marked (marks_at found thing) number
 
 -- the numbers of what the thing has, as values
 abbrev pub numbers_of : List (List Bool) → ℕ → List ℤ

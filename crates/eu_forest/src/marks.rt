@@ -1,7 +1,7 @@
 //! Lists that mark which of all members are meant.
 
 ghost use Rattle.std.specs.Prelude.{◌≡◌, ◌++◌, ◌∷◌, [], false, map, pos, replicate, IfOk, IsTrue, OnOk, if◌then◌else◌};
-ghost use Rattle.eu_forest.specs.Members.{IsWithin, are_marked, is_owner, marked_by, numbers_marked};
+ghost use Rattle.eu_forest.specs.Members.{IsWithin, are_marked, is_owner, is_marked, numbers_marked};
 
 use eu_name::sequence::Sequence;
 use std::alloc::{AllocError, Global};
@@ -44,7 +44,7 @@ pub fn own_marked(
 
 /// Whether the member of this number is marked.
 pub fn is_marked(marks: &[bool], number: usize) -> bool
-    ensures { result ≡ marked_by marks.now number }
+    ensures { result ≡ is_marked marks.now number }
 {
     match marks.get(number) {
         Some(mark) => *mark,

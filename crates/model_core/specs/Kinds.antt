@@ -93,6 +93,13 @@ pub data Scope : Type 0 where
   OfProblem : Scope
   OfRule : ℕ → Rule → Scope
 
+-- the term names something of a rule or of its token
+abbrev pub IsInner : Term → Type 0
+IsInner (terms.Here part) = ⊤
+IsInner (terms.Slot number part) = ⊤
+IsInner (terms.Local number) = ⊤
+IsInner term = ⊥
+
 -- the term may be named there, and is of the kind; in the problem only values, globals and parts of roots may
 abbrev pub IsOfKind : Model → Scope → ValueKind → Term → Type 0
 IsOfKind model scope kind (terms.Lit value) = IsValueOf model kind value

@@ -160,11 +160,14 @@ pub record AreFew (listed : List Rule) : Type 0 where
   pub items : sum_by (λ rule. item_count rule.top) listed ≤ 1024
   pub guards : sum_by (λ rule. guard_count rule.top) listed ≤ 1024
 
--- what uses, produces or consumes has a quantity from 0 to 1,000,000 as its one parameter
+-- how much is used, produced or consumed: from 0 to 1,000,000
+abbrev pub quantity : VarDecl
+quantity = record { name = codes "quantity"; kind = kinds.Int; base = Given (Range (pos 0) (pos 1000000)) }
+
+-- what uses, produces or consumes has a quantity as its one parameter
 abbrev pub HasQuantity : PredKind → List VarDecl → Type 0
 HasQuantity Plain params = ⊤
-HasQuantity kind params =
-    params ≡ record { name = codes "quantity"; kind = kinds.Int; base = Given (Range (pos 0) (pos 1000000)) } ∷ []
+HasQuantity kind params = params ≡ quantity ∷ []
 
 -- the predicate of this number
 pub record IsLawfulPred (model : Model) (number : ℕ) (pred : Pred) : Type 0 where

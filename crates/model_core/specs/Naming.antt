@@ -1,7 +1,7 @@
 -- Which names a model may have, and which of them have to differ.
-use Rattle.std.specs.Prelude.{◌≡◌, ℕ, ◌<◌, ◌⊎◌, List, [], ◌∷◌, ◌++◌, length, map, All, Contains, codes}
+use Rattle.std.specs.Prelude.{◌≡◌, ℕ, ◌<◌, ◌==◌, ◌⊎◌, Bool, List, [], ◌∷◌, ◌++◌, length, map, All, Contains, codes}
 use Rattle.std.specs.Fmt.{decimal}
-use Rattle.std.specs.List.{flat_map, join_with_byte}
+use Rattle.std.specs.List.{flat_map, join_with_byte, slice_split}
 use Rattle.eu_name.specs.Word.{IsName}
 use Rattle.model_core.specs.declared.model.Model.{Model}
 use Rattle.model_core.specs.declared.variable.VarDecl.{VarDecl}
@@ -40,6 +40,18 @@ IsGlobalName number name = IsName name ⊎ (name ≡ codes "!" ++ decimal number
 -- an object has a name, or the name of an object and one of a field with a point between them, as `r.f`
 abbrev pub IsObjectName : List ℕ → Type 0
 IsObjectName name = (names : List (List ℕ)) × (0 < length names) × All IsName names × (name ≡ join_with_byte 46 names)
+
+-- a name with that of what it stands in before it, as `r.f`
+abbrev pub full_name : List ℕ → List ℕ → List ℕ
+full_name outer name = (outer ++ codes ".") ++ name
+
+-- a point
+abbrev pub is_point : ℕ → Bool
+is_point byte = byte == 46
+
+-- what stands between the points are names
+abbrev pub IsPath : List ℕ → Type 0
+IsPath text = All IsName (slice_split is_point text)
 
 -- the words for the parts that every token has
 abbrev pub token_part_words : List (List ℕ)

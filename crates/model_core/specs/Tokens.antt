@@ -46,6 +46,10 @@ pub record HasToken (model : Model) (token : TokenName) (slot : Slot) : Type 0 w
   pub is_root : IsRoot model token.root root
   pub reached : Reaches model (slot_of root) token.steps slot
 
+-- the model has the token, which is of the predicate of this number
+abbrev pub HasPred : Model → TokenName → ℕ → Type 0
+HasPred model token pred = (slot : Slot) × HasToken model token slot × (slot.pred ≡ pred)
+
 -- the root of this number
 abbrev pub root_token : ℕ → TokenName
 root_token number = record { root = number; steps = [] }

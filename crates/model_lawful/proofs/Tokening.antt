@@ -13,10 +13,10 @@ use Rattle.model_core.specs.declared.model.Root.{Root}
 use Rattle.model_core.specs.declared.rule.Slot.{Slot}
 use Rattle.model_core.specs.declared.variable.Base.TheVariants.{Given}
 use Rattle.model_core.specs.Lookup.{LeadsOn}
-use Rattle.model_core.specs.Tokens.{HasRule, HasToken, IsRoot, slot_of}
+use Rattle.model_core.specs.Tokens.{HasRule, HasToken, IsRoot, slot_of, HasPred}
 use Rattle.model_core.specs.Variables.{HasParameter}
 use Rattle.model_core.proofs.Leading.{on_reaches, reaches_on, token_once}
-use Rattle.model_lawful.specs.Parts.{HasPart, HasPred, HasRuleLocal, HasVariable}
+use Rattle.model_lawful.specs.Parts.{HasPart, HasRuleLocal, HasVariable}
 
 module _ (model : Model) (token : TokenName) where
   pub no_root : ((root : Root) → IsRoot model token.root root → ⊥) → (pred : ℕ) → HasPred model token pred → ⊥

@@ -4,7 +4,6 @@ use Rattle.std.specs.List.{AllZip}
 use Rattle.domain_core.specs.Domain.{IsDomain}
 use Rattle.eu_name.specs.declared.name.Part.{Part}
 use Rattle.eu_name.specs.declared.name.Part.TheVariants as parts
-use Rattle.eu_name.specs.declared.name.TokenName.{TokenName}
 use Rattle.eu_name.specs.declared.name.VarName.{VarName}
 use Rattle.eu_name.specs.Word.{IsName}
 use Rattle.model_core.specs.declared.class.Class.{Class}
@@ -13,7 +12,6 @@ use Rattle.model_core.specs.declared.class.Pred.{Pred}
 use Rattle.model_core.specs.declared.model.Model.{Model}
 use Rattle.model_core.specs.declared.model.Root.{Root}
 use Rattle.model_core.specs.declared.rule.Rule.{Rule}
-use Rattle.model_core.specs.declared.rule.Slot.{Slot}
 use Rattle.model_core.specs.declared.variable.Base.{Base}
 use Rattle.model_core.specs.declared.variable.Base.TheVariants.{Given}
 use Rattle.model_core.specs.declared.variable.ValueKind.TheVariants as kinds
@@ -21,12 +19,8 @@ use Rattle.model_core.specs.declared.variable.VarDecl.{VarDecl}
 use Rattle.model_core.specs.Kinds.{AreObjectsOf, IsBaseOf, IsValueOf}
 use Rattle.model_core.specs.Lawful.{IsLawfulKind}
 use Rattle.model_core.specs.Naming.{IsObjectName}
-use Rattle.model_core.specs.Tokens.{HasRule, HasToken}
+use Rattle.model_core.specs.Tokens.{HasRule}
 use Rattle.model_core.specs.Variables.{HasBase, HasParameter, IsGiven}
-
--- the model has the token, which is of the predicate of this number
-abbrev pub HasPred : Model → TokenName → ℕ → Type 0
-HasPred model token pred = (slot : Slot) × HasToken model token slot × (slot.pred ≡ pred)
 
 -- a token of the predicate has the part
 abbrev pub HasPart : Model → ℕ → Part → Type 0

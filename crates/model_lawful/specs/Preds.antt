@@ -1,15 +1,12 @@
 -- The rules of predicates.
-use Rattle.std.specs.Prelude.{◌≡◌, ◌≢◌, ℕ, pos, ◌≤◌, List, Some, codes, length, slice_get, All, AllPairs}
+use Rattle.std.specs.Prelude.{◌≡◌, ◌≢◌, ℕ, pos, ◌≤◌, List, Some, length, slice_get, All, AllPairs}
 use Rattle.std.specs.List.{AllZip}
-use Rattle.domain_core.specs.Domain.{Domain, Range, IsRange, least, greatest}
+use Rattle.domain_core.specs.Domain.{Domain, IsRange, least, greatest}
 use Rattle.eu_name.specs.Word.{IsName}
 use Rattle.model_core.specs.declared.class.Class.{Class}
 use Rattle.model_core.specs.declared.class.Pred.{Pred}
 use Rattle.model_core.specs.declared.model.Model.{Model}
 use Rattle.model_core.specs.declared.rule.Rule.{Rule}
-use Rattle.model_core.specs.declared.variable.Base.TheVariants.{Given}
-use Rattle.model_core.specs.declared.variable.ValueKind.TheVariants as kinds
-use Rattle.model_core.specs.declared.variable.VarDecl.{VarDecl}
 use Rattle.model_core.specs.Lawful.{AreFew, HasQuantity, IsLawfulRule, IsLawfulVariable}
 use Rattle.model_core.specs.Naming.{IsParameterName, names_of}
 
@@ -54,10 +51,6 @@ pub record HasAllLawful (model : Model) (number : ℕ) (pred : Pred) : Type 0 wh
   pub params : HasLawfulParams model pred
   pub rules : HasLawfulRules model number pred
   pub of_class : IsOfAClass model pred
-
--- the one parameter of what does something to a resource
-abbrev pub quantity : VarDecl
-quantity = record { name = codes "quantity"; kind = kinds.Int; base = Given (Range (pos 0) (pos 1000000)) }
 
 -- it is so of each predicate of the list by its number
 abbrev pub AreLawfulInOrder : Model → List Pred → Type 0

@@ -4,7 +4,8 @@ ghost use Rattle.std.specs.Prelude.{◌↔◌, All, IsTrue, MatchOption, ℕ};
 ghost use Rattle.eu_name.specs.declared.name.Part.TheVariants as parts;
 ghost use Rattle.eu_name.specs.declared.name.VarName.TheVariants as variables;
 ghost use Rattle.model_core.specs.Lawful.{IsLawfulDecision, IsToken};
-ghost use Rattle.model_lawful.specs.Parts.{HasPart, HasPred, HasRuleLocal, HasVariable};
+ghost use Rattle.model_core.specs.Tokens.{HasPred};
+ghost use Rattle.model_lawful.specs.Parts.{HasPart, HasRuleLocal, HasVariable};
 
 use domain_core::number::is_value;
 use eu_name::name::{Part, TokenName, VarName};

@@ -3,12 +3,12 @@
 ghost use Rattle.std.specs.Prelude.{◌≡◌, ◌≢◌, ◌↔◌, ◌<◌, ◌^◌, ◌∷◌, [], List, All, AllPairs, IfOk, IsTrue, MatchOption, Some, length, map, pos, slice_get};
 ghost use Rattle.model_core.specs.declared.rule.Rule.{Rule as RuleValue};
 ghost use Rattle.eu_name.specs.Word.{IsName};
-ghost use Rattle.model_core.specs.Lawful.{HasQuantity, IsLawfulRule};
+ghost use Rattle.model_core.specs.Lawful.{HasQuantity, IsLawfulRule, quantity};
 ghost use Rattle.model_core.specs.Naming.{IsParameterName, names_of};
 ghost use Rattle.model_typing.specs.Ground.{IsGround};
 ghost use Rattle.domain_core.specs.Domain.{Range};
 ghost use Rattle.model_lawful.specs.Alike.{HaveSameParts};
-ghost use Rattle.model_lawful.specs.Preds.{AreLawfulInOrder, AreLawfulPreds, AreLawfulRules, AreRules, HasAllLawful, HasClass, HasFewParams, HasLawfulParams, HasLawfulRules, HasQuantityEnds, IsOfAClass, quantity};
+ghost use Rattle.model_lawful.specs.Preds.{AreLawfulInOrder, AreLawfulPreds, AreLawfulRules, AreRules, HasAllLawful, HasClass, HasFewParams, HasLawfulParams, HasLawfulRules, HasQuantityEnds, IsOfAClass};
 
 use domain_core::domain::Dom;
 use eu_name::is_name;

@@ -7,8 +7,7 @@ use Rattle.std.proofs.lemmas.List.Elements.{All-from_recursion, recursion_from_A
 use Rattle.std.proofs.lemmas.List.Splits.{slice_split_none, slice_split_at, length-slice_split, join_with_byte-slice_split}
 use Rattle.eu_name.proofs.Fronts.{Passes, Stops, prefix_passes, prefix_stops}
 use Rattle.eu_name.specs.Word.{IsName, is_word_start, is_word_byte}
-use Rattle.model_core.specs.Naming.{IsObjectName}
-use Rattle.model_rules.specs.Paths.{is_point, IsPath}
+use Rattle.model_core.specs.Naming.{IsObjectName, is_point, IsPath}
 
 abbrev pub goes_on : ℕ → Bool
 goes_on byte = not (is_point byte)

@@ -1,5 +1,5 @@
 pub mod Distinct
-pub mod Paths
+pub mod Forms
 pub mod Amounts
 pub mod Nested
 pub mod Numbered

@@ -2,8 +2,8 @@
 
 ghost use Rattle.std.specs.Prelude.{◌≡◌, ◌≤◌, ◌↔◌, ◌++◌, All, Contains, IfOk, IsTrue, MatchOption, codes, false, length, map, not};
 ghost use Rattle.std.specs.List.{prefix_len};
-ghost use Rattle.model_core.specs.Naming.{IsGlobalName, IsObjectName, IsParameterName, builtin_names, token_part_words};
-ghost use Rattle.model_rules.specs.Paths.{HasForm, IsPath, is_point};
+ghost use Rattle.model_core.specs.Naming.{IsGlobalName, IsObjectName, IsParameterName, builtin_names, token_part_words, is_point, IsPath};
+ghost use Rattle.model_rules.specs.Forms.{HasForm};
 
 use super::named::Named;
 use eu_name::is_name;

@@ -10,12 +10,12 @@ use Rattle.model_core.specs.declared.item.Term.{Term}
 use Rattle.model_core.specs.declared.item.Term.TheVariants as terms
 use Rattle.model_core.specs.declared.variable.ValueKind.TheVariants as kinds
 use Rattle.model_core.specs.declared.variable.VarDecl.{VarDecl}
-use Rattle.model_core.specs.Kinds.{AreObjectsOf, IsOfKind, OfProblem, OfRule, Scope}
+use Rattle.model_core.specs.Kinds.{AreObjectsOf, IsOfKind, OfProblem, OfRule, Scope, IsInner}
 use Rattle.model_core.specs.Variables.{HasParameter, IsGlobal}
 use Rattle.model_typing.specs.declared.line.Line.{Line}
 use Rattle.model_typing.specs.declared.line.Line.TheVariants as lines
 use Rattle.model_typing.specs.Lines.{AreLinesOf, ArePredLines, IsLine, line_in, lines_in}
-use Rattle.model_typing.specs.Terms.{IsInner, IsPartLine, IsTermLine}
+use Rattle.model_typing.specs.Terms.{IsPartLine, IsTermLine}
 use Rattle.model_typing.proofs.Under.{param_once}
 
 -- the line of the one thing that is so is that of whatever is so

@@ -30,13 +30,6 @@ abbrev pub IsNamed : Term → Type 0
 IsNamed (terms.Lit value) = ⊥
 IsNamed term = ⊤
 
--- the term names something of a rule or of its token
-abbrev pub IsInner : Term → Type 0
-IsInner (terms.Here part) = ⊤
-IsInner (terms.Slot number part) = ⊤
-IsInner (terms.Local number) = ⊤
-IsInner term = ⊥
-
 -- what is found is the one that is so, or there is none
 abbrev pub IsJust : Option ValueKind → (ValueKind → Type 0) → Type 0
 IsJust found IsSo = (kind : ValueKind) → IsSo kind ↔ (found ≡ Some kind)

@@ -3,8 +3,8 @@
 ghost use Rattle.std.specs.Prelude.{◌≡◌, ◌↔◌, IsTrue, Some};
 ghost use Rattle.eu_name.specs.declared.name.Part.TheVariants as parts;
 ghost use Rattle.model_core.specs.declared.item.Term.TheVariants as named_terms;
-ghost use Rattle.model_core.specs.Kinds.{IsOfKind, IsPartOfKind, OfRule};
-ghost use Rattle.model_typing.specs.Terms.{IsInner, IsJust, IsNamed, scope_of};
+ghost use Rattle.model_core.specs.Kinds.{IsOfKind, IsPartOfKind, OfRule, IsInner};
+ghost use Rattle.model_typing.specs.Terms.{IsJust, IsNamed, scope_of};
 
 use super::finding::{global_at, local_at, param_at, root_at, slot_at};
 use super::scope::TermScope;

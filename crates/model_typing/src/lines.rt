@@ -3,10 +3,10 @@
 ghost use Rattle.std.specs.Prelude.{◌≡◌};
 ghost use Rattle.eu_name.specs.declared.name.Part.TheVariants as parts;
 ghost use Rattle.model_core.specs.declared.item.Term.TheVariants as named_terms;
-ghost use Rattle.model_core.specs.Kinds.{IsObjectOf, IsPartOfClass, OfRule};
+ghost use Rattle.model_core.specs.Kinds.{IsObjectOf, IsPartOfClass, OfRule, IsInner};
 ghost use Rattle.model_typing.specs.Ground.{AreClasses};
 ghost use Rattle.model_typing.specs.Lines.{AreLinesOf, IsLine, line_in, lines_in};
-ghost use Rattle.model_typing.specs.Terms.{IsInner, IsPartLine, HasLocalLines, IsTermLine, scope_of};
+ghost use Rattle.model_typing.specs.Terms.{IsPartLine, HasLocalLines, IsTermLine, scope_of};
 
 use super::classes::object_at;
 use super::finding::{pred_at, root_at, slot_at};

@@ -1,6 +1,6 @@
 -- What is wrong with the text of what makes the objects of a program, before any is made.
 use Rattle.std.specs.Prelude.{ℕ, ◌+◌, ◌==◌, Bool, true, false, ◌||◌, ◌&&◌, not, nat_lt, List, [], ◌∷◌, ◌++◌}
-use Rattle.std.specs.Prelude.{length, Option, Some, Ok, Err, codes, if◌then◌else◌}
+use Rattle.std.specs.Prelude.{length, Option, Some, codes, if◌then◌else◌}
 use Rattle.std.specs.List.{position_from}
 use Rattle.std.specs.Option.{option_map_or}
 use Rattle.std.specs.Str.{bytes_eq}
@@ -24,7 +24,7 @@ use Rattle.nddl_typeexpr.specs.declared.kind.TypeKind.TheVariants as kinds
 use Rattle.nddl_typeexpr.specs.Bases.{base_kind}
 use Rattle.nddl_hierarchy.specs.Facts.{Facts}
 use Rattle.nddl_resolve.specs.Paths.{Surroundings, expr_denoted}
-use Rattle.nddl_resolve.specs.Following.{Understood}
+use Rattle.nddl_resolve.specs.Following.{understood_faults}
 use Rattle.nddl_constructors.specs.Bodies.{named_bodies_faults}
 use Rattle.nddl_constructors.specs.Constants.{value_faults}
 use Rattle.nddl_constructors.specs.Creations.{class_alone, set_to_faults, is_of_class}
@@ -69,16 +69,11 @@ object_faults facts decl kind creation =
 
 -- ---- the settings of a search
 
--- what is wrong with it by itself; of what kind it is doesn't matter
-abbrev pub unfound_faults : ℕ → Understood → List Fault
-unfound_faults decl (Ok found) = []
-unfound_faults decl (Err fault) = faults_here decl fault.at (Some fault.kind)
-
 -- what is wrong with the argument of this number: the first three are whole numbers, and of others the names are there
 abbrev pub setting_faults : Facts → Surroundings → ℕ → ℕ → Expr → List Fault
 setting_faults facts around decl number expr =
     if nat_lt number 3 then value_faults facts around decl (Some kinds.Int) expr
-    else unfound_faults decl (expr_denoted facts around expr)
+    else understood_faults decl (expr_denoted facts around expr)
 
 abbrev pub settings_faults_from : Facts → Surroundings → ℕ → ℕ → List Expr → List Fault
 settings_faults_from facts around decl number [] = []

@@ -4,8 +4,9 @@ ghost use Rattle.std.specs.Prelude.{◌≡◌, IfOk, OnOk, map};
 ghost use Rattle.nddl_symbols.specs.Finding.{earliest_fault};
 ghost use Rattle.nddl_hierarchy.specs.Facts.{facts_of};
 ghost use Rattle.nddl_resolve.specs.Paths.{around_of};
+ghost use Rattle.nddl_resolve.specs.Following.{understood_faults};
 ghost use Rattle.nddl_constructors.specs.Formals.{around_formals};
-ghost use Rattle.nddl_constructors.specs.Objects.{creation_of_faults, first_close, foreign_fault, is_alone, is_close, is_closed, is_foreign_class, is_wrong_number, new_faults, object_faults, setting_faults, settings_faults, settings_faults_from, unfound_faults, variable_faults_by, writing_faults, writing_faults_from, written_faults};
+ghost use Rattle.nddl_constructors.specs.Objects.{creation_of_faults, first_close, foreign_fault, is_alone, is_close, is_closed, is_foreign_class, is_wrong_number, new_faults, object_faults, setting_faults, settings_faults, settings_faults_from, variable_faults_by, writing_faults, writing_faults_from, written_faults};
 
 use super::bodies::note_bodies;
 use super::constants::note_value;
@@ -308,7 +309,7 @@ fn note_setting(
 
 // Notes what is wrong with an argument by itself.
 fn note_unfound(decl: usize, found: Result<Denoted, PathFault>, first: &mut Option<Fault>)
-    ensures { first.new ≡ earliest_fault first.old (unfound_faults decl found) }
+    ensures { first.new ≡ earliest_fault first.old (understood_faults decl found) }
 {
     if let Err(fault) = found {
         note_at(first, decl, fault.at, Some(fault.kind));

@@ -1,5 +1,5 @@
 -- What is wrong with members of classes.
-use Rattle.std.specs.Prelude.{ℕ, Bool, true, false, ◌||◌, not, nat_lt, List, [], ◌∷◌, ◌++◌, Option, Some, None, map, length}
+use Rattle.std.specs.Prelude.{ℕ, Bool, ◌||◌, not, nat_lt, List, [], ◌∷◌, ◌++◌, Option, Some, None, map, length}
 use Rattle.std.specs.List.{filter_map, flat_map}
 use Rattle.std.specs.Str.{bytes_eq}
 use Rattle.model_core.specs.Naming.{token_part_words}
@@ -17,6 +17,7 @@ use Rattle.nddl_symbols.specs.Scope.{fault_if}
 use Rattle.nddl_hierarchy.specs.Facts.{Facts}
 use Rattle.nddl_declarations.specs.Known.{all_type_faults}
 use Rattle.nddl_hierarchy.specs.Inherited.{words_noted}
+use Rattle.nddl_hierarchy.specs.Shorter.{is_constructor}
 
 -- what is wrong with the types of these
 abbrev pub typed_faults : Facts → ℕ → List Typed → List Fault
@@ -58,10 +59,6 @@ constructor_fault decl class seen (members.Constructor name formals sets) =
     faults_here decl name.at (fault_if seen faults.Twice)
     ++ faults_here decl name.at (fault_if (not (bytes_eq name.text class.text)) faults.WrongType)
 constructor_fault decl class seen member = []
-
-abbrev pub is_constructor : Member → Bool
-is_constructor (members.Constructor name formals sets) = true
-is_constructor member = false
 
 abbrev pub constructors_faults : ℕ → Name → Bool → List Member → List Fault
 constructors_faults decl class seen [] = []

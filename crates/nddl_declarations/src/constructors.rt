@@ -2,7 +2,8 @@
 
 ghost use Rattle.std.specs.Prelude.{◌≡◌, false};
 ghost use Rattle.nddl_symbols.specs.Finding.{earliest_fault};
-ghost use Rattle.nddl_declarations.specs.Members.{constructor_fault, constructors_faults, is_constructor};
+ghost use Rattle.nddl_hierarchy.specs.Shorter.{is_constructor};
+ghost use Rattle.nddl_declarations.specs.Members.{constructor_fault, constructors_faults};
 
 use nddl_ast::TextKind;
 use nddl_ast::declaration::Member;

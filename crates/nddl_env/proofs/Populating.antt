@@ -7,7 +7,7 @@ use Rattle.std.specs.Option.{option_map, option_map_or}
 use Rattle.std.proofs.lemmas.Option.{same_Some, slice_get-map}
 use Rattle.eu_forest.specs.Shortcuts.{Reaches, is_on_line}
 use Rattle.eu_forest.proofs.Jumping.{line_tells, same_bool}
-use Rattle.eu_forest.specs.Members.{AreMembers, has_member, list_at, marked_by, marks_at, numbers_marked, numbers_of}
+use Rattle.eu_forest.specs.Members.{AreMembers, has_member, list_at, is_marked, marks_at, numbers_marked, numbers_of}
 use Rattle.eu_forest.proofs.Marked.{same_numbers}
 use Rattle.nddl_symbols.specs.declared.declared.Declared.{Declared}
 use Rattle.nddl_symbols.specs.declared.scope.Meaning.{Meaning}
@@ -58,12 +58,12 @@ module _ (facts : Facts) (are : facts.parents ≡ parents_of facts.names facts.p
 
     -- the mark of an object that is there
     mark_at : (class : Meaning) (number : ℕ) (object : MadeObject) → slice_get objects number ≡ Some object
-        → marked_by (map (λ one. is_of_class facts class one.class) objects) number ≡ is_of_class facts class object.class
+        → is_marked (map (λ one. is_of_class facts class one.class) objects) number ≡ is_of_class facts class object.class
     mark_at class number object at =
         ap (λ o. option_map_or (λ mark. mark) o false)
         (slice_get-map (λ one. is_of_class facts class one.class) objects number ∙ ap (option_map (λ one. is_of_class facts class one.class)) at)
 
-    mark_there : (class : Meaning) (number : ℕ) → marked_by (map (λ one. is_of_class facts class one.class) objects) number ≡ true
+    mark_there : (class : Meaning) (number : ℕ) → is_marked (map (λ one. is_of_class facts class one.class) objects) number ≡ true
         → (object : MadeObject) × (slice_get objects number ≡ Some object) × (is_of_class facts class object.class ≡ true)
     mark_there class number is = by (slice_get objects number) refl
         (sym (ap (λ o. option_map_or (λ mark. mark) o false) (slice_get-map (λ one. is_of_class facts class one.class) objects number)) ∙ is)
@@ -76,7 +76,7 @@ module _ (facts : Facts) (are : facts.parents ≡ parents_of facts.names facts.p
 
     module _ (found : List (List Bool)) (members : AreMembers facts.parents (owners_of objects) found) where
       member_marked : (entry number : ℕ) → has_member found entry number ≡ true
-          → marked_by (map (λ one. is_of_class facts (meanings.Entry entry) one.class) objects) number ≡ true
+          → is_marked (map (λ one. is_of_class facts (meanings.Entry entry) one.class) objects) number ≡ true
       member_marked entry number has =
           let is = members.sound entry number has in
           let here = owner_here number is.0 is.1 in
@@ -86,7 +86,7 @@ module _ (facts : Facts) (are : facts.parents ≡ parents_of facts.names facts.p
           ∙ (ap (is_of_class facts (meanings.Entry entry)) here.2 ∙ (of_class is.0 entry known).1 is.2)
 
       marked_member : (entry number : ℕ) → entry < length facts.parents
-          → marked_by (map (λ one. is_of_class facts (meanings.Entry entry) one.class) objects) number ≡ true → has_member found entry number ≡ true
+          → is_marked (map (λ one. is_of_class facts (meanings.Entry entry) one.class) objects) number ≡ true → has_member found entry number ≡ true
       marked_member entry number within marked =
           let here = mark_there (meanings.Entry entry) number marked in
           by here.0 here.0.class refl here.1 here.2
@@ -111,7 +111,7 @@ module _ (facts : Facts) (are : facts.parents ≡ parents_of facts.names facts.p
       population_is : (entry : ℕ) → entry < length facts.parents → numbers_of found entry ≡ entry_population facts objects entry
       population_is entry within =
           ap (map pos) (same_numbers (marks_at found entry) (map (λ one. is_of_class facts (meanings.Entry entry) one.class) objects) 0
-          (λ number. same_bool (has_member found entry number) (marked_by (map (λ one. is_of_class facts (meanings.Entry entry) one.class) objects) number)
+          (λ number. same_bool (has_member found entry number) (is_marked (map (λ one. is_of_class facts (meanings.Entry entry) one.class) objects) number)
           (member_marked entry number) (marked_member entry number within))
           ∙ sym (objects_marked facts (meanings.Entry entry) 0 objects))
 
@@ -257,7 +257,7 @@ pub listed_is : (facts : Facts) (objects : List MadeObject) (entries : List ℕ)
     → entries ≡ class_entries facts.names 0 facts.names → by_class ≡ populations facts objects → is_numbered entries number class ≡ true
     → values ≡ list_at by_class number → values ≡ class_population facts objects class
 listed_is facts objects entries by_class number class values are listed numbered_so at =
-    at ∙ (ap (λ lists. list_at lists number) (listed ∙ ap (populations_with facts objects) (sym are)) ∙ numbered facts objects entries number class numbered_so)
+    at ∙ (ap (λ (lists : List (List ℤ)). list_at lists number) (listed ∙ ap (populations_with facts objects) (sym are)) ∙ numbered facts objects entries number class numbered_so)
 
 pub each_is : (lists made all : List (List ℤ)) (places : List ℕ) (count : ℕ) → count ≡ length lists → places ≡ range_with_len 0 count
     → made ≡ map (list_at lists) places → lists ≡ all → made ≡ all

@@ -1,5 +1,5 @@
 -- What is known of a program where its rules are unrolled.
-use Rattle.std.specs.Prelude.{ℕ, ◌+◌, Bool, true, false, pos, List, [], ◌∷◌, ◌++◌, Option, Some, None, map}
+use Rattle.std.specs.Prelude.{ℕ, ◌+◌, pos, List, [], ◌∷◌, ◌++◌, Option, Some, None, map}
 use Rattle.std.specs.Prelude.{slice_get, if◌then◌else◌}
 use Rattle.std.specs.List.{filter_map, flat_map}
 use Rattle.std.specs.Option.{option_and_then, option_map, option_map_or}
@@ -16,6 +16,7 @@ use Rattle.nddl_symbols.specs.declared.declared.Sort.{Sort}
 use Rattle.nddl_symbols.specs.declared.declared.Sort.TheVariants as sorts
 use Rattle.nddl_symbols.specs.declared.scope.Meaning.{Meaning}
 use Rattle.nddl_symbols.specs.declared.scope.Meaning.TheVariants as meanings
+use Rattle.nddl_symbols.specs.Names.{is_global_sort, is_root_sort}
 use Rattle.nddl_typeexpr.specs.declared.kind.Extent.TheVariants as extents
 use Rattle.nddl_typeexpr.specs.declared.kind.TypeKind.TheVariants as kinds
 use Rattle.nddl_typeexpr.specs.Bases.{typedef_meaning}
@@ -138,14 +139,6 @@ sort_stand world entry globals roots declared meant sort = stands.Nothing
 abbrev pub name_stand : World → ℕ → ℕ → ℕ → Declared → Stand
 name_stand world entry globals roots declared =
     sort_stand world entry globals roots declared (file_denoted world.facts declared.name) declared.sort
-
-abbrev pub is_global_sort : Sort → Bool
-is_global_sort sorts.Global = true
-is_global_sort sort = false
-
-abbrev pub is_root_sort : Sort → Bool
-is_root_sort sorts.Root = true
-is_root_sort sort = false
 
 -- the same, if nothing is declared under the name before
 abbrev pub stand_if_first : World → ℕ → ℕ → ℕ → Declared → List Stand

@@ -4,9 +4,10 @@ ghost use Rattle.std.specs.Prelude.{◌≡◌, ◌+◌, ◌++◌, IfOk, OnOk, if
 ghost use Rattle.std.specs.Option.{option_copied};
 ghost use Rattle.model_core.specs.declared.item.Term.TheVariants as terms;
 ghost use Rattle.nddl_symbols.specs.declared.scope.Meaning.TheVariants as meanings;
+ghost use Rattle.nddl_symbols.specs.Names.{is_global_sort, is_root_sort};
 ghost use Rattle.nddl_types.specs.Classes.{class_number};
 ghost use Rattle.nddl_terms.specs.declared.stands.Stand.TheVariants as stands;
-ghost use Rattle.nddl_env.specs.Lexicons.{asked_name, denoted_class, is_global_sort, is_root_sort, name_stand, object_stand, pred_shapes, root_of_class, root_stand, scope_stands, sort_stand, stand_if_first, token_class};
+ghost use Rattle.nddl_env.specs.Lexicons.{asked_name, denoted_class, name_stand, object_stand, pred_shapes, root_of_class, root_stand, scope_stands, sort_stand, stand_if_first, token_class};
 ghost use Rattle.nddl_env.specs.Shapes.{world_of};
 
 use super::objects::made_object;

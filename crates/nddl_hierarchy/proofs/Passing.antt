@@ -17,8 +17,9 @@ use Rattle.nddl_symbols.specs.Scope.{meaning_of}
 use Rattle.eu_forest.specs.Ancestors.{line_from, parent_in}
 use Rattle.nddl_hierarchy.specs.Decls.{class_parent, decl_members, declaration_with_body}
 use Rattle.nddl_hierarchy.specs.Lines.{is_rooted}
-use Rattle.nddl_hierarchy.specs.Shorter.{AreShorterFor, adds_body, adds_declared, adds_members, builds, builds_body, builds_declared, has_constructor, has_named, is_builtin_class, is_marked, passed_over}
+use Rattle.nddl_hierarchy.specs.Shorter.{AreShorterFor, adds_body, adds_declared, adds_members, builds, builds_body, builds_declared, has_constructor, has_named, is_builtin_class, passed_over}
 use Rattle.eu_forest.proofs.Ways.{ancestry_is, line_of_none, no_parent_is, parent_is, short_way}
+use Rattle.eu_forest.specs.Members.{is_marked}
 
 -- ---- marks
 

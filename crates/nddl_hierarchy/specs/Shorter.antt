@@ -1,6 +1,6 @@
 -- Lines of classes in which those may be passed over that don't matter: those that add no members to them, or those that have
 -- no constructor.
-use Rattle.std.specs.Prelude.{◌≡◌, ℕ, ◌||◌, Bool, true, false, List, Option, Some, None, slice_get, if◌then◌else◌}
+use Rattle.std.specs.Prelude.{◌≡◌, ℕ, ◌||◌, Bool, true, false, List, Option, Some, None, if◌then◌else◌}
 use Rattle.std.specs.List.{filter, list_any}
 use Rattle.std.specs.Option.{option_and_then, option_map_or}
 use Rattle.eu_forest.specs.declared.walk.Mark.{Mark}
@@ -87,10 +87,6 @@ AddTheSame names program one other = KeepTheSame (adds_members names program) on
 -- the same classes of the two lines have a constructor, in the same order
 abbrev pub BuildTheSame : List Declared → List Decl → List ℕ → List ℕ → Type 0
 BuildTheSame names program one other = KeepTheSame (builds names program) one other
-
--- the thing of this number is marked
-abbrev pub is_marked : List Bool → ℕ → Bool
-is_marked marks entry = option_map_or (λ mark. mark) (slice_get marks entry) false
 
 -- what stands next on a line, where only those stay that pass the test, if this is known of what is above
 abbrev pub passed_over : (ℕ → Bool) → List (Option ℕ) → Option ℕ → Option ℕ

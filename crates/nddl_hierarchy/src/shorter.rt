@@ -7,13 +7,15 @@ ghost use Rattle.std.specs.Option.{option_and_then};
 ghost use Rattle.eu_forest.specs.Lines.{IsLineageOf};
 ghost use Rattle.nddl_symbols.specs.Scope.{meaning_of};
 ghost use Rattle.eu_forest.specs.Ancestors.{ancestry, parent_in};
+ghost use Rattle.eu_forest.specs.Members.{is_marked};
 ghost use Rattle.nddl_hierarchy.specs.Decls.{class_parent};
-ghost use Rattle.nddl_hierarchy.specs.Shorter.{AddTheSame, AreShorter, AreShorterFor, BuildTheSame, adds_body, adds_declared, adds_members, builds, builds_declared, has_constructor, has_named, is_builtin_class, is_constructor, is_marked, is_named, passed_over};
+ghost use Rattle.nddl_hierarchy.specs.Shorter.{AddTheSame, AreShorter, AreShorterFor, BuildTheSame, adds_body, adds_declared, adds_members, builds, builds_declared, has_constructor, has_named, is_builtin_class, is_constructor, is_named, passed_over};
 
 use super::basis::Basis;
 use super::circles::is_rooted;
 use super::decls::{class_parent, decl_members, declaration_with_body, members_of};
 use super::lines::{ancestry, line_along};
+use eu_forest::marks::is_marked;
 use eu_forest::{Lineage, parent_in};
 use nddl_ast::declaration::{Decl, Member};
 use nddl_symbols::{Declared, Meaning, Scope};
@@ -142,15 +144,6 @@ fn passed_over(marks: &[bool], short: &[Option<usize>], next: Option<usize>) -> 
         Some(number)
     } else {
         parent_in(short, number)
-    }
-}
-
-fn is_marked(marks: &[bool], entry: usize) -> bool
-    ensures { result ≡ is_marked marks.now entry }
-{
-    match marks.get(entry) {
-        Some(mark) => *mark,
-        None => false,
     }
 }
 

@@ -3,7 +3,7 @@ use Rattle.std.proofs.Common.{◌≡◌, ℕ, zero, suc, ◌+◌, List, [], ◌�
 use Rattle.model_core.specs.declared.class.Pred.{Pred}
 use Rattle.nddl_terms.specs.PlainTree.{PlainTree}
 use Rattle.nddl_terms.specs.declared.lexicon.Lexicon.{Lexicon}
-use Rattle.nddl_rules.specs.Lists.{list_at}
+use Rattle.eu_forest.specs.Members.{list_at}
 use Rattle.nddl_instance.specs.Modelled.{modelled_pred, modelled_preds}
 use Rattle.nddl_instance.specs.Numbers.{rule_numbers, rules_of_pred}
 use Rattle.nddl_instance.specs.Putting.{preds_with}

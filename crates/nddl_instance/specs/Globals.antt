@@ -12,7 +12,7 @@ use Rattle.nddl_ast.specs.declared.expression.Expr.{Expr}
 use Rattle.nddl_ast.specs.declared.expression.Init.{Init}
 use Rattle.nddl_ast.specs.declared.expression.Init.TheVariants as inits
 use Rattle.nddl_ast.specs.declared.statement.Variable.{Variable}
-use Rattle.nddl_symbols.specs.Names.{sort_of_variable}
+use Rattle.nddl_symbols.specs.Names.{sort_of_variable, is_global_sort}
 use Rattle.nddl_typeexpr.specs.declared.kind.Extent.{Extent}
 use Rattle.nddl_typeexpr.specs.declared.kind.TypeKind.{TypeKind}
 use Rattle.nddl_typeexpr.specs.declared.kind.TypeMeaning.{TypeMeaning}
@@ -23,7 +23,6 @@ use Rattle.nddl_construction.specs.Reading.{fine_datum}
 use Rattle.nddl_construction.specs.Scene.{Grounds}
 use Rattle.nddl_objects.specs.Modelled.{datum_value}
 use Rattle.nddl_objects.specs.Objects.{bare_scene}
-use Rattle.nddl_env.specs.Lexicons.{is_global_sort}
 use Rattle.nddl_env.specs.Shapes.{World, kind_base}
 
 -- what is known where the value is read as which a global begins: each object can be named

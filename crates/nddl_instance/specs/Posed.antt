@@ -9,8 +9,7 @@ use Rattle.nddl_symbols.specs.declared.site.Site.{Site}
 use Rattle.eu_index.specs.Index.{Noted}
 use Rattle.nddl_construction.specs.declared.made.Datum.{Datum}
 use Rattle.nddl_terms.specs.declared.lexicon.Lexicon.{Lexicon}
-use Rattle.nddl_terms.specs.declared.stands.TextPlaces.{TextPlaces}
-use Rattle.nddl_terms.specs.Readings.{Readings}
+use Rattle.nddl_terms.specs.Readings.{Readings, no_places}
 use Rattle.nddl_env.specs.Shapes.{World, world_of}
 use Rattle.nddl_instance.specs.Outside.{Outsides}
 use Rattle.nddl_instance.specs.Roots.{posted_roots}
@@ -49,12 +48,9 @@ posing_of posing = record {
 -- ---- what is known outside of rules
 
 -- outside of rules the text declares neither turns nor locals nor slots
-abbrev pub bare_places : TextPlaces
-bare_places = record { turns = []; locals = []; slots = [] }
-
 abbrev pub bare_readings : Posing → Readings
 bare_readings posing =
-    record { lexicon = posing.lexicon; objects = posing.objects; names = []; places = bare_places; pred = 0 }
+    record { lexicon = posing.lexicon; objects = posing.objects; names = []; places = no_places; pred = 0 }
 
 abbrev pub outside_rules : Posing → Outsides
 outside_rules posing = record { reading = bare_readings posing; scope = posing.scope }

@@ -2,7 +2,7 @@
 
 ghost use Rattle.std.specs.Prelude.{◌≡◌, ◌++◌, ◌∷◌, [], IfOk, OnOk, map};
 ghost use Rattle.nddl_construction.specs.Scene.{grounds_of, scenery_of};
-ghost use Rattle.nddl_env.specs.Lexicons.{is_global_sort};
+ghost use Rattle.nddl_symbols.specs.Names.{is_global_sort};
 ghost use Rattle.nddl_env.specs.Shapes.{kind_base, world_of};
 ghost use Rattle.nddl_objects.specs.Objects.{bare_scene};
 ghost use Rattle.nddl_instance.specs.Globals.{begun_base, begun_value, declared_global, declared_globals, global_with, single_domain, typed_global, world_grounds};

@@ -3,7 +3,8 @@
 ghost use Rattle.std.specs.Prelude.{◌≡◌, IfOk, length};
 ghost use Rattle.nddl_instance.specs.Outside.{outsides_of};
 ghost use Rattle.nddl_instance.specs.Asserted.{assertions_of};
-ghost use Rattle.nddl_instance.specs.Posed.{bare_places, outside_rules, posed_problem, posing_of, problem_stating, stated_beside, stated_of, stated_with, text_beside};
+ghost use Rattle.nddl_terms.specs.Readings.{no_places};
+ghost use Rattle.nddl_instance.specs.Posed.{outside_rules, posed_problem, posing_of, problem_stating, stated_beside, stated_of, stated_with, text_beside};
 
 use super::renumbered::{global_items, push_fields};
 use super::settings::{natural_number, setting_or};
@@ -47,8 +48,8 @@ pub struct Stated {
 }
 
 // Outside of rules the text declares nothing that rules declare.
-fn bare_places(alloc: Global) -> TextPlaces
-    ensures { result ≡ bare_places }
+fn no_places(alloc: Global) -> TextPlaces
+    ensures { result ≡ no_places }
 {
     TextPlaces {
         turns: Sequence::new(alloc),
@@ -59,7 +60,7 @@ fn bare_places(alloc: Global) -> TextPlaces
 
 // What is known outside of rules.
 fn outside_rules<'a>(posing: &Posing<'a>, places: &'a TextPlaces) -> Outside<'a>
-    requires { places.now ≡ bare_places }
+    requires { places.now ≡ no_places }
     ensures { outsides_of result ≡ outside_rules (posing_of posing.now) }
 {
     let reading = Reading {
@@ -184,7 +185,7 @@ fn problem_at<'a>(
     posing: &'a Posing<'a>,
     places: &'a TextPlaces,
 ) -> Result<Problem, AllocError>
-    requires { places.now ≡ bare_places }
+    requires { places.now ≡ no_places }
     ensures { IfOk result (λ problem. problem ≡ posed_problem (posing_of posing.now)) }
 {
     let outside = outside_rules(posing, places);
@@ -195,6 +196,6 @@ fn problem_at<'a>(
 pub fn problem_of(alloc: Global, posing: &Posing<'_>) -> Result<Problem, AllocError>
     ensures { IfOk result (λ problem. problem ≡ posed_problem (posing_of posing.now)) }
 {
-    let places = bare_places(alloc);
+    let places = no_places(alloc);
     problem_at(alloc, &*posing, &places)
 }

@@ -1,7 +1,7 @@
 //! The predicates of a model.
 
 ghost use Rattle.std.specs.Prelude.{◌≡◌, ◌++◌, ◌∷◌, [], IfOk, OnOk};
-ghost use Rattle.nddl_rules.specs.Lists.{list_at};
+ghost use Rattle.eu_forest.specs.Members.{list_at};
 ghost use Rattle.nddl_instance.specs.Modelled.{modelled_pred, modelled_preds};
 ghost use Rattle.nddl_instance.specs.Putting.{preds_with};
 

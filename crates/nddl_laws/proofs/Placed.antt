@@ -50,8 +50,9 @@ use Rattle.nddl_hierarchy.specs.Facts.{Facts}
 use Rattle.nddl_hierarchy.specs.Lines.{circle_fault, circle_faults, declared_place, is_circle}
 use Rattle.nddl_declarations.specs.Known.{all_type_faults}
 use Rattle.nddl_hierarchy.specs.Inherited.{inherited_noted, member_names, words_noted}
+use Rattle.nddl_hierarchy.specs.Shorter.{is_constructor}
 use Rattle.nddl_declarations.specs.Classes.{class_meaning_fault, parent_faults}
-use Rattle.nddl_declarations.specs.Members.{constructor_fault, constructors_faults, is_constructor, member_faults, parameters_of, typed_faults, typed_names}
+use Rattle.nddl_declarations.specs.Members.{constructor_fault, constructors_faults, member_faults, parameters_of, typed_faults, typed_names}
 use Rattle.nddl_declarations.specs.Faults.{IsFirstFault, all_faults, decl_faults, decls_faults}
 use Rattle.nddl_laws.proofs.Lists.{all_flat}
 use Rattle.nddl_laws.proofs.Places.{declared_in}

@@ -13,7 +13,7 @@ use Rattle.model_core.specs.declared.class.PredKind.TheVariants as uses
 use Rattle.model_core.specs.declared.model.Model.{Model}
 use Rattle.model_core.specs.declared.rule.Rule.{Rule}
 use Rattle.model_core.specs.declared.variable.VarDecl.{VarDecl}
-use Rattle.model_core.specs.Lawful.{HasQuantity, IsLawfulEnum, IsLawfulPred, IsLawfulRule, IsLawfulVariable}
+use Rattle.model_core.specs.Lawful.{HasQuantity, IsLawfulEnum, IsLawfulPred, IsLawfulRule, IsLawfulVariable, quantity}
 use Rattle.model_core.specs.Naming.{IsParameterName, names_of, token_part_words}
 use Rattle.model_core.proofs.Words.{differing, not_contained, plain_name}
 use Rattle.nddl_ast.specs.declared.declaration.Member.{Member}
@@ -38,7 +38,7 @@ use Rattle.nddl_declarations.specs.Members.{parameters_of, typed_faults, typed_n
 use Rattle.nddl_declarations.specs.Declares.{variables_of}
 use Rattle.nddl_declarations.specs.Faults.{all_faults}
 use Rattle.nddl_types.specs.Classes.{class_entries, class_fields, class_number, classes_of, compiled_class, enums_of, line_down}
-use Rattle.nddl_types.specs.Predicates.{builtin_pred, builtin_preds, class_preds, given_preds, pred_of, preds_at, quantity}
+use Rattle.nddl_types.specs.Predicates.{builtin_pred, builtin_preds, class_preds, given_preds, pred_of, preds_at}
 use Rattle.nddl_laws.specs.Fine.{IsFineDecl}
 use Rattle.nddl_laws.proofs.Apart.{all_mapped, field_name, none_both, once_pairs}
 use Rattle.nddl_laws.proofs.Declared.{IsRightDecl, enums_right}

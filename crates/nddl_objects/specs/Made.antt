@@ -1,5 +1,5 @@
 -- What a `new` makes: the object, and those that its constructors make in turn.
-use Rattle.std.specs.Prelude.{ℕ, zero, suc, ◌==◌, Bool, ◌&&◌, nat_lt, List, [], ◌∷◌, ◌++◌, Option, Some, None}
+use Rattle.std.specs.Prelude.{ℕ, zero, suc, ◌==◌, Bool, ◌&&◌, nat_lt, List, [], ◌∷◌, Option, Some, None}
 use Rattle.std.specs.Prelude.{length, slice_get, codes, if◌then◌else◌}
 use Rattle.std.specs.Option.{option_map_or}
 use Rattle.nddl_ast.specs.declared.declaration.Member.{Member}
@@ -28,6 +28,7 @@ use Rattle.nddl_construction.specs.Outside.{is_outside_field}
 use Rattle.nddl_construction.specs.declared.passing.Passed.{Passed}
 use Rattle.nddl_construction.specs.Classes.{constructor_at, constructor_sets, line_up, made_class}
 use Rattle.nddl_construction.specs.Passing.{constructor_scene, passed_down, passing_faults}
+use Rattle.model_core.specs.Naming.{full_name}
 use Rattle.nddl_objects.specs.Construction.{Asked, Construction, Subject, object_begun, has_room, noted, too_nested, too_many, with_set}
 use Rattle.nddl_objects.specs.Finished.{finished_faults}
 
@@ -52,10 +53,6 @@ outside_faults grounds objects subject entry name datum =
 abbrev pub field_given : Grounds → Subject → ℕ → List ℕ → Option Datum → Builds
 field_given grounds subject entry name datum so_far =
     with_set (noted so_far (outside_faults grounds so_far.objects subject entry name datum)) subject name datum
-
--- the name of an object that is made for a field
-abbrev pub nested_name : List ℕ → List ℕ → List ℕ
-nested_name name field = (name ++ codes ".") ++ field
 
 -- ---- `new`
 
@@ -108,7 +105,7 @@ value_set grounds scene subject entry name expr so_far =
 abbrev pub nested_set : Makes → ℕ → Grounds → Scenery → Subject → ℕ → List ℕ → Creation → Builds
 nested_set makes levels grounds scene subject entry name creation so_far =
     field_given grounds subject entry name (new_datum levels grounds.facts creation so_far)
-    (new_made makes grounds scene (nested_name subject.name name) None creation so_far)
+    (new_made makes grounds scene (full_name subject.name name) None creation so_far)
 
 -- of one that is set to what stands behind `=`
 abbrev pub init_set : Makes → ℕ → Grounds → Scenery → Subject → ℕ → List ℕ → Init → Builds

@@ -8,7 +8,8 @@ ghost use Rattle.nddl_construction.specs.Builders.{IsBuilderAt};
 ghost use Rattle.nddl_construction.specs.Passing.{passing_faults};
 ghost use Rattle.nddl_objects.specs.Blueprints.{grounds_in};
 ghost use Rattle.nddl_objects.specs.Construction.{asked_of, construction_of, noted, subject_of};
-ghost use Rattle.nddl_objects.specs.Made.{asked_object, body_run, builtin_run, class_run, classes_run, field_given, fields_of, finished, init_set, made_by, nested_name, nested_set, new_datum, new_made, next_datum, number_set, object_run, part_run, parts_run, value_set};
+ghost use Rattle.model_core.specs.Naming.{full_name};
+ghost use Rattle.nddl_objects.specs.Made.{asked_object, body_run, builtin_run, class_run, classes_run, field_given, fields_of, finished, init_set, made_by, nested_set, new_datum, new_made, next_datum, number_set, object_run, part_run, parts_run, value_set};
 
 use super::blueprint::Blueprint;
 use super::finished::note_finished;
@@ -60,8 +61,8 @@ fn set_field(
 }
 
 // The name of an object that is made for a field.
-fn nested_name(alloc: Global, name: &Text, field: &Text) -> Result<Text, AllocError>
-    ensures { IfOk result (λ nested. nested ≡ nested_name name.now field.now) }
+fn full_name(alloc: Global, name: &Text, field: &Text) -> Result<Text, AllocError>
+    ensures { IfOk result (λ nested. nested ≡ full_name name.now field.now) }
 {
     let mut string = String::from_str(alloc, name.as_str())?;
     string.push_str(".")?;
@@ -515,7 +516,7 @@ fn set_new(
         (grounds_in blueprint.now) (scenery_of frame.now.scene) (subject_of frame.now.subject) frame.now.entry
         name.now.text creation.now (construction_of making.old)) }
 {
-    let nested = nested_name(alloc, frame.subject.name, &name.text)?;
+    let nested = full_name(alloc, frame.subject.name, &name.text)?;
     let instantiation = Instantiation {
         scene: frame.scene,
         creation,

@@ -11,13 +11,12 @@ use Rattle.nddl_ast.specs.declared.expression.Expr.TheVariants as exprs
 use Rattle.nddl_ast.specs.declared.name.Name.{Name}
 use Rattle.nddl_ast.specs.declared.name.Path.{Path}
 use Rattle.nddl_symbols.specs.declared.declared.Declared.{Declared}
-use Rattle.nddl_symbols.specs.declared.declared.Sort.{Sort}
-use Rattle.nddl_symbols.specs.declared.declared.Sort.TheVariants as sorts
 use Rattle.nddl_symbols.specs.declared.fault.Fault.{Fault}
 use Rattle.nddl_symbols.specs.declared.scope.Meaning.{Meaning}
 use Rattle.nddl_symbols.specs.declared.scope.Meaning.TheVariants as meanings
 use Rattle.nddl_symbols.specs.Finding.{faults_here}
 use Rattle.nddl_symbols.specs.Scope.{meaning_of}
+use Rattle.nddl_symbols.specs.Names.{is_root_sort}
 use Rattle.nddl_typeexpr.specs.declared.kind.TypeKind.{TypeKind}
 use Rattle.nddl_hierarchy.specs.Facts.{Facts}
 use Rattle.nddl_resolve.specs.declared.denoted.Denoted.{Denoted}
@@ -83,14 +82,10 @@ closing_faults decl at (Err fault) = faults_here decl fault.at (Some fault.kind)
 
 -- ---- labels of posted tokens
 
-abbrev pub is_label_sort : Sort → Bool
-is_label_sort sorts.Root = true
-is_label_sort sort = false
-
 -- the name means a posted token
 abbrev pub is_label_meaning : List Declared → Option Meaning → Bool
 is_label_meaning names (Some (meanings.Entry entry)) =
-    option_map_or (λ declared. is_label_sort declared.sort) (slice_get names entry) false
+    option_map_or (λ declared. is_root_sort declared.sort) (slice_get names entry) false
 is_label_meaning names meaning = false
 
 abbrev pub is_alone_label : List Declared → Path → List Name → Bool

@@ -16,8 +16,7 @@ use Rattle.nddl_symbols.specs.Scope.{meaning_of}
 use Rattle.nddl_hierarchy.specs.Facts.{Facts}
 use Rattle.nddl_resolve.specs.declared.denoted.Denoted.{Denoted}
 use Rattle.nddl_resolve.specs.Files.{file_denoted}
-use Rattle.nddl_resolve.specs.Following.{Understood, asked_by, unknown_at, wrong_at}
-use Rattle.nddl_rule_check.specs.Arguments.{understood_faults}
+use Rattle.nddl_resolve.specs.Following.{Understood, asked_by, unknown_at, wrong_at, understood_faults}
 
 -- it is an object or a class, of which tokens can be posted
 abbrev pub is_owner_sort : Sort → Bool

@@ -1,12 +1,10 @@
 -- Where tokens are posted and globals are declared.
-use Rattle.std.specs.Prelude.{ℕ, ◌+◌, Bool, true, false, List, [], ◌∷◌, ◌++◌, codes, if◌then◌else◌}
+use Rattle.std.specs.Prelude.{ℕ, ◌+◌, List, [], ◌∷◌, ◌++◌, codes, if◌then◌else◌}
 use Rattle.std.specs.Str.{bytes_eq}
 use Rattle.nddl_ast.specs.declared.declaration.Decl.{Decl}
 use Rattle.nddl_ast.specs.declared.declaration.Decl.TheVariants as decls
 use Rattle.nddl_symbols.specs.declared.place.Place.{Place}
-use Rattle.nddl_symbols.specs.declared.declared.Sort.{Sort}
-use Rattle.nddl_symbols.specs.declared.declared.Sort.TheVariants as sorts
-use Rattle.nddl_symbols.specs.Names.{is_posting_word, sort_of_variable}
+use Rattle.nddl_symbols.specs.Names.{is_posting_word, sort_of_variable, is_global_sort}
 
 -- that byte of the declaration of this number
 abbrev pub place_here : ℕ → ℕ → Place
@@ -31,14 +29,10 @@ abbrev pub fact_places : ℕ → List Decl → List Place
 fact_places number [] = []
 fact_places number (decl ∷ more) = fact_place number decl ++ fact_places (number + 1) more
 
-abbrev pub is_plain_global : Sort → Bool
-is_plain_global sorts.Global = true
-is_plain_global sort = false
-
 -- the name of a global, if the declaration declares one
 abbrev pub global_place : ℕ → Decl → List Place
 global_place decl (decls.Variable variable) =
-    if is_plain_global (sort_of_variable variable) then place_here decl variable.name.at ∷ [] else []
+    if is_global_sort (sort_of_variable variable) then place_here decl variable.name.at ∷ [] else []
 global_place decl other = []
 
 abbrev pub global_places : ℕ → List Decl → List Place

@@ -3,7 +3,8 @@
 ghost use Rattle.std.specs.Prelude.{◌≡◌, IfOk};
 ghost use Rattle.nddl_hierarchy.specs.Facts.{facts_of};
 ghost use Rattle.nddl_resolve.specs.Paths.{around_of};
-ghost use Rattle.nddl_problem_check.specs.Acts.{file_path_denoted, is_label_meaning, is_label_sort, nothing_around};
+ghost use Rattle.nddl_symbols.specs.Names.{is_root_sort};
+ghost use Rattle.nddl_problem_check.specs.Acts.{file_path_denoted, is_label_meaning, nothing_around};
 ghost use Rattle.nddl_problem_check.specs.Posted.{is_owner, is_owner_sort};
 
 use nddl_ast::name::Name;
@@ -38,8 +39,8 @@ pub fn is_owner(scope: &Scope, meaning: Option<Meaning>) -> bool
     }
 }
 
-fn is_label_sort(sort: Sort) -> bool
-    ensures { result ≡ is_label_sort sort }
+fn is_root_sort(sort: Sort) -> bool
+    ensures { result ≡ is_root_sort sort }
 {
     match sort {
         Sort::Root => true,
@@ -53,7 +54,7 @@ pub fn is_label_meaning(scope: &Scope, meaning: Option<Meaning>) -> bool
 {
     match meaning {
         Some(Meaning::Entry(entry)) => match scope.names().get(entry) {
-            Some(declared) => is_label_sort(declared.sort),
+            Some(declared) => is_root_sort(declared.sort),
             None => false,
         },
         _ => false,

@@ -1,7 +1,8 @@
 //! Where tokens are posted and globals are declared.
 
 ghost use Rattle.std.specs.Prelude.{◌≡◌, ◌++◌, IfOk, OnOk, map};
-ghost use Rattle.nddl_problem_check.specs.Posts.{fact_place, fact_places, global_place, global_places, is_plain_global, posting_place, posting_places};
+ghost use Rattle.nddl_symbols.specs.Names.{is_global_sort};
+ghost use Rattle.nddl_problem_check.specs.Posts.{fact_place, fact_places, global_place, global_places, posting_place, posting_places};
 
 use nddl_ast::declaration::Decl;
 use nddl_symbols::declared::{is_posting, variable_sort};
@@ -66,8 +67,8 @@ pub fn fact_places(alloc: Global, decls: &[&Decl]) -> Result<Vec<Place>, AllocEr
     Ok(places)
 }
 
-fn is_plain_global(sort: Sort) -> bool
-    ensures { result ≡ is_plain_global sort }
+fn is_global_sort(sort: Sort) -> bool
+    ensures { result ≡ is_global_sort sort }
 {
     match sort {
         Sort::Global => true,
@@ -81,7 +82,7 @@ fn push_global(number: usize, decl: &Decl, places: &mut Vec<Place>) -> Result<()
 {
     match decl {
         Decl::Variable(variable) => {
-            if is_plain_global(variable_sort(variable)) {
+            if is_global_sort(variable_sort(variable)) {
                 places.push(Place {
                     decl: number,
                     at: variable.name.at,

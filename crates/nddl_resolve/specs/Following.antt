@@ -1,10 +1,12 @@
 -- What follows a name in a path.
-use Rattle.std.specs.Prelude.{ℕ, Bool, List, [], ◌∷◌, Option, Result, Ok, Err}
+use Rattle.std.specs.Prelude.{ℕ, Bool, List, [], ◌∷◌, Option, Some, Result, Ok, Err}
 use Rattle.std.specs.Option.{option_map_or}
 use Rattle.nddl_ast.specs.declared.kind.TextKind.TheVariants as faults
 use Rattle.nddl_ast.specs.declared.name.Name.{Name}
 use Rattle.nddl_ast.specs.declared.name.Path.{Path}
+use Rattle.nddl_symbols.specs.declared.fault.Fault.{Fault}
 use Rattle.nddl_symbols.specs.declared.scope.Meaning.{Meaning}
+use Rattle.nddl_symbols.specs.Finding.{faults_here}
 use Rattle.nddl_typeexpr.specs.declared.kind.TypeKind.{TypeKind}
 use Rattle.nddl_typeexpr.specs.declared.kind.TypeKind.TheVariants as kinds
 use Rattle.nddl_hierarchy.specs.Facts.{Facts}
@@ -18,6 +20,11 @@ use Rattle.nddl_resolve.specs.Predicates.{class_predicate, token_part}
 -- what a path means so far, or what is wrong with it
 abbrev pub Understood : Type 0
 Understood = Result Denoted PathFault
+
+-- what is wrong with what was to be understood in the declaration of this number
+abbrev pub understood_faults : ℕ → Understood → List Fault
+understood_faults decl (Ok meant) = []
+understood_faults decl (Err fault) = faults_here decl fault.at (Some fault.kind)
 
 -- a name that isn't there, at its own place
 abbrev pub unknown_at : ℕ → Understood

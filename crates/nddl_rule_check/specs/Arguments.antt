@@ -1,5 +1,5 @@
 -- What is wrong with arguments where they stand.
-use Rattle.std.specs.Prelude.{ℕ, ◌+◌, List, [], ◌∷◌, ◌++◌, length, Option, Some, None, Ok, Err, if◌then◌else◌}
+use Rattle.std.specs.Prelude.{ℕ, ◌+◌, List, [], ◌∷◌, ◌++◌, length, Option, Some, None, if◌then◌else◌}
 use Rattle.std.specs.Option.{option_map_or}
 use Rattle.domain_core.specs.declared.kind.Kind.{Kind}
 use Rattle.nddl_ast.specs.declared.kind.TextKind.TheVariants as faults
@@ -19,16 +19,11 @@ use Rattle.nddl_typeexpr.specs.Bases.{base_kind}
 use Rattle.nddl_hierarchy.specs.Facts.{Facts}
 use Rattle.nddl_resolve.specs.declared.denoted.Denoted.{Denoted}
 use Rattle.nddl_resolve.specs.Paths.{Surroundings, expr_denoted}
-use Rattle.nddl_resolve.specs.Following.{Understood, or_faulty}
+use Rattle.nddl_resolve.specs.Following.{or_faulty, understood_faults}
 use Rattle.nddl_rule_check.specs.declared.asked.Asked.{Asked}
 use Rattle.nddl_rule_check.specs.declared.asked.Asked.TheVariants as asked
 use Rattle.nddl_rule_check.specs.Constraints.{asked_at, takes}
 use Rattle.nddl_rule_check.specs.Values.{compared_with, is_unfit}
-
--- what is wrong with what was to be understood in the declaration of this number
-abbrev pub understood_faults : ℕ → Understood → List Fault
-understood_faults decl (Ok meant) = []
-understood_faults decl (Err fault) = faults_here decl fault.at (Some fault.kind)
 
 -- what an argument means for others, who say nothing of its faults
 abbrev pub meant_by : Facts → Surroundings → Expr → Denoted

@@ -15,8 +15,7 @@ use Rattle.nddl_hierarchy.specs.Facts.{Facts}
 use Rattle.nddl_resolve.specs.declared.denoted.Seen.{Seen}
 use Rattle.nddl_resolve.specs.declared.denoted.TokenSort.{TokenSort}
 use Rattle.nddl_resolve.specs.Paths.{Surroundings, asked_token, literal_denoted, path_denoted}
-use Rattle.nddl_resolve.specs.Following.{Understood, named_token, unknown_at}
-use Rattle.nddl_rule_check.specs.Arguments.{understood_faults}
+use Rattle.nddl_resolve.specs.Following.{Understood, named_token, unknown_at, understood_faults}
 use Rattle.nddl_rule_check.specs.Constraints.{relation_named}
 
 -- one of these has the name

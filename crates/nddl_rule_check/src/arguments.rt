@@ -4,7 +4,8 @@ ghost use Rattle.std.specs.Prelude.{◌≡◌, None, IfOk, OnOk};
 ghost use Rattle.nddl_symbols.specs.Finding.{earliest_fault};
 ghost use Rattle.nddl_hierarchy.specs.Facts.{facts_of};
 ghost use Rattle.nddl_resolve.specs.Paths.{around_of};
-ghost use Rattle.nddl_rule_check.specs.Arguments.{argument_faults, arguments_faults, asked_by_type, compared_faults, condition_faults, constraint_faults, init_faults, meant_by, understood_faults};
+ghost use Rattle.nddl_resolve.specs.Following.{understood_faults};
+ghost use Rattle.nddl_rule_check.specs.Arguments.{argument_faults, arguments_faults, asked_by_type, compared_faults, condition_faults, constraint_faults, init_faults, meant_by};
 
 use super::asked::{Asked, asked_at, takes};
 use super::values::{compared_with, is_unfit};

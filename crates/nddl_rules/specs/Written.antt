@@ -1,10 +1,11 @@
 -- Which rules are written for which predicates, and which each predicate has.
-use Rattle.std.specs.Prelude.{ℕ, ◌+◌, Bool, true, false, List, [], ◌∷◌, ◌++◌, Option, Some, None}
-use Rattle.std.specs.Prelude.{codes, map, reverse, slice_get, if◌then◌else◌}
+use Rattle.std.specs.Prelude.{ℕ, ◌+◌, Bool, true, false, List, [], ◌∷◌, Option, Some, None}
+use Rattle.std.specs.Prelude.{map, reverse, slice_get, if◌then◌else◌}
 use Rattle.std.specs.List.{flat_map, list_any}
 use Rattle.std.specs.Option.{option_and_then, option_map_or}
 use Rattle.model_core.specs.declared.class.Class.{Class}
 use Rattle.model_core.specs.declared.class.Pred.{Pred}
+use Rattle.model_core.specs.Naming.{full_name}
 use Rattle.nddl_ast.specs.declared.declaration.Decl.{Decl}
 use Rattle.nddl_ast.specs.declared.declaration.Decl.TheVariants as decls
 use Rattle.nddl_ast.specs.declared.declaration.Member.{Member}
@@ -13,14 +14,11 @@ use Rattle.nddl_ast.specs.declared.declaration.PredicatePart.{PredicatePart}
 use Rattle.nddl_ast.specs.declared.declaration.PredicatePart.TheVariants as parts
 use Rattle.eu_index.specs.Index.{Noted, noted_number, with_noted}
 use Rattle.eu_forest.specs.Ancestors.{ancestry}
+use Rattle.eu_forest.specs.Members.{list_at}
 use Rattle.nddl_rules.specs.declared.places.TextPlace.{TextPlace}
-use Rattle.nddl_rules.specs.Lists.{list_at, with_item_at}
+use Rattle.nddl_rules.specs.Lists.{with_item_at}
 
 -- ---- predicates by name
-
--- the name of a predicate with that of its class before it
-abbrev pub full_name : List ℕ → List ℕ → List ℕ
-full_name class predicate = (class ++ codes ".") ++ predicate
 
 -- the name of the class of this number
 abbrev pub class_word : List Class → ℕ → List ℕ

@@ -1,7 +1,8 @@
 //! Lists of which there is one for each thing.
 
 ghost use Rattle.std.specs.Prelude.{◌≡◌, OnOk};
-ghost use Rattle.nddl_rules.specs.Lists.{list_at, with_item_at};
+ghost use Rattle.eu_forest.specs.Members.{list_at};
+ghost use Rattle.nddl_rules.specs.Lists.{with_item_at};
 
 use eu_name::sequence::Sequence;
 use std::alloc::AllocError;

@@ -1,7 +1,8 @@
 //! Predicates by their names.
 
 ghost use Rattle.std.specs.Prelude.{◌≡◌, ◌++◌, [], IfOk};
-ghost use Rattle.nddl_rules.specs.Written.{class_word, full_name, inherited_pred, noted_preds, pred_above, preds_above};
+ghost use Rattle.model_core.specs.Naming.{full_name};
+ghost use Rattle.nddl_rules.specs.Written.{class_word, inherited_pred, noted_preds, pred_above, preds_above};
 
 use eu_index::NameIndex;
 use eu_name::text::Text;

@@ -2,8 +2,9 @@
 
 ghost use Rattle.std.specs.Prelude.{◌≡◌, IfOk, OnOk, map, if◌then◌else◌};
 ghost use Rattle.std.specs.List.{flat_map};
-ghost use Rattle.nddl_rules.specs.Lists.{list_at};
-ghost use Rattle.nddl_rules.specs.Written.{has_constraint, is_constraint, none_written, places_of, texts_written, with_decl_texts, with_member_text, with_member_texts, with_text, with_texts, full_name};
+ghost use Rattle.eu_forest.specs.Members.{list_at};
+ghost use Rattle.model_core.specs.Naming.{full_name};
+ghost use Rattle.nddl_rules.specs.Written.{has_constraint, is_constraint, none_written, places_of, texts_written, with_decl_texts, with_member_text, with_member_texts, with_text, with_texts};
 
 use super::lists::{list_at, put_at};
 use super::places::TextPlace;

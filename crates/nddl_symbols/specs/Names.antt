@@ -29,6 +29,16 @@ abbrev pub is_body_sort : Sort → Bool
 is_body_sort sorts.Body = true
 is_body_sort sort = false
 
+-- it is a global variable
+abbrev pub is_global_sort : Sort → Bool
+is_global_sort sorts.Global = true
+is_global_sort sort = false
+
+-- it is a posted token
+abbrev pub is_root_sort : Sort → Bool
+is_root_sort sorts.Root = true
+is_root_sort sort = false
+
 -- they are the settings of a search
 abbrev pub is_config_sort : Sort → Bool
 is_config_sort sorts.Config = true

@@ -8,7 +8,7 @@ use Rattle.eu_name.specs.declared.name.Part.{Part}
 use Rattle.eu_name.specs.declared.name.Part.TheVariants as parts
 use Rattle.nddl_terms.specs.declared.lexicon.Attribute.{Attribute}
 use Rattle.nddl_terms.specs.declared.lexicon.Lexicon.{Lexicon}
-use Rattle.nddl_terms.specs.Populations.{list_at}
+use Rattle.eu_forest.specs.Members.{list_at}
 use Rattle.nddl_terms.specs.Preds.{class_named}
 
 -- the number of the field or parameter of this name

@@ -5,7 +5,6 @@ pub mod Growth
 pub mod Lexicon
 pub mod Names
 pub mod Paths
-pub mod Populations
 pub mod Preds
 pub mod Readings
 pub mod Stands

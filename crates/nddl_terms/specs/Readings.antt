@@ -1,10 +1,14 @@
 -- What is known where a rule is unrolled.
-use Rattle.std.specs.Prelude.{ℕ, List}
+use Rattle.std.specs.Prelude.{ℕ, List, []}
 use Rattle.model_core.specs.declared.class.Object.{Object}
 use Rattle.nddl_terms.specs.declared.tree.ReadName.{ReadName}
 use Rattle.nddl_terms.specs.declared.lexicon.Lexicon.{Lexicon}
 use Rattle.nddl_terms.specs.declared.stands.Reading as code
 use Rattle.nddl_terms.specs.declared.stands.TextPlaces.{TextPlaces}
+
+-- the text declares neither turns nor locals nor slots
+abbrev pub no_places : TextPlaces
+no_places = record { turns = []; locals = []; slots = [] }
 
 -- classes, predicates and names of the files; the objects; what the names in the rule mean, and where its text declares
 -- things; the predicate whose rule it is

@@ -1,7 +1,7 @@
 //! The objects of each class.
 
 ghost use Rattle.std.specs.Prelude.{◌≡◌, IfOk, map};
-ghost use Rattle.nddl_terms.specs.Populations.{list_at};
+ghost use Rattle.eu_forest.specs.Members.{list_at};
 
 use eu_name::sequence::Sequence;
 use std::alloc::{AllocError, Global};
@@ -18,7 +18,7 @@ pub struct Populations {
 
 impl Model for Populations {
     ghost use Rattle.std.specs.Prelude.{List, ℤ, map};
-    ghost use Rattle.nddl_terms.specs.Populations.{list_at};
+    ghost use Rattle.eu_forest.specs.Members.{list_at};
 
     ghost Value = { List (List ℤ) };
 

@@ -1,11 +1,11 @@
 -- The predicates of classes.
-use Rattle.std.specs.Prelude.{ℕ, ◌==◌, pos, List, [], ◌∷◌, ◌++◌, Option, Some, None, codes, if◌then◌else◌}
+use Rattle.std.specs.Prelude.{ℕ, ◌==◌, List, [], ◌∷◌, ◌++◌, Option, Some, None, codes, if◌then◌else◌}
 use Rattle.std.specs.List.{filter_map, flat_map}
 use Rattle.model_core.specs.declared.class.Enum.{Enum}
 use Rattle.model_core.specs.declared.class.Pred.{Pred}
 use Rattle.model_core.specs.declared.class.PredKind.{PredKind}
 use Rattle.model_core.specs.declared.class.PredKind.TheVariants as uses
-use Rattle.model_core.specs.declared.variable.VarDecl.{VarDecl}
+use Rattle.model_core.specs.Lawful.{quantity}
 use Rattle.nddl_ast.specs.declared.declaration.Member.{Member}
 use Rattle.nddl_ast.specs.declared.declaration.Member.TheVariants as members
 use Rattle.nddl_symbols.specs.declared.scope.Meaning.{Meaning}
@@ -14,12 +14,8 @@ use Rattle.nddl_hierarchy.specs.Ancestors.{above}
 use Rattle.nddl_hierarchy.specs.Facts.{Facts}
 use Rattle.nddl_hierarchy.specs.Decls.{members_of}
 use Rattle.nddl_declarations.specs.Members.{parameters_of}
-use Rattle.nddl_declarations.specs.Declares.{number_variable, variables_of}
+use Rattle.nddl_declarations.specs.Declares.{variables_of}
 use Rattle.nddl_types.specs.Classes.{class_entries, class_number, line_down}
-
--- the one parameter of what uses, produces or consumes
-abbrev pub quantity : VarDecl
-quantity = number_variable (codes "quantity") (pos 0) (pos 1000000)
 
 -- such a predicate, of the class of this number
 abbrev pub builtin_pred : ℕ → List ℕ → PredKind → Pred

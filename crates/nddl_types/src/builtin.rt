@@ -2,7 +2,8 @@
 
 ghost use Rattle.std.specs.Prelude.{◌≡◌, ◌++◌, ◌∷◌, [], IfOk, OnOk};
 ghost use Rattle.nddl_types.specs.Classes.{builtin_class, builtin_classes, builtin_fields, given_fields, whole_field};
-ghost use Rattle.nddl_types.specs.Predicates.{builtin_pred, builtin_preds, given_preds, quantity};
+ghost use Rattle.model_core.specs.Lawful.{quantity};
+ghost use Rattle.nddl_types.specs.Predicates.{builtin_pred, builtin_preds, given_preds};
 
 use eu_name::sequence::Sequence;
 use eu_name::text::Text;

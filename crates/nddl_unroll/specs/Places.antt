@@ -22,10 +22,6 @@ abbrev pub call_place : Call → List ℕ
 call_place call =
     if is_some (relation_named call.path.first.text) then asked_place call.path.first.at call.arguments else []
 
--- no places
-abbrev pub no_places : TextPlaces
-no_places = record { turns = []; locals = []; slots = [] }
-
 -- a variable of `foreach` more
 abbrev pub with_turn_place : ℕ → TextPlaces → TextPlaces
 with_turn_place at places = record places { turns = places.turns ++ at ∷ [] }

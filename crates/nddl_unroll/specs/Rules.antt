@@ -6,9 +6,9 @@ use Rattle.nddl_terms.specs.PlainTree.{PlainTree}
 use Rattle.nddl_terms.specs.declared.growth.Growth.{Growth}
 use Rattle.nddl_terms.specs.declared.lexicon.Lexicon.{Lexicon}
 use Rattle.nddl_terms.specs.Growth.{no_growth}
-use Rattle.nddl_terms.specs.Readings.{Readings}
+use Rattle.nddl_terms.specs.Readings.{Readings, no_places}
 use Rattle.nddl_unroll.specs.Blocks.{filled_block, unrolled}
-use Rattle.nddl_unroll.specs.Places.{no_places, text_places}
+use Rattle.nddl_unroll.specs.Places.{text_places}
 
 -- what is known where the rule is unrolled of which this is the text
 abbrev pub tree_readings : Lexicon → List Object → PlainTree → Readings

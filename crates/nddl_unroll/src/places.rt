@@ -4,7 +4,8 @@ ghost use Rattle.std.specs.Prelude.{◌≡◌, OnOk};
 ghost use Rattle.std.specs.Option.{option_map_or};
 ghost use Rattle.nddl_ast.specs.Block.{statements_of, with_statement};
 ghost use Rattle.nddl_ast.specs.Tree.{Statements};
-ghost use Rattle.nddl_unroll.specs.Places.{asked_place, call_place, no_places, place_if_more, text_places, with_slot_places};
+ghost use Rattle.nddl_terms.specs.Readings.{no_places};
+ghost use Rattle.nddl_unroll.specs.Places.{asked_place, call_place, place_if_more, text_places, with_slot_places};
 
 use eu_name::sequence::Sequence;
 use nddl_ast::expression::Expr;

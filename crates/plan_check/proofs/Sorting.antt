@@ -11,6 +11,7 @@ use Rattle.model_core.specs.declared.class.PredKind.{PredKind}
 use Rattle.model_core.specs.declared.model.Model.{Model}
 use Rattle.model_core.specs.declared.rule.Slot.{Slot}
 use Rattle.model_core.proofs.Leading.{token_once}
+use Rattle.model_core.specs.Tokens.{HasPred}
 use Rattle.plan_defs.specs.declared.plan.Clause.TheVariants.{V9, V10}
 use Rattle.plan_defs.specs.declared.plan.Place.{Place}
 use Rattle.plan_defs.specs.declared.plan.Place.TheVariants as places
@@ -21,15 +22,14 @@ use Rattle.plan_defs.specs.Valid.{IsOfSort, IsWithinCapacity, IsLevelWithin, Kee
 use Rattle.plan_defs.proofs.Filling.{one_sort}
 use Rattle.plan_values.proofs.Matching.{match_bool}
 use Rattle.plan_check.specs.Acts.{IsFirstInstant, FindsInstant}
-use Rattle.plan_values.specs.Bases.{IsOfPred}
 
-pub no_sort : (model : Model) (token : TokenName) (pred : ℕ) → IsOfPred model token pred → ((found : Pred) → slice_get model.preds pred ≡ Some found → ⊥)
+pub no_sort : (model : Model) (token : TokenName) (pred : ℕ) → HasPred model token pred → ((found : Pred) → slice_get model.preds pred ≡ Some found → ⊥)
     → (kind : PredKind) → IsOfSort model kind token → ⊥
 no_sort model token pred of_pred none kind sort =
     let preds : sort.slot.pred ≡ pred = ap (λ (s : Slot). s.pred) (token_once model token sort.slot of_pred.0 sort.has_token of_pred.1) ∙ of_pred.2 in
     none sort.predicate (subst (λ (n : ℕ). slice_get model.preds n ≡ Some sort.predicate) preds sort.is_predicate)
 
-pub sort_pred : (model : Model) (token : TokenName) (pred : ℕ) (found : Pred) → IsOfPred model token pred → slice_get model.preds pred ≡ Some found → IsOfSort model found.kind token
+pub sort_pred : (model : Model) (token : TokenName) (pred : ℕ) (found : Pred) → HasPred model token pred → slice_get model.preds pred ≡ Some found → IsOfSort model found.kind token
 sort_pred model token pred found (slot, has, same) at = record {
   slot = slot;
   has_token = has;

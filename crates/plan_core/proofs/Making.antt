@@ -72,6 +72,16 @@ takes_named said next going_on goes_on globals new_globals lines new_lines takes
     subst (λ s. IsTaken s goes_on new_globals new_lines) (sym (map-append (λ (n : Named). n.statement) said (next ∷ [])))
     (takes_more (said_of said) next.statement going_on goes_on globals new_globals lines new_lines takes taken)
 
+pub not_ok : {T : Type 0} (E : Type 0) (value : T) → IsErr {T = T} {E = E} (Ok value) → ⊥
+not_ok E value is_err = cc
+
+pub takes_if : {E : Type 0} (said : List Named) (next : Named) (going_on goes_on : Result Bool E) (globals new_globals : List ℤ) (lines new_lines : List Line)
+    → MatchResult going_on (λ going_on. IfOk goes_on (λ goes_on. Takes next.statement going_on goes_on globals new_globals lines new_lines)) (λ none. IsErr goes_on)
+    → IfOk going_on (λ going_on. IsTaken (said_of said) going_on globals lines) → IfOk goes_on (λ goes_on. IsTaken (said_of (said ++ next ∷ [])) goes_on new_globals new_lines)
+takes_if said next going_on (Err none) globals new_globals lines new_lines takes taken = tt
+takes_if said next (Ok going_on) (Ok goes_on) globals new_globals lines new_lines takes taken = takes_named said next going_on goes_on globals new_globals lines new_lines takes taken
+takes_if {E = E} said next (Err none) (Ok goes_on) globals new_globals lines new_lines takes taken = absurd (not_ok E goes_on takes)
+
 none_more : (going_on : Bool) (next : ℕ) → values_if going_on next [] ≡ []
 none_more true next = refl
 none_more false next = refl

@@ -23,7 +23,7 @@ use Rattle.model_core.specs.declared.variable.ValueKind.TheVariants as kinds
 use Rattle.model_core.specs.declared.variable.VarDecl.{VarDecl}
 use Rattle.model_core.specs.Lawful.{IsLawful, IsLawfulEnum, IsLawfulObject}
 use Rattle.model_core.specs.Names.{NamesOneToken, NamesOneVariable}
-use Rattle.model_core.specs.Naming.{IsObjectName}
+use Rattle.model_core.specs.Naming.{IsObjectName, is_point, IsPath}
 use Rattle.model_core.specs.Tokens.{HasRule, HasToken}
 use Rattle.model_core.proofs.Items.{item_all}
 use Rattle.model_core.proofs.Leading.{token_once}
@@ -39,7 +39,7 @@ use Rattle.plan_text.specs.Found.{IsOther}
 use Rattle.plan_text.specs.Lines.{keyword_text, IsNoKeyword, IsOtherParameter}
 use Rattle.plan_text.specs.PlanTexts.{opening_text, IsNoOpening, IsCount, IsNoCount}
 use Rattle.plan_text.specs.Subjects.{IsNameOf, IsFreshName, IsNoFreshName, IsGlobalOf, IsTokenOf, IsLocalOf, IsLocalOfKind, IsTargetName, IsNoTarget, IsPredicateText, AreTwoNames, IsNoPredicate}
-use Rattle.plan_text.specs.Values.{is_point, IsPlainNumber, IsNumberWord, IsPathWord, IsValueWord, IsValueText, IsNoValueText}
+use Rattle.plan_text.specs.Values.{IsPlainNumber, IsNumberWord, IsValueWord, IsValueText, IsNoValueText}
 use Rattle.plan_resolve.proofs.Naming.{one_name}
 use Rattle.plan_resolve.proofs.Telling.{value_told}
 use Rattle.plan_core.proofs.Once.{SaysOnce}
@@ -219,11 +219,11 @@ joined_path (name ∷ (other ∷ more)) some are =
     slice_split_at is_point name 46 (join_with_byte 46 (other ∷ more)) (All-from_recursion (λ byte. is_point byte ≡ false) name (no_point name (name_no_point name are.0))) refl
     ∙ ap (λ l. name ∷ l) (joined_path (other ∷ more) (omega arith) are.1)
 
-object_path : (name : List ℕ) → IsObjectName name → IsPathWord name
+object_path : (name : List ℕ) → IsObjectName name → IsPath name
 object_path name (names, some, are, is) =
     subst (All IsName) (sym (ap (slice_split is_point) is ∙ joined_path names some (recursion_from_All IsName names are))) are
 
-member_path : (name : List ℕ) → IsName name → IsPathWord name
+member_path : (name : List ℕ) → IsName name → IsPath name
 member_path name is = subst (All IsName) (sym (name_path name is)) (All-from_recursion IsName (name ∷ []) (is, tt))
 
 -- what is the text of a value has the form of one
@@ -234,7 +234,7 @@ value_word model kinds.Bool value word lawful (inr is) = inr (inl (inl is.1))
 value_word model (kinds.Enum number) value word lawful is =
     inr (inr (member_path word (item_all IsName is.found.members is.place word (item_all IsLawfulEnum model.enums number is.found lawful.enums is.is_enum).members is.is_member)))
 value_word model kinds.Object value word lawful (object, ((place, at, is), named)) =
-    inr (inr (subst IsPathWord named (object_path object.name (item_all (IsLawfulObject model) model.objects place object lawful.objects is).name)))
+    inr (inr (subst IsPath named (object_path object.name (item_all (IsLawfulObject model) model.objects place object lawful.objects is).name)))
 
 pub value_once : (model : Model) (kind : ValueKind) → IsLawful model → SaysOnce (IsValueText model kind) (IsNoValueText model kind)
 value_once model kind lawful = record { says = λ word one other a b. value_told model kind word one other lawful a b; whole = whole; amiss = amiss }

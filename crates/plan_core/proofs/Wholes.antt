@@ -1,6 +1,6 @@
 -- Whole texts.
 use Rattle.std.proofs.Common.{◌≡◌, ℕ, ◌+◌, ◌<◌, ◌≤◌, ◌^◌, true, false, List, [], ◌∷◌, ◌++◌, length, get_or, Option, Some, None, Result, Ok, Err, refl, sym, ◌∙◌, ap, subst, inl, inr, arith, Contains, codes}
-use Rattle.std.specs.Prelude.{IfOk, OnOk, MatchResult}
+use Rattle.std.specs.Prelude.{IfOk, OnOk, IsErr, MatchResult}
 use Rattle.std.proofs.lemmas.List.{map-append, length-map}
 use Rattle.std.proofs.lemmas.List.Elements.{All-append, All-cons, All-nil}
 use Rattle.std.proofs.lemmas.List.Quantifiers.{all_pairs_push}
@@ -23,7 +23,7 @@ use Rattle.plan_text.proofs.Gatherings.{lines_more, contains_map}
 use Rattle.plan_core.specs.declared.gathering.Named.{Named}
 use Rattle.plan_core.specs.Gathering.{said_of, AreNamed, AreNamesOnce, AreKept}
 use Rattle.plan_core.proofs.Lining.{IsSaidOf, line_shrinks, line_is_new, line_is_of, word_shrinks}
-use Rattle.plan_core.proofs.Making.{plan_is_of}
+use Rattle.plan_core.proofs.Making.{not_ok, plan_is_of}
 
 -- ---- statements that are kept
 
@@ -49,6 +49,25 @@ kept_more known newer old new name statement kept fresh more is pushed =
           (subst (λ l. Contains l (stated_name (get_or old k d).statement)) (sym kept.known) (contains_map stated_name (said_of old) (get_or old k d).statement (contains_map (λ (n : Named). n.statement) old (get_or old k d) (Contains-get_or old k d within))))
           )));
     }
+
+-- ---- and where there was memory for a name
+
+pub on_any : {T E : Type 0} {P : Type 0} (r : Result T E) → P → OnOk r P
+on_any (Ok value) holds = holds
+on_any (Err none) holds = tt
+
+pub said_if : {E : Type 0} (old new : List Named) (name : Result VarName E) (r : Result (Unit {0}) E) (statement : Statement)
+    → MatchResult name (λ name. OnOk r (new ≡ old ++ record { name = name; statement = statement } ∷ [])) (λ none. IsErr r) → OnOk r (said_of new ≡ said_of old ++ statement ∷ [])
+said_if old new name (Err none) statement pushed = tt
+said_if old new (Ok name) (Ok done) statement pushed = said_more old new name statement pushed
+said_if {E = E} old new (Err none) (Ok done) statement pushed = absurd (not_ok E done pushed)
+
+pub kept_if : {E : Type 0} (known newer : List VarName) (old new : List Named) (name : Result VarName E) (r : Result (Unit {0}) E) (statement : Statement) → AreKept known old
+    → (Contains known (stated_name statement) → ⊥) → OnOk name (newer ≡ known ++ stated_name statement ∷ []) → IfOk name (λ name. name ≡ stated_name statement)
+    → MatchResult name (λ name. OnOk r (new ≡ old ++ record { name = name; statement = statement } ∷ [])) (λ none. IsErr r) → OnOk r (AreKept newer new)
+kept_if known newer old new name (Err none) statement kept fresh more is pushed = tt
+kept_if known newer old new (Ok name) (Ok done) statement kept fresh more is pushed = kept_more known newer old new name statement kept fresh more is pushed
+kept_if {E = E} known newer old new (Err none) (Ok done) statement kept fresh more is pushed = absurd (not_ok E done pushed)
 
 -- ---- lines that were read
 

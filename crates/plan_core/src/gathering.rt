@@ -80,7 +80,32 @@ fn take_statement(
     }
 }
 
-// Takes the statements in turn.
+// What is said, without its name.
+fn statement_of(named: Named) -> Statement
+    ensures { result ≡ named.statement }
+{
+    named.statement
+}
+
+// Takes the statement, if there was memory for those before it.
+fn take_next(
+    statement: Statement,
+    going_on: Result<bool, AllocError>,
+    globals: &mut Vec<i32>,
+    lines: &mut Vec<Line>,
+) -> Result<bool, AllocError>
+    ensures { MatchResult going_on
+        (λ going_on. IfOk result (λ goes_on.
+        Takes statement going_on goes_on globals.old.items globals.new.items lines.old.items lines.new.items))
+        (λ _. IsErr result) }
+{
+    match going_on {
+        Ok(going_on) => take_statement(statement, going_on, globals, lines),
+        Err(none) => Err(none),
+    }
+}
+
+// Takes the statements in turn. Without memory the others are only dropped, so the loop has one exit.
 fn take_all(
     said: Vec<Named>,
     globals: &mut Vec<i32>,
@@ -91,15 +116,14 @@ fn take_all(
     ensures globals { OnOk result (globals.new.items ≡ global_values 0 (said_of said.items)) }
     ensures lines { OnOk result (lines.new.items ≡ plan_lines (said_of said.items)) }
 {
-    let mut going_on = true;
+    let mut going_on: Result<bool, AllocError> = Ok(true);
     for named in said {
-        let Named {
-            name: _name,
-            statement,
-        } = named;
-        going_on = take_statement(statement, going_on, globals, lines)?;
+        going_on = take_next(statement_of(named), going_on, globals, lines);
     }
-    Ok(())
+    match going_on {
+        Ok(_goes_on) => Ok(()),
+        Err(none) => Err(none),
+    }
 }
 
 /// The plan that the statements make.

@@ -1,6 +1,6 @@
 //! Reads whole texts.
 
-ghost use Rattle.std.specs.Prelude.{◌≡◌, ◌<◌, ◌≤◌, ◌^◌, ◌++◌, ◌∷◌, [], List, ℕ, length, IfOk, OnOk, MatchResult, Contains, Err};
+ghost use Rattle.std.specs.Prelude.{◌≡◌, ◌<◌, ◌≤◌, ◌^◌, ◌++◌, ◌∷◌, [], List, ℕ, length, IfOk, OnOk, IsErr, MatchResult, Contains, Err};
 ghost use Rattle.model_core.specs.Lawful.{IsLawful};
 ghost use Rattle.plan_defs.specs.Plans.{IsPlanOf, order_name};
 ghost use Rattle.plan_text.specs.declared.fault.PlanTextFault.TheVariants as faults;
@@ -57,6 +57,36 @@ fn know(known: &mut IndexSet<VarName>, name: VarName) -> Result<(), AllocError>
     Ok(())
 }
 
+// The name of what the statement is about, which is added to those that are known.
+fn note_name(known: &mut IndexSet<VarName>, statement: &Statement) -> Result<VarName, AllocError>
+    requires { Contains known.old.keys (stated_name statement.now) → ⊥ }
+    ensures name { IfOk result (λ name. name ≡ stated_name statement.now) }
+    ensures known { OnOk result (known.new.keys ≡ known.old.keys ++ stated_name statement.now ∷ []) }
+{
+    let name = statement_name(statement)?;
+    know(known, name)?;
+    statement_name(statement)
+}
+
+// Puts the statement behind the others, if there was memory for its name.
+fn push_named(
+    said: &mut Vec<Named>,
+    name: Result<VarName, AllocError>,
+    statement: Statement,
+) -> Result<(), AllocError>
+    ensures { MatchResult name
+        (λ name. OnOk result (said.new.items ≡ said.old.items ++ record { name = name; statement = statement } ∷ []))
+        (λ _. IsErr result) }
+{
+    match name {
+        Ok(name) => {
+            said.push(Named { name, statement })?;
+            Ok(())
+        }
+        Err(none) => Err(none),
+    }
+}
+
 // Adds a statement about something of which nothing was said.
 fn add(
     known: &mut IndexSet<VarName>,
@@ -68,10 +98,8 @@ fn add(
     ensures kept { OnOk result (AreKept known.new.keys said.new.items) }
     ensures said { OnOk result (said_of said.new.items ≡ said_of said.old.items ++ statement ∷ []) }
 {
-    know(known, statement_name(&statement)?)?;
-    let name = statement_name(&statement)?;
-    said.push(Named { name, statement })?;
-    Ok(())
+    let name = note_name(known, &statement);
+    push_named(said, name, statement)
 }
 
 // Reads lines up to `end`.

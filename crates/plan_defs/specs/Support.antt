@@ -1,5 +1,5 @@
 -- What a situation asks for: the tokens that have to be there, and the blocks that are open.
-use Rattle.std.specs.Prelude.{◌≡◌, ◌≢◌, ℤ, List, ◌∷◌, ◌++◌, Contains}
+use Rattle.std.specs.Prelude.{◌≡◌, ◌≢◌, ℤ, Bool, true, false, List, ◌∷◌, ◌++◌, Contains}
 use Rattle.domain_core.specs.Domain.{Domain, Has}
 use Rattle.eu_name.specs.declared.name.Step.{Step}
 use Rattle.eu_name.specs.declared.name.TokenName.{TokenName}
@@ -33,6 +33,11 @@ Selects (Equal one other) Then v w = v ≡ w
 Selects (Equal one other) Otherwise v w = v ≢ w
 Selects (Differ one other) Then v w = v ≢ w
 Selects (Differ one other) Otherwise v w = v ≡ w
+
+-- the side whose block opens where the guard is true, and the one whose block opens where it is false
+abbrev pub side_when : Bool → Side
+side_when true = Then
+side_when false = Otherwise
 
 -- the term stands for something that counts, and this is what it may be
 pub record MayBe (model : Model) (situation : Situation) (context : Context) (term : Term) (domain : Domain) : Type 0 where

@@ -11,12 +11,11 @@ use Rattle.model_core.specs.declared.rule.Slot.{Slot}
 use Rattle.model_core.specs.declared.variable.Base.TheVariants.{Given}
 use Rattle.model_core.specs.declared.variable.VarDecl.{VarDecl}
 use Rattle.model_core.specs.Lawful.{IsLawful}
-use Rattle.model_core.specs.Tokens.{HasToken}
+use Rattle.model_core.specs.Tokens.{HasToken, HasPred}
 use Rattle.model_core.specs.Variables.{HasParameter}
 use Rattle.model_core.proofs.Items.{item_within}
 use Rattle.model_core.proofs.Leading.{token_once}
 use Rattle.plan_values.proofs.Matching.{match_bool}
-use Rattle.plan_values.specs.Bases.{IsOfPred}
 use Rattle.plan_inventory.specs.Bases.{IsDeclaredIn, AreDeclaredIn}
 
 -- ---- parameters
@@ -38,7 +37,7 @@ module _ (model : Model) (number : ℕ) (found : Pred) (is_pred : slice_get mode
 
 -- ---- all parts
 
-module _ (model : Model) (token : TokenName) (pred : ℕ) (of_pred : IsOfPred model token pred) (values : List ℤ) where
+module _ (model : Model) (token : TokenName) (pred : ℕ) (of_pred : HasPred model token pred) (values : List ℤ) where
   abbrev ParamsDeclared : Type 0
   ParamsDeclared = (number : ℕ) (variable : VarDecl) → HasParameter model pred number variable → IsDeclaredIn model token values (Param number)
 

@@ -1,12 +1,16 @@
 -- What suits tokens, merged ones and roots, by their lines.
-use Rattle.std.proofs.Common.{◌≡◌, ℕ, ℤ, Bool, true, false, List, inl, inr, refl, sym, ap, ◌∙◌, subst}
-use Rattle.std.specs.Prelude.{Contains, MatchBool}
+use Rattle.std.proofs.Common.{◌≡◌, ℕ, ◌+◌, ◌<◌, ℤ, Bool, true, false, List, length, get_or, Some, inl, inr, refl, sym, ap, ◌∙◌, subst, below_more}
+use Rattle.std.specs.Prelude.{Contains, MatchBool, slice_get}
 use Rattle.eu_name.specs.declared.name.Step.{Step}
 use Rattle.eu_name.specs.declared.name.TokenName.{TokenName}
+use Rattle.eu_name.proofs.Members.{get_same}
 use Rattle.model_core.specs.declared.model.Model.{Model}
+use Rattle.model_core.specs.declared.model.Root.{Root}
 use Rattle.model_core.specs.declared.model.RootKind.{RootKind}
 use Rattle.model_core.specs.declared.model.RootKind.TheVariants.{Goal, Rejectable, Fact}
 use Rattle.model_core.specs.Blocks.{OfSlot, OfLocal}
+use Rattle.model_core.specs.Tokens.{IsRoot, root_token}
+use Rattle.model_core.proofs.Items.{item_at}
 use Rattle.plan_defs.specs.declared.plan.Line.{Line}
 use Rattle.plan_defs.specs.declared.plan.Line.TheVariants as lines
 use Rattle.plan_defs.specs.declared.plan.Plan.{Plan}
@@ -22,7 +26,7 @@ use Rattle.plan_values.specs.Values.{IsLineFor, HasValues}
 use Rattle.plan_values.proofs.Matching.{match_bool}
 use Rattle.plan_values.proofs.Naming.{of_token, gives_from, gives_there}
 use Rattle.plan_inventory.specs.Bases.{AreDeclaredIn}
-use Rattle.plan_inventory.specs.Breaks.{SuitsKind}
+use Rattle.plan_inventory.specs.Breaks.{SuitsKind, RootBecomes}
 
 -- ---- values
 
@@ -177,3 +181,17 @@ module _ (model : Model) (plan : Plan) (token parent : TokenName) (same : parent
   local_answer rule number answer stands =
       subst (λ (t : TokenName). MatchBool answer (AsksForLocal model plan t rule number) (AsksForLocal model plan t rule number → ⊥)) same
       (match_bool answer _ _ _ _ (stands_local model plan parent rule number activated) (λ none asks. none (local_stands model plan parent rule number asks)) stands)
+
+-- ---- root by root
+
+module _ (model : Model) (plan : Plan) (listed : List Root) (number : ℕ) (root : Root) (same : listed ≡ model.problem.roots) (within : number < length listed) (is : root ≡ get_or listed number root) where
+  is_root : IsRoot model number root
+  is_root = subst (λ (roots : List Root). slice_get roots number ≡ Some root) same (item_at listed number root within ∙ ap (λ (r : Root). Some r) (sym is))
+
+  pub root_fails : (Becomes plan root.kind (root_token number) → ⊥) → RootBecomes model plan number → ⊥
+  root_fails none becomes = none (becomes root is_root)
+
+  -- so it is with one root more
+  pub one_more_root : ((earlier : ℕ) → earlier < number → RootBecomes model plan earlier) → Becomes plan root.kind (root_token number)
+      → (earlier : ℕ) → earlier < number + 1 → RootBecomes model plan earlier
+  one_more_root before here = below_more _ _ before (λ other at. subst (λ (r : Root). Becomes plan r.kind (root_token number)) (get_same model.problem.roots number root other is_root at) here)

@@ -15,7 +15,7 @@ use Rattle.model_core.specs.Blocks.{Direct, OfSlot, OfLocal, direct}
 use Rattle.model_core.specs.Entries.{Entries}
 use Rattle.model_core.specs.Lawful.{IsLawful}
 use Rattle.model_core.specs.Standing.{LeadsToBlock}
-use Rattle.model_core.specs.Tokens.{slot_token}
+use Rattle.model_core.specs.Tokens.{slot_token, HasPred}
 use Rattle.model_core.proofs.Items.{item_within}
 use Rattle.model_core.proofs.Leading.{token_once}
 use Rattle.plan_defs.specs.declared.plan.Clause.{Clause}
@@ -41,7 +41,6 @@ use Rattle.plan_values.proofs.Naming.{of_token, isnt_active}
 use Rattle.plan_values.proofs.Ruling.{one_rule}
 use Rattle.plan_values.proofs.Valuing.{gives_once, zip_length}
 use Rattle.plan_inventory.specs.Asking.{IsSlotKept, IsLocalKept, IsOnLine, IsLeastOnLine}
-use Rattle.plan_values.specs.Bases.{IsOfPred}
 use Rattle.plan_inventory.specs.Breaks.{IsFirstNumber, IsFirstInRules, IsActivatedBy}
 use Rattle.plan_inventory.proofs.Suiting.{asks_stands, stands_asks, local_stands, stands_local}
 
@@ -115,7 +114,7 @@ module _ (model : Model) (lawful : IsLawful model) (token : TokenName) (number :
 pub no_rule_stands : (model : Model) (plan : Plan) (token : TokenName) (number : ℕ) (what : Direct) → ((rule : Rule) → HasRuleOf model token number rule → ⊥) → StandsInRule model plan token number what → ⊥
 no_rule_stands model plan token number what none there = none there.rule (record { slot = there.slot; has_token = there.has_token; has_rule = there.has_rule })
 
-module _ (model : Model) (token : TokenName) (pred : ℕ) (of_pred : IsOfPred model token pred) (found : Pred) (is_pred : slice_get model.preds pred ≡ Some found) where
+module _ (model : Model) (token : TokenName) (pred : ℕ) (of_pred : HasPred model token pred) (found : Pred) (is_pred : slice_get model.preds pred ≡ Some found) where
   pub rule_below : (number : ℕ) (rule : Rule) → HasRuleOf model token number rule → number < length found.rules
   rule_below number rule is =
       let preds : is.slot.pred ≡ pred = ap (λ (s : Slot). s.pred) (token_once model token is.slot of_pred.0 is.has_token of_pred.1) ∙ of_pred.2 in
@@ -123,7 +122,7 @@ module _ (model : Model) (token : TokenName) (pred : ℕ) (of_pred : IsOfPred mo
       let same = get_same model.preds pred is.has_rule.predicate found at is_pred in
       subst (λ (p : Pred). number < length p.rules) same (item_within is.has_rule.predicate.rules number is.has_rule.place is.has_rule.listed)
 
-pub no_pred_rule : (model : Model) (token : TokenName) (pred number : ℕ) (rule : Rule) → IsOfPred model token pred → ((found : Pred) → slice_get model.preds pred ≡ Some found → ⊥)
+pub no_pred_rule : (model : Model) (token : TokenName) (pred number : ℕ) (rule : Rule) → HasPred model token pred → ((found : Pred) → slice_get model.preds pred ≡ Some found → ⊥)
     → HasRuleOf model token number rule → ⊥
 no_pred_rule model token pred number rule of_pred none is =
     let preds : is.slot.pred ≡ pred = ap (λ (s : Slot). s.pred) (token_once model token is.slot of_pred.0 is.has_token of_pred.1) ∙ of_pred.2 in
@@ -138,7 +137,7 @@ listed_place model (place ∷ places) (rule ∷ rules) (suc number) (here, later
 
 module _ (model : Model) (lawful : IsLawful model) (pred : ℕ) (found : Pred) (is_pred : slice_get model.preds pred ≡ Some found) where
   -- a token of the predicate has each rule below their count
-  pub rule_there : (token : TokenName) → IsOfPred model token pred → (number : ℕ) → number < length found.rules → (rule : Rule) × HasRuleOf model token number rule
+  pub rule_there : (token : TokenName) → HasPred model token pred → (number : ℕ) → number < length found.rules → (rule : Rule) × HasRuleOf model token number rule
   rule_there token (slot, has, is) number below =
       let fine = lawful.preds pred found is_pred in
       let (place, rule, listed, stands) = listed_place model found.rules fine.rules number fine.are_rules below in (

@@ -6,7 +6,7 @@ ghost use Rattle.model_core.specs.declared.class.Pred.{Pred};
 ghost use Rattle.model_core.specs.declared.variable.VarDecl.{VarDecl};
 ghost use Rattle.model_core.specs.Lawful.{IsLawful};
 ghost use Rattle.model_core.specs.Variables.{HasParameter};
-ghost use Rattle.plan_values.specs.Bases.{IsOfPred};
+ghost use Rattle.model_core.specs.Tokens.{HasPred};
 ghost use Rattle.plan_inventory.specs.Bases.{IsDeclaredIn, AreDeclaredIn};
 
 use eu_name::name::{Part, TokenName};
@@ -18,7 +18,7 @@ use plan_values::tokens::pred_of;
 
 // Whether among the values of the token, which is of the predicate, is one for this part that is declared so.
 fn is_declared_in(model: &Model, token: &TokenName, pred: u32, values: &[i32], part: Part) -> bool
-    requires { IsOfPred model.now token.now pred }
+    requires { HasPred model.now token.now pred }
     ensures { MatchBool result
         (IsDeclaredIn model.now token.now values.now part)
         (IsDeclaredIn model.now token.now values.now part → ⊥) }
@@ -53,7 +53,7 @@ fn count_params(model: &Model, pred: u32) -> u16
 // Whether among the values is one for each parameter that is declared so.
 fn are_params_declared(model: &Model, token: &TokenName, pred: u32, values: &[i32]) -> bool
     requires lawful { IsLawful model.now }
-    requires of_pred { IsOfPred model.now token.now pred }
+    requires of_pred { HasPred model.now token.now pred }
     ensures { MatchBool result
         ((number : ℕ) (variable : VarDecl) → HasParameter model.now pred number variable
         → IsDeclaredIn model.now token.now values.now (Param number))
@@ -71,7 +71,7 @@ fn are_params_declared(model: &Model, token: &TokenName, pred: u32, values: &[i3
 // Whether among the values of the token, which is of the predicate, is one for each part that is declared so.
 fn are_parts_declared(model: &Model, token: &TokenName, pred: u32, values: &[i32]) -> bool
     requires lawful { IsLawful model.now }
-    requires of_pred { IsOfPred model.now token.now pred }
+    requires of_pred { HasPred model.now token.now pred }
     ensures { MatchBool result
         (AreDeclaredIn model.now token.now values.now)
         (AreDeclaredIn model.now token.now values.now → ⊥) }

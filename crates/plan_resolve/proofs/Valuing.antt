@@ -21,9 +21,10 @@ use Rattle.model_core.specs.declared.variable.ValueKind.{ValueKind}
 use Rattle.model_core.specs.declared.variable.ValueKind.TheVariants as kinds
 use Rattle.model_core.specs.Lawful.{IsLawful, IsLawfulEnum}
 use Rattle.model_core.proofs.Items.{item_within, item_all}
+use Rattle.model_core.specs.Naming.{is_point}
 use Rattle.plan_text.proofs.Points.{goes_on}
 use Rattle.plan_text.specs.Subjects.{AreTwoNames}
-use Rattle.plan_text.specs.Values.{is_point, IsValueText}
+use Rattle.plan_text.specs.Values.{IsValueText}
 use lib.Signed.{mag}
 
 -- ---- numbers

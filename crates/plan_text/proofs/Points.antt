@@ -6,7 +6,7 @@ use Rattle.std.proofs.lemmas.List.{take-append-drop, append-nil}
 use Rattle.std.proofs.lemmas.List.Elements.{All-from_recursion, All-head, All-tail, All-cons, All-nil}
 use Rattle.std.proofs.lemmas.List.Splits.{slice_split_none, slice_split_at}
 use Rattle.eu_name.proofs.Fronts.{Passes, Stops, prefix_passes, prefix_stops}
-use Rattle.plan_text.specs.Values.{is_point}
+use Rattle.model_core.specs.Naming.{is_point}
 
 abbrev pub goes_on : ℕ → Bool
 goes_on byte = not (is_point byte)

@@ -1,17 +1,16 @@
 -- How values are written, by kind.
-use Rattle.std.specs.Prelude.{◌≡◌, ℕ, ◌<◌, ◌==◌, ◌⊎◌, ℤ, pos, Bool, List, ◌++◌, length, slice_get}
+use Rattle.std.specs.Prelude.{◌≡◌, ℕ, ◌<◌, ◌⊎◌, ℤ, pos, List, ◌++◌, length, slice_get}
 use Rattle.std.specs.Prelude.{slice_index, Some, All, IsTrue, codes}
 use Rattle.std.specs.Char.{is_ascii_digit}
 use Rattle.std.specs.Fmt.{signed_decimal}
-use Rattle.std.specs.List.{slice_split}
 use Rattle.domain_core.specs.Domain.{IsValue}
-use Rattle.eu_name.specs.Word.{IsName}
 use Rattle.model_core.specs.declared.class.Enum.{Enum}
 use Rattle.model_core.specs.declared.class.Object.{Object}
 use Rattle.model_core.specs.declared.model.Model.{Model}
 use Rattle.model_core.specs.declared.variable.ValueKind.{ValueKind}
 use Rattle.model_core.specs.declared.variable.ValueKind.TheVariants as kinds
 use Rattle.model_core.specs.Kinds.{IsObject}
+use Rattle.model_core.specs.Naming.{IsPath}
 use Rattle.plan_text.specs.declared.fault.Wrong.{Wrong}
 use Rattle.plan_text.specs.declared.fault.Wrong.TheVariants.{Syntax, Twice, Unknown, Memory}
 use Rattle.plan_text.specs.Found.{Found, OneWord}
@@ -31,16 +30,9 @@ IsNumberWord word =
 abbrev pub IsTruthWord : List ℕ → Type 0
 IsTruthWord word = (word ≡ codes "true") ⊎ (word ≡ codes "false")
 
-abbrev pub is_point : ℕ → Bool
-is_point byte = byte == 46
-
--- names with single points between them
-abbrev pub IsPathWord : List ℕ → Type 0
-IsPathWord word = All IsName (slice_split is_point word)
-
 -- the word has the form of a value: that of a number, of a truth, or of a member's or an object's name
 abbrev pub IsValueWord : List ℕ → Type 0
-IsValueWord word = IsNumberWord word ⊎ (IsTruthWord word ⊎ IsPathWord word)
+IsValueWord word = IsNumberWord word ⊎ (IsTruthWord word ⊎ IsPath word)
 
 -- the value is the place of the member of this name
 pub record IsMemberNamed (model : Model) (number : ℕ) (value : ℤ) (word : List ℕ) : Type 0 where

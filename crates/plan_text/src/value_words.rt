@@ -2,7 +2,8 @@
 
 ghost use Rattle.std.specs.Prelude.{◌≡◌, ◌↔◌, ◌≤◌, ◌++◌, All, false, not, length, IsTrue, MatchOption, codes};
 ghost use Rattle.std.specs.List.{prefix_len};
-ghost use Rattle.plan_text.specs.Values.{is_point, IsPlainNumber, IsNumberWord, IsTruthWord, IsPathWord, IsValueWord};
+ghost use Rattle.model_core.specs.Naming.{is_point, IsPath};
+ghost use Rattle.plan_text.specs.Values.{IsPlainNumber, IsNumberWord, IsTruthWord, IsValueWord};
 
 use super::words::is_word;
 use eu_name::word::is_name;
@@ -35,7 +36,7 @@ pub fn is_truth_word(word: &[u8]) -> bool
 
 /// Whether the word is names with single points between them.
 pub fn is_path_word(word: &[u8]) -> bool
-    ensures { IsTrue result ↔ IsPathWord word.now }
+    ensures { IsTrue result ↔ IsPath word.now }
 {
     let mut rest = word;
     while let Some((name, after)) = cut_at_point(rest) {

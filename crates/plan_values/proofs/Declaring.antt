@@ -13,12 +13,12 @@ use Rattle.model_core.specs.declared.rule.Slot.{Slot}
 use Rattle.model_core.specs.declared.variable.Base.{Base}
 use Rattle.model_core.specs.declared.variable.Base.TheVariants.{Given, Void}
 use Rattle.model_core.specs.Names.{token_at}
-use Rattle.model_core.specs.Tokens.{HasToken, IsRoot, LeadsToSlot, Reaches, slot_of}
+use Rattle.model_core.specs.Tokens.{HasToken, IsRoot, LeadsToSlot, Reaches, slot_of, HasPred}
 use Rattle.model_core.specs.Variables.{HasParameter, HasPartBase}
 use Rattle.model_core.proofs.Leading.{token_once}
 use Rattle.plan_defs.specs.Refusals.{IsDeclared}
 use Rattle.plan_values.proofs.Matching.{match_bool}
-use Rattle.plan_values.specs.Bases.{BaseHas, IsOfPred, MayBeObject, MayBeParameter}
+use Rattle.plan_values.specs.Bases.{BaseHas, MayBeObject, MayBeParameter}
 
 -- ---- one more step
 
@@ -35,14 +35,14 @@ reaches_join model slot [] last middle reached same leads = (reached, subst (λ 
 reaches_join model slot (step ∷ steps) last middle reached (next, first, rest) leads = (next, first, reaches_join model next steps last middle reached rest leads)
 
 module _ (model : Model) (root : ℕ) (front : List Step) (last : Step) where
-  pub slot_found : (pred : ℕ) (slot : Slot) → IsOfPred model (token_at root front) pred → LeadsToSlot model pred last slot → HasToken model (token_at root (front ++ last ∷ [])) slot
+  pub slot_found : (pred : ℕ) (slot : Slot) → HasPred model (token_at root front) pred → LeadsToSlot model pred last slot → HasToken model (token_at root (front ++ last ∷ [])) slot
   slot_found pred slot (middle, has, same) leads = record {
     root = has.root;
     is_root = has.is_root;
     reached = reaches_join model (slot_of has.root) front last middle slot has.reached (subst (λ (n : ℕ). LeadsToSlot model n last slot) (sym same) leads);
   }
 
-  pub slot_none : (pred : ℕ) → IsOfPred model (token_at root front) pred → ((slot : Slot) → LeadsToSlot model pred last slot → ⊥)
+  pub slot_none : (pred : ℕ) → HasPred model (token_at root front) pred → ((slot : Slot) → LeadsToSlot model pred last slot → ⊥)
       → (slot : Slot) → HasToken model (token_at root (front ++ last ∷ [])) slot → ⊥
   slot_none pred (middle, has, same) none slot is =
       let split = reaches_split model (slot_of is.root) front last slot is.reached in
@@ -69,7 +69,7 @@ root_slot model number root is_root = record { root = root; is_root = is_root; r
 
 -- ---- parts
 
-module _ (model : Model) (token : TokenName) (pred : ℕ) (of_pred : IsOfPred model token pred) (value value' : ℤ) (cast : value' ≡ value) where
+module _ (model : Model) (token : TokenName) (pred : ℕ) (of_pred : HasPred model token pred) (value value' : ℤ) (cast : value' ≡ value) where
   -- a part that is declared with this domain
   range_answer : (part : Part) (domain : Domain) (answer : Bool) → ((slot : Slot) → HasPartBase model slot part (Given domain))
       → ((slot : Slot) (other : Domain) → HasPartBase model slot part (Given other) → other ≡ domain) → MatchBool answer (Has domain value') (Has domain value' → ⊥)

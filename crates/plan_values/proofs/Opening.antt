@@ -11,11 +11,11 @@ use Rattle.model_core.specs.declared.rule.Side.{Side}
 use Rattle.model_core.specs.declared.rule.Side.TheVariants.{Then, Otherwise}
 use Rattle.plan_defs.specs.declared.plan.Plan.{Plan}
 use Rattle.plan_defs.specs.Plans.{plan_situation}
-use Rattle.plan_defs.specs.Support.{Opens, MayBe, Selects, one_side, other_side}
+use Rattle.plan_defs.specs.Support.{Opens, MayBe, Selects, one_side, other_side, side_when}
 use Rattle.plan_defs.specs.Terms.{Context, Argument, Value, Variable, HasDomain}
 use Rattle.plan_defs.specs.Valid.{HasArgumentValue}
 use Rattle.plan_values.specs.Keys.{IsOrderly}
-use Rattle.plan_values.specs.Openings.{IsRead, AreRead, side_when}
+use Rattle.plan_values.specs.Openings.{IsRead, AreRead}
 use Rattle.plan_defs.proofs.Meanings.{means_once}
 use Rattle.plan_values.proofs.Valuing.{value_once}
 

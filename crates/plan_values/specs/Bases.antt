@@ -1,5 +1,5 @@
 -- Values that bases have.
-use Rattle.std.specs.Prelude.{◌≡◌, ℕ, ℤ}
+use Rattle.std.specs.Prelude.{ℕ, ℤ}
 use Rattle.domain_core.specs.Domain.{Has}
 use Rattle.eu_name.specs.declared.name.TokenName.{TokenName}
 use Rattle.model_core.specs.declared.model.Model.{Model}
@@ -14,10 +14,6 @@ use Rattle.model_core.specs.Variables.{HasParameter}
 abbrev pub BaseHas : Base → ℤ → Type 0
 BaseHas (Given domain) value = Has domain value
 BaseHas Void value = ⊥
-
--- the model has the token, and it is of the predicate of this number
-abbrev pub IsOfPred : Model → TokenName → ℕ → Type 0
-IsOfPred model token pred = (slot : Slot) × HasToken model token slot × (slot.pred ≡ pred)
 
 -- the model has the token, which may be on this object
 abbrev pub MayBeObject : Model → TokenName → ℤ → Type 0

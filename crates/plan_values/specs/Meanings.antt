@@ -1,8 +1,7 @@
 -- What terms mean by the values of a plan.
-use Rattle.std.specs.Prelude.{ℤ, ⊤}
+use Rattle.std.specs.Prelude.{ℤ}
 use Rattle.eu_name.specs.declared.name.VarName.TheVariants as variables
 use Rattle.model_core.specs.declared.item.Term.{Term}
-use Rattle.model_core.specs.declared.item.Term.TheVariants as terms
 use Rattle.model_core.specs.declared.model.Model.{Model}
 use Rattle.plan_defs.specs.declared.plan.Plan.{Plan}
 use Rattle.plan_defs.specs.Plans.{IsTakenIn}
@@ -25,13 +24,6 @@ argument_of (meanings.Value value) = Value value
 argument_of (meanings.Global number) = Variable (variables.Global number)
 argument_of (meanings.Part token part) = Variable (variables.Token (key_token token) part)
 argument_of (meanings.Local token rule number) = Variable (variables.Local (key_token token) rule number)
-
--- the term names what only rules have
-abbrev pub IsOfRule : Term → Type 0
-IsOfRule (terms.Here part) = ⊤
-IsOfRule (terms.Slot number part) = ⊤
-IsOfRule (terms.Local number) = ⊤
-IsOfRule term = ⊥
 
 -- the term means something, and what is said of that counts
 abbrev pub CountsAt : Model → Plan → Context → Term → Type 0

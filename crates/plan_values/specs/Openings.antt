@@ -1,5 +1,5 @@
 -- What a guard reads in a plan, and what stands in the blocks that guards open.
-use Rattle.std.specs.Prelude.{◌≡◌, ℕ, ℤ, Bool, true, false, List, Contains}
+use Rattle.std.specs.Prelude.{◌≡◌, ℕ, ℤ, List, Contains}
 use Rattle.eu_name.specs.declared.name.TokenName.{TokenName}
 use Rattle.model_core.specs.declared.item.Term.{Term}
 use Rattle.model_core.specs.declared.model.Model.{Model}
@@ -8,7 +8,6 @@ use Rattle.model_core.specs.declared.rule.Entry.TheVariants as entry
 use Rattle.model_core.specs.declared.rule.Guard.{Guard}
 use Rattle.model_core.specs.declared.rule.Rule.{Rule}
 use Rattle.model_core.specs.declared.rule.Side.{Side}
-use Rattle.model_core.specs.declared.rule.Side.TheVariants.{Then, Otherwise}
 use Rattle.model_core.specs.declared.rule.Slot.{Slot}
 use Rattle.model_core.specs.declared.rule.Turn.{Turn}
 use Rattle.model_core.specs.Blocks.{Direct, OfSlot, OfLocal, OfItem, OfBranch, Follows, chosen, direct}
@@ -31,11 +30,6 @@ AreRead model plan context one other v w = IsRead model plan context one v × Is
 -- the guard opens its block on this side by the values of the plan
 abbrev pub Allows : Model → Plan → Context → Guard → Side → Type 0
 Allows model plan context guard side = Opens model (plan_situation plan) context guard side
-
--- the side that opens where the guard is true, or where it is false
-abbrev pub side_when : Bool → Side
-side_when true = Then
-side_when false = Otherwise
 
 -- the entry, as it stands in a block
 abbrev pub entry_direct : Entry → Direct

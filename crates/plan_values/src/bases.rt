@@ -5,9 +5,9 @@ ghost use Rattle.domain_core.specs.Domain.{Range, Has};
 ghost use Rattle.eu_name.specs.declared.name.VarName.TheVariants as variables;
 ghost use Rattle.model_core.specs.declared.rule.Slot.{Slot};
 ghost use Rattle.model_core.specs.Names.{token_at};
-ghost use Rattle.model_core.specs.Tokens.{HasToken, LeadsToSlot};
+ghost use Rattle.model_core.specs.Tokens.{HasToken, LeadsToSlot, HasPred};
 ghost use Rattle.plan_defs.specs.Refusals.{IsDeclared};
-ghost use Rattle.plan_values.specs.Bases.{BaseHas, IsOfPred, MayBeObject, MayBeParameter};
+ghost use Rattle.plan_values.specs.Bases.{BaseHas, MayBeObject, MayBeParameter};
 
 use crate::tokens::{pred_at, root_at};
 use eu_name::name::{Part, Step, TokenName};
@@ -121,7 +121,7 @@ fn may_be_parameter(model: &Model, pred: u32, number: u16, value: i32) -> bool
 
 /// Whether this part of the token, which is of the predicate, is declared with the value.
 pub fn is_part_declared(model: &Model, token: &TokenName, pred: u32, part: Part, value: i32) -> bool
-    requires { IsOfPred model.now token.now pred }
+    requires { HasPred model.now token.now pred }
     ensures { MatchBool result
         (IsDeclared model.now (variables.Token token.now part) value)
         (IsDeclared model.now (variables.Token token.now part) value → ⊥) }

@@ -4,7 +4,7 @@ ghost use Rattle.std.specs.Prelude.{◌≡◌, ℕ, List, [], ◌∷◌, ◌++�
 ghost use Rattle.eu_name.specs.declared.name.TokenName.{TokenName};
 ghost use Rattle.model_core.specs.declared.item.Item.TheVariants as items;
 ghost use Rattle.domain_core.specs.declared.kind.Kind.TheVariants as kinds;
-ghost use Rattle.domain_core.specs.Constraints.{Holds};
+ghost use Rattle.domain_core.specs.Constraints.{Holds, HoldsOf};
 ghost use Rattle.model_core.specs.Tokens.{slot_token};
 ghost use Rattle.plan_defs.specs.Claims.{relates};
 ghost use Rattle.plan_defs.specs.Consistency.{HasField};
@@ -52,6 +52,40 @@ fn holds_of_two(model: &Model, kind: Kind, x: i32, y: i32) -> bool
     }
 }
 
+// Whether the first two values have the third as their sum.
+fn has_sum(x: i32, y: i32, z: i32) -> bool
+    ensures { MatchBool result (HoldsOf kinds.AddEq (x ∷ y ∷ z ∷ [])) (HoldsOf kinds.AddEq (x ∷ y ∷ z ∷ []) → ⊥) }
+{
+    match x.checked_add(y) {
+        Some(sum) => sum == z,
+        None => false,
+    }
+}
+
+// Whether the first two values have the third as their product.
+fn has_product(x: i32, y: i32, z: i32) -> bool
+    ensures { MatchBool result (HoldsOf kinds.MulEq (x ∷ y ∷ z ∷ [])) (HoldsOf kinds.MulEq (x ∷ y ∷ z ∷ []) → ⊥) }
+{
+    match x.checked_mul(y) {
+        Some(product) => product == z,
+        None => false,
+    }
+}
+
+// Whether the first value is 1 if and only if the others are equal.
+fn tells_equal(x: i32, y: i32, z: i32) -> bool
+    ensures { MatchBool result (HoldsOf kinds.TestEq (x ∷ y ∷ z ∷ [])) (HoldsOf kinds.TestEq (x ∷ y ∷ z ∷ []) → ⊥) }
+{
+    (x == 1) == (y == z)
+}
+
+// Whether the first value is 1 if and only if the second is at most the third.
+fn tells_at_most(x: i32, y: i32, z: i32) -> bool
+    ensures { MatchBool result (HoldsOf kinds.TestLeq (x ∷ y ∷ z ∷ [])) (HoldsOf kinds.TestLeq (x ∷ y ∷ z ∷ []) → ⊥) }
+{
+    (x == 1) == (y <= z)
+}
+
 // Whether the constraint holds of three values.
 fn holds_of_three(model: &Model, kind: Kind, x: i32, y: i32, z: i32) -> bool
     ensures { MatchBool result
@@ -59,10 +93,10 @@ fn holds_of_three(model: &Model, kind: Kind, x: i32, y: i32, z: i32) -> bool
         (Holds (HasField model.now) kind (x ∷ y ∷ z ∷ []) → ⊥) }
 {
     match kind {
-        Kind::AddEq => i64::from(x) + i64::from(y) == i64::from(z),
-        Kind::MulEq => i64::from(x) * i64::from(y) == i64::from(z),
-        Kind::TestEq => (x == 1) == (y == z),
-        Kind::TestLeq => (x == 1) == (y <= z),
+        Kind::AddEq => has_sum(x, y, z),
+        Kind::MulEq => has_product(x, y, z),
+        Kind::TestEq => tells_equal(x, y, z),
+        Kind::TestLeq => tells_at_most(x, y, z),
         Kind::Eq | Kind::Neq | Kind::Lt | Kind::Leq | Kind::AllDiff | Kind::Field(_) => false,
     }
 }

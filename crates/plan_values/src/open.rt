@@ -3,10 +3,10 @@
 ghost use Rattle.std.specs.Prelude.{◌≡◌, ◌≢◌, ◌↔◌, ℤ, MatchBool, MatchOption};
 ghost use Rattle.model_core.specs.declared.rule.Side.{Side};
 ghost use Rattle.plan_defs.specs.Plans.{plan_situation};
-ghost use Rattle.plan_defs.specs.Support.{Opens};
+ghost use Rattle.plan_defs.specs.Support.{Opens, side_when};
 ghost use Rattle.plan_values.specs.Keys.{IsOrderly};
 ghost use Rattle.plan_values.specs.Meanings.{context_of};
-ghost use Rattle.plan_values.specs.Openings.{IsRead, AreRead, side_when};
+ghost use Rattle.plan_values.specs.Openings.{IsRead, AreRead};
 
 use super::terms::{Standpoint, term_counts, term_value};
 use model_core::item::Term;

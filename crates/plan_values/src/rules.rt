@@ -1,11 +1,9 @@
 //! What the rules of a token ask for in a plan.
 
-ghost use Rattle.std.specs.Prelude.{◌≡◌, ◌<◌, ℕ, MatchOption};
+ghost use Rattle.std.specs.Prelude.{◌≡◌, ◌<◌, MatchOption};
 ghost use Rattle.model_core.specs.declared.rule.Rule.{Rule};
-ghost use Rattle.model_core.specs.declared.rule.Slot.{Slot};
 ghost use Rattle.model_core.specs.Block.{plain_entries};
 ghost use Rattle.model_core.specs.Lawful.{IsLawful};
-ghost use Rattle.model_core.specs.Tokens.{HasToken, HasRule};
 ghost use Rattle.plan_defs.specs.Plans.{IsActivatedIn};
 ghost use Rattle.plan_values.specs.Keys.{IsOrderly};
 ghost use Rattle.plan_values.specs.Walks.{HasRuleOf, IsFirstFalse, IsAllTrue};

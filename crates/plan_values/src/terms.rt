@@ -3,11 +3,12 @@
 ghost use Rattle.std.specs.Prelude.{◌≡◌, ◌↔◌, ℤ, MatchBool, MatchOption};
 ghost use Rattle.model_core.specs.declared.model.RootKind.TheVariants as root_kinds;
 ghost use Rattle.model_core.specs.Tokens.{IsRejectable};
+ghost use Rattle.model_core.specs.Kinds.{IsInner};
 ghost use Rattle.plan_defs.specs.Plans.{IsTakenIn};
 ghost use Rattle.plan_defs.specs.Terms.{Argument, InRule, Means, ArgumentCounts};
 ghost use Rattle.plan_defs.specs.Valid.{HasArgumentValue};
 ghost use Rattle.plan_values.specs.Keys.{key_token, IsOrderly};
-ghost use Rattle.plan_values.specs.Meanings.{context_of, argument_of, IsOfRule, CountsAt, HasTermValue};
+ghost use Rattle.plan_values.specs.Meanings.{context_of, argument_of, CountsAt, HasTermValue};
 
 use super::key::TokenKey;
 use super::lines::{global_value, is_taken, local_value, part_value};
@@ -57,7 +58,7 @@ impl<'a> Standpoint<'a> {
 
     // What the term means, where it names what only rules have.
     fn meaning_in_rule(self, term: Term) -> Option<Meaning<'a>>
-        requires { IsOfRule term }
+        requires { IsInner term }
         ensures { MatchOption result
             ((argument : Argument) → Means (context_of self.entry) term argument → ⊥)
             (λ meaning. (argument : Argument)
@@ -72,7 +73,7 @@ impl<'a> Standpoint<'a> {
 
 // What a term that names what only rules have means in the rule of this number of the token.
 fn meaning_for(token: &TokenName, rule: u16, term: Term) -> Meaning
-    requires { IsOfRule term }
+    requires { IsInner term }
     ensures { (argument : Argument) → Means (InRule token.now rule) term argument ↔ (argument ≡ argument_of result) }
 {
     match term {

@@ -4,18 +4,12 @@ use Rattle.domain_core.specs.Domain.{Domain, Has}
 use Rattle.model_core.specs.declared.rule.Guard.{Guard}
 use Rattle.model_core.specs.declared.rule.Guard.TheVariants.{Equal, Differ}
 use Rattle.model_core.specs.declared.rule.Side.{Side}
-use Rattle.model_core.specs.declared.rule.Side.TheVariants.{Then, Otherwise}
 use Rattle.plan_defs.specs.Support.{Selects}
 
 -- whether the guard asks that its terms are equal, and not that they differ
 abbrev pub asks_equal : Guard → Bool
 asks_equal (Equal one other) = true
 asks_equal (Differ one other) = false
-
--- the side whose block opens where the guard is true, and the one whose block opens where it is false
-abbrev pub opened_side : Bool → Side
-opened_side true = Then
-opened_side false = Otherwise
 
 -- the guard opens the block on this side, whatever is chosen for its terms from these domains, each by itself
 abbrev pub AlwaysSelects : Guard → Side → Domain → Domain → Type 0

@@ -4,7 +4,8 @@ ghost use Rattle.std.specs.Prelude.{◌≡◌, ℤ, MatchBool, MatchOption};
 ghost use Rattle.domain_core.specs.Domain.{IsSingle};
 ghost use Rattle.model_core.specs.declared.rule.Guard.{Guard};
 ghost use Rattle.model_core.specs.declared.rule.Side.{Side};
-ghost use Rattle.rule_engine.specs.Guards.{asks_equal, opened_side, AlwaysSelects};
+ghost use Rattle.plan_defs.specs.Support.{side_when};
+ghost use Rattle.rule_engine.specs.Guards.{asks_equal, AlwaysSelects};
 
 use domain_core::domain::Dom;
 
@@ -13,7 +14,7 @@ use domain_core::domain::Dom;
 pub fn entailed(guard_equal: bool, a: &Dom, b: &Dom) -> Option<bool>
     ensures { (guard : Guard) → asks_equal guard ≡ guard_equal → MatchOption result
         ((side : Side) → AlwaysSelects guard side a.now b.now → ⊥)
-        (λ truth. AlwaysSelects guard (opened_side truth) a.now b.now) }
+        (λ truth. AlwaysSelects guard (side_when truth) a.now b.now) }
 {
     if !a.has_common(b) {
         return Some(!guard_equal);

@@ -1,14 +1,14 @@
 //! Words behind a command's word, which a `clap` command for it divides into operands and the values of options.
 
-ghost use Rattle.std.specs.Prelude.{◌≡◌, ◌↔◌, ◌∷◌, [], IfOk, IfSome, MatchOption, map, option_map, true, false, All, Some, None, codes};
+ghost use Rattle.std.specs.Prelude.{◌≡◌, ◌∷◌, [], IfOk, MatchOption, map, true, false, All, Some, None, codes};
 ghost use Rattle.std.specs.Str.{IsUtf8};
 ghost use Rattle.clap.specs.Walk.{rule_of, rows_of};
-ghost use Rattle.clap.specs.Simple.{app_of, matches_of};
+ghost use Rattle.clap.specs.Simple.{app_of, matches_of, with_rule};
 ghost use Rattle.clap.specs.Faults.{fault_of, is_simple_and_free};
 ghost use Rattle.clap.specs.Matches.{first_value, found_of};
 ghost use Rattle.run_words.specs.Words.{HasOperands, HasNoOperands, HasNoPair, HasPlanWords, HasNoPlanWords};
 ghost use Rattle.run_words.specs.Requests.{told};
-ghost use Rattle.run_words.specs.Commands.{Form, Single, Double, Planned, app_for, bare_app, HasNoTwo, operand_rule, option_rule};
+ghost use Rattle.run_words.specs.Commands.{Planned, app_for, bare_app, HasNoTwo, operand_rule, option_rule};
 
 use clap::error::ErrorKind;
 use clap::{Arg, ArgMatches, Command};
@@ -32,8 +32,7 @@ pub fn single_operand<'a>(
     ensures { IfOk result (λ answer. MatchOption answer (HasNoOperands (map (λ word. word.now) words.entry.now))
         (λ operand. HasOperands (map (λ word. word.now) words.entry.now) (operand.now ∷ []))) }
 {
-    let first = operand(alloc, "first");
-    let command = bare_command(alloc, name).arg(first)?;
+    let command = with_operand(alloc, bare_command(alloc, name), "first")?;
     match matched(command, words)? {
         Some(matches) => Ok(matches.get_str("first")),
         None => Ok(None),
@@ -50,9 +49,8 @@ pub fn two_operands<'a>(
     ensures { IfOk result (λ answer. MatchOption answer (HasNoPair (map (λ word. word.now) words.entry.now))
         (λ pair. HasOperands (map (λ word. word.now) words.entry.now) (pair.0.now ∷ pair.1.now ∷ []))) }
 {
-    let first = operand(alloc, "first");
-    let second = operand(alloc, "second");
-    let command = bare_command(alloc, name).arg(first)?.arg(second)?;
+    let command = with_operand(alloc, bare_command(alloc, name), "first")?;
+    let command = with_operand(alloc, command, "second")?;
     match matched(command, words)? {
         Some(matches) => Ok(pair_of(&matches)),
         None => Ok(None),
@@ -87,13 +85,31 @@ pub fn plan_words<'a>(
 fn plan_command<'a>(alloc: Global) -> Result<Command<'a>, AllocError>
     ensures { IfOk result (λ command. app_of command ≡ app_for Planned (codes "plan")) }
 {
-    let steps = option_with_value(alloc, "steps");
-    let tokens = option_with_value(alloc, "tokens");
-    let first = operand(alloc, "first");
-    bare_command(alloc, "plan")
-        .arg(steps)?
-        .arg(tokens)?
-        .arg(first)
+    let command = with_option(alloc, bare_command(alloc, "plan"), "steps")?;
+    let command = with_option(alloc, command, "tokens")?;
+    with_operand(alloc, command, "first")
+}
+
+// The command with one more option. That the argument is made here keeps it from living where another one may fail.
+fn with_option<'a>(
+    alloc: Global,
+    command: Command<'a>,
+    id: &'a str,
+) -> Result<Command<'a>, AllocError>
+    ensures { IfOk result (λ more. app_of more ≡ with_rule (app_of command.entry) (option_rule id.entry.now)) }
+{
+    command.arg(option_with_value(alloc, id))
+}
+
+// The command with one more operand.
+fn with_operand<'a>(
+    alloc: Global,
+    command: Command<'a>,
+    id: &'a str,
+) -> Result<Command<'a>, AllocError>
+    ensures { IfOk result (λ more. app_of more ≡ with_rule (app_of command.entry) (operand_rule id.entry.now)) }
+{
+    command.arg(operand(alloc, id))
 }
 
 fn plan_of<'a>(matches: &ArgMatches<'a>) -> Option<PlanWords<'a>>

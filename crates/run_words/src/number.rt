@@ -1,6 +1,6 @@
 //! Numbers of the command line.
 
-ghost use Rattle.std.specs.Prelude.{◌≡◌, MatchOption};
+ghost use Rattle.std.specs.Prelude.{MatchOption};
 ghost use Rattle.run_words.specs.Requests.{IsNumber, IsNoNumber, AreSteps, AreNoSteps, AreTokens, AreNoTokens};
 
 /// How many tokens a search may activate where the words don't say.

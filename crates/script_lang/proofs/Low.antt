@@ -4,7 +4,8 @@ use Rattle.std.specs.List.{AllByRecursion, slice_split, onto_first}
 use Rattle.std.proofs.lemmas.Bool.Decides.{nat_tests}
 use Rattle.std.proofs.lemmas.List.Elements.{All-from_recursion, recursion_from_All}
 use Rattle.eu_name.specs.Word.{IsName, is_word_start, is_word_byte}
-use Rattle.plan_text.specs.Values.{is_point, IsTruthWord}
+use Rattle.model_core.specs.Naming.{is_point}
+use Rattle.plan_text.specs.Values.{IsTruthWord}
 use Rattle.script_lang.proofs.Ascii.{number_is_ascii}
 use Rattle.script_lang.specs.Line.{IsValueWord}
 

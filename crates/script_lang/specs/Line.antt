@@ -3,7 +3,8 @@ use Rattle.std.specs.Prelude.{◌≡◌, ℕ, ◌<◌, ◌≤◌, ◌⊎◌, ⊤
 use Rattle.std.specs.Fmt.{decimal}
 use Rattle.eu_name.specs.declared.name_text.NameText.{NameText}
 use Rattle.eu_name.specs.Spelling.{Spells}
-use Rattle.plan_text.specs.Values.{IsTruthWord, IsPathWord}
+use Rattle.model_core.specs.Naming.{IsPath}
+use Rattle.plan_text.specs.Values.{IsTruthWord}
 use Rattle.script_lang.specs.declared.command.Command.{Command}
 use Rattle.script_lang.specs.declared.command.Command.TheVariants.{Empty, Specify, Activate, Merge, Reject, Order, Reset, ResetOrder}
 use Rattle.script_lang.specs.declared.command.Command.TheVariants.{Undo, Domain, Tokens, Decisions, Flaws, Solve, Why, Cycle, Quit}
@@ -14,7 +15,7 @@ use Rattle.script_lang.specs.Number.{IsSignedNumber}
 
 -- the word can be a value: a number, a truth, or names with single points between them
 abbrev pub IsValueWord : List ℕ → Type 0
-IsValueWord word = IsSignedNumber word ⊎ (IsTruthWord word ⊎ IsPathWord word)
+IsValueWord word = IsSignedNumber word ⊎ (IsTruthWord word ⊎ IsPath word)
 
 -- the words are this one alone
 abbrev pub AreAlone : List (List ℕ) → List ℕ → Type 0

@@ -21,9 +21,9 @@ use Rattle.model_core.specs.declared.model.Model.{Model}
 use Rattle.model_core.specs.declared.variable.ValueKind.{ValueKind}
 use Rattle.model_core.specs.declared.variable.ValueKind.TheVariants as kinds
 use Rattle.model_core.specs.Lawful.{IsLawful, IsLawfulEnum, IsLawfulObject}
-use Rattle.model_core.specs.Naming.{IsObjectName}
+use Rattle.model_core.specs.Naming.{IsObjectName, is_point, IsPath}
 use Rattle.model_core.proofs.Items.{item_all}
-use Rattle.plan_text.specs.Values.{is_point, IsPathWord, IsValueText}
+use Rattle.plan_text.specs.Values.{IsValueText}
 use Rattle.script_lang.specs.declared.command.Command.{Command}
 use Rattle.script_lang.specs.declared.command.Command.TheVariants.{Specify, Activate, Merge, Reject, Order}
 use Rattle.script_lang.specs.Line.{IsValueWord, ReadsLine}
@@ -82,11 +82,11 @@ joined_path (name ∷ []) some are = name_path name are.0
 joined_path (name ∷ (other ∷ more)) some are =
     slice_split_at is_point name 46 (join_with_byte 46 (other ∷ more)) (name_no_point name are.0) refl ∙ ap (λ (list : List (List ℕ)). name ∷ list) (joined_path (other ∷ more) (omega arith) are.1)
 
-object_path : (name : List ℕ) → IsObjectName name → IsPathWord name
+object_path : (name : List ℕ) → IsObjectName name → IsPath name
 object_path name (names, some, are, is) =
     subst (λ (list : List (List ℕ)). All IsName list) (sym (ap (slice_split is_point) is ∙ joined_path names some (recursion_from_All IsName names are))) are
 
-member_path : (name : List ℕ) → IsName name → IsPathWord name
+member_path : (name : List ℕ) → IsName name → IsPath name
 member_path name is = subst (λ (list : List (List ℕ)). All IsName list) (sym (name_path name is)) (All-from_recursion IsName (name ∷ []) (is, tt))
 
 -- ---- values

@@ -1,20 +1,12 @@
-use Rattle.std.proofs.Common.{◌≡◌, Some, slice_get, length, refl}
+use Rattle.std.proofs.Common.{◌≡◌, Some, slice_get, length, refl, sym}
 use Rattle.std.proofs.lemmas.Option.{slice_get_read}
-use Rattle.cell_store.specs.declared.trail.Entry.TheVariants.{Narrowed}
-use Rattle.cell_store.proofs.Entries.{popped_again}
-use Rattle.cell_store.proofs.Views.{stays_empty}
+use Rattle.cell_store.proofs.Views.{one_found, saves}
 use Rattle.cell_store.proofs.trail.meet_and_save.Goals as goal
 
-pub returns-in-Empty : goal.returns-in-Empty
-returns-in-Empty c =
+pub returns : goal.returns
+returns c =
     let cells = c.args.cells.now.items in
     let was = c.index_mut.result.now in
     let stood : slice_get cells c.args.cell ≡ Some was = slice_get_read cells (length cells) c.args.cell was refl c.requires c.index_mut.ensures.value in
-    let stays = stays_empty cells c.args.cell _ c.args.to.now was c.meet_behind.new.self stood c.in-Empty.ensures in
-    record {
-      was = was;
-      stood = stood;
-      kept = stays.1;
-      cells = stays.0;
-      trail = popped_again c.args.trail.now c.narrow.new.self c.pop-unused-in-Empty.new.self (Narrowed c.args.cell c.index-found.result.now.domain c.index-found.result.now.saved) c.pop-unused-in-Empty.result c.in_ok-narrow.ensures.ok c.pop-unused-in-Empty.ensures;
-    }
+    saves cells c.args.trail.now c.narrow.new.self c.take_back.new.trail c.args.cell c.args.to.now was c.meet_behind-change.new.self c.index-found.result.now c.meet_behind-change.result
+    stood (sym (one_found cells c.args.cell was c.index-found.result.now c.requires stood c.index-found.ensures)) (rw c.len.ensures at c.meet_behind-change.ensures) c.in_ok-narrow.ensures.ok c.take_back.ensures

@@ -1,8 +1,8 @@
 use Rattle.std.proofs.Common.{◌≡◌, ap}
 use Rattle.model_core.specs.declared.variable.VarDecl.{VarDecl}
+use Rattle.model_core.specs.Lawful.{quantity}
 use Rattle.model_typing.proofs.Telling.{told_as}
 use Rattle.model_lawful.specs.Alike.{HaveSameParts}
-use Rattle.model_lawful.specs.Preds.{quantity}
 use Rattle.model_lawful.proofs.preds.is_quantity.Goals as goal
 
 pub returns : goal.returns

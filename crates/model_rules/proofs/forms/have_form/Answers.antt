@@ -1,6 +1,6 @@
 use Rattle.std.proofs.Common.{refl, sym, ◌∙◌, subst}
 use Rattle.std.proofs.lemmas.List.Elements.{All-more}
-use Rattle.model_rules.specs.Paths.{HasForm}
+use Rattle.model_rules.specs.Forms.{HasForm}
 use Rattle.model_rules.proofs.Pathing.{never, false_never, true_surely}
 use Rattle.model_rules.proofs.Taking.{not_at, all_taken}
 use Rattle.model_rules.proofs.forms.have_form.Goals as goal

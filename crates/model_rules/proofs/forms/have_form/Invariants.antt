@@ -1,5 +1,5 @@
 use Rattle.std.specs.Prelude.{take, All}
-use Rattle.model_rules.specs.Paths.{HasForm}
+use Rattle.model_rules.specs.Forms.{HasForm}
 use Rattle.model_rules.proofs.forms.have_form.Given as goal
 
 abbrev pub invariant-loop-item : goal.invariant-loop-item

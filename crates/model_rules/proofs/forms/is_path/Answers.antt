@@ -1,7 +1,7 @@
 use Rattle.std.proofs.Common.{All, refl}
 use Rattle.std.specs.List.{slice_split}
 use Rattle.eu_name.specs.Word.{IsName}
-use Rattle.model_rules.specs.Paths.{is_point, IsPath}
+use Rattle.model_core.specs.Naming.{is_point, IsPath}
 use Rattle.model_rules.proofs.Pathing.{never, false_never, not_all_parts, all_parts, one_part, both_ways, parts_there, parts_whole}
 use Rattle.model_rules.proofs.forms.is_path.Goals as goal
 

@@ -1,7 +1,7 @@
 use Rattle.std.proofs.Common.{◌↔◌, length, All}
 use Rattle.std.specs.List.{slice_split}
 use Rattle.eu_name.specs.Word.{IsName}
-use Rattle.model_rules.specs.Paths.{is_point}
+use Rattle.model_core.specs.Naming.{is_point}
 use Rattle.model_rules.proofs.forms.is_path.Given as goal
 
 -- whatever the rest is, the whole word is

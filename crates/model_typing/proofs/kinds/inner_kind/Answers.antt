@@ -1,7 +1,7 @@
 use Rattle.std.proofs.Common.{sym, subst}
 use Rattle.model_core.specs.declared.item.Term.{Term}
-use Rattle.model_core.specs.Kinds.{IsOfKind, OfRule}
-use Rattle.model_typing.specs.Terms.{IsInner, IsJust}
+use Rattle.model_core.specs.Kinds.{IsOfKind, OfRule, IsInner}
+use Rattle.model_typing.specs.Terms.{IsJust}
 use Rattle.model_typing.proofs.kinds.inner_kind.Goals as goal
 
 pub returns-in-Here : goal.returns-in-Here

@@ -1,7 +1,7 @@
 use Rattle.std.proofs.Common.{sym, subst}
 use Rattle.model_core.specs.declared.item.Term.{Term}
-use Rattle.model_core.specs.Kinds.{IsOfKind}
-use Rattle.model_typing.specs.Terms.{IsInner, IsJust, IsNamed, scope_of}
+use Rattle.model_core.specs.Kinds.{IsOfKind, IsInner}
+use Rattle.model_typing.specs.Terms.{IsJust, IsNamed, scope_of}
 use Rattle.model_typing.proofs.kinds.named_kind.Goals as goal
 
 pub returns-in-Global : goal.returns-in-Global

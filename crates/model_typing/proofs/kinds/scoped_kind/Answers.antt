@@ -1,7 +1,7 @@
 use Rattle.std.proofs.Common.{sym, subst}
-use Rattle.model_core.specs.Kinds.{IsOfKind}
+use Rattle.model_core.specs.Kinds.{IsOfKind, IsInner}
 use Rattle.model_typing.specs.declared.scope.TermScope.{TermScope}
-use Rattle.model_typing.specs.Terms.{IsInner, IsJust, scope_of}
+use Rattle.model_typing.specs.Terms.{IsJust, scope_of}
 use Rattle.model_typing.proofs.kinds.scoped_kind.Goals as goal
 
 pub returns-in-InRule : goal.returns-in-InRule

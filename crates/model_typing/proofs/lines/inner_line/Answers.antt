@@ -1,7 +1,7 @@
 use Rattle.std.proofs.Common.{sym, subst}
 use Rattle.model_core.specs.declared.item.Term.{Term}
-use Rattle.model_core.specs.Kinds.{OfRule}
-use Rattle.model_typing.specs.Terms.{IsInner, IsTermLine}
+use Rattle.model_core.specs.Kinds.{OfRule, IsInner}
+use Rattle.model_typing.specs.Terms.{IsTermLine}
 use Rattle.model_typing.proofs.lines.inner_line.Goals as goal
 
 pub returns-in-Here : goal.returns-in-Here

@@ -1,7 +1,8 @@
 use Rattle.std.proofs.Common.{sym, subst}
 use Rattle.model_typing.specs.declared.scope.TermScope.{TermScope}
 use Rattle.model_typing.specs.declared.line.Line.TheVariants.{Nothing}
-use Rattle.model_typing.specs.Terms.{IsInner, HasLocalLines, IsTermLine, scope_of}
+use Rattle.model_core.specs.Kinds.{IsInner}
+use Rattle.model_typing.specs.Terms.{HasLocalLines, IsTermLine, scope_of}
 use Rattle.model_typing.proofs.Lined.{nowhere_inner}
 use Rattle.model_typing.proofs.lines.scoped_line.Goals as goal
 

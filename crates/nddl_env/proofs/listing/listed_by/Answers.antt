@@ -1,7 +1,7 @@
 use Rattle.std.proofs.Common.{◌≡◌, ◌++◌, map}
 use Rattle.std.proofs.lemmas.Result.{IfOk-weaker}
 use Rattle.nddl_hierarchy.specs.Facts.{facts_of}
-use Rattle.nddl_terms.specs.Populations.{list_at}
+use Rattle.eu_forest.specs.Members.{list_at}
 use Rattle.nddl_env.specs.Listing.{builtin_populations, populations}
 use Rattle.nddl_env.proofs.Populating.{shared_is}
 use Rattle.nddl_env.proofs.listing.listed_by.Goals as goal

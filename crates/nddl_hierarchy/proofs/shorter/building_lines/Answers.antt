@@ -1,6 +1,7 @@
 use Rattle.std.proofs.Common.{Bool, List, map, subst}
 use Rattle.std.proofs.lemmas.Result.{IfOk-weaker}
-use Rattle.nddl_hierarchy.specs.Shorter.{AreShorterFor, is_marked}
+use Rattle.eu_forest.specs.Members.{is_marked}
+use Rattle.nddl_hierarchy.specs.Shorter.{AreShorterFor}
 use Rattle.nddl_hierarchy.proofs.Passing.{building_shorter}
 use Rattle.nddl_hierarchy.proofs.shorter.building_lines.Goals as goal
 

@@ -2,9 +2,10 @@ use Rattle.std.proofs.Common.{ℕ, List, ◌+◌, get_or, sym, ◌∙◌, ap, su
 use Rattle.std.specs.Prelude.{Option, slice_set}
 use Rattle.std.proofs.lemmas.Option.{slice_get-get_or}
 use Rattle.eu_forest.specs.Lines.{IsLineageOf}
-use Rattle.nddl_hierarchy.specs.Shorter.{is_marked, passed_over}
+use Rattle.nddl_hierarchy.specs.Shorter.{passed_over}
 use Rattle.nddl_hierarchy.proofs.Passing.{ArePassed, all_shorter, none_passed, passes_on}
 use Rattle.eu_forest.proofs.Ways.{within_way}
+use Rattle.eu_forest.specs.Members.{is_marked}
 use Rattle.nddl_hierarchy.proofs.shorter.shortened.Goals as goal
 
 pub loop-entry-init : goal.loop-entry-init

@@ -1,4 +1,4 @@
-use Rattle.nddl_hierarchy.specs.Shorter.{is_marked}
+use Rattle.eu_forest.specs.Members.{is_marked}
 use Rattle.nddl_hierarchy.proofs.Passing.{ArePassed}
 use Rattle.nddl_hierarchy.proofs.shorter.shortened.Given as goal
 

@@ -1,6 +1,6 @@
 use Rattle.std.proofs.Common.{◌≡◌, ◌++◌, drop}
 use Rattle.std.specs.List.{flat_map}
-use Rattle.nddl_rules.specs.Lists.{list_at}
+use Rattle.eu_forest.specs.Members.{list_at}
 use Rattle.nddl_rules.proofs.written.places_along.Given as goal
 
 -- those so far and those of the predicates that are left are all

@@ -1,14 +1,14 @@
 use Rattle.std.proofs.Common.{All, refl}
 use Rattle.std.specs.List.{slice_split}
 use Rattle.eu_name.specs.Word.{IsName}
-use Rattle.plan_text.specs.Values.{is_point, IsPathWord}
+use Rattle.model_core.specs.Naming.{is_point, IsPath}
 use Rattle.plan_text.proofs.Points.{never, false_never, not_all_parts, all_parts, one_part, both_ways, parts_there, parts_whole}
 use Rattle.plan_text.proofs.value_words.is_path_word.Goals as goal
 
 pub returns-then-not-is_name : goal.returns-then-not-is_name
 returns-then-not-is_name c =
     let parts = parts_there c.loop-name.rest.now c.in-Some.name.now c.in-Some.after.now c.in-Some.ensures in
-    false_never (IsPathWord c.args.word.now)
+    false_never (IsPath c.args.word.now)
     (λ all. not_all_parts IsName c.in-Some.name.now _ _ parts (never (IsName c.in-Some.name.now) c.if-not-is_name.ensures) (c.loop-name.invariant.0 all))
 
 pub loop-name-preserved : goal.loop-name-preserved
