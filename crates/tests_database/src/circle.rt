@@ -52,7 +52,7 @@ fn take_turn(alloc: Global, db: &mut Db, turn: &str) -> bool {
 }
 
 // Takes the turn, and tells what becomes of the stamp of the variable.
-fn change_by(alloc: Global, db: &mut Db, turn: &str, name: &str) -> Change {
+fn watch_turn(alloc: Global, db: &mut Db, turn: &str, name: &str) -> Change {
     let before = stamp(alloc, db, name);
     if take_turn(alloc, db, turn) {
         compare(before, stamp(alloc, db, name))
@@ -84,11 +84,11 @@ struct Watched(&'static str);
 
 fn changes(alloc: Global, db: &mut Db, name: &str) -> [Change; 5] {
     let [ahead, back, again, on, round] = ROUND;
-    let ahead = change_by(alloc, db, ahead, name);
-    let back = change_by(alloc, db, back, name);
-    let again = change_by(alloc, db, again, name);
-    let on = change_by(alloc, db, on, name);
-    [ahead, back, again, on, change_by(alloc, db, round, name)]
+    let ahead = watch_turn(alloc, db, ahead, name);
+    let back = watch_turn(alloc, db, back, name);
+    let again = watch_turn(alloc, db, again, name);
+    let on = watch_turn(alloc, db, on, name);
+    [ahead, back, again, on, watch_turn(alloc, db, round, name)]
 }
 
 impl Trial for Watched {
