@@ -1,5 +1,5 @@
 -- What a type means depends on one typedef alone: the one that its base names.
-use Rattle.std.proofs.Common.{◌≡◌, ℕ, ◌++◌, List, [], refl, ap}
+use Rattle.std.proofs.Common.{◌≡◌, ℕ, ◌++◌, List, refl, ap}
 use Rattle.std.specs.Prelude.{Option, Some, None, slice_get, if◌then◌else◌}
 use Rattle.std.specs.Option.{option_and_then, option_map, option_map_or}
 use Rattle.nddl_ast.specs.declared.expression.BaseType.{BaseType}
@@ -17,7 +17,7 @@ use Rattle.nddl_typeexpr.specs.declared.kind.Extent.TheVariants as extents
 use Rattle.nddl_typeexpr.specs.declared.kind.TypeKind.{TypeKind}
 use Rattle.nddl_typeexpr.specs.declared.kind.TypeMeaning.{TypeMeaning}
 use Rattle.nddl_typeexpr.specs.Bases.{base_extent, base_fault, base_kind, meaning_extent, meaning_kind, sort_kind}
-use Rattle.nddl_typeexpr.specs.Bounds.{bounds_extent, bounds_faults}
+use Rattle.nddl_typeexpr.specs.Bounds.{bounds_extent, bounds_faults, missing_faults}
 use Rattle.nddl_typeexpr.specs.Types.{is_fine}
 use Rattle.nddl_hierarchy.specs.Ancestors.{objects_faults}
 use Rattle.nddl_hierarchy.specs.Facts.{Facts}
@@ -90,8 +90,8 @@ with_known facts known =
 abbrev by_base : Facts → types.Type → Option TypeKind → Extent → Option TypeMeaning
 by_base facts type kind extent =
     let faults = faults_here 0 type.at (base_fault facts.names type.base)
-    ++ option_map_or (λ (found : TypeKind). bounds_faults facts.names found extent 0 type.bounds) kind [] in
-    if is_fine (faults ++ objects_faults facts.names facts.program facts.parents facts.marked 0 kind type.bounds)
+    ++ option_map_or (λ (found : TypeKind). bounds_faults facts.names found extent 0 type.bounds) kind (missing_faults facts.names 0 type.bounds) in
+    if is_fine (faults ++ objects_faults facts.names facts.program facts.parents 0 kind type.bounds)
     then (if is_fine faults
     then option_map (λ (found : TypeKind). record { kind = found; extent = bounds_extent facts.names found extent type.bounds }) kind
     else None)

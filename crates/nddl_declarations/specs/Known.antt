@@ -19,7 +19,7 @@ use Rattle.nddl_hierarchy.specs.Lines.{is_rooted, is_typedef_sort, parents_of}
 unfoldable pub all_type_faults : Facts → ℕ → types.Type → List Fault
 all_type_faults facts decl type =
     type_faults facts.names facts.known decl type
-    ++ objects_faults facts.names facts.program facts.parents facts.marked decl
+    ++ objects_faults facts.names facts.program facts.parents decl
     (base_kind facts.names facts.known type.base) type.bounds
 
 -- what the type means, if nothing is wrong with it

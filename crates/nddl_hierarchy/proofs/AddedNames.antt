@@ -1,21 +1,16 @@
 -- The names that are noted along lines to which the same classes add members are the same.
-use Rattle.std.proofs.Common.{◌≡◌, ℕ, ◌&&◌, Bool, true, false, cond, List, [], ◌∷◌, refl, sym, ◌∙◌, ap}
-use Rattle.std.specs.Prelude.{Option, Some, None, Result, Ok, Err, IfOk, if◌then◌else◌}
-use Rattle.eu_forest.specs.Lines.{rootedness_in}
+use Rattle.std.proofs.Common.{◌≡◌, ℕ, Bool, true, false, cond, List, [], ◌∷◌, refl, sym, ◌∙◌, ap}
+use Rattle.std.specs.Prelude.{Option, Some, None, Result, Ok, Err, IfOk}
 use Rattle.nddl_ast.specs.declared.declaration.Decl.{Decl}
 use Rattle.nddl_symbols.specs.declared.declared.Declared.{Declared}
 use Rattle.nddl_symbols.specs.declared.scope.Meaning.{Meaning}
 use Rattle.nddl_symbols.specs.declared.scope.Meaning.TheVariants as meanings
 use Rattle.eu_index.specs.Index.{Noted}
-use Rattle.nddl_symbols.specs.Scope.{is_class_at}
 use Rattle.nddl_hierarchy.specs.Ancestors.{above}
-use Rattle.eu_forest.specs.Ancestors.{ancestry}
 use Rattle.nddl_hierarchy.specs.Decls.{members_of}
-use Rattle.nddl_hierarchy.specs.Facts.{Facts}
-use Rattle.nddl_hierarchy.specs.Lines.{is_rooted}
 use Rattle.nddl_hierarchy.specs.Shorter.{AddTheSame, adding_along, adds_members, is_builtin_class}
 use Rattle.nddl_hierarchy.proofs.Adding.{adds_none, none_named}
-use Rattle.nddl_hierarchy.specs.Inherited.{builtin_noted, class_noted, line_noted, meaning_noted, member_name, names_noted}
+use Rattle.nddl_hierarchy.specs.Inherited.{builtin_noted, class_noted, line_noted, member_name, names_noted}
 
 builtin_none : (noted : Noted) (extended : Option Meaning) → is_builtin_class extended ≡ false → builtin_noted noted extended ≡ noted
 builtin_none noted None is = refl
@@ -54,15 +49,9 @@ same_noted names program noted one other same =
     line_adding names program noted one
     ∙ (ap (line_noted names program noted) same ∙ sym (line_adding names program noted other))
 
--- so what a class extends that means this gives the names that are noted along such a line
-pub means_noted : {E : Type 0} (facts : Facts) (entry : ℕ) (line read : List ℕ) (noted : Result Noted E) → is_class_at facts.names entry ≡ true
-    → is_rooted (rootedness_in facts.marked entry) ≡ true → AddTheSame facts.names facts.program line (ancestry facts.parents entry) → read ≡ line
-    → IfOk noted (λ some. some ≡ line_noted facts.names facts.program [] read)
-    → IfOk noted (λ some. some ≡ meaning_noted facts (Some (meanings.Entry entry)))
-means_noted facts entry line read (Err e) class rooted same is so_far = tt
-means_noted facts entry line read (Ok some) class rooted same is so_far =
-    let along = line_noted facts.names facts.program [] (ancestry facts.parents entry) in
-    so_far
-    ∙ (ap (line_noted facts.names facts.program []) is
-    ∙ (same_noted facts.names facts.program [] line (ancestry facts.parents entry) same
-    ∙ sym (ap (λ b. if b && is_rooted (rootedness_in facts.marked entry) then along else []) class ∙ ap (λ b. if b then along else []) rooted)))
+-- so what is noted along the one line is so along the other
+pub read_noted : {E : Type 0} (names : List Declared) (program : List Decl) (line read other : List ℕ) (noted : Result Noted E)
+    → line_noted names program [] line ≡ line_noted names program [] other → read ≡ line
+    → IfOk noted (λ some. some ≡ line_noted names program [] read) → IfOk noted (λ some. some ≡ line_noted names program [] other)
+read_noted names program line read other (Err e) same is so_far = tt
+read_noted names program line read other (Ok some) same is so_far = so_far ∙ (ap (line_noted names program []) is ∙ same)

@@ -1,8 +1,11 @@
 pub mod Above
+pub mod Again
 pub mod Adding
+pub mod Circling
 pub mod Climbing
 pub mod Extending
 pub mod Keeping
+pub mod Noting
 pub mod Passing
 pub mod Placing
 pub mod AddedNames

@@ -2,9 +2,7 @@
 use Rattle.std.specs.Prelude.{ℕ, ◌==◌, Bool, false, ◌||◌, ◌&&◌, not, List, [], Option, Some, None, slice_get}
 use Rattle.std.specs.List.{list_any, flat_map}
 use Rattle.std.specs.Option.{option_map_or, option_and_then}
-use Rattle.eu_forest.specs.declared.walk.Mark.{Mark}
 use Rattle.eu_forest.specs.Ancestors.{ancestry}
-use Rattle.eu_forest.specs.Lines.{rootedness_in}
 use Rattle.nddl_ast.specs.declared.declaration.Decl.{Decl}
 use Rattle.nddl_ast.specs.declared.declaration.Decl.TheVariants as decls
 use Rattle.nddl_ast.specs.declared.expression.Bounds.{Bounds}
@@ -27,7 +25,6 @@ use Rattle.nddl_symbols.specs.Scope.{fault_if, is_class_at, meaning_of}
 use Rattle.nddl_typeexpr.specs.declared.kind.TypeKind.{TypeKind}
 use Rattle.nddl_typeexpr.specs.declared.kind.TypeKind.TheVariants as kinds
 use Rattle.nddl_hierarchy.specs.Decls.{declaration_with_body, class_parent, decl_of_name}
-use Rattle.nddl_hierarchy.specs.Lines.{is_rooted}
 
 -- what the class of this number extends
 abbrev pub above : List Declared → List Decl → ℕ → Option Meaning
@@ -91,32 +88,31 @@ abbrev pub class_of_object : List Declared → List Decl → Declared → Option
 class_of_object names program declared =
     option_and_then (λ name. meaning_of names name.text) (option_and_then made_in (decl_of_name program declared))
 
--- What is of this class isn't of the other one. A class whose line isn't as it should be is left alone.
-abbrev pub is_outside : List Declared → List Decl → List (Option ℕ) → List Mark → Meaning → Option Meaning → Bool
-is_outside names program parents marked class None = false
-is_outside names program parents marked class (Some (meanings.BuiltIn number)) =
+-- What is of this class isn't of the other one. What stands above the class counts as far as it is there, whatever is wrong
+-- further up.
+abbrev pub is_outside : List Declared → List Decl → List (Option ℕ) → Meaning → Option Meaning → Bool
+is_outside names program parents class None = false
+is_outside names program parents class (Some (meanings.BuiltIn number)) =
     not (is_every class || is_same_meaning class (meanings.BuiltIn number))
-is_outside names program parents marked class (Some (meanings.Entry entry)) =
-    (is_class_at names entry && is_rooted (rootedness_in marked entry)) && not (is_under names program parents class entry)
+is_outside names program parents class (Some (meanings.Entry entry)) =
+    is_class_at names entry && not (is_under names program parents class entry)
 
 -- the value names an object of another class
-abbrev pub is_foreign : List Declared → List Decl → List (Option ℕ) → List Mark → Meaning → Value → Bool
-is_foreign names program parents marked class value =
-    option_map_or (λ object. is_outside names program parents marked class (class_of_object names program object))
+abbrev pub is_foreign : List Declared → List Decl → List (Option ℕ) → Meaning → Value → Bool
+is_foreign names program parents class value =
+    option_map_or (λ object. is_outside names program parents class (class_of_object names program object))
     (object_of names value) false
 
 -- what is wrong with the objects in a set of this class
-abbrev pub foreign_faults :
-    List Declared → List Decl → List (Option ℕ) → List Mark → ℕ → Meaning → List Value → List Fault
-foreign_faults names program parents marked decl class values =
+abbrev pub foreign_faults : List Declared → List Decl → List (Option ℕ) → ℕ → Meaning → List Value → List Fault
+foreign_faults names program parents decl class values =
     flat_map
     (λ value. faults_here decl (value_place value)
-    (fault_if (is_foreign names program parents marked class value) faults.NotInDomain))
+    (fault_if (is_foreign names program parents class value) faults.NotInDomain))
     values
 
 -- what is wrong with the objects in the bounds of a type of this kind
-abbrev pub objects_faults :
-    List Declared → List Decl → List (Option ℕ) → List Mark → ℕ → Option TypeKind → Bounds → List Fault
-objects_faults names program parents marked decl (Some (kinds.Object class)) (bounds.Set at values) =
-    foreign_faults names program parents marked decl class values
-objects_faults names program parents marked decl kind bound = []
+abbrev pub objects_faults : List Declared → List Decl → List (Option ℕ) → ℕ → Option TypeKind → Bounds → List Fault
+objects_faults names program parents decl (Some (kinds.Object class)) (bounds.Set at values) =
+    foreign_faults names program parents decl class values
+objects_faults names program parents decl kind bound = []

@@ -32,16 +32,16 @@ facts_of basis = record {
 
 abbrev pub is_outside_in : code.Basis → Meaning → Option Meaning → Bool
 is_outside_in basis class made =
-    let facts = facts_of basis in is_outside facts.names facts.program facts.parents facts.marked class made
+    let facts = facts_of basis in is_outside facts.names facts.program facts.parents class made
 
 abbrev pub is_foreign_in : code.Basis → Meaning → Value → Bool
 is_foreign_in basis class value =
-    let facts = facts_of basis in is_foreign facts.names facts.program facts.parents facts.marked class value
+    let facts = facts_of basis in is_foreign facts.names facts.program facts.parents class value
 
 abbrev pub faults_of_foreign : code.Basis → ℕ → Meaning → List Value → List Fault
 faults_of_foreign basis decl class values =
-    let facts = facts_of basis in foreign_faults facts.names facts.program facts.parents facts.marked decl class values
+    let facts = facts_of basis in foreign_faults facts.names facts.program facts.parents decl class values
 
 abbrev pub faults_of_objects : code.Basis → ℕ → Option TypeKind → Bounds → List Fault
 faults_of_objects basis decl kind bounds =
-    let facts = facts_of basis in objects_faults facts.names facts.program facts.parents facts.marked decl kind bounds
+    let facts = facts_of basis in objects_faults facts.names facts.program facts.parents decl kind bounds

@@ -1,7 +1,6 @@
 -- The names that a class has from those that it extends.
-use Rattle.std.specs.Prelude.{ℕ, ◌==◌, ◌&&◌, List, [], ◌∷◌, Option, Some, None, codes, if◌then◌else◌}
+use Rattle.std.specs.Prelude.{ℕ, ◌==◌, List, [], ◌∷◌, Option, Some, None, codes, if◌then◌else◌}
 use Rattle.std.specs.List.{filter_map}
-use Rattle.eu_forest.specs.Lines.{rootedness_in}
 use Rattle.nddl_ast.specs.declared.declaration.Decl.{Decl}
 use Rattle.nddl_ast.specs.declared.declaration.Member.{Member}
 use Rattle.nddl_ast.specs.declared.declaration.Member.TheVariants as members
@@ -15,7 +14,6 @@ use Rattle.nddl_hierarchy.specs.Ancestors.{above}
 use Rattle.eu_forest.specs.Ancestors.{ancestry}
 use Rattle.nddl_hierarchy.specs.Decls.{members_of}
 use Rattle.nddl_hierarchy.specs.Facts.{Facts}
-use Rattle.nddl_hierarchy.specs.Lines.{is_rooted}
 
 -- ---- names that are noted
 
@@ -69,12 +67,13 @@ abbrev pub line_noted : List Declared → List Decl → Noted → List ℕ → N
 line_noted names program noted [] = noted
 line_noted names program noted (entry ∷ more) = line_noted names program (class_noted names program noted entry) more
 
--- the members of what a class extends that means this; a class whose line isn't as it should be is left alone
+-- The members of what a class extends that means this. What stands above it counts as far as it is there, whatever is
+-- wrong further up.
 abbrev pub meaning_noted : Facts → Option Meaning → Noted
 meaning_noted facts None = []
 meaning_noted facts (Some (meanings.BuiltIn number)) = words_noted [] (builtin_members number)
 meaning_noted facts (Some (meanings.Entry entry)) =
-    if is_class_at facts.names entry && is_rooted (rootedness_in facts.marked entry)
+    if is_class_at facts.names entry
     then line_noted facts.names facts.program [] (ancestry facts.parents entry) else []
 
 -- the names that a class has from those that it extends

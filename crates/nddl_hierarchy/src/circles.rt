@@ -32,7 +32,8 @@ fn note_circle(place: Option<Place>, circle: bool, first: &mut Option<Fault>)
     }
 }
 
-fn is_circle(rootedness: Option<Rootedness>) -> bool
+/// Whether it stands on a circle.
+pub fn is_circle(rootedness: Option<Rootedness>) -> bool
     ensures { result ≡ is_circle rootedness }
 {
     match rootedness {

@@ -13,6 +13,7 @@ pub mod members;
 pub mod names;
 pub mod objects;
 pub mod parents;
+pub mod rounds;
 pub mod shorter;
 pub mod spot;
 pub mod under;

@@ -2,6 +2,7 @@
 
 ghost use Rattle.std.specs.Prelude.{◌≡◌, ◌∷◌, [], IfOk, OnOk, Some, codes, map};
 ghost use Rattle.nddl_symbols.specs.declared.scope.Meaning.TheVariants.{Entry};
+ghost use Rattle.eu_forest.specs.Ancestors.{ancestry};
 ghost use Rattle.eu_index.specs.Index.{with_noted};
 ghost use Rattle.nddl_hierarchy.specs.Facts.{facts_of};
 ghost use Rattle.nddl_hierarchy.specs.Inherited.{builtin_members, class_noted, inherited_noted, line_noted, meaning_noted, member_names, names_noted, reservoir_members, words_noted};
@@ -11,6 +12,7 @@ use crate::Basis;
 use crate::circles::is_rooted;
 use crate::decls::members_of;
 use crate::lines::above;
+use crate::rounds::one_round;
 use crate::shorter::adding_line;
 use eu_index::NameIndex;
 use eu_name::text::Text;
@@ -59,13 +61,32 @@ fn builtin_index(alloc: Global, number: u32) -> Result<NameIndex, AllocError>
 fn by_entry(alloc: Global, basis: &Basis<'_>, entry: usize) -> Result<NameIndex, AllocError>
     ensures { IfOk result (λ noted. noted ≡ meaning_noted (facts_of basis.now) (Some (Entry entry))) }
 {
-    let scope = basis.types.scope;
-    if scope.is_class(entry) && is_rooted(basis.lineage.rootedness(entry)) {
-        let line = adding_line(alloc, basis, entry)?;
-        line_index(alloc, scope, basis.decls, line.as_slice())
-    } else {
+    if !basis.types.scope.is_class(entry) {
         Ok(NameIndex::new(alloc))
+    } else if is_rooted(basis.lineage.rootedness(entry)) {
+        by_line(alloc, basis, entry)
+    } else {
+        by_round(alloc, basis, entry)
     }
+}
+
+// The names of the members of all classes on the line of this one, of which those are passed over that add none.
+fn by_line(alloc: Global, basis: &Basis<'_>, entry: usize) -> Result<NameIndex, AllocError>
+    ensures { IfOk result (λ noted. noted ≡ line_noted basis.now.types.scope.now
+        (map (λ decl. decl.now) basis.now.decls.now) [] (ancestry basis.now.parents.now entry)) }
+{
+    let line = adding_line(alloc, basis, entry)?;
+    line_index(alloc, basis.types.scope, basis.decls, line.as_slice())
+}
+
+// The names of the members of all classes on the line of this one, which may come back to a class of it.
+fn by_round(alloc: Global, basis: &Basis<'_>, entry: usize) -> Result<NameIndex, AllocError>
+    ensures { IfOk result (λ noted. noted ≡ line_noted basis.now.types.scope.now
+        (map (λ decl. decl.now) basis.now.decls.now) [] (ancestry basis.now.parents.now entry)) }
+{
+    let parents = basis.parents.as_slice();
+    let line = one_round(alloc, parents, basis.lineage, entry)?;
+    line_index(alloc, basis.types.scope, basis.decls, line.as_slice())
 }
 
 // The names of the members of all classes of a line.

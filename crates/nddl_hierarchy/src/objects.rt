@@ -8,7 +8,6 @@ ghost use Rattle.nddl_hierarchy.specs.Ancestors.{class_of_object, made_in, objec
 ghost use Rattle.nddl_hierarchy.specs.Facts.{faults_of_foreign, faults_of_objects, is_foreign_in, is_outside_in};
 
 use super::basis::Basis;
-use super::circles::is_rooted;
 use super::decls::decl_at;
 use super::lines::is_same_meaning;
 use super::under::is_under;
@@ -63,8 +62,8 @@ fn note_foreign(
     Ok(())
 }
 
-// Whether the value names an object of another class.
-fn is_foreign(
+/// Whether the value names an object of another class.
+pub fn is_foreign(
     alloc: Global,
     basis: &Basis<'_>,
     class: Meaning,
@@ -128,8 +127,8 @@ fn class_of_object(scope: &Scope, decls: &[&Decl], declared: &Declared) -> Optio
     scope.meaning(&name.text)
 }
 
-// Whether what is of the one class isn't of the other.
-fn is_outside(
+/// Whether what is of the one class isn't of the other.
+pub fn is_outside(
     alloc: Global,
     basis: &Basis<'_>,
     class: Meaning,
@@ -155,8 +154,7 @@ fn is_outside_entry(
 ) -> Result<bool, AllocError>
     ensures { IfOk result (λ outside. outside ≡ is_outside_in basis.now class (Some (Entry entry))) }
 {
-    let scope = basis.types.scope;
-    if scope.is_class(entry) && is_rooted(basis.lineage.rootedness(entry)) {
+    if basis.types.scope.is_class(entry) {
         let under = is_under(alloc, basis, class, entry)?;
         Ok(!under)
     } else {

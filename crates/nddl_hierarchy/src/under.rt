@@ -3,10 +3,12 @@
 ghost use Rattle.std.specs.Prelude.{◌≡◌, ◌||◌, ◌==◌, IfOk, IfSome, map, true};
 ghost use Rattle.nddl_symbols.specs.Scope.{is_class_at};
 ghost use Rattle.nddl_symbols.specs.declared.scope.Meaning.TheVariants.{BuiltIn, Entry};
-ghost use Rattle.nddl_hierarchy.specs.Ancestors.{above, is_under, means};
+ghost use Rattle.eu_forest.specs.Ancestors.{ancestry};
+ghost use Rattle.nddl_hierarchy.specs.Ancestors.{above, is_extended, is_under, means};
 
 use super::basis::Basis;
-use super::lines::{above, ancestry, is_extended, is_same_meaning, means};
+use super::lines::{above, is_extended, is_same_meaning, means};
+use super::rounds::one_round;
 use nddl_symbols::Meaning;
 use std::alloc::{AllocError, Global};
 
@@ -85,6 +87,20 @@ fn is_under_slowly(
     {
         return Ok(true);
     }
-    let line = ancestry(alloc, basis.parents, entry)?;
+    is_under_along(alloc, basis, class, entry)
+}
+
+// Whether a class on the line of this one extends the other.
+fn is_under_along(
+    alloc: Global,
+    basis: &Basis<'_>,
+    class: Meaning,
+    entry: usize,
+) -> Result<bool, AllocError>
+    ensures { IfOk result (λ so. so ≡ is_extended basis.now.types.scope.now (map (λ decl. decl.now) basis.now.decls.now)
+        class (ancestry basis.now.parents.now entry)) }
+{
+    let parents = basis.parents.as_slice();
+    let line = one_round(alloc, parents, basis.lineage, entry)?;
     Ok(is_extended(basis.types.scope, basis.decls, class, line.as_slice()))
 }

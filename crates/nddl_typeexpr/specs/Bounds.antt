@@ -1,5 +1,5 @@
 -- What ranges and sets of types mean, and what is wrong with them.
-use Rattle.std.specs.Prelude.{ℕ, Bool, false, ◌&&◌, not, nat_lt, ℤ, int_le, List, [], ◌++◌, length, Option, Some}
+use Rattle.std.specs.Prelude.{ℕ, Bool, false, ◌&&◌, not, nat_lt, ℤ, int_le, List, [], ◌∷◌, ◌++◌, length, Option, Some}
 use Rattle.std.specs.Prelude.{if◌then◌else◌}
 use Rattle.std.specs.List.{flat_map, filter_map}
 use Rattle.nddl_ast.specs.declared.kind.TextKind.TheVariants as faults
@@ -62,14 +62,36 @@ members_faults names kind extent decl values =
 abbrev pub own_numbers : List Declared → TypeKind → Extent → List Value → List ℤ
 own_numbers names kind extent values = filter_map (own_number names kind extent) values
 
+-- more than 4,096 of these are distinct
+abbrev pub are_too_many : List ℤ → Bool
+are_too_many numbers = nat_lt 4096 (length (distinct_from [] numbers))
+
 -- more than 4,096 distinct values may be members
 abbrev pub has_too_many : List Declared → TypeKind → Extent → List Value → Bool
-has_too_many names kind extent values = nat_lt 4096 (length (distinct_from [] (own_numbers names kind extent values)))
+has_too_many names kind extent values = are_too_many (own_numbers names kind extent values)
 
 abbrev pub set_faults : List Declared → TypeKind → Extent → ℕ → ℕ → List Value → List Fault
 set_faults names kind extent decl at values =
     faults_here decl at (fault_if (has_too_many names kind extent values) faults.LimitMembers)
     ++ members_faults names kind extent decl values
+
+-- ---- behind a base that means nothing
+
+-- the values that are written in bounds
+abbrev pub bounds_values : Bounds → List Value
+bounds_values bounds.All = []
+bounds_values (bounds.Range at least greatest) = least ∷ greatest ∷ []
+bounds_values (bounds.Set at values) = values
+
+-- what is wrong with each of the values, of whatever kind they are
+abbrev pub values_faults : List Declared → ℕ → List Value → List Fault
+values_faults names decl values =
+    flat_map (λ value. faults_here decl (value_place value) (value_fault names value)) values
+
+-- What is wrong with bounds behind a base that means nothing. No value is of the wrong kind there, and there may be any
+-- number of them.
+abbrev pub missing_faults : List Declared → ℕ → Bounds → List Fault
+missing_faults names decl bound = values_faults names decl (bounds_values bound)
 
 -- ---- both
 

@@ -7,15 +7,15 @@ use Rattle.nddl_symbols.specs.declared.fault.Fault.{Fault}
 use Rattle.nddl_symbols.specs.Finding.{faults_here}
 use Rattle.nddl_typeexpr.specs.declared.kind.TypeMeaning.{TypeMeaning}
 use Rattle.nddl_typeexpr.specs.Bases.{base_extent, base_fault, base_kind}
-use Rattle.nddl_typeexpr.specs.Bounds.{bounds_extent, bounds_faults}
+use Rattle.nddl_typeexpr.specs.Bounds.{bounds_extent, bounds_faults, missing_faults}
 
--- All that is wrong with the type in the declaration of this number. Bounds behind a base that means nothing aren't
--- looked at.
+-- All that is wrong with the type in the declaration of this number. Behind a base that means nothing the values of a
+-- range or a set are judged by themselves.
 abbrev pub type_faults : List Declared → List (Option TypeMeaning) → ℕ → types.Type → List Fault
 type_faults names known decl type =
     faults_here decl type.at (base_fault names type.base)
     ++ option_map_or (λ kind. bounds_faults names kind (base_extent names known type.base) decl type.bounds)
-    (base_kind names known type.base) []
+    (base_kind names known type.base) (missing_faults names decl type.bounds)
 
 -- nothing is wrong
 abbrev pub is_fine : List Fault → Bool

@@ -7,6 +7,7 @@
 pub mod base;
 pub mod kind;
 pub mod members;
+pub mod missing;
 pub mod ranges;
 pub mod sets;
 pub mod types;

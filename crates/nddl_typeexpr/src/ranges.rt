@@ -41,8 +41,8 @@ pub fn note_range_faults(
     }
 }
 
-// Whether two ends are in the wrong order, or one of them lies outside.
-fn is_wrong_range(extent: &Extent, least: Option<i32>, greatest: Option<i32>) -> bool
+/// Whether two ends are in the wrong order, or one of them lies outside.
+pub fn is_wrong_range(extent: &Extent, least: Option<i32>, greatest: Option<i32>) -> bool
     ensures { result ≡ is_wrong_range extent.now least greatest }
 {
     match (least, greatest) {

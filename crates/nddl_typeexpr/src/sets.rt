@@ -4,7 +4,7 @@ ghost use Rattle.std.specs.Prelude.{◌≡◌, [], IfOk, OnOk};
 ghost use Rattle.nddl_symbols.specs.Finding.{earliest_fault};
 ghost use Rattle.nddl_typeexpr.specs.declared.kind.Extent.TheVariants.{Set};
 ghost use Rattle.nddl_typeexpr.specs.Members.{distinct_from};
-ghost use Rattle.nddl_typeexpr.specs.Bounds.{has_too_many, members_faults, own_numbers, set_faults};
+ghost use Rattle.nddl_typeexpr.specs.Bounds.{are_too_many, has_too_many, members_faults, own_numbers, set_faults};
 
 use super::base::BaseMeaning;
 use super::kind::Extent;
@@ -60,7 +60,14 @@ fn has_too_many(alloc: Global, base: &BaseMeaning<'_>, values: &[Value]) -> Resu
         return Ok(false);
     }
     let numbers = own_numbers(alloc, base, values)?;
-    let members = Members::of(alloc, numbers.as_slice())?;
+    are_too_many(alloc, numbers.as_slice())
+}
+
+/// Whether more than 4,096 of the numbers are distinct.
+pub fn are_too_many(alloc: Global, numbers: &[i32]) -> Result<bool, AllocError>
+    ensures { IfOk result (λ many. many ≡ are_too_many numbers.now) }
+{
+    let members = Members::of(alloc, numbers)?;
     Ok(members.len() > 4096)
 }
 

@@ -8,6 +8,7 @@ ghost use Rattle.nddl_typeexpr.specs.Types.{bounded_meaning, type_faults, type_m
 
 use super::base::{BaseMeaning, base_extent, base_fault, base_kind};
 use super::kind::{Extent, TypeMeaning};
+use super::missing::note_missing_faults;
 use super::ranges::{note_range_faults, range_meaning};
 use super::sets::{note_set_faults, set_meaning};
 use nddl_ast::expression::{Bounds, Type};
@@ -51,7 +52,10 @@ pub fn note_type_faults(
             };
             note_bounds_faults(alloc, &base, decl, &written.bounds, first)
         }
-        None => Ok(()),
+        None => {
+            note_missing_faults(types.scope, decl, &written.bounds, first);
+            Ok(())
+        }
     }
 }
 
