@@ -93,8 +93,8 @@ fn note_writing(
     Ok(())
 }
 
-// Notes the same of the declaration of this number.
-fn note_decl(
+/// Notes what is wrong with how objects are made in the declaration of this number.
+pub fn note_decl(
     alloc: Global,
     basis: &Basis<'_>,
     closed: Option<usize>,

@@ -33,7 +33,7 @@ use Rattle.nddl_terms.specs.declared.stands.Stand.TheVariants.{Value, Class}
 use Rattle.nddl_terms.specs.Growth.{unnamed, with_item, with_next_local}
 use Rattle.nddl_terms.specs.Names.{name_read_at}
 use Rattle.nddl_terms.specs.Readings.{Readings}
-use Rattle.nddl_terms.specs.Stands.{file_stand}
+use Rattle.nddl_terms.specs.Stands.{file_stand, first_stand}
 use Rattle.nddl_lower.specs.Arguments.{argument, truth_value}
 use Rattle.nddl_lower.specs.Slots.{class_base}
 
@@ -74,51 +74,47 @@ base_shape reading base = whole_shape
 
 -- ---- bounds
 
--- a value that is known
-abbrev pub known_number : Option Stand → Option ℤ
-known_number (Some (Value (terms.Lit value) class)) = Some value
+-- a value that is known: a member, an object, or the object for which a variable of `foreach` stands in these turns
+abbrev pub known_number : Stand → Option ℤ
+known_number (Value (terms.Lit value) class) = Some value
 known_number stand = None
-
--- what a name among the values of a set stands for: a member or an object
-abbrev pub meaning_number : Lexicon → Option Meaning → Option ℤ
-meaning_number lexicon (Some (meanings.Scope place)) = known_number (file_stand lexicon place)
-meaning_number lexicon meaning = None
 
 abbrev pub constant_number : Constant → Option ℤ
 constant_number (constants.Number number) = Some number
 constant_number (constants.Truth truth) = Some (truth_value truth)
 constant_number (constants.Decimal thousandths) = None
 
-abbrev pub value_number : Readings → value_of.Value → Option ℤ
-value_number reading (values.Name name) = meaning_number reading.lexicon (name_read_at name.at reading.names)
-value_number reading (values.Literal literal) = constant_number literal.constant
+abbrev pub value_number : Readings → List Made → Growth → value_of.Value → Option ℤ
+value_number reading turns growth (values.Name name) = known_number (first_stand reading turns growth name.at)
+value_number reading turns growth (values.Literal literal) = constant_number literal.constant
 
 -- an end of a range, which is a number
-abbrev pub range_end : Readings → value_of.Value → ℤ
-range_end reading value = option_map_or (λ number. number) (value_number reading value) (pos 0)
+abbrev pub range_end : Readings → List Made → Growth → value_of.Value → ℤ
+range_end reading turns growth value = option_map_or (λ number. number) (value_number reading turns growth value) (pos 0)
 
 -- the numbers between two ends
-abbrev pub range_base : Readings → value_of.Value → value_of.Value → Base
-range_base reading least greatest = bases.Given (Range (range_end reading least) (range_end reading greatest))
+abbrev pub range_base : Readings → List Made → Growth → value_of.Value → value_of.Value → Base
+range_base reading turns growth least greatest =
+    bases.Given (Range (range_end reading turns growth least) (range_end reading turns growth greatest))
 
 -- the values that are written out
-abbrev pub set_base : Readings → List value_of.Value → Base
-set_base reading some = bases.Given (Set (ascending_of (filter_map (value_number reading) some)))
+abbrev pub set_base : Readings → List Made → Growth → List value_of.Value → Base
+set_base reading turns growth some = bases.Given (Set (ascending_of (filter_map (value_number reading turns growth) some)))
 
 -- what the bounds of a type leave, if there are any
-abbrev pub bounds_base : Readings → Bounds → Option Base
-bounds_base reading bounds.All = None
-bounds_base reading (bounds.Range at least greatest) = Some (range_base reading least greatest)
-bounds_base reading (bounds.Set at some) = Some (set_base reading some)
+abbrev pub bounds_base : Readings → List Made → Growth → Bounds → Option Base
+bounds_base reading turns growth bounds.All = None
+bounds_base reading turns growth (bounds.Range at least greatest) = Some (range_base reading turns growth least greatest)
+bounds_base reading turns growth (bounds.Set at some) = Some (set_base reading turns growth some)
 
 -- the shape with this base in place of its own, if there is one
 abbrev pub with_base : Shape → Option Base → Shape
 with_base shape None = shape
 with_base shape (Some base) = record { kind = shape.kind; base = base; class = shape.class }
 
--- what a variable of the type may be
-abbrev pub type_shape : Readings → types.Type → Shape
-type_shape reading type = with_base (base_shape reading type.base) (bounds_base reading type.bounds)
+-- what a variable of the type may be in these turns, with what was made so far
+abbrev pub type_shape : Readings → List Made → Growth → types.Type → Shape
+type_shape reading turns growth type = with_base (base_shape reading type.base) (bounds_base reading turns growth type.bounds)
 
 -- ---- locals
 
@@ -141,4 +137,4 @@ with_begun reading turns at shape init growth = with_declared at shape growth
 -- a local of the text
 abbrev pub with_text_local : Readings → List Made → Variable → Growth → Growth
 with_text_local reading turns variable growth =
-    with_begun reading turns variable.name.at (type_shape reading variable.declared) variable.init growth
+    with_begun reading turns variable.name.at (type_shape reading turns growth variable.declared) variable.init growth

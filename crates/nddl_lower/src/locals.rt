@@ -72,7 +72,7 @@ pub fn add_variable(
     ensures { OnOk result (growth.new
         ≡ with_text_local (readings_of reading.now) turns.now variable.now growth.old) }
 {
-    let shape = type_shape(alloc, reading, &variable.declared)?;
+    let shape = type_shape(alloc, reading, turns, &*growth, &variable.declared)?;
     add_begun(
         alloc,
         reading,

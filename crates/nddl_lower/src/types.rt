@@ -3,7 +3,7 @@
 ghost use Rattle.std.specs.Prelude.{◌≡◌, IfOk};
 ghost use Rattle.std.specs.List.{filter_map};
 ghost use Rattle.nddl_terms.specs.Readings.{readings_of};
-ghost use Rattle.nddl_lower.specs.Locals.{range_base, set_base, base_shape, bounds_base, class_shape, constant_number, range_end, file_shape, known_number, meaning_number, meaning_shape, stand_shape, truth_shape, type_shape, value_number, whole_shape, with_base};
+ghost use Rattle.nddl_lower.specs.Locals.{range_base, set_base, base_shape, bounds_base, class_shape, constant_number, range_end, file_shape, known_number, meaning_shape, stand_shape, truth_shape, type_shape, value_number, whole_shape, with_base};
 
 use super::arguments::truth_value;
 use super::slots::class_base;
@@ -12,8 +12,8 @@ use model_core::variable::{Base, ValueKind};
 use nddl_ast::expression::{BaseType, Bounds, Constant, Type, Value};
 use nddl_declarations::domains::{range, set_of_values};
 use nddl_terms::lexicon::copy_base;
-use nddl_terms::stands::file_stand;
-use nddl_terms::{Lexicon, Meaning, Reading, Shape, Stand};
+use nddl_terms::stands::{file_stand, first_stand};
+use nddl_terms::{Growth, Lexicon, Made, Meaning, Reading, Shape, Stand};
 use std::alloc::{AllocError, Global};
 
 // An object of the class.
@@ -112,26 +112,14 @@ fn base_shape(alloc: Global, reading: &Reading<'_>, base: &BaseType) -> Result<S
 }
 
 // A value that is known.
-fn known_number(stand: Option<Stand>) -> Option<i32>
+fn known_number(stand: Stand) -> Option<i32>
     ensures { result ≡ known_number stand }
 {
     match stand {
-        Some(
-            Stand::Value {
-                term: Term::Lit(value),
-                ..
-            },
-        ) => Some(value),
-        _ => None,
-    }
-}
-
-// What a name among the values of a set stands for.
-fn meaning_number(lexicon: &Lexicon, meaning: Option<Meaning>) -> Option<i32>
-    ensures { result ≡ meaning_number lexicon.now meaning }
-{
-    match meaning {
-        Some(Meaning::Scope(place)) => known_number(file_stand(lexicon, place)),
+        Stand::Value {
+            term: Term::Lit(value),
+            ..
+        } => Some(value),
         _ => None,
     }
 }
@@ -146,20 +134,25 @@ fn constant_number(constant: Constant) -> Option<i32>
     }
 }
 
-fn value_number(reading: &Reading<'_>, value: &Value) -> Option<i32>
-    ensures { result ≡ value_number (readings_of reading.now) value.now }
+fn value_number(
+    reading: &Reading<'_>,
+    turns: &[Made],
+    growth: &Growth,
+    value: &Value,
+) -> Option<i32>
+    ensures { result ≡ value_number (readings_of reading.now) turns.now growth.now value.now }
 {
     match value {
-        Value::Name(name) => meaning_number(reading.lexicon, reading.names.meaning(name.at)),
+        Value::Name(name) => known_number(first_stand(reading, turns, growth, name.at)),
         Value::Literal(literal) => constant_number(literal.constant),
     }
 }
 
 // An end of a range.
-fn end_number(reading: &Reading<'_>, value: &Value) -> i32
-    ensures { result ≡ range_end (readings_of reading.now) value.now }
+fn end_number(reading: &Reading<'_>, turns: &[Made], growth: &Growth, value: &Value) -> i32
+    ensures { result ≡ range_end (readings_of reading.now) turns.now growth.now value.now }
 {
-    match value_number(reading, value) {
+    match value_number(reading, turns, growth, value) {
         Some(number) => number,
         None => 0,
     }
@@ -169,30 +162,48 @@ fn end_number(reading: &Reading<'_>, value: &Value) -> i32
 fn value_numbers(
     alloc: Global,
     reading: &Reading<'_>,
+    turns: &[Made],
+    growth: &Growth,
     values: &[Value],
 ) -> Result<Vec<i32>, AllocError>
-    ensures { IfOk result (λ numbers. numbers.items ≡ filter_map (value_number (readings_of reading.now)) values.now) }
+    ensures { IfOk result (λ numbers. numbers.items
+        ≡ filter_map (value_number (readings_of reading.now) turns.now growth.now) values.now) }
 {
     let mut numbers = Vec::new(alloc);
     for value in values {
-        if let Some(number) = value_number(reading, value) {
+        if let Some(number) = value_number(reading, turns, growth, value) {
             numbers.push(number)?;
         }
     }
     Ok(numbers)
 }
 
-fn range_base(reading: &Reading<'_>, least: &Value, greatest: &Value) -> Result<Base, AllocError>
-    ensures { IfOk result (λ base. base ≡ range_base (readings_of reading.now) least.now greatest.now) }
+fn range_base(
+    reading: &Reading<'_>,
+    turns: &[Made],
+    growth: &Growth,
+    least: &Value,
+    greatest: &Value,
+) -> Result<Base, AllocError>
+    ensures { IfOk result (λ base. base
+        ≡ range_base (readings_of reading.now) turns.now growth.now least.now greatest.now) }
 {
-    let domain = range(end_number(reading, least), end_number(reading, greatest))?;
+    let least = end_number(reading, turns, growth, least);
+    let greatest = end_number(reading, turns, growth, greatest);
+    let domain = range(least, greatest)?;
     Ok(Base::Given(domain))
 }
 
-fn set_base(alloc: Global, reading: &Reading<'_>, values: &[Value]) -> Result<Base, AllocError>
-    ensures { IfOk result (λ base. base ≡ set_base (readings_of reading.now) values.now) }
+fn set_base(
+    alloc: Global,
+    reading: &Reading<'_>,
+    turns: &[Made],
+    growth: &Growth,
+    values: &[Value],
+) -> Result<Base, AllocError>
+    ensures { IfOk result (λ base. base ≡ set_base (readings_of reading.now) turns.now growth.now values.now) }
 {
-    let numbers = value_numbers(alloc, reading, values)?;
+    let numbers = value_numbers(alloc, reading, turns, growth, values)?;
     Ok(Base::Given(set_of_values(alloc, numbers.as_slice())?))
 }
 
@@ -200,9 +211,11 @@ fn set_base(alloc: Global, reading: &Reading<'_>, values: &[Value]) -> Result<Ba
 fn bounds_base(
     alloc: Global,
     reading: &Reading<'_>,
+    turns: &[Made],
+    growth: &Growth,
     bounds: &Bounds,
 ) -> Result<Option<Base>, AllocError>
-    ensures { IfOk result (λ base. base ≡ bounds_base (readings_of reading.now) bounds.now) }
+    ensures { IfOk result (λ base. base ≡ bounds_base (readings_of reading.now) turns.now growth.now bounds.now) }
 {
     match bounds {
         Bounds::All => Ok(None),
@@ -210,8 +223,14 @@ fn bounds_base(
             least,
             greatest,
             ..
-        } => Ok(Some(range_base(reading, least, greatest)?)),
-        Bounds::Set { values, .. } => Ok(Some(set_base(alloc, reading, values.as_slice())?)),
+        } => Ok(Some(range_base(reading, turns, growth, least, greatest)?)),
+        Bounds::Set { values, .. } => Ok(Some(set_base(
+            alloc,
+            reading,
+            turns,
+            growth,
+            values.as_slice(),
+        )?)),
     }
 }
 
@@ -229,11 +248,17 @@ fn with_base(shape: Shape, base: Option<Base>) -> Shape
     }
 }
 
-/// What a variable of the type may be.
-pub fn type_shape(alloc: Global, reading: &Reading<'_>, written: &Type) -> Result<Shape, AllocError>
-    ensures { IfOk result (λ shape. shape ≡ type_shape (readings_of reading.now) written.now) }
+/// What a variable of the type may be in these turns, with what was made so far.
+pub fn type_shape(
+    alloc: Global,
+    reading: &Reading<'_>,
+    turns: &[Made],
+    growth: &Growth,
+    written: &Type,
+) -> Result<Shape, AllocError>
+    ensures { IfOk result (λ shape. shape ≡ type_shape (readings_of reading.now) turns.now growth.now written.now) }
 {
-    let base = bounds_base(alloc, reading, &written.bounds)?;
+    let base = bounds_base(alloc, reading, turns, growth, &written.bounds)?;
     let shape = base_shape(alloc, reading, &written.base)?;
     Ok(with_base(shape, base))
 }

@@ -33,11 +33,11 @@ pub object_placed : (facts : Facts) (decl : ℕ) (variable : Variable) (creation
     → entry ≡ named_number false facts.names variable.name.text
     → datum ≡ new_datum most_levels facts creation progress.so_far
     → named_objects ≡ with_named progress.named_objects entry datum
-    → (record { so_far = so_far; named_objects = named_objects; settings = progress.settings })
+    → (record { so_far = so_far; first = progress.first; named_objects = named_objects; settings = progress.settings })
     ≡ object_declared facts decl variable creation progress
 object_placed facts decl variable creation progress so_far named_objects slice entry datum is_slice made is_entry is_datum named =
     let joined : Construction → List NamedObject → Progress =
-    λ c s. record { so_far = c; named_objects = s; settings = progress.settings } in
+    λ c s. record { so_far = c; first = progress.first; named_objects = s; settings = progress.settings } in
     let number = named_number false facts.names variable.name.text in
     let over : List NamedObject → Grounds = λ s. record { facts = facts; named_objects = s } in
     let made_over : List NamedObject → Construction =

@@ -1,6 +1,6 @@
 -- Objects that are made one after another, and what is found to be wrong on the way.
 use Rattle.std.specs.Prelude.{ℕ, Bool, true, not, nat_lt, List, [], ◌∷◌, ◌++◌, Option, length, slice_get}
-use Rattle.std.specs.Prelude.{slice_set}
+use Rattle.std.specs.Prelude.{slice_set, if◌then◌else◌}
 use Rattle.std.specs.Option.{option_map_or}
 use Rattle.nddl_ast.specs.declared.kind.TextKind.{TextKind}
 use Rattle.nddl_ast.specs.declared.kind.TextKind.TheVariants as faults
@@ -18,7 +18,8 @@ use Rattle.nddl_objects.specs.declared.making.Subject as subject_code
 
 -- ---- where the making has got to
 
--- the objects so far, the earliest of what is wrong so far, and whether there were too many, or too deep in one another
+-- the objects so far, the earliest of what making them has met that is wrong, and whether there were too many, or too deep in
+-- one another
 pub record Construction : Type 0 where
   pub objects : List MadeObject
   pub first : Option Fault
@@ -100,14 +101,22 @@ too_many so_far place =
     }
 
 -- they are made too deep in one another
-abbrev pub too_nested : Construction → Place → Construction
-too_nested so_far place =
+abbrev pub too_deep : Construction → Place → Construction
+too_deep so_far place =
     record {
       objects = so_far.objects;
       first = earliest_fault so_far.first (first_of_kind so_far.is_deep place faults.LimitNew);
       is_full = so_far.is_full;
       is_deep = true;
     }
+
+-- there are too many, if one object more would be one too many
+abbrev pub counted : Construction → Place → Construction
+counted so_far place = if has_room so_far then so_far else too_many so_far place
+
+-- The object that comes next is too deep, and maybe one too many, too. Of these two at one place the second comes first.
+abbrev pub too_nested : Construction → Place → Construction
+too_nested so_far place = too_deep (counted so_far place) place
 
 -- ---- fields
 

@@ -1,12 +1,14 @@
 -- The objects of a program, in the order in which they are declared.
 use Rattle.std.specs.Prelude.{ℕ, ◌+◌, false, List, [], ◌∷◌, Option, Some, None, map, slice_set, if◌then◌else◌}
+use Rattle.std.specs.Option.{option_map_or}
 use Rattle.nddl_ast.specs.declared.declaration.Decl.{Decl}
 use Rattle.nddl_ast.specs.declared.declaration.Decl.TheVariants as decls
 use Rattle.nddl_ast.specs.declared.expression.Creation.{Creation}
 use Rattle.nddl_ast.specs.declared.expression.Init.{Init}
 use Rattle.nddl_ast.specs.declared.expression.Init.TheVariants as inits
 use Rattle.nddl_ast.specs.declared.statement.Variable.{Variable}
-use Rattle.nddl_symbols.specs.Finding.{earliest_fault}
+use Rattle.nddl_symbols.specs.declared.fault.Fault.{Fault}
+use Rattle.nddl_symbols.specs.Finding.{earlier_fault, earliest_fault}
 use Rattle.nddl_symbols.specs.Names.{is_config_sort, sort_of_variable}
 use Rattle.nddl_symbols.specs.Scope.{named_number}
 use Rattle.nddl_hierarchy.specs.Facts.{Facts}
@@ -15,16 +17,18 @@ use Rattle.nddl_construction.specs.declared.made.Datum.{Datum}
 use Rattle.nddl_construction.specs.declared.made.NamedObject.{NamedObject}
 use Rattle.nddl_construction.specs.declared.made.NamedObject.TheVariants as named
 use Rattle.nddl_construction.specs.Scene.{Grounds, Scenery}
-use Rattle.nddl_objects.specs.Construction.{Construction, construction_of, noted}
+use Rattle.nddl_objects.specs.Construction.{Construction, construction_of}
 use Rattle.nddl_objects.specs.Made.{made_by, new_datum, new_made}
 use Rattle.nddl_objects.specs.declared.objects.Program as code
 use Rattle.nddl_objects.specs.Settings.{setting_data, setting_faults_of}
 
 -- ---- where the making has got to
 
--- the objects so far, the object of each name of the files, and the values of the settings, if there are any
+-- the objects so far, with what making them has met; the earliest of what is wrong as it is written, or with what the
+-- settings stand for; the object of each name of the files; and the values of the settings, if there are any
 pub record Progress : Type 0 where
   pub so_far : Construction
+  pub first : Option Fault
   pub named_objects : List NamedObject
   pub settings : List (Option Datum)
 
@@ -32,9 +36,15 @@ abbrev pub progress_of : code.Program → Progress
 progress_of program =
     record {
       so_far = construction_of program.making;
+      first = program.first;
       named_objects = program.named_objects.items;
       settings = program.settings;
     }
+
+-- the earliest of all that is wrong so far
+abbrev pub progress_fault : Progress → Option Fault
+progress_fault progress =
+    option_map_or (λ fault. earlier_fault progress.first fault) progress.so_far.first progress.first
 
 abbrev pub progress_grounds : Facts → Progress → Grounds
 progress_grounds facts progress = record { facts = facts; named_objects = progress.named_objects }
@@ -61,6 +71,7 @@ object_declared facts decl variable creation progress =
     let entry = named_number false facts.names variable.name.text in
     record {
       so_far = new_made (made_by most_levels grounds) grounds (bare_scene decl) variable.name.text entry creation progress.so_far;
+      first = progress.first;
       named_objects = with_named progress.named_objects entry (new_datum most_levels facts creation progress.so_far);
       settings = progress.settings;
     }
@@ -70,7 +81,8 @@ abbrev pub settings_declared : Facts → ℕ → Creation → Progress → Progr
 settings_declared facts decl creation progress =
     let grounds = progress_grounds facts progress in
     record {
-      so_far = noted progress.so_far (setting_faults_of grounds (bare_scene decl) progress.so_far.objects creation);
+      so_far = progress.so_far;
+      first = earliest_fault progress.first (setting_faults_of grounds (bare_scene decl) progress.so_far.objects creation);
       named_objects = progress.named_objects;
       settings = setting_data grounds (bare_scene decl) progress.so_far.objects creation;
     }
@@ -102,14 +114,16 @@ first_progress facts =
     record {
       so_far = record {
         objects = [];
-        first = earliest_fault None (written_faults facts);
+        first = None;
         is_full = false;
         is_deep = false;
       };
+      first = earliest_fault None (written_faults facts);
       named_objects = map (λ name. named.Unmade) facts.names;
       settings = [];
     }
 
--- The objects that a program makes, and the earliest of all that is wrong with them.
+-- The objects that a program makes, the earliest of what making them meets, and the earliest of all else that is wrong with
+-- how they are made.
 unfoldable pub last_progress : Facts → Progress
 last_progress facts = all_declared facts 0 facts.program (first_progress facts)

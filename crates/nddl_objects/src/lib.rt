@@ -1,5 +1,5 @@
 //! Makes the objects of a program by running its constructors: `make_objects(alloc, basis)?`.
-//! In comes a `Basis`; out go objects, what each name stands for, settings, and the earliest fault (`Program`).
+//! In comes a `Basis`; out go objects, what each name stands for, settings, and the earliest faults (`Program`).
 //! Called by nddl_problem, which takes the objects into the model by `modelled_objects`.
 //! Knows nothing of rules, the lexicon and the problem. How constructors are run may change.
 #![tactic(auto)]

@@ -1,7 +1,7 @@
 //! Objects that are made one after another, and what is found to be wrong on the way.
 
-ghost use Rattle.std.specs.Prelude.{◌≡◌, [], false, length, OnOk};
-ghost use Rattle.nddl_objects.specs.Construction.{asked_of, object_begun, construction_of, field_added, has_room, subject_of, too_nested, too_many, with_field, with_set};
+ghost use Rattle.std.specs.Prelude.{◌≡◌, [], None, false, length, OnOk};
+ghost use Rattle.nddl_objects.specs.Construction.{asked_of, object_begun, construction_of, counted, field_added, has_room, subject_of, too_deep, too_many, too_nested, with_field, with_set};
 
 use eu_name::text::Text;
 use nddl_ast::TextKind;
@@ -16,7 +16,7 @@ pub const MOST_OBJECTS: usize = 4096;
 /// How deep constructors may make objects in one another. A `new` outside of constructors is 0 deep.
 pub const DEEPEST: usize = 16;
 
-/// The objects so far, and the earliest of what is wrong so far.
+/// The objects so far, and the earliest of what making them has met that is wrong.
 #[derive(Drop)]
 pub struct Making {
     pub objects: Vec<MadeObject>,
@@ -66,13 +66,13 @@ pub struct Frame<'a> {
 }
 
 impl Making {
-    /// No objects yet, where this is wrong first.
-    pub fn new(alloc: Global, first: Option<Fault>) -> Making
-        ensures { construction_of result ≡ record { objects = []; first = first; is_full = false; is_deep = false } }
+    /// No objects yet.
+    pub fn new(alloc: Global) -> Making
+        ensures { construction_of result ≡ record { objects = []; first = None; is_full = false; is_deep = false } }
     {
         Making {
             objects: Vec::new(alloc),
-            first,
+            first: None,
             is_full: false,
             is_deep: false,
         }
@@ -106,9 +106,9 @@ impl Making {
         self.is_full = true;
     }
 
-    /// Notes that objects are made too deep in one another, unless it is known.
-    pub fn note_too_deep(&mut self, place: Place)
-        ensures { construction_of self.new ≡ too_nested (construction_of self.old) place }
+    // Notes that objects are made too deep in one another, unless it is known.
+    fn note_too_deep(&mut self, place: Place)
+        ensures { construction_of self.new ≡ too_deep (construction_of self.old) place }
     {
         let is_first = !self.is_deep;
         note_at(
@@ -118,6 +118,23 @@ impl Making {
             kind_if(is_first, TextKind::LimitNew),
         );
         self.is_deep = true;
+    }
+
+    // Notes that there are too many objects, if one more would be one too many.
+    fn note_counted(&mut self, place: Place)
+        ensures { construction_of self.new ≡ counted (construction_of self.old) place }
+    {
+        if !self.has_room() {
+            self.note_too_many(place);
+        }
+    }
+
+    /// Notes that the object that comes next is too deep, and that it is one too many, if it is that as well.
+    pub fn note_too_nested(&mut self, place: Place)
+        ensures { construction_of self.new ≡ too_nested (construction_of self.old) place }
+    {
+        self.note_counted(place);
+        self.note_too_deep(place);
     }
 
     /// Begins the object that is asked for.

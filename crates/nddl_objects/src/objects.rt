@@ -9,7 +9,7 @@ ghost use Rattle.nddl_construction.specs.Kept.{AreFieldTypes};
 ghost use Rattle.nddl_construction.specs.Builders.{AreBuilders};
 ghost use Rattle.nddl_objects.specs.Construction.{construction_of};
 ghost use Rattle.nddl_objects.specs.Made.{made_by, new_datum, new_made};
-ghost use Rattle.nddl_objects.specs.Objects.{all_declared, bare_scene, one_declared, last_progress, init_declared, most_levels, new_declared, object_declared, settings_declared, progress_of, with_named};
+ghost use Rattle.nddl_objects.specs.Objects.{all_declared, bare_scene, one_declared, last_progress, init_declared, most_levels, new_declared, object_declared, settings_declared, progress_fault, progress_of, with_named};
 
 use super::settings::read_settings;
 use crate::making::DEEPEST;
@@ -21,8 +21,9 @@ use nddl_ast::statement::Variable;
 use nddl_construction::{Builders, Datum, FieldTypes, Ground, NamedObject, Scene};
 use nddl_constructors::note_written;
 use nddl_hierarchy::Basis;
-use nddl_symbols::Declared;
 use nddl_symbols::declared::variable_sort;
+use nddl_symbols::fault::note;
+use nddl_symbols::{Declared, Fault};
 use std::alloc::{AllocError, Global};
 
 /// The objects of a program so far, the object of each of its names, and the values of the settings, none where there are
@@ -30,8 +31,23 @@ use std::alloc::{AllocError, Global};
 #[derive(Drop)]
 pub struct Program {
     pub making: Making,
+    /// The earliest of what is wrong as it is written, or with what the settings stand for.
+    pub first: Option<Fault>,
     pub named_objects: Vec<NamedObject>,
     pub settings: Sequence<Option<Datum>>,
+}
+
+impl Program {
+    /// The earliest of all that is wrong so far.
+    pub fn first_fault(&self) -> Option<Fault>
+        ensures { result ≡ progress_fault (progress_of self.now) }
+    {
+        let mut first = self.first;
+        if let Some(fault) = self.making.first {
+            note(&mut first, fault);
+        }
+        first
+    }
 }
 
 fn scene_of<'a>(decl: usize) -> Scene<'a>
@@ -142,7 +158,7 @@ fn declare_settings(
         &scene_of(decl),
         program.making.objects.as_slice(),
         creation,
-        &mut program.making.first,
+        &mut program.first,
     )?;
     Ok(())
 }
@@ -229,7 +245,8 @@ fn unmade(alloc: Global, names: &[Declared]) -> Result<Vec<NamedObject>, AllocEr
     Ok(named_objects)
 }
 
-/// Makes the objects of a program of which this is known, and finds the earliest of all that is wrong with them.
+/// Makes the objects of a program of which this is known, and finds the earliest of what making them meets, and of all else
+/// that is wrong with how they are made.
 pub fn make_objects(alloc: Global, basis: &Basis<'_>) -> Result<Program, AllocError>
     ensures { IfOk result (λ program. progress_of program ≡ last_progress (facts_of basis.now)) }
 {
@@ -278,7 +295,8 @@ fn make_all(alloc: Global, findings: &ClassFindings<'_>) -> Result<Program, Allo
     note_written(alloc, &findings.basis, &mut first)?;
     let named_objects = unmade(alloc, findings.basis.types.scope.names())?;
     let mut program = Program {
-        making: Making::new(alloc, first),
+        making: Making::new(alloc),
+        first,
         named_objects,
         settings: Sequence::new(alloc),
     };

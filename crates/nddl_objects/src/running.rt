@@ -263,7 +263,7 @@ fn make(
         ≡ made_by levels (grounds_in blueprint.now) (asked_of request.now) (construction_of making.old)) }
 {
     if levels == 0 {
-        making.note_too_deep(request.place);
+        making.note_too_nested(request.place);
         Ok(())
     } else if making.has_room() {
         let subject = Subject {

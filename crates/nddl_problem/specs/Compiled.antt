@@ -5,6 +5,7 @@ use Rattle.nddl_symbols.specs.Joined.{joined_sites}
 use Rattle.nddl_symbols.specs.declared.fault.Fault.{Fault}
 use Rattle.nddl_symbols.specs.Finding.{earliest_fault}
 use Rattle.nddl_types.specs.Classes.{enums_of}
+use Rattle.nddl_objects.specs.Objects.{progress_fault}
 use Rattle.nddl_unroll.specs.Weighing.{tree_limits}
 use Rattle.nddl_instance.specs.Modelled.{modelled_classes, modelled_preds}
 use Rattle.nddl_unroll.specs.Rules.{tree_rules}
@@ -25,7 +26,7 @@ problem_faults known =
 
 -- The earliest of these and of all that is wrong with the objects.
 abbrev pub problem_fault : Known → Option Fault
-problem_fault known = earliest_fault (progress_known known).so_far.first (problem_faults known)
+problem_fault known = earliest_fault (progress_fault (progress_known known)) (problem_faults known)
 
 -- ---- the model
 

@@ -39,7 +39,7 @@ pub fn find_fault(alloc: Global, outline: &Outline<'_>) -> Result<Option<Fault>,
     requires { IsOutlined outline.now }
     ensures { IfOk result (λ fault. fault ≡ problem_fault (known_of outline.now)) }
 {
-    let mut first = outline.made.making.first;
+    let mut first = outline.made.first_fault();
     note_problem(alloc, outline, &mut first)?;
     Ok(first)
 }

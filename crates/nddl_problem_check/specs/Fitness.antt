@@ -55,11 +55,11 @@ is_void_stand lexicon stand = false
 abbrev pub placed_stand : Lexicon → Noted → List ℕ → Option Stand
 placed_stand lexicon scope name = option_and_then (file_stand lexicon) (noted_number scope name)
 
--- what is wrong with a root whose label the scope of the files has: nothing is left for it, though all objects are made
+-- what is wrong with a root whose label the scope of the files has: nothing is left for it, though the objects are fine
 abbrev pub void_root_faults : Lexicon → Noted → Bool → ℕ → Ask → List Fault
-void_root_faults lexicon scope are_made decl ask =
+void_root_faults lexicon scope are_fine decl ask =
     faults_here decl ask.word.at
-    (fault_if (are_made && is_void_stand lexicon (placed_stand lexicon scope ask.label.text)) faults.NotInDomain)
+    (fault_if (are_fine && is_void_stand lexicon (placed_stand lexicon scope ask.label.text)) faults.NotInDomain)
 
 -- ---- what globals begin as
 
@@ -79,13 +79,13 @@ foreign_begun_faults grounds objects decl variable init = []
 -- ---- the program
 
 -- what is known once objects are made: what names stand for, the objects, the lexicon, the places of names in its scope,
--- and whether nothing is wrong with the objects
+-- and the earliest of what making the objects has met that is wrong
 pub record Outset : Type 0 where
   pub grounds : Grounds
   pub objects : List MadeObject
   pub lexicon : Lexicon
   pub scope : Noted
-  pub are_made : Bool
+  pub met : Option Fault
 
 -- that which the code keeps
 abbrev pub outset_at : code.Start → Outset
@@ -94,17 +94,18 @@ outset_at start = record {
   objects = start.objects.now;
   lexicon = start.lexicon.now;
   scope = start.scope.now;
-  are_made = start.are_made;
+  met = start.met;
 }
 
--- what is wrong with the declaration of this number, now that objects are made
-abbrev pub unfit_decl_faults : Outset → ℕ → Decl → List Fault
-unfit_decl_faults outset decl (decls.Variable variable) =
+-- what is wrong with the declaration of this number, now that objects are made, and are fine or not
+abbrev pub unfit_decl_faults : Outset → Bool → ℕ → Decl → List Fault
+unfit_decl_faults outset are_fine decl (decls.Variable variable) =
     foreign_begun_faults outset.grounds outset.objects decl variable variable.init
-unfit_decl_faults outset decl (decls.Ask ask) = void_root_faults outset.lexicon outset.scope outset.are_made decl ask
-unfit_decl_faults outset decl other = []
+unfit_decl_faults outset are_fine decl (decls.Ask ask) =
+    void_root_faults outset.lexicon outset.scope are_fine decl ask
+unfit_decl_faults outset are_fine decl other = []
 
-abbrev pub unfit_faults_from : Outset → ℕ → List Decl → List Fault
-unfit_faults_from outset number [] = []
-unfit_faults_from outset number (decl ∷ more) =
-    unfit_decl_faults outset number decl ++ unfit_faults_from outset (number + 1) more
+abbrev pub unfit_faults_from : Outset → Bool → ℕ → List Decl → List Fault
+unfit_faults_from outset are_fine number [] = []
+unfit_faults_from outset are_fine number (decl ∷ more) =
+    unfit_decl_faults outset are_fine number decl ++ unfit_faults_from outset are_fine (number + 1) more

@@ -5,3 +5,4 @@ pub mod Fitness
 pub mod Limits
 pub mod Made
 pub mod Posts
+pub mod Sound

@@ -1,5 +1,5 @@
 -- What is wrong with a problem that only its objects tell, and the limits that its roots, facts and globals pass.
-use Rattle.std.specs.Prelude.{ℕ, List, [], ◌∷◌, ◌++◌, is_none, slice_get}
+use Rattle.std.specs.Prelude.{ℕ, List, [], ◌∷◌, ◌++◌, slice_get}
 use Rattle.std.specs.Option.{option_map_or}
 use Rattle.nddl_ast.specs.declared.kind.TextKind.{TextKind}
 use Rattle.nddl_ast.specs.declared.kind.TextKind.TheVariants as faults
@@ -12,6 +12,7 @@ use Rattle.nddl_terms.specs.declared.lexicon.Lexicon.{Lexicon}
 use Rattle.nddl_problem_check.specs.Fitness.{Outset, unfit_faults_from}
 use Rattle.nddl_problem_check.specs.Made.{making_places}
 use Rattle.nddl_problem_check.specs.Posts.{fact_places, global_places, posting_places}
+use Rattle.nddl_problem_check.specs.Sound.{are_sound}
 
 -- a fault of the kind at the one of these places that comes behind so many of them, if there is one
 abbrev pub past_faults : TextKind → ℕ → List Place → List Fault
@@ -36,10 +37,14 @@ outset_of facts progress lexicon scope = record {
   objects = progress.so_far.objects;
   lexicon = lexicon;
   scope = scope;
-  are_made = is_none progress.so_far.first;
+  met = progress.so_far.first;
 }
+
+-- all that is wrong with a problem that only its objects tell; if something is wrong with these, no root is void
+abbrev pub unfit_faults : Outset → List Fault
+unfit_faults outset = unfit_faults_from outset (are_sound outset) 0 outset.grounds.facts.program
 
 -- all that is wrong with a problem that only its objects tell, and the limits that it passes, but for those of rules
 abbrev pub problem_limit_faults : Facts → Progress → Lexicon → Noted → List Fault
 problem_limit_faults facts progress lexicon scope =
-    unfit_faults_from (outset_of facts progress lexicon scope) 0 facts.program ++ count_faults facts
+    unfit_faults (outset_of facts progress lexicon scope) ++ count_faults facts

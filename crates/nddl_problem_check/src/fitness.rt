@@ -32,8 +32,8 @@ pub struct Start<'a> {
     pub lexicon: &'a Lexicon,
     /// The places of names in the scope of the lexicon.
     pub scope: &'a NameIndex,
-    /// Nothing is wrong with the objects.
-    pub are_made: bool,
+    /// The earliest of what making the objects has met that is wrong.
+    pub met: Option<Fault>,
 }
 
 fn is_void_base(base: &Base) -> bool
@@ -45,8 +45,8 @@ fn is_void_base(base: &Base) -> bool
     }
 }
 
-// Whether the class has no object.
-fn is_void_class(lexicon: &Lexicon, class: u32) -> bool
+/// Whether the class has no object.
+pub fn is_void_class(lexicon: &Lexicon, class: u32) -> bool
     ensures { result ≡ is_void_class lexicon.now class }
 {
     lexicon.objects(class).is_empty()
@@ -80,8 +80,8 @@ fn is_void_stand(lexicon: &Lexicon, stand: Option<Stand>) -> bool
     }
 }
 
-// What the name stands for, if it has a place in the scope. There is no memory for 2^32 names.
-fn placed_stand(
+/// What the name stands for, if it has a place in the scope. There is no memory for 2^32 names.
+pub fn placed_stand(
     lexicon: &Lexicon,
     scope: &NameIndex,
     name: &Text,
@@ -94,18 +94,19 @@ fn placed_stand(
     }
 }
 
-// Notes that nothing is left for a root, if that is so.
+// Notes that nothing is left for a root, if that is so and the objects are fine.
 fn note_void_root(
     start: &Start<'_>,
+    are_fine: bool,
     decl: usize,
     ask: &Ask,
     first: &mut Option<Fault>,
 ) -> Result<(), AllocError>
     ensures { OnOk result (first.new ≡ earliest_fault first.old
-        (void_root_faults start.now.lexicon.now start.now.scope.now start.now.are_made decl ask.now)) }
+        (void_root_faults start.now.lexicon.now start.now.scope.now are_fine decl ask.now)) }
 {
     let stand = placed_stand(start.lexicon, start.scope, &ask.label.text)?;
-    let is_void = start.are_made && is_void_stand(start.lexicon, stand);
+    let is_void = are_fine && is_void_stand(start.lexicon, stand);
     note_at(
         first,
         decl,
@@ -169,19 +170,21 @@ fn note_foreign_begun(
     }
 }
 
-// Notes what is wrong with the declaration of this number, now that objects are made.
+// Notes what is wrong with the declaration of this number, now that objects are made, and are fine or not.
 fn note_unfit(
     alloc: Global,
     start: &Start<'_>,
+    are_fine: bool,
     number: usize,
     decl: &Decl,
     first: &mut Option<Fault>,
 ) -> Result<(), AllocError>
-    ensures { OnOk result (first.new ≡ earliest_fault first.old (unfit_decl_faults (outset_at start.now) number decl.now)) }
+    ensures { OnOk result (first.new ≡ earliest_fault first.old
+        (unfit_decl_faults (outset_at start.now) are_fine number decl.now)) }
 {
     match decl {
         Decl::Variable(variable) => note_foreign_begun(alloc, start, number, variable, first),
-        Decl::Ask(ask) => note_void_root(start, number, ask, first),
+        Decl::Ask(ask) => note_void_root(start, are_fine, number, ask, first),
         _ => Ok(()),
     }
 }
@@ -191,14 +194,15 @@ fn note_unfit(
 pub fn note_all_unfit(
     alloc: Global,
     start: &Start<'_>,
+    are_fine: bool,
     decls: &[&Decl],
     first: &mut Option<Fault>,
 ) -> Result<(), AllocError>
     ensures { OnOk result (first.new ≡ earliest_fault first.old
-        (unfit_faults_from (outset_at start.now) 0 (map (λ decl. decl.now) decls.now))) }
+        (unfit_faults_from (outset_at start.now) are_fine 0 (map (λ decl. decl.now) decls.now))) }
 {
     for (number, decl) in decls.iter().enumerate() {
-        note_unfit(alloc, start, number, *decl, first)?;
+        note_unfit(alloc, start, are_fine, number, *decl, first)?;
     }
     Ok(())
 }

@@ -13,6 +13,7 @@ pub mod owners;
 pub mod posted;
 pub mod posts;
 pub mod roots;
+pub mod sound;
 pub mod texts;
 
 pub use acts::{Act, WrittenAct, act_named};

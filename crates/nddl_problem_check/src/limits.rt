@@ -4,12 +4,13 @@ ghost use Rattle.std.specs.Prelude.{◌≡◌, IfOk, OnOk, map};
 ghost use Rattle.nddl_symbols.specs.Finding.{earliest_fault};
 ghost use Rattle.nddl_hierarchy.specs.Facts.{facts_of};
 ghost use Rattle.nddl_objects.specs.Objects.{progress_of};
-ghost use Rattle.nddl_problem_check.specs.Fitness.{unfit_faults_from};
-ghost use Rattle.nddl_problem_check.specs.Limits.{all_global_places, count_faults, outset_of, past_faults, problem_limit_faults};
+ghost use Rattle.nddl_problem_check.specs.Fitness.{outset_at};
+ghost use Rattle.nddl_problem_check.specs.Limits.{all_global_places, count_faults, outset_of, past_faults, problem_limit_faults, unfit_faults};
 
 use super::fitness::{Start, note_all_unfit};
 use super::made::push_making_places;
 use super::posts::{fact_places, global_places, posting_places};
+use super::sound::are_sound;
 use eu_index::NameIndex;
 use nddl_ast::TextKind;
 use nddl_construction::Ground;
@@ -62,7 +63,19 @@ fn note_counts(
     Ok(())
 }
 
-// Notes what is wrong with declarations now that this has been made.
+// Notes what is wrong with declarations now that objects are made.
+fn note_unfit_at(
+    alloc: Global,
+    start: &Start<'_>,
+    first: &mut Option<Fault>,
+) -> Result<(), AllocError>
+    ensures { OnOk result (first.new ≡ earliest_fault first.old (unfit_faults (outset_at start.now))) }
+{
+    let are_fine = are_sound(alloc, start)?;
+    note_all_unfit(alloc, start, are_fine, start.footing.basis.decls, first)
+}
+
+// Notes it, where this has been made of the program.
 fn note_unfit_in(
     alloc: Global,
     basis: &Basis<'_>,
@@ -72,8 +85,7 @@ fn note_unfit_in(
     first: &mut Option<Fault>,
 ) -> Result<(), AllocError>
     ensures { OnOk result (first.new ≡ earliest_fault first.old
-        (unfit_faults_from (outset_of (facts_of basis.now) (progress_of program.now) lexicon.now scope.now)
-        0 (facts_of basis.now).program)) }
+        (unfit_faults (outset_of (facts_of basis.now) (progress_of program.now) lexicon.now scope.now))) }
 {
     let start = Start {
         footing: Ground {
@@ -83,9 +95,9 @@ fn note_unfit_in(
         objects: program.making.objects.as_slice(),
         lexicon,
         scope,
-        are_made: program.making.first.is_none(),
+        met: program.making.first,
     };
-    note_all_unfit(alloc, &start, basis.decls, first)
+    note_unfit_at(alloc, &start, first)
 }
 
 /// Notes all that is wrong with a problem that only its objects tell, and the limits that it passes, but for those of

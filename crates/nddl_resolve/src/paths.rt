@@ -104,8 +104,8 @@ fn first_denoted(
     }
 }
 
-// What the name means as a formal, a variable of `foreach`, a local or a label.
-fn near_denoted(around: &Around<'_>, name: &Text) -> Option<Denoted>
+/// What the name means as a formal, a variable of `foreach`, a local or a label.
+pub fn near_denoted(around: &Around<'_>, name: &Text) -> Option<Denoted>
     ensures { result ≡ near_denoted (around_of around.now) name.now }
 {
     last_in(around.formals, name)
@@ -124,8 +124,8 @@ fn last_in(seen: Option<&SeenNames>, name: &Text) -> Option<Denoted>
     }
 }
 
-// What the name means as a part of the token whose rule it is.
-fn own_denoted(basis: &Basis<'_>, around: &Around<'_>, name: &Text) -> Option<Denoted>
+/// What the name means as a part of the token whose rule it is.
+pub fn own_denoted(basis: &Basis<'_>, around: &Around<'_>, name: &Text) -> Option<Denoted>
     ensures { result ≡ own_denoted (facts_of basis.now) (around_of around.now) name.now }
 {
     token_part(basis, name, around.token?)

@@ -25,12 +25,12 @@ use Rattle.nddl_resolve.specs.Following.{Understood, or_faulty}
 use Rattle.nddl_rule_check.specs.Arguments.{condition_faults, init_faults}
 use Rattle.nddl_rule_check.specs.Calls.{rule_call_faults}
 use Rattle.nddl_rule_check.specs.Slots.{ask_faults, labelled_slot}
-use Rattle.nddl_declarations.specs.Known.{all_type_faults}
 use Rattle.nddl_symbols.specs.Repeats.{repeated_fault}
 use Rattle.nddl_rule_check.specs.declared.visible.SeenUntil.{SeenUntil}
 use Rattle.nddl_rule_check.specs.Blocks.{block_faults, local_faults, local_value, slot_faults, slot_value, turn_faults, turn_value}
 use Rattle.nddl_rule_check.specs.Rules.{all_rule_faults, decl_rule_faults, member_rule_faults, members_rule_faults}
 use Rattle.nddl_rule_check.specs.Seeing.{SeesMore, seen_until, until_of, seeing_label, seeing_local, seeing_turn}
+use Rattle.nddl_rule_check.specs.Types.{local_type_faults}
 use Rattle.nddl_rule_check.proofs.Seeing.{forgotten, sees_label, sees_local, sees_same, sees_turn}
 
 -- the item that is read, and those behind it
@@ -257,16 +257,17 @@ turn_forgotten around inner after new until variable meant until_is inner_is aft
     forgotten around after new until until_is (subst (SeesMore around) (sym (after_is ∙ inner_is)) (sees_turn around variable meant)) new_is
 
 -- a local's type, its name and what it begins as have been dealt with
-pub local_step : {X E : Type 0} (facts : Facts) (decl : ℕ) (around lent : Surroundings) (own : Noted) (variable : Variable)
+pub local_step : {X E : Type 0} (facts : Facts) (decl : ℕ) (around typed lent : Surroundings) (own : Noted) (variable : Variable)
     (one two three four : Option Fault) (result : Result X E)
-    → two ≡ earliest_fault one (all_type_faults facts decl variable.declared)
+    → typed ≡ around → two ≡ earliest_fault one (local_type_faults facts typed decl variable.declared)
     → three ≡ earliest_fault two (repeated_fault decl own variable.name) → lent ≡ around
     → four ≡ earliest_fault three (init_faults facts lent decl variable.declared variable.init)
     → OnOk result (four ≡ earliest_fault one (local_faults facts around decl own variable))
-local_step facts decl around lent own variable one two three four (Err e) type_is name_is lent_is init_is = tt
-local_step facts decl around lent own variable one two three four (Ok done) type_is name_is lent_is init_is =
+local_step facts decl around typed lent own variable one two three four (Err e) typed_is type_is name_is lent_is init_is = tt
+local_step facts decl around typed lent own variable one two three four (Ok done) typed_is type_is name_is lent_is init_is =
     let init = init_faults facts around decl variable.declared variable.init in
-    noted_both (all_type_faults facts decl variable.declared) (repeated_fault decl own variable.name ++ init) one two four type_is
+    noted_both (local_type_faults facts around decl variable.declared) (repeated_fault decl own variable.name ++ init) one two four
+    (type_is ∙ ap (λ a. earliest_fault one (local_type_faults facts a decl variable.declared)) typed_is)
     (noted_both (repeated_fault decl own variable.name) init two three four name_is
     (init_is ∙ ap (λ a. earliest_fault three (init_faults facts a decl variable.declared variable.init)) lent_is))
 

@@ -12,7 +12,6 @@ use Rattle.nddl_symbols.specs.Repeats.{repeated_fault}
 use Rattle.nddl_symbols.specs.Scope.{meaning_of}
 use Rattle.nddl_typeexpr.specs.declared.kind.TypeKind.TheVariants as kinds
 use Rattle.nddl_hierarchy.specs.Facts.{Facts}
-use Rattle.nddl_declarations.specs.Known.{all_type_faults}
 use Rattle.nddl_declarations.specs.Classes.{class_meaning_fault}
 use Rattle.nddl_resolve.specs.declared.denoted.Denoted.{Denoted}
 use Rattle.nddl_resolve.specs.declared.denoted.Denoted.TheVariants as denoted
@@ -23,13 +22,14 @@ use Rattle.nddl_rule_check.specs.Arguments.{condition_faults, init_faults}
 use Rattle.nddl_rule_check.specs.Calls.{rule_call_faults}
 use Rattle.nddl_rule_check.specs.Slots.{ask_faults, labelled_slot}
 use Rattle.nddl_rule_check.specs.Seeing.{seeing_label, seeing_local, seeing_turn}
+use Rattle.nddl_rule_check.specs.Types.{local_type_faults}
 
 -- ---- single statements
 
 -- what is wrong with a local, in a block that has these names so far: its type, its name, and what it begins as
 abbrev pub local_faults : Facts → Surroundings → ℕ → Noted → Variable → List Fault
 local_faults facts around decl own variable =
-    all_type_faults facts decl variable.declared
+    local_type_faults facts around decl variable.declared
     ++ (repeated_fault decl own variable.name ++ init_faults facts around decl variable.declared variable.init)
 
 -- what the name of a local means behind it

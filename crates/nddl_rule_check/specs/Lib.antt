@@ -2,6 +2,7 @@ pub mod Arguments
 pub mod Calls
 pub mod Constraints
 pub mod Slots
+pub mod Types
 pub mod Values
 pub mod Blocks
 pub mod Rules

@@ -11,12 +11,12 @@ ghost use Rattle.nddl_rule_check.specs.Blocks.{block_faults, local_faults, local
 ghost use Rattle.nddl_rule_check.specs.Seeing.{SeesMore, seeing_label, seeing_local, seeing_turn};
 
 use super::visible::Visible;
-use crate::{labelled_slot, note_ask, note_condition, note_init, note_rule_call};
+use crate::{labelled_slot, note_ask, note_condition, note_init, note_local_type, note_rule_call};
 use eu_index::NameIndex;
 use nddl_ast::TextKind;
 use nddl_ast::name::Name;
 use nddl_ast::statement::{Ask, Stmt, StmtBlock, Variable};
-use nddl_declarations::{class_fault, note_all_type_faults};
+use nddl_declarations::class_fault;
 use nddl_hierarchy::Spot;
 use nddl_resolve::Denoted;
 use nddl_resolve::denoted::or_faulty;
@@ -199,7 +199,7 @@ fn note_local(
         ≡ seeing_local visible.old variable.now.name (local_value (facts_of spot.now.basis) variable.now)) }
     ensures noted { OnOk result (own.new ≡ with_noted own.old variable.now.name.text 0) }
 {
-    note_all_type_faults(alloc, &spot.basis, spot.decl, &variable.declared, first)?;
+    note_local_type(alloc, spot, &visible.around(), &variable.declared, first)?;
     note_repeated(own, spot.decl, &variable.name, first)?;
     note_init(
         alloc,

@@ -80,7 +80,7 @@ front_meaning sources sight name =
 abbrev pub scope_read : Noted → Name → List ReadName
 scope_read scope name = read_at name.at (scope_meaning scope name.text)
 
--- a name at the front of a path
+-- a name at the front of a path, or among the values of a type
 abbrev pub front_read : NameSources → Sight → Name → List ReadName
 front_read sources sight name = read_at name.at (front_meaning sources sight name.text)
 
@@ -93,23 +93,23 @@ expr_read sources sight (exprs.Literal literal) = []
 abbrev pub exprs_read : NameSources → Sight → List Expr → List ReadName
 exprs_read sources sight some = flat_map (expr_read sources sight) some
 
--- ---- types, in which nothing is found that the text declares
+-- ---- types, which are names of the files, with values that are names like any other
 
 abbrev pub base_read : Noted → BaseType → List ReadName
 base_read scope (bases.Named name) = scope_read scope name
 base_read scope base = []
 
-abbrev pub value_read : Noted → Value → List ReadName
-value_read scope (values.Name name) = scope_read scope name
-value_read scope (values.Literal literal) = []
+abbrev pub value_read : NameSources → Sight → Value → List ReadName
+value_read sources sight (values.Name name) = front_read sources sight name
+value_read sources sight (values.Literal literal) = []
 
-abbrev pub bounds_read : Noted → Bounds → List ReadName
-bounds_read scope bounds.All = []
-bounds_read scope (bounds.Range at least greatest) = value_read scope least ++ value_read scope greatest
-bounds_read scope (bounds.Set at some) = flat_map (value_read scope) some
+abbrev pub bounds_read : NameSources → Sight → Bounds → List ReadName
+bounds_read sources sight bounds.All = []
+bounds_read sources sight (bounds.Range at least greatest) = value_read sources sight least ++ value_read sources sight greatest
+bounds_read sources sight (bounds.Set at some) = flat_map (value_read sources sight) some
 
-abbrev pub type_read : Noted → types.Type → List ReadName
-type_read scope type = base_read scope type.base ++ bounds_read scope type.bounds
+abbrev pub type_read : NameSources → Sight → types.Type → List ReadName
+type_read sources sight type = base_read sources.scope type.base ++ bounds_read sources sight type.bounds
 
 -- ---- parts of statements
 
@@ -121,7 +121,7 @@ init_read sources sight (Some (inits.New creation)) = []
 
 -- a local, which isn't seen yet
 abbrev pub local_read : NameSources → Sight → Variable → List ReadName
-local_read sources sight variable = type_read sources.scope variable.declared ++ init_read sources sight variable.init
+local_read sources sight variable = type_read sources sight variable.declared ++ init_read sources sight variable.init
 
 -- the path of a relation with a label; a predicate alone isn't looked up
 abbrev pub asked_read : NameSources → Sight → Name → List Name → List ReadName

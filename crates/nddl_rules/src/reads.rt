@@ -123,7 +123,7 @@ pub fn push_scope_read(
     push_read(name.at, meaning, names)
 }
 
-// Puts a name at the front of a path at the end.
+// Puts a name at the front of a path, or among the values of a type, at the end.
 fn push_front_read(
     sources: &NameSources<'_>,
     sight: &Sight,
@@ -172,14 +172,15 @@ pub fn push_exprs_read(
 
 // Puts what is read in a type at the end.
 fn push_type_read(
-    scope: &NameIndex,
+    sources: &NameSources<'_>,
+    sight: &Sight,
     declared: &Type,
     names: &mut Sequence<ReadName>,
 ) -> Result<(), AllocError>
-    ensures { OnOk result (names.new ≡ names.old ++ type_read scope.now declared.now) }
+    ensures { OnOk result (names.new ≡ names.old ++ type_read (sources_of sources.now) sight.now declared.now) }
 {
-    push_base_read(scope, &declared.base, names)?;
-    push_bounds_read(scope, &declared.bounds, names)
+    push_base_read(sources.scope, &declared.base, names)?;
+    push_bounds_read(sources, sight, &declared.bounds, names)
 }
 
 fn push_base_read(
@@ -196,11 +197,12 @@ fn push_base_read(
 }
 
 fn push_bounds_read(
-    scope: &NameIndex,
+    sources: &NameSources<'_>,
+    sight: &Sight,
     bounds: &Bounds,
     names: &mut Sequence<ReadName>,
 ) -> Result<(), AllocError>
-    ensures { OnOk result (names.new ≡ names.old ++ bounds_read scope.now bounds.now) }
+    ensures { OnOk result (names.new ≡ names.old ++ bounds_read (sources_of sources.now) sight.now bounds.now) }
 {
     match bounds {
         Bounds::All => Ok(()),
@@ -209,35 +211,38 @@ fn push_bounds_read(
             greatest,
             ..
         } => {
-            push_value_read(scope, least, names)?;
-            push_value_read(scope, greatest, names)
+            push_value_read(sources, sight, least, names)?;
+            push_value_read(sources, sight, greatest, names)
         }
-        Bounds::Set { values, .. } => push_values_read(scope, values.as_slice(), names),
+        Bounds::Set { values, .. } => push_values_read(sources, sight, values.as_slice(), names),
     }
 }
 
 fn push_values_read(
-    scope: &NameIndex,
+    sources: &NameSources<'_>,
+    sight: &Sight,
     values: &[Value],
     names: &mut Sequence<ReadName>,
 ) -> Result<(), AllocError>
-    ensures { OnOk result (names.new ≡ names.old ++ flat_map (value_read scope.now) values.now) }
+    ensures { OnOk result (names.new
+        ≡ names.old ++ flat_map (value_read (sources_of sources.now) sight.now) values.now) }
 {
     for value in values {
-        push_value_read(scope, value, names)?;
+        push_value_read(sources, sight, value, names)?;
     }
     Ok(())
 }
 
 fn push_value_read(
-    scope: &NameIndex,
+    sources: &NameSources<'_>,
+    sight: &Sight,
     value: &Value,
     names: &mut Sequence<ReadName>,
 ) -> Result<(), AllocError>
-    ensures { OnOk result (names.new ≡ names.old ++ value_read scope.now value.now) }
+    ensures { OnOk result (names.new ≡ names.old ++ value_read (sources_of sources.now) sight.now value.now) }
 {
     match value {
-        Value::Name(name) => push_scope_read(scope, name, names),
+        Value::Name(name) => push_front_read(sources, sight, name, names),
         Value::Literal(_) => Ok(()),
     }
 }
@@ -253,7 +258,7 @@ pub fn push_local_read(
 ) -> Result<(), AllocError>
     ensures { OnOk result (names.new ≡ names.old ++ local_read (sources_of sources.now) sight.now variable.now) }
 {
-    push_type_read(sources.scope, &variable.declared, names)?;
+    push_type_read(sources, sight, &variable.declared, names)?;
     push_init_read(sources, sight, &variable.init, names)
 }
 

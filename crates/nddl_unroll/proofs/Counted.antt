@@ -71,7 +71,7 @@ arguments_add reading turns (expr ∷ more) growth sound known =
     growth next (given_arguments reading turns more next).growth first
     (arguments_add reading turns more next (first.sound sound) known)
 
-as_many : (reading : Readings) (turns : List Made) (some : List Expr) (growth : Growth)
+pub as_many : (reading : Readings) (turns : List Made) (some : List Expr) (growth : Growth)
     → length (given_arguments reading turns some growth).terms ≡ length some
 as_many reading turns [] growth = refl
 as_many reading turns (expr ∷ more) growth =
@@ -80,7 +80,7 @@ as_many reading turns (expr ∷ more) growth =
 -- ---- constraints
 
 -- how many two there are among these
-abbrev sum_pairs : List Expr → ℕ
+abbrev pub sum_pairs : List Expr → ℕ
 sum_pairs [] = 0
 sum_pairs (expr ∷ more) = length more + sum_pairs more
 
@@ -99,11 +99,11 @@ all_pairs (term ∷ given) (expr ∷ more) same =
     omega (arith, length-append (map (differ term) given) (all_differ given), length-map given (differ term), rest, fewer)
 
 -- how many items the constraint is
-abbrev sum_items : Kind → List Expr → ℕ
+abbrev pub sum_items : Kind → List Expr → ℕ
 sum_items kinds.AllDiff some = sum_pairs some
 sum_items kind some = 1
 
-items_are : (kind : Kind) (given : List Term) (some : List Expr) → length given ≡ length some → length (constraint_items kind given) ≡ sum_items kind some
+pub items_are : (kind : Kind) (given : List Term) (some : List Expr) → length given ≡ length some → length (constraint_items kind given) ≡ sum_items kind some
 items_are kinds.AllDiff given some same = all_pairs given some same
 items_are kind given some same = refl
 

@@ -28,9 +28,10 @@ use Rattle.nddl_unroll.specs.declared.amounts.Amounts.{Amounts}
 use Rattle.nddl_unroll.specs.Amounts.{amounts_and, amounts_times, no_amounts}
 use Rattle.nddl_unroll.specs.Counting.{counted_with, guard_amounts, stand_count, turn_count, turns_amounts}
 use Rattle.nddl_lower.specs.Arguments.{condition_guard}
+use Rattle.nddl_unroll.specs.Meant.{IsSlotStand}
 use Rattle.nddl_unroll.specs.Blocks.{all_turns, back_in, filled_block, in_block, stand_turns, turn_of, turn_stands, unrolled}
 use Rattle.nddl_unroll.proofs.Counted.{Counts, Enough, condition_adds, condition_counted, counts_and, sum_condition}
-use Rattle.nddl_unroll.proofs.Extras.{Adds, EachMade, Extra, IsKnownStand, IsNoClass, IsSlotStand, Sound, Within, adds_any, adds_then, adds_within, each_more, extra_and, extra_reads, guards_append, items_append, no_extra}
+use Rattle.nddl_unroll.proofs.Extras.{Adds, EachMade, Extra, IsKnownStand, IsLocalStand, Sound, Within, adds_any, adds_then, adds_within, each_more, extra_and, extra_reads, guards_append, items_append, no_extra}
 use Rattle.nddl_unroll.proofs.Paths.{declared_is}
 use Rattle.nddl_unroll.proofs.Statements.{ask_enough, call_enough, local_enough}
 
@@ -77,11 +78,11 @@ before_others reading stmts more Step amounts enough rest steps counted = record
 
 -- ---- guards
 
-abbrev extra_guard : Extra
-extra_guard = record { slots = 0; locals = 0; items = 0; guards = 1 }
+abbrev pub extra_guard : Extra
+extra_guard = record { slots = 0; locals = 0; items = 0; guards = 1; turns = 0 }
 
 -- a guard of which the block behind `else` is empty
-branch_adds : (guard : Guard) (inside : Extra) (outer filled : Growth) → Adds inside (in_block outer) filled
+pub branch_adds : (guard : Guard) (inside : Extra) (outer filled : Growth) → Adds inside (in_block outer) filled
     → Adds (extra_and extra_guard inside) outer
     (with_last_entry (entries.Branch guard (filled_block filled) (plain_entries [])) (back_in outer.entries filled))
 branch_adds guard inside outer filled adds = record {
@@ -93,7 +94,7 @@ branch_adds guard inside outer filled adds = record {
       let inner = adds.sound (record { named = is.named; asked = is.asked; unnamed = is.unnamed }) in record { named = inner.named; asked = inner.asked; unnamed = inner.unnamed };
 }
 
-branches_add : (guard : Guard) (inside other : Extra) (outer filled second : Growth) → Adds inside (in_block outer) filled
+pub branches_add : (guard : Guard) (inside other : Extra) (outer filled second : Growth) → Adds inside (in_block outer) filled
     → Adds other (in_block filled) second
     → Adds (extra_and extra_guard (extra_and inside other)) outer
     (with_last_entry (entries.Branch guard (filled_block filled) (filled_block second)) (back_in outer.entries second))
@@ -114,7 +115,7 @@ branches_add guard inside other outer filled second adds more = record {
 }
 
 -- in a block nothing stands at first, and all else is as before
-in_sound : (growth : Growth) → Sound growth → Sound (in_block growth)
+pub in_sound : (growth : Growth) → Sound growth → Sound (in_block growth)
 in_sound growth is = record { named = is.named; asked = is.asked; unnamed = is.unnamed }
 
 guard_counted : (reading : Readings) (condition : Condition)
@@ -127,7 +128,7 @@ guard_counted reading condition =
 -- ---- turns
 
 -- the objects of the class that a name means
-abbrev meaning_turns : Lexicon → Option Meaning → List Stand
+abbrev pub meaning_turns : Lexicon → Option Meaning → List Stand
 meaning_turns lexicon (Some (meanings.Scope place)) = stand_turns lexicon (stand_or_nothing (file_stand lexicon place))
 meaning_turns lexicon (Some (meanings.BuiltIn class)) = stand_turns lexicon (stands.Class class)
 meaning_turns lexicon meaning = []
@@ -143,24 +144,24 @@ slot_no_turns : (lexicon : Lexicon) (stand : Stand) → IsSlotStand stand → st
 slot_no_turns lexicon (stands.Slot number pred) is = refl
 slot_no_turns lexicon stand is = absurd is
 
-no_class_no_turns : (lexicon : Lexicon) (stand : Stand) → IsNoClass stand → stand_turns lexicon stand ≡ []
-no_class_no_turns lexicon (stands.Class class) is = absurd is
-no_class_no_turns lexicon stand is = refl
+local_no_turns : (lexicon : Lexicon) (stand : Stand) → IsLocalStand stand → stand_turns lexicon stand ≡ []
+local_no_turns lexicon (stands.Value term class) is = refl
+local_no_turns lexicon stand is = absurd is
 
 no_turns : (P : Stand → Type 0) (lexicon : Lexicon) (found : Option Stand) → ((s : Stand) → found ≡ Some s → P s)
     → ((s : Stand) → P s → stand_turns lexicon s ≡ []) → stand_turns lexicon (stand_or_nothing found) ≡ []
 no_turns P lexicon None is none = refl
 no_turns P lexicon (Some stand) is none = none stand (is stand refl)
 
-turns_are : (reading : Readings) (turns : List Made) (growth : Growth) (found : Option Meaning) → Sound growth → EachMade IsKnownStand turns
+pub turns_are : (reading : Readings) (turns : List Made) (growth : Growth) (found : Option Meaning) → Sound growth → EachMade IsKnownStand turns
     → stand_turns reading.lexicon (stand_or_nothing (option_and_then (meaning_stand reading turns growth) found)) ≡ meaning_turns reading.lexicon found
 turns_are reading turns growth None sound known = refl
 turns_are reading turns growth (Some (meanings.Turn number)) sound known =
     no_turns IsKnownStand reading.lexicon (declared_stand reading.places.turns number turns)
     (λ s there. declared_is IsKnownStand reading.places.turns number turns s known there) (known_no_turns reading.lexicon)
 turns_are reading turns growth (Some (meanings.Local number)) sound known =
-    no_turns IsNoClass reading.lexicon (declared_stand reading.places.locals number growth.named)
-    (λ s there. declared_is IsNoClass reading.places.locals number growth.named s sound.named there) (no_class_no_turns reading.lexicon)
+    no_turns IsLocalStand reading.lexicon (declared_stand reading.places.locals number growth.named)
+    (λ s there. declared_is IsLocalStand reading.places.locals number growth.named s sound.named there) (local_no_turns reading.lexicon)
 turns_are reading turns growth (Some (meanings.Slot number)) sound known =
     no_turns IsSlotStand reading.lexicon (declared_stand reading.places.slots number growth.asked)
     (λ s there. declared_is IsSlotStand reading.places.slots number growth.asked s sound.asked there) (slot_no_turns reading.lexicon)
@@ -169,7 +170,7 @@ turns_are reading turns growth (Some (meanings.Scope place)) sound known = refl
 turns_are reading turns growth (Some (meanings.BuiltIn class)) sound known = refl
 
 -- each is known
-abbrev AreKnownStands : List Stand → Type 0
+abbrev pub AreKnownStands : List Stand → Type 0
 AreKnownStands [] = Unit {0}
 AreKnownStands (stand ∷ more) = IsKnownStand stand × AreKnownStands more
 
@@ -182,7 +183,7 @@ stand_known : (lexicon : Lexicon) (stand : Stand) → AreKnownStands (stand_turn
 stand_known lexicon (stands.Class class) = class_known class (class_objects lexicon class)
 stand_known lexicon stand = tt
 
-objects_known : (lexicon : Lexicon) (found : Option Meaning) → AreKnownStands (meaning_turns lexicon found)
+pub objects_known : (lexicon : Lexicon) (found : Option Meaning) → AreKnownStands (meaning_turns lexicon found)
 objects_known lexicon (Some (meanings.Scope place)) = stand_known lexicon (stand_or_nothing (file_stand lexicon place))
 objects_known lexicon (Some (meanings.BuiltIn class)) = stand_known lexicon (stands.Class class)
 objects_known lexicon found = tt
@@ -195,13 +196,13 @@ file_count lexicon None = refl
 file_count lexicon (Some (stands.Class class)) = class_count class (class_objects lexicon class)
 file_count lexicon (Some stand) = refl
 
-count_is : (lexicon : Lexicon) (found : Option Meaning) → turn_count lexicon found ≡ length (meaning_turns lexicon found)
+pub count_is : (lexicon : Lexicon) (found : Option Meaning) → turn_count lexicon found ≡ length (meaning_turns lexicon found)
 count_is lexicon (Some (meanings.Scope place)) = file_count lexicon (file_stand lexicon place)
 count_is lexicon (Some (meanings.BuiltIn class)) = class_count class (class_objects lexicon class)
 count_is lexicon found = refl
 
 -- so much for each of these objects
-abbrev extra_turns : List Stand → Extra → Extra
+abbrev pub extra_turns : List Stand → Extra → Extra
 extra_turns [] extra = no_extra
 extra_turns (object ∷ more) extra = extra_and extra (extra_turns more extra)
 
@@ -215,7 +216,7 @@ turns_add extra turn (object ∷ more) known adds growth sound =
     (turns_add extra turn more known.1 adds (turn object growth) (first.sound sound))
 
 -- one time more
-once_more : (count number : ℕ) → (count + 1) * number ≡ count * number + number
+pub once_more : (count number : ℕ) → (count + 1) * number ≡ count * number + number
 once_more count number = ap (λ n. n * number) (sym (suc-eq-add-one count)) ∙ suc-mul count number
 
 times_counted : (count extra rest amount : ℕ) → min extra (2 ^ 64 - 1) ≤ amount → min rest (2 ^ 64 - 1) ≤ min (count * amount) (2 ^ 64 - 1)
@@ -257,7 +258,7 @@ left_none : (extra : Extra) → Within extra (extra_and no_extra extra)
 left_none extra = record { slots = omega arith; locals = omega arith; items = omega arith; guards = omega arith }
 
 -- the block of a `foreach`, once for each object
-repeats_enough : (reading : Readings) (name class : Name) (body : Statements) → AllEnough reading body
+pub repeats_enough : (reading : Readings) (name class : Name) (body : Statements) → AllEnough reading body
     → Enough (λ turns growth. all_turns (λ object inner. unrolled reading (turns ++ turn_of name object ∷ []) body inner)
     (stand_turns reading.lexicon (first_stand reading turns growth class.at)) growth)
     (turns_amounts (turn_count reading.lexicon (name_read_at class.at reading.names)) (counted_with reading.lexicon reading.names body no_amounts))

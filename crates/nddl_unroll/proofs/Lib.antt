@@ -2,6 +2,10 @@ pub mod Steps
 pub mod CountingSteps
 pub mod CountedBlocks
 pub mod Counted
+pub mod ExactBlocks
+pub mod ExactPaths
+pub mod ExactStatements
+pub mod ExactTrees
 pub mod Extras
 pub mod Paths
 pub mod Statements

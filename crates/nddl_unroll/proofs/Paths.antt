@@ -20,8 +20,9 @@ use Rattle.nddl_terms.specs.Names.{name_read_at}
 use Rattle.nddl_terms.specs.Paths.{Reached, known_value, numbered_field, part_stand, reached, read_field, next_stand, rest_stand}
 use Rattle.nddl_terms.specs.Readings.{Readings}
 use Rattle.nddl_terms.specs.Stands.{declared_stand, file_stand, first_stand, latest_stand, meaning_stand, stand_if_at, stand_or_nothing}
+use Rattle.nddl_unroll.specs.Meant.{IsSlotStand}
 use Rattle.nddl_unroll.specs.Reads.{file_reads, front_reads, meaning_reads}
-use Rattle.nddl_unroll.proofs.Extras.{Adds, EachMade, IsKnownStand, IsSlotStand, Sound, Within, adds_access, adds_any, adds_then, adds_within, extra_and, extra_reads}
+use Rattle.nddl_unroll.proofs.Extras.{Adds, EachMade, IsKnownStand, Sound, Within, adds_access, adds_any, adds_then, adds_within, extra_and, extra_reads}
 
 -- of so many names behind what stands for this, how many read a field of a variable at most
 abbrev pub stand_reads : Stand → ℕ → ℕ
@@ -44,7 +45,7 @@ leads_nowhere : (bound count : ℕ) (growth : Growth) → LeadsOn bound count gr
 leads_nowhere bound count growth = record { first = 0; adds = adds_any (extra_reads 0) growth; rest = omega arith }
 
 -- what a known object has in a field is known
-known_field : (found : Option ℤ) (class count : ℕ) → stand_reads (option_map_or (λ content. Value (terms.Lit content) class) found Nothing) count ≡ 0
+pub known_field : (found : Option ℤ) (class count : ℕ) → stand_reads (option_map_or (λ content. Value (terms.Lit content) class) found Nothing) count ≡ 0
 known_field None class count = refl
 known_field (Some content) class count = refl
 

@@ -35,13 +35,14 @@ use Rattle.nddl_terms.specs.Names.{name_read_at}
 use Rattle.nddl_terms.specs.Stands.{file_stand, first_stand, meaning_stand, stand_or_nothing}
 use Rattle.nddl_unroll.specs.Amounts.{no_amounts, one_local, some_items}
 use Rattle.nddl_unroll.specs.Counting.{ask_amounts, asked_amounts, call_amounts, constraint_amounts, labelled_amounts, local_amounts, named_amounts, own_amounts, related_amounts, relation_amounts}
+use Rattle.nddl_unroll.specs.Meant.{IsSlotStand}
 use Rattle.nddl_unroll.specs.Reads.{begins_with_class, expr_reads, front_reads, is_class_meaning, is_class_stand}
 use Rattle.nddl_lower.specs.Arguments.{argument, with_constraint, with_items}
 use Rattle.nddl_lower.specs.Locals.{type_shape, with_begun, with_declared, with_named_at, with_text_local}
 use Rattle.nddl_lower.specs.Calls.{with_ask, with_call, with_constraint_named, with_related, with_relation_to}
 use Rattle.nddl_lower.specs.Slots.{asked_labelled, asked_nothing, asked_of_owner, asked_own, asked_path, object_items, pred_slot, wanted_of, with_asked, with_asked_at, with_relation, with_wanted_token}
 use Rattle.nddl_unroll.proofs.Counted.{Enough, constraint_enough, expr_adds}
-use Rattle.nddl_unroll.proofs.Extras.{Adds, EachMade, Extra, IsKnownStand, IsNoClass, IsSlotStand, Sound, adds_any, adds_item, adds_items, adds_local, adds_slot, adds_then, adds_within, each_more, extra_and, extra_items, extra_local, extra_reads, extra_slot, no_extra}
+use Rattle.nddl_unroll.proofs.Extras.{Adds, EachMade, Extra, IsKnownStand, IsLocalStand, Sound, adds_any, adds_item, adds_items, adds_local, adds_slot, adds_then, adds_within, each_more, extra_and, extra_items, extra_local, extra_reads, extra_slot, no_extra}
 use Rattle.nddl_unroll.proofs.Paths.{path_adds}
 
 -- nothing is added
@@ -63,7 +64,7 @@ adds_asked at number pred growth = record {
 }
 
 -- how many items say what the object of a slot equals
-abbrev object_count : Option Term → ℕ
+abbrev pub object_count : Option Term → ℕ
 object_count None = 0
 object_count (Some term) = 1
 
@@ -103,7 +104,7 @@ class_object reading class (next ∷ more) growth name =
     ap (λ stand. object_count (wanted_of reading.lexicon stand name).object) (nothing_more reading more growth)
 
 -- how many items say what the object equals, at most
-abbrev most_objects : Bool → ℕ
+abbrev pub most_objects : Bool → ℕ
 most_objects true = 0
 most_objects false = 1
 
@@ -117,7 +118,7 @@ file_class reading (Some (Class class)) names growth name is = class_object read
 file_class reading found names growth name is = absurd (cc)
 
 -- where a path begins with a class, the slot's object equals nothing
-class_first : (reading : Readings) (turns : List Made) (before : Growth) (found : Option Meaning) (names : List Name) (growth : Growth) (name : List ℕ)
+pub class_first : (reading : Readings) (turns : List Made) (before : Growth) (found : Option Meaning) (names : List Name) (growth : Growth) (name : List ℕ)
     → is_class_meaning reading.lexicon found ≡ true
     → object_count (wanted_of reading.lexicon
     (rest_stand reading (stand_or_nothing (option_and_then (meaning_stand reading turns before) found)) names growth).stand name).object ≡ 0
@@ -137,7 +138,7 @@ asked_adds lexicon at relation most (Some pred) object growth few =
     (record { slots = omega arith; locals = omega arith; items = omega (arith, few); guards = omega arith })
     (token_adds lexicon at relation pred object growth)
 
-abbrev path_extra : Readings → Path → Extra
+abbrev pub path_extra : Readings → Path → Extra
 path_extra reading path =
     extra_and (extra_reads (front_reads reading.lexicon reading.names path (length path.rest - 1)))
     (extra_and extra_slot (extra_items (most_objects (begins_with_class reading.lexicon reading.names path) + 1)))
@@ -162,7 +163,7 @@ last_adds reading turns at relation path (Some name) growth sound known =
     (path_adds reading turns path front (length path.rest - 1) growth fewer sound known)
     (asked_adds reading.lexicon at relation most wanted.pred wanted.object owner.growth few)
 
-items_for : (so : Bool) → most_objects so + 1 ≡ (if so then 1 else 2)
+pub items_for : (so : Bool) → most_objects so + 1 ≡ (if so then 1 else 2)
 items_for true = refl
 items_for false = refl
 
@@ -262,7 +263,7 @@ named_adds at number class growth = record {
   locals = omega arith;
   items = omega arith;
   guards = omega arith;
-  sound = λ is. record { named = each_more IsNoClass growth.named (record { at = at; stand = Value (terms.Local number) class }) is.named tt; asked = is.asked; unnamed = is.unnamed };
+  sound = λ is. record { named = each_more IsLocalStand growth.named (record { at = at; stand = Value (terms.Local number) class }) is.named tt; asked = is.asked; unnamed = is.unnamed };
 }
 
 declared_adds : (at : ℕ) (shape : Shape) (growth : Growth) → Adds extra_local growth (with_declared at shape growth)
@@ -271,30 +272,33 @@ declared_adds at shape growth =
     adds_then no_extra extra_local growth noted (with_declared at shape growth)
     (named_adds at (length growth.locals) shape.class growth) (adds_local shape noted)
 
-local_alone : (at : ℕ) (shape : Shape) → Enough (λ turns growth. with_declared at shape growth) one_local
+-- whatever the shape is in these turns, with what the rule has by then
+local_alone : (at : ℕ) (shape : List Made → Growth → Shape) → Enough (λ turns growth. with_declared at (shape turns growth) growth) one_local
 local_alone at shape = record {
   extra = extra_local;
-  adds = λ turns known growth sound. declared_adds at shape growth;
+  adds = λ turns known growth sound. declared_adds at (shape turns growth) growth;
   counts = record { slots = omega arith; locals = omega arith; items = omega arith; guards = omega arith };
 }
 
-begun_enough : (reading : Readings) (at : ℕ) (shape : Shape) (init : Option Init)
-    → Enough (λ turns growth. with_begun reading turns at shape init growth) (local_amounts reading.lexicon reading.names init)
+begun_enough : (reading : Readings) (at : ℕ) (shape : List Made → Growth → Shape) (init : Option Init)
+    → Enough (λ turns growth. with_begun reading turns at (shape turns growth) init growth) (local_amounts reading.lexicon reading.names init)
 begun_enough reading at shape None = local_alone at shape
 begun_enough reading at shape (Some (inits.New creation)) = local_alone at shape
 begun_enough reading at shape (Some (inits.Expr expr)) = record {
   extra = extra_and (extra_reads (expr_reads reading.lexicon reading.names expr)) (extra_and extra_local (extra_items 1));
   adds = λ turns known growth sound.
       let given = argument reading turns expr growth in
-      let declared = with_declared at shape given.growth in
+      let declared = with_declared at (shape turns growth) given.growth in
+      let begun = with_begun reading turns at (shape turns growth) (Some (inits.Expr expr)) growth in
       adds_then (extra_reads (expr_reads reading.lexicon reading.names expr)) (extra_and extra_local (extra_items 1)) growth given.growth
-      (with_begun reading turns at shape (Some (inits.Expr expr)) growth) (expr_adds reading turns expr growth sound known)
-      (adds_then extra_local (extra_items 1) given.growth declared (with_begun reading turns at shape (Some (inits.Expr expr)) growth)
-      (declared_adds at shape given.growth)
+      begun (expr_adds reading turns expr growth sound known)
+      (adds_then extra_local (extra_items 1) given.growth declared begun
+      (declared_adds at (shape turns growth) given.growth)
       (adds_item (Constraint Eq (terms.Local (length given.growth.locals) ∷ given.term ∷ [])) declared));
   counts = record { slots = omega arith; locals = omega arith; items = omega arith; guards = omega arith };
 }
 
 pub local_enough : (reading : Readings) (variable : Variable)
     → Enough (λ turns growth. with_text_local reading turns variable growth) (local_amounts reading.lexicon reading.names variable.init)
-local_enough reading variable = begun_enough reading variable.name.at (type_shape reading variable.declared) variable.init
+local_enough reading variable =
+    begun_enough reading variable.name.at (λ turns growth. type_shape reading turns growth variable.declared) variable.init

@@ -13,7 +13,7 @@ use Rattle.nddl_unroll.proofs.CountedBlocks.{all_enough, none_counted}
 use Rattle.nddl_unroll.proofs.Extras.{EachUnnamed, Sound, no_extra}
 
 -- a rule that has nothing is sound
-none_sound : Sound no_growth
+pub none_sound : Sound no_growth
 none_sound = record { named = tt; asked = tt; unnamed = tt }
 
 pub trees_counted : CountsEnough

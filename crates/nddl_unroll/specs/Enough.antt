@@ -10,18 +10,18 @@ use Rattle.nddl_unroll.specs.Counting.{tree_amounts}
 use Rattle.nddl_unroll.specs.Rules.{tree_rule}
 
 -- there are no more than this amount, which stays at the greatest number of 64 bits
-abbrev pub IsCounted : ℕ → ℕ → Type 0
-IsCounted number amount = min number (2 ^ 64 - 1) ≤ amount
+abbrev pub IsEnough : ℕ → ℕ → Type 0
+IsEnough number amount = min number (2 ^ 64 - 1) ≤ amount
 
 -- the rule has no more than these amounts
-pub record HasCounted (rule : Rule) (amounts : Amounts) : Type 0 where
-  pub slots : IsCounted (length rule.slots) amounts.slots
-  pub locals : IsCounted (length rule.locals) amounts.locals
-  pub items : IsCounted (item_count rule.top) amounts.items
-  pub guards : IsCounted (guard_count rule.top) amounts.guards
+pub record HasEnough (rule : Rule) (amounts : Amounts) : Type 0 where
+  pub slots : IsEnough (length rule.slots) amounts.slots
+  pub locals : IsEnough (length rule.locals) amounts.locals
+  pub items : IsEnough (item_count rule.top) amounts.items
+  pub guards : IsEnough (guard_count rule.top) amounts.guards
 
--- a rule that is unrolled has no more than is counted from its text
+-- a rule that is unrolled has no more than is counted from its text, whatever the text
 abbrev pub CountsEnough : Type 0
 CountsEnough =
     (lexicon : Lexicon) (objects : List Object) (tree : PlainTree)
-    → HasCounted (tree_rule lexicon objects tree) (tree_amounts lexicon tree)
+    → HasEnough (tree_rule lexicon objects tree) (tree_amounts lexicon tree)

@@ -5,6 +5,9 @@ pub mod Amounts
 pub mod Counting
 pub mod Limits
 pub mod Reads
+pub mod Turns
+pub mod Meant
 pub mod Weighing
 pub mod Enough
+pub mod Exact
 pub mod Unnamed

@@ -7,5 +7,5 @@ use Rattle.nddl_problem_check.proofs.fitness.note_all_unfit.Given as goal
 abbrev pub invariant-loop-number : goal.invariant-loop-number
 invariant-loop-number l =
     earliest_fault l.first
-    (unfit_faults_from (outset_at l.start) l.number (map (λ decl. decl.now) (drop l.number l.decls)))
-    ≡ earliest_fault l.initial.first (unfit_faults_from (outset_at l.start) 0 (map (λ decl. decl.now) l.decls))
+    (unfit_faults_from (outset_at l.start) l.are_fine l.number (map (λ decl. decl.now) (drop l.number l.decls)))
+    ≡ earliest_fault l.initial.first (unfit_faults_from (outset_at l.start) l.are_fine 0 (map (λ decl. decl.now) l.decls))
