@@ -3,7 +3,6 @@ use Rattle.std.proofs.Common.{◌≡◌, ℕ, Bool, true, false, List, [], ◌�
 use Rattle.std.specs.Prelude.{Option, Some, None, if◌then◌else◌}
 use Rattle.std.specs.List.{flat_map}
 use Rattle.std.specs.Option.{option_map_or}
-use Rattle.eu_forest.specs.declared.walk.Mark.{Mark}
 use Rattle.nddl_ast.specs.declared.declaration.Decl.{Decl}
 use Rattle.nddl_ast.specs.declared.expression.Bounds.{Bounds}
 use Rattle.nddl_ast.specs.declared.expression.Bounds.TheVariants as bounds
@@ -21,7 +20,7 @@ use Rattle.nddl_typeexpr.specs.declared.kind.Extent.{Extent}
 use Rattle.nddl_typeexpr.specs.declared.kind.TypeKind.{TypeKind}
 use Rattle.nddl_typeexpr.specs.declared.kind.TypeKind.TheVariants as kinds
 use Rattle.nddl_typeexpr.specs.Bases.{base_extent, base_fault, base_kind}
-use Rattle.nddl_typeexpr.specs.Bounds.{bounds_faults, ends_faults, has_too_many, is_wrong_range, members_faults, no_range_faults, range_faults, set_faults}
+use Rattle.nddl_typeexpr.specs.Bounds.{bounds_faults, bounds_values, ends_faults, has_too_many, is_wrong_range, members_faults, missing_faults, no_range_faults, range_faults, set_faults}
 use Rattle.nddl_typeexpr.specs.Kinds.{is_ranged}
 use Rattle.nddl_typeexpr.specs.Types.{type_faults}
 use Rattle.nddl_typeexpr.specs.Values.{end_fault, end_number, member_fault, value_fault}
@@ -94,27 +93,32 @@ module _ (names : List Declared) (decl : ℕ) where
   bounded kind extent (bounds.Range at least greatest) none = range kind extent at least greatest none
   bounded kind extent (bounds.Set at values) none = set kind extent at values none
 
-  foreign : (program : List Decl) (parents : List (Option ℕ)) (marked : List Mark) (class : Meaning) (values : List Value)
-      → Passes (foreign_faults names program parents marked decl class values) (foreign_faults names program parents marked 0 class values)
-  foreign program parents marked class values =
-      each (λ value. faults_here decl (value_place value) (fault_if (is_foreign names program parents marked class value) faults.NotInDomain))
-      (λ value. faults_here 0 (value_place value) (fault_if (is_foreign names program parents marked class value) faults.NotInDomain)) values
-      (λ value. here decl (value_place value) (fault_if (is_foreign names program parents marked class value) faults.NotInDomain))
+  foreign : (program : List Decl) (parents : List (Option ℕ)) (class : Meaning) (values : List Value)
+      → Passes (foreign_faults names program parents decl class values) (foreign_faults names program parents 0 class values)
+  foreign program parents class values =
+      each (λ value. faults_here decl (value_place value) (fault_if (is_foreign names program parents class value) faults.NotInDomain))
+      (λ value. faults_here 0 (value_place value) (fault_if (is_foreign names program parents class value) faults.NotInDomain)) values
+      (λ value. here decl (value_place value) (fault_if (is_foreign names program parents class value) faults.NotInDomain))
 
-  objects : (program : List Decl) (parents : List (Option ℕ)) (marked : List Mark) (kind : Option TypeKind) (bound : Bounds)
-      → Passes (objects_faults names program parents marked decl kind bound) (objects_faults names program parents marked 0 kind bound)
-  objects program parents marked (Some (kinds.Object class)) (bounds.Set at values) none = foreign program parents marked class values none
-  objects program parents marked (Some (kinds.Object class)) bounds.All none = refl
-  objects program parents marked (Some (kinds.Object class)) (bounds.Range at least greatest) none = refl
-  objects program parents marked (Some kinds.Int) bound none = refl
-  objects program parents marked (Some kinds.Bool) bound none = refl
-  objects program parents marked (Some (kinds.Enum number)) bound none = refl
-  objects program parents marked None bound none = refl
+  objects : (program : List Decl) (parents : List (Option ℕ)) (kind : Option TypeKind) (bound : Bounds)
+      → Passes (objects_faults names program parents decl kind bound) (objects_faults names program parents 0 kind bound)
+  objects program parents (Some (kinds.Object class)) (bounds.Set at values) none = foreign program parents class values none
+  objects program parents (Some (kinds.Object class)) bounds.All none = refl
+  objects program parents (Some (kinds.Object class)) (bounds.Range at least greatest) none = refl
+  objects program parents (Some kinds.Int) bound none = refl
+  objects program parents (Some kinds.Bool) bound none = refl
+  objects program parents (Some (kinds.Enum number)) bound none = refl
+  objects program parents None bound none = refl
+
+  missing : (bound : Bounds) → Passes (missing_faults names decl bound) (missing_faults names 0 bound)
+  missing bound =
+      each (λ value. faults_here decl (value_place value) (value_fault names value)) (λ value. faults_here 0 (value_place value) (value_fault names value))
+      (bounds_values bound) (λ value. here decl (value_place value) (value_fault names value))
 
   optional : (o : Option TypeKind) (extent : Extent) (bound : Bounds)
-      → Passes (option_map_or (λ (kind : TypeKind). bounds_faults names kind extent decl bound) o [])
-      (option_map_or (λ (kind : TypeKind). bounds_faults names kind extent 0 bound) o [])
-  optional None extent bound none = refl
+      → Passes (option_map_or (λ (kind : TypeKind). bounds_faults names kind extent decl bound) o (missing_faults names decl bound))
+      (option_map_or (λ (kind : TypeKind). bounds_faults names kind extent 0 bound) o (missing_faults names 0 bound))
+  optional None extent bound none = missing bound none
   optional (Some kind) extent bound none = bounded kind extent bound none
 
 -- nothing is wrong with the type where nothing is as it stands in a declaration
@@ -124,12 +128,12 @@ none_anywhere facts decl type none =
     let kind = base_kind facts.names facts.known type.base in
     let extent = base_extent facts.names facts.known type.base in
     joined (type_faults facts.names facts.known decl type)
-    (objects_faults facts.names facts.program facts.parents facts.marked decl kind type.bounds)
+    (objects_faults facts.names facts.program facts.parents decl kind type.bounds)
     (type_faults facts.names facts.known 0 type)
-    (objects_faults facts.names facts.program facts.parents facts.marked 0 kind type.bounds)
+    (objects_faults facts.names facts.program facts.parents 0 kind type.bounds)
     (joined (faults_here decl type.at (base_fault facts.names type.base))
-    (option_map_or (λ (kind : TypeKind). bounds_faults facts.names kind extent decl type.bounds) kind [])
+    (option_map_or (λ (kind : TypeKind). bounds_faults facts.names kind extent decl type.bounds) kind (missing_faults facts.names decl type.bounds))
     (faults_here 0 type.at (base_fault facts.names type.base))
-    (option_map_or (λ (kind : TypeKind). bounds_faults facts.names kind extent 0 type.bounds) kind [])
+    (option_map_or (λ (kind : TypeKind). bounds_faults facts.names kind extent 0 type.bounds) kind (missing_faults facts.names 0 type.bounds))
     (here decl type.at (base_fault facts.names type.base)) (optional facts.names decl kind extent type.bounds))
-    (objects facts.names decl facts.program facts.parents facts.marked kind type.bounds) none
+    (objects facts.names decl facts.program facts.parents kind type.bounds) none

@@ -16,7 +16,7 @@ use Rattle.nddl_ast.specs.declared.name.Name.{Name}
 use Rattle.nddl_symbols.specs.Joined.{joined_decls}
 use Rattle.nddl_symbols.specs.Scope.{fault_if}
 use Rattle.nddl_hierarchy.specs.Facts.{Facts}
-use Rattle.nddl_declarations.specs.Faults.{decl_faults, decls_faults}
+use Rattle.nddl_declarations.specs.Faults.{all_faults, decl_faults, decls_faults}
 use Rattle.nddl_types.specs.Classes.{enum_of, enums_of}
 use Rattle.nddl_laws.specs.Fine.{IsFineDecl}
 use Rattle.nddl_laws.specs.Given.{AreGiven}
@@ -49,11 +49,16 @@ right_from facts number (decl ∷ more) fine none =
     (right_from facts (number + 1) more (All-tail IsFineDecl decl more fine)
     (none_second (decl_faults facts number decl) (decls_faults facts (number + 1) more) none))
 
--- all declarations of a program of which there is a table are so
-pub right_decls : (files : List FileDecls) (table : TypeTable) (is : IsTable files table) → AreGiven files → All (IsRightDecl is.facts) is.facts.program
-right_decls files table is given =
+-- all declarations of a program with which nothing is wrong are so
+pub right_program : (files : List FileDecls) (facts : Facts) → facts.program ≡ joined_decls files → all_faults facts ≡ [] → AreGiven files
+    → All (IsRightDecl facts) facts.program
+right_program files facts is_program fine given =
     let joined = All-weaker IsJoinedDecl IsFineDecl (λ decl one. one.fine) (joined_decls files) (each_joined files given) in
-    right_from is.facts 0 is.facts.program (subst (All IsFineDecl) (sym is.are.is_program) joined) (decls_fine is.facts is.fine)
+    right_from facts 0 facts.program (subst (All IsFineDecl) (sym is_program) joined) (decls_fine facts fine)
+
+-- so those of a program of which there is a table
+pub right_decls : (files : List FileDecls) (table : TypeTable) (is : IsTable files table) → AreGiven files → All (IsRightDecl is.facts) is.facts.program
+right_decls files table is given = right_program files is.facts is.are.is_program is.fine given
 
 -- ---- enums
 

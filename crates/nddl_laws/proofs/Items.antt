@@ -1,5 +1,5 @@
 -- The fields and the predicates that a class has, and that they differ.
-use Rattle.std.proofs.Common.{◌≡◌, ◌≢◌, ℕ, zero, suc, ◌<◌, ◌==◌, ◌&&◌, Bool, true, false, List, [], ◌∷◌, ◌++◌, map, refl, sym, ◌∙◌, ap, subst, arith}
+use Rattle.std.proofs.Common.{◌≡◌, ◌≢◌, ℕ, zero, suc, ◌<◌, ◌==◌, Bool, true, false, List, [], ◌∷◌, ◌++◌, map, refl, sym, ◌∙◌, ap, subst, arith}
 use Rattle.std.specs.Prelude.{Option, Some, None, All, slice_get, codes, is_some, if◌then◌else◌}
 use Rattle.std.specs.List.{AllByRecursion, filter_map, flat_map}
 use Rattle.std.specs.Option.{option_and_then, option_map_or}
@@ -8,7 +8,7 @@ use Rattle.std.proofs.lemmas.List.Concat.{flat_map-append}
 use Rattle.std.proofs.lemmas.List.Elements.{All-nil, All-cons, All-from_recursion, recursion_from_All, All-weaker}
 use Rattle.std.proofs.lemmas.Option.{same_Some, slice_get_within}
 use Rattle.eu_forest.specs.declared.lineage.Rootedness.TheVariants as how
-use Rattle.eu_forest.specs.Lines.{IsRooted, StandsSo, StandsUnder, rootedness_in}
+use Rattle.eu_forest.specs.Lines.{IsRooted, StandsSo, StandsUnder}
 use Rattle.model_core.proofs.Items.{item_all}
 use Rattle.model_core.proofs.Words.{differing}
 use Rattle.nddl_ast.specs.declared.declaration.Decl.{Decl}
@@ -26,16 +26,16 @@ use Rattle.nddl_hierarchy.specs.Ancestors.{above}
 use Rattle.eu_forest.specs.Ancestors.{ancestry}
 use Rattle.nddl_hierarchy.specs.Decls.{class_parent, decl_members, declaration_with_body, members_of}
 use Rattle.nddl_hierarchy.specs.Facts.{Facts}
-use Rattle.nddl_hierarchy.specs.Lines.{is_rooted}
 use Rattle.nddl_declarations.specs.Known.{AreFacts}
 use Rattle.nddl_hierarchy.specs.Inherited.{builtin_members, builtin_noted, class_noted, inherited_noted, line_noted, meaning_noted, member_names, names_noted, words_noted}
+use Rattle.nddl_hierarchy.proofs.Noting.{IsNoted, names_stay, names_there, words_stay, words_there}
 use Rattle.nddl_declarations.specs.Faults.{all_faults}
 use Rattle.nddl_types.specs.Classes.{line_down}
 use Rattle.nddl_laws.proofs.Apart.{AreApart, AreOnce, Item, all_append, all_mapped, all_reverse, all_weaker, apart_append, once_apart, pairs_once}
 use Rattle.nddl_laws.proofs.Declared.{IsRightDecl}
 use Rattle.nddl_laws.proofs.Down.{line_alone, line_below}
 use Rattle.nddl_laws.proofs.Lists.{all_flat}
-use Rattle.nddl_laws.proofs.Noted.{AreNew, IsNoted, are_new, names_stay, names_there, words_stay, words_there}
+use Rattle.nddl_laws.proofs.Noted.{AreNew, are_new}
 use Rattle.nddl_laws.proofs.Standing.{IsClassEntry, class_rooted, class_stands, no_parent, under_builtin, under_class}
 use Rattle.nddl_laws.proofs.WholeTypes.{class_right}
 use Rattle.nddl_laws.proofs.Circles.{body_is}
@@ -294,8 +294,7 @@ module _ (facts : Facts) (are : AreFacts (scope_names facts.program) facts.progr
       let line = line_noted facts.names facts.program [] (ancestry facts.parents other) in
       let there : is_class_at facts.names other ≡ true =
       ap (λ o. option_map_or (λ (declared : Declared). is_class_sort declared.sort) o false) class.there ∙ class.sort in
-      let rooted : is_rooted (rootedness_in facts.marked other) ≡ true = ap is_rooted (class_rooted facts are fine other class) in
-      let noted : meaning_noted facts (Some (meanings.Entry other)) ≡ line = λ i. if there i && rooted i then line else [] in
+      let noted : meaning_noted facts (Some (meanings.Entry other)) ≡ line = λ i. if there i then line else [] in
       let V : Noted → Type 0 = λ n. AllByRecursion (λ (item : Item). is_some (noted_number n item.1) ≡ false) (own_items entry) in
       subst AreApart (sym (items_below entry other is up under))
       (apart_append (class_items facts other) (own_items entry) rest (own_apart entry is)

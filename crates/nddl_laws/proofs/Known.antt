@@ -22,7 +22,7 @@ use Rattle.nddl_typeexpr.specs.declared.kind.TypeKind.{TypeKind}
 use Rattle.nddl_typeexpr.specs.declared.kind.TypeKind.TheVariants as kinds
 use Rattle.nddl_typeexpr.specs.declared.kind.TypeMeaning.{TypeMeaning}
 use Rattle.nddl_typeexpr.specs.Bases.{base_extent, base_fault, base_kind, entry_extent, meaning_extent, meaning_kind, sort_kind, typedef_meaning}
-use Rattle.nddl_typeexpr.specs.Bounds.{bounds_extent, bounds_faults}
+use Rattle.nddl_typeexpr.specs.Bounds.{bounds_extent, bounds_faults, missing_faults}
 use Rattle.nddl_typeexpr.specs.Types.{bounded_meaning, is_fine, type_faults, type_meaning}
 use Rattle.nddl_hierarchy.specs.Facts.{Facts}
 use Rattle.nddl_hierarchy.specs.Decls.{decl_of_name, typedef_type}
@@ -53,7 +53,8 @@ meant facts type meaning is = outer (is_fine (all_type_faults facts 0 type)) is
   where
     last : (o : Option TypeKind) → base_kind facts.names facts.known type.base ≡ o
         → faults_here 0 type.at (base_fault facts.names type.base)
-        ++ option_map_or (λ (found : TypeKind). bounds_faults facts.names found (base_extent facts.names facts.known type.base) 0 type.bounds) o [] ≡ []
+        ++ option_map_or (λ (found : TypeKind). bounds_faults facts.names found (base_extent facts.names facts.known type.base) 0 type.bounds) o
+        (missing_faults facts.names 0 type.bounds) ≡ []
         → option_map (λ (found : TypeKind). record { kind = found; extent = bounds_extent facts.names found (base_extent facts.names facts.known type.base) type.bounds }) o ≡ Some meaning
         → IsMeant facts type meaning
     last None at none is = absurd (none-some meaning is)

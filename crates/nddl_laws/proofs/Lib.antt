@@ -43,3 +43,6 @@ pub mod WholeTypes
 pub mod RuleAnswers
 pub mod Ordered
 pub mod Reading
+pub mod Scoping
+pub mod Looking
+pub mod Faultless

@@ -4,36 +4,16 @@ use Rattle.std.specs.Prelude.{Option, Some, None, is_some, if◌then◌else◌}
 use Rattle.std.specs.List.{AllByRecursion}
 use Rattle.std.specs.Option.{option_or}
 use Rattle.std.specs.Str.{bytes_eq}
-use Rattle.std.proofs.lemmas.Slice.Eq.{bytes_eq-Decides}
 use Rattle.nddl_ast.specs.declared.kind.TextKind.TheVariants as kinds
 use Rattle.nddl_ast.specs.declared.name.Name.{Name}
 use Rattle.eu_index.specs.Index.{Noted, noted_number, with_noted}
 use Rattle.nddl_symbols.specs.Repeats.{repeated_fault, repeated_faults}
 use Rattle.nddl_symbols.specs.Scope.{fault_if}
 use Rattle.eu_index.proofs.Indexes.{noted_with}
-use Rattle.nddl_hierarchy.specs.Inherited.{names_noted, words_noted}
+use Rattle.nddl_hierarchy.proofs.Noting.{IsNoted, newly_noted}
 use Rattle.nddl_laws.proofs.Apart.{AreOnce, all_weaker}
 use Rattle.nddl_laws.proofs.Values.{no_fault, not_so}
 use Rattle.nddl_laws.proofs.Nothing.{none_first, none_second}
-
-abbrev pub IsNoted : Noted → List ℕ → Type 0
-IsNoted noted name = is_some (noted_number noted name) ≡ true
-
--- a name more
-pub stays_noted : (noted : Noted) (name other : List ℕ) → IsNoted noted other → IsNoted (with_noted noted name 0) other
-stays_noted noted name other is = ap is_some (noted_with noted name other 0) ∙ by (noted_number noted other) is
-  where
-    by : (o : Option ℕ) → is_some o ≡ true → is_some (option_or o (if bytes_eq other name then Some 0 else None)) ≡ true
-    by None is = absurd (let e : false ≡ true = is in cc)
-    by (Some number) is = refl
-
-pub newly_noted : (noted : Noted) (name : List ℕ) → IsNoted (with_noted noted name 0) name
-newly_noted noted name = ap is_some (noted_with noted name name 0) ∙ by (noted_number noted name) (bytes_eq name name) ((bytes_eq-Decides name name).1 refl)
-  where
-    by : (o : Option ℕ) (b : Bool) → b ≡ true → is_some (option_or o (if b then Some 0 else None)) ≡ true
-    by None true is = refl
-    by None false is = absurd (let e : false ≡ true = is in cc)
-    by (Some number) b is = refl
 
 -- what isn't noted with one more wasn't before, and is another
 not_noted : (noted : Noted) (name other : List ℕ) → is_some (noted_number (with_noted noted name 0) other) ≡ false
@@ -49,32 +29,6 @@ not_noted noted name other is = (
     by : (o : Option ℕ) → is_some (option_or o (if bytes_eq other name then Some 0 else None)) ≡ false → is_some o ≡ false
     by None is = refl
     by (Some number) is = absurd (let e : true ≡ false = is in cc)
-
--- ---- names and words
-
-pub names_stay : (noted : Noted) (some : List Name) (other : List ℕ) → IsNoted noted other → IsNoted (names_noted noted some) other
-names_stay noted [] other is = is
-names_stay noted (name ∷ more) other is = names_stay (with_noted noted name.text 0) more other (stays_noted noted name.text other is)
-
-pub names_there : (noted : Noted) (some : List Name) → AllByRecursion (λ name. IsNoted (names_noted noted some) name.text) some
-names_there noted [] = tt
-names_there noted (name ∷ more) = (
-  names_stay (with_noted noted name.text 0) more name.text (newly_noted noted name.text),
-  names_there (with_noted noted name.text 0) more,
-)
-
-pub words_stay : (noted : Noted) (some : List (List ℕ)) (other : List ℕ) → IsNoted noted other → IsNoted (words_noted noted some) other
-words_stay noted [] other is = is
-words_stay noted (word ∷ more) other is = words_stay (with_noted noted word 0) more other (stays_noted noted word other is)
-
-pub words_there : (noted : Noted) (some : List (List ℕ)) → AllByRecursion (λ word. IsNoted (words_noted noted some) word) some
-words_there noted [] = tt
-words_there noted (word ∷ more) = (
-  words_stay (with_noted noted word 0) more word (newly_noted noted word),
-  words_there (with_noted noted word 0) more,
-)
-
--- ---- names with which nothing is wrong
 
 -- none of them was noted before, and they differ
 pub record AreNew (noted : Noted) (some : List Name) : Type 0 where

@@ -41,7 +41,7 @@ use Rattle.nddl_typeexpr.specs.declared.kind.Extent.{Extent}
 use Rattle.nddl_typeexpr.specs.declared.kind.TypeKind.{TypeKind}
 use Rattle.nddl_typeexpr.specs.declared.kind.TypeKind.TheVariants as kinds
 use Rattle.nddl_typeexpr.specs.Bases.{base_extent, base_fault, base_kind}
-use Rattle.nddl_typeexpr.specs.Bounds.{bounds_faults, ends_faults, has_too_many, is_wrong_range, members_faults, no_range_faults, range_faults}
+use Rattle.nddl_typeexpr.specs.Bounds.{bounds_faults, bounds_values, ends_faults, has_too_many, is_wrong_range, members_faults, missing_faults, no_range_faults, range_faults}
 use Rattle.nddl_typeexpr.specs.Kinds.{is_ranged}
 use Rattle.nddl_typeexpr.specs.Types.{type_faults}
 use Rattle.nddl_typeexpr.specs.Values.{end_fault, end_number, member_fault, value_fault}
@@ -98,32 +98,35 @@ module _ (names : List Declared) (number : ℕ) where
       (each number (λ value. faults_here number (value_place value) (member_fault names kind extent value)) values
       (λ value. here number (value_place value) (member_fault names kind extent value)))
 
-  optional_at : (o : Option TypeKind) (extent : Extent) (bound : Bounds) → All (IsAt number) (option_map_or (λ (kind : TypeKind). bounds_faults names kind extent number bound) o [])
-  optional_at None extent bound = All-nil (IsAt number)
+  optional_at : (o : Option TypeKind) (extent : Extent) (bound : Bounds)
+      → All (IsAt number) (option_map_or (λ (kind : TypeKind). bounds_faults names kind extent number bound) o (missing_faults names number bound))
+  optional_at None extent bound =
+      each number (λ value. faults_here number (value_place value) (value_fault names value)) (bounds_values bound)
+      (λ value. here number (value_place value) (value_fault names value))
   optional_at (Some kind) extent bound = bounds_at kind extent bound
 
-  objects_at : (program : List Decl) (parents : List (Option ℕ)) (marked : List Mark) (kind : Option TypeKind) (bound : Bounds)
-      → All (IsAt number) (objects_faults names program parents marked number kind bound)
-  objects_at program parents marked (Some (kinds.Object class)) (bounds.Set at values) =
-      each number (λ value. faults_here number (value_place value) (fault_if (is_foreign names program parents marked class value) faults.NotInDomain)) values
-      (λ value. here number (value_place value) (fault_if (is_foreign names program parents marked class value) faults.NotInDomain))
-  objects_at program parents marked (Some (kinds.Object class)) bounds.All = All-nil (IsAt number)
-  objects_at program parents marked (Some (kinds.Object class)) (bounds.Range at least greatest) = All-nil (IsAt number)
-  objects_at program parents marked (Some kinds.Int) bound = All-nil (IsAt number)
-  objects_at program parents marked (Some kinds.Bool) bound = All-nil (IsAt number)
-  objects_at program parents marked (Some (kinds.Enum of)) bound = All-nil (IsAt number)
-  objects_at program parents marked None bound = All-nil (IsAt number)
+  objects_at : (program : List Decl) (parents : List (Option ℕ)) (kind : Option TypeKind) (bound : Bounds)
+      → All (IsAt number) (objects_faults names program parents number kind bound)
+  objects_at program parents (Some (kinds.Object class)) (bounds.Set at values) =
+      each number (λ value. faults_here number (value_place value) (fault_if (is_foreign names program parents class value) faults.NotInDomain)) values
+      (λ value. here number (value_place value) (fault_if (is_foreign names program parents class value) faults.NotInDomain))
+  objects_at program parents (Some (kinds.Object class)) bounds.All = All-nil (IsAt number)
+  objects_at program parents (Some (kinds.Object class)) (bounds.Range at least greatest) = All-nil (IsAt number)
+  objects_at program parents (Some kinds.Int) bound = All-nil (IsAt number)
+  objects_at program parents (Some kinds.Bool) bound = All-nil (IsAt number)
+  objects_at program parents (Some (kinds.Enum of)) bound = All-nil (IsAt number)
+  objects_at program parents None bound = All-nil (IsAt number)
 
 type_at : (facts : Facts) (number : ℕ) (type : types.Type) → All (IsAt number) (all_type_faults facts number type)
 unfolding all_type_faults
 type_at facts number type =
     let kind = base_kind facts.names facts.known type.base in
     let extent = base_extent facts.names facts.known type.base in
-    joined number (type_faults facts.names facts.known number type) (objects_faults facts.names facts.program facts.parents facts.marked number kind type.bounds)
+    joined number (type_faults facts.names facts.known number type) (objects_faults facts.names facts.program facts.parents number kind type.bounds)
     (joined number (faults_here number type.at (base_fault facts.names type.base))
-    (option_map_or (λ (kind : TypeKind). bounds_faults facts.names kind extent number type.bounds) kind [])
+    (option_map_or (λ (kind : TypeKind). bounds_faults facts.names kind extent number type.bounds) kind (missing_faults facts.names number type.bounds))
     (here number type.at (base_fault facts.names type.base)) (optional_at facts.names number kind extent type.bounds))
-    (objects_at facts.names number facts.program facts.parents facts.marked kind type.bounds)
+    (objects_at facts.names number facts.program facts.parents kind type.bounds)
 
 repeated_at : (number : ℕ) (noted : Noted) (some : List Name) → All (IsAt number) (repeated_faults number noted some)
 repeated_at number noted [] = All-nil (IsAt number)
@@ -260,7 +263,7 @@ faults_in facts are =
     (decls_in facts count 0 facts.program (omega arith)))
 
 -- a place in a declaration of files has a file
-place_has_file : (files : List FileDecls) (place : Place) → place.decl < length (joined_decls files)
+pub place_has_file : (files : List FileDecls) (place : Place) → place.decl < length (joined_decls files)
     → (file : FileDecls) × (file_of_place files (joined_sites files) place ≡ Some file)
 place_has_file files place less =
     let first : Decl = get_or (joined_decls files) place.decl (decls.Include 0 [] 0) in

@@ -34,6 +34,7 @@ use Rattle.nddl_hierarchy.specs.Facts.{Facts}
 use Rattle.nddl_declarations.specs.Known.{AreFacts, all_type_faults}
 use Rattle.nddl_hierarchy.specs.Decls.{members_of}
 use Rattle.nddl_hierarchy.specs.Inherited.{words_noted}
+use Rattle.nddl_hierarchy.proofs.Noting.{IsNoted, words_there}
 use Rattle.nddl_declarations.specs.Members.{parameters_of, typed_faults, typed_names}
 use Rattle.nddl_declarations.specs.Declares.{variables_of}
 use Rattle.nddl_declarations.specs.Faults.{all_faults}
@@ -45,7 +46,7 @@ use Rattle.nddl_laws.proofs.Declared.{IsRightDecl, enums_right}
 use Rattle.nddl_laws.proofs.Items.{class_items, items_apart}
 use Rattle.nddl_laws.proofs.Lists.{all_flat, all_kept, none_flat}
 use Rattle.nddl_laws.proofs.Members.{IsRightAt, fields_names, members_right, pred_names, pred_names_line}
-use Rattle.nddl_laws.proofs.Noted.{IsNoted, are_new, words_there}
+use Rattle.nddl_laws.proofs.Noted.{are_new}
 use Rattle.nddl_laws.proofs.Standing.{IsClassEntry}
 use Rattle.nddl_laws.proofs.Classed.{variables_words}
 use Rattle.nddl_laws.proofs.Values.{no_fault, not_so}

@@ -89,29 +89,32 @@ base_part scope at bases.Float = tt
 base_part scope at bases.Bool = tt
 base_part scope at bases.Str = tt
 
-value_part : (scope : Noted) (value : Value) → AreReadAt (value_read scope value) (value_place value ∷ [])
-value_part scope (values.Name name) = one_read name.at (scope_meaning scope name.text) []
-value_part scope (values.Literal literal) = tt
+value_part : (sources : NameSources) (sight : Sight) (value : Value) → AreReadAt (value_read sources sight value) (value_place value ∷ [])
+value_part sources sight (values.Name name) = one_read name.at (front_meaning sources sight name.text) []
+value_part sources sight (values.Literal literal) = tt
 
-values_part : (scope : Noted) (some : List Value) → AreReadAt (flat_map (value_read scope) some) (map value_place some)
-values_part scope [] = tt
-values_part scope (value ∷ more) =
-    read_both (value_read scope value) (flat_map (value_read scope) more) (value_place value ∷ []) (map value_place more)
-    (value_part scope value) (values_part scope more)
+values_part : (sources : NameSources) (sight : Sight) (some : List Value)
+    → AreReadAt (flat_map (value_read sources sight) some) (map value_place some)
+values_part sources sight [] = tt
+values_part sources sight (value ∷ more) =
+    read_both (value_read sources sight value) (flat_map (value_read sources sight) more) (value_place value ∷ []) (map value_place more)
+    (value_part sources sight value) (values_part sources sight more)
 
-bounds_part : (scope : Noted) (bounds : Bounds) → AreReadAt (bounds_read scope bounds) (bounds_nodes bounds)
-bounds_part scope bounds.All = tt
-bounds_part scope (bounds.Range at least greatest) =
-    read_later (value_read scope least ++ value_read scope greatest) at (value_place least ∷ value_place greatest ∷ [])
-    (read_both (value_read scope least) (value_read scope greatest) (value_place least ∷ []) (value_place greatest ∷ [])
-    (value_part scope least) (value_part scope greatest))
-bounds_part scope (bounds.Set at some) =
-    read_later (flat_map (value_read scope) some) at (map value_place some) (values_part scope some)
+bounds_part : (sources : NameSources) (sight : Sight) (bounds : Bounds) → AreReadAt (bounds_read sources sight bounds) (bounds_nodes bounds)
+bounds_part sources sight bounds.All = tt
+bounds_part sources sight (bounds.Range at least greatest) =
+    let one = value_read sources sight least in
+    let other = value_read sources sight greatest in
+    read_later (one ++ other) at (value_place least ∷ value_place greatest ∷ [])
+    (read_both one other (value_place least ∷ []) (value_place greatest ∷ [])
+    (value_part sources sight least) (value_part sources sight greatest))
+bounds_part sources sight (bounds.Set at some) =
+    read_later (flat_map (value_read sources sight) some) at (map value_place some) (values_part sources sight some)
 
-type_part : (scope : Noted) (of : types.Type) → AreReadAt (type_read scope of) (type_nodes of)
-type_part scope of =
-    read_both (base_read scope of.base) (bounds_read scope of.bounds) (base_node of.at of.base ∷ []) (bounds_nodes of.bounds)
-    (base_part scope of.at of.base) (bounds_part scope of.bounds)
+type_part : (sources : NameSources) (sight : Sight) (of : types.Type) → AreReadAt (type_read sources sight of) (type_nodes of)
+type_part sources sight of =
+    read_both (base_read sources.scope of.base) (bounds_read sources sight of.bounds) (base_node of.at of.base ∷ []) (bounds_nodes of.bounds)
+    (base_part sources.scope of.at of.base) (bounds_part sources sight of.bounds)
 
 init_part : (sources : NameSources) (sight : Sight) (init : Option Init) → AreReadAt (init_read sources sight init) (start_nodes init)
 init_part sources sight None = tt
@@ -120,8 +123,8 @@ init_part sources sight (Some (inits.New creation)) = tt
 
 local_part : (sources : NameSources) (sight : Sight) (variable : Variable) → AreReadAt (local_read sources sight variable) (variable_nodes variable)
 local_part sources sight variable =
-    read_both (type_read sources.scope variable.declared) (init_read sources sight variable.init) (type_nodes variable.declared)
-    (variable.name.at ∷ start_nodes variable.init) (type_part sources.scope variable.declared)
+    read_both (type_read sources sight variable.declared) (init_read sources sight variable.init) (type_nodes variable.declared)
+    (variable.name.at ∷ start_nodes variable.init) (type_part sources sight variable.declared)
     (read_later (init_read sources sight variable.init) variable.name.at (start_nodes variable.init) (init_part sources sight variable.init))
 
 asked_part : (sources : NameSources) (sight : Sight) (first : Name) (rest : List Name)

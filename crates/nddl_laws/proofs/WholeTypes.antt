@@ -31,7 +31,7 @@ use Rattle.nddl_typeexpr.specs.declared.kind.TypeKind.{TypeKind}
 use Rattle.nddl_typeexpr.specs.declared.kind.TypeKind.TheVariants as kinds
 use Rattle.nddl_typeexpr.specs.declared.kind.TypeMeaning.{TypeMeaning}
 use Rattle.nddl_typeexpr.specs.Bases.{base_extent, base_fault, base_kind, meaning_fault, meaning_kind, sort_fault, sort_kind, typedef_meaning}
-use Rattle.nddl_typeexpr.specs.Bounds.{bounds_extent, bounds_faults}
+use Rattle.nddl_typeexpr.specs.Bounds.{bounds_extent, bounds_faults, missing_faults}
 use Rattle.nddl_typeexpr.specs.Types.{bounded_meaning, is_fine}
 use Rattle.nddl_hierarchy.specs.Ancestors.{objects_faults}
 use Rattle.nddl_hierarchy.specs.Decls.{decl_of_name, typedef_type}
@@ -118,8 +118,9 @@ module _ (facts : Facts) (are : AreFacts (scope_names facts.program) facts.progr
       let here = faults_here 0 type.at (base_fault facts.names type.base) in
       let kind = base_kind facts.names facts.known type.base in
       let extent = base_extent facts.names facts.known type.base in
-      let rest = option_map_or (λ (kind : TypeKind). bounds_faults facts.names kind extent 0 type.bounds) kind [] in
-      let objects = objects_faults facts.names facts.program facts.parents facts.marked 0 kind type.bounds in
+      let rest =
+      option_map_or (λ (kind : TypeKind). bounds_faults facts.names kind extent 0 type.bounds) kind (missing_faults facts.names 0 type.bounds) in
+      let objects = objects_faults facts.names facts.program facts.parents 0 kind type.bounds in
       let own : here ++ rest ≡ [] = none_first (here ++ rest) objects none in
       let found = base_has_kind type.base (no_fault 0 type.at (base_fault facts.names type.base) (none_first here rest own)) below in
       let meaning : TypeMeaning = record { kind = found.0; extent = bounds_extent facts.names found.0 extent type.bounds } in
@@ -178,6 +179,10 @@ module _ (facts : Facts) (are : AreFacts (scope_names facts.program) facts.progr
   typedef_known entry is =
       let place = are.lineage.whole entry (typedef_rooted facts are fine entry is) in
       known_upto (suc place.0) place.0 entry (omega arith) place.1 is
+
+  -- so a base with which nothing is wrong is of some kind
+  pub base_means : (base : BaseType) → base_fault facts.names base ≡ None → (kind : TypeKind) × (base_kind facts.names facts.known base ≡ Some kind)
+  base_means base none = base_has_kind base none (λ entry is named. typedef_known entry is)
 
   -- a type with which nothing is wrong means something
   pub type_means : (decl : ℕ) (type : types.Type) → all_type_faults facts decl type ≡ [] → (meaning : TypeMeaning) × (fine_meaning facts type ≡ Some meaning)

@@ -9,3 +9,5 @@ pub mod Placed
 pub mod Tables
 pub mod RuleOutcomes
 pub mod Ordered
+pub mod Scoping
+pub mod Lookups

@@ -8,6 +8,7 @@ pub mod file_laws;
 pub mod lawful;
 pub mod lawful_tables;
 pub mod rule_laws;
+pub mod scope_laws;
 pub mod type_laws;
 
 pub use rule_laws::{names_are_read_in_order, rules_have_one_answer};

@@ -1,0 +1,5 @@
+use Rattle.nddl_laws.proofs.Faultless.{fine_rule}
+use Rattle.nddl_laws.proofs.scope_laws.names_of_fine_rules_are_read.Goals as goal
+
+pub returns : goal.returns
+returns c = fine_rule
