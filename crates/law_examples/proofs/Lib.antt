@@ -23,3 +23,4 @@ pub mod Unasked
 pub mod Agreed
 pub mod Halving
 pub mod Left
+pub mod Below

@@ -10,6 +10,7 @@ pub mod Ordering
 pub mod Renaming
 pub mod Shuffling
 pub mod Trees
+pub mod Under
 pub mod Grounding
 pub mod KeepingFit
 pub mod Leasts
@@ -21,3 +22,6 @@ pub mod Covering
 pub mod Once
 pub mod Picking
 pub mod Searching
+pub mod Firsts
+pub mod Choosing
+pub mod Outcoming

@@ -1,5 +1,5 @@
 -- Which tokens of a plan may change places, and what is proved of it.
-use Rattle.std.specs.Prelude.{◌≡◌, ℕ, ℤ, false, ⊤, List, [], ◌∷◌, ◌++◌, Contains}
+use Rattle.std.specs.Prelude.{◌≡◌, ◌≢◌, ◌↔◌, ℕ, ℤ, false, ⊤, List, [], ◌∷◌, ◌++◌, AllPairs, Contains}
 use Rattle.std.specs.List.{sum_by}
 use Rattle.eu_name.specs.declared.name.Step.{Step}
 use Rattle.eu_name.specs.declared.name.TokenName.{TokenName}
@@ -9,15 +9,20 @@ use Rattle.model_core.specs.declared.decision.Decision.{Decision}
 use Rattle.model_core.specs.declared.decision.Decision.TheVariants.{Specify, Activate, Merge, Reject, Order}
 use Rattle.model_core.specs.declared.model.Model.{Model}
 use Rattle.model_core.specs.Decided.{IsActivated, IsActive, IsDecided}
+use Rattle.model_core.specs.State.{State}
 use Rattle.plan_defs.specs.declared.plan.Line.{Line}
 use Rattle.plan_defs.specs.declared.plan.Line.TheVariants as lines
 use Rattle.plan_defs.specs.declared.plan.Plan.{Plan}
 use Rattle.plan_defs.specs.Broken.{AgreesWith}
-use Rattle.plan_defs.specs.Plans.{IsPlanOf, GivesValue}
+use Rattle.plan_defs.specs.Closure.{IsLeast}
+use Rattle.plan_defs.specs.Flaws.{Undecided, IsFlaw}
+use Rattle.plan_defs.specs.Plans.{IsPlanOf, GivesValue, order_name}
+use Rattle.plan_defs.specs.Settling.{IsSettled}
 use Rattle.plan_defs.specs.Support.{front_token}
 use Rattle.plan_defs.specs.Terms.{BelongsTo}
 use Rattle.plan_defs.specs.Valid.{IsValid}
 use Rattle.law_search.specs.Swapping.{IsSwap, token_under, swapped_name}
+use Rattle.law_search.specs.Under.{IsVariableUnder, IsLineUnder, NamesUnder}
 
 -- ---- which tokens may change places
 
@@ -110,3 +115,40 @@ SwapsGoWell =
     (model : Model) (decisions : List Decision) (old new : Plan) (one other : TokenName)
     → MayChangePlaces model decisions old one other → IsSwap one other old new
     → SwapsWell model decisions old new one other
+
+-- ---- laws of whose places may change, and of what stands under them
+
+-- A token of which nothing is decided, and the one that it is in such a plan, may change places, if the decisions don't make
+-- that one active.
+abbrev pub UndecidedTokensMayChangePlaces : Type 0
+UndecidedTokensMayChangePlaces =
+    (model : Model) (decisions : List Decision) (state : State) (plan : Plan) (token target : TokenName)
+    → IsSettled model decisions → IsLeast model decisions state → IsFlaw model decisions state (Undecided token)
+    → IsPlanOf model plan → IsValid model plan → AgreesWith model plan decisions
+    → Contains plan.lines (lines.Merged token target) → (IsActive model decisions target → ⊥)
+    → MayChangePlaces model decisions plan token target
+
+-- the plan has no line under the one, of whose locals and slots the new plan has lines
+abbrev pub NoLineIsUnder : Type 0
+NoLineIsUnder =
+    (model : Model) (decisions : List Decision) (plan : Plan) (one other : TokenName) (line : Line)
+    → MayChangePlaces model decisions plan one other → Contains plan.lines line → IsLineUnder one line → ⊥
+
+-- the decisions name nothing under the other, all of which gets another name
+abbrev pub NoDecisionNamesUnder : Type 0
+NoDecisionNamesUnder =
+    (model : Model) (decisions : List Decision) (plan : Plan) (one other : TokenName) (decision : Decision)
+    → MayChangePlaces model decisions plan one other → Contains decisions decision → NamesUnder other decision → ⊥
+
+-- Each variable is given in the new plan what it is given in the old one and nothing else: under the name that it has then,
+-- and, if it stands under neither of the two, under its own. No name has two lines.
+pub record HaveSameValues (old new : Plan) (one other : TokenName) : Type 0 where
+  pub renamed : (name : VarName) (value : ℤ) → GivesValue old name value ↔ GivesValue new (swapped_name one other name) value
+  pub kept : (name : VarName) (value : ℤ) → (IsVariableUnder one name → ⊥) → (IsVariableUnder other name → ⊥)
+      → GivesValue old name value ↔ GivesValue new name value
+  pub once : AllPairs (λ line later. order_name line ≢ order_name later) new.lines
+
+abbrev pub SwapsKeepValues : Type 0
+SwapsKeepValues =
+    (model : Model) (decisions : List Decision) (old new : Plan) (one other : TokenName)
+    → MayChangePlaces model decisions old one other → IsSwap one other old new → HaveSameValues old new one other

@@ -5,6 +5,7 @@
 //! Knows nothing of any data structure of the database, and of how flaws are found. Proofs may change.
 #![tactic(auto)]
 
+pub mod existence;
 pub mod grounds;
 pub mod searches;
 pub mod swaps;

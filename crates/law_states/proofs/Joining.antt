@@ -1,5 +1,5 @@
 -- Two propagated states lie below a third, which has what both have.
-use Rattle.std.proofs.Common.{◌≡◌, ℕ, List, [], ◌∷◌, refl, sym, ◌∙◌, subst}
+use Rattle.std.proofs.Common.{List, [], ◌∷◌, refl, sym, ◌∙◌, subst}
 use Rattle.std.specs.Prelude.{Contains}
 use Rattle.std.specs.List.{AllZip}
 use Rattle.std.proofs.lemmas.List.Elements.{All-contains}
@@ -7,20 +7,16 @@ use Rattle.domain_core.specs.Domain.{Domain, Range, IsDomain}
 use Rattle.eu_name.specs.declared.name.VarName.{VarName}
 use Rattle.eu_name.specs.declared.name.VarName.TheVariants as names
 use Rattle.eu_name.specs.NameOrder.{IsTokenBefore}
-use Rattle.eu_name.proofs.Members.{get_from_contains, get_below}
 use Rattle.eu_name.proofs.Orders.{token_order}
 use Rattle.model_core.specs.declared.decision.Decision.{Decision}
 use Rattle.model_core.specs.declared.decision.Decision.TheVariants.{Specify, Activate, Merge, Reject, Order}
 use Rattle.model_core.specs.declared.model.Model.{Model}
-use Rattle.model_core.specs.declared.rule.Rule.{Rule}
 use Rattle.model_core.specs.declared.rule.Slot.{Slot}
 use Rattle.model_core.specs.declared.variable.Base.{Base}
 use Rattle.model_core.specs.declared.variable.Base.TheVariants.{Given, Void}
-use Rattle.model_core.specs.Blocks.{TokenBlock, IsBlock, IsBlockBefore, OfLocal, direct}
+use Rattle.model_core.specs.Blocks.{TokenBlock, IsBlockBefore}
 use Rattle.domain_core.specs.Constraints.{Holds, reach_of}
-use Rattle.model_core.specs.Entries.{Entries}
 use Rattle.model_core.specs.Lawful.{IsLawful}
-use Rattle.model_core.specs.Standing.{StandsAt}
 use Rattle.model_core.specs.State.{State, Gives, IsAbout, IsBlockOf, IsBelow}
 use Rattle.model_core.specs.Tokens.{HasToken}
 use Rattle.model_core.specs.Variables.{HasBase, IsInBase}
@@ -33,7 +29,7 @@ use Rattle.plan_defs.proofs.Knowing.{there_or_not}
 use Rattle.plan_defs.proofs.States.{gives_same, gives_domain}
 use Rattle.model_core.proofs.Bases.{base_once}
 use Rattle.model_core.proofs.Locals.{local_once}
-use Rattle.model_core.proofs.Lawful.{base_lawful, rule_lawful}
+use Rattle.model_core.proofs.Lawful.{base_lawful}
 use Rattle.law_states.proofs.Listing.{Chosen, chosen}
 use Rattle.law_states.proofs.Making.{Made, MayBeState, made, about_more}
 use Rattle.law_states.proofs.Paths.{block_order}

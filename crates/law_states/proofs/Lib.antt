@@ -34,3 +34,8 @@ pub mod Splitting
 pub mod Thinning
 pub mod Leaving
 pub mod Reducing
+pub mod Denying
+pub mod Weighing
+pub mod Topping
+pub mod Settled
+pub mod Planning

@@ -5,8 +5,6 @@ use Rattle.eu_name.specs.declared.name.Part.{Part}
 use Rattle.eu_name.specs.declared.name.TokenName.{TokenName}
 use Rattle.eu_name.specs.declared.name.VarName.{VarName}
 use Rattle.eu_name.specs.declared.name.VarName.TheVariants as names
-use Rattle.eu_name.specs.NameOrder.{IsTokenBefore, IsVarBefore}
-use Rattle.eu_name.proofs.Orders.{token_order, var_order}
 use Rattle.plan_defs.specs.declared.plan.Line as the_line
 use Rattle.plan_defs.specs.declared.plan.Line.TheVariants as lines
 use Rattle.plan_defs.specs.declared.plan.Plan.{Plan}

@@ -5,6 +5,7 @@
 #![tactic(auto)]
 
 pub mod conflicts;
+pub mod existence;
 pub mod flawless;
 pub mod least;
 pub mod plans;

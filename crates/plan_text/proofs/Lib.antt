@@ -11,3 +11,4 @@ pub mod LocalValues
 pub mod Globals
 pub mod Texts
 pub mod Points
+pub mod Existing

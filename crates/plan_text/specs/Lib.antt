@@ -5,3 +5,4 @@ pub mod Subjects
 pub mod Lines
 pub mod PlanTexts
 pub mod Writing
+pub mod Existence

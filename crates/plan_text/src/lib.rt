@@ -4,6 +4,7 @@
 //! Knows nothing of states, and whether a plan is valid. How bytes are put together and words are cut may change.
 #![tactic(auto)]
 
+pub mod existence;
 pub mod fault;
 pub mod names;
 pub mod statement;

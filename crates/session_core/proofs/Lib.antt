@@ -18,3 +18,6 @@ pub mod OneSearch
 pub mod Answering
 pub mod Ending
 mod AlongSession
+pub mod Existing
+pub mod ExistingLines
+pub mod PlanTexts

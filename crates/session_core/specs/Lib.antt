@@ -6,3 +6,4 @@ pub mod LineReplies
 pub mod Telling
 pub mod FrontLaw
 pub mod Laws
+pub mod Existence

@@ -9,6 +9,7 @@ pub mod asked;
 mod counting;
 pub mod deciding;
 pub mod editor;
+pub mod existence;
 mod explaining;
 pub mod laws;
 pub mod reason;

@@ -6,3 +6,4 @@ pub mod SessionLemmas
 pub mod Streams
 pub mod ToldLemmas
 pub mod Written
+pub mod Existing

@@ -6,3 +6,4 @@ pub mod Lines
 pub mod Pieces
 pub mod Sessions
 pub mod Writing
+pub mod Existence

@@ -7,6 +7,7 @@
 
 mod answering;
 mod cutting;
+pub mod existence;
 pub mod fault;
 mod inflow;
 pub mod laws;

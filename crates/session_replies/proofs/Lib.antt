@@ -11,3 +11,4 @@ pub mod Tokening
 pub mod Seen
 pub mod Separated
 pub mod ReadBack
+pub mod Existing

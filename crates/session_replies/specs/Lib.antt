@@ -3,3 +3,4 @@ pub mod Writable
 pub mod Written
 pub mod Texts
 pub mod Reading
+pub mod Existence

@@ -8,6 +8,7 @@ mod counting;
 pub mod decisions;
 pub mod domains;
 pub mod edges;
+pub mod existence;
 pub mod flaws;
 pub mod laws;
 pub mod line;

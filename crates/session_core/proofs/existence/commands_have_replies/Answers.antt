@@ -1,0 +1,8 @@
+use Rattle.session_core.proofs.Existing as existing
+use Rattle.session_core.proofs.existence.commands_have_replies.Goals as goal
+
+pub returns-clause-least : goal.returns-clause-least
+returns-clause-least c = existing.collapsed_or_least
+
+pub returns-clause-plain : goal.returns-clause-plain
+returns-clause-plain c = existing.plain_commands_have_replies
