@@ -62,7 +62,22 @@ enum C { red, up } typedef C {red} D; D {up} x; | NotInDomain m 41
 class R { } class S { } R r = new R(); S s = new S(); R {r, s} x; | NotInDomain m 60
 int [4 3] x; y z; | NotInDomain m 4
 T [5 4] x; typedef q T; | Unknown m 19
-class B extends A { bool k; } class A extends q { int k; } | Unknown m 46
+A {q} x; typedef A B; typedef B A; | Unknown m 3
+E [q 1] x; typedef string E; | Unknown m 3
+E [true false] x; typedef string E; | WrongType m 26
+E {1, true, 1} x; typedef q E; | Unknown m 26
+class C { E [1 0.5] x; } typedef string E; | Float m 15
+class C { predicate P { E {q} v; } } typedef T E; typedef E T; | Unknown m 27
+class C { C(E {q} n) { } } typedef string E; | Unknown m 15
+class B extends A { bool k; } class A extends q { int k; } | Twice m 25
+class B extends A { int k; } class A extends Q { int k; } | Twice m 24
+class B extends A { int k; } class A extends Q { bool n; } | Unknown m 45
+class C extends A { int k; } class A extends B { } class B extends A { predicate k { } } | Twice m 24
+R {a} x; class A extends q { } class R { } A a = new A(); | NotInDomain m 3
+R {a} x; class A extends R { } class R extends q { } A a = new A(); | Unknown m 47
+Object {a} x; class A extends q { } A a = new A(); | Unknown m 30
+R {a} x; class A extends B { } class B extends A { } class R { } A a = new A(); | NotInDomain m 3
+B {a} x; class A extends B { } class B extends A { } A a = new A(); | WrongType m 15
 int x; #include \"q\" y z; | bool x; | Twice q 5
 #include \"q\" bool x; | int x; | Twice m 18
 class A { int k; } #include \"q\" | class B extends A { bool k; } | Twice q 25

@@ -24,6 +24,10 @@ class A { } class B extends A { int k; B() { k = 1; } } A x = new B(); eq(x.k, 1
 class N { predicate P { } } N n = new N(); goal(n.P g); leq(g.start, start); | Unknown m 69
 int x; eq(x, 1.5); eq(q, 1); | Float m 13
 class A { int k; A(int n) { k = n; } } A a = new A(3); A x; int y; eq(x.k, a.k); leq(y, x.k); | fine
+class R { predicate P { } } R::P { foreach (o in R) { R {o} x; } } R r = new R(); | fine
+class R { predicate P { } } R::P { foreach (r in R) { R {r} x; } } R r = new R(); R s = new R(); goal(r.P g); | fine
+class R { predicate P { } } R r = new R(); R::P { int r; R {r} x; } | WrongType m 60
+class R { predicate P { } } class S extends R { } S s = new S(); typedef R {s} T; R::P { foreach (o in S) { T {o} x; R {o, s} y; } } | fine
 enum E { u, w } E x; E y; neq(x, w); eq(y, x); allDiff(x, y, u); bool b; testEQ(b, x, y); testLEQ(b, 1, 2); | fine
 close(1); | WrongCount m 0
 class A { } A.close(1); | WrongCount m 14
@@ -119,6 +123,17 @@ class A { predicate P { } } goal(A.P g); | NotInDomain m 28
 class B { } class A { predicate P { int v; B w; } } A a = new A(); fact(a.P f); eq(q, 1); | NotInDomain m 67
 rejectable(Reusable.uses g); | NotInDomain m 0
 goal(A.P g); class A { A(int n) { } predicate P { } } A a = new A(); | WrongCount m 64
+goal(A.P g); class A { predicate P { } } PlannerConfig p = new PlannerConfig(5, 3, 1); | NotInDomain m 0
+goal(A.P g); class A { predicate P { } } PlannerConfig p = new PlannerConfig(0, q, 1); | NotInDomain m 0
+goal(A.P g); class A { predicate P { } } close(); PlannerConfig p = new PlannerConfig(0, 3, 1); | NotInDomain m 0
+goal(B.P g); class B { predicate P { } } class A { int k; A() { k = q; } } | NotInDomain m 0
+goal(B.P g); class B { predicate P { } } class A { int k; A() { k = q; } } class C extends A { } A a = new A(); | Unknown m 68
+goal(B.P g); class B { predicate P { } } class A { int k; A() { k = q; } } class C extends A { } C c = new C(); | Unknown m 68
+goal(B.P g); class B { predicate P { } } class A { } class C extends A { int k; C() { k = q; } } A a = new A(); | NotInDomain m 0
+goal(B.P g); class B { predicate P { } } class A; class A { int k; A() { k = q; } } A a = new A(); | Unknown m 77
+goal(B.P g); class B { predicate P { } } class A { } close(); A a = new A(); | Closed m 68
+goal(B.P g); class B { predicate P { } } class A { int k; A() { } } A a = new A(); | WrongCount m 78
+goal(B.P g); class B { predicate P { } } Reusable u = new Reusable(-1); | NotInDomain m 58
 class E { } E x; class A { predicate P { } } class B extends A { } B b = new B(); goal(A.P g); | fine
 int x; #include \"q\" eq(y, 1); | eq(z, 1); | Unknown q 3
 #include \"q\" eq(y, 1); | int x; eq(x, 1); | Unknown m 16
@@ -145,6 +160,8 @@ class K { int k; K(int n) { k = n; } } class L { K f; L() { f = new K(1); } } L 
     x.f.k.specify(1); | Limit:globals m 39937
 class A { } <<4096 A a# = new A();>> | fine
 class A { } <<4097 A a# = new A();>> | Limit:objects m 72644
+class B { } class A { A a; A() { a = new A(); } } <<4078 B b# = new B();>> A a = new A(); | Limit:new m 41
+class B { } class A { A a; A() { a = new A(); } } <<4079 B b# = new B();>> A a = new A(); | Limit:objects m 41
 class A { int k; A() { k = 1; } predicate P { int v; bool b; } predicate Q { } } A r = new A(); A::P { <<1024 leq(v, #); >>} | fine
 class A { int k; A() { k = 1; } predicate P { int v; bool b; } predicate Q { } } A r = new A(); A::P { <<1025 leq(v, #); >>} | \
     Limit:items m 96
@@ -160,6 +177,11 @@ class A { predicate P { } } <<1024 A::P { eq(duration, #); } >> | fine
 class A { predicate P { } } <<1025 A::P { eq(duration, #); } >> | Limit:rules m 28614
 class A { predicate P { } } <<255 A a# = new A();>> A::P { foreach (o in A) { foreach (p in A) { } } } | fine
 class A { predicate P { } } <<256 A a# = new A();>> A::P { foreach (o in A) { foreach (p in A) { } } } | Limit:turns m 4271
+class K { int k; K(int n) { k = n; } } class L { K f; L() { f = new K(1); } predicate P { } } L o = new L(); L::P { <<64 eq(object.f.k, #); >>} | fine
+class K { int k; K(int n) { k = n; } } class L { K f; L() { f = new K(1); } predicate P { } } L o = new L(); L::P { <<65 eq(object.f.k, #); >>} | Limit:locals m 109
+class K { int k; K(int n) { k = n; } } class L { K f; L() { f = new K(1); } predicate P { } } L o = new L(); L p = new L(); L::P { foreach (q in L) { <<512 eq(q.f.k, #); >>} } | fine
+class K { int k; K(int n) { k = n; } } class L { K f; L() { f = new K(1); } predicate P { } } L o = new L(); L p = new L(); L::P { foreach (q in L) { <<513 eq(q.f.k, #); >>} } | \
+    Limit:items m 124
 class A { predicate P {  <<1025 leq(start, #); >>} } | Limit:items m 20
 ";
 

@@ -81,6 +81,20 @@ const FAULTS: &str = "
 #include \"q\" A::P { foreach (o in B) { } } | Unknown m 34
 #include \"q\" A::P { foreach (o in r) { } } | WrongType m 34
 #include \"q\" A::P { foreach (o in A) { int o; eq(o, 1); } } | WrongType m 52
+#include \"q\" A::P { int r; A {r} x; } | WrongType m 30
+#include \"q\" A::P { int r; if (b) { A {r} x; } } | WrongType m 39
+#include \"q\" A::P { any(Q r); A {r} x; } | WrongType m 33
+#include \"q\" A::P { if (b) { int r; } A {r, q} x; } | Unknown m 44
+#include \"q\" A::P { A {v} x; } | WrongType m 23
+#include \"q\" A::P { A {object} x; } | WrongType m 23
+#include \"q\" A::P { int [start 5] x; } | WrongType m 25
+#include \"q\" A::P { int [0 w] w; } | Unknown m 27
+#include \"q\" enum E { e, f } A::P { bool e; E {f, e} x; } | WrongType m 50
+#include \"q\" A::P { foreach (o in A) { int [0 o] x; } } | WrongType m 46
+#include \"q\" A::P { foreach (o in A) { bool [o 1] x; } } | WrongType m 45
+#include \"q\" A::P { foreach (o in A) { bool {true, o} x; } } | WrongType m 51
+#include \"q\" A::P { foreach (o in Object) { A {r, o} x; } } | NotInDomain m 50
+#include \"q\" class B extends A { } typedef B {s} T; B s = new B(); A::P { foreach (o in A) { T {o} x; } } | NotInDomain m 96
 #include \"q\" A::P { if (v) { } } | WrongType m 24
 #include \"q\" A::P { if (v == b) { } else { eq(q, 1); } } | WrongType m 29
 #include \"q\" A::P { A n = new A(); } | WrongType m 26
@@ -114,6 +128,9 @@ class A { int k; A() { k = 1; } predicate P { } } enum E { a, b } A o = new A();
 class R extends Reusable { R() { super(3); } } Reusable::uses { eq(quantity, 1); } R::uses { foreach (r in Reusable) { } } | 0 m 1 47 \
     1: 67 p0; 3 m 1 47 1: 67 p0; 3 m 2 83 1: 107 b2;
 class N; class N { predicate P { } } int z; N::P { eq(z, 1); Timeline t; N n; } | 3 m 3 44 3: 54 f1 61 b1 73 f0;
+class B { predicate P { } } class A extends B { } A r = new A(); A s = new A(); B::P { B {s, r} x; foreach (r in A) { int r; B \
+    {r, s} y; } B {r} z; } | 3 m 4 80 3: 87 f0 90 f3 93 f2 113 f1 125 f0 128 t0 131 f3 139 f0 142 f2; 4 m 4 80 3: 87 f0 90 f3 93 \
+    f2 113 f1 125 f0 128 t0 131 f3 139 f0 142 f2;
 ";
 
 #[test]

@@ -247,14 +247,6 @@ pub fn stand(alloc: Global, model: &Model, decisions: &[Decision], choices: &str
     all && choices.next().is_none()
 }
 
-/// Whether the last decision that stands is this one.
-pub fn is_last(alloc: Global, db: &Db, choice: &str) -> bool {
-    match db.decisions().last() {
-        Some(last) => is_choice(alloc, model_of(db), last, Some(choice)),
-        None => false,
-    }
-}
-
 fn is_written(alloc: Global, model: &Model, plan: &Plan, text: &str) -> bool
     requires lawful { IsLawful model.now }
     requires plan { IsPlanOf model.now plan.now }

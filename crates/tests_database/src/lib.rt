@@ -1,8 +1,8 @@
 //! Tests of the plan database, of searches, conflicts and cycles on it, and of the plan of a state.
 //! Steps on the models `mission` and `rounds` come in as rows, each with its answer, worked out by hand from what a state
-//! is; the answers are compared, and it is counted how much work some steps take, in the generated problem too.
+//! is; the answers are compared, and it is counted how much work some steps take.
 //! Nothing here is called by others: `rt test` proves and runs the tests.
-//! It knows nothing of scripts and the program, and poses no text but the generated one. All of it may change.
+//! It knows nothing of texts, scripts and the program. All of it may change.
 #![tactic(auto)]
 
 #[cfg(test)]

@@ -55,14 +55,6 @@ fn searched(alloc: Global, db: &mut Db, from: &str, steps: u32, tokens: u32) -> 
     (end, db.decisions().len(), db.history())
 }
 
-/// Searches in so many visits, and answers whether a plan was found.
-pub fn find_plan(alloc: Global, db: &mut Db, steps: u32) -> bool {
-    matches!(
-        solve(alloc, db, &Plain, steps, 512),
-        Ok(SearchEnd::Found(_))
-    )
-}
-
 impl Trial for Search {
     type Told = Option<End>;
 

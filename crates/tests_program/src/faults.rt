@@ -1,10 +1,8 @@
 //! What is left of a run where a call of the outside fails.
 
 use super::rows::{assert_none, assert_runs, files_of, text_in};
-use super::runs::{CALM, Fails, NONE, Ran, is_run, ran};
-use super::texts::text_of;
+use super::runs::{Fails, NONE, Ran, is_run, ran};
 use std::alloc::Global;
-use tests_samples::shelves::{add_file, entry};
 
 /// Two variables and a plan of them, and lines over them.
 const COMMON: &str = "m.nddl
@@ -128,18 +126,31 @@ fn a_fault_ends_the_run(rt: HostRuntime) {
     assert_runs(&rt, FAULTS, COMMON);
 }
 
-/// How long so many first lines are.
-fn length_of(text: &[u8], lines: usize) -> usize {
-    let mut left = lines;
-    for (place, byte) in text.iter().enumerate() {
-        if left == 0 {
-            return place;
-        }
-        if *byte == b'\n' {
-            left -= 1;
-        }
+/// How many calls a sink needs for a line that takes so many bytes a call.
+fn calls_for(line: &str, most: usize) -> usize {
+    line.len().saturating_add(most) / most.max(1)
+}
+
+/// How many calls it needs for all lines of a text, each of which is handed over as one piece.
+fn calls_for_all(text: &str, most: usize) -> usize {
+    let mut calls: usize = 0;
+    for line in text.trim_end().split('\n') {
+        calls = calls.saturating_add(calls_for(line, most));
     }
-    text.len()
+    calls
+}
+
+/// How many bytes of the text so many calls take.
+fn taken_by(text: &str, calls: usize, most: usize) -> usize {
+    let mut left = calls;
+    let mut bytes: usize = 0;
+    for line in text.trim_end().split('\n') {
+        let made = calls_for(line, most).min(left);
+        let room = made.saturating_mul(most);
+        bytes = bytes.saturating_add(room.min(line.len().saturating_add(1)));
+        left = left.saturating_sub(made);
+    }
+    bytes
 }
 
 /// How many lines end in so many first bytes.
@@ -159,14 +170,27 @@ fn next_call(calls: usize) -> u64 {
     (calls as u64).saturating_add(1)
 }
 
-/// Whether the script of these sections writes just so many lines of its output where a call fails, and the number of the
-/// status.
-fn stopped(alloc: Global, sections: &str, most: usize, fails: Fails, lines: usize) -> Ran {
+/// Whether the script of these sections writes just so many bytes of its output where a call fails, and the number of the
+/// status. The input comes, and the output is taken, so many bytes a call.
+fn stopped(
+    alloc: Global,
+    sections: &str,
+    pieces: (usize, usize),
+    fails: Fails,
+    bytes: usize,
+) -> Ran {
     let output = text_in(sections, "", "output").as_bytes();
-    let front = &output[..length_of(output, lines).min(output.len())];
+    let front = &output[..bytes.min(output.len())];
     let input = text_in(sections, "", "input").as_bytes();
     match files_of(alloc, sections, "") {
-        Ok(files) => ran(alloc, "script m.nddl", files, (input, most), fails, front),
+        Ok(files) => ran(
+            alloc,
+            "script m.nddl",
+            files,
+            (input, pieces.0),
+            fails,
+            (front, pieces.1),
+        ),
         Err(none) => Err(none),
     }
 }
@@ -219,27 +243,36 @@ ok
 y [0 10]
 ";
 
-/// Whether so many lines are written where the write behind them fails, and the number of the status.
-fn written(alloc: Global, script: &str, lines: usize) -> Ran {
-    let fails = (NONE, NONE, next_call(lines));
-    stopped(alloc, script, 4_096, fails, lines)
+/// Whether what so many calls take is written where the call behind them fails, and the number of the status.
+fn written(alloc: Global, script: &str, calls: usize, most: usize) -> Ran {
+    let bytes = taken_by(text_in(script, "", "output"), calls, most);
+    let fails = (NONE, NONE, next_call(calls));
+    stopped(alloc, script, (4_096, most), fails, bytes)
 }
 
 /// Whether so many bytes of the edits are answered where the read behind them fails, and the number of the status.
 fn read(alloc: Global, edits: &[u8], bytes: usize) -> Ran {
     let lines = lines_in(edits, bytes);
     let fails = (NONE, next_call(bytes), NONE);
-    stopped(alloc, EDITED, 1, fails, lines)
+    let answered = taken_by(text_in(EDITED, "", "output"), lines, usize::MAX);
+    stopped(alloc, EDITED, (1, usize::MAX), fails, answered)
 }
 
-/// The first of so many numbers of lines behind which a failed write leaves something else than these.
-fn wrong_write(alloc: Global, script: &str, pieces: usize) -> Option<usize> {
-    for lines in 0..pieces {
-        if !is_run(written(alloc, script, lines), 21) {
-            return Some(lines);
+/// The first number of calls behind which a failed write leaves something else than what these take.
+fn wrong_write(alloc: Global, script: &str, most: usize) -> Option<usize> {
+    let all = calls_for_all(text_in(script, "", "output"), most);
+    for calls in 0..all {
+        if !is_run(written(alloc, script, calls, most), 21) {
+            return Some(calls);
         }
     }
     None
+}
+
+/// Whether all is written where a call fails that isn't made.
+fn is_all_written(alloc: Global, script: &str, most: usize) -> bool {
+    let all = calls_for_all(text_in(script, "", "output"), most);
+    is_run(written(alloc, script, all, most), 0)
 }
 
 /// The first number of bytes of the edits behind which a failed read leaves something else than it should.
@@ -252,54 +285,27 @@ fn wrong_read(alloc: Global, edits: &[u8]) -> Option<usize> {
     None
 }
 
-// A line is one piece.
+/// How many bytes a sink takes a call: each piece whole, one, and seven.
+const PIECES: [usize; 3] = [usize::MAX, 1, 7];
+
 #[test]
-fn a_failed_write_leaves_the_lines_before(rt: HostRuntime) {
-    assert_none(&rt, wrong_write(rt.alloc(), ORDERS, 15));
-    assert_none(&rt, wrong_write(rt.alloc(), FOUND_THEN, 13));
+fn a_failed_write_leaves_what_was_taken_before(rt: HostRuntime) {
+    for most in PIECES {
+        assert_none(&rt, wrong_write(rt.alloc(), ORDERS, most));
+        assert_none(&rt, wrong_write(rt.alloc(), FOUND_THEN, most));
+    }
 }
 
 #[test]
-fn no_line_is_written_behind_the_last(rt: HostRuntime) {
-    assert!(rt; is_run(written(rt.alloc(), ORDERS, 15), 0));
-    assert!(rt; is_run(written(rt.alloc(), FOUND_THEN, 13), 0));
+fn nothing_is_written_behind_the_last(rt: HostRuntime) {
+    for most in PIECES {
+        assert!(rt; is_all_written(rt.alloc(), ORDERS, most));
+        assert!(rt; is_all_written(rt.alloc(), FOUND_THEN, most));
+    }
 }
 
 #[test]
 fn a_failed_read_leaves_the_lines_before(rt: HostRuntime) {
     let edits = text_in(EDITED, "", "input").as_bytes();
     assert_none(&rt, wrong_read(rt.alloc(), edits));
-}
-
-/// Whether a script over this file, without any input, writes nothing, and the number of its status.
-fn ran_silent(alloc: Global, file: &[u8]) -> Ran {
-    let mut files = Vec::new(alloc);
-    match add_file(&mut files, entry(alloc, "m.nddl", file)) {
-        Ok(()) => ran(alloc, "script m.nddl", files, (b"", 16), CALM, b""),
-        Err(none) => Err(none),
-    }
-}
-
-/// Whether so many first bytes of a file, without any input, end with one of these numbers: that the file is fine, or
-/// that it has a fault.
-fn is_read(alloc: Global, file: &[u8], count: usize) -> bool {
-    match ran_silent(alloc, &file[..count.min(file.len())]) {
-        Ok((silent, status)) => (silent && status == 0) || (!silent && status == 3),
-        Err(_none) => false,
-    }
-}
-
-/// The first number of bytes whose front of the file ends otherwise.
-fn wrong_front(alloc: Global, file: &[u8]) -> Option<usize> {
-    for count in 0..file.len() + 1 {
-        if !is_read(alloc, file, count) {
-            return Some(count);
-        }
-    }
-    None
-}
-
-#[test]
-fn each_front_of_a_file_is_fine_or_faulty(rt: HostRuntime) {
-    assert_none(&rt, wrong_front(rt.alloc(), text_of("USUAL").as_bytes()));
 }

@@ -7,7 +7,11 @@
 #[cfg(test)]
 mod checks;
 #[cfg(test)]
+mod costs;
+#[cfg(test)]
 mod faults;
+#[cfg(test)]
+mod fronts;
 #[cfg(test)]
 mod limits;
 #[cfg(test)]

@@ -93,7 +93,7 @@ fn ran_on(alloc: Global, row: Row<'_>, input: &str, output: &str) -> Ran {
             files,
             (input.as_bytes(), 16),
             fails,
-            output.as_bytes(),
+            (output.as_bytes(), usize::MAX),
         ),
         Err(none) => Err(none),
     }

@@ -79,12 +79,12 @@ fn shelf_of(alloc: Global, files: Vec<FileEntry>, fails: u64) -> Result<MemShelf
     }
 }
 
-/// A sink that has room for more than so many bytes, of which one call fails.
-fn sink_of(alloc: Global, length: usize, fails: u64) -> Result<MemSink, AllocError> {
+/// A sink that has room for more than the output, takes so many bytes a call, and of which one call fails.
+fn sink_of(alloc: Global, output: (&[u8], usize), fails: u64) -> Result<MemSink, AllocError> {
     MemSink::new(
         alloc,
-        length.saturating_add(99),
-        usize::MAX,
+        output.0.len().saturating_add(99),
+        output.1.max(1),
         one_call(alloc, fails)?,
     )
 }
@@ -96,11 +96,11 @@ fn ran_from(
     shelf: &mut MemShelf,
     source: &mut MemSource,
     fails: u64,
-    output: &[u8],
+    output: (&[u8], usize),
 ) -> Ran {
-    let mut sink = sink_of(alloc, output.len(), fails)?;
+    let mut sink = sink_of(alloc, output, fails)?;
     let status = europa(alloc, words, shelf, source, &mut sink);
-    Ok((sink.as_slice() == output, status.number()))
+    Ok((sink.as_slice() == output.0, status.number()))
 }
 
 /// Whether a run whose input comes so many bytes a call writes this, and the number of its status.
@@ -110,7 +110,7 @@ fn ran_over(
     shelf: &mut MemShelf,
     input: (&[u8], usize),
     fails: Fails,
-    output: &[u8],
+    output: (&[u8], usize),
 ) -> Ran {
     let mut source = source_of(alloc, input.0, input.1, fails.1)?;
     ran_from(alloc, words, shelf, &mut source, fails.2, output)
@@ -123,20 +123,21 @@ fn ran_words(
     files: Vec<FileEntry>,
     input: (&[u8], usize),
     fails: Fails,
-    output: &[u8],
+    output: (&[u8], usize),
 ) -> Ran {
     let mut shelf = shelf_of(alloc, files, fails.0)?;
     ran_over(alloc, words, &mut shelf, input, fails, output)
 }
 
-/// Whether the run of the words of a line writes this, and the number of its status.
+/// Whether the run of the words of a line writes this, and the number of its status. The input comes so many bytes a call, and
+/// the output is taken so many bytes a call.
 pub fn ran(
     alloc: Global,
     line: &str,
     files: Vec<FileEntry>,
     input: (&[u8], usize),
     fails: Fails,
-    output: &[u8],
+    output: (&[u8], usize),
 ) -> Ran {
     match words_of(alloc, line) {
         Ok(words) => ran_words(alloc, words.as_slice(), files, input, fails, output),

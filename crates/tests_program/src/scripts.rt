@@ -413,6 +413,20 @@ domain g.v
 ok
 g.v [7 1000000]
 
+== # A set in a rule has the object of the turn.
+== 0 script m.nddl
+-- m.nddl
+class R { predicate P { } } R::P { foreach (r in R) { R {r} x; } } R r = new R(); R s = new R(); goal(r.P g);
+-- input
+activate g
+domain g/0!0
+domain g/0!1
+
+-- output
+ok
+g/0!0 {r}
+g/0!1 {s}
+
 == # A token that is merged has the values of its target.
 == 0 script m.nddl
 -- m.nddl
