@@ -1,8 +1,8 @@
 """Runs the program on a task of places.py, and measures what that costs.
 
-`measure(program, task, room, limit, counts)` gives a Cost. The files of the run are in the folder `room`; a run that takes
-more than `limit` seconds of processor time, or too much memory, is stopped. Where `counts` is true valgrind counts the
-instructions of the run instead of its seconds.
+`measure(program, task, room, bounds, counts)` gives a Cost. The files of the run are in the folder `room`; a run that takes
+more seconds of processor time than its bounds say, or too much memory, is stopped, and its stack is as large as they say, in
+MiB, or as it is anyway. Where `counts` is true valgrind counts the instructions of the run instead of its seconds.
 """
 import collections
 import os
@@ -15,6 +15,7 @@ import time
 # Seconds or instructions, and the greatest memory in MiB; or, in words, why there are none, and whether the program has
 # done what it must not.
 Cost = collections.namedtuple("Cost", "amount mebibytes failed wrong", defaults=(None, False))
+Bounds = collections.namedtuple("Bounds", "seconds stack", defaults=(None,))
 # How much memory a run may take before it is stopped, in MiB.
 MOST_MEMORY = 2048
 # A run with less seconds than this is made three times, and the one with the least counts.
@@ -61,12 +62,14 @@ def wait_for(process):
     return used, told if told > least else most
 
 
-def run(command, room, limit):
+def run(command, room, bounds):
     """Runs a command with the input of the room, and gives its status, its seconds, and its greatest memory in MiB."""
 
     def set_limits():
-        resource.setrlimit(resource.RLIMIT_CPU, (limit, limit + 1))
+        resource.setrlimit(resource.RLIMIT_CPU, (bounds.seconds, bounds.seconds + 1))
         resource.setrlimit(resource.RLIMIT_CORE, (0, 0))
+        if bounds.stack:
+            resource.setrlimit(resource.RLIMIT_STACK, (bounds.stack << 20, bounds.stack << 20))
 
     with open(f"{room}/input", "rb") as source, open(f"{room}/output", "wb") as sink:
         process = subprocess.Popen(command, cwd=room, stdin=source, stdout=sink, stderr=subprocess.DEVNULL, preexec_fn=set_limits)
@@ -111,7 +114,7 @@ def write_files(task, room):
             file.write(text)
 
 
-def measure(program, task, room, limit, counts):
+def measure(program, task, room, bounds, counts):
     """What the program costs on a task, as told above."""
     write_files(task, room)
     command = [program, task.command, "problem.nddl", *task.further]
@@ -120,8 +123,8 @@ def measure(program, task, room, limit, counts):
     costs = []
     try:
         while not costs or (len(costs) < 3 and costs[-1].amount < SHORT):
-            status, seconds, mebibytes = run(command, room, limit)
-            judge(task, status, seconds, room, limit)
+            status, seconds, mebibytes = run(command, room, bounds)
+            judge(task, status, seconds, room, bounds.seconds)
             costs.append(Cost(counted(room) if counts else seconds, mebibytes))
     except Stopped as why:
         return Cost(None, None, str(why), isinstance(why, Wrong))

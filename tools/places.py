@@ -57,6 +57,11 @@ def line_of_classes(size):
     return [f"class A{it} extends A{it - 1} {{ }}" for it in range(1, size + 1)]
 
 
+def classes_in_line(size):
+    """classes one below the other"""
+    return planned(["class A0 { }", *line_of_classes(size)], NOTHING_TO_PLAN)
+
+
 def inherited_fields(size):
     """fields that as many classes in a line inherit"""
     fields = " ".join(f"int f{it};" for it in range(size))
@@ -162,6 +167,19 @@ def reset_in_front(size):
     return scripted(machine_with(size), [*chain(size), "reset g0"], [("ok", 2 * size)])
 
 
+def nested_subgoals(size):
+    """subgoals one below the other that a script activates, the last of which is merged"""
+    problem = ["class N { predicate A { } }", "N::A { any(object.A a); }", "N n = new N();", "goal(n.A g);", "goal(n.A h);"]
+    script = [f"activate g{'/0:0' * it}" for it in range(size)]
+    return scripted(problem, [*script, "activate h", f"merge g{'/0:0' * size} h"], [("ok", size + 2)])
+
+
+def merged_goals(size):
+    """goals that a script merges into one"""
+    problem = ["class N { predicate A { } }", "N n = new N();", "goal(n.A g);", *(f"goal(n.A g{it});" for it in range(size))]
+    return scripted(problem, ["activate g", *(f"merge g{it} g" for it in range(size))], [("ok", size + 1)])
+
+
 def resources(size):
     """uses of one resource that a script activates, each with its time and its quantity"""
     problem = ["Reusable tool = new Reusable(1);", *(f"goal(tool.uses u{it});" for it in range(size))]
@@ -215,6 +233,13 @@ def script_lines(size):
     return scripted(["int [0 9] x;"], ["domain x"] * size, [(r"x \[0 9\]", size)])
 
 
+def nested_blocks(size):
+    """rules with blocks nested as deep as they may be"""
+    block = "if (b) { " * 15 + "} " * 15
+    problem = [f"class A{it} {{ predicate P {{ bool b; }} }} A{it}::P {{ {block}}}" for it in range(size)]
+    return planned(problem, NOTHING_TO_PLAN)
+
+
 def shown_bytes(size):
     """bytes of a text that is shown"""
     parts, left, number = [], size - 300, 0
@@ -245,13 +270,17 @@ PLACES = by_name([
     (why_all, (100, 200, 400), Goal()),
     (why_round, (32, 64, 128), Goal()),
     (negative_cycles, (8, 16, 32, 4096), Goal(seconds=1)),
+    (classes_in_line, (8_000, 16_000, 30_000), Goal()),
     (inherited_fields, (500, 1000, 2000, 24000), Goal()),
     (inherited_rules, (500, 1000, 2000, 17000), Goal()),
     (all_different, (750, 1500, 3000, 4096), Goal()),
     (constructors, (500, 1000, 2000), Goal()),
     (equal_fields, (1000, 2000, 4000), Goal()),
     (going_back, (50, 100, 200), Goal()),
+    (nested_subgoals, (128, 256, 511), Goal()),
+    (merged_goals, (1_000, 2_000, 4_000), Goal()),
     (resources, (128, 256, 512), Goal()),
     (script_lines, (10_000, 100_000, 1_000_000), Goal(seconds=1)),
+    (nested_blocks, (1_000, 2_000, 4_000), Goal()),
     (shown_bytes, (65_536, 262_144, 1_048_576), Goal()),
 ])
