@@ -114,6 +114,21 @@ class R { } R r = new R(); R s = new R(); class A { R {r} f; A(R x) { f = x; } }
 class A { A(int [0 5] n) { } } A a = new A(9); | fine
 class A { int k; A(int k) { k = k; } } A a = new A(9); | fine
 class A { A f; A() { f = new A(); } } A a = new A(); | Limit:new m 29
+class A0 { } class A1 { A0 f; A1() { f = new A0(); } } class A2 { A1 f; A2() { f = new A1(); } } class A3 { A2 f; \
+    A3() { f = new A2(); } } class A4 { A3 f; A4() { f = new A3(); } } class A5 { A4 f; A5() { f = new A4(); } } \
+    class A6 { A5 f; A6() { f = new A5(); } } class A7 { A6 f; A7() { f = new A6(); } } class A8 { A7 f; A8() { f = \
+    new A7(); } } class A9 { A8 f; A9() { f = new A8(); } } class A10 { A9 f; A10() { f = new A9(); } } class A11 { \
+    A10 f; A11() { f = new A10(); } } class A12 { A11 f; A12() { f = new A11(); } } class A13 { A12 f; A13() { f = \
+    new A12(); } } class A14 { A13 f; A14() { f = new A13(); } } class A15 { A14 f; A15() { f = new A14(); } } class \
+    A16 { A15 f; A16() { f = new A15(); } } A16 a = new A16(); | fine
+class A0 { } class A1 { A0 f; A1() { f = new A0(); } } class A2 { A1 f; A2() { f = new A1(); } } class A3 { A2 f; \
+    A3() { f = new A2(); } } class A4 { A3 f; A4() { f = new A3(); } } class A5 { A4 f; A5() { f = new A4(); } } \
+    class A6 { A5 f; A6() { f = new A5(); } } class A7 { A6 f; A7() { f = new A6(); } } class A8 { A7 f; A8() { f = \
+    new A7(); } } class A9 { A8 f; A9() { f = new A8(); } } class A10 { A9 f; A10() { f = new A9(); } } class A11 { \
+    A10 f; A11() { f = new A10(); } } class A12 { A11 f; A12() { f = new A11(); } } class A13 { A12 f; A13() { f = \
+    new A12(); } } class A14 { A13 f; A14() { f = new A13(); } } class A15 { A14 f; A15() { f = new A14(); } } class \
+    A16 { A15 f; A16() { f = new A15(); } } class A17 { A16 f; A17() { f = new A16(); } } A17 a = new A17(); | \
+    Limit:new m 45
 Reusable u = new Reusable(-1); | NotInDomain m 17
 Reservoir r = new Reservoir(5, 0, 4); | NotInDomain m 18
 PlannerConfig p = new PlannerConfig(0, 10, 5, q); | Unknown m 46
