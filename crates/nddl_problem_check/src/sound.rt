@@ -57,7 +57,7 @@ fn note_making(
     }
 }
 
-// Notes the same of each of the declarations.
+// Notes what is wrong with the texts of the declarations that count.
 #[tactic(auto, using(nddl_symbols::proofs::Earliest::earliest_append))]
 fn note_all_making(
     alloc: Global,

@@ -2,11 +2,13 @@
 
 ghost use Rattle.std.specs.Prelude.{◌≡◌, IfOk, OnOk};
 ghost use Rattle.std.specs.Option.{option_or};
+ghost use Rattle.nddl_ast.specs.declared.kind.TextKind.TheVariants.{LimitMembers};
 ghost use Rattle.nddl_symbols.specs.Finding.{earliest_fault};
+ghost use Rattle.nddl_symbols.specs.Scope.{fault_if};
 ghost use Rattle.nddl_hierarchy.specs.Facts.{facts_of};
 ghost use Rattle.nddl_resolve.specs.Paths.{around_of, near_denoted, own_denoted};
 ghost use Rattle.nddl_typeexpr.specs.Bounds.{are_too_many};
-ghost use Rattle.nddl_rule_check.specs.Types.{file_member_faults, local_bounds_faults, local_end_fault, local_end_number, local_ends_faults, local_member_faults, local_members_faults, local_no_range_faults, local_number, local_numbers, local_range_faults, local_set_faults, local_type_faults, local_value_fault, near_fault, near_member_fault, near_value, object_faults, turn_fault};
+ghost use Rattle.nddl_rule_check.specs.Types.{file_member_faults, local_bounds_faults, local_end_fault, local_end_number, local_ends_faults, local_member_faults, local_members_faults, local_no_range_faults, local_number, local_numbers, local_range_faults, local_type_faults, local_value_fault, near_fault, near_member_fault, near_value, object_faults, turn_fault};
 
 use eu_name::text::Text;
 use nddl_ast::TextKind;
@@ -223,20 +225,27 @@ fn local_number(
 
 // ---- bounds
 
+// A range as it is written: where it begins, and its ends.
+#[derive(Clone, Copy)]
+struct WrittenRange<'a> {
+    at: u32,
+    least: &'a Value,
+    greatest: &'a Value,
+}
+
 // Notes what is wrong with a range behind a type that may have one.
 #[tactic(auto, using(nddl_symbols::proofs::Earliest::earliest_append))]
 fn note_ends(
     spot: &Spot<'_>,
     around: &Around<'_>,
     extent: &Extent,
-    at: u32,
-    least: &Value,
-    greatest: &Value,
+    range: &WrittenRange<'_>,
     first: &mut Option<Fault>,
 )
-    ensures { first.new ≡ earliest_fault first.old
-        (local_ends_faults (facts_of spot.now.basis) (around_of around.now) extent.now spot.now.decl at least.now greatest.now) }
+    ensures { first.new ≡ earliest_fault first.old (local_ends_faults (facts_of spot.now.basis) (around_of around.now)
+        extent.now spot.now.decl range.now.at range.now.least.now range.now.greatest.now) }
 {
+    let (least, greatest) = (range.least, range.greatest);
     let is_wrong = is_wrong_range(
         extent,
         local_end_number(&spot.basis, around, least),
@@ -247,7 +256,7 @@ fn note_ends(
     note_at(
         first,
         spot.decl,
-        at,
+        range.at,
         kind_if(is_wrong, TextKind::NotInDomain),
     );
     note_at(first, spot.decl, least.place(), least_fault);
@@ -279,18 +288,16 @@ fn note_range(
     around: &Around<'_>,
     kind: TypeKind,
     extent: &Extent,
-    at: u32,
-    least: &Value,
-    greatest: &Value,
+    range: &WrittenRange<'_>,
     first: &mut Option<Fault>,
 )
     ensures { first.new ≡ earliest_fault first.old (local_range_faults (facts_of spot.now.basis) (around_of around.now)
-        kind extent.now spot.now.decl at least.now greatest.now) }
+        kind extent.now spot.now.decl range.now.at range.now.least.now range.now.greatest.now) }
 {
     if extent.is_ranged(kind) {
-        note_ends(spot, around, extent, at, least, greatest, first)
+        note_ends(spot, around, extent, range, first)
     } else {
-        note_no_range(spot, around, least, greatest, first)
+        note_no_range(spot, around, range.least, range.greatest, first)
     }
 }
 
@@ -315,22 +322,6 @@ fn local_numbers(
     Ok(numbers)
 }
 
-// Whether too many of these numbers are distinct.
-fn has_too_many(
-    alloc: Global,
-    basis: &Basis<'_>,
-    around: &Around<'_>,
-    kind: TypeKind,
-    extent: &Extent,
-    values: &[Value],
-) -> Result<bool, AllocError>
-    ensures { IfOk result (λ many. many
-        ≡ are_too_many (local_numbers (facts_of basis.now) (around_of around.now) kind extent.now values.now)) }
-{
-    let numbers = local_numbers(alloc, basis, around, kind, extent, values)?;
-    are_too_many(alloc, numbers.as_slice())
-}
-
 // Notes what is wrong with each of the values of a set.
 #[tactic(auto, using(nddl_symbols::proofs::Earliest::earliest_append))]
 fn note_members(
@@ -351,32 +342,25 @@ fn note_members(
     Ok(())
 }
 
-// Notes what is wrong with a set.
-#[tactic(auto, using(nddl_symbols::proofs::Earliest::earliest_append))]
-fn note_set(
+// The fault of a set that has too many members.
+fn length_fault(
     alloc: Global,
-    spot: &Spot<'_>,
+    basis: &Basis<'_>,
     around: &Around<'_>,
     kind: TypeKind,
     extent: &Extent,
-    at: u32,
     values: &[Value],
-    first: &mut Option<Fault>,
-) -> Result<(), AllocError>
-    ensures { OnOk result (first.new ≡ earliest_fault first.old (local_set_faults (facts_of spot.now.basis)
-        (around_of around.now) kind extent.now spot.now.decl at values.now)) }
+) -> Result<Option<TextKind>, AllocError>
+    ensures { IfOk result (λ fault. fault ≡ fault_if
+        (are_too_many (local_numbers (facts_of basis.now) (around_of around.now) kind extent.now values.now)) LimitMembers) }
 {
-    let is_long = has_too_many(alloc, &spot.basis, around, kind, extent, values)?;
-    note_at(
-        first,
-        spot.decl,
-        at,
-        kind_if(is_long, TextKind::LimitMembers),
-    );
-    note_members(alloc, spot, around, kind, extent, values, first)
+    let numbers = local_numbers(alloc, basis, around, kind, extent, values)?;
+    let is_long = are_too_many(alloc, numbers.as_slice())?;
+    Ok(kind_if(is_long, TextKind::LimitMembers))
 }
 
 // Notes what is wrong with the bounds behind a type of this kind that has these values.
+#[tactic(auto, using(nddl_symbols::proofs::Earliest::earliest_append))]
 fn note_bounds(
     alloc: Global,
     spot: &Spot<'_>,
@@ -396,19 +380,20 @@ fn note_bounds(
             least,
             greatest,
         } => {
-            note_range(spot, around, kind, extent, *at, least, greatest, first);
+            let range = WrittenRange {
+                at: *at,
+                least,
+                greatest,
+            };
+            note_range(spot, around, kind, extent, &range, first);
             Ok(())
         }
-        Bounds::Set { at, values } => note_set(
-            alloc,
-            spot,
-            around,
-            kind,
-            extent,
-            *at,
-            values.as_slice(),
-            first,
-        ),
+        Bounds::Set { at, values } => {
+            let values = values.as_slice();
+            let fault = length_fault(alloc, &spot.basis, around, kind, extent, values)?;
+            note_at(first, spot.decl, *at, fault);
+            note_members(alloc, spot, around, kind, extent, values, first)
+        }
     }
 }
 

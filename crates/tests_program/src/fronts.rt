@@ -139,7 +139,7 @@ fn each_front_of_a_file_is_fine_or_has_its_first_fault(rt: HostRuntime) {
     assert_none(&rt, wrong_front(rt.alloc(), text_of("USUAL").as_bytes()));
 }
 
-/// A file that includes three others, the second of which includes the last, and a plan of its variable.
+/// A file that includes two others, the second of which includes a third one, and a plan of its variables.
 const INCLUDING: &str = "m.nddl
 #include \"a\" #include \"b\" leq(x, y);
 -- a
