@@ -171,6 +171,7 @@ goes_back cells trail now left is =
       newer = is.newer;
       past = is.past;
       count = length-past_of (cell_domains now) left;
+      fewer = omega (arith, is.fewer, ap length here, ap length there, count, length-map cells (λ c. c.domain));
       stamps = length-map now (λ c. c.stamp) ∙ sym (ap length here ∙ count);
       follow = λ cell below.
           subst (λ list. FollowsDomain (domain_at list cell) (slice_index_or (map (λ c. c.stamp) cells) cell 0) (domain_at (present (view_of now left)) cell) (slice_index_or (map (λ c. c.stamp) now) cell 0)) (sym there)

@@ -1,5 +1,5 @@
 -- Cells with their domains, and what can be gone back to.
-use Rattle.std.specs.Prelude.{◌≡◌, ◌≢◌, ℕ, ◌+◌, ◌-◌, ◌^◌, ◌<◌, min, List, [], ◌∷◌, ◌++◌}
+use Rattle.std.specs.Prelude.{◌≡◌, ◌≢◌, ℕ, ◌+◌, ◌-◌, ◌^◌, ◌<◌, ◌≤◌, min, List, [], ◌∷◌, ◌++◌}
 use Rattle.std.specs.Prelude.{◌⊎◌, length, slice_index_or, slice_set, Result, Ok, Err, Option, Some, None, IfSome, pos}
 use Rattle.std.specs.declared.alloc.AllocError.{AllocError}
 use Rattle.domain_core.specs.Domain.{Domain, Range, Has}
@@ -79,12 +79,13 @@ NarrowsCell cell to since old (Err none) new = new ≡ old
 abbrev pub FollowsDomain : Domain → ℕ → Domain → ℕ → Type 0
 FollowsDomain old stamp new next = ((new ≡ old) × (next ≡ stamp)) ⊎ ((new ≢ old) × ((stamp < next) ⊎ (next ≡ 2 ^ 64 - 1)))
 
--- the cells and domains at the place are back, and what could be gone back to before it; exactly the cells are written
--- whose domain wasn't that one
+-- the cells and domains at the place are back, and what could be gone back to before it; no cell comes, and exactly the
+-- cells are written whose domain wasn't that one
 pub record GoesBack (place : ℕ) (old new : Celled) : Type 0 where
   pub newer : List (List Domain)
   pub past : old.past ≡ newer ++ new.past
   pub count : length new.past ≡ place + 1
+  pub fewer : length (present new) ≤ length (present old)
   pub stamps : length new.stamps ≡ length (present new)
   pub follow : (cell : ℕ) → cell < length (present new)
       → FollowsDomain (domain_at (present old) cell) (slice_index_or old.stamps cell 0)

@@ -14,7 +14,7 @@ use Rattle.domain_core.specs.declared.kind.Kind.{Kind}
 use Rattle.narrow_core.specs.declared.field.Field.{Field}
 use Rattle.constraint_net.specs.Agendas.{HasVariables, Grows, Enrols, Forgets, Waits}
 use Rattle.constraint_net.specs.Arguments.{IsArgument, domains_of}
-use Rattle.constraint_net.specs.Networks.{IsAllowed, field_of}
+use Rattle.constraint_net.specs.Networks.{IsAllowed, AllConsistent, field_of}
 use Rattle.constraint_net.specs.Queues.{Queued}
 use Rattle.constraint_net.specs.Waiting.{NameWithin, WerePosted, IsKeptAgenda}
 use Rattle.constraint_net.specs.declared.agenda.Agenda.{Agenda}
@@ -176,6 +176,13 @@ posted_tables tables more count constraints posted = λ k d below. record {
   count = (posted k d below).count;
   allowed = allowed_more tables more (get_or constraints k d).kind (get_or constraints k d).args (posted k d below).allowed;
 }
+
+-- constraints that are consistent are so with more tables
+pub all_tables : (tables more : List Field) (count : ℕ) (constraints : List Constraint) (domains : List Domain) → WerePosted tables count constraints → AllConsistent tables constraints domains
+    → AllConsistent (tables ++ more) constraints domains
+all_tables tables more count constraints domains posted all = λ k d below.
+    let one = get_or constraints k d in
+    agree_more tables more one.kind one.args (domains_of domains one.args) (posted k d below).allowed (all k d below)
 
 pub kept_tables : (tables more : List Field) (constraints : List Constraint) (domains : List Domain) (agenda : Agenda) → WerePosted tables (length domains) constraints → IsKeptAgenda tables constraints domains agenda
     → IsKeptAgenda (tables ++ more) constraints domains agenda

@@ -1,7 +1,8 @@
 -- What a network keeps stays so, and what its calls say of it.
-use Rattle.std.proofs.Common.{◌≡◌, ℕ, ◌+◌, ◌<◌, ◌≤◌, ℤ, List, [], ◌∷◌, ◌++◌, length, take, get_or, pos, length-append, refl, sym, ap, ◌∙◌, subst, arith}
-use Rattle.std.specs.Prelude.{All, Vec, Option, Some, None, MatchOption, OnOk, OnErr, IsErr, Result, Ok, Err}
+use Rattle.std.proofs.Common.{◌≡◌, ℕ, ◌+◌, ◌<◌, ◌≤◌, ℤ, List, [], ◌∷◌, ◌++◌, length, take, get_or, pos, inl, inr, length-append, refl, sym, ap, ◌∙◌, subst, arith}
+use Rattle.std.specs.Prelude.{◌↔◌, Bool, true, false, All, Contains, Vec, Option, Some, None, MatchOption, IsTrue, OnOk, OnErr, IsErr, Result, Ok, Err}
 use Rattle.std.proofs.lemmas.List.{append-nil, length_push, length-take}
+use Rattle.std.proofs.lemmas.Option.{slice_get_within}
 use Rattle.std.proofs.lemmas.List.Elements.{All-append, All-cons, All-nil, All-push, All-set}
 use Rattle.std.proofs.Math.Seq.{take-append_seam}
 use Rattle.std.specs.declared.alloc.AllocError.{AllocError}
@@ -15,13 +16,13 @@ use Rattle.cell_store.specs.Cells.{Celled, present, newest_of, domain_at, AddsCe
 use Rattle.domain_core.specs.declared.kind.Kind.{Kind}
 use Rattle.narrow_core.specs.Laws.{LieWithin}
 use Rattle.narrow_core.specs.declared.field.Field.{Field}
-use Rattle.constraint_net.specs.Agendas.{HasVariables, Grows, Enrols, AlertsAfter, LimitAlerts, Alerts, AlertsSince, Forgets}
+use Rattle.constraint_net.specs.Agendas.{quiet_of, HasVariables, Grows, WaitsAlone, Enrols, AlertsAfter, LimitAlerts, Alerts, TurnsBack, Forgets}
 use Rattle.constraint_net.specs.Arguments.{IsArgument}
 use Rattle.constraint_net.specs.Calls.{AddsVar, Posts, Limits, GoesDown, Notes, TakesChanged}
 use Rattle.constraint_net.specs.Limits.{LimitsCell}
-use Rattle.constraint_net.specs.Marks.{IsMark, IsLatest, CanReturn, KeepMarks, Returns}
+use Rattle.constraint_net.specs.Marks.{WereConsistent, IsMark, IsLatest, CanReturn, KeepMarks, LeavesToDo, Returns}
 use Rattle.constraint_net.specs.Moves.{IsSound, Sinks}
-use Rattle.constraint_net.specs.Networks.{Network, CanPost, cells_of}
+use Rattle.constraint_net.specs.Networks.{Network, CanPost, IsIdle, cells_of}
 use Rattle.constraint_net.specs.Waiting.{WerePosted, NameWithin, IsKeptAgenda}
 use Rattle.constraint_net.specs.Steps.{Advances, PropagatesTo}
 use Rattle.constraint_net.specs.Kept.{older_of, network_of, IsKeptNet}
@@ -32,9 +33,10 @@ use Rattle.constraint_net.specs.declared.network.Mark.{Mark}
 use Rattle.constraint_net.specs.declared.NetFault.{NetFault}
 use Rattle.constraint_net.specs.declared.NetFault.TheVariants.{Collapsed, Memory}
 use Rattle.constraint_net.proofs.Moving.{same_end, follows, sound_along, sinks_cell, limit_at}
-use Rattle.constraint_net.specs.Queues.{Queued}
+use Rattle.constraint_net.specs.Queues.{AreFrom, Queued}
 use Rattle.constraint_net.specs.declared.agenda.Agenda.{Agenda}
-use Rattle.constraint_net.proofs.Turns.{still_posted, named}
+use Rattle.constraint_net.proofs.Turns.{still_posted, named, all_at, all_from_each}
+use Rattle.constraint_net.proofs.Quiet.{same_quiet, more_quiet, quiet_all}
 use Rattle.constraint_net.proofs.Alerting.{kept_on, notes_of}
 use Rattle.constraint_net.proofs.Enrolling.{kept_grown, kept_variable, kept_enrolled, kept_first, kept_forgetting, posted_tables, kept_tables, named_more}
 use Rattle.constraint_net.proofs.Within.{argument_along, set_within, within_length}
@@ -80,9 +82,16 @@ module _ (net : Network) (domains : Domains) (tables : Vec Field Global) (constr
   pub kept_enlarged : Grows domains.agenda agenda → IsKeptNet (with_agenda domains agenda) tables constraints marked
   kept_enlarged grows = kept_with (kept_grown tables.items constraints (present domains.cells) domains.agenda agenda grows kept.agenda)
 
-  -- the list of what has changed is all that is seen of it
-  pub seen_with : (changed : List ℕ) → agenda.changed.items ≡ changed → network_of (with_agenda domains agenda) tables constraints marked ≡ record net { changed = changed }
-  seen_with changed is = (λ i. record {
+  -- as many constraints stand before the first that waits
+  abbrev StaysQuiet : Type 0
+  StaysQuiet = quiet_of agenda.waiting.items (length constraints) ≡ quiet_of domains.agenda.waiting.items (length constraints)
+
+  pub quiet_enrolled : Grows domains.agenda agenda → WaitsAlone (length constraints) domains.agenda agenda → StaysQuiet
+  quiet_enrolled grows alone = same_quiet domains.agenda.waiting.items agenda.waiting.items (length constraints) grows.waiting alone
+
+  -- then the list of what has changed is all that is seen of it
+  pub seen_with : (changed : List ℕ) → agenda.changed.items ≡ changed → StaysQuiet → network_of (with_agenda domains agenda) tables constraints marked ≡ record net { changed = changed }
+  seen_with changed is quiet = (λ i. record {
     domains = present domains.cells;
     tables = tables.items;
     constraints = constraints;
@@ -91,10 +100,11 @@ module _ (net : Network) (domains : Domains) (tables : Vec Field Global) (constr
     older = older_of domains.cells.past;
     marked = marked;
     changed = is i;
+    quiet = quiet i;
   }) ∙ ap (λ (n : Network). record n { changed = changed }) view
 
-  pub seen_same : Grows domains.agenda agenda → network_of (with_agenda domains agenda) tables constraints marked ≡ net
-  seen_same grows = seen_with domains.agenda.changed.items grows.changed ∙ (λ i. record net { changed = (view i).changed })
+  pub seen_same : Grows domains.agenda agenda → StaysQuiet → network_of (with_agenda domains agenda) tables constraints marked ≡ net
+  seen_same grows quiet = seen_with domains.agenda.changed.items grows.changed quiet ∙ (λ i. record net { changed = (view i).changed })
 
   pub kept_posted : (new : List Constraint) (kind : Kind) (args : List NetArg) → CanPost net.tables (length net.domains) kind args → Enrols (length constraints) args domains.agenda (Ok tt) agenda
       → new ≡ constraints ++ record { kind = kind; args = args } ∷ [] → IsKeptNet (with_agenda domains agenda) tables new marked
@@ -107,25 +117,34 @@ module _ (net : Network) (domains : Domains) (tables : Vec Field Global) (constr
         agenda = kept_enrolled tables.items constraints (present domains.cells) kind args domains.agenda agenda enrols kept.agenda;
       })
 
-  pub posts_seen : (new : List Constraint) (kind : Kind) (args : List NetArg) → Grows domains.agenda agenda → new ≡ constraints ++ record { kind = kind; args = args } ∷ []
-      → Posts net kind args (Ok tt) (network_of (with_agenda domains agenda) tables new marked)
-  posts_seen new kind args grows more =
+  pub posts_seen : (new : List Constraint) (kind : Kind) (args : List NetArg) → Enrols (length constraints) args domains.agenda (Ok tt) agenda → WaitsAlone (length constraints) domains.agenda agenda
+      → new ≡ constraints ++ record { kind = kind; args = args } ∷ [] → Posts net kind args (Ok tt) (network_of (with_agenda domains agenda) tables new marked)
+  posts_seen new kind args enrols alone more =
       let one : Constraint = record { kind = kind; args = args } in
-      (λ i. record (network_of (with_agenda domains agenda) tables constraints marked) { constraints = more i })
-      ∙ ap (λ (n : Network). record n { constraints = n.constraints ++ one ∷ [] }) (seen_same grows)
+      let quiet = quiet_enrolled enrols.grows alone in
+      let longer : length new ≡ length constraints + 1 = ap length more ∙ length_push constraints one in
+      let last : quiet_of agenda.waiting.items (length constraints + 1) ≡ quiet_of domains.agenda.waiting.items (length constraints) =
+      more_quiet domains.agenda.waiting.items agenda.waiting.items (length constraints) enrols.grows.waiting alone enrols.waits in
+      let still : quiet_of agenda.waiting.items (length new) ≡ quiet_of agenda.waiting.items (length constraints) =
+      ap (quiet_of agenda.waiting.items) longer ∙ last ∙ sym quiet in
+      (λ i. record (network_of (with_agenda domains agenda) tables constraints marked) { constraints = more i; quiet = still i })
+      ∙ ap (λ (n : Network). record n { constraints = n.constraints ++ one ∷ [] }) (seen_same enrols.grows quiet)
 
   -- the constraint was put behind the others, or there was no memory for it
   pub posts_net : (new : List Constraint) (kind : Kind) (args : List NetArg) (result : Result (Unit {0}) AllocError) (number : ℕ) → number ≡ length constraints → CanPost net.tables (length net.domains) kind args
-      → Enrols number args domains.agenda (Ok tt) agenda → OnOk result (new ≡ constraints ++ record { kind = kind; args = args } ∷ []) → OnErr result (new ≡ constraints)
+      → Enrols number args domains.agenda (Ok tt) agenda → WaitsAlone number domains.agenda agenda → OnOk result (new ≡ constraints ++ record { kind = kind; args = args } ∷ []) → OnErr result (new ≡ constraints)
       → IsKeptNet (with_agenda domains agenda) tables new marked × Posts net kind args result (network_of (with_agenda domains agenda) tables new marked)
-  posts_net new kind args (Ok done) number at can enrols ok err = (
+  posts_net new kind args (Ok done) number at can enrols alone ok err = (
     kept_posted new kind args can (subst (λ n. Enrols n args domains.agenda (Ok tt) agenda) at enrols) ok,
-    posts_seen new kind args enrols.grows ok,
+    posts_seen new kind args (subst (λ n. Enrols n args domains.agenda (Ok tt) agenda) at enrols) (subst (λ n. WaitsAlone n domains.agenda agenda) at alone) ok,
   )
-  posts_net new kind args (Err none) number at can enrols ok err = (
+  posts_net new kind args (Err none) number at can enrols alone ok err = (
     subst (λ list. IsKeptNet (with_agenda domains agenda) tables list marked) (sym err) (kept_enlarged enrols.grows),
-    ap (λ list. network_of (with_agenda domains agenda) tables list marked) err ∙ seen_same enrols.grows,
+    ap (λ list. network_of (with_agenda domains agenda) tables list marked) err ∙ seen_same enrols.grows (quiet_enrolled enrols.grows (subst (λ n. WaitsAlone n domains.agenda agenda) at alone)),
   )
+
+  quiet_by : {left : Queued} → agenda ≡ record domains.agenda { changed = left } → StaysQuiet
+  quiet_by is = ap (λ (a : Agenda). quiet_of a.waiting.items (length constraints)) is
 
   -- the variable that had changed first was taken off
   pub asks_net : (result : Option ℕ) (left : Queued) → agenda ≡ record domains.agenda { changed = left }
@@ -133,11 +152,11 @@ module _ (net : Network) (domains : Domains) (tables : Vec Field Global) (constr
       → TakesChanged net result (network_of (with_agenda domains agenda) tables constraints marked)
   asks_net (Some variable) left is took = (
     left.items,
-    (ap (λ (n : Network). n.changed) (sym view) ∙ took, seen_with left.items (ap (λ (a : Agenda). a.changed.items) is)),
+    (ap (λ (n : Network). n.changed) (sym view) ∙ took, seen_with left.items (ap (λ (a : Agenda). a.changed.items) is) (quiet_by is)),
   )
   asks_net None left is took = (
     ap (λ (n : Network). n.changed) (sym view) ∙ took.0,
-    seen_with domains.agenda.changed.items (ap (λ (a : Agenda). a.changed.items) is ∙ ap (λ (q : Queued). q.items) took.1) ∙ (λ i. record net { changed = (view i).changed }),
+    seen_with domains.agenda.changed.items (ap (λ (a : Agenda). a.changed.items) is ∙ ap (λ (q : Queued). q.items) took.1) (quiet_by is) ∙ (λ i. record net { changed = (view i).changed }),
   )
 
 -- where there was no memory for it
@@ -181,9 +200,9 @@ kept_added old new tables constraints marked domain is kept grows ready past sta
     }
 
 pub added : (net : Network) (old new : Domains) (tables : Vec Field Global) (constraints : List Constraint) (marked : ℕ) (domain : Domain) (result : Result ℕ AllocError) → network_of old tables constraints marked ≡ net
-    → IsDomain domain → IsKeptNet old tables constraints marked → Grows old.agenda new.agenda → HasVariables (length (present new.cells)) new.agenda → new.work ≡ old.work → AddsCell domain old.cells result new.cells
+    → IsDomain domain → IsKeptNet old tables constraints marked → Grows old.agenda new.agenda → new.agenda.waiting ≡ old.agenda.waiting → HasVariables (length (present new.cells)) new.agenda → new.work ≡ old.work → AddsCell domain old.cells result new.cells
     → IsKeptNet new tables constraints marked × AddsVar domain net result (network_of new tables constraints marked)
-added net old new tables constraints marked domain (Ok number) view is kept grows ready work adds = (
+added net old new tables constraints marked domain (Ok number) view is kept grows waiting ready work adds = (
   kept_added old new tables constraints marked domain is kept grows ready adds.1.0 adds.1.1,
   subst (λ n. AddsVar domain n (Ok number) (network_of new tables constraints marked)) view (
     adds.0,
@@ -196,22 +215,23 @@ added net old new tables constraints marked domain (Ok number) view is kept grow
       older = (ap older_of adds.1.0 ∙ sym (past_is old.cells.past (some_past marked old.cells kept.sound))) i;
       marked = marked;
       changed = grows.changed i;
+      quiet = quiet_of (waiting i).items (length constraints);
     },
   ),
 )
-added net old new tables constraints marked domain (Err none) view is kept grows ready work same = (
+added net old new tables constraints marked domain (Err none) view is kept grows waiting ready work same = (
   record {
     posted = subst (λ (cells : Celled). WerePosted tables.items (length (present cells)) constraints) (sym same) kept.posted;
     sound = subst (IsSound marked) (sym same) kept.sound;
     agenda = subst (λ (cells : Celled). IsKeptAgenda tables.items constraints (present cells) new.agenda) (sym same)
         (kept_grown tables.items constraints (present old.cells) old.agenda new.agenda grows kept.agenda);
   },
-  unchanged old new tables constraints marked same work grows.changed ∙ view,
+  unchanged old new tables constraints marked same work grows.changed waiting ∙ view,
 )
   where
     unchanged : (old new : Domains) (tables : Vec Field Global) (constraints : List Constraint) (marked : ℕ) → new.cells ≡ old.cells → new.work ≡ old.work → new.agenda.changed.items ≡ old.agenda.changed.items
-        → network_of new tables constraints marked ≡ network_of old tables constraints marked
-    unchanged old new tables constraints marked same work changed = λ i. record {
+        → new.agenda.waiting ≡ old.agenda.waiting → network_of new tables constraints marked ≡ network_of old tables constraints marked
+    unchanged old new tables constraints marked same work changed waiting = λ i. record {
       domains = present (same i);
       tables = tables.items;
       constraints = constraints;
@@ -220,6 +240,7 @@ added net old new tables constraints marked domain (Err none) view is kept grows
       older = older_of (same i).past;
       marked = marked;
       changed = changed i;
+      quiet = quiet_of (waiting i).items (length constraints);
     }
 
 -- ---- domains that get smaller
@@ -281,6 +302,7 @@ module _ (old new : Domains) (tables : Vec Field Global) (constraints : List Con
     older = older_of (same i).past;
     marked = marked;
     changed = (agenda i).changed.items;
+    quiet = quiet_of (agenda i).waiting.items (length constraints);
   }
 
   kept_same : new.cells ≡ old.cells → new.agenda ≡ old.agenda → IsKeptNet new tables constraints marked
@@ -341,15 +363,38 @@ module _ (net : Network) (domains : Domains) (tables : Vec Field Global) (constr
   pub marked_seen : network_of domains tables constraints mark.cells ≡ record net { marked = length net.older }
   marked_seen = λ i. record (view i) { marked = place_is i }
 
-  pub mark_is : IsPlace domains.cells mark.cells (present domains.cells) → mark.constraints ≡ length constraints → IsMark (network_of domains tables constraints mark.cells) mark net.domains net.constraints
-  mark_is place count = subst (λ (n : Network). IsMark (network_of domains tables constraints mark.cells) mark n.domains n.constraints) view (record {
+  pub mark_is : IsPlace domains.cells mark.cells (present domains.cells) → mark.constraints ≡ length constraints → WereConsistent mark.idle tables.items constraints (present domains.cells)
+      → IsMark (network_of domains tables constraints mark.cells) mark net.domains net.constraints
+  mark_is place count idle = subst (λ (n : Network). IsMark (network_of domains tables constraints mark.cells) mark n.domains n.constraints) view (record {
     place = subst (λ cells. IsPlace cells mark.cells (present domains.cells)) (sym (celled_is domains tables constraints mark.cells some)) place;
     marked = omega arith;
     first = ([], sym (append-nil constraints));
     count = sym count;
     are = kept.sound.are;
     posted = kept.posted;
+    idle = idle;
   })
+
+  -- nothing waits exactly where that is told
+  abbrev Tells : Bool → ℕ → Type 0
+  Tells told count = IsTrue told ↔ (AreFrom count domains.agenda.waiting.items × (domains.agenda.changed.items ≡ []))
+
+  -- all constraints are consistent then
+  pub idle_at : (told : Bool) (count : ℕ) → count ≡ length constraints → Tells told count → WereConsistent told tables.items constraints (present domains.cells)
+  unfolding WereConsistent
+  idle_at told count as_many tells = λ is. all_from_each tables.items constraints (present domains.cells) (λ number. elim (kept.agenda.covered number) [
+    | inl waits ↦ (λ constraint found.
+        let below = slice_get_within constraints number constraint found in
+        let from = (tells.0 is).0 number waits in
+        absurd (omega (arith, as_many, below, from)))
+    | inr consistent ↦ consistent
+  ])
+
+  pub idle_told : (told : Bool) (count : ℕ) → count ≡ length constraints → Tells told count → IsIdle net → told ≡ true
+  idle_told told count as_many tells idle =
+      let here = subst IsIdle (sym view) idle in
+      let from = quiet_all domains.agenda.waiting.items (length constraints) here.quiet in
+      tells.1 ((λ number there. let low = from number there in omega (arith, as_many, low)), here.heeded)
 
   pub mark_latest : mark.constraints ≡ length constraints → IsLatest (network_of domains tables constraints mark.cells) mark
   mark_latest count = λ earlier can. (can.2.marked, omega (arith, count, ap length can.2.first.1, length-append can.1 can.2.first.0, can.2.count))
@@ -363,6 +408,7 @@ module _ (net : Network) (domains : Domains) (tables : Vec Field Global) (constr
     count = is.count;
     are = is.are;
     posted = is.posted;
+    idle = is.idle;
   })
 
 pub place_in : (net : Network) (domains : Domains) (tables : Vec Field Global) (constraints : List Constraint) (marked : ℕ) (mark : Mark) → network_of domains tables constraints marked ≡ net → IsKeptNet domains tables constraints marked
@@ -380,28 +426,62 @@ module _ (net : Network) (old new : Domains) (tables : Vec Field Global) (constr
   pub can_go : mark.cells < length old.cells.past
   can_go = omega (arith, ap length place.2.0, length-append place.0 (can.0 ∷ place.1), place.2.1)
 
+  lists_still : (idle : Bool) (between : Agenda) → TurnsBack idle mark.cells old.cells old.agenda between → between.watchers ≡ old.agenda.watchers
+  lists_still true between rests = rests.watchers
+  lists_still false between alerts = (alerts can.0 place).alerts.stays.watchers
+
   -- the constraints' variables have their lists still
-  pub names_still : (between : Agenda) → AlertsSince mark.cells old.cells old.agenda between → NameWithin (length between.watchers) constraints
-  names_still between alerts =
-      named_more (length (present old.cells)) (length between.watchers) constraints (omega (arith, kept.agenda.variables.watchers, ap length (alerts can.0 place).alerts.stays.watchers))
+  pub names_still : (between : Agenda) → TurnsBack mark.idle mark.cells old.cells old.agenda between → NameWithin (length between.watchers) constraints
+  names_still between turns =
+      let still = lists_still mark.idle between turns in
+      named_more (length (present old.cells)) (length between.watchers) constraints (omega (arith, kept.agenda.variables.watchers, ap length still))
       (named tables.items (length (present old.cells)) constraints kept.posted)
 
+  -- who isn't consistent where the network comes back to waits
+  waits_back : (idle : Bool) (between : Agenda) → WereConsistent idle tables.items left can.0 → NameWithin (length can.0) left → length can.0 ≤ length (present old.cells)
+      → IsKeptAgenda tables.items left (present old.cells) old.agenda → TurnsBack idle mark.cells old.cells old.agenda between → IsKeptAgenda tables.items left can.0 between
+  unfolding WereConsistent
+  waits_back true between all within fewer firsts rests = record {
+    variables = record {
+      watchers = omega (arith, fewer, firsts.variables.watchers, ap length rests.watchers);
+      changed = omega (arith, fewer, firsts.variables.changed, rests.places);
+    };
+    room = omega (arith, firsts.room, rests.room);
+    watched = λ number constraint found variable member.
+        subst (λ lists. Contains (get_or lists variable []) number) (sym rests.watchers) (firsts.watched number constraint found variable member);
+    covered = λ number. inr (all_at tables.items left number can.0 (all refl));
+  }
+  waits_back false between all within fewer firsts alerts =
+      kept_on tables.items left (present old.cells) can.0 old.agenda between within fewer (alerts can.0 place).alerts firsts
+
+  -- and where nothing waited nothing does
+  to_do_back : (idle : Bool) (between : Agenda) → present new.cells ≡ can.0 → HasVariables (length can.0) old.agenda → TurnsBack idle mark.cells old.cells old.agenda between
+      → Forgets mark.constraints between new.agenda → LeavesToDo idle (network_of old tables constraints marked) (network_of new tables left mark.cells)
+  to_do_back true between domains has rests forgets = record {
+    quiet = ap (λ (q : Queued). quiet_of q.items (length left)) forgets.waiting ∙ ap (λ items. quiet_of items (length left)) rests.waiting;
+    heeded = ap (λ (q : Queued). q.items) forgets.changed ∙ rests.changed;
+  }
+  to_do_back false between domains has alerts forgets =
+      let notes = notes_of (present old.cells) can.0 old.agenda between has (alerts can.0 place).alerts in
+      subst (λ list. Notes (present old.cells) list old.agenda.changed.items new.agenda.changed.items) (sym domains)
+      (subst (λ (q : Queued). Notes (present old.cells) can.0 old.agenda.changed.items q.items) (sym forgets.changed) notes)
+
   pub returns_to : (between : Agenda) → GoesBack mark.cells old.cells new.cells → left ≡ take mark.constraints constraints → new.work ≡ old.work
-      → AlertsSince mark.cells old.cells old.agenda between → Forgets mark.constraints between new.agenda
+      → TurnsBack mark.idle mark.cells old.cells old.agenda between → Forgets mark.constraints between new.agenda
       → IsKeptNet new tables left mark.cells × Returns mark net (network_of new tables left mark.cells)
-  returns_to between goes taken work alerts forgets =
+  returns_to between goes taken work turns forgets =
       let past : new.cells.past ≡ can.0 ∷ place.1 = same_end goes.newer place.0 new.cells.past (can.0 ∷ place.1) (sym goes.past ∙ place.2.0) (omega (arith, goes.count, place.2.1)) in
       let domains : present new.cells ≡ can.0 = ap newest_of past in
       let some : 0 < length new.cells.past = omega (arith, goes.count) in
       let first : take mark.constraints constraints ≡ can.1 =
       (λ i. take (sym there.count i) (there.first.1 i)) ∙ take-append_seam can.1 there.first.0 in
       let posted : WerePosted tables.items (length can.0) left = subst (WerePosted tables.items (length can.0)) (sym (taken ∙ first)) there.posted in
-      let back = alerts can.0 place in
+      let fewer : length can.0 ≤ length (present old.cells) = omega (arith, goes.fewer, ap length domains) in
+      let all = subst (λ list. WereConsistent mark.idle tables.items list can.0) (sym (taken ∙ first)) there.idle in
       let firsts = subst (λ list. IsKeptAgenda tables.items list (present old.cells) old.agenda) (sym taken) (kept_first tables.items constraints (present old.cells) mark.constraints old.agenda kept.agenda) in
-      let covered = kept_on tables.items left (present old.cells) can.0 old.agenda between (named tables.items (length can.0) left posted) back.fewer back.alerts firsts in
+      let covered = waits_back mark.idle between all (named tables.items (length can.0) left posted) fewer firsts turns in
       let agenda = kept_forgetting tables.items left can.0 mark.constraints between new.agenda (omega (arith, ap length taken, length-take mark.constraints constraints)) forgets covered in
-      let has : HasVariables (length can.0) old.agenda = record { watchers = omega (arith, back.fewer, kept.agenda.variables.watchers); changed = omega (arith, back.fewer, kept.agenda.variables.changed) } in
-      let notes = notes_of (present old.cells) can.0 old.agenda between has back.alerts in (
+      let has : HasVariables (length can.0) old.agenda = record { watchers = omega (arith, fewer, kept.agenda.variables.watchers); changed = omega (arith, fewer, kept.agenda.variables.changed) } in (
         record {
           posted = subst (λ list. WerePosted tables.items (length list) left) (sym domains) posted;
           sound = record { place = omega (arith, goes.count); are = subst (All IsDomain) (sym domains) there.are; stamps = goes.stamps };
@@ -414,7 +494,6 @@ module _ (net : Network) (old new : Domains) (tables : Vec Field Global) (constr
           tables = refl;
           work = work;
           marked = refl;
-          notes = subst (λ list. Notes (present old.cells) list old.agenda.changed.items new.agenda.changed.items) (sym domains)
-              (subst (λ (q : Queued). Notes (present old.cells) can.0 old.agenda.changed.items q.items) (sym forgets.changed) notes);
+          to_do = to_do_back mark.idle between domains has turns forgets;
         }),
       )

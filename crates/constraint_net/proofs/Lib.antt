@@ -4,6 +4,7 @@ pub mod Keeping
 pub mod Moving
 pub mod Spreading
 pub mod Queueing
+pub mod Quiet
 pub mod Turns
 pub mod Rounds
 pub mod Alerting

@@ -1,12 +1,12 @@
 -- Queues of numbers.
 use Rattle.std.proofs.Common.{◌≡◌, ◌≢◌, ℕ, zero, suc, ◌+◌, ◌^◌, ◌<◌, ◌≤◌, Bool, true, false, if◌then◌else◌, List, [], ◌∷◌, ◌++◌, length, get_or, set, inl, inr, ⊎_elim, append_assoc, refl, sym, ap, ◌∙◌, subst, arith}
-use Rattle.std.specs.Prelude.{Contains, count_by}
+use Rattle.std.specs.Prelude.{◌↔◌, Contains, IsTrue, count_by}
 use Rattle.std.proofs.lemmas.Bool.{cases_eq}
 use Rattle.std.proofs.lemmas.List.{append-nil, length_push, length-set, get_or-set_same, get_or-set_other, get_or_default}
 use Rattle.std.proofs.lemmas.List.Elements.{Contains-append_left, Contains-push, Contains-push_cases}
 use Rattle.std.proofs.lemmas.List.Quantifiers.{all_pairs_push}
 use Rattle.std.proofs.lemmas.List.Sums.{sum_by-append, sum_by-set, count_by-le-length}
-use Rattle.constraint_net.specs.Queues.{Queued, Lengthens, Takes, TakesAll, IsForemost, IsQueue}
+use Rattle.constraint_net.specs.Queues.{AreFrom, Queued, Lengthens, Takes, TakesAll, IsForemost, IsQueue}
 
 -- ---- marks
 
@@ -146,7 +146,7 @@ pub still : (old new : Queued) (number : ℕ) → Lengthens old new → Contains
 still old new number p member = subst (λ list. Contains list number) (sym p.behind.1) (Contains-append_left old.items p.behind.0 number member)
 
 pub takes_none : (number : ℕ) (queue : Queued) → (number < queue.room → Contains queue.items number) → Takes number queue queue
-takes_none number queue there = record { lengthens = lengthens_refl queue; added = there }
+takes_none number queue there = record { lengthens = lengthens_refl queue; added = there; only = λ other stands. inl stands }
 
 -- one more of some numbers
 pub takes_more : (numbers : List ℕ) (i e : ℕ) (old middle new : Queued) → i < length numbers → Lengthens old middle → ((k d : ℕ) → k < i → get_or numbers k d < old.room → Contains middle.items (get_or numbers k d))
@@ -166,6 +166,33 @@ takes_all numbers i old new all p each = record {
       subst (Contains new.items) here (each member.0 number (omega (arith, member.1, all)) (omega (arith, room, here)));
 }
 
+-- ---- from a count on
+
+pub told_yes : {P : Type 0} → P → IsTrue true ↔ P
+told_yes p = ((λ yes_it. p), (λ there. refl))
+
+pub told_no : {P : Type 0} → (P → ⊥) → IsTrue false ↔ P
+told_no none = ((λ yes_it. absurd (differ false yes_it refl)), (λ there. absurd (none there)))
+
+-- one number more of those that were looked at
+pub from_more : (count : ℕ) (numbers : List ℕ) (place read : ℕ) → place < length numbers → read ≡ get_or numbers place read → count ≤ read
+    → ((k d : ℕ) → k < place → count ≤ get_or numbers k d) → (k d : ℕ) → k < place + 1 → count ≤ get_or numbers k d
+from_more count numbers place read within is high before k d below = elim (cases_eq k place) [
+  | inl same ↦
+      let here : get_or numbers k d ≡ read = ap (λ n. get_or numbers n d) same ∙ get_or_default numbers place d read within ∙ sym is in
+      omega (arith, here, high)
+  | inr apart ↦ before k d (omega (arith, below, apart))
+]
+
+pub from_all : (count : ℕ) (numbers : List ℕ) (place : ℕ) → length numbers ≤ place → ((k d : ℕ) → k < place → count ≤ get_or numbers k d) → AreFrom count numbers
+from_all count numbers place all each = λ number there.
+    let here : get_or numbers there.0 number ≡ number = there.2 in
+    let low = each there.0 number (omega (arith, there.1, all)) in
+    omega (arith, here, low)
+
+pub not_from : (count : ℕ) (numbers : List ℕ) (place read : ℕ) → place < length numbers → read ≡ get_or numbers place read → read < count → AreFrom count numbers → ⊥
+not_from count numbers place read within is less from = let low = from read (place, within, sym is) in absurd (omega (arith, low, less))
+
 -- ---- as the calls say it
 
 pub read_false : (standing : List Bool) (number : ℕ) (x : Bool) → x ≡ get_or standing number x → x ≡ false → get_or standing number false ≡ false
@@ -183,6 +210,7 @@ takes_new old items more standing capacity number view below unset is kept =
     subst (λ queue. Takes number queue (record { items = more; room = length (set standing number true) })) view (record {
       lengthens = record { room = length-set standing number true; behind = (number ∷ [], is); few = λ low. few more (set standing number true) capacity after };
       added = λ below_too. subst (λ list. Contains list number) (sym is) (Contains-push items number);
+      only = λ other there. ⊎_elim (λ before. inl before) (λ same. inr (sym same)) (Contains-push_cases items number other (subst (λ list. Contains list other) is there));
     })
 
 pub grown_as : (items as_before : List ℕ) (standing more : List Bool) (capacity new : ℕ) → as_before ≡ items → more ≡ standing ++ false ∷ [] → length standing + 1 ≤ new → length standing + 1 ≤ 2 ^ 32 → IsQueue items standing capacity → IsQueue as_before more new

@@ -1,6 +1,6 @@
 -- Which constraints wait to be narrowed, which watch a variable, and which variables have changed.
-use Rattle.std.specs.Prelude.{◌≡◌, ℕ, ◌<◌, ◌≤◌, List, [], ◌⊎◌, length, Contains, sum_by, slice_index_or, Result}
-use Rattle.std.specs.Prelude.{Ok, Err, OnOk}
+use Rattle.std.specs.Prelude.{◌≡◌, ℕ, ◌<◌, ◌≤◌, min, Bool, true, false, List, [], ◌∷◌, ◌⊎◌, length, Contains, sum_by}
+use Rattle.std.specs.Prelude.{slice_index_or, Result, Ok, Err, OnOk}
 use Rattle.std.specs.declared.alloc.AllocError.{AllocError}
 use Rattle.domain_core.specs.Domain.{Domain, slack}
 use Rattle.domain_core.specs.declared.Change.{Change}
@@ -18,6 +18,11 @@ watchers_at watchers variable = slice_index_or watchers variable []
 -- the constraint of this number waits to be narrowed
 abbrev pub Waits : Agenda → ℕ → Type 0
 Waits agenda number = Contains agenda.waiting.items number
+
+-- of so many constraints those before the first one that waits: all of them, where none does
+abbrev pub quiet_of : List ℕ → ℕ → ℕ
+quiet_of [] count = count
+quiet_of (number ∷ waiting) count = min number (quiet_of waiting count)
 
 -- the constraint of this number is told when the variable changes
 abbrev pub Watches : Agenda → ℕ → ℕ → Type 0
@@ -63,6 +68,10 @@ pub record Joins (number : ℕ) (args : List NetArg) (old : List (List ℕ))
   pub lists : length new ≡ length old
   pub others : (variable other : ℕ) → Contains (watchers_at old variable) other → Contains (watchers_at new variable) other
   pub joined : OnOk result ((variable : ℕ) → Contains args (Var variable) → Contains (watchers_at new variable) number)
+
+-- no number but this one comes to wait
+abbrev pub WaitsAlone : ℕ → Agenda → Agenda → Type 0
+WaitsAlone number old new = (other : ℕ) → Waits new other → Waits old other ⊎ (other ≡ number)
 
 -- the constraint waits, and watches each variable among its arguments, unless memory has run out
 pub record Enrols (number : ℕ) (args : List NetArg) (old : Agenda)
@@ -117,6 +126,19 @@ pub record AlertsBack (place : ℕ) (cells : Celled) (before after : Agenda) (th
 abbrev pub AlertsSince : ℕ → Celled → Agenda → Agenda → Type 0
 AlertsSince place cells before after =
     (there : List Domain) → IsPlace cells place there → AlertsBack place cells before after there
+
+-- nothing waits, and nothing is noted as changed; lists and room stay
+pub record Rests (old new : Agenda) : Type 0 where
+  pub waiting : new.waiting.items ≡ []
+  pub changed : new.changed.items ≡ []
+  pub room : new.waiting.room ≡ old.waiting.room
+  pub places : new.changed.room ≡ old.changed.room
+  pub watchers : new.watchers ≡ old.watchers
+
+-- going back to a place at which nothing waited leaves nothing to do; else what has changed since is told
+abbrev pub TurnsBack : Bool → ℕ → Celled → Agenda → Agenda → Type 0
+TurnsBack true place cells before after = Rests before after
+TurnsBack false place cells before after = AlertsSince place cells before after
 
 -- what has changed between two places was told
 pub record IsStepped (there now : List Domain) (before after : Agenda) : Type 0 where

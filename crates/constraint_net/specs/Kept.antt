@@ -4,6 +4,7 @@ use Rattle.std.specs.declared.alloc.Global.{Global}
 use Rattle.domain_core.specs.Domain.{Domain}
 use Rattle.cell_store.specs.Cells.{present}
 use Rattle.narrow_core.specs.declared.field.Field.{Field}
+use Rattle.constraint_net.specs.Agendas.{quiet_of}
 use Rattle.constraint_net.specs.Moves.{IsSound}
 use Rattle.constraint_net.specs.Networks.{Network}
 use Rattle.constraint_net.specs.Waiting.{WerePosted, IsKeptAgenda}
@@ -27,6 +28,7 @@ network_of domains tables constraints marked =
       older = older_of domains.cells.past;
       marked = marked;
       changed = domains.agenda.changed.items;
+      quiet = quiet_of domains.agenda.waiting.items (length constraints);
     }
 
 -- each constraint could be posted, each variable has a domain and a stamp, the latest mark can be gone back to, and who

@@ -14,8 +14,8 @@ use Rattle.constraint_net.specs.declared.constraint.Constraint.{Constraint}
 
 -- a network: the domains of its variables, the tables of fields, the constraints in the order in which they were
 -- posted, how many narrowings it has made, how often each domain was written, the lists of domains before the present
--- one that can be gone back to, the latest place to which a mark goes, and the variables that have changed since they
--- were taken off this list
+-- one that can be gone back to, the latest place to which a mark goes, the variables that have changed since they were
+-- taken off this list, and how many constraints stand before the first one that waits to be narrowed
 pub record Network : Type 0 where
   pub domains : List Domain
   pub tables : List Field
@@ -25,6 +25,12 @@ pub record Network : Type 0 where
   pub older : List (List Domain)
   pub marked : ℕ
   pub changed : List ℕ
+  pub quiet : ℕ
+
+-- nothing is to be looked at: no constraint waits to be narrowed, and no variable is noted as changed
+pub record IsIdle (net : Network) : Type 0 where
+  pub quiet : net.quiet ≡ length net.constraints
+  pub heeded : net.changed ≡ []
 
 -- its variables as cells
 abbrev pub cells_of : Network → Celled

@@ -1,6 +1,10 @@
 -- Queues of numbers.
-use Rattle.std.specs.Prelude.{◌≡◌, ◌≢◌, ℕ, ◌^◌, ◌<◌, ◌≤◌, Bool, true, false, List, ◌∷◌, ◌++◌, length}
+use Rattle.std.specs.Prelude.{◌≡◌, ◌≢◌, ◌⊎◌, ℕ, ◌^◌, ◌<◌, ◌≤◌, Bool, true, false, List, ◌∷◌, ◌++◌, length}
 use Rattle.std.specs.Prelude.{count_by, AllPairs, Contains, slice_index_or}
+
+-- each of the numbers is from the count on
+abbrev pub AreFrom : ℕ → List ℕ → Type 0
+AreFrom count numbers = (number : ℕ) → Contains numbers number → count ≤ number
 
 -- numbers in the order in which they came, and the bound of those that may come
 pub record Queued : Type 0 where
@@ -17,12 +21,13 @@ pub record Lengthens (old new : Queued) : Type 0 where
   pub behind : (more : List ℕ) × (new.items ≡ old.items ++ more)
   pub few : length old.items ≤ old.room → length new.items ≤ new.room
 
--- so it is, and this number is among them if there is room for it
+-- so it is with this number alone, which is among them if there is room for it
 pub record Takes (number : ℕ) (old new : Queued) : Type 0 where
   pub lengthens : Lengthens old new
   pub added : number < old.room → Contains new.items number
+  pub only : (other : ℕ) → Contains new.items other → Contains old.items other ⊎ (other ≡ number)
 
--- the same for some numbers
+-- numbers may have come behind the others, and these are among them as far as there is room
 pub record TakesAll (numbers : List ℕ) (old new : Queued) : Type 0 where
   pub lengthens : Lengthens old new
   pub added : (number : ℕ) → Contains numbers number → number < old.room → Contains new.items number

@@ -1,13 +1,13 @@
 //! Which constraints have to be looked at, and which variables have changed.
 
-ghost use Rattle.std.specs.Prelude.{◌≡◌, ◌+◌, ◌<◌, ◌≤◌, [], ◌∷◌, ◌++◌, All, length, OnOk};
-ghost use Rattle.constraint_net.specs.Agendas.{HasVariables, Grows, Joins, Enrols, Wakes, AlertsAfter};
+ghost use Rattle.std.specs.Prelude.{◌≡◌, ◌↔◌, ◌+◌, ◌<◌, ◌≤◌, [], ◌∷◌, ◌++◌, All, length, IsTrue, OnOk};
+ghost use Rattle.constraint_net.specs.Agendas.{HasVariables, Grows, Joins, Enrols, WaitsAlone, Wakes, AlertsAfter, Rests};
 ghost use Rattle.constraint_net.specs.Agendas.{KeepsLists, KeepsBelow, Forgets};
 ghost use Rattle.constraint_net.specs.Arguments.{IsArgument};
-ghost use Rattle.constraint_net.specs.Queues.{TakesAll};
+ghost use Rattle.constraint_net.specs.Queues.{AreFrom, TakesAll};
 
 use super::constraint::NetArg;
-use super::queue::Queue;
+use super::queue::{Queue, clear};
 use super::watchers::Watchers;
 use domain_core::Change;
 use std::alloc::{AllocError, Global};
@@ -40,6 +40,7 @@ impl Agenda {
     pub fn make_room(&mut self, variable: usize) -> Result<(), AllocError>
         requires { HasVariables variable self.old }
         ensures grows { Grows self.old self.new }
+        ensures waiting { self.new.waiting ≡ self.old.waiting }
         ensures ok { OnOk result (HasVariables (variable + 1) self.new) }
     {
         grow_lists(&mut self.watchers, variable)?;
@@ -50,7 +51,8 @@ impl Agenda {
     pub fn enrol(&mut self, number: usize, args: &[NetArg]) -> Result<(), AllocError>
         requires variables { All (IsArgument (length self.old.watchers)) args.now }
         requires number { number ≤ self.old.waiting.room }
-        ensures { Enrols number args.now self.old result self.new }
+        ensures enrols { Enrols number args.now self.old result self.new }
+        ensures alone { WaitsAlone number self.old self.new }
     {
         grow_queue(&mut self.waiting, number)?;
         watch(&mut self.watchers, number, args)?;
@@ -65,6 +67,24 @@ impl Agenda {
     {
         queue_all(self.watchers.of(variable), &mut self.waiting);
         self.changed.add(variable);
+    }
+
+    /// Whether none of so many constraints waits, and no variable is noted as changed.
+    pub fn is_idle(&self, count: usize) -> bool
+        ensures { IsTrue result ↔ (AreFrom count self.now.waiting.items × (self.now.changed.items ≡ [])) }
+    {
+        match self.changed.first() {
+            None => self.waiting.is_from(count),
+            Some(_variable) => false,
+        }
+    }
+
+    /// Lets nothing wait, and notes nothing as changed, any more.
+    pub fn rest(&mut self)
+        ensures { Rests self.old self.new }
+    {
+        clear(&mut self.waiting);
+        clear(&mut self.changed);
     }
 
     /// Takes the numbers from the count on out of the lists of the variables among the arguments.

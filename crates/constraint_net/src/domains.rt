@@ -3,7 +3,7 @@
 ghost use Rattle.std.specs.Prelude.{◌≡◌, ◌<◌, ◌≤◌, [], ◌∷◌, All, length};
 ghost use Rattle.domain_core.specs.Domain.{IsDomain, IsSameKind};
 ghost use Rattle.cell_store.specs.Cells.{present, AddsCell};
-ghost use Rattle.constraint_net.specs.Agendas.{HasVariables, Grows, LimitAlerts, Alerts, AlertsSince, TellsOfLoss};
+ghost use Rattle.constraint_net.specs.Agendas.{HasVariables, Grows, LimitAlerts, Alerts, AlertsSince, TurnsBack, TellsOfLoss};
 ghost use Rattle.constraint_net.specs.Arguments.{IsArgument, domain_of, AgreeAt};
 ghost use Rattle.constraint_net.specs.Limits.{LimitsAt, LimitsCell};
 ghost use Rattle.constraint_net.specs.Moves.{IsSound, SinksAt};
@@ -63,6 +63,7 @@ impl Domains {
         ensures work { self.new.work ≡ self.old.work }
         ensures domain { IsDomain domain }
         ensures grows { Grows self.old.agenda self.new.agenda }
+        ensures waiting { self.new.agenda.waiting ≡ self.old.agenda.waiting }
         ensures ready { HasVariables (length (present self.new.cells)) self.new.agenda }
     {
         keeps_itself(&domain);
@@ -82,14 +83,19 @@ impl Domains {
         limit_cell(&mut self.cells, &mut self.agenda, variable, to, since)
     }
 
-    /// Tells who watches a variable whose domain isn't the one at the mark.
-    pub fn alert_since(&mut self, mark: Mark)
+    /// Sees to what there is to do once the cells go back to the mark: nothing if nothing waited there, and else those are
+    /// told who watch a variable whose domain isn't the one at the mark.
+    pub fn turn_back(&mut self, mark: Mark, idle: bool)
         requires mark { mark < length self.old.cells.past }
         requires ready { HasVariables (length (present self.old.cells)) self.old.agenda }
-        ensures alerts { AlertsSince mark self.old.cells self.old.agenda self.new.agenda }
+        ensures turns { TurnsBack idle mark self.old.cells self.old.agenda self.new.agenda }
         ensures cells { self.new.cells ≡ self.old.cells }
         ensures work { self.new.work ≡ self.old.work }
     {
+        if idle {
+            self.agenda.rest();
+            return;
+        }
         alert_steps(&self.cells, &mut self.agenda, mark);
     }
 
@@ -275,6 +281,7 @@ fn add_to(cells: &mut Cells, agenda: &mut Agenda, domain: Dom) -> Result<usize, 
     requires ready { HasVariables (length (present cells.old)) agenda.old }
     ensures added { AddsCell domain cells.old result cells.new }
     ensures grows { Grows agenda.old agenda.new }
+    ensures waiting { agenda.new.waiting ≡ agenda.old.waiting }
     ensures ready { HasVariables (length (present cells.new)) agenda.new }
 {
     match agenda.make_room(cells.len()) {

@@ -1,12 +1,12 @@
 //! Laws of propagation, for whoever speaks of it without calling it.
 
-ghost use Rattle.std.specs.Prelude.{◌≡◌, ℕ, ◌≤◌, List, Result, Ok, Err};
+ghost use Rattle.std.specs.Prelude.{◌≡◌, ℕ, ◌≤◌, List, [], ◌∷◌, ◌++◌, Option, Result, Ok, Err};
 ghost use Rattle.std.specs.declared.alloc.AllocError.{AllocError};
 ghost use Rattle.domain_core.specs.Domain.{Domain};
 ghost use Rattle.narrow_core.specs.declared.field.Field.{Field};
 ghost use Rattle.domain_core.specs.declared.Change.{Change};
 ghost use Rattle.domain_core.specs.declared.kind.Kind.{Kind};
-ghost use Rattle.constraint_net.specs.Calls.{AddsVar, Posts, Limits, GoesDown};
+ghost use Rattle.constraint_net.specs.Calls.{AddsVar, Posts, Limits, GoesDown, TakesChanged};
 ghost use Rattle.constraint_net.specs.Marks.{IsMark, KeepMarks, Returns};
 ghost use Rattle.constraint_net.specs.Networks.{Network, AllConsistent};
 ghost use Rattle.constraint_net.specs.Steps.{PropagatesTo};
@@ -35,7 +35,8 @@ pub fn propagation_is_taken_up()
         → PropagatesTo (AllConsistent tables constraints) old result new }
 {}
 
-/// A mark stays one of the same domains and constraints, until the network goes back behind it.
+/// A mark stays one of the same domains and constraints, until the network goes back behind it: so it is with each call that
+/// changes the network, also where a table comes.
 pub fn marks_stay()
     ensures added { (old new : Network) (domain : Domain) (result : Result ℕ AllocError)
         → AddsVar domain old result new → KeepMarks old new }
@@ -43,6 +44,9 @@ pub fn marks_stay()
         → Posts old kind args result new → KeepMarks old new }
     ensures limited { (old new : Network) (variable : ℕ) (to : Domain) (result : Result Change AllocError)
         → Limits old variable to result new → KeepMarks old new }
+    ensures tabled { (old new : Network) (table : Field)
+        → new ≡ record old { tables = old.tables ++ table ∷ [] } → KeepMarks old new }
+    ensures taken { (old new : Network) (result : Option ℕ) → TakesChanged old result new → KeepMarks old new }
     ensures propagated { (old new : Network) → GoesDown old new → KeepMarks old new }
     ensures returned { (old new : Network) (mark later : Mark) (domains : List Domain) (constraints : List Constraint)
         → IsMark old mark domains constraints → mark.cells ≤ later.cells → mark.constraints ≤ later.constraints

@@ -1,10 +1,10 @@
 //! Networks.
 
-ghost use Rattle.std.specs.Prelude.{◌≡◌, ◌^◌, ◌<◌, ◌≤◌, List, [], ◌∷◌, ◌++◌, All, length, take};
-ghost use Rattle.std.specs.Prelude.{Contains, IsTrue, OnErr, IfOk, MatchOption, Some};
+ghost use Rattle.std.specs.Prelude.{◌≡◌, ◌^◌, ◌<◌, ◌≤◌, List, [], ◌∷◌, ◌++◌, All, length, take, true};
+ghost use Rattle.std.specs.Prelude.{Contains, IsTrue, OnOk, OnErr, IfOk, MatchOption, Some};
 ghost use Rattle.std.specs.Prelude.{slice_get};
 ghost use Rattle.domain_core.specs.Domain.{Domain, IsDomain};
-ghost use Rattle.constraint_net.specs.Networks.{CanPost, AllConsistent};
+ghost use Rattle.constraint_net.specs.Networks.{CanPost, AllConsistent, IsIdle};
 ghost use Rattle.constraint_net.specs.Steps.{PropagatesTo};
 ghost use Rattle.constraint_net.specs.Calls.{IsAscending, given_by, table_of, AddsVar, Limits, Posts};
 ghost use Rattle.constraint_net.specs.Calls.{GoesDown, TakesChanged};
@@ -44,6 +44,8 @@ pub struct Net {
 pub struct Mark {
     cells: CellMark,
     constraints: usize,
+    // Nothing waited there, so nothing does after going back.
+    idle: bool,
 }
 
 impl Model for Net {
@@ -69,6 +71,7 @@ impl Net {
           older = [];
           marked = 0;
           changed = [];
+          quiet = 0;
         } }
     {
         let domains = Domains::new(alloc);
@@ -144,8 +147,9 @@ impl Net {
         self.domains.cells.stamp(variable)
     }
 
-    /// Takes values away until all constraints are consistent. After Collapsed and Memory some values may be gone;
-    /// after Memory the call may be made again, and after Collapsed only `back_to` brings values back.
+    /// Takes values away until all constraints are consistent; where none waits nothing is narrowed. After Collapsed and
+    /// Memory some values may be gone; after Memory the call may be made again, and after Collapsed only `back_to` brings
+    /// values back.
     pub fn propagate_all(&mut self) -> Result<(), NetFault>
         ensures propagated { PropagatesTo (AllConsistent self.old.tables self.old.constraints)
             self.old.domains result self.new.domains }
@@ -153,6 +157,8 @@ impl Net {
         ensures variables { length self.new.domains ≡ length self.old.domains }
         ensures others { GoesDown self.old self.new }
         ensures counted { self.old.work ≤ self.new.work }
+        ensures quiet { OnOk result (self.new.quiet ≡ length self.new.constraints) }
+        ensures idle { self.old.quiet ≡ length self.old.constraints → self.new.work ≡ self.old.work }
     {
         propagate(
             &self.constraints,
@@ -168,20 +174,24 @@ impl Net {
         ensures is { IsMark self.new result self.old.domains self.old.constraints }
         ensures latest { IsLatest self.new result }
         ensures keeps { KeepMarks self.old self.new }
+        ensures idle { IsIdle self.old → result.idle ≡ true }
     {
         self.marked = self.domains.cells.mark();
+        let count = self.constraints.len();
         Mark {
             cells: self.marked,
-            constraints: self.constraints.len(),
+            constraints: count,
+            idle: self.domains.agenda.is_idle(count),
         }
     }
 
-    /// Brings back the variables, their domains and the constraints at the mark, without memory.
+    /// Brings back the variables, their domains and the constraints at the mark, without memory. Where nothing waited then,
+    /// nothing waits now, whatever happened since.
     pub fn back_to(&mut self, mark: Mark)
         requires { CanReturn self.old mark }
         ensures { Returns mark self.old self.new }
     {
-        self.domains.alert_since(mark.cells);
+        self.domains.turn_back(mark.cells, mark.idle);
         forget(
             &mut self.constraints,
             &mut self.domains.agenda,
@@ -202,7 +212,7 @@ impl Net {
 
     /// Takes the next variable off the list of those that have changed. That list has each variable whose domain was
     /// written by `limit`, `propagate_all` or `back_to` since it was last taken off, and perhaps others, also of
-    /// numbers that no variable has any more.
+    /// numbers that no variable has any more. It is empty after `back_to` to a mark at which nothing waited.
     pub fn next_changed(&mut self) -> Option<usize>
         ensures { TakesChanged self.old result self.new }
     {

@@ -1,7 +1,7 @@
 //! Queues of numbers, each of which stands there at most once.
 
-ghost use Rattle.std.specs.Prelude.{◌≡◌, ◌+◌, ◌^◌, ◌≤◌, [], ◌∷◌, length, OnOk, MatchOption};
-ghost use Rattle.constraint_net.specs.Queues.{Takes, IsForemost};
+ghost use Rattle.std.specs.Prelude.{◌≡◌, ◌↔◌, ◌+◌, ◌^◌, ◌≤◌, [], ◌∷◌, length, IsTrue, OnOk, MatchOption};
+ghost use Rattle.constraint_net.specs.Queues.{AreFrom, Takes, IsForemost};
 
 use cell_store::numbers::short;
 use std::alloc::{AllocError, Global};
@@ -87,6 +87,13 @@ impl Queue {
         }
     }
 
+    /// Whether each of the numbers is from the count on.
+    pub fn is_from(&self, count: usize) -> bool
+        ensures { IsTrue result ↔ AreFrom count self.now.items }
+    {
+        are_from(&self.items, count)
+    }
+
     /// Takes the first of the numbers off.
     pub fn take(&mut self) -> Option<usize>
         ensures taken { MatchOption result ((self.old.items ≡ []) × (self.new ≡ self.old))
@@ -97,4 +104,26 @@ impl Queue {
         self.standing[number as usize] = false;
         Some(number as usize)
     }
+}
+
+/// Takes all numbers off.
+pub fn clear(queue: &mut Queue)
+    ensures items { queue.new.items ≡ [] }
+    ensures room { queue.new.room ≡ queue.old.room }
+{
+    while let Some(_number) = queue.first() {
+        let _taken = queue.take();
+    }
+}
+
+// Whether each of the numbers is from the count on.
+fn are_from(numbers: &VecDeque<u32>, count: usize) -> bool
+    ensures { IsTrue result ↔ AreFrom count numbers.now.items }
+{
+    for place in 0..numbers.len() {
+        if (numbers[place] as usize) < count {
+            return false;
+        }
+    }
+    true
 }

@@ -67,9 +67,9 @@ module _ (model : Model) (unfolded : ℕ) (old mid : Stored) (changes : ChangesN
     behind_on new heeded is heeds = λ decisions way.
         subst (λ b. Heeds model unfolded mid (Ok b) new) is heeds decisions (propagated_way decisions way)
 
-    pub behind_rest : length old.blocks ≤ unfolded → (new : Stored) (heeded : Bool) → heeded ≡ false → Heeds model unfolded mid (Ok heeded) new
+    pub behind_rest : length old.blocks ≤ unfolded → mid.net.quiet ≡ length mid.net.constraints → (new : Stored) (heeded : Bool) → heeded ≡ false → Heeds model unfolded mid (Ok heeded) new
         → MakesRound model unfolded old (Ok rounds.AtRest) new
-    behind_rest all new heeded is heeds = λ decisions way.
+    behind_rest all quiet new heeded is heeds = λ decisions way.
         let none = subst (λ b. Heeds model unfolded mid (Ok b) new) is heeds in
         let under = (propagated decisions way).underway in
         let within = under.within in
@@ -81,7 +81,7 @@ module _ (model : Model) (unfolded : ℕ) (old mid : Stored) (changes : ChangesN
                 (subst (λ due. IsUnderway model decisions decisions mid.net.tables (snapshot_of mid) unfolded due) none.0 under);
             consistent = (propagated decisions way).consistent;
           };
-          heeded = none.0;
+          idle = record { quiet = quiet; heeded = none.0 };
         })
 
 -- ---- a round

@@ -2,6 +2,7 @@
 use Rattle.std.specs.Prelude.{◌≡◌, ◌⊎◌, ℕ, ⊤, Bool, true, false, List, [], ◌++◌, All, Contains, Result, Ok, Err}
 use Rattle.model_core.specs.declared.decision.Decision.{Decision}
 use Rattle.model_core.specs.declared.model.Model.{Model}
+use Rattle.constraint_net.specs.Networks.{IsIdle}
 use Rattle.constraint_net.specs.declared.NetFault.{NetFault}
 use Rattle.constraint_net.specs.declared.NetFault.TheVariants.{Collapsed, Memory}
 use Rattle.db_refine.specs.Growth.{LeaveNothing}
@@ -25,10 +26,10 @@ CanComeToRest model stored unfolded due =
     (decisions : List Decision) × (waiting : List ℕ)
     × (AreKnownDue due stored waiting × IsOnWay model decisions stored unfolded waiting)
 
--- nothing is left to do in the store
+-- nothing is left to do in the store, and nothing waits
 pub record HasComeToRest (model : Model) (decisions : List Decision) (stored : Stored) : Type 0 where
   pub rests : IsAtRest model decisions stored.net.tables (snapshot_of stored)
-  pub heeded : stored.net.changed ≡ []
+  pub idle : IsIdle stored.net
 
 -- what looking at the next variable that has changed answers and leaves: there was one, or nothing had changed
 abbrev pub Heeds : Model → ℕ → Stored → Result Bool NetFault → Stored → Type 0

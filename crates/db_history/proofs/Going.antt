@@ -56,7 +56,8 @@ module _ (model : Model) (decision : Decision) (old mid : Stored) (due : List �
   pub advances : (new : Stored) (result : Result (Unit {0}) NetFault) → BringsToRest model (length old.blocks) due mid result new
       → OnOk result (new.net.tables ≡ mid.net.tables) → mid.net.tables ≡ old.net.tables → AdvancesBy model decision old result new
   advances new (Ok done) brings tables kept = λ decisions follows.
-      ((brings (decisions ++ decision ∷ []) (due ++ mid.net.changed) (known_due due mid) (on_way decisions follows)).rests, tables ∙ kept)
+      let come = brings (decisions ++ decision ∷ []) (due ++ mid.net.changed) (known_due due mid) (on_way decisions follows) in
+      (come.rests, tables ∙ kept, come.idle)
   advances new (Err Collapsed) brings tables kept = λ decisions follows.
       brings (decisions ++ decision ∷ []) (due ++ mid.net.changed) (known_due due mid) (on_way decisions follows)
   advances new (Err Memory) brings tables kept = tt
@@ -73,7 +74,9 @@ module _ (model : Model) (old : Stored) (begins : IsBeginning model old) (due : 
 
   pub brings_beginning_to_rest : (new : Stored) (result : Result (Unit {0}) NetFault) → BringsToRest model 0 due old result new
       → OnOk result (new.net.tables ≡ old.net.tables) → BringsBeginningToRest model result new
-  brings_beginning_to_rest new (Ok done) brings tables = ((brings [] due (known_all due old) first_way).rests, subst (HaveTables model) (sym tables) begins.tables)
+  brings_beginning_to_rest new (Ok done) brings tables =
+      let come = brings [] due (known_all due old) first_way in
+      (come.rests, subst (HaveTables model) (sym tables) begins.tables, come.idle)
   brings_beginning_to_rest new (Err Collapsed) brings tables = brings [] due (known_all due old) first_way
   brings_beginning_to_rest new (Err Memory) brings tables = tt
 

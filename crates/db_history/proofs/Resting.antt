@@ -10,6 +10,7 @@ use Rattle.eu_name.proofs.Members.{get_same}
 use Rattle.db_refine.specs.Growth.{LeaveNothing}
 use Rattle.db_posting.specs.Tables.{HaveTables}
 use Rattle.db_store.specs.Stores.{Stored, snapshot_of, IsSnapshot}
+use Rattle.constraint_net.specs.Networks.{IsIdle}
 use Rattle.constraint_net.specs.declared.NetFault.TheVariants.{Collapsed}
 use Rattle.db_refusals.specs.Seeing.{seen_state}
 use Rattle.plan_defs.specs.Settling.{IsSettled}
@@ -28,10 +29,10 @@ module _ (model : Model) (decisions : List Decision) where
   pub nothing_collapsed : LeaveNothing model decisions → IsCollapsed model decisions
   nothing_collapsed nothing state closed = nothing state closed.consistent
 
-  pub fit_least : (stored : Stored) (fit : Bool) → IsRestOf model decisions (snapshot_of stored) → HaveTables model stored.net.tables
+  pub fit_least : (stored : Stored) (fit : Bool) → IsRestOf model decisions (snapshot_of stored) → HaveTables model stored.net.tables → IsIdle stored.net
       → MatchBool fit (IsLeast model decisions (seen_state stored)) (IsCollapsed model decisions) → LeavesLeast model decisions fit stored
-  fit_least stored true rest tables least = record { rest = rest; least = least; tables = tables }
-  fit_least stored false rest tables collapsed = collapsed
+  fit_least stored true rest tables idle least = (record { rest = rest; least = least; tables = tables }, idle)
+  fit_least stored false rest tables idle collapsed = collapsed
 
   module _ (ends : EndsAdmissibly model decisions) where
     pub one_less : length decisions ≡ length (but_last decisions) + 1
@@ -63,21 +64,21 @@ module _ (model : Model) (decisions : List Decision) where
         follows = subst (CanFollow model (but_last decisions) old) (sym last_is) (can_follow model (but_last decisions) old ends.0 is least ends.2
             (subst (AreDecidedOnce model) ends.1 (settled_once model decisions settled)))
 
-        pub rests_for_all : (new : Stored) → AdvancesBy model decision old (Ok tt) new → IsRestOf model decisions (snapshot_of new) × HaveTables model new.net.tables
+        pub rests_for_all : (new : Stored) → AdvancesBy model decision old (Ok tt) new → IsRestOf model decisions (snapshot_of new) × HaveTables model new.net.tables × IsIdle new.net
         rests_for_all new advances =
             let on = advances (but_last decisions) follows in
-            (subst (λ (list : List Decision). IsRestOf model list (snapshot_of new)) ends_with on.0, subst (HaveTables model) (sym on.1) least.tables)
+            (subst (λ (list : List Decision). IsRestOf model list (snapshot_of new)) ends_with on.0, subst (HaveTables model) (sym on.1) least.tables, on.2)
 
         pub nothing_for_all : (new : Stored) → AdvancesBy model decision old (Err Collapsed) new → IsCollapsed model decisions
         nothing_for_all new advances = nothing_collapsed (subst (LeaveNothing model) ends_with (advances (but_last decisions) follows))
 
 -- what is told of a store at rest before any decision is told with it
 pub begun_told : (model : Model) (stored : Stored) (fit : Result Bool AllocError) (begun : Result (Stored × Bool) AllocError)
-    → IsRestOf model [] (snapshot_of stored) → HaveTables model stored.net.tables
+    → IsRestOf model [] (snapshot_of stored) → HaveTables model stored.net.tables → IsIdle stored.net
     → MatchResult fit (λ told. begun ≡ Ok (stored, told)) (λ none. begun ≡ Err none)
     → IfOk fit (λ told. MatchBool told (IsLeast model [] (seen_state stored)) (IsCollapsed model []))
     → IfOk begun (λ both. LeavesLeast model [] both.1 both.0)
-begun_told model stored (Ok told) begun rest tables same is =
-    subst (λ (answer : Result (Stored × Bool) AllocError). IfOk answer (λ both. LeavesLeast model [] both.1 both.0)) (sym same) (fit_least model [] stored told rest tables is)
-begun_told model stored (Err none) begun rest tables same is =
+begun_told model stored (Ok told) begun rest tables idle same is =
+    subst (λ (answer : Result (Stored × Bool) AllocError). IfOk answer (λ both. LeavesLeast model [] both.1 both.0)) (sym same) (fit_least model [] stored told rest tables idle is)
+begun_told model stored (Err none) begun rest tables idle same is =
     subst (λ (answer : Result (Stored × Bool) AllocError). IfOk answer (λ both. LeavesLeast model [] both.1 both.0)) (sym same) tt

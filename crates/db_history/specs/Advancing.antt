@@ -4,6 +4,7 @@ use Rattle.eu_name.specs.declared.name.TokenName.{TokenName}
 use Rattle.model_core.specs.declared.decision.Decision.{Decision}
 use Rattle.model_core.specs.declared.decision.Decision.TheVariants.{Merge}
 use Rattle.model_core.specs.declared.model.Model.{Model}
+use Rattle.constraint_net.specs.Networks.{IsIdle}
 use Rattle.constraint_net.specs.declared.NetFault.{NetFault}
 use Rattle.constraint_net.specs.declared.NetFault.TheVariants.{Collapsed, Memory}
 use Rattle.plan_defs.specs.Closure.{IsLeast, IsCollapsed}
@@ -35,30 +36,31 @@ pub record CanFollow (model : Model) (decisions : List Decision) (stored : Store
   pub alike : (token target : TokenName) → decision ≡ Merge token target → HaveSamePredicate model token target
   pub once : AreDecidedOnce model (decisions ++ decision ∷ [])
 
--- what going on by the decision answers and leaves: the store at rest for the longer list, or that it leaves nothing
+-- what going on by the decision answers and leaves: the store at rest for the longer list, in which nothing waits, or that it
+-- leaves nothing
 abbrev pub AdvancesBy : Model → Decision → Stored → Result (Unit {0}) NetFault → Stored → Type 0
 AdvancesBy model decision old (Ok done) new =
     (decisions : List Decision) → CanFollow model decisions old decision
-    → IsRestOf model (decisions ++ decision ∷ []) (snapshot_of new) × (new.net.tables ≡ old.net.tables)
+    → IsRestOf model (decisions ++ decision ∷ []) (snapshot_of new) × (new.net.tables ≡ old.net.tables) × IsIdle new.net
 AdvancesBy model decision old (Err Collapsed) new =
     (decisions : List Decision) → CanFollow model decisions old decision → LeaveNothing model (decisions ++ decision ∷ [])
 AdvancesBy model decision old (Err Memory) new = ⊤
 
--- what beginning answers: a store at rest before any decision, or that nothing is left
+-- what beginning answers: a store at rest before any decision, in which nothing waits, or that nothing is left
 abbrev pub StartsFrom : Model → Result Stored NetFault → Type 0
-StartsFrom model (Ok stored) = IsRestOf model [] (snapshot_of stored) × HaveTables model stored.net.tables
+StartsFrom model (Ok stored) = IsRestOf model [] (snapshot_of stored) × HaveTables model stored.net.tables × IsIdle stored.net
 StartsFrom model (Err Collapsed) = LeaveNothing model []
 StartsFrom model (Err Memory) = ⊤
 
 -- the same of a store that is brought to rest before any decision
 abbrev pub BringsBeginningToRest : Model → Result (Unit {0}) NetFault → Stored → Type 0
-BringsBeginningToRest model (Ok done) stored = IsRestOf model [] (snapshot_of stored) × HaveTables model stored.net.tables
+BringsBeginningToRest model (Ok done) stored = IsRestOf model [] (snapshot_of stored) × HaveTables model stored.net.tables × IsIdle stored.net
 BringsBeginningToRest model (Err Collapsed) stored = LeaveNothing model []
 BringsBeginningToRest model (Err Memory) stored = ⊤
 
--- whether the decisions leave a least state, which then is what is in the store
+-- whether the decisions leave a least state, which then is what is in the store, and nothing waits there
 abbrev pub LeavesLeast : Model → List Decision → Bool → Stored → Type 0
-LeavesLeast model decisions true stored = IsLeastOf model decisions (snapshot_of stored)
+LeavesLeast model decisions true stored = IsLeastOf model decisions (snapshot_of stored) × IsIdle stored.net
 LeavesLeast model decisions false stored = IsCollapsed model decisions
 
 -- all but the last of the decisions

@@ -2,22 +2,24 @@
 use Rattle.std.specs.Prelude.{◌≡◌, ℕ, ◌<◌, Bool, true, false, List, [], length, take, Some, slice_get}
 use Rattle.model_core.specs.declared.decision.Decision.{Decision}
 use Rattle.model_core.specs.declared.model.Model.{Model}
+use Rattle.constraint_net.specs.Networks.{IsIdle}
 use Rattle.plan_defs.specs.Closure.{IsCollapsed}
 use Rattle.db_store.specs.declared.store.Mark.{Mark}
 use Rattle.db_store.specs.Stores.{Stored, Snapshot, snapshot_of}
-use Rattle.db_store.specs.StoreMarks.{IsStoreMark, IsMarkBefore}
+use Rattle.db_store.specs.StoreMarks.{IsStoreMark, IsMarkBefore, IsIdleMark}
 use Rattle.db_history.specs.declared.footing.Footing.{Footing}
 use Rattle.db_history.specs.declared.footing.Footing.TheVariants.{Rest, Fallen, Void}
 use Rattle.db_history.specs.Advancing.{IsLeastOf, but_last}
 
--- at the mark the store had the least state of these decisions
+-- at the mark the store had the least state of these decisions, and nothing waited
 abbrev pub IsMarkOf : Model → List Decision → Stored → Mark → Type 0
 IsMarkOf model decisions stored mark =
-    (snapshot : Snapshot) × IsStoreMark stored mark snapshot × IsLeastOf model decisions snapshot
+    (snapshot : Snapshot) × IsStoreMark stored mark snapshot × IsLeastOf model decisions snapshot × IsIdleMark mark
 
--- the store has the least state of the decisions, and before each of them a mark was set
+-- the store has the least state of the decisions, in which nothing waits, and before each of them a mark was set
 pub record StandsForList (model : Model) (decisions : List Decision) (stored : Stored) (marks : List Mark) : Type 0 where
   pub here : IsLeastOf model decisions (snapshot_of stored)
+  pub idle : IsIdle stored.net
   pub count : length marks ≡ length decisions
   pub marked : (number : ℕ) (mark : Mark) → slice_get marks number ≡ Some mark → IsMarkOf model (take number decisions) stored mark
   pub order : (one other : ℕ) (mark later : Mark)

@@ -3,6 +3,7 @@
 ghost use Rattle.std.specs.Prelude.{◌≡◌, ℕ, ◌<◌, [], List, length, Contains, IfOk, MatchResult, Ok, Err};
 ghost use Rattle.model_core.specs.declared.decision.Decision.{Decision as Taken};
 ghost use Rattle.model_core.specs.Lawful.{IsLawful};
+ghost use Rattle.constraint_net.specs.Networks.{IsIdle};
 ghost use Rattle.plan_defs.specs.Settling.{IsSettled};
 ghost use Rattle.db_posting.specs.Tables.{HaveTables};
 ghost use Rattle.db_store.specs.Stores.{snapshot_of};
@@ -106,6 +107,7 @@ fn begun(alloc: Global, model: &Model, store: Store) -> Result<(Store, bool), Al
     requires lawful { IsLawful model.now }
     requires rest { IsRestOf model.now [] (snapshot_of store) }
     requires tables { HaveTables model.now store.net.tables }
+    requires idle { IsIdle store.net }
     ensures { IfOk result (λ begun. LeavesLeast model.now [] begun.1 begun.0) }
 {
     let fit = resources_fit(alloc, model, &store, &[]);
@@ -123,7 +125,7 @@ fn beside<T: Drop>(value: T, told: Result<bool, AllocError>) -> Result<(T, bool)
 }
 
 /// Brings the store, which is at rest for all but the last of the decisions and marked, to rest for all of them, and answers
-/// whether they leave a least state.
+/// whether they leave a least state. Nothing waits then.
 pub fn take_last_decision(
     alloc: Global,
     store: &mut Store,

@@ -8,13 +8,14 @@ ghost use Rattle.model_core.specs.Lawful.{IsLawful};
 ghost use Rattle.plan_defs.specs.History.{IsHistory};
 ghost use Rattle.plan_defs.specs.Refusals.{IsAdmissible};
 ghost use Rattle.plan_defs.specs.Settling.{IsSettled};
-ghost use Rattle.db_store.specs.Stamps.{FollowStamps};
+ghost use Rattle.db_store.specs.Stamps.{FollowStamps, StampsRise};
 ghost use Rattle.db_history.specs.declared.footing.Footing.TheVariants.{Rest};
 ghost use Rattle.db_history.specs.Advancing.{but_last, EndsAdmissibly};
 ghost use Rattle.db_history.specs.Standing.{KeepsList};
 ghost use Rattle.db_history.specs.Kept.{KeepsHistory, KeepsUnless, LeaveState, WithdrawsLast};
 
 use crate::{Footing, Standing};
+use db_store::laws::stamps_rise;
 use decision_log::Log;
 use model_core::decision::Decision;
 use model_core::model::Model;
@@ -33,7 +34,7 @@ pub fn fits(kept: &Standing) -> bool
 }
 
 /// Puts an admissible decision at the end, and answers whether the list then leaves a least state. Without memory all stays as
-/// it was.
+/// it was, but for stamps, which may be greater.
 pub fn accept(
     model: &Model,
     log: &mut Log,
@@ -48,7 +49,10 @@ pub fn accept(
     ensures err { OnErr result (log.new ≡ log.old) }
     ensures kept { KeepsHistory model.now log.new kept.new }
     ensures stamps { OnOk result (kept.new.footing ≡ Rest → FollowStamps kept.old.stored kept.new.stored) }
+    ensures risen { OnErr result (StampsRise kept.old.stored kept.new.stored) }
 {
+    stamps_rise();
+    kept.store().is_sound();
     push_copy(log, decision)?;
     match go_on(log.allocator(), model, kept, log.standing()) {
         Ok(fit) => Ok(fit),
@@ -82,6 +86,7 @@ pub fn go_on(
     ensures ok { IfOk result (λ fit. KeepsList model.now decisions.now kept.new × LeaveState model.now decisions.now fit) }
     ensures err { OnErr result (KeepsList model.now (but_last decisions.now) kept.new) }
     ensures stamps { OnOk result (kept.new.footing ≡ Rest → FollowStamps kept.old.stored kept.new.stored) }
+    ensures risen { OnErr result (StampsRise kept.old.stored kept.new.stored) }
 {
     kept.push(alloc, model, decisions)?;
     Ok(fits(kept))
@@ -173,6 +178,18 @@ fn put_value<T: Drop>(place: &mut T, made: Result<T, AllocError>) -> Result<(), 
         }
         Err(none) => Err(none),
     }
+}
+
+/// Gives the memory of what is kept back, where it is of no more use. It takes none.
+pub fn let_go(alloc: Global, kept: &mut Standing) {
+    put(kept, Standing::nothing(alloc));
+}
+
+// Puts the value in the place of what is there.
+fn put<T: Drop>(place: &mut T, value: T)
+    ensures { place.new ≡ value }
+{
+    *place = value;
 }
 
 // What is kept of the standing list, made anew.

@@ -14,7 +14,7 @@ pub mod standing;
 pub mod subject;
 
 pub use footing::Footing;
-pub use forward::{accept, fits, rebuild, withdraw};
+pub use forward::{accept, fits, let_go, rebuild, withdraw};
 pub use objection::{Objection, judge};
 pub use parting::bring_back;
 pub use settle::take_out;

@@ -8,7 +8,7 @@ ghost use Rattle.plan_defs.specs.Settling.{IsSettled};
 ghost use Rattle.db_store.specs.declared.store.Mark.{Mark as Marked};
 ghost use Rattle.db_store.specs.Stores.{snapshot_of};
 ghost use Rattle.db_store.specs.StoreMarks.{IsStoreMark, CanGoBack, GoesBackTo};
-ghost use Rattle.db_store.specs.Stamps.{FollowStamps};
+ghost use Rattle.db_store.specs.Stamps.{FollowStamps, StampsRise};
 ghost use Rattle.db_history.specs.declared.footing.Footing.TheVariants.{Rest};
 ghost use Rattle.db_history.specs.Advancing.{but_last, EndsAdmissibly};
 ghost use Rattle.db_history.specs.Standing.{KeepsList, StandsForList, GoesOnTo};
@@ -17,7 +17,7 @@ ghost use Rattle.db_history.specs.Seated.{AreSeatedAt};
 use super::advance::{begin, take_last_decision};
 use super::footing::Footing;
 use db_fixpoint::Seating;
-use db_store::laws::stamps_follow;
+use db_store::laws::{stamps_follow, stamps_rise};
 use db_store::{Mark, Store};
 use model_core::decision::Decision;
 use model_core::model::Model;
@@ -79,6 +79,7 @@ impl Standing {
         ensures ok { IfOk result (λ footing. (footing ≡ self.new.footing) × KeepsList model.now decisions.now self.new) }
         ensures err { OnErr result ((self.new.footing ≡ Rest) × KeepsList model.now (but_last decisions.now) self.new) }
         ensures stamps { IfOk result (λ footing. footing ≡ Rest → FollowStamps self.old.stored self.new.stored) }
+        ensures risen { OnErr result (StampsRise self.old.stored self.new.stored) }
     {
         let fit = push_last_decision(
             alloc,
@@ -120,11 +121,22 @@ impl Standing {
         &self.store
     }
 
+    /// What is kept of no list, which takes no memory. It can't be relied on for anything.
+    #[tactic(auto, using(crate::proofs::Stepping::seated_new))]
+    pub fn nothing(alloc: Global) -> Standing {
+        Standing {
+            store: Store::new(alloc),
+            marks: Vec::new(alloc),
+            seating: Seating::new(alloc),
+            footing: Footing::Void,
+        }
+    }
+
     /// Gives the memory back. A crate above that drops what is kept would have to prove again that all of its parts can be.
     pub fn discard(self) {}
 }
 
-// Goes back to the mark, where the step of this number began.
+// Goes back to the mark, where the step of this number began. Nothing waits then, if nothing did there.
 fn go_back(store: &mut Store, seating: &mut Seating, mark: Mark, number: usize)
     requires can { CanGoBack store.old mark }
     requires step { number < length seating.old.steps.items }
@@ -156,9 +168,12 @@ fn push_last_decision(
     ensures ok { IfOk result (λ fit. GoesOnTo model.now decisions.now fit store.new marks.new.items) }
     ensures err { OnErr result (StandsForList model.now (but_last decisions.now) store.new marks.new.items) }
     ensures stamps { IfOk result (λ fit. fit ≡ true → FollowStamps store.old store.new) }
+    ensures risen { OnErr result (StampsRise store.old store.new) }
     ensures seated { AreSeatedAt store.new marks.new.items seating.new }
 {
     stamps_follow();
+    stamps_rise();
+    store.is_sound();
     marks.reserve(1)?;
     seating.catch_up(store)?;
     seating.begin_step()?;

@@ -189,7 +189,7 @@ taken_tables None old new takes = ap (λ (net : Network). net.tables) takes.1
 
 pub taken_marks : (result : Option ℕ) (old new : Network) → TakesChanged old result new → KeepMarks old new
 taken_marks (Some variable) old new takes = subst (KeepMarks old) (sym takes.1.1) (λ mark domains constraints is.
-    record { place = is.place; marked = is.marked; first = is.first; count = is.count; are = is.are; posted = is.posted })
+    record { place = is.place; marked = is.marked; first = is.first; count = is.count; are = is.are; posted = is.posted; idle = is.idle })
 taken_marks None old new takes = subst (KeepMarks old) (sym takes.1) (λ mark domains constraints is. is)
 
 -- ---- by name

@@ -4,6 +4,7 @@ pub mod Lists
 pub mod Snapshots
 pub mod Naming
 pub mod Following
+pub mod Rising
 pub mod Going
 pub mod Steps
 pub mod Watched

@@ -23,6 +23,12 @@ FollowStamps old new =
     (name : VarName) (was now : Domain) (stamp next : ℕ)
     → HasStamp old name was stamp → HasStamp new name now next → FollowsDomain was stamp now next
 
+-- each variable that is in both stores has the domain that it had, and as great a stamp or a greater one
+abbrev pub StampsRise : Stored → Stored → Type 0
+StampsRise old new =
+    (name : VarName) (was now : Domain) (stamp next : ℕ)
+    → HasStamp old name was stamp → HasStamp new name now next → (now ≡ was) × (stamp ≤ next)
+
 -- the domain and the stamp stay, or the domain has less and the stamp is greater, or as great as a stamp can be
 abbrev pub FollowsLess : Domain → ℕ → Domain → ℕ → Type 0
 FollowsLess old stamp new next =

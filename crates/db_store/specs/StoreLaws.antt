@@ -14,8 +14,8 @@ use Rattle.db_store.specs.Keys.{named_variable, named_block}
 use Rattle.db_store.specs.declared.store.Mark.{Mark}
 use Rattle.db_store.specs.declared.watchers.Watch.{Watch}
 use Rattle.db_store.specs.Stores.{Stored, Snapshot, snapshot_of, IsSnapshot, named_content, blocks_watching}
-use Rattle.db_store.specs.Stamps.{FollowStamps}
-use Rattle.db_store.specs.StoreMarks.{IsMarkBefore, KeepStoreMarks}
+use Rattle.db_store.specs.Stamps.{FollowStamps, StampsRise}
+use Rattle.db_store.specs.StoreMarks.{IsStoreMark, IsMarkBefore, KeepStoreMarks, GoesBackTo}
 
 -- no token, no block and no variable is in the content twice, and each variable has a domain
 pub record HasEachOnce (content : Content) : Type 0 where
@@ -96,3 +96,13 @@ abbrev pub StampsFollow : Type 0
 StampsFollow =
     (old new : Stored) → IsSnapshot (snapshot_of old) → IsSnapshot (snapshot_of new)
     → KeepStoreMarks old new → FollowStamps old new
+
+-- where a store has gone on from a mark and back to it, no stamp is less than it was
+abbrev pub StampsRiseOnTheWayBack : Type 0
+StampsRiseOnTheWayBack =
+    (mark : Mark) (old middle new : Stored) → IsStoreMark old mark (snapshot_of old)
+    → KeepStoreMarks old middle → GoesBackTo mark middle new → StampsRise old new
+
+-- nor where nothing has happened to it
+abbrev pub StampsStay : Type 0
+StampsStay = (stored : Stored) → IsSnapshot (snapshot_of stored) → StampsRise stored stored

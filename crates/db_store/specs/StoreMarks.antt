@@ -1,5 +1,5 @@
 -- Marks of a store, and going back to one.
-use Rattle.std.specs.Prelude.{◌≡◌, ◌⊎◌, ℕ, ◌<◌, ◌≤◌, List, ◌∷◌, ◌++◌, length, take, Contains}
+use Rattle.std.specs.Prelude.{◌≡◌, ◌⊎◌, ℕ, ◌<◌, ◌≤◌, true, List, ◌∷◌, ◌++◌, length, take, Contains}
 use Rattle.cell_store.specs.Cells.{domain_at}
 use Rattle.token_store.specs.Tokens.{TokenPast}
 use Rattle.constraint_net.specs.Marks.{IsMark, Returns}
@@ -20,6 +20,10 @@ pub record IsStoreMark (stored : Stored) (mark : Mark) (snapshot : Snapshot) : T
   pub watches : AreFirst mark.watches stored.watches snapshot.watches
   pub net : IsMark stored.net mark.net snapshot.domains snapshot.posted
   pub tables : snapshot.tables ≡ stored.net.tables
+
+-- nothing was to be looked at there, so nothing is after going back
+abbrev pub IsIdleMark : Mark → Type 0
+IsIdleMark mark = mark.net.idle ≡ true
 
 -- the store whose latest mark is at the present place
 abbrev pub with_mark : Stored → Stored

@@ -4,6 +4,7 @@ ghost use Rattle.eu_name.specs.Laws.{DecidesEquality};
 ghost use Rattle.db_store.specs.StoreLaws.{NamesAreOnce, NamesHaveOneNumber, GivesByNumber};
 ghost use Rattle.db_store.specs.StoreLaws.{TokenIsAdded, StatesAreLeftOut, BlockIsAdded, VariableIsAdded};
 ghost use Rattle.db_store.specs.StoreLaws.{DomainsAreReplaced, WatchersAreListed, MarksAreInOrder, StampsFollow};
+ghost use Rattle.db_store.specs.StoreLaws.{StampsRiseOnTheWayBack, StampsStay};
 
 use super::key::{OpenBlock, VarKey};
 use eu_name::laws::{names_are_told_apart, sequences_are_told_apart};
@@ -47,4 +48,10 @@ pub fn marks_are_in_order()
 /// A law: stamps follow the domains for as long as a store goes on.
 pub fn stamps_follow()
     ensures { StampsFollow }
+{}
+
+/// A law: where a store has gone back to where it was, its variables have the domains that they had, and no stamp is less.
+pub fn stamps_rise()
+    ensures back { StampsRiseOnTheWayBack }
+    ensures same { StampsStay }
 {}

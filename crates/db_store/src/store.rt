@@ -5,13 +5,13 @@ ghost use Rattle.std.specs.Prelude.{Contains, IfOk, OnOk, OnErr, MatchOption};
 ghost use Rattle.domain_core.specs.Domain.{Domain, IsDomain};
 ghost use Rattle.token_store.specs.Tokens.{tokens_now, with_state};
 ghost use Rattle.constraint_net.specs.Calls.{IsAscending, table_of, AddsVar, Limits, Posts, GoesDown, TakesChanged};
-ghost use Rattle.constraint_net.specs.Networks.{CanPost, AllConsistent};
+ghost use Rattle.constraint_net.specs.Networks.{CanPost, AllConsistent, IsIdle};
 ghost use Rattle.constraint_net.specs.Steps.{PropagatesTo};
 ghost use Rattle.db_store.specs.Keys.{IsKeyBelow};
 ghost use Rattle.db_store.specs.Stores.{Snapshot, snapshot_of, IsSnapshot, blocks_watching, variable_names};
 ghost use Rattle.db_store.specs.Puts.{FindsItem, PutsToken, PutsVariable, PutsBlock, ChangesNet};
 ghost use Rattle.db_store.specs.Stamps.{HasStamp};
-ghost use Rattle.db_store.specs.StoreMarks.{IsStoreMark, IsMarkBefore, CanGoBack, KeepStoreMarks, GoesBackTo, AreTouched, with_mark};
+ghost use Rattle.db_store.specs.StoreMarks.{IsStoreMark, IsMarkBefore, IsIdleMark, CanGoBack, KeepStoreMarks, GoesBackTo, AreTouched, with_mark};
 ghost use Rattle.db_store.specs.Finding.{FindsKey, AddsKey};
 
 use super::items::{find, put_item};
@@ -82,6 +82,7 @@ impl Store {
             older = [];
             marked = 0;
             changed = [];
+            quiet = 0;
           };
         } }
     {
@@ -272,14 +273,16 @@ impl Store {
         self.net.limit(variable, to)
     }
 
-    /// Takes values away until all constraints are consistent. After Memory the call may be made again, and after
-    /// Collapsed only `back_to` brings values back.
+    /// Takes values away until all constraints are consistent; where none waits nothing is narrowed. After Memory the call may
+    /// be made again, and after Collapsed only `back_to` brings values back.
     pub fn propagate(&mut self) -> Result<(), NetFault>
         ensures propagated { PropagatesTo (AllConsistent self.old.net.tables self.old.net.constraints)
             self.old.net.domains result self.new.net.domains }
         ensures variables { length self.new.net.domains ≡ length self.old.net.domains }
         ensures down { GoesDown self.old.net self.new.net }
         ensures counted { self.old.net.work ≤ self.new.net.work }
+        ensures quiet { OnOk result (self.new.net.quiet ≡ length self.new.net.constraints) }
+        ensures idle { self.old.net.quiet ≡ length self.old.net.constraints → self.new.net.work ≡ self.old.net.work }
         ensures others { ChangesNet self.old self.new }
         ensures marks { KeepStoreMarks self.old self.new }
     {
@@ -298,12 +301,14 @@ impl Store {
         self.net.next_changed()
     }
 
-    /// A mark at the store as it is. The network is told of it, so that it keeps what variables are at the mark.
+    /// A mark at the store as it is. The network is told of it, so that it keeps what variables are at the mark; and where
+    /// nothing is to be looked at, the mark says so.
     pub fn mark(&mut self) -> Mark
         ensures marked { self.new ≡ with_mark self.old }
         ensures is { IsStoreMark self.new result (snapshot_of self.old) }
         ensures latest { (earlier : Mark) → CanGoBack self.new earlier → IsMarkBefore earlier result }
         ensures marks { KeepStoreMarks self.old self.new }
+        ensures idle { IsIdle self.old.net → IsIdleMark result }
     {
         Mark {
             tokens: self.tokens.mark(),
@@ -325,7 +330,7 @@ impl Store {
         Ok(numbers)
     }
 
-    /// Brings back what there was at the mark, without memory.
+    /// Brings back what there was at the mark, without memory. Where nothing was to be looked at then, nothing is now.
     pub fn back_to(&mut self, mark: Mark)
         requires { CanGoBack self.old mark }
         ensures { GoesBackTo mark self.old self.new }

@@ -15,7 +15,7 @@ use Rattle.db_posting.specs.Counting.{AreTokenStates}
 use Rattle.db_store.specs.Stores.{Stored, snapshot_of}
 use Rattle.db_refusals.specs.Seeing.{Seen, seen_state}
 use Rattle.db_history.specs.declared.footing.Footing.TheVariants.{Rest}
-use Rattle.db_history.specs.Standing.{Stood}
+use Rattle.db_history.specs.Standing.{Stood, KeepsList}
 use Rattle.db_history.proofs.Keeping.{least_kept}
 use Rattle.db_history.specs.declared.objection.Objection.{Objection}
 use Rattle.db_history.specs.declared.objection.Objection.TheVariants.{Collapsed, Refused}
@@ -49,6 +49,21 @@ refused_as model history decision (Refused reasons.NotSamePredicate) refused = (
 refused_as model history decision (Refused reasons.NotRejectable) refused = (refl, refused)
 refused_as model history decision (Refused reasons.SameToken) refused = (refl, refused)
 refused_as model history decision (Refused reasons.ActiveFull) refused = (refl, refused)
+
+-- and none is want of memory
+pub never_memory : (objection : Objection) → fault_of objection ≡ fault.Memory → ⊥
+never_memory Collapsed same = let here : fault.InInconsistent ≡ fault.Memory = same in cc
+never_memory (Refused reasons.Unknown) same = let here : fault.Unknown ≡ fault.Memory = same in cc
+never_memory (Refused reasons.Decided) same = let here : fault.Decided ≡ fault.Memory = same in cc
+never_memory (Refused reasons.NotInDomain) same = let here : fault.NotInDomain ≡ fault.Memory = same in cc
+never_memory (Refused reasons.NotActive) same = let here : fault.NotActive ≡ fault.Memory = same in cc
+never_memory (Refused reasons.NotSamePredicate) same = let here : fault.NotSamePredicate ≡ fault.Memory = same in cc
+never_memory (Refused reasons.NotRejectable) same = let here : fault.NotRejectable ≡ fault.Memory = same in cc
+never_memory (Refused reasons.SameToken) same = let here : fault.Same ≡ fault.Memory = same in cc
+never_memory (Refused reasons.ActiveFull) same = let here : fault.ActiveFull ≡ fault.Memory = same in cc
+
+pub same_fault : {X : Type 0} (result : Result X DbFault) (one other : DbFault) → result ≡ Err one → result ≡ Err other → one ≡ other
+same_fault result one other is also = cc
 
 -- the outcome that is answered is that of the decisions
 pub outcome_fits : (database : Database) (fits : Bool) → LeaveState database.model (standing database.history) fits → OutcomeIs database (outcome_for fits)
@@ -149,6 +164,18 @@ module _ (model : Model) (history : History) (behind : Bool) (stood : Stood) (ke
 
 pub keeps_ready : (model : Model) (history : History) (behind : Bool) (stood : Stood) → KeepsHistory model history stood → KeepsUnless behind model history stood
 keeps_ready model history behind stood keeps = record { is_history = keeps.is_history; list = λ ready. keeps.list }
+
+-- what is kept is let go only where it is behind
+module _ (behind : Bool) (mid back : Stood) (same : behind ≡ false → back ≡ mid) where
+  pub unless_let_go : (model : Model) (history : History) → KeepsUnless behind model history mid → KeepsUnless behind model history back
+  unless_let_go model history keeps = record {
+    is_history = keeps.is_history;
+    list = λ ready. subst (KeepsList model (standing history)) (sym (same ready)) (keeps.list ready);
+  }
+
+  pub refused_kept : {X : Type 0} (result : Result X DbFault) (stood : Stood) → (result ≡ Err fault.Memory) ⊎ (behind ≡ false) → KeepsIfRefused result stood mid → KeepsIfRefused result stood back
+  refused_kept result stood (inl wanting) keeps = subst (λ answer. KeepsIfRefused answer stood back) (sym wanting) tt
+  refused_kept result stood (inr ready) keeps = subst (KeepsIfRefused result stood) (sym (same ready)) keeps
 
 -- ---- what is told
 

@@ -10,7 +10,7 @@ use Rattle.model_core.specs.State.{Gives}
 use Rattle.plan_defs.specs.Closure.{IsLeast}
 use Rattle.eu_name.proofs.Members.{contains_from_get}
 use Rattle.eu_name.proofs.Ordered.{contains_head, contains_later, contains_cases, contains_none}
-use Rattle.db_store.specs.Stamps.{HasStamp, FollowStamps}
+use Rattle.db_store.specs.Stamps.{HasStamp, FollowStamps, StampsRise}
 use Rattle.db_store.specs.Stores.{Stored, snapshot_of, IsSnapshot, named_content, variable_names}
 use Rattle.db_store.proofs.Naming.{gives_by_number, names_are_once}
 use Rattle.db_refusals.specs.Seeing.{seen_state}
@@ -24,7 +24,7 @@ use Rattle.plan_db.specs.declared.fault.QueryFault.{QueryFault}
 use Rattle.plan_db.specs.declared.fault.QueryFault.TheVariants as query
 use Rattle.plan_db.specs.declared.fault.DbFault.{DbFault}
 use Rattle.plan_db.specs.Database.{taken_in, IsTold, IsUntold}
-use Rattle.plan_db.specs.Stamps.{Stamped, with_stamps, stamps_on, stamps_of, IsStampedAs, StampsFollowDomains}
+use Rattle.plan_db.specs.Stamps.{Stamped, with_stamps, stamps_on, stamps_of, IsStampedAs, StampsFollowDomains, NoStampFalls}
 
 -- what stands at one number is among them
 stamped_at : (names : List VarName) (domains : List Domain) (stamps : List ℕ) (number : ℕ) (name : VarName) (domain : Domain) (stamp : ℕ)
@@ -82,6 +82,18 @@ follow_on Void other old new follow = λ name was now stamp next is is_now. absu
 pub follow_ok : {X : Type 0} (result : Result X DbFault) (old new : Stood) → OnOk result (new.footing ≡ Rest → FollowStamps old.stored new.stored)
     → OnOk result (StampsFollowDomains (stamps_of old) (stamps_of new))
 follow_ok result old new follow = on_ok_weaker result (follow_on old.footing new.footing old.stored new.stored) follow
+
+rise_on : (one other : Footing) (old new : Stored) → StampsRise old new → NoStampFalls (stamps_on one old) (stamps_on other new)
+rise_on Rest Rest old new rises = λ name was now stamp next is is_now.
+    rises name was now stamp next (has_stamp old name was stamp is) (has_stamp new name now next is_now)
+rise_on Rest Fallen old new rises = λ name was now stamp next is is_now. absurd (contains_none (record { name = name; domain = now; stamp = next }) is_now.0)
+rise_on Rest Void old new rises = λ name was now stamp next is is_now. absurd (contains_none (record { name = name; domain = now; stamp = next }) is_now.0)
+rise_on Fallen other old new rises = λ name was now stamp next is is_now. absurd (contains_none (record { name = name; domain = was; stamp = stamp }) is.0)
+rise_on Void other old new rises = λ name was now stamp next is is_now. absurd (contains_none (record { name = name; domain = was; stamp = stamp }) is.0)
+
+-- and where they only rise
+pub rise_stamped : (old new : Stood) → StampsRise old.stored new.stored → NoStampFalls (stamps_of old) (stamps_of new)
+rise_stamped old new rises = rise_on old.footing new.footing old.stored new.stored rises
 
 -- ---- what is told
 

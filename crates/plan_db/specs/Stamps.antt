@@ -1,5 +1,5 @@
 -- How often the variables of a database were written.
-use Rattle.std.specs.Prelude.{◌≡◌, ℕ, ◌^◌, ◌<◌, ⊤, List, [], ◌∷◌, Contains, Result, Ok, Err}
+use Rattle.std.specs.Prelude.{◌≡◌, ℕ, ◌^◌, ◌<◌, ◌≤◌, ⊤, List, [], ◌∷◌, Contains, Result, Ok, Err}
 use Rattle.domain_core.specs.Domain.{Domain}
 use Rattle.eu_name.specs.declared.name.VarName.{VarName}
 use Rattle.cell_store.specs.Cells.{FollowsDomain}
@@ -44,6 +44,12 @@ abbrev pub StampsFollowDomains : List Stamped → List Stamped → Type 0
 StampsFollowDomains old new =
     (name : VarName) (was now : Domain) (stamp next : ℕ)
     → IsStampedAs old name was stamp → IsStampedAs new name now next → FollowsDomain was stamp now next
+
+-- each variable that is among both has the domain that it had, and as great a stamp or a greater one
+abbrev pub NoStampFalls : List Stamped → List Stamped → Type 0
+NoStampFalls old new =
+    (name : VarName) (was now : Domain) (stamp next : ℕ)
+    → IsStampedAs old name was stamp → IsStampedAs new name now next → (now ≡ was) × (stamp ≤ next)
 
 -- where the call was refused, and not for want of memory, nothing of what is kept has changed
 abbrev pub KeepsIfRefused : {X : Type 0} → Result X DbFault → Stood → Stood → Type 0

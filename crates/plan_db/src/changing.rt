@@ -8,13 +8,16 @@ ghost use Rattle.db_history.specs.Kept.{KeepsHistory, KeepsUnless};
 ghost use Rattle.plan_db.specs.Database.{taken_in, outcome_for, Applies, TakesBack, Backtracks, Resets};
 ghost use Rattle.plan_db.specs.Stamps.{KeepsIfRefused};
 ghost use Rattle.db_history.specs.declared.footing.Footing.TheVariants.{Rest};
-ghost use Rattle.db_store.specs.Stamps.{FollowStamps};
+ghost use Rattle.db_store.specs.Stamps.{FollowStamps, StampsRise};
 
 use super::fault::{DbFault, Outcome};
-use db_history::{Standing, Subject, accept, bring_back, judge, place_of, take_out, withdraw};
+use db_history::{
+    Standing, Subject, accept, bring_back, judge, let_go, place_of, take_out, withdraw,
+};
 use decision_log::Log;
 use model_core::decision::Decision;
 use model_core::model::Model;
+use std::alloc::Global;
 
 /// Whether something is possible, by whether there is a least state.
 pub fn outcome_of(fits: bool) -> Outcome
@@ -40,6 +43,7 @@ pub fn apply(
     ensures kept { KeepsHistory model.now log.new kept.new }
     ensures same { KeepsIfRefused result kept.old kept.new }
     ensures stamps { OnOk result (kept.new.footing ≡ Rest → FollowStamps kept.old.stored kept.new.stored) }
+    ensures risen { result ≡ Err Memory → StampsRise kept.old.stored kept.new.stored }
 {
     judge(model, log, kept, decision)?;
     let fits = accept(model, log, kept, decision)?;
@@ -105,4 +109,15 @@ pub fn reset(
     };
     let fits = take_out(model, log, kept, behind, place)?;
     Ok(outcome_of(fits))
+}
+
+/// Gives the memory of what is kept back where that is behind, and adds its narrowings to those that were before.
+pub fn let_go_behind(alloc: Global, kept: &mut Standing, behind: bool, past_work: &mut u64)
+    ensures { behind ≡ false → kept.new ≡ kept.old }
+{
+    if !behind {
+        return;
+    }
+    *past_work = past_work.saturating_add(kept.store().net().work());
+    let_go(alloc, kept);
 }

@@ -1,6 +1,6 @@
 //! The database.
 
-ghost use Rattle.std.specs.Prelude.{◌≡◌, ◌+◌, ◌↔◌, [], ◌∷◌, true, false, IsTrue, length, IfOk, OnOk, OnErr, MatchBool, MatchOption, MatchResult};
+ghost use Rattle.std.specs.Prelude.{◌≡◌, ◌+◌, ◌↔◌, [], ◌∷◌, true, false, IsTrue, length, Err, IfOk, OnOk, OnErr, MatchBool, MatchOption, MatchResult};
 ghost use Rattle.model_core.specs.History.{standing};
 ghost use Rattle.model_core.specs.Lawful.{IsLawful};
 ghost use Rattle.model_core.specs.State.{State};
@@ -8,8 +8,10 @@ ghost use Rattle.plan_db.specs.Database.{IsSound, HasLeast, HasCollapsed};
 ghost use Rattle.plan_db.specs.Answers.{AnswersApply, AnswersReset, AnswersUndo, AnswersBacktrack};
 ghost use Rattle.plan_db.specs.Answers.{AnswersDomain, AnswersNothing, AnswersStamp, AnswersNoStamp, IsSeen, IsUnseen};
 ghost use Rattle.plan_db.specs.Edges.{AnswersEdges, AnswersNoEdges};
-ghost use Rattle.plan_db.specs.Stamps.{StampsFollowDomains};
+ghost use Rattle.plan_db.specs.Stamps.{StampsFollowDomains, NoStampFalls};
+ghost use Rattle.plan_db.specs.declared.fault.DbFault.TheVariants.{Memory};
 
+use super::changing::let_go_behind;
 use super::edges::EdgeFault;
 use super::fault::{DbFault, Outcome, QueryFault};
 use super::{changing, edges, stamps, telling};
@@ -70,10 +72,11 @@ impl Db {
         })
     }
 
-    /// Takes a decision, and answers whether the decisions then leave something possible.
+    /// Takes a decision, and answers whether the decisions then leave something possible. Without memory stamps may be greater.
     pub fn apply(&mut self, decision: &Decision) -> Result<Outcome, DbFault>
         ensures applied { AnswersApply self.old decision.now result self.new }
         ensures stamps { OnOk result (StampsFollowDomains self.old.stamps self.new.stamps) }
+        ensures risen { result ≡ Err Memory → NoStampFalls self.old.stamps self.new.stamps }
         ensures sound { IsSound self.new.database }
     {
         if self.behind {
@@ -91,13 +94,20 @@ impl Db {
         if self.behind {
             return Err(DbFault::Behind);
         }
-        changing::reset(
+        let answer = changing::reset(
             &self.model,
             &mut self.log,
             &mut self.kept,
             &mut self.behind,
             subject,
-        )
+        );
+        let_go_behind(
+            self.log.allocator(),
+            &mut self.kept,
+            self.behind,
+            &mut self.past_work,
+        );
+        answer
     }
 
     /// Takes the last step back, and answers whether the decisions then leave something possible.
@@ -108,7 +118,14 @@ impl Db {
         if self.behind {
             return Err(DbFault::Behind);
         }
-        changing::undo(&self.model, &mut self.log, &mut self.kept, &mut self.behind)
+        let answer = changing::undo(&self.model, &mut self.log, &mut self.kept, &mut self.behind);
+        let_go_behind(
+            self.log.allocator(),
+            &mut self.kept,
+            self.behind,
+            &mut self.past_work,
+        );
+        answer
     }
 
     /// Takes the last decision back, if the last step took it. It takes no memory.
@@ -123,7 +140,8 @@ impl Db {
         changing::backtrack(&mut self.log, &mut self.kept)
     }
 
-    /// Finds what the decisions that stand leave possible anew, from nothing. A database that was behind then isn't.
+    /// Finds what the decisions that stand leave possible anew, from nothing. A database that was behind then isn't: what it kept
+    /// went when it got behind, so the old state doesn't stand beside the new one.
     pub fn rebuild(&mut self) -> Result<(), AllocError>
         ensures ok { OnOk result ((self.new.database ≡ self.old.database) × (self.new.behind ≡ false)) }
         ensures err { OnErr result (self.new ≡ self.old) }

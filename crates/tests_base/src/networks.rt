@@ -473,6 +473,38 @@ fn a_chain_goes_back_to_a_mark(rt: HostRuntime) {
     assert!(rt; seen(rt.alloc(), &journey) == (true, visited, true));
 }
 
+/// From where nothing waits to where the first variable of a chain becomes less, and back.
+fn there_and_back_idle(net: &mut Net) -> bool {
+    let mark = net.mark();
+    let low = keep_range(net, 0, (7, 9));
+    let fault = propagate(net);
+    net.back_to(mark);
+    low && fault.is_none()
+}
+
+/// A chain of so many variables that is left and come back to.
+#[derive(Clone, Copy)]
+struct Return(usize);
+
+impl Run for Return {
+    type Seen = (bool, u64, Option<usize>);
+
+    /// How many narrowings propagation takes after going back to where nothing waited, and what is noted as changed.
+    fn run(&self, net: &mut Net, alloc: Global) -> (bool, u64, Option<usize>) {
+        let made = make_chain(net, alloc, self.0) && is_propagated(net);
+        let back = there_and_back_idle(net);
+        let before = net.work();
+        let propagated = is_propagated(net);
+        let spent = net.work().saturating_sub(before);
+        (made && back && propagated, spent, net.next_changed())
+    }
+}
+
+#[test]
+fn nothing_waits_after_going_back_to_where_nothing_waited(rt: HostRuntime) {
+    assert!(rt; seen(rt.alloc(), &Return(100)) == (true, 0, None));
+}
+
 /// The first four variables on the list of those that have changed.
 fn first_changed(net: &mut Net) -> [Option<usize>; 4] {
     [

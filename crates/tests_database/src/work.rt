@@ -63,6 +63,36 @@ fn is_from(count: Option<u64>, least: u64, below: u64) -> bool {
     }
 }
 
+// The narrowings for a decision on a variable of one constraint, behind another one that was taken back.
+fn work_behind(alloc: Global, db: &mut Db, other: &str) -> Option<u64> {
+    let _taken = work_of(alloc, db, other)?;
+    let _back = work_back(db)?;
+    let behind = work_of(alloc, db, "specify x 4");
+    let _back = work_back(db)?;
+    behind
+}
+
+// The same behind a decision that narrows nothing, one that brings tokens, and one that leaves nothing possible.
+fn works_behind(alloc: Global, db: &mut Db) -> [Option<u64>; 3] {
+    [
+        work_behind(alloc, db, "specify z 1"),
+        work_behind(alloc, db, "activate link"),
+        work_behind(alloc, db, "activate lost"),
+    ]
+}
+
+/// The narrowings behind each of these.
+#[derive(Clone, Copy)]
+struct WorksBehind;
+
+impl Trial for WorksBehind {
+    type Told = [Option<u64>; 3];
+
+    fn tell(&self, alloc: Global, db: &mut Db) -> [Option<u64>; 3] {
+        works_behind(alloc, db)
+    }
+}
+
 // Building anew narrows each item once at least: one constraint, and of each of six tokens that it lasts as it says.
 #[test]
 fn a_decision_costs_what_it_touches(rt: HostRuntime) -> Result<(), Fail> {
@@ -70,5 +100,13 @@ fn a_decision_costs_what_it_touches(rt: HostRuntime) -> Result<(), Fail> {
     assert!(rt; is_from(free, 0, 1) && is_from(back, 0, 1));
     assert!(rt; is_from(bound, 1, 7));
     assert!(rt; is_from(anew, 7, u64::MAX));
+    Ok(())
+}
+
+#[test]
+fn what_was_taken_back_is_not_paid_again(rt: HostRuntime) -> Result<(), Fail> {
+    let [idle, dear, failed] = told_on_rounds(rt.alloc(), &WorksBehind)?;
+    assert!(rt; is_from(idle, 1, 7));
+    assert!(rt; dear == idle && failed == idle);
     Ok(())
 }

@@ -4,13 +4,14 @@ use Rattle.domain_core.specs.Domain.{slack}
 use Rattle.cell_store.specs.Cells.{present}
 use Rattle.constraint_net.specs.Networks.{AllConsistent}
 use Rattle.constraint_net.specs.Steps.{Advances}
-use Rattle.constraint_net.specs.Queues.{Queued}
+use Rattle.constraint_net.specs.Queues.{AreFrom, Queued}
 use Rattle.constraint_net.specs.Waiting.{IsConsistentAt}
 use Rattle.constraint_net.specs.declared.agenda.Agenda.{Agenda}
 use Rattle.constraint_net.proofs.Advancing.{advances_refl}
 use Rattle.constraint_net.proofs.Alerting.{notes_refl, no_loss}
 use Rattle.constraint_net.proofs.Moving.{sinks_refl, sound_along}
 use Rattle.constraint_net.proofs.Turns.{still_posted, turned, was_consistent, turned_empty, turned_out, all_propagated, taken_off, kept_taken, less_slack, fewer_wait}
+use Rattle.constraint_net.proofs.Quiet.{foremost_there, left_from}
 use Rattle.constraint_net.proofs.Rounds.{carried_on}
 use Rattle.constraint_net.proofs.propagating.propagate.Goals as goal
 
@@ -24,6 +25,7 @@ loop-number-init c =
         notes = notes_refl (present c.args.domains.now.cells) c.args.domains.now.agenda.changed.items;
       };
       counted = omega arith;
+      idle = λ from. (from, refl);
       room = refl;
     }
 
@@ -80,6 +82,18 @@ returns-in_err-narrow_number-clause-notes c =
     carried_on tables constraints c.in-Some.number c.args.since start.cells loop.domains.cells step.new.domains.cells start.agenda.changed.items loop.domains.agenda step.new.domains.agenda step.result
     c.requires.posted loop.invariant.advances loop.invariant.carried step.ensures.steps step.ensures.sinks step.ensures.alerts in
     carried.notes
+
+pub returns-in_err-narrow_number-clause-idle : goal.returns-in_err-narrow_number-clause-idle
+returns-in_err-narrow_number-clause-idle c = λ from.
+    let loop = c.loop-number in
+    let so_far = loop.invariant.idle from in
+    (c.narrow_number.ensures.past (so_far.0 c.in-Some.number (foremost_there c.in-Some.number loop.domains.agenda.waiting c.in-Some.ensures.first))).1 ∙ so_far.1
+
+pub returns-in-Empty-clause-idle : goal.returns-in-Empty-clause-idle
+returns-in-Empty-clause-idle c = λ from.
+    let loop = c.loop-number in
+    let so_far = loop.invariant.idle from in
+    (c.narrow_number.ensures.past (so_far.0 c.in-Some.number (foremost_there c.in-Some.number loop.domains.agenda.waiting c.in-Some.ensures.first))).1 ∙ so_far.1
 
 pub returns-in-Empty-clause-propagated : goal.returns-in-Empty-clause-propagated
 returns-in-Empty-clause-propagated c =
@@ -163,6 +177,13 @@ loop-number-preserved-in-Same c =
         notes = carried.notes;
       };
       counted = omega (arith, loop.invariant.counted, step.ensures.counted);
+      idle = λ from.
+          let so_far = loop.invariant.idle from in
+          let past = step.ensures.past (so_far.0 c.in-Some.number (foremost_there c.in-Some.number loop.domains.agenda.waiting c.in-Some.ensures.first)) in (
+            left_from (length constraints) step.new.domains.agenda.waiting c.take-propagated.new.self c.take-propagated.result c.take-propagated.ensures.taken
+                (subst (λ (a : Agenda). AreFrom (length constraints) a.waiting.items) (sym past.0) so_far.0),
+            past.1 ∙ so_far.1,
+          );
       room = c.take-propagated.ensures.room ∙ ap (λ (q : Queued). q.room) waiting ∙ loop.invariant.room;
     }
 
@@ -178,6 +199,10 @@ loop-number-preserved c =
       carried = carried_on tables constraints c.in-Some.number c.args.since start.cells loop.domains.cells step.new.domains.cells start.agenda.changed.items loop.domains.agenda step.new.domains.agenda step.result
           c.requires.posted loop.invariant.advances loop.invariant.carried step.ensures.steps step.ensures.sinks step.ensures.alerts;
       counted = omega (arith, loop.invariant.counted, step.ensures.counted);
+      idle = λ from.
+          let so_far = loop.invariant.idle from in
+          let past = step.ensures.past (so_far.0 c.in-Some.number (foremost_there c.in-Some.number loop.domains.agenda.waiting c.in-Some.ensures.first)) in
+          (subst (λ (a : Agenda). AreFrom (length constraints) a.waiting.items) (sym past.0) so_far.0, past.1 ∙ so_far.1);
       room = step.ensures.alerts.stays.waiting.room ∙ loop.invariant.room;
     }
 
@@ -205,3 +230,9 @@ returns-clause-sinks c = c.loop-number.invariant.carried.sinks
 
 pub returns-clause-notes : goal.returns-clause-notes
 returns-clause-notes c = c.loop-number.invariant.carried.notes
+
+pub returns-clause-none : goal.returns-clause-none
+returns-clause-none c = c.in_default.ensures.first
+
+pub returns-clause-idle : goal.returns-clause-idle
+returns-clause-idle c = λ from. (c.loop-number.invariant.idle from).1

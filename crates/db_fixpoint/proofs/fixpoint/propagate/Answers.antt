@@ -32,7 +32,7 @@ returns-then-heeded-clause-round c =
 pub returns-clause-round : goal.returns-clause-round
 returns-clause-round c =
     behind_rest c.args.model.now c.args.unfolded c.args.store.now c.propagate.new.self c.propagate.ensures.others c.propagate.ensures.down c.in_ok-propagate.ensures.propagated
-    c.requires.all c.heed_next.new.store c.in_ok-heeded.heeded c.if-heeded.false c.in_ok-heeded.ensures.heeds
+    c.requires.all c.in_ok-propagate.ensures.quiet c.heed_next.new.store c.in_ok-heeded.heeded c.if-heeded.false c.in_ok-heeded.ensures.heeds
 
 pub returns-in_err-heeded-clause-marks : goal.returns-in_err-heeded-clause-marks
 returns-in_err-heeded-clause-marks c =

@@ -51,7 +51,7 @@ returns-in-Ok-clause-taken c =
     IfOk-weaker c.resources_fit_since.result
     (λ fit. MatchBool fit (IsLeast model decisions (seen_state c.advance.new.store)) (IsCollapsed model decisions))
     (λ fit. LeavesLeast model decisions fit c.advance.new.store)
-    (λ fit told. fit_least model decisions c.advance.new.store fit rest.0 rest.1 told) c.resources_fit_since.ensures
+    (λ fit told. fit_least model decisions c.advance.new.store fit rest.0 rest.1 rest.2 told) c.resources_fit_since.ensures
 
 pub returns-in-Err-Collapsed-clause-taken : goal.returns-in-Err-Collapsed-clause-taken
 returns-in-Err-Collapsed-clause-taken c =

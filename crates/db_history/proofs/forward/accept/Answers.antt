@@ -3,11 +3,14 @@ use Rattle.model_core.specs.declared.decision.Decision.{Decision}
 use Rattle.model_core.specs.History.{History, standing}
 use Rattle.plan_defs.specs.History.{IsHistory}
 use Rattle.plan_defs.specs.Settling.{IsSettled}
+use Rattle.db_store.specs.Stamps.{StampsRise}
+use Rattle.db_store.specs.Stores.{Stored}
 use Rattle.plan_defs.proofs.Settling.{IsSettled-push}
 use Rattle.db_history.specs.Advancing.{EndsAdmissibly}
 use Rattle.db_history.specs.Standing.{KeepsList}
 use Rattle.db_history.specs.Kept.{KeepsHistory, LeaveState}
 use Rattle.db_history.proofs.Fronts.{pushed_ends}
+use Rattle.db_history.proofs.Returning.{on_err}
 use Rattle.db_history.proofs.Keeping.{accepted_list, accepted_before, pop_after_push}
 use Rattle.plan_defs.proofs.Histories.{accepted_is, standing_settled}
 use Rattle.db_history.proofs.forward.accept.Goals as goal
@@ -48,3 +51,11 @@ returns-in-Err-clause-kept c =
       is_history = c.requires.kept.is_history;
       list = subst (λ (list : List Decision). KeepsList c.args.model.now list c.go_on.new.kept) (accepted_before c.args.log.now c.push_copy.new.log c.args.decision.now c.standing.result.now c.standing.ensures c.in_ok-push_copy.ensures.ok) c.in-Err.ensures.err;
     })
+
+pub returns-in_err-push_copy-clause-risen : goal.returns-in_err-push_copy-clause-risen
+returns-in_err-push_copy-clause-risen c =
+    on_err c.from_residual.result (StampsRise c.args.kept.now.stored c.args.kept.now.stored)
+    (subst (λ (stored : Stored). StampsRise stored stored) c.store.ensures (c.stamps_rise.ensures.same c.store.result.now c.is_sound.ensures))
+
+pub returns-in-Err-clause-risen : goal.returns-in-Err-clause-risen
+returns-in-Err-clause-risen c = c.in-Err.ensures.risen

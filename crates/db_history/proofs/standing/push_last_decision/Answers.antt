@@ -2,11 +2,13 @@ use Rattle.std.proofs.Common.{List, ◌∷◌, [], ◌++◌, length, sym, ◌∙
 use Rattle.std.proofs.lemmas.List.{length_push}
 use Rattle.db_store.specs.declared.store.Mark.{Mark}
 use Rattle.db_history.specs.Seated.{AreSeatedAt}
-use Rattle.db_store.specs.Stores.{snapshot_of, IsSnapshot}
+use Rattle.db_store.specs.Stamps.{StampsRise}
+use Rattle.db_store.specs.Stores.{snapshot_of}
 use Rattle.db_history.specs.Advancing.{LeavesLeast, but_last}
 use Rattle.db_history.specs.Standing.{StandsForList}
 use Rattle.db_history.proofs.Resting.{one_less, before_again}
-use Rattle.db_history.proofs.Returning.{marked_here, stands_marked, stands_caught, pushed, kept_back, on_err}
+use Rattle.db_history.proofs.Returning.{marked_here, idle_marked, stands_marked, stands_caught, pushed, kept_back, on_err, rise_marked, marked_rise}
+use Rattle.db_fixpoint.proofs.Sharing.{only_marked}
 use Rattle.db_posting.proofs.Storing.{marks_both}
 use Rattle.db_history.proofs.Stepping.{seated_on, seated_same, seated_begun, seated_given_up}
 use Rattle.db_history.proofs.standing.push_last_decision.Goals as goal
@@ -24,7 +26,8 @@ returns-in-Ok-true-clause-ok c =
     let least = subst (λ fit. LeavesLeast model decisions fit c.take_last_decision.new.store) c.in-Ok-true.field-0-test c.in-Ok-true.ensures.taken in
     subst (StandsForList model decisions c.take_last_decision.new.store) (sym (c.push_reserved.ensures.items ∙ ap (λ list. list ++ c.mark-mark.result ∷ []) c.reserve.ensures.items))
     (pushed model (but_last decisions) c.args.marks.now.items c.mark-mark.new.self c.take_last_decision.new.store c.mark-mark.result (stands_caught model (but_last decisions) c.args.marks.now.items c.args.store.now c.catch_up.new.store c.mark-mark.new.self c.in_ok-catch_up.ensures.only c.in_ok-catch_up.ensures.marks c.mark-mark.ensures.marked c.mark-mark.ensures.marks c.requires.stands) c.take_last_decision.ensures.marks (marked_here c.mark-mark.result c.catch_up.new.store c.mark-mark.new.self c.mark-mark.ensures.marked c.mark-mark.ensures.is) c.mark-mark.ensures.latest
-    decisions (one_less model decisions c.requires.admissible) (before_again model decisions c.requires.admissible) least)
+    (c.mark-mark.ensures.idle (idle_marked c.args.store.now c.catch_up.new.store c.in_ok-catch_up.ensures.only c.requires.stands.idle))
+    decisions (one_less model decisions c.requires.admissible) (before_again model decisions c.requires.admissible) least.0 least.1)
 
 pub returns-in-Ok-false-clause-ok : goal.returns-in-Ok-false-clause-ok
 returns-in-Ok-false-clause-ok c =
@@ -32,7 +35,7 @@ returns-in-Ok-false-clause-ok c =
     let decisions = c.args.decisions.now in (
       subst (StandsForList model (but_last decisions) c.go_back.new.store) (sym c.reserve.ensures.items)
           (kept_back model (but_last decisions) c.args.marks.now.items c.mark-mark.new.self c.take_last_decision.new.store c.mark-mark.result (stands_caught model (but_last decisions) c.args.marks.now.items c.args.store.now c.catch_up.new.store c.mark-mark.new.self c.in_ok-catch_up.ensures.only c.in_ok-catch_up.ensures.marks c.mark-mark.ensures.marked c.mark-mark.ensures.marks c.requires.stands) c.take_last_decision.ensures.marks (marked_here c.mark-mark.result c.catch_up.new.store c.mark-mark.new.self c.mark-mark.ensures.marked c.mark-mark.ensures.is) c.mark-mark.ensures.latest
-          c.go_back.new.store c.go_back.ensures.back),
+          (c.mark-mark.ensures.idle (idle_marked c.args.store.now c.catch_up.new.store c.in_ok-catch_up.ensures.only c.requires.stands.idle)) c.go_back.new.store c.go_back.ensures.back),
       subst (λ fit. LeavesLeast model decisions fit c.take_last_decision.new.store) c.in-Ok-false.field-0-test c.in-Ok-false.ensures.taken,
     )
 
@@ -42,11 +45,11 @@ returns-in-Err-clause-err c =
     let decisions = c.args.decisions.now in
     subst (StandsForList model (but_last decisions) c.go_back-in-Err.new.store) (sym c.reserve.ensures.items)
     (kept_back model (but_last decisions) c.args.marks.now.items c.mark-mark.new.self c.take_last_decision.new.store c.mark-mark.result (stands_caught model (but_last decisions) c.args.marks.now.items c.args.store.now c.catch_up.new.store c.mark-mark.new.self c.in_ok-catch_up.ensures.only c.in_ok-catch_up.ensures.marks c.mark-mark.ensures.marked c.mark-mark.ensures.marks c.requires.stands) c.take_last_decision.ensures.marks (marked_here c.mark-mark.result c.catch_up.new.store c.mark-mark.new.self c.mark-mark.ensures.marked c.mark-mark.ensures.is) c.mark-mark.ensures.latest
-    c.go_back-in-Err.new.store c.go_back-in-Err.ensures.back)
+    (c.mark-mark.ensures.idle (idle_marked c.args.store.now c.catch_up.new.store c.in_ok-catch_up.ensures.only c.requires.stands.idle)) c.go_back-in-Err.new.store c.go_back-in-Err.ensures.back)
 
 pub returns-in-Ok-true-clause-stamps : goal.returns-in-Ok-true-clause-stamps
 returns-in-Ok-true-clause-stamps c = λ fit.
-    c.stamps_follow.ensures c.args.store.now c.take_last_decision.new.store (subst IsSnapshot (ap snapshot_of c.in_ok-catch_up.ensures.only) (c.mark-mark.ensures.is).is) c.is_sound.ensures
+    c.stamps_follow.ensures c.args.store.now c.take_last_decision.new.store c.is_sound.ensures c.is_sound-in-Ok-true.ensures
     (marks_both c.args.store.now c.catch_up.new.store c.take_last_decision.new.store c.in_ok-catch_up.ensures.marks
     (marks_both c.catch_up.new.store c.mark-mark.new.self c.take_last_decision.new.store c.mark-mark.ensures.marks c.take_last_decision.ensures.marks))
 
@@ -154,3 +157,26 @@ returns-in_err-begin_step-clause-err c =
     on_err c.from_residual-in_err-begin_step.result (StandsForList model before c.catch_up.new.store c.reserve.new.self.items)
     (subst (StandsForList model before c.catch_up.new.store) (sym c.reserve.ensures.items)
     (stands_marked model before c.args.marks.now.items c.args.store.now c.catch_up.new.store c.in_ok-catch_up.ensures.only c.in_ok-catch_up.ensures.marks c.requires.stands))
+
+pub returns-in_err-reserve-clause-risen : goal.returns-in_err-reserve-clause-risen
+returns-in_err-reserve-clause-risen c =
+    on_err c.from_residual.result (StampsRise c.args.store.now c.args.store.now) (c.stamps_rise.ensures.same c.args.store.now c.is_sound.ensures)
+
+pub returns-in_err-catch_up-clause-risen : goal.returns-in_err-catch_up-clause-risen
+returns-in_err-catch_up-clause-risen c =
+    on_err c.from_residual-in_err-catch_up.result (StampsRise c.args.store.now c.catch_up.new.store)
+    (marked_rise c.args.store.now c.catch_up.new.store c.in_err-catch_up.ensures.only (c.stamps_rise.ensures.same c.args.store.now c.is_sound.ensures))
+
+pub returns-in_err-begin_step-clause-risen : goal.returns-in_err-begin_step-clause-risen
+returns-in_err-begin_step-clause-risen c =
+    on_err c.from_residual-in_err-begin_step.result (StampsRise c.args.store.now c.catch_up.new.store)
+    (marked_rise c.args.store.now c.catch_up.new.store c.in_ok-catch_up.ensures.only (c.stamps_rise.ensures.same c.args.store.now c.is_sound.ensures))
+
+pub returns-in-Err-clause-risen : goal.returns-in-Err-clause-risen
+returns-in-Err-clause-risen c =
+    let caught = c.catch_up.new.store in
+    let marked = c.mark-mark.new.self in
+    rise_marked c.args.store.now caught c.go_back-in-Err.new.store c.in_ok-catch_up.ensures.only
+    (rise_marked caught marked c.go_back-in-Err.new.store (only_marked caught marked c.mark-mark.ensures.marked)
+    (c.stamps_rise.ensures.back c.mark-mark.result marked c.take_last_decision.new.store c.go_back-in-Err.new.store
+    (marked_here c.mark-mark.result caught marked c.mark-mark.ensures.marked c.mark-mark.ensures.is) c.take_last_decision.ensures.marks c.go_back-in-Err.ensures.back))

@@ -32,3 +32,7 @@ loop-comparison-preserved c =
       only = only_both old loop.store new loop.invariant.only step.only;
       marks = marks_both old loop.store new loop.invariant.marks step.marks;
     }
+
+pub returns-in_err-post_comparison-clause-marks : goal.returns-in_err-post_comparison-clause-marks
+returns-in_err-post_comparison-clause-marks c =
+    marks_both c.args.store.now c.loop-comparison.store c.post_comparison.new.store c.loop-comparison.invariant.marks c.in_err-post_comparison.ensures.marks

@@ -1,8 +1,11 @@
-use Rattle.std.proofs.Common.{sym, subst}
+use Rattle.std.proofs.Common.{◌≡◌, length, sym, ap, ◌∙◌, subst}
+use Rattle.std.proofs.lemmas.Result.{on_ok_weaker}
 use Rattle.cell_store.specs.Cells.{present}
-use Rattle.constraint_net.specs.Networks.{AllConsistent}
+use Rattle.constraint_net.specs.Agendas.{quiet_of}
+use Rattle.constraint_net.specs.Networks.{Network, AllConsistent}
 use Rattle.constraint_net.specs.Waiting.{IsKeptAgenda}
 use Rattle.constraint_net.proofs.Keepers.{kept_propagated, propagated_down}
+use Rattle.constraint_net.proofs.Quiet.{quiet_all}
 use Rattle.constraint_net.proofs.network.Net.propagate_all.Goals as goal
 
 pub propagate-requires-clause-kept : goal.propagate-requires-clause-kept
@@ -23,3 +26,13 @@ returns-clause-others c =
     (kept_propagated (AllConsistent c.as_slice.result.now net.constraints) net.domains c.propagate.new.domains net.tables net.constraints net.marked c.propagate.result c.propagate.ensures.propagated c.propagate.ensures.sinks
     (subst (λ tables. IsKeptAgenda tables net.constraints (present c.propagate.new.domains.cells) c.propagate.new.domains.agenda) c.as_slice.ensures.value c.propagate.ensures.kept) c.self.invariant)
     c.propagate.ensures.sinks c.propagate.ensures.notes
+
+pub returns-clause-quiet : goal.returns-clause-quiet
+returns-clause-quiet c =
+    on_ok_weaker c.propagate.result (λ none. ap (λ items. quiet_of items (length c.self.inside.constraints)) none) c.propagate.ensures.none
+
+pub returns-clause-idle : goal.returns-clause-idle
+returns-clause-idle c = λ idle.
+    let net = c.self.inside in
+    let quiet = subst (λ (n : Network). n.quiet ≡ length n.constraints) (sym c.self.view_is) idle in
+    c.propagate.ensures.idle (quiet_all net.domains.agenda.waiting.items (length net.constraints) quiet) ∙ ap (λ (n : Network). n.work) c.self.view_is

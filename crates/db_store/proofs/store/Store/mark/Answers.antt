@@ -1,3 +1,6 @@
+use Rattle.std.proofs.Common.{sym, subst}
+use Rattle.constraint_net.specs.Networks.{IsIdle}
+use Rattle.db_store.specs.Stores.{Stored}
 use Rattle.db_store.proofs.Going.{marked_seen, marked_sound, mark_now, mark_latest, marked_marks}
 use Rattle.db_store.proofs.store.Store.mark.Goals as goal
 
@@ -19,3 +22,6 @@ returns-clause-latest c =
 
 pub returns-clause-marks : goal.returns-clause-marks
 returns-clause-marks c = marked_marks _ c.args.self.now c.mark-2.new.self c.self.view_is c.mark-2.ensures.marked c.mark-2.ensures.keeps
+
+pub returns-clause-idle : goal.returns-clause-idle
+returns-clause-idle c = λ idle. c.mark-2.ensures.idle (subst (λ (stored : Stored). IsIdle stored.net) (sym c.self.view_is) idle)
