@@ -54,7 +54,8 @@ use Rattle.session_core.specs.declared.reason.RefusalReason.TheVariants as reaso
 use Rattle.session_core.specs.Existence.{HasReply, DatabasesCollapseOrHaveLeast, IsPlainCommand, PlainCommandsHaveReplies}
 use Rattle.session_core.specs.Reasons.{refusal, outcome_text, step_text}
 use Rattle.session_core.specs.Replies.{IsFull, UnlessFull, RepliesStep, TakesAsked, AsksSubject, ResetsAsked, UndoesLast, TellsState, TellsCollapse}
-use Rattle.session_core.specs.Replies.{TellsDomain, TellsTokens, TellsDecisions, TellsFlaw, TellsConflict, Keeping}
+use Rattle.session_core.specs.Replies.{TellsDomain, TellsTokens, TellsDecisions, TellsFlaw, TellsConflict, TellsCycle, Keeping}
+use Rattle.session_core.proofs.EdgeLines.{collapses_have_cycles}
 
 -- ---- states and lists
 
@@ -179,7 +180,7 @@ module _ (old : Database) (sound : IsSound old) where
 
   -- ---- what is told
 
-  pub keeping : (Tells : Database → List ℕ → Type 0) → Undeniable ((reply : List ℕ) × Tells old reply) → Undeniable (HasReplyBy (Keeping Tells old))
+  keeping : (Tells : Database → List ℕ → Type 0) → Undeniable ((reply : List ℕ) × Tells old reply) → Undeniable (HasReplyBy (Keeping Tells old))
   keeping Tells has none = has (λ found. none (found.0, (old, ((found.1, refl), sound))))
 
   state_told : (Tells : State → List ℕ → Type 0) → ((state : State) → HasLeast old state → Undeniable ((reply : List ℕ) × Tells state reply))
@@ -189,7 +190,7 @@ module _ (old : Database) (sound : IsSound old) where
     | inr least ↦ has least.0 least.1 (λ found. none (found.0, inr (least.0, (least.1, found.1))))
   ])
 
-  pub collapse_told : (Tells : List ℕ → Type 0) → (HasCollapsed old → Undeniable ((reply : List ℕ) × Tells reply))
+  collapse_told : (Tells : List ℕ → Type 0) → (HasCollapsed old → Undeniable ((reply : List ℕ) × Tells reply))
       → Undeniable ((reply : List ℕ) × TellsCollapse Tells old reply)
   collapse_told Tells has none = collapsed_or_least old sound (λ which. elim which [
     | inl collapsed ↦ has collapsed (λ found. none (found.0, inr (collapsed, found.1)))
@@ -303,7 +304,8 @@ module _ (old : Database) (sound : IsSound old) where
   plain_reply (commands.Solve steps tokens) plain none = plain
   plain_reply commands.Why plain none =
       keeping (TellsCollapse (TellsConflict old)) (collapse_told (TellsConflict old) (λ collapsed. conflict_told)) none
-  plain_reply commands.Cycle plain none = plain
+  plain_reply commands.Cycle plain none =
+      keeping (TellsCollapse (TellsCycle old)) (collapse_told (TellsCycle old) (collapses_have_cycles old sound)) none
   plain_reply commands.Quit plain none = none ([], (old, ((refl, refl), sound)))
 
 pub plain_commands_have_replies : PlainCommandsHaveReplies

@@ -1,4 +1,4 @@
--- Searches have replies; and where the cycles of what leaves nothing can be told, each line has an answer, and lines have a session.
+-- Searches have replies, each line has an answer, and lines have a session.
 use Rattle.std.proofs.Common.{◌≡◌, ℕ, zero, suc, ◌+◌, ◌-◌, ◌≤◌, inl, inr, List, [], ◌∷◌, ◌++◌, length, Ok, Err, refl, sym, ap, ◌∙◌, subst, append_assoc, arith}
 use Rattle.std.specs.Prelude.{codes, true, ⊤}
 use Rattle.std.specs.Fmt.{decimal}
@@ -32,12 +32,12 @@ use Rattle.script_lang.specs.Line.{IsCommand}
 use Rattle.script_lang.specs.Words.{words_of}
 use Rattle.session_replies.specs.Texts.{printed_line, bound_text}
 use Rattle.session_core.specs.declared.reason.RefusalReason.TheVariants as reason
-use Rattle.session_core.specs.Existence.{HasReply, CollapsesHaveCycles, SearchesHaveReplies, LinesHaveAnswers, LinesHaveSessions}
+use Rattle.session_core.specs.Existence.{HasReply, SearchesHaveReplies, LinesHaveAnswers, LinesHaveSessions}
 use Rattle.session_core.specs.LineReplies.{goes_on_behind, AnswersLine}
 use Rattle.session_core.specs.Reasons.{refusal, outcome_text}
-use Rattle.session_core.specs.Replies.{TellsCollapse, RepliesSearch, RepliesSolve, TellsCycle}
+use Rattle.session_core.specs.Replies.{RepliesSearch, RepliesSolve}
 use Rattle.session_core.proofs.PlanTexts.{flawless_states_have_plan_texts}
-use Rattle.session_core.proofs.Existing.{collapsed_or_least, unless_full, keeping, collapse_told, plain_reply}
+use Rattle.session_core.proofs.Existing.{collapsed_or_least, unless_full, plain_reply}
 
 -- ---- what is found
 
@@ -174,43 +174,40 @@ bounded : (words : List (List ℕ)) (command : Command) → IsCommand words comm
 bounded words (commands.Solve steps tokens) is = is.3
 bounded words command is = tt
 
-module _ (cycles : CollapsesHaveCycles) where
-  any_reply : (old : Database) → IsSound old → (command : Command) → IsBounded command → Undeniable (HasReply old command)
-  any_reply old sound (commands.Solve steps tokens) few none = search_reply old sound steps tokens few none
-  any_reply old sound commands.Cycle few none =
-      keeping old sound (TellsCollapse (TellsCycle old)) (collapse_told old sound (TellsCycle old) (λ collapsed. cycles old sound collapsed)) none
-  any_reply old sound command few none = plain_reply old sound command tt none
+any_reply : (old : Database) → IsSound old → (command : Command) → IsBounded command → Undeniable (HasReply old command)
+any_reply old sound (commands.Solve steps tokens) few none = search_reply old sound steps tokens few none
+any_reply old sound command few none = plain_reply old sound command tt none
 
-  abbrev HasAnswer : Database → List ℕ → Type 0
-  HasAnswer old text = (answer : Answer) × ((new : Database) × (AnswersLine old text answer new × IsSound new))
+abbrev HasAnswer : Database → List ℕ → Type 0
+HasAnswer old text = (answer : Answer) × ((new : Database) × (AnswersLine old text answer new × IsSound new))
 
-  read_answer : (old : Database) (text : List ℕ) → IsSound old → length text ≤ 4096 → (command : Command) → IsCommand (words_of text) command → Undeniable (HasAnswer old text)
-  read_answer old text sound short command is none = any_reply old sound command (bounded (words_of text) command is) (λ told. none (
-    record { reply = told.0; goes_on = goes_on_behind command },
-    (told.1.0, ((sound, (Ok command, ((short, is), (told.1.1.0, refl)))), told.1.1.1)),
-  ))
+read_answer : (old : Database) (text : List ℕ) → IsSound old → length text ≤ 4096 → (command : Command) → IsCommand (words_of text) command → Undeniable (HasAnswer old text)
+read_answer old text sound short command is none = any_reply old sound command (bounded (words_of text) command is) (λ told. none (
+  record { reply = told.0; goes_on = goes_on_behind command },
+  (told.1.0, ((sound, (Ok command, ((short, is), (told.1.1.0, refl)))), told.1.1.1)),
+))
 
-  short_answer : (old : Database) (text : List ℕ) → IsSound old → length text ≤ 4096 → Undeniable (HasAnswer old text)
-  short_answer old text sound short none = is_or_not ((command : Command) × IsCommand (words_of text) command) (λ which. elim which [
-    | inl found ↦ read_answer old text sound short found.0 found.1 none
-    | inr not ↦ none (
-      record { reply = refusal reason.Syntax; goes_on = true },
-      (old, ((sound, (Err faults.Syntax, ((short, (λ command is. not (command, is))), (refl, refl, refl)))), sound)),
-    )
-  ])
+short_answer : (old : Database) (text : List ℕ) → IsSound old → length text ≤ 4096 → Undeniable (HasAnswer old text)
+short_answer old text sound short none = is_or_not ((command : Command) × IsCommand (words_of text) command) (λ which. elim which [
+  | inl found ↦ read_answer old text sound short found.0 found.1 none
+  | inr not ↦ none (
+    record { reply = refusal reason.Syntax; goes_on = true },
+    (old, ((sound, (Err faults.Syntax, ((short, (λ command is. not (command, is))), (refl, refl, refl)))), sound)),
+  )
+])
 
-  some_answer : (old : Database) (text : List ℕ) → IsSound old → Undeniable (HasAnswer old text)
-  some_answer old text sound none = elim (cases_lt 4096 (length text)) [
-    | inl long ↦ none (
-      record { reply = refusal reason.Long; goes_on = true },
-      (old, ((sound, (Err faults.TooLong, (long, (refl, refl, refl)))), sound)),
-    )
-    | inr short ↦ short_answer old text sound short none
-  ]
+some_answer : (old : Database) (text : List ℕ) → IsSound old → Undeniable (HasAnswer old text)
+some_answer old text sound none = elim (cases_lt 4096 (length text)) [
+  | inl long ↦ none (
+    record { reply = refusal reason.Long; goes_on = true },
+    (old, ((sound, (Err faults.TooLong, (long, (refl, refl, refl)))), sound)),
+  )
+  | inr short ↦ short_answer old text sound short none
+]
 
 pub lines_have_answers : LinesHaveAnswers
-lines_have_answers cycles old text sound none = some_answer cycles old text sound none
+lines_have_answers old text sound none = some_answer old text sound none
 
 pub lines_have_sessions : LinesHaveSessions
-lines_have_sessions cycles start texts sound none =
-    some_session AnswersLine IsSound (λ old text is. some_answer cycles old text is) start texts sound none
+lines_have_sessions start texts sound none =
+    some_session AnswersLine IsSound some_answer start texts sound none

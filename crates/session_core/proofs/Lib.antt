@@ -18,6 +18,7 @@ pub mod OneSearch
 pub mod Answering
 pub mod Ending
 mod AlongSession
+mod EdgeLines
 pub mod Existing
 pub mod ExistingLines
 pub mod PlanTexts

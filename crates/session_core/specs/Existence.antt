@@ -15,7 +15,7 @@ use Rattle.plan_defs.specs.Settling.{IsSettled}
 use Rattle.plan_defs.specs.StatePlans.{IsStatePlan}
 use Rattle.law_states.specs.Undeniable.{Undeniable}
 use Rattle.script_lang.specs.declared.command.Command.{Command}
-use Rattle.script_lang.specs.declared.command.Command.TheVariants.{Cycle, Solve}
+use Rattle.script_lang.specs.declared.command.Command.TheVariants.{Solve}
 use Rattle.session_core.specs.LineReplies.{AnswersLine}
 use Rattle.session_core.specs.Replies.{TellsCycle, RepliesTo}
 
@@ -29,10 +29,15 @@ DatabasesCollapseOrHaveLeast =
     (database : Database)
     → IsSound database → Undeniable (HasCollapsed database ⊎ ((state : State) × HasLeast database state))
 
--- the command asks for no search and for no cycle
+-- where the decisions that stand leave nothing, their cycle can be told
+abbrev pub CollapsesHaveCycles : Type 0
+CollapsesHaveCycles =
+    (database : Database)
+    → IsSound database → HasCollapsed database → Undeniable ((reply : List ℕ) × TellsCycle database reply)
+
+-- the command asks for no search
 abbrev pub IsPlainCommand : Command → Type 0
 IsPlainCommand (Solve steps tokens) = ⊥
-IsPlainCommand Cycle = ⊥
 IsPlainCommand command = ⊤
 
 -- such a command has a reply
@@ -40,7 +45,7 @@ abbrev pub PlainCommandsHaveReplies : Type 0
 PlainCommandsHaveReplies =
     (old : Database) (command : Command) → IsSound old → IsPlainCommand command → Undeniable (HasReply old command)
 
--- ---- searches, and lines where cycles can be told
+-- ---- searches and lines
 
 -- the least state of a settled list that has no flaw has a plan, and this has a text
 abbrev pub FlawlessStatesHavePlanTexts : Type 0
@@ -48,12 +53,6 @@ FlawlessStatesHavePlanTexts =
     (model : Model) (decisions : List Decision) (state : State)
     → IsLawful model → IsSettled model decisions → IsLeast model decisions state → (HasFlaw model decisions state → ⊥)
     → Undeniable ((plan : Plan) × ((text : List ℕ) × (IsStatePlan model decisions state plan × IsPlanText model plan text)))
-
--- where the decisions that stand leave nothing, their cycle can be told
-abbrev pub CollapsesHaveCycles : Type 0
-CollapsesHaveCycles =
-    (database : Database)
-    → IsSound database → HasCollapsed database → Undeniable ((reply : List ℕ) × TellsCycle database reply)
 
 -- a search has a reply
 abbrev pub SearchesHaveReplies : Type 0
@@ -63,13 +62,11 @@ SearchesHaveReplies =
 -- each line has an answer that leaves a sound database
 abbrev pub LinesHaveAnswers : Type 0
 LinesHaveAnswers =
-    CollapsesHaveCycles
-    → (old : Database) (line : List ℕ)
+    (old : Database) (line : List ℕ)
     → IsSound old → Undeniable ((answer : Answer) × ((new : Database) × (AnswersLine old line answer new × IsSound new)))
 
 -- and lines have a session
 abbrev pub LinesHaveSessions : Type 0
 LinesHaveSessions =
-    CollapsesHaveCycles
-    → (start : Standing Database) (lines : List (List ℕ))
+    (start : Standing Database) (lines : List (List ℕ))
     → IsSound start.responder → Undeniable ((course : Course Database) × Session AnswersLine start lines course)
