@@ -1,0 +1,5 @@
+mod Reading
+mod Posing
+mod Printing
+mod Searching
+mod Running
