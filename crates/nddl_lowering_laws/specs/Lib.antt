@@ -1,0 +1,9 @@
+pub mod Standing
+pub mod Nested
+pub mod Few
+pub mod Slots
+pub mod Whole
+pub mod Scoped
+pub mod Seen
+pub mod Fine
+pub mod Faultless

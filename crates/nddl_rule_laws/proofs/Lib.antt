@@ -1,0 +1,17 @@
+pub mod Spelling
+pub mod Classes
+pub mod Rising
+pub mod Kept
+pub mod Placing
+pub mod Owners
+pub mod Inherited
+pub mod Grounds
+pub mod TypeKinds
+pub mod Shapes
+pub mod Lexicon
+pub mod Scopes
+pub mod Fits
+pub mod Sights
+pub mod Arguments
+pub mod Statements
+pub mod Meanings
