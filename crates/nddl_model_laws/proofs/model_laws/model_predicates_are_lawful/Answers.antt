@@ -1,0 +1,5 @@
+use Rattle.nddl_model_laws.proofs.Tables.{model_preds_lawful}
+use Rattle.nddl_model_laws.proofs.model_laws.model_predicates_are_lawful.Goals as goal
+
+pub returns : goal.returns
+returns c = model_preds_lawful

@@ -1,0 +1,9 @@
+pub mod Least
+pub mod Reading
+pub mod Counting
+pub mod Noting
+pub mod Steps
+pub mod Making
+pub mod Closing
+pub mod Program
+pub mod Places

@@ -1,0 +1,4 @@
+pub mod Carried
+pub mod Made
+pub mod Wrong
+pub mod Told
