@@ -14,6 +14,8 @@ mod narrowing;
 #[cfg(test)]
 mod networks;
 #[cfg(test)]
+mod peaks;
+#[cfg(test)]
 mod problem_names;
 #[cfg(test)]
 mod problems;

@@ -1,0 +1,10 @@
+pub mod Adding
+pub mod Cutting
+pub mod Meeting
+pub mod Matching
+pub mod Nearness
+pub mod Joining
+pub mod Carrying
+pub mod Leading
+pub mod Gathering
+pub mod Ending

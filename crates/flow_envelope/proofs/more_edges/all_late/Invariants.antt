@@ -1,0 +1,6 @@
+use Rattle.std.proofs.Common.{◌≡◌, take, map}
+use Rattle.flow_envelope.specs.Pins.{late_edge}
+use Rattle.flow_envelope.proofs.more_edges.all_late.Given as goal
+
+abbrev pub invariant-loop-point : goal.invariant-loop-point
+invariant-loop-point l = l.edges.items ≡ map (late_edge l.at) (take l.point-index l.points)

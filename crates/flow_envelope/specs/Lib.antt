@@ -1,0 +1,12 @@
+pub mod Sums
+pub mod Times
+pub mod Cut
+pub mod Peak
+pub mod Certain
+pub mod Pins
+pub mod Pairs
+pub mod Flow
+pub mod Labels
+pub mod Filling
+pub mod Latest
+pub mod Finish
