@@ -319,6 +319,7 @@ class AtTerminal(InFolder):
         self.type("specify sample.stand.st\t56\n", "ok")
         self.type("specify sample.start 3\n", "desk (inconsistent)> ")
         self.type("undo\n", "ok")
+        self.wait_for("desk> ")  # What is typed earlier is echoed by the terminal, and not by the prompt.
         self.type("half a line", "half a line")
         self.type("\x03", "desk> ")
         self.type("decisions\n", "specify sample.stand.start 56")
