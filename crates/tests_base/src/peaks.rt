@@ -4,36 +4,11 @@ ghost use Rattle.std.specs.Prelude.{◌<◌, ◌≤◌, ◌↔◌, All, IsTrue};
 ghost use Rattle.flow_envelope.specs.Peak.{IsChange};
 
 use super::rows::{Row, assert_rows};
+use super::times::{Written, are_added};
 use flow_envelope::peak::peak;
 use flow_envelope::{Amount, PeakFault, PeakProof, PointChange};
 use std::alloc::Global;
-use temporal_core::Edge;
 use temporal_core::edges::Edges;
-
-/// From a point, at least so much later, to a point.
-type Written = (u32, i32, u32);
-
-/// Whether the edge is added.
-fn is_added(edges: &mut Edges, written: Written) -> bool {
-    let (from, gap, to) = written;
-    let points = edges.points();
-    if from >= points || to >= points || gap < -2_000_000 || gap > 2_000_000 {
-        return false;
-    }
-    if edges.as_slice().len() > 99 {
-        return false;
-    }
-    edges.add(Edge { from, to, gap }).is_ok()
-}
-
-fn are_added(edges: &mut Edges, list: &[Written]) -> bool {
-    for written in list {
-        if !is_added(edges, *written) {
-            return false;
-        }
-    }
-    true
-}
 
 /// Whether the change is at one of so many points, and adds or takes a million at most.
 fn is_change(points: u32, change: &PointChange) -> bool

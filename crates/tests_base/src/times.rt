@@ -9,7 +9,7 @@ use temporal_core::edges::Edges;
 use temporal_core::{Edge, TimeFault, check_cycle};
 
 /// From a point, at least so much later, to a point.
-type Written = (u32, i32, u32);
+pub type Written = (u32, i32, u32);
 
 /// Whether the edge is added.
 fn is_added(edges: &mut Edges, written: Written) -> bool {
@@ -24,7 +24,8 @@ fn is_added(edges: &mut Edges, written: Written) -> bool {
     edges.add(Edge { from, to, gap }).is_ok()
 }
 
-fn are_added(edges: &mut Edges, list: &[Written]) -> bool {
+/// Whether all edges are added.
+pub fn are_added(edges: &mut Edges, list: &[Written]) -> bool {
     for written in list {
         if !is_added(edges, *written) {
             return false;
