@@ -16,7 +16,8 @@ unfoldable pub to_take : PointChange → ℤ
 to_take change = if int_lt change.add (pos 0) then neg_ℤ change.add else pos 0
 
 -- the place that has more then, which is nearer to room
-pub record IsHandedOn (adders takers : List Label) (place : ℕ) (pairs : List Amount) (more room : List ℤ) (pairs' : List Amount) (more' room' : List ℤ) (next : ℕ) : Type 0 where
+pub record IsHandedOn (adders takers : List Label) (place : ℕ) (pairs : List Amount) (more room : List ℤ)
+    (pairs' : List Amount) (more' room' : List ℤ) (next : ℕ) : Type 0 where
   pub flow : IsFlow pairs' more' room'
   pub moved : IsMoved pairs more room pairs' more' room'
   pub same : value_sum more' ≡ value_sum more
@@ -24,7 +25,8 @@ pub record IsHandedOn (adders takers : List Label) (place : ℕ) (pairs : List A
   pub nearer : (label_at adders next).rank < (label_at adders place).rank
 
 -- more was carried in all, or another place has more
-abbrev pub IsStep : List Label → List Label → ℕ → List Amount → List ℤ → List ℤ → List Amount → List ℤ → List ℤ → Option ℕ → Type 0
+abbrev pub IsStep : List Label → List Label → ℕ → List Amount → List ℤ → List ℤ → List Amount → List ℤ
+    → List ℤ → Option ℕ → Type 0
 IsStep adders takers place pairs more room pairs' more' room' None = IsSent pairs more room pairs' more' room'
 IsStep adders takers place pairs more room pairs' more' room' (Some next) =
     IsHandedOn adders takers place pairs more room pairs' more' room' next

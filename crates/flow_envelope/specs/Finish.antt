@@ -38,7 +38,8 @@ pub record IsPinned (changes : List PointChange) (certain : List Certainty) (add
   pub none : (label_at adders place).rank ≡ 0
 
 -- the points of these changes, up to the limit
-pub record ArePins (changes : List PointChange) (certain : List Certainty) (adders : List Label) (limit : ℕ) (pins : List ℕ) : Type 0 where
+pub record ArePins (changes : List PointChange) (certain : List Certainty) (adders : List Label) (limit : ℕ)
+    (pins : List ℕ) : Type 0 where
   pub each : (point : ℕ) → Contains pins point
       → (place : ℕ) × IsPinned changes certain adders place × ((change_at changes place).point ≡ point)
   pub all : (place : ℕ) → place < limit → IsPinned changes certain adders place
@@ -51,7 +52,8 @@ pub record IsBegun (edges : List Edge) (changes : List PointChange) (at : ℤ) (
   pub room : flow.room.items ≡ map to_take changes
 
 -- as much was carried along these pairs as can be
-pub record IsEnded (edges : List Edge) (changes : List PointChange) (at : ℤ) (certain : List Certainty) (flow : Flow) (labels : Labels) : Type 0 where
+pub record IsEnded (edges : List Edge) (changes : List PointChange) (at : ℤ) (certain : List Certainty) (flow : Flow)
+    (labels : Labels) : Type 0 where
   pub first : List Amount
   pub are_pairs : ArePairs edges changes at certain (λ one other. ⊤) first
   pub is_flow : IsFlow flow.pairs.items flow.more.items flow.room.items

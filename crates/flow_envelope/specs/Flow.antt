@@ -1,5 +1,6 @@
 -- Amounts between places: how much more each place has to give, and how much room there is at each.
-use Rattle.std.specs.Prelude.{◌≡◌, ◌≢◌, ℕ, ◌<◌, ◌≤◌, ℤ, pos, ◌+ℤ◌, ◌-ℤ◌, ◌≤ℤ◌, ◌<ℤ◌, List, length, slice_set}
+use Rattle.std.specs.Prelude.{◌≡◌, ◌≢◌, ℕ, ◌<◌, ◌≤◌, ℤ, pos, ◌+ℤ◌, ◌-ℤ◌, ◌≤ℤ◌}
+use Rattle.std.specs.Prelude.{◌<ℤ◌, List, length, slice_set}
 use Rattle.temporal_core.specs.Satisfied.{value_at, value_sum}
 use Rattle.flow_envelope.specs.declared.change.Amount.{Amount}
 use Rattle.flow_envelope.specs.Sums.{sum_from, sum_to}
@@ -22,7 +23,8 @@ abbrev pub with_amount : Amount → ℤ → Amount
 with_amount pair by = record { from = pair.from; to = pair.to; amount = pair.amount +ℤ by }
 
 -- so much more goes along the pair at the place
-pub record IsCarried (place : ℕ) (by : ℤ) (pairs : List Amount) (more room : List ℤ) (pairs' : List Amount) (more' room' : List ℤ) : Type 0 where
+pub record IsCarried (place : ℕ) (by : ℤ) (pairs : List Amount) (more room : List ℤ) (pairs' : List Amount)
+    (more' room' : List ℤ) : Type 0 where
   pub along : pairs' ≡ slice_set pairs place (with_amount (pair_at pairs place) by)
   pub gives : more' ≡ slice_set more (pair_at pairs place).from (value_at more (pair_at pairs place).from -ℤ by)
   pub gets : room' ≡ slice_set room (pair_at pairs place).to (value_at room (pair_at pairs place).to -ℤ by)
@@ -45,7 +47,8 @@ pub record IsSent (pairs : List Amount) (more room : List ℤ) (pairs' : List Am
   pub less : value_sum more' <ℤ value_sum more
 
 -- the amounts to the taker changed, and how much more some places have, but nothing in all; the giver has more now
-pub record IsShifted (taker giver : ℕ) (pairs : List Amount) (more room : List ℤ) (pairs' : List Amount) (more' room' : List ℤ) : Type 0 where
+pub record IsShifted (taker giver : ℕ) (pairs : List Amount) (more room : List ℤ) (pairs' : List Amount)
+    (more' room' : List ℤ) : Type 0 where
   pub flow : IsFlow pairs' more' room'
   pub moved : IsMoved pairs more room pairs' more' room'
   pub sum : value_sum more' ≡ value_sum more

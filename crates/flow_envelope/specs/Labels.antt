@@ -1,5 +1,6 @@
 -- Labels of the places from which a way leads on to where there is room.
-use Rattle.std.specs.Prelude.{◌≡◌, ℕ, ◌+◌, ◌<◌, ◌≤◌, ◌==◌, if◌then◌else◌, ℤ, pos, ◌≤ℤ◌, ◌<ℤ◌, ◌⊎◌, List, [], ◌∷◌, length}
+use Rattle.std.specs.Prelude.{◌≡◌, ℕ, ◌+◌, ◌<◌, ◌≤◌, ◌==◌, if◌then◌else◌, ℤ, pos, ◌≤ℤ◌}
+use Rattle.std.specs.Prelude.{◌<ℤ◌, ◌⊎◌, List, [], ◌∷◌, length}
 use Rattle.std.specs.Prelude.{slice_index_or}
 use Rattle.temporal_core.specs.Satisfied.{value_at}
 use Rattle.flow_envelope.specs.declared.change.Amount.{Amount}

@@ -1,5 +1,6 @@
 -- A schedule in which no point that may be after the instant is before it.
-use Rattle.std.specs.Prelude.{◌≡◌, ℕ, ◌<◌, ℤ, ◌+ℤ◌, ◌≤ℤ◌, List, length, Option, Some, None, MatchOption, Contains}
+use Rattle.std.specs.Prelude.{◌≡◌, ℕ, ◌<◌, ℤ, ◌+ℤ◌, ◌≤ℤ◌, List, length, Option, Some, None}
+use Rattle.std.specs.Prelude.{MatchOption, Contains}
 use Rattle.std.specs.Prelude.{slice_index_or, ⊤}
 use Rattle.temporal_core.specs.declared.edges.Edge.{Edge}
 use Rattle.temporal_core.specs.Schedule.{IsSchedule}

@@ -1,5 +1,6 @@
 -- Pairs of a change that adds and one that takes, between which amounts may go.
-use Rattle.std.specs.Prelude.{◌≡◌, ℕ, ◌<◌, ℤ, pos, ◌≤ℤ◌, ◌<ℤ◌, ◌⊎◌, List, length, Option, None, MatchOption, slice_index_or}
+use Rattle.std.specs.Prelude.{◌≡◌, ℕ, ◌<◌, ℤ, pos, ◌≤ℤ◌, ◌<ℤ◌, ◌⊎◌, List, length, Option, None}
+use Rattle.std.specs.Prelude.{MatchOption, slice_index_or}
 use Rattle.temporal_core.specs.declared.edges.Edge.{Edge}
 use Rattle.flow_envelope.specs.declared.change.PointChange.{PointChange}
 use Rattle.flow_envelope.specs.declared.change.Amount.{Amount}
@@ -26,7 +27,8 @@ pub record IsTaker (changes : List PointChange) (certain : List Certainty) (plac
   pub maybe : certain_at certain place ≡ Maybe
 
 -- the change takes, isn't certain, and its point has a greatest value, at or before the instant
-pub record IsFollower (changes : List PointChange) (certain : List Certainty) (greatest : List (Option ℤ)) (at : ℤ) (place : ℕ) : Type 0 where
+pub record IsFollower (changes : List PointChange) (certain : List Certainty) (greatest : List (Option ℤ)) (at : ℤ)
+    (place : ℕ) : Type 0 where
   pub by : MatchOption (slice_index_or greatest (change_at changes place).point None) ⊥ (λ value. value ≤ℤ at)
   pub taker : IsTaker changes certain place
 
@@ -51,7 +53,8 @@ HasPair pairs adder taker =
 
 -- pairs without an amount yet: of the candidates that are dealt with, each two are a pair, or some schedule has the
 -- instant between them
-pub record ArePairs (edges : List Edge) (changes : List PointChange) (at : ℤ) (certain : List Certainty) (dealt : ℕ → ℕ → Type 0) (pairs : List Amount) : Type 0 where
+pub record ArePairs (edges : List Edge) (changes : List PointChange) (at : ℤ) (certain : List Certainty)
+    (dealt : ℕ → ℕ → Type 0) (pairs : List Amount) : Type 0 where
   pub each : (place : ℕ) → place < length pairs → IsPair edges changes certain (pair_at pairs place)
   pub idle : (place : ℕ) → place < length pairs → (pair_at pairs place).amount ≡ pos 0
   pub told : (adder taker : ℕ) → IsCandidate changes certain adder taker → dealt adder taker

@@ -40,7 +40,8 @@ TreesAreScoped =
 pub record NamesWhatIsSeen (rule : Rule) : Type 0 where
   pub seen : HasSeenTerms rule.top
   pub arities : HasArities rule.top
-  pub related : (path : List Turn) (place : ℕ) (relation : Rel) (number : ℕ) → StandsAt rule.top path place (OfItem (Relation relation number))
+  pub related : (path : List Turn) (place : ℕ) (relation : Rel) (number : ℕ)
+      → StandsAt rule.top path place (OfItem (Relation relation number))
       → number < length rule.slots
 
 -- so does each of their rules
@@ -55,7 +56,8 @@ RulesNameWhatIsSeen =
 -- are of one kind
 pub record HasFittingKinds (model : Model) (pred : ℕ) (rule : Rule) : Type 0 where
   pub locals : All (IsLawfulVariable model) rule.locals
-  pub arguments : (path : List Turn) (place : ℕ) (kind : Kind) (some : List Term) → StandsAt rule.top path place (OfItem (Constraint kind some))
+  pub arguments : (path : List Turn) (place : ℕ) (kind : Kind) (some : List Term)
+      → StandsAt rule.top path place (OfItem (Constraint kind some))
       → AreArguments model (OfRule pred rule) kind some
   pub guards : (path : List Turn) (place : ℕ) (guard : Guard) (then otherwise : Entries)
       → StandsAt rule.top path place (OfBranch guard then otherwise) → AreComparable model (OfRule pred rule) (sides_of guard)
@@ -73,4 +75,5 @@ pub record HasFaultlessRules (model : Model) (files : List FileDecls) (table : T
 abbrev pub FaultlessRulesAreLawful : Type 0
 FaultlessRulesAreLawful =
     (model : Model) (files : List FileDecls) (table : TypeTable) (trees : List PlainTree) (world : World) (objects : List Object)
-    → HasFaultlessRules model files table trees world objects → (pred : ℕ) → ListsLawfulRules model pred (rules_of_pred pred 0 trees)
+    → HasFaultlessRules model files table trees world objects → (pred : ℕ)
+    → ListsLawfulRules model pred (rules_of_pred pred 0 trees)

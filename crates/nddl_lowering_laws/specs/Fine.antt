@@ -33,6 +33,7 @@ BodiesHaveFineCalls =
 -- where each name that is looked up is read, and names are read in order, each is found at its place as what it means there
 abbrev pub ReadNamesAreFound : Type 0
 ReadNamesAreFound =
-    (files : List FileDecls) (ground : RuleGround) (stmts : Statements) → IsGround files ground → AreReadInOrder (rule_names ground stmts)
+    (files : List FileDecls) (ground : RuleGround) (stmts : Statements) → IsGround files ground
+    → AreReadInOrder (rule_names ground stmts)
     → AllZip (IsReadFor ground (rule_numbered ground stmts)) (rule_names ground stmts) (rule_lookups ground stmts)
     → AreRead (rule_names ground stmts) (sources_in ground) no_sight no_tally stmts

@@ -31,14 +31,16 @@ made_world facts table = record {
 -- each name that is declared as an object stands for one, if nothing is wrong with types and objects
 abbrev pub NamesStandForObjects : Type 0
 NamesStandForObjects =
-    (files : List FileDecls) (table : TypeTable) → AreGiven files → (is : IsTable files table) → progress_fault (last_progress is.facts) ≡ None
+    (files : List FileDecls) (table : TypeTable) → AreGiven files → (is : IsTable files table)
+    → progress_fault (last_progress is.facts) ≡ None
     → (entry : ℕ) (declared : Declared) → slice_get is.facts.names entry ≡ Some declared → declared.sort ≡ sorts.Object
     → StandsForObject (made_world is.facts table) entry declared
 
 -- and each label of a posted token denotes a token, if nothing is wrong with the text of the problem either
 abbrev pub LabelsDenoteTokens : Type 0
 LabelsDenoteTokens =
-    (files : List FileDecls) (table : TypeTable) → AreGiven files → (is : IsTable files table) → progress_fault (last_progress is.facts) ≡ None
+    (files : List FileDecls) (table : TypeTable) → AreGiven files → (is : IsTable files table)
+    → progress_fault (last_progress is.facts) ≡ None
     → problem_text_faults is.facts ≡ []
     → (entry : ℕ) (declared : Declared) → slice_get is.facts.names entry ≡ Some declared → declared.sort ≡ sorts.Root
     → DenotesToken is.facts declared
@@ -47,11 +49,13 @@ LabelsDenoteTokens =
 abbrev pub AreWhole : World → List Object → Type 0
 AreWhole world objects =
     (class number : ℕ) (value : ℤ) (attribute : Attribute) → Contains (class_objects (lexicon_of world) class) value
-    → slice_get (shape_fields (lexicon_of world) class) number ≡ Some attribute → HasContent (lexicon_of world) objects value number attribute
+    → slice_get (shape_fields (lexicon_of world) class) number ≡ Some attribute
+    → HasContent (lexicon_of world) objects value number attribute
 
 -- then all that is read in each tree of the files means something, if nothing is wrong with their rules either
 abbrev pub TreesAreMeantWhereWhole : Type 0
 TreesAreMeantWhereWhole =
-    (files : List FileDecls) (table : TypeTable) (trees : List PlainTree) (objects : List Object) → AreGiven files → (is : IsTable files table)
+    (files : List FileDecls) (table : TypeTable) (trees : List PlainTree) (objects : List Object) → AreGiven files
+    → (is : IsTable files table)
     → AreFileTrees table files trees → progress_fault (last_progress is.facts) ≡ None → problem_text_faults is.facts ≡ []
     → AreWhole (made_world is.facts table) objects → All (IsTreeMeant (lexicon_of (made_world is.facts table)) objects) trees

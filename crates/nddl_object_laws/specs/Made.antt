@@ -22,7 +22,8 @@ use Rattle.nddl_construction.specs.Reading.{fine_datum}
 use Rattle.nddl_construction.specs.Scene.{Scenery}
 use Rattle.nddl_objects.specs.Objects.{bare_scene, most_levels, with_named}
 use Rattle.nddl_objects.specs.Settings.{setting_data}
-use Rattle.nddl_object_laws.specs.Carried.{Assignment, Passes, Sets, Carried, New, Numbered, There, carried_by, grounds_there, has_place, makes_one, new_class, object_steps}
+use Rattle.nddl_object_laws.specs.Carried.{Assignment, Passes, Sets, Carried, New, Numbered, There, carried_by, grounds_there}
+use Rattle.nddl_object_laws.specs.Carried.{has_place, makes_one, new_class, object_steps}
 
 -- ---- values of fields
 

@@ -1,5 +1,6 @@
 -- What is wrong with what is made.
-use Rattle.std.specs.Prelude.{ℕ, zero, suc, ◌+◌, Bool, ◌&&◌, not, List, [], ◌∷◌, ◌++◌, Option, is_some, if◌then◌else◌}
+use Rattle.std.specs.Prelude.{ℕ, zero, suc, ◌+◌, Bool, ◌&&◌, not, List, [], ◌∷◌, ◌++◌, Option, is_some}
+use Rattle.std.specs.Prelude.{if◌then◌else◌}
 use Rattle.std.specs.List.{flat_map}
 use Rattle.std.specs.Option.{option_map_or}
 use Rattle.nddl_ast.specs.declared.declaration.Decl.{Decl}
@@ -26,8 +27,10 @@ use Rattle.nddl_construction.specs.Scene.{Grounds, Scenery}
 use Rattle.nddl_objects.specs.Finished.{finished_faults}
 use Rattle.nddl_objects.specs.Objects.{bare_scene}
 use Rattle.nddl_objects.specs.Settings.{setting_faults_of}
-use Rattle.nddl_object_laws.specs.Carried.{Assignment, Passes, Sets, Carried, New, Numbered, There, carried_by, grounds_there, has_levels, has_place, new_class, new_passed, new_place, object_steps}
-use Rattle.nddl_object_laws.specs.Made.{Doing, MakesObject, HasSettings, DoesNeither, all_carried, assigned_values, doing_of, init_datum, made_objects, there_after}
+use Rattle.nddl_object_laws.specs.Carried.{Assignment, Passes, Sets, Carried, New, Numbered, There, carried_by, grounds_there}
+use Rattle.nddl_object_laws.specs.Carried.{has_levels, has_place, new_class, new_passed, new_place, object_steps}
+use Rattle.nddl_object_laws.specs.Made.{Doing, MakesObject, HasSettings, DoesNeither, all_carried, assigned_values, doing_of}
+use Rattle.nddl_object_laws.specs.Made.{init_datum, made_objects, there_after}
 
 -- ---- one field
 

@@ -72,13 +72,15 @@ pub record AreMade (world : World) (objects : List Object) : Type 0 where
   pub posted : (entry : ℕ) (declared : Declared) → slice_get world.facts.names entry ≡ Some declared → declared.sort ≡ sorts.Root
       → DenotesToken world.facts declared
   pub whole : (class number : ℕ) (value : ℤ) (attribute : Attribute) → Contains (class_objects (lexicon_of world) class) value
-      → slice_get (shape_fields (lexicon_of world) class) number ≡ Some attribute → HasContent (lexicon_of world) objects value number attribute
+      → slice_get (shape_fields (lexicon_of world) class) number ≡ Some attribute
+      → HasContent (lexicon_of world) objects value number attribute
 
 -- ---- laws
 
 -- files that some shelf gives have this table and these trees, nothing is wrong with their types and rules, and their objects
 -- are made
-pub record AreFaultless (files : List FileDecls) (table : TypeTable) (trees : List PlainTree) (world : World) (objects : List Object) : Type 0 where
+pub record AreFaultless (files : List FileDecls) (table : TypeTable) (trees : List PlainTree) (world : World)
+    (objects : List Object) : Type 0 where
   pub given : AreGiven files
   pub is_table : IsTable files table
   pub are_trees : AreFileTrees table files trees
@@ -103,4 +105,5 @@ TreesAreCounted =
 abbrev pub LimitsAreTold : Type 0
 LimitsAreTold =
     (files : List FileDecls) (table : TypeTable) (trees : List PlainTree) (world : World) (objects : List Object)
-    → AreFaultless files table trees world objects → tree_limits (lexicon_of world) trees ≡ unrolled_limits (lexicon_of world) objects trees
+    → AreFaultless files table trees world objects
+    → tree_limits (lexicon_of world) trees ≡ unrolled_limits (lexicon_of world) objects trees

@@ -26,4 +26,5 @@ TextsAreReadOrFaulty =
 abbrev pub TextsAreChecked : Type 0
 TextsAreChecked =
     (model : Model) (text : List ℕ)
-    → IsLawful model → length text < 2 ^ 32 → Undeniable ((reply : List ℕ) × ((is_valid : Bool) × ChecksAs model text reply is_valid))
+    → IsLawful model → length text < 2 ^ 32
+    → Undeniable ((reply : List ℕ) × ((is_valid : Bool) × ChecksAs model text reply is_valid))
