@@ -39,7 +39,7 @@ use Rattle.nddl_laws.proofs.Down.{line_alone, line_below}
 use Rattle.nddl_laws.proofs.Items.{rooted_of}
 use Rattle.nddl_laws.proofs.Standing.{IsClassEntry, class_stands, no_parent, under_builtin, under_class}
 use Rattle.nddl_laws.proofs.Variables.{builtin_right}
-use Rattle.nddl_model_laws.specs.Ruled.{HasLawfulRules}
+use Rattle.nddl_model_laws.specs.Ruled.{PredHasLawfulRules}
 use Rattle.nddl_model_laws.proofs.Listed.{class_at, pred_at, ruled}
 use Rattle.nddl_model_laws.proofs.Wide.{IsLike, IsShaped, like_long, like_names, like_rights, number_likes}
 
@@ -287,7 +287,7 @@ module _ (facts : Facts) (are : AreFacts (scope_names facts.program) facts.progr
             ap (λ (o : Option PredShape). option_map_or (λ (found : PredShape). found.params) o []) (ap (λ some. slice_get some number) pred_shapes_are ∙ at)
 
         pred_lawful : (number : ℕ) (pred : Pred) → slice_get table.preds number ≡ Some pred
-            → HasLawfulRules model number (ruled lexicon trees number pred) → IsLawfulPred model number (ruled lexicon trees number pred)
+            → PredHasLawfulRules model number (ruled lexicon trees number pred) → IsLawfulPred model number (ruled lexicon trees number pred)
         pred_lawful number pred at rules =
             let is = preds_lawful number pred at in
             let found = zip_at (IsShaped model) table.preds (pred_shapes world) number pred shaped at in
@@ -315,7 +315,7 @@ module _ (facts : Facts) (are : AreFacts (scope_names facts.program) facts.progr
               lawful = rules.lawful;
             }
 
-        pub all_preds_lawful : ((number : ℕ) (pred : Pred) → slice_get model.preds number ≡ Some pred → HasLawfulRules model number pred)
+        pub all_preds_lawful : ((number : ℕ) (pred : Pred) → slice_get model.preds number ≡ Some pred → PredHasLawfulRules model number pred)
             → (number : ℕ) (pred : Pred) → slice_get model.preds number ≡ Some pred → IsLawfulPred model number pred
         all_preds_lawful rules number pred is =
             let found = table_pred number pred is in

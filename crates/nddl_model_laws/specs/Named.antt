@@ -37,7 +37,7 @@ HasNoBuiltinNames = (known : Known) → IsFaultless known
     → All (λ name. Contains builtin_names name → ⊥) (declared_names (compiled_model known))
 
 -- all names in the scope of its file differ, if its globals are few and the names of its objects differ
-abbrev pub HasDistinctNames : Type 0
-HasDistinctNames = (known : Known) → IsFaultless known → length (compiled_model known).problem.globals ≤ 4096
+abbrev pub ModelsHaveDistinctNames : Type 0
+ModelsHaveDistinctNames = (known : Known) → IsFaultless known → length (compiled_model known).problem.globals ≤ 4096
     → AllPairs ◌≢◌ (map (λ object. object.name) (compiled_model known).objects)
     → AllPairs ◌≢◌ (file_names (compiled_model known))

@@ -7,7 +7,7 @@ use Rattle.model_core.specs.declared.rule.Rule.{Rule}
 use Rattle.model_core.specs.Lawful.{AreFew, IsLawfulRule}
 
 -- the rules of the predicate of this number are there, are few, and are lawful for it
-pub record HasLawfulRules (model : Model) (number : ℕ) (pred : Pred) : Type 0 where
+pub record PredHasLawfulRules (model : Model) (number : ℕ) (pred : Pred) : Type 0 where
   pub rules : List Rule
   pub are_rules : AllZip (λ place rule. slice_get model.rules place ≡ Some rule) pred.rules rules
   pub few : AreFew rules
@@ -16,4 +16,4 @@ pub record HasLawfulRules (model : Model) (number : ℕ) (pred : Pred) : Type 0 
 -- those of each predicate
 abbrev pub HaveLawfulRules : Model → Type 0
 HaveLawfulRules model =
-    (number : ℕ) (pred : Pred) → slice_get model.preds number ≡ Some pred → HasLawfulRules model number pred
+    (number : ℕ) (pred : Pred) → slice_get model.preds number ≡ Some pred → PredHasLawfulRules model number pred

@@ -9,20 +9,20 @@ use Rattle.nddl_model_laws.specs.Faultless.{IsFaultless}
 use Rattle.nddl_model_laws.specs.Ruled.{HaveLawfulRules}
 
 -- each enum of the model is lawful
-abbrev pub HasLawfulEnums : Type 0
-HasLawfulEnums = (known : Known) → IsFaultless known → All IsLawfulEnum (compiled_model known).enums
+abbrev pub ModelsHaveLawfulEnums : Type 0
+ModelsHaveLawfulEnums = (known : Known) → IsFaultless known → All IsLawfulEnum (compiled_model known).enums
 
 -- each class is, now that all objects are made
-abbrev pub HasLawfulClasses : Type 0
-HasLawfulClasses = (known : Known) → IsFaultless known → (number : ℕ) (class : Class)
+abbrev pub ModelsHaveLawfulClasses : Type 0
+ModelsHaveLawfulClasses = (known : Known) → IsFaultless known → (number : ℕ) (class : Class)
     → slice_get (compiled_model known).classes number ≡ Some class → IsLawfulClass (compiled_model known) number class
 
 -- each predicate is, if its rules are
-abbrev pub HasLawfulPreds : Type 0
-HasLawfulPreds = (known : Known) → IsFaultless known → HaveLawfulRules (compiled_model known) → (number : ℕ) (pred : Pred)
+abbrev pub ModelsHaveLawfulPreds : Type 0
+ModelsHaveLawfulPreds = (known : Known) → IsFaultless known → HaveLawfulRules (compiled_model known) → (number : ℕ) (pred : Pred)
     → slice_get (compiled_model known).preds number ≡ Some pred → IsLawfulPred (compiled_model known) number pred
 
 -- two predicates of one class have different names
-abbrev pub HasDistinctPreds : Type 0
-HasDistinctPreds = (known : Known) → IsFaultless known
+abbrev pub ModelsHaveDistinctPreds : Type 0
+ModelsHaveDistinctPreds = (known : Known) → IsFaultless known
     → AllPairs (λ one other. one.class ≡ other.class → one.name ≢ other.name) (compiled_model known).preds

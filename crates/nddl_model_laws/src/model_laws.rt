@@ -2,29 +2,29 @@
 
 ghost use Rattle.nddl_model_laws.specs.Counted.{KeepsLimits};
 ghost use Rattle.nddl_model_laws.specs.Joined.{RestMakesLawful};
-ghost use Rattle.nddl_model_laws.specs.Named.{HasDistinctNames, HasGlobalNames, HasLabels, HasNoBuiltinNames, HasPlacedObjects};
-ghost use Rattle.nddl_model_laws.specs.Tabled.{HasDistinctPreds, HasLawfulClasses, HasLawfulEnums, HasLawfulPreds};
+ghost use Rattle.nddl_model_laws.specs.Named.{ModelsHaveDistinctNames, HasGlobalNames, HasLabels, HasNoBuiltinNames, HasPlacedObjects};
+ghost use Rattle.nddl_model_laws.specs.Tabled.{ModelsHaveDistinctPreds, ModelsHaveLawfulClasses, ModelsHaveLawfulEnums, ModelsHaveLawfulPreds};
 ghost use Rattle.nddl_model_laws.specs.Valued.{HasValuedObjects};
 
 /// A law: of files with which nothing is wrong each enum of the model has a name, and from 1 to 4,096 members that are names.
 pub fn model_enums_are_lawful()
-    ensures { HasLawfulEnums }
+    ensures { ModelsHaveLawfulEnums }
 {}
 
 /// A law: so each class has first the fields of the class that it extends, and then its own; their names differ, and what each
 /// may be is of its kind, now that all objects are made.
 pub fn model_classes_are_lawful()
-    ensures { HasLawfulClasses }
+    ensures { ModelsHaveLawfulClasses }
 {}
 
 /// A law: so each predicate is lawful whose rules are: its class is there, and what its parameters may be is of their kinds.
 pub fn model_predicates_are_lawful()
-    ensures { HasLawfulPreds }
+    ensures { ModelsHaveLawfulPreds }
 {}
 
 /// A law: so two predicates of one class have different names.
 pub fn model_predicates_are_distinct()
-    ensures { HasDistinctPreds }
+    ensures { ModelsHaveDistinctPreds }
 {}
 
 /// A law: so enums, classes and predicates are fewer than 2^32, objects and roots 4,096 at most, and facts 512.
@@ -60,7 +60,7 @@ pub fn names_are_not_built_in()
 
 /// A law: so no two names in the scope of the file are alike, if globals are 4,096 at most and the names of objects differ.
 pub fn model_names_are_distinct()
-    ensures { HasDistinctNames }
+    ensures { ModelsHaveDistinctNames }
 {}
 
 /// A law: so the model is lawful if its rules are lawful for the predicates that list them, and the rest of it is.

@@ -22,7 +22,7 @@ use Rattle.nddl_construction.specs.Fields.{field_datum}
 use Rattle.nddl_construction.specs.Reading.{fine_datum, named_datum}
 use Rattle.nddl_objects.specs.Objects.{most_levels, with_named}
 use Rattle.nddl_object_laws.specs.Carried.{Assignment, Passes, Sets, Carried, Carries, New, Numbered, There, all_assignments, assignment_carried, carried_by, grounds_there, has_place, made_count, makes_one, new_class, new_passed, new_values, numbered, numbered_carried, object_steps}
-use Rattle.nddl_object_laws.specs.Made.{Doing, MakesObject, HasSettings, DoesNeither, assigned_value, assigned_values, carried_objects, declared_new, made_datum, nothing_there, object_with, there_behind}
+use Rattle.nddl_object_laws.specs.Made.{Doing, MakesObject, HasSettings, DoesNeither, assigned_value, assigned_values, carried_objects, declared_new, made_datum, nothing_there, new_object_with, there_behind}
 use Rattle.nddl_object_laws.proofs.Counting.{carried_more, carried_none, count_append, counted, made_first, objects_append}
 use Rattle.nddl_object_laws.proofs.Reading.{AreBelow, EachObjectBelow, IsBelow, IsClosed, below_more, data_below, down_below, fine_below, objects_append as below_append, objects_more}
 use Rattle.nddl_object_laws.proofs.Steps.{EachAssignmentBelow, IsAssignmentBelow, assignments_below}
@@ -121,7 +121,7 @@ module _ (facts : Facts) (there : There) (closed : IsClosed there) where
     steps_of class = object_steps facts there (carried_by levels facts there) number new class
 
     abbrev object_of : Meaning → MadeObject
-    object_of class = object_with new class (assigned_values facts there levels (steps_of class))
+    object_of class = new_object_with new class (assigned_values facts there levels (steps_of class))
 
     abbrev made_by_class : Option Meaning → Bool → List MadeObject
     made_by_class found room =

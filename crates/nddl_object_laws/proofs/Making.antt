@@ -21,8 +21,8 @@ use Rattle.nddl_objects.specs.Construction.{Asked, Construction, Subject, has_ro
 use Rattle.nddl_objects.specs.Finished.{finished_faults}
 use Rattle.nddl_objects.specs.Made.{Makes, asked_object, classes_run, finished, made_by, new_made, object_made, object_run}
 use Rattle.nddl_object_laws.specs.Carried.{Assignment, Carried, Carries, New, Numbered, There, all_assignments, carried_by, grounds_there, has_levels, has_place, new_class, new_passed, new_place, new_values, numbered_carried, object_steps}
-use Rattle.nddl_object_laws.specs.Made.{assigned_values, carried_object, carried_objects, object_with}
-use Rattle.nddl_object_laws.specs.Wrong.{carried_faults, classes_faults, is_too_deep, is_too_many, making_faults, object_faults, steps_faults}
+use Rattle.nddl_object_laws.specs.Made.{assigned_values, carried_object, carried_objects, new_object_with}
+use Rattle.nddl_object_laws.specs.Wrong.{carried_faults, all_passed_faults, is_too_deep, is_too_many, made_object_faults, new_object_faults, steps_faults}
 use Rattle.nddl_object_laws.proofs.Counting.{Agree, carried_more, carried_none, get_at, keep_more}
 use Rattle.nddl_object_laws.proofs.Least.{last_but_one}
 use Rattle.nddl_object_laws.proofs.Noting.{limits_noted, limits_state, noted_state, state}
@@ -78,11 +78,11 @@ module _ (facts : Facts) (there : There) (closed : IsClosed there) (all : List M
 
     -- it makes no object
     alone : (so_far : Construction) → carried_by levels facts there (length objects) new ≡ one ∷ [] → carried_object facts one ≡ None
-        → making_faults facts there all levels (length objects) new ≡ []
+        → made_object_faults facts there all levels (length objects) new ≡ []
         → so_far ≡ limits_noted (is_too_many facts one) (is_too_deep facts one) (new_place new) read_state
         → so_far ≡ reached (carried_by levels facts there (length objects) new)
     alone so_far are none fine noted_so =
-        let making : List Fault = making_faults facts there all levels (length objects) new in
+        let making : List Fault = made_object_faults facts there all levels (length objects) new in
         let with_none : objects ≡ objects ++ carried_objects facts (one ∷ []) =
         sym (ap (λ found. objects ++ cons_option found []) none ∙ append-nil objects) in
         let with_args : unmade ≡ (unmade ++ making) ++ [] =
@@ -144,7 +144,7 @@ module _ (facts : Facts) (there : There) (closed : IsClosed there) (all : List M
     steps_of class = object_steps facts there carries (length objects) new class
 
     abbrev object_of : Meaning → MadeObject
-    object_of class = object_with new class (assigned_values facts there levels (steps_of class))
+    object_of class = new_object_with new class (assigned_values facts there levels (steps_of class))
 
     carried_is : (found : Option Meaning) (room : Bool) → new_class facts new ≡ found → has_place (length objects) ≡ room
         → carried_by (suc levels) facts there (length objects) new
@@ -158,10 +158,10 @@ module _ (facts : Facts) (there : There) (closed : IsClosed there) (all : List M
     object_is found room is has = λ i. option_and_then (λ class. if has i then Some (object_of class) else None) (is i)
 
     making_is : (found : Option Meaning) (room : Bool) → new_class facts new ≡ found → has_place (length objects) ≡ room
-        → making_faults facts there all (suc levels) (length objects) new
-        ≡ option_map_or (λ class. if room then object_faults facts there all levels (length objects) new class else []) found []
+        → made_object_faults facts there all (suc levels) (length objects) new
+        ≡ option_map_or (λ class. if room then new_object_faults facts there all levels (length objects) new class else []) found []
     making_is found room is has =
-        λ i. option_map_or (λ class. if has i then object_faults facts there all levels (length objects) new class else []) (is i) []
+        λ i. option_map_or (λ class. if has i then new_object_faults facts there all levels (length objects) new class else []) (is i) []
 
     -- no class
     without_class : new_class facts new ≡ None → read_here ≡ reached_here (carried_by (suc levels) facts there (length objects) new)
@@ -207,7 +207,7 @@ module _ (facts : Facts) (there : There) (closed : IsClosed there) (all : List M
       begun = record { fields = []; nested = []; met = earliest_fault met (unmade (suc levels) objects met done new); done = done ++ here ∷ [] }
 
       abbrev class_wrong : List Fault
-      class_wrong = classes_faults facts there place passed
+      class_wrong = all_passed_faults facts there place passed
 
       abbrev ended : Midway
       ended = ran facts there all levels carries new begun steps class_wrong
@@ -229,16 +229,16 @@ module _ (facts : Facts) (there : There) (closed : IsClosed there) (all : List M
           (limits_are (suc levels) objects met done new (Some class) true true is room refl
           ∙ limits_state facts objects (earliest_fault met (unmade (suc levels) objects met done new)) done here)
 
-      passed_is : passed_down grounds (objects ++ object_with new class [] ∷ []) class
+      passed_is : passed_down grounds (objects ++ new_object_with new class [] ∷ []) class
           (fine_data grounds new.scene objects (class_wants facts class) 0 new.creation.arguments) ≡ passed
       passed_is =
-          ap (λ (values : List (Option Datum)). passed_down grounds (objects ++ object_with new class [] ∷ []) class values)
+          ap (λ (values : List (Option Datum)). passed_down grounds (objects ++ new_object_with new class [] ∷ []) class values)
           (data_same facts there closed objects keep new.scene (class_wants facts class) 0 new.creation.arguments are)
-          ∙ down_same facts there closed (objects ++ object_with new class [] ∷ [])
-          (keep_more there.objects objects (object_with new class [] ∷ []) long keep) class (new_values facts there new class)
+          ∙ down_same facts there closed (objects ++ new_object_with new class [] ∷ [])
+          (keep_more there.objects objects (new_object_with new class [] ∷ []) long keep) class (new_values facts there new class)
           (data_below facts there closed new.scene (class_wants facts class) 0 new.creation.arguments are)
 
-      agrees : Agree (objects ++ object_with new class own_values ∷ carried_objects facts nested) all
+      agrees : Agree (objects ++ new_object_with new class own_values ∷ carried_objects facts nested) all
       agrees =
           let A : List MadeObject → Type 0 = λ more. Agree (objects ++ more) all in
           subst A (ap (carried_objects facts) carried_out
@@ -251,20 +251,20 @@ module _ (facts : Facts) (there : There) (closed : IsClosed there) (all : List M
           (data_below facts there closed new.scene (class_wants facts class) 0 new.creation.arguments are)) agrees
 
       finishes : finished facts subject class (built ended)
-          ≡ state facts (objects ++ object_with new class own_values ∷ carried_objects facts nested) (earliest_fault ended.met last_wrong) ended.done
+          ≡ state facts (objects ++ new_object_with new class own_values ∷ carried_objects facts nested) (earliest_fault ended.met last_wrong) ended.done
       finishes =
           ap (λ (found : Option MadeObject). noted (built ended) (finished_faults facts place (line_up facts class)
           (option_map_or (λ (object : MadeObject). object.fields) found [])))
-          (get_at objects (object_with new class own_values) (carried_objects facts nested))
-          ∙ noted_state facts (objects ++ object_with new class own_values ∷ carried_objects facts nested) ended.met ended.done last_wrong
+          (get_at objects (new_object_with new class own_values) (carried_objects facts nested))
+          ∙ noted_state facts (objects ++ new_object_with new class own_values ∷ carried_objects facts nested) ended.met ended.done last_wrong
 
-      gathers : state facts (objects ++ object_with new class own_values ∷ carried_objects facts nested) (earliest_fault ended.met last_wrong) ended.done
+      gathers : state facts (objects ++ new_object_with new class own_values ∷ carried_objects facts nested) (earliest_fault ended.met last_wrong) ended.done
           ≡ reached_here (here ∷ nested)
       gathers =
           let wrong : Carried → List Fault = λ carried. carried_faults facts all carried in
           let args : List Fault = unmade (suc levels) objects met done new in
           let set_wrong : List Fault = steps_faults facts there all place levels steps in
-          let there_is : objects ++ object_with new class own_values ∷ carried_objects facts nested ≡ objects ++ carried_objects facts (here ∷ nested) =
+          let there_is : objects ++ new_object_with new class own_values ∷ carried_objects facts nested ≡ objects ++ carried_objects facts (here ∷ nested) =
           sym (ap (λ found. objects ++ cons_option found (carried_objects facts nested)) (object_is (Some class) true is room)) in
           let all_wrong : earliest_fault ended.met last_wrong ≡ earliest_fault met (flat_map wrong (here ∷ nested)) =
           last_but_one met args class_wrong set_wrong (flat_map wrong nested) last_wrong

@@ -11,14 +11,14 @@ use Rattle.nddl_hierarchy.specs.Facts.{Facts}
 use Rattle.nddl_construction.specs.declared.made.MadeObject.{MadeObject}
 use Rattle.nddl_objects.specs.Construction.{Construction, first_of_kind, noted, too_deep, too_many}
 use Rattle.nddl_object_laws.specs.Carried.{Carried, new_place}
-use Rattle.nddl_object_laws.specs.Wrong.{first_passing, is_too_deep, is_too_many, limit_faults}
+use Rattle.nddl_object_laws.specs.Wrong.{first_passing, is_too_deep, is_too_many, met_limit_faults}
 use Rattle.nddl_object_laws.proofs.Least.{earliest_swap, two_and_two}
 
 -- these objects are made, this is the earliest of what was wrong beside limits, and these `new`s have been carried out
 abbrev pub state : Facts → List MadeObject → Option Fault → List Carried → Construction
 state facts objects met done = record {
   objects = objects;
-  first = earliest_fault met (limit_faults facts done);
+  first = earliest_fault met (met_limit_faults facts done);
   is_full = list_any (is_too_many facts) done;
   is_deep = list_any (is_too_deep facts) done;
 }
@@ -33,7 +33,7 @@ noted_state facts objects met done some =
       is_full = list_any (is_too_many facts) done;
       is_deep = list_any (is_too_deep facts) done;
     } in
-    ap with_first (earliest_swap met (limit_faults facts done) some)
+    ap with_first (earliest_swap met (met_limit_faults facts done) some)
 
 -- ---- one `new` more
 

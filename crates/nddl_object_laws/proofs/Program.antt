@@ -21,7 +21,7 @@ use Rattle.nddl_objects.specs.Objects.{Progress, all_declared, init_declared, la
 use Rattle.nddl_object_laws.specs.Carried.{Carried, There}
 use Rattle.nddl_object_laws.specs.Made.{Doing, MakesObject, HasSettings, DoesNeither, all_carried, carried_from, carried_objects, declared_new, doing_carried, doing_of, init_doing, made_objects, nothing_there, there_after, there_behind}
 use Rattle.nddl_object_laws.specs.Told.{AreThereInTurn, RunAsStated, TellTheEarliest, stated_progress}
-use Rattle.nddl_object_laws.specs.Wrong.{carried_faults, doing_faults, is_too_deep, is_too_many, limit_faults, met_faults, settings_faults_from, text_faults}
+use Rattle.nddl_object_laws.specs.Wrong.{carried_faults, doing_faults, is_too_deep, is_too_many, met_limit_faults, met_faults, doing_faults_from, text_faults}
 use Rattle.nddl_object_laws.proofs.Closing.{closed_behind, closed_first}
 use Rattle.nddl_object_laws.proofs.Counting.{Agree, agree_front, objects_append}
 use Rattle.nddl_object_laws.proofs.Least.{earlier_of_both}
@@ -148,7 +148,7 @@ module _ (facts : Facts) (all : List MadeObject) where
       → Agree ((there_after facts number).objects ++ carried_objects facts (carried_from facts number some)) all
       → all_declared facts number some (progress_at facts (there_after facts number) met done first)
       ≡ progress_at facts (there_after facts (number + length some)) (earliest_fault met (flat_map wrong (carried_from facts number some)))
-      (done ++ carried_from facts number some) (earliest_fault first (settings_faults_from facts number some))
+      (done ++ carried_from facts number some) (earliest_fault first (doing_faults_from facts number some))
   all_are [] number met done first stand closed agree =
       let e : number ≡ number + 0 = omega arith in
       λ i. progress_at facts (there_after facts (e i)) met (sym (append-nil done) i) first
@@ -158,7 +158,7 @@ module _ (facts : Facts) (all : List MadeObject) where
       let here : List Carried = doing_carried facts there number doing in
       let rest : List Carried = carried_from facts (number + 1) more in
       let own : List Fault = doing_faults facts there number doing in
-      let others : List Fault = settings_faults_from facts (number + 1) more in
+      let others : List Fault = doing_faults_from facts (number + 1) more in
       let met_here : Option Fault = earliest_fault met (flat_map wrong here) in
       let first_here : Option Fault = earliest_fault first own in
       let next = after_one facts number decl (first_stands facts number decl more stand) in
@@ -222,7 +222,7 @@ module _ (facts : Facts) where
   met_end = earliest_fault None (flat_map (carried_faults facts all) (all_carried facts))
 
   abbrev first_end : Option Fault
-  first_end = earliest_fault (earliest_fault None (written_faults facts)) (settings_faults_from facts 0 facts.program)
+  first_end = earliest_fault (earliest_fault None (written_faults facts)) (doing_faults_from facts 0 facts.program)
 
   ends : last_progress facts ≡ progress_at facts end met_end (all_carried facts) first_end
   ends =
@@ -237,11 +237,11 @@ module _ (facts : Facts) where
       let e : 0 + length facts.program ≡ length facts.program = omega arith in
       sym (sym objects_are ∙ (all_after facts facts.program 0 stand ∙ ap (λ n. (there_after facts n).objects) e))
 
-  met_end_is : earliest_fault met_end (limit_faults facts (all_carried facts)) ≡ earliest_fault None (met_faults facts)
-  met_end_is = sym (earliest_append None (flat_map (carried_faults facts all) (all_carried facts)) (limit_faults facts (all_carried facts)))
+  met_end_is : earliest_fault met_end (met_limit_faults facts (all_carried facts)) ≡ earliest_fault None (met_faults facts)
+  met_end_is = sym (earliest_append None (flat_map (carried_faults facts all) (all_carried facts)) (met_limit_faults facts (all_carried facts)))
 
   first_end_is : first_end ≡ earliest_fault None (text_faults facts)
-  first_end_is = sym (earliest_append None (written_faults facts) (settings_faults_from facts 0 facts.program))
+  first_end_is = sym (earliest_append None (written_faults facts) (doing_faults_from facts 0 facts.program))
 
   runs_as_stated : last_progress facts ≡ stated_progress facts
   runs_as_stated = ends ∙ (λ i. record {

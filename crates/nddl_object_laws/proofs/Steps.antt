@@ -36,8 +36,8 @@ use Rattle.nddl_construction.specs.Scene.{Grounds, Scenery}
 use Rattle.nddl_objects.specs.Construction.{Construction, Subject, most_objects, noted, with_set}
 use Rattle.nddl_objects.specs.Made.{body_run, builtin_run, class_run, classes_run, field_given, init_set, made_by, new_datum, new_made, parts_run}
 use Rattle.nddl_object_laws.specs.Carried.{Assignment, Passes, Sets, Carried, Carries, New, Numbered, There, all_assignments, assignment_carried, body_assignments, builtin_assignments, carried_by, class_assignments, grounds_there, has_levels, has_place, made_count, makes_one, new_place, numbered, numbered_carried, part_assignments}
-use Rattle.nddl_object_laws.specs.Made.{assigned_value, assigned_values, carried_objects, made_datum, object_with}
-use Rattle.nddl_object_laws.specs.Wrong.{assignment_faults, carried_faults, class_faults, classes_faults, outside_faults, steps_faults}
+use Rattle.nddl_object_laws.specs.Made.{assigned_value, assigned_values, carried_objects, made_datum, new_object_with}
+use Rattle.nddl_object_laws.specs.Wrong.{assignment_faults, carried_faults, passed_faults, all_passed_faults, outside_field_faults, steps_faults}
 use Rattle.nddl_object_laws.proofs.Counting.{Agree, agree_before, agree_fields, counted, field_at, keep_more, made_first, numbered_append, objects_append}
 use Rattle.nddl_object_laws.proofs.Least.{earliest_swap, three_and_three}
 use Rattle.nddl_object_laws.proofs.Noting.{noted_state, state}
@@ -204,7 +204,7 @@ module _ (facts : Facts) (there : There) (all : List MadeObject) (levels : ℕ) 
 
   -- where the making has got to, if these objects stand before it, and it is of this class
   abbrev pub building : List MadeObject → Meaning → Midway → Construction
-  building front class mid = state facts (front ++ object_with new class mid.fields ∷ mid.nested) mid.met mid.done
+  building front class mid = state facts (front ++ new_object_with new class mid.fields ∷ mid.nested) mid.met mid.done
 
   -- how many objects there are by then
   abbrev pub size : List MadeObject → Midway → ℕ
@@ -235,7 +235,7 @@ module _ (facts : Facts) (there : There) (all : List MadeObject) (levels : ℕ) 
 
   -- the objects by then agree with all
   abbrev pub Agrees : List MadeObject → Meaning → Midway → Type 0
-  Agrees front class mid = Agree (front ++ object_with new class mid.fields ∷ mid.nested) all
+  Agrees front class mid = Agree (front ++ new_object_with new class mid.fields ∷ mid.nested) all
 
   pub agrees_rest : (front : List MadeObject) (class : Meaning) (mid : Midway) (one other : List Assignment) (some more : List Fault)
       → Agrees front class (ran mid (steps_at front mid (one ++ other)) (some ++ more))
@@ -249,7 +249,7 @@ module _ (facts : Facts) (there : There) (all : List MadeObject) (levels : ℕ) 
   agrees_first front class mid one other some more agrees =
       let first : Midway = ran mid (steps_at front mid one) some in
       let second : Midway = ran first (steps_at front first other) more in
-      agree_before front (object_with new class first.fields) (object_with new class second.fields) first.nested
+      agree_before front (new_object_with new class first.fields) (new_object_with new class second.fields) first.nested
       (carried_objects facts (numbered_carried carries new.name (steps_at front first other))) all refl
       (agrees_rest front class mid one other some more agrees)
 
@@ -282,7 +282,7 @@ module _ (facts : Facts) (there : There) (closed : IsClosed there) (all : List M
   built mid = building facts there all levels carries new front class mid
 
   abbrev objects_at : Midway → List MadeObject
-  objects_at mid = front ++ object_with new class mid.fields ∷ mid.nested
+  objects_at mid = front ++ new_object_with new class mid.fields ∷ mid.nested
 
   -- a field is set to a value, and looked at
   given_is : (mid : Midway) (entry : ℕ) (name : List ℕ) (datum : Option Datum) → IsAlikeIn (objects_at mid) all datum
@@ -290,17 +290,17 @@ module _ (facts : Facts) (there : There) (closed : IsClosed there) (all : List M
       ≡ built (record {
         fields = mid.fields ++ record { name = name; value = datum } ∷ [];
         nested = mid.nested;
-        met = earliest_fault mid.met (outside_faults facts there all (new_place new) entry name datum);
+        met = earliest_fault mid.met (outside_field_faults facts there all (new_place new) entry name datum);
         done = mid.done;
       })
   given_is mid entry name datum alike =
       let place : Place = new_place new in
-      let wrong : List Fault = outside_faults facts there all place entry name datum in
+      let wrong : List Fault = outside_field_faults facts there all place entry name datum in
       ap (λ (outside : Bool). with_set (noted (built mid) (faults_here place.decl place.at (fault_if outside faults.NotInDomain))) subject name datum)
       (outside_alike grounds (objects_at mid) all entry name datum alike)
       ∙ (ap (λ (so_far : Construction). with_set so_far subject name datum) (noted_state facts (objects_at mid) mid.met mid.done wrong)
       ∙ ap (λ (some : List MadeObject). state facts some (earliest_fault mid.met wrong) mid.done)
-      (field_at front mid.nested (object_with new class mid.fields) (record { name = name; value = datum })))
+      (field_at front mid.nested (new_object_with new class mid.fields) (record { name = name; value = datum })))
 
   -- a field of a built-in class is set
   passes_is : (mid : Midway) (number : ℕ) (field : List ℕ) (datum : Option Datum)
@@ -308,7 +308,7 @@ module _ (facts : Facts) (there : There) (closed : IsClosed there) (all : List M
       ≡ built (ran facts there all levels carries new mid (record { number = number; assignment = Passes field datum } ∷ []) [])
   passes_is mid number field datum =
       ap (λ (some : List MadeObject). state facts some mid.met mid.done)
-      (field_at front mid.nested (object_with new class mid.fields) (record { name = field; value = datum }))
+      (field_at front mid.nested (new_object_with new class mid.fields) (record { name = field; value = datum }))
       ∙ ((λ i. built (record {
         fields = mid.fields ++ record { name = field; value = datum } ∷ [];
         nested = sym (append-nil mid.nested) i;
@@ -318,10 +318,10 @@ module _ (facts : Facts) (there : There) (closed : IsClosed there) (all : List M
       ∙ sym (ap built (one_ran facts there all levels carries new mid (record { number = number; assignment = Passes field datum }))))
 
   keeps : (mid : Midway) → Keep there.objects (objects_at mid)
-  keeps mid = keep_more there.objects front (object_with new class mid.fields ∷ mid.nested) long keep
+  keeps mid = keep_more there.objects front (new_object_with new class mid.fields ∷ mid.nested) long keep
 
   longer : (mid : Midway) → length there.objects ≤ length (objects_at mid)
-  longer mid = let some = length-append front (object_with new class mid.fields ∷ mid.nested) in omega (arith, some, long)
+  longer mid = let some = length-append front (new_object_with new class mid.fields ∷ mid.nested) in omega (arith, some, long)
 
   -- a field is set to a value that is read
   value_is : (mid : Midway) (number entry : ℕ) (scene : Scenery) (field : List ℕ) (expr : Expr) → AreBelow (length there.objects) scene.values
@@ -332,7 +332,7 @@ module _ (facts : Facts) (there : There) (closed : IsClosed there) (all : List M
       let kind : Option TypeKind = field_kind (field_in_line facts entry field) in
       let unmade : List Fault = unmade_faults grounds scene expr in
       let datum : Option Datum = fine_datum grounds scene there.objects kind expr in
-      let wrong : List Fault = outside_faults facts there all (new_place new) entry field datum in
+      let wrong : List Fault = outside_field_faults facts there all (new_place new) entry field datum in
       let begun : Midway = record { fields = mid.fields; nested = mid.nested; met = earliest_fault mid.met unmade; done = mid.done } in
       let low : IsBelow (length (objects_at mid)) datum =
       below_more (length there.objects) (length (objects_at mid)) datum (longer mid) (fine_below facts there closed scene kind expr are) in
@@ -350,7 +350,7 @@ module _ (facts : Facts) (there : There) (closed : IsClosed there) (all : List M
 
   -- a field is set to an object that is made for it
   nested_is : (mid : Midway) (entry : ℕ) (scene : Scenery) (field : List ℕ) (creation : Creation) → AreBelow (length there.objects) scene.values
-      → Agree (front ++ object_with new class mid.fields
+      → Agree (front ++ new_object_with new class mid.fields
       ∷ (mid.nested ++ carried_objects facts (carries (size facts there all levels carries new front mid)
       (record { scene = scene; name = full_name new.name field; entry = None; creation = creation })))) all
       → init_set (made_by levels grounds) levels grounds scene subject entry field (inits.New creation) (built mid)
@@ -361,7 +361,7 @@ module _ (facts : Facts) (there : There) (closed : IsClosed there) (all : List M
   nested_is mid entry scene field creation are agree =
       let one : New = record { scene = scene; name = full_name new.name field; entry = None; creation = creation } in
       let objects : List MadeObject = objects_at mid in
-      let own : MadeObject = object_with new class mid.fields in
+      let own : MadeObject = new_object_with new class mid.fields in
       let at : length objects ≡ length front + suc (length mid.nested) = length-append front (own ∷ mid.nested) in
       let c : List Carried = carries (length objects) one in
       let behind : List MadeObject = carried_objects facts c in
@@ -388,7 +388,7 @@ module _ (facts : Facts) (there : There) (closed : IsClosed there) (all : List M
       let reached : ℕ → Midway = λ n. record {
         fields = mid.fields ++ record { name = field; value = made_datum facts levels n creation } ∷ [];
         nested = mid.nested ++ carried_objects facts (carries n one);
-        met = earliest_fault (earliest_fault mid.met (outside_faults facts there all (new_place new) entry field (made_datum facts levels n creation)))
+        met = earliest_fault (earliest_fault mid.met (outside_field_faults facts there all (new_place new) entry field (made_datum facts levels n creation)))
             (flat_map W (carries n one));
         done = mid.done ++ carries n one;
       } in
@@ -402,7 +402,7 @@ module _ (facts : Facts) (there : There) (closed : IsClosed there) (all : List M
       ∙ ((λ i. built (record {
         fields = mid.fields ++ record { name = field; value = datum } ∷ [];
         nested = begun.nested;
-        met = earliest_swap mid.met (flat_map W c) (outside_faults facts there all (new_place new) entry field datum) i;
+        met = earliest_swap mid.met (flat_map W c) (outside_field_faults facts there all (new_place new) entry field datum) i;
         done = begun.done;
       }))
       ∙ (ap (λ (n : ℕ). built (reached n)) at
@@ -437,14 +437,14 @@ module _ (facts : Facts) (there : There) (closed : IsClosed there) (all : List M
   assigned_is mid (Sets entry scene field (inits.Expr expr)) is agrees =
       let last : Midway = ran_here mid (steps_here mid (Sets entry scene field (inits.Expr expr) ∷ [])) [] in
       value_is mid (length front + suc (length mid.nested)) entry scene field expr is
-      (agree_before front (object_with new class mid.fields) (object_with new class last.fields) mid.nested [] all refl agrees)
+      (agree_before front (new_object_with new class mid.fields) (new_object_with new class last.fields) mid.nested [] all refl agrees)
   assigned_is mid (Sets entry scene field (inits.New creation)) is agrees =
       let step : Numbered = record { number = length front + suc (length mid.nested); assignment = Sets entry scene field (inits.New creation) } in
       let last : Midway = ran_here mid (step ∷ []) [] in
       let M : Midway → Type 0 = λ m. AgreesHere m in
       nested_is mid entry scene field creation is
-      (agree_fields front (object_with new class mid.fields)
-      (object_with new class (mid.fields ++ assigned_value facts there levels step.number step.assignment ∷ []))
+      (agree_fields front (new_object_with new class mid.fields)
+      (new_object_with new class (mid.fields ++ assigned_value facts there levels step.number step.assignment ∷ []))
       (mid.nested ++ carried_objects facts (assignment_carried carries new.name step.number step.assignment)) all refl
       (subst M (one_ran facts there all levels carries new mid step) agrees))
 
@@ -481,7 +481,7 @@ module _ (facts : Facts) (there : There) (closed : IsClosed there) (all : List M
       by false false = refl
 
   abbrev faults_here_of : Meaning → List (Option Datum) → List Fault
-  faults_here_of one values = class_faults facts there (new_place new) one values
+  faults_here_of one values = passed_faults facts there (new_place new) one values
 
   class_is : (one : Meaning) (values : List (Option Datum)) (mid : Midway) → AreBelow (length there.objects) values
       → AgreesHere (ran_here mid (steps_here mid (class_assignments facts one values)) (faults_here_of one values))
@@ -520,15 +520,15 @@ module _ (facts : Facts) (there : There) (closed : IsClosed there) (all : List M
           })))))
 
   pub classes_is : (some : List Passed) (mid : Midway) → EachPassedBelow (length there.objects) some
-      → AgreesHere (ran_here mid (steps_here mid (all_assignments facts some)) (classes_faults facts there (new_place new) some))
+      → AgreesHere (ran_here mid (steps_here mid (all_assignments facts some)) (all_passed_faults facts there (new_place new) some))
       → classes_run (made_by levels grounds) levels grounds subject some (built mid)
-      ≡ built (ran_here mid (steps_here mid (all_assignments facts some)) (classes_faults facts there (new_place new) some))
+      ≡ built (ran_here mid (steps_here mid (all_assignments facts some)) (all_passed_faults facts there (new_place new) some))
   classes_is [] mid are agrees = ap built (sym (ran_none facts there all levels carries new mid))
   classes_is (passed ∷ more) mid are agrees =
       let one : List Assignment = class_assignments facts passed.class passed.values in
       let rest : List Assignment = all_assignments facts more in
       let wrong : List Fault = faults_here_of passed.class passed.values in
-      let others : List Fault = classes_faults facts there (new_place new) more in
+      let others : List Fault = all_passed_faults facts there (new_place new) more in
       let next : Midway = ran_here mid (steps_here mid one) wrong in
       ap (classes_run (made_by levels grounds) levels grounds subject more)
       (class_is passed.class passed.values mid are.0

@@ -50,15 +50,15 @@ assigned_values facts there levels some = map (λ step. assigned_value facts the
 
 -- ---- objects
 
-abbrev pub object_with : New → Meaning → List FieldValue → MadeObject
-object_with new class fields = record { name = new.name; entry = new.entry; class = class; fields = fields }
+abbrev pub new_object_with : New → Meaning → List FieldValue → MadeObject
+new_object_with new class fields = record { name = new.name; entry = new.entry; class = class; fields = fields }
 
 -- the object of a `new` that may have so many levels, itself among them, behind so many objects, if it makes one
 abbrev pub new_object : Facts → There → ℕ → ℕ → New → Option MadeObject
 new_object facts there zero number new = None
 new_object facts there (suc levels) number new =
     option_and_then (λ class. if has_place number
-    then Some (object_with new class (assigned_values facts there levels
+    then Some (new_object_with new class (assigned_values facts there levels
     (object_steps facts there (carried_by levels facts there) number new class)))
     else None) (new_class facts new)
 
