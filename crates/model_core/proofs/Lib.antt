@@ -14,3 +14,4 @@ pub mod Bases
 pub mod Lawful
 pub mod Locals
 pub mod Few
+pub mod Earlier

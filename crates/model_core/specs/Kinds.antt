@@ -64,17 +64,24 @@ pub record IsMemberOf (model : Model) (number : ℕ) (value : ℤ) : Type 0 wher
   pub member : List ℕ
   pub is_member : slice_get found.members place ≡ Some member
 
--- the value is of the kind: any value, a truth, the place of a member, or the number of an object
+-- the value is of the kind: any value, also as thousandths, a truth, the place of a member, or the number of an object
 abbrev pub IsValueOf : Model → ValueKind → ℤ → Type 0
 IsValueOf model kinds.Int value = IsValue value
+IsValueOf model kinds.Float value = IsValue value
 IsValueOf model kinds.Bool value = (value ≡ pos 0) ⊎ (value ≡ pos 1)
 IsValueOf model (kinds.Enum number) value = IsMemberOf model number value
 IsValueOf model kinds.Object value = (object : Object) × IsObject model value object
 
--- the domain lies in the kind: its values are of it, and only whole numbers have ranges
+-- the kind is one of numbers: whole numbers, or decimals
+abbrev pub IsNumeric : ValueKind → Type 0
+IsNumeric kinds.Int = ⊤
+IsNumeric kinds.Float = ⊤
+IsNumeric kind = ⊥
+
+-- the domain lies in the kind: its values are of it, and only numbers have ranges
 pub record IsInKind (model : Model) (kind : ValueKind) (domain : Domain) : Type 0 where
   pub values : (value : ℤ) → Has domain value → IsValueOf model kind value
-  pub range : IsRange domain → kind ≡ kinds.Int
+  pub range : IsRange domain → IsNumeric kind
 
 -- the base is a domain that lies in the kind, or void, as only that of objects may be
 abbrev pub IsBaseOf : Model → ValueKind → Base → Type 0
@@ -121,6 +128,10 @@ AreOfKind model scope kind compared = All (IsOfKind model scope kind) compared
 abbrev pub AreComparable : Model → Scope → List Term → Type 0
 AreComparable model scope compared = (kind : ValueKind) × AreOfKind model scope kind compared
 
+-- they are all of one kind of numbers, so they can be added and put in order
+abbrev pub AreNumbers : Model → Scope → List Term → Type 0
+AreNumbers model scope compared = (kind : ValueKind) × IsNumeric kind × AreOfKind model scope kind compared
+
 -- whatever the part of a token of the predicate is, it is an object of the class
 abbrev pub IsPartOfClass : Model → ℕ → ℕ → Part → Type 0
 IsPartOfClass model pred class parts.Object =
@@ -154,19 +165,19 @@ pub record AccessesField (model : Model) (scope : Scope) (number : ℕ) (object 
   pub of_class : IsOfClass model scope class object
   pub value_kind : IsOfKind model scope variable.kind value
 
--- the terms may be the arguments of the constraint: of one kind where they are compared, whole numbers where they are added
--- or ordered
+-- the terms may be the arguments of the constraint: of one kind where they are compared, numbers where they are added or
+-- ordered; a factor is a whole number other than 0
 abbrev pub AreArguments : Model → Scope → Kind → List Term → Type 0
 AreArguments model scope Eq arguments = AreComparable model scope arguments
 AreArguments model scope Neq arguments = AreComparable model scope arguments
-AreArguments model scope Lt arguments = AreOfKind model scope kinds.Int arguments
-AreArguments model scope Leq arguments = AreOfKind model scope kinds.Int arguments
-AreArguments model scope AddEq arguments = AreOfKind model scope kinds.Int arguments
+AreArguments model scope Lt arguments = AreNumbers model scope arguments
+AreArguments model scope Leq arguments = AreNumbers model scope arguments
+AreArguments model scope AddEq arguments = AreNumbers model scope arguments
 AreArguments model scope MulEq (first ∷ terms.Lit factor ∷ product ∷ []) =
-    AreOfKind model scope kinds.Int (first ∷ terms.Lit factor ∷ product ∷ []) × (factor ≡ pos 0 → ⊥)
+    AreNumbers model scope (first ∷ product ∷ []) × IsValue factor × (factor ≡ pos 0 → ⊥)
 AreArguments model scope TestEq (truth ∷ compared) =
     IsOfKind model scope kinds.Bool truth × AreComparable model scope compared
 AreArguments model scope TestLeq (truth ∷ compared) =
-    IsOfKind model scope kinds.Bool truth × AreOfKind model scope kinds.Int compared
+    IsOfKind model scope kinds.Bool truth × AreNumbers model scope compared
 AreArguments model scope (Field number) (object ∷ value ∷ []) = AccessesField model scope number object value
 AreArguments model scope kind arguments = ⊥

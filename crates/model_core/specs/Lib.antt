@@ -12,6 +12,7 @@ pub mod Naming
 pub mod Standing
 pub mod Numbers
 pub mod Lawful
+pub mod Horizon
 pub mod Lookup
 pub mod Names
 pub mod Decided

@@ -18,7 +18,10 @@ pub struct VarDecl {
 /// What the values of a variable are.
 #[derive(Clone, Copy)]
 pub enum ValueKind {
+    /// Whole numbers.
     Int,
+    /// Decimals, each kept as a whole number of thousandths.
+    Float,
     Bool,
     /// The members of an enum, by its number.
     Enum(u32),

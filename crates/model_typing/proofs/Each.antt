@@ -3,12 +3,12 @@ use Rattle.std.proofs.Common.{◌≡◌, ℕ, ℤ, ◌+◌, ◌<◌, ◌≤◌, 
 use Rattle.std.proofs.lemmas.Bool.{cases_lt}
 use Rattle.std.proofs.lemmas.Int.{ints}
 use Rattle.std.proofs.lemmas.List.{get_or_default}
-use Rattle.domain_core.specs.Domain.{Domain, Range, Set, IsDomain, Has, IsNth, count_of}
+use Rattle.domain_core.specs.Domain.{Domain, Range, Set, IsDomain, IsValue, Has, IsNth, count_of}
 use Rattle.domain_core.proofs.Words.{has_value, place_of, at_place}
 use Rattle.model_core.specs.declared.model.Model.{Model}
 use Rattle.model_core.specs.declared.variable.ValueKind.{ValueKind}
-use Rattle.model_core.specs.declared.variable.ValueKind.TheVariants.{Int}
-use Rattle.model_core.specs.Kinds.{IsInKind, IsValueOf}
+use Rattle.model_core.specs.declared.variable.ValueKind.TheVariants.{Int, Float}
+use Rattle.model_core.specs.Kinds.{IsInKind, IsNumeric, IsValueOf}
 
 -- one value stands at a place
 pub nth_once : (domain : Domain) (place : ℕ) (one other : ℤ) → IsNth domain place one → IsNth domain place other → one ≡ other
@@ -50,9 +50,15 @@ module _ (domain : Domain) (P : ℤ → Type 0) where
   pub not_all : (place : ℕ) (value : ℤ) → IsDomain domain → IsNth domain place value → (P value → ⊥) → ((other : ℤ) → Has domain other → P other) → ⊥
   not_all place value lawful at not all = not (all value (at_place domain place value lawful at).0)
 
--- whole numbers are what every domain has
-pub in_int : (model : Model) (kind : ValueKind) (domain : Domain) → IsDomain domain → kind ≡ Int → IsInKind model kind domain
-in_int model kind domain lawful same = record {
-  values = λ value has. subst (λ (k : ValueKind). IsValueOf model k value) (sym same) (has_value domain value lawful has);
-  range = λ range. same;
+-- every value is of each kind of numbers
+number_of : (model : Model) (kind : ValueKind) (value : ℤ) → IsNumeric kind → IsValue value → IsValueOf model kind value
+number_of model Int value numeric is = is
+number_of model Float value numeric is = is
+number_of model kind value numeric is = absurd numeric
+
+-- so every domain lies in it
+pub in_numeric : (model : Model) (kind : ValueKind) (domain : Domain) → IsDomain domain → IsNumeric kind → IsInKind model kind domain
+in_numeric model kind domain lawful numeric = record {
+  values = λ value has. number_of model kind value numeric (has_value domain value lawful has);
+  range = λ range. numeric;
 }

@@ -1,5 +1,6 @@
 -- Terms and their kinds and classes, as they are found out.
 use Rattle.std.specs.Prelude.{◌≡◌, ◌↔◌, ℕ, pos, ⊤, Option, Some, slice_get}
+use Rattle.domain_core.specs.Domain.{IsValue}
 use Rattle.eu_name.specs.declared.name.Part.{Part}
 use Rattle.model_core.specs.declared.class.Class.{Class}
 use Rattle.model_core.specs.declared.item.Term.{Term}
@@ -58,9 +59,9 @@ IsPartLine model pred part line =
 abbrev pub IsTermLine : Model → Scope → Term → Line → Type 0
 IsTermLine model scope term line = IsOfKind model scope kinds.Object term → IsLine model line (λ class. IsOfClass model scope class term)
 
--- the term is a number other than 0 as it is written
+-- the term is a whole number other than 0 as it is written
 abbrev pub IsFactor : Term → Type 0
-IsFactor (terms.Lit value) = value ≡ pos 0 → ⊥
+IsFactor (terms.Lit value) = IsValue value × (value ≡ pos 0 → ⊥)
 IsFactor term = ⊥
 
 -- the scope is a rule that has the slot of this number

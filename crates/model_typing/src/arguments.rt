@@ -11,8 +11,9 @@ use super::accesses::{Access, accesses_field};
 use super::kinds::is_of_kind;
 use super::scope::TermScope;
 use super::table::Classes;
-use super::terms::{are_comparable, are_of_kind};
+use super::terms::{are_comparable, are_numbers};
 use domain_core::kind::Kind;
+use domain_core::number::is_value;
 use model_core::item::Term;
 use model_core::model::Model;
 use model_core::variable::ValueKind;
@@ -28,12 +29,12 @@ pub fn arity(kind: Kind) -> usize
     }
 }
 
-// Whether the term is a number other than 0 as it is written.
+// Whether the term is a whole number other than 0 as it is written.
 fn is_factor(term: Term) -> bool
     ensures { IsTrue result ↔ IsFactor term }
 {
     match term {
-        Term::Lit(value) => value != 0,
+        Term::Lit(value) => is_value(value) && value != 0,
         Term::Here(_) => false,
         Term::Slot(_, _) => false,
         Term::Local(_) => false,
@@ -47,7 +48,9 @@ fn are_product(model: &Model, scope: TermScope<'_>, terms: &[Term]) -> bool
     ensures { IsTrue result ↔ AreArguments model.now (scope_of scope.entry) constraints.MulEq terms.now }
 {
     match terms {
-        [_, factor, _] => is_factor(*factor) && are_of_kind(model, scope, ValueKind::Int, terms),
+        [first, factor, product] => {
+            is_factor(*factor) && are_numbers(model, scope, &[*first, *product])
+        }
         _ => false,
     }
 }
@@ -72,8 +75,7 @@ fn are_ordering(model: &Model, scope: TermScope<'_>, terms: &[Term]) -> bool
 {
     match terms {
         [truth, ordered @ ..] => {
-            is_of_kind(model, scope, ValueKind::Bool, *truth)
-                && are_of_kind(model, scope, ValueKind::Int, ordered)
+            is_of_kind(model, scope, ValueKind::Bool, *truth) && are_numbers(model, scope, ordered)
         }
         [] => false,
     }
@@ -119,9 +121,9 @@ pub fn are_arguments(
     match kind {
         Kind::Eq => are_comparable(model, classes, scope, terms),
         Kind::Neq => are_comparable(model, classes, scope, terms),
-        Kind::Lt => are_of_kind(model, scope, ValueKind::Int, terms),
-        Kind::Leq => are_of_kind(model, scope, ValueKind::Int, terms),
-        Kind::AddEq => are_of_kind(model, scope, ValueKind::Int, terms),
+        Kind::Lt => are_numbers(model, scope, terms),
+        Kind::Leq => are_numbers(model, scope, terms),
+        Kind::AddEq => are_numbers(model, scope, terms),
         Kind::MulEq => are_product(model, scope, terms),
         Kind::TestEq => are_equality(model, classes, scope, terms),
         Kind::TestLeq => are_ordering(model, scope, terms),

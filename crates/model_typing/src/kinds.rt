@@ -21,6 +21,7 @@ pub fn is_same_kind(one: ValueKind, other: ValueKind) -> bool
 {
     match (one, other) {
         (ValueKind::Int, ValueKind::Int) => true,
+        (ValueKind::Float, ValueKind::Float) => true,
         (ValueKind::Bool, ValueKind::Bool) => true,
         (ValueKind::Object, ValueKind::Object) => true,
         (ValueKind::Enum(number), ValueKind::Enum(found)) => number == found,

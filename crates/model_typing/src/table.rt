@@ -68,6 +68,7 @@ fn variable_line(model: &Model, parents: &Parents, variable: &VarDecl) -> Line
     match variable.kind {
         ValueKind::Object => base_line(model, parents, &variable.base),
         ValueKind::Int => Line::Nothing,
+        ValueKind::Float => Line::Nothing,
         ValueKind::Bool => Line::Nothing,
         ValueKind::Enum(_) => Line::Nothing,
     }

@@ -1,13 +1,14 @@
 //! Terms that are compared.
 
 ghost use Rattle.std.specs.Prelude.{◌≡◌, ◌↔◌, All, Contains, IsTrue, MatchOption};
-ghost use Rattle.model_core.specs.Kinds.{AreComparable, AreOfKind};
+ghost use Rattle.model_core.specs.Kinds.{AreComparable, AreNumbers, AreOfKind};
 ghost use Rattle.model_typing.specs.Ground.{IsGround};
 ghost use Rattle.model_typing.specs.Terms.{IsNamed, scope_of};
 
 use super::kinds::{is_of_kind, named_kind};
 use super::scope::TermScope;
 use super::table::Classes;
+use super::values::is_numeric;
 use model_core::item::Term;
 use model_core::model::Model;
 use model_core::variable::ValueKind;
@@ -73,6 +74,28 @@ fn are_comparable_values(
     ensures { IsTrue result ↔ AreComparable model.now (scope_of scope.entry) terms.now }
 {
     are_of_kind(model, scope, ValueKind::Int, terms)
+}
+
+// Whether all the terms, one of which is this, are of its kind, which is one of numbers.
+fn are_numbers_of_its_kind(model: &Model, scope: TermScope<'_>, term: Term, terms: &[Term]) -> bool
+    requires named { IsNamed term }
+    requires there { Contains terms.now term }
+    ensures { IsTrue result ↔ AreNumbers model.now (scope_of scope.entry) terms.now }
+{
+    match named_kind(model, scope, term) {
+        Some(kind) => is_numeric(kind) && are_of_kind(model, scope, kind, terms),
+        None => false,
+    }
+}
+
+/// Whether the terms are all of one kind of numbers. If all are values as they are written, they are whole numbers or of neither kind.
+pub fn are_numbers(model: &Model, scope: TermScope<'_>, terms: &[Term]) -> bool
+    ensures { IsTrue result ↔ AreNumbers model.now (scope_of scope.entry) terms.now }
+{
+    match first_named(terms) {
+        Some(term) => are_numbers_of_its_kind(model, scope, term, terms),
+        None => are_of_kind(model, scope, ValueKind::Int, terms),
+    }
 }
 
 /// Whether the terms are all of one kind.

@@ -3,7 +3,7 @@
 ghost use Rattle.std.specs.Prelude.{◌≡◌, ◌↔◌, ℕ, ℤ, List, pos, ◌⊎◌, IsTrue, MatchOption, All};
 ghost use Rattle.domain_core.specs.Domain.{Has, IsDomain};
 ghost use Rattle.model_core.specs.declared.variable.ValueKind.TheVariants as value_kinds;
-ghost use Rattle.model_core.specs.Kinds.{IsBaseOf, IsInKind, IsKind, IsMemberOf, IsValueOf};
+ghost use Rattle.model_core.specs.Kinds.{IsBaseOf, IsInKind, IsKind, IsMemberOf, IsNumeric, IsValueOf};
 ghost use Rattle.model_core.specs.Lawful.{IsLawfulBase, IsLawfulVariable};
 ghost use Rattle.model_typing.specs.Members.{HasMember, IsMemberAt};
 
@@ -22,7 +22,7 @@ pub fn is_kind(model: &Model, kind: ValueKind) -> bool
 {
     match kind {
         ValueKind::Enum(number) => (number as usize) < model.enums.len(),
-        ValueKind::Int | ValueKind::Bool | ValueKind::Object => true,
+        ValueKind::Int | ValueKind::Float | ValueKind::Bool | ValueKind::Object => true,
     }
 }
 
@@ -81,6 +81,7 @@ pub fn is_value_of(model: &Model, kind: ValueKind, value: i32) -> bool
 {
     match kind {
         ValueKind::Int => is_value(value),
+        ValueKind::Float => is_value(value),
         ValueKind::Bool => is_truth(value),
         ValueKind::Enum(number) => is_member(model, number, value),
         ValueKind::Object => is_object_number(model, value),
@@ -101,12 +102,12 @@ fn are_values_in(model: &Model, kind: ValueKind, domain: &Dom) -> bool
     true
 }
 
-// Whether whole numbers are of the kind.
-fn is_int(kind: ValueKind) -> bool
-    ensures { IsTrue result ↔ (kind ≡ value_kinds.Int) }
+/// Whether the kind is one of numbers: whole numbers, or decimals.
+pub fn is_numeric(kind: ValueKind) -> bool
+    ensures { IsTrue result ↔ IsNumeric kind }
 {
     match kind {
-        ValueKind::Int => true,
+        ValueKind::Int | ValueKind::Float => true,
         ValueKind::Bool | ValueKind::Enum(_) | ValueKind::Object => false,
     }
 }
@@ -117,7 +118,7 @@ fn is_object(kind: ValueKind) -> bool
 {
     match kind {
         ValueKind::Object => true,
-        ValueKind::Int | ValueKind::Bool | ValueKind::Enum(_) => false,
+        ValueKind::Int | ValueKind::Float | ValueKind::Bool | ValueKind::Enum(_) => false,
     }
 }
 
@@ -128,16 +129,17 @@ pub fn values_are_values(domain: &Dom)
     let _least = domain.lo();
 }
 
-/// Whether the domain lies in the kind. The values of every domain are whole numbers, so these aren't gone through.
+/// Whether the domain lies in the kind. The values of every domain are of each kind of numbers, so they aren't gone through for
+/// these.
 pub fn is_in_kind(model: &Model, kind: ValueKind, domain: &Dom) -> bool
     ensures told { IsTrue result ↔ IsInKind model.now kind domain.now }
     ensures domain { IsDomain domain.now }
 {
     values_are_values(domain);
     if domain.is_range() {
-        return is_int(kind);
+        return is_numeric(kind);
     }
-    is_int(kind) || are_values_in(model, kind, domain)
+    is_numeric(kind) || are_values_in(model, kind, domain)
 }
 
 /// Whether the base is a domain that lies in the kind, or void, as that of objects may be.
