@@ -8,3 +8,4 @@ pub mod Places
 pub mod Unplaced
 pub mod Kinds
 pub mod Path
+pub mod Decimals

@@ -5,6 +5,7 @@
 #![tactic(auto)]
 
 pub mod copies;
+pub mod decimal;
 pub mod declaration;
 pub mod expression;
 mod expressions;
@@ -18,6 +19,7 @@ pub mod statement;
 mod statements;
 
 pub use copies::{Copies, copy_all};
+pub use decimal::decimal_for;
 pub use declaration::{Decl, FileDecls};
 pub use fault::TextFault;
 pub use kind::TextKind;
