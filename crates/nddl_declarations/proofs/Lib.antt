@@ -4,3 +4,4 @@ pub mod Counting
 pub mod Placing
 pub mod Steps
 pub mod Telling
+pub mod Unnamed

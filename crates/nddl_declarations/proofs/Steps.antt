@@ -67,14 +67,13 @@ predicate_step facts decl name some first one two three noted kind one_is noted_
     ∙ (sym (earliest_append (earliest_fault first types) names number) ∙ sym (earliest_append first types (names ++ number)))))
 
 -- a class's parent, names, members and constructors have been dealt with
-pub class_step : (facts : Facts) (decl : ℕ) (class : Name) (parent : Option Name) (members : List Member) (first one two three four : Option Fault) (noted : Noted)
+pub class_step : (facts : Facts) (decl : ℕ) (class : Name) (parent : Option Name) (members : List Member) (first one two three four : Option Fault)
     → one ≡ earliest_fault first (parent_faults facts.names decl parent)
-    → noted ≡ inherited_noted facts parent
-    → two ≡ earliest_fault one (repeated_faults decl noted (member_names members))
+    → two ≡ earliest_fault one (repeated_faults decl (inherited_noted facts parent) (member_names members))
     → three ≡ earliest_fault two (flat_map (member_faults facts decl) members)
     → four ≡ earliest_fault three (constructors_faults decl class false members)
     → four ≡ earliest_fault first (class_faults facts decl class parent members)
-class_step facts decl class parent members first one two three four noted one_is noted_is two_is three_is four_is =
+class_step facts decl class parent members first one two three four one_is two_is three_is four_is =
     let parents = parent_faults facts.names decl parent in
     let names = repeated_faults decl (inherited_noted facts parent) (member_names members) in
     let inside = flat_map (member_faults facts decl) members in
@@ -82,7 +81,7 @@ class_step facts decl class parent members first one two three four noted one_is
     four_is
     ∙ (ap (λ o. earliest_fault o constructors)
     (three_is ∙ ap (λ o. earliest_fault o inside)
-    (two_is ∙ (ap (λ n. earliest_fault one (repeated_faults decl n (member_names members))) noted_is ∙ ap (λ o. earliest_fault o names) one_is)))
+    (two_is ∙ ap (λ o. earliest_fault o names) one_is))
     ∙ (sym (earliest_append (earliest_fault (earliest_fault first parents) names) inside constructors)
     ∙ (sym (earliest_append (earliest_fault first parents) names (inside ++ constructors))
     ∙ sym (earliest_append first parents (names ++ (inside ++ constructors))))))

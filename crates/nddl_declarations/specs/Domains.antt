@@ -20,6 +20,7 @@ use Rattle.nddl_declarations.specs.Ascending.{ascending_of}
 -- what the values of a type of this kind are
 abbrev pub value_kind : TypeKind → ValueKind
 value_kind kinds.Int = values.Int
+value_kind kinds.Float = values.Float
 value_kind kinds.Bool = values.Bool
 value_kind (kinds.Enum number) = values.Enum number
 value_kind (kinds.Object class) = values.Object
@@ -46,10 +47,12 @@ listed_values names enums (kinds.Enum number) (extents.Set members) = filter_map
 listed_values names enums kind (extents.Set members) = members
 listed_values names enums kind extent = []
 
--- the domain of a type: a range where it is one, else a set
+-- the domain of a type: a range where it is one, else a set. All decimals are as many thousandths as there are numbers.
 abbrev pub type_domain : List Declared → List Enum → TypeKind → Extent → Domain
 type_domain names enums kinds.Int extents.Whole = Range (negsuc 999999) (pos 1000000)
 type_domain names enums kinds.Int (extents.Range least greatest) = Range least greatest
+type_domain names enums kinds.Float extents.Whole = Range (negsuc 999999) (pos 1000000)
+type_domain names enums kinds.Float (extents.Range least greatest) = Range least greatest
 type_domain names enums kind extent = Set (ascending_of (listed_values names enums kind extent))
 
 -- what a variable of this type may be; no object has been made yet

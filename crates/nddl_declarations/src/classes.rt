@@ -5,7 +5,7 @@ ghost use Rattle.nddl_symbols.specs.Finding.{earliest_fault};
 ghost use Rattle.nddl_symbols.specs.Repeats.{repeated_faults};
 ghost use Rattle.nddl_hierarchy.specs.Facts.{facts_of};
 ghost use Rattle.nddl_declarations.specs.Classes.{class_faults, class_meaning_fault, parent_faults};
-ghost use Rattle.nddl_hierarchy.specs.Inherited.{member_names};
+ghost use Rattle.nddl_hierarchy.specs.Inherited.{inherited_noted, member_names};
 
 use super::constructors::note_constructors;
 use super::members::note_members;
@@ -13,7 +13,7 @@ use eu_index::NameIndex;
 use nddl_ast::TextKind;
 use nddl_ast::declaration::Member;
 use nddl_ast::name::Name;
-use nddl_hierarchy::{Basis, inherited, member_name};
+use nddl_hierarchy::{Basis, has_named, inherited, member_name};
 use nddl_symbols::repeats::note_repeated;
 use nddl_symbols::{Fault, Meaning, Scope, note_at};
 use std::alloc::{AllocError, Global};
@@ -33,8 +33,7 @@ pub fn note_class(
         (class_faults (facts_of basis.now) decl class.now parent.now members.now)) }
 {
     note_parent(basis.types.scope, decl, parent, first);
-    let mut noted = inherited(alloc, basis, parent)?;
-    note_names(decl, members, &mut noted, first)?;
+    note_own_names(alloc, basis, decl, parent, members, first)?;
     note_members(alloc, basis, decl, members, first)?;
     note_constructors(decl, class, members, first);
     Ok(())
@@ -65,6 +64,27 @@ pub fn class_fault(scope: &Scope, meaning: Option<Meaning>) -> Option<TextKind>
             }
         }
     }
+}
+
+// Notes each field and each predicate whose name the class has already. Where it has neither, what it inherits isn't
+// gathered: many such classes may stand under many others.
+#[tactic(auto, using(crate::proofs::Unnamed::none_repeated))]
+fn note_own_names(
+    alloc: Global,
+    basis: &Basis<'_>,
+    decl: usize,
+    parent: &Option<Name>,
+    members: &[Member],
+    first: &mut Option<Fault>,
+) -> Result<(), AllocError>
+    ensures { OnOk result (first.new ≡ earliest_fault first.old
+        (repeated_faults decl (inherited_noted (facts_of basis.now) parent.now) (member_names members.now))) }
+{
+    if !has_named(members) {
+        return Ok(());
+    }
+    let mut noted = inherited(alloc, basis, parent)?;
+    note_names(decl, members, &mut noted, first)
 }
 
 // Notes each field and each predicate whose name stands before.

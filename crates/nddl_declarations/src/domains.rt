@@ -19,6 +19,7 @@ pub fn value_kind(kind: TypeKind) -> ValueKind
 {
     match kind {
         TypeKind::Int => ValueKind::Int,
+        TypeKind::Float => ValueKind::Float,
         TypeKind::Bool => ValueKind::Bool,
         TypeKind::Enum(number) => ValueKind::Enum(number),
         TypeKind::Object(_) => ValueKind::Object,
@@ -51,8 +52,10 @@ fn type_domain(
     ensures { IfOk result (λ domain. domain ≡ type_domain scope.now enums.now kind extent.now) }
 {
     match (kind, extent) {
-        (TypeKind::Int, Extent::Whole) => range(-1_000_000, 1_000_000),
-        (TypeKind::Int, Extent::Range { least, greatest }) => range(*least, *greatest),
+        (TypeKind::Int | TypeKind::Float, Extent::Whole) => range(-1_000_000, 1_000_000),
+        (TypeKind::Int | TypeKind::Float, Extent::Range { least, greatest }) => {
+            range(*least, *greatest)
+        }
         _ => {
             let values = listed_values(alloc, scope, enums, kind, extent)?;
             set_of_values(alloc, values.as_slice())

@@ -1,5 +1,5 @@
 -- What is found along one round of a line is found along the whole line.
-use Rattle.std.proofs.Common.{◌≡◌, ℕ, ◌||◌, ◌⊎◌, inl, inr, Bool, true, false, List, [], ◌∷◌, ◌++◌, map, refl, sym, ◌∙◌, ap, subst}
+use Rattle.std.proofs.Common.{◌≡◌, ℕ, ◌||◌, inl, inr, Bool, true, false, List, [], ◌∷◌, ◌++◌, map, refl, sym, ◌∙◌, ap, subst}
 use Rattle.std.specs.Prelude.{Option, Some, None, All, Contains}
 use Rattle.std.specs.List.{AllByRecursion, list_any}
 use Rattle.std.proofs.lemmas.List.Elements.{All-head, All-tail, All-weaker}
@@ -14,7 +14,7 @@ use Rattle.nddl_symbols.specs.declared.scope.Meaning.{Meaning}
 use Rattle.nddl_symbols.specs.declared.scope.Meaning.TheVariants as meanings
 use Rattle.nddl_hierarchy.specs.Ancestors.{above, is_extended, means}
 use Rattle.nddl_hierarchy.specs.Decls.{members_of}
-use Rattle.nddl_hierarchy.specs.Inherited.{builtin_members, builtin_noted, class_noted, line_noted, member_names, names_noted, words_noted}
+use Rattle.nddl_hierarchy.specs.Inherited.{builtin_members, builtin_noted, class_noted, line_noted, member_names, words_noted}
 use Rattle.nddl_hierarchy.specs.Rounds.{IsRound}
 use Rattle.nddl_hierarchy.proofs.Noting.{IsNoted, all_stay, names_as_words, words_append, words_known, words_there}
 

@@ -23,5 +23,5 @@ pub use eu_forest::Parents;
 pub use member_names::member_name;
 pub use members::MemberIndex;
 pub use names::{inherited, note_word};
-pub use shorter::{ShortLines, adding_line, building_line};
+pub use shorter::{ShortLines, adding_line, building_line, has_named};
 pub use spot::Spot;

@@ -181,7 +181,8 @@ fn extended(scope: &Scope, body: &Decl) -> Option<Meaning>
     scope.meaning(&name.text)
 }
 
-fn has_named(members: &[Member]) -> bool
+/// Whether one of the members is a field or a predicate.
+pub fn has_named(members: &[Member]) -> bool
     ensures { result ≡ has_named members.now }
 {
     for member in members {

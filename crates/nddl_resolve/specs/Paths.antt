@@ -1,8 +1,7 @@
 -- What paths mean, and what can be an argument.
-use Rattle.std.specs.Prelude.{ℕ, true, List, [], ◌∷◌, Option, Some, None, Ok, Err, if◌then◌else◌}
+use Rattle.std.specs.Prelude.{ℕ, true, List, [], ◌∷◌, Option, Some, None, Ok, if◌then◌else◌}
 use Rattle.std.specs.Option.{option_and_then, option_map_or, option_or}
 use Rattle.std.specs.Str.{bytes_eq}
-use Rattle.nddl_ast.specs.declared.kind.TextKind.TheVariants as faults
 use Rattle.nddl_ast.specs.declared.expression.Constant.{Constant}
 use Rattle.nddl_ast.specs.declared.expression.Constant.TheVariants as constants
 use Rattle.nddl_ast.specs.declared.expression.Expr.{Expr}
@@ -84,13 +83,13 @@ asked_token facts around path =
 abbrev pub constant_of : TypeKind → Denoted
 constant_of kind = denoted.Value kind true
 
--- what is written out at a place; decimals mean nothing yet
-abbrev pub literal_denoted : ℕ → Constant → Understood
-literal_denoted at (constants.Number number) = Ok (constant_of kinds.Int)
-literal_denoted at (constants.Truth truth) = Ok (constant_of kinds.Bool)
-literal_denoted at (constants.Decimal thousandths) = Err (record { kind = faults.Float; at = at })
+-- what is written out
+abbrev pub literal_denoted : Constant → Denoted
+literal_denoted (constants.Number number) = constant_of kinds.Int
+literal_denoted (constants.Decimal thousandths) = constant_of kinds.Float
+literal_denoted (constants.Truth truth) = constant_of kinds.Bool
 
 -- what an argument means, or what is wrong with it by itself
 abbrev pub expr_denoted : Facts → Surroundings → Expr → Understood
 expr_denoted facts around (exprs.Path path) = path_denoted facts around path
-expr_denoted facts around (exprs.Literal literal) = literal_denoted literal.at literal.constant
+expr_denoted facts around (exprs.Literal literal) = Ok (literal_denoted literal.constant)

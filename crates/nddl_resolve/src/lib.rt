@@ -9,10 +9,12 @@ pub mod denoted;
 pub mod fields;
 pub mod files;
 pub mod following;
+pub mod kinds;
 pub mod paths;
 pub mod predicates;
 pub mod seen;
 
 pub use denoted::{Around, Denoted, PathFault, Predicate, Seen, TokenSort};
+pub use kinds::kind_fault;
 pub use paths::{asked_token, expr_denoted, path_denoted};
 pub use seen::SeenNames;

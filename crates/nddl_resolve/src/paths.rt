@@ -11,7 +11,6 @@ use super::following::{asked_by, rest_denoted, unknown_at};
 use super::predicates::token_part;
 use super::seen::SeenNames;
 use eu_name::text::Text;
-use nddl_ast::TextKind;
 use nddl_ast::expression::{Constant, Expr, Literal};
 use nddl_ast::name::Path;
 use nddl_hierarchy::Basis;
@@ -29,20 +28,17 @@ pub fn expr_denoted(
 {
     match expr {
         Expr::Path(path) => path_denoted(alloc, basis, around, path),
-        Expr::Literal(literal) => Ok(literal_denoted(*literal)),
+        Expr::Literal(literal) => Ok(Ok(literal_denoted(*literal))),
     }
 }
 
-fn literal_denoted(literal: Literal) -> Result<Denoted, PathFault>
-    ensures { result ≡ literal_denoted literal.at literal.constant }
+fn literal_denoted(literal: Literal) -> Denoted
+    ensures { result ≡ literal_denoted literal.constant }
 {
     match literal.constant {
-        Constant::Number(_) => Ok(constant(TypeKind::Int)),
-        Constant::Truth(_) => Ok(constant(TypeKind::Bool)),
-        Constant::Decimal(_) => Err(PathFault {
-            kind: TextKind::Float,
-            at: literal.at,
-        }),
+        Constant::Number(_) => constant(TypeKind::Int),
+        Constant::Decimal(_) => constant(TypeKind::Float),
+        Constant::Truth(_) => constant(TypeKind::Bool),
     }
 }
 

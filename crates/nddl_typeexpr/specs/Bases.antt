@@ -41,8 +41,8 @@ meaning_fault names (Some (meanings.Entry entry)) = entry_fault names entry
 -- what is wrong with a base
 abbrev pub base_fault : List Declared → BaseType → Option TextKind
 base_fault names bases.Int = None
+base_fault names bases.Float = None
 base_fault names bases.Bool = None
-base_fault names bases.Float = Some faults.Float
 base_fault names bases.Str = Some faults.WrongType
 base_fault names (bases.Named name) = meaning_fault names (meaning_of names name.text)
 
@@ -68,8 +68,8 @@ meaning_kind names known (meanings.Entry entry) = entry_kind names known entry
 -- of what the values of a base are, if it means something
 abbrev pub base_kind : List Declared → List (Option TypeMeaning) → BaseType → Option TypeKind
 base_kind names known bases.Int = Some kinds.Int
+base_kind names known bases.Float = Some kinds.Float
 base_kind names known bases.Bool = Some kinds.Bool
-base_kind names known bases.Float = None
 base_kind names known bases.Str = None
 base_kind names known (bases.Named name) = option_and_then (meaning_kind names known) (meaning_of names name.text)
 

@@ -27,12 +27,12 @@ is_wrong_range extent (Some least) (Some greatest) =
 is_wrong_range extent least greatest = false
 
 -- what is wrong with a range behind a type that may have one
-abbrev pub ends_faults : List Declared → Extent → ℕ → ℕ → Value → Value → List Fault
-ends_faults names extent decl at least greatest =
+abbrev pub ends_faults : List Declared → TypeKind → Extent → ℕ → ℕ → Value → Value → List Fault
+ends_faults names kind extent decl at least greatest =
     faults_here decl at
-    (fault_if (is_wrong_range extent (end_number names least) (end_number names greatest)) faults.NotInDomain)
-    ++ faults_here decl (value_place least) (end_fault names least)
-    ++ faults_here decl (value_place greatest) (end_fault names greatest)
+    (fault_if (is_wrong_range extent (end_number names kind least) (end_number names kind greatest)) faults.NotInDomain)
+    ++ faults_here decl (value_place least) (end_fault names kind least)
+    ++ faults_here decl (value_place greatest) (end_fault names kind greatest)
 
 -- what is wrong with a range behind another type
 abbrev pub no_range_faults : List Declared → ℕ → Value → Value → List Fault
@@ -43,7 +43,7 @@ no_range_faults names decl least greatest =
 
 abbrev pub range_faults : List Declared → TypeKind → Extent → ℕ → ℕ → Value → Value → List Fault
 range_faults names kind extent decl at least greatest =
-    if is_ranged kind extent then ends_faults names extent decl at least greatest
+    if is_ranged kind extent then ends_faults names kind extent decl at least greatest
     else no_range_faults names decl least greatest
 
 -- the range between two numbers
@@ -106,6 +106,6 @@ bounds_faults names kind extent decl (bounds.Set at values) = set_faults names k
 abbrev pub bounds_extent : List Declared → TypeKind → Extent → Bounds → Extent
 bounds_extent names kind extent bounds.All = extent
 bounds_extent names kind extent (bounds.Range at least greatest) =
-    extent_between (end_number names least) (end_number names greatest)
+    extent_between (end_number names kind least) (end_number names kind greatest)
 bounds_extent names kind extent (bounds.Set at values) =
     extents.Set (distinct_from [] (own_numbers names kind extent values))

@@ -26,8 +26,7 @@ pub fn base_fault(scope: &Scope, base: &BaseType) -> Option<TextKind>
     ensures { result ≡ base_fault scope.now base.now }
 {
     match base {
-        BaseType::Int | BaseType::Bool => None,
-        BaseType::Float => Some(TextKind::Float),
+        BaseType::Int | BaseType::Float | BaseType::Bool => None,
         BaseType::Str => Some(TextKind::WrongType),
         BaseType::Named(name) => match scope.meaning(&name.text) {
             None => Some(TextKind::Unknown),
@@ -53,8 +52,9 @@ pub fn base_kind(types: &Types<'_>, base: &BaseType) -> Option<TypeKind>
 {
     match base {
         BaseType::Int => Some(TypeKind::Int),
+        BaseType::Float => Some(TypeKind::Float),
         BaseType::Bool => Some(TypeKind::Bool),
-        BaseType::Float | BaseType::Str => None,
+        BaseType::Str => None,
         BaseType::Named(name) => match types.scope.meaning(&name.text)? {
             Meaning::BuiltIn(number) => Some(TypeKind::Object(Meaning::BuiltIn(number))),
             Meaning::Entry(entry) => entry_kind(types, entry),

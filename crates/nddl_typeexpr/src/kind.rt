@@ -1,7 +1,7 @@
 //! What types mean.
 
 ghost use Rattle.std.specs.Prelude.{◌≡◌, IfOk};
-ghost use Rattle.nddl_typeexpr.specs.Kinds.{are_one_kind, is_ranged, is_within};
+ghost use Rattle.nddl_typeexpr.specs.Kinds.{are_one_kind, is_numeric, is_ranged, is_within};
 
 use super::members::Members;
 use nddl_symbols::Meaning;
@@ -11,6 +11,8 @@ use std::alloc::AllocError;
 #[derive(Clone, Copy, Debug, PartialEq, Eq)]
 pub enum TypeKind {
     Int,
+    /// Decimals, kept as whole numbers of thousandths.
+    Float,
     Bool,
     /// Members of the enum of this number.
     Enum(u32),
@@ -23,9 +25,10 @@ pub enum TypeKind {
 pub enum Extent {
     /// All of them.
     Whole,
-    /// The whole numbers between two ends.
+    /// Those between two ends.
     Range { least: i32, greatest: i32 },
-    /// Those that are written out: numbers, 0 or 1 for truths, and the numbers that names have in the scope.
+    /// Those that are written out: numbers, decimals as thousandths, 0 or 1 for truths, and the numbers that names have in
+    /// the scope.
     Set(Members),
 }
 
@@ -36,12 +39,22 @@ pub struct TypeMeaning {
     pub extent: Extent,
 }
 
+impl TypeKind {
+    /// Whether the values of a type of this kind are numbers.
+    pub fn is_numeric(self) -> bool
+        ensures { result ≡ is_numeric self }
+    {
+        matches!(self, TypeKind::Int | TypeKind::Float)
+    }
+}
+
 /// Whether two kinds are the same. All objects are of one.
 pub fn are_one_kind(one: TypeKind, other: TypeKind) -> bool
     ensures { result ≡ are_one_kind one other }
 {
     match (one, other) {
         (TypeKind::Int, TypeKind::Int) => true,
+        (TypeKind::Float, TypeKind::Float) => true,
         (TypeKind::Bool, TypeKind::Bool) => true,
         (TypeKind::Enum(one), TypeKind::Enum(other)) => one == other,
         (TypeKind::Object(_), TypeKind::Object(_)) => true,
@@ -79,10 +92,9 @@ impl Extent {
     pub fn is_ranged(&self, kind: TypeKind) -> bool
         ensures { result ≡ is_ranged kind self.now }
     {
-        match (kind, self) {
-            (TypeKind::Int, Extent::Set(_)) => false,
-            (TypeKind::Int, _) => true,
-            _ => false,
+        match self {
+            Extent::Set(_) => false,
+            Extent::Whole | Extent::Range { .. } => kind.is_numeric(),
         }
     }
 }

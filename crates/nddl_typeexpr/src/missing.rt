@@ -8,7 +8,7 @@ use super::values::value_fault;
 use nddl_ast::expression::{Bounds, Value};
 use nddl_symbols::{Fault, Scope, note_at};
 
-/// Notes what is wrong with a range or a set behind a base that means nothing: names that aren't there, and decimals.
+/// Notes what is wrong with a range or a set behind a base that means nothing: names that aren't there.
 #[tactic(auto, using(nddl_symbols::proofs::Earliest::earliest_append))]
 pub fn note_missing_faults(scope: &Scope, decl: usize, bounds: &Bounds, first: &mut Option<Fault>)
     ensures { first.new ≡ earliest_fault first.old (missing_faults scope.now decl bounds.now) }

@@ -6,7 +6,7 @@ ghost use Rattle.nddl_typeexpr.specs.Values.{end_number};
 ghost use Rattle.nddl_typeexpr.specs.Bounds.{is_wrong_range, extent_between, range_faults};
 
 use super::base::BaseMeaning;
-use super::kind::Extent;
+use super::kind::{Extent, TypeKind};
 use super::values::{end_fault, end_number, value_fault};
 use nddl_ast::TextKind;
 use nddl_ast::expression::Value;
@@ -25,15 +25,21 @@ pub fn note_range_faults(
         (range_faults base.now.scope.now base.now.kind base.now.extent.now decl at least.now greatest.now) }
 {
     let scope = base.scope;
-    if base.extent.is_ranged(base.kind) {
+    let kind = base.kind;
+    if base.extent.is_ranged(kind) {
         let is_wrong = is_wrong_range(
             base.extent,
-            end_number(scope, least),
-            end_number(scope, greatest),
+            end_number(scope, kind, least),
+            end_number(scope, kind, greatest),
         );
         note_at(first, decl, at, kind_if(is_wrong, TextKind::NotInDomain));
-        note_at(first, decl, least.place(), end_fault(scope, least));
-        note_at(first, decl, greatest.place(), end_fault(scope, greatest));
+        note_at(first, decl, least.place(), end_fault(scope, kind, least));
+        note_at(
+            first,
+            decl,
+            greatest.place(),
+            end_fault(scope, kind, greatest),
+        );
     } else {
         note_at(first, decl, least.place(), value_fault(scope, least));
         note_at(first, decl, least.place(), Some(TextKind::WrongType));
@@ -53,11 +59,14 @@ pub fn is_wrong_range(extent: &Extent, least: Option<i32>, greatest: Option<i32>
     }
 }
 
-/// The range between two values.
-pub fn range_meaning(scope: &Scope, least: &Value, greatest: &Value) -> Extent
-    ensures { result ≡ extent_between (end_number scope.now least.now) (end_number scope.now greatest.now) }
+/// The range between two values of this kind.
+pub fn range_meaning(scope: &Scope, kind: TypeKind, least: &Value, greatest: &Value) -> Extent
+    ensures { result ≡ extent_between (end_number scope.now kind least.now) (end_number scope.now kind greatest.now) }
 {
-    match (end_number(scope, least), end_number(scope, greatest)) {
+    match (
+        end_number(scope, kind, least),
+        end_number(scope, kind, greatest),
+    ) {
         (Some(least), Some(greatest)) => Extent::Range { least, greatest },
         _ => Extent::Whole,
     }

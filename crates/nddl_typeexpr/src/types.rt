@@ -138,7 +138,7 @@ fn bounds_extent(
             least,
             greatest,
             ..
-        } => Ok(range_meaning(base.scope, least, greatest)),
+        } => Ok(range_meaning(base.scope, base.kind, least, greatest)),
         Bounds::Set { values, .. } => set_meaning(alloc, base, values.as_slice()),
     }
 }

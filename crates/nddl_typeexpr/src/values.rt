@@ -3,19 +3,20 @@
 ghost use Rattle.std.specs.Prelude.{◌≡◌, ◌<◌, ◌^◌};
 ghost use Rattle.std.specs.Option.{option_and_then};
 ghost use Rattle.nddl_symbols.specs.Scope.{meaning_of};
-ghost use Rattle.nddl_typeexpr.specs.Values.{end_fault, end_number, fits, given_entry, given_fault, given_literal, given_meaning, given_value, member_fault, missing_fault, own_number, value_fault};
+ghost use Rattle.nddl_typeexpr.specs.Values.{decimal_of, end_fault, end_number, fits, given_entry, given_fault, given_literal, given_meaning, given_number, given_value, member_fault, number_in, number_within, own_number, value_fault};
 
 use super::base::BaseMeaning;
 use super::kind::{Extent, TypeKind};
 use eu_name::text::Text;
-use nddl_ast::TextKind;
 use nddl_ast::expression::{Constant, Literal, Value};
+use nddl_ast::{TextKind, decimal_for};
 use nddl_symbols::{Meaning, Scope, Sort};
 
 /// Of what a value is.
 #[derive(Clone, Copy, Debug, PartialEq, Eq)]
 pub enum GivenKind {
     Number,
+    Decimal,
     Truth,
     /// A member of the enum of this number.
     Member(u32),
@@ -24,36 +25,40 @@ pub enum GivenKind {
     Other,
 }
 
-/// A value that is written out: a number, 0 or 1 for a truth, or the number that its name has in the scope.
+/// A value that is written out: a number, a decimal as thousandths, 0 or 1 for a truth, or the number that its name has in
+/// the scope.
 #[derive(Clone, Copy, Debug, PartialEq, Eq)]
 pub struct Given {
     pub kind: GivenKind,
     pub number: i32,
 }
 
-/// What the value means. None where its name isn't there, and of decimals.
+/// What the value means, if its name is there.
 pub fn given_by(scope: &Scope, value: &Value) -> Option<Given>
     ensures { result ≡ given_value scope.now value.now }
 {
     match value {
         Value::Name(name) => given_name(scope, &name.text),
-        Value::Literal(literal) => given_literal(*literal),
+        Value::Literal(literal) => Some(given_literal(*literal)),
     }
 }
 
-fn given_literal(literal: Literal) -> Option<Given>
+fn given_literal(literal: Literal) -> Given
     ensures { result ≡ given_literal literal.constant }
 {
     match literal.constant {
-        Constant::Number(number) => Some(Given {
+        Constant::Number(number) => Given {
             kind: GivenKind::Number,
             number,
-        }),
-        Constant::Truth(truth) => Some(Given {
+        },
+        Constant::Decimal(thousandths) => Given {
+            kind: GivenKind::Decimal,
+            number: thousandths.0,
+        },
+        Constant::Truth(truth) => Given {
             kind: GivenKind::Truth,
             number: if truth { 1 } else { 0 },
-        }),
-        Constant::Decimal(_) => None,
+        },
     }
 }
 
@@ -85,23 +90,13 @@ fn given_entry(scope: &Scope, entry: usize) -> Option<Given>
     })
 }
 
-// Why a value means nothing.
-fn missing_fault(value: &Value) -> TextKind
-    ensures { result ≡ missing_fault value.now }
-{
-    match value {
-        Value::Name(_) => TextKind::Unknown,
-        Value::Literal(_) => TextKind::Float,
-    }
-}
-
 /// What is wrong with the value, but for its being of the wrong kind.
 pub fn value_fault(scope: &Scope, value: &Value) -> Option<TextKind>
     ensures { result ≡ value_fault scope.now value.now }
 {
     match given_by(scope, value) {
         Some(_) => None,
-        None => Some(missing_fault(value)),
+        None => Some(TextKind::Unknown),
     }
 }
 
@@ -111,10 +106,42 @@ fn fits(kind: TypeKind, given: GivenKind) -> bool
 {
     match (kind, given) {
         (TypeKind::Int, GivenKind::Number)
+        | (TypeKind::Float, GivenKind::Number | GivenKind::Decimal)
         | (TypeKind::Bool, GivenKind::Truth)
         | (TypeKind::Object(_), GivenKind::Object) => true,
         (TypeKind::Enum(number), GivenKind::Member(of)) => number == of,
         _ => false,
+    }
+}
+
+// The number of a value that fits, in a type of this kind.
+fn number_in(kind: TypeKind, given: Given) -> Option<i32>
+    ensures { result ≡ number_in kind given }
+{
+    match kind {
+        TypeKind::Float => decimal_of(given),
+        _ => Some(given.number),
+    }
+}
+
+fn decimal_of(given: Given) -> Option<i32>
+    ensures { result ≡ decimal_of given.kind given.number }
+{
+    match given.kind {
+        GivenKind::Number => decimal_for(given.number),
+        _ => Some(given.number),
+    }
+}
+
+// The number of a value that fits, if a type of this kind that has these values has it.
+fn number_within(kind: TypeKind, extent: &Extent, given: Given) -> Option<i32>
+    ensures { result ≡ number_within kind extent.now given }
+{
+    let number = number_in(kind, given)?;
+    if extent.has(number) {
+        Some(number)
+    } else {
+        None
     }
 }
 
@@ -124,7 +151,7 @@ pub fn member_fault(base: &BaseMeaning<'_>, value: &Value) -> Option<TextKind>
 {
     match given_by(base.scope, value) {
         Some(given) => given_fault(base.kind, base.extent, given),
-        None => Some(missing_fault(value)),
+        None => Some(TextKind::Unknown),
     }
 }
 
@@ -132,11 +159,11 @@ fn given_fault(kind: TypeKind, extent: &Extent, given: Given) -> Option<TextKind
     ensures { result ≡ given_fault kind extent.now given }
 {
     if !fits(kind, given.kind) {
-        Some(TextKind::WrongType)
-    } else if !extent.has(given.number) {
-        Some(TextKind::NotInDomain)
-    } else {
-        None
+        return Some(TextKind::WrongType);
+    }
+    match number_within(kind, extent, given) {
+        Some(_) => None,
+        None => Some(TextKind::NotInDomain),
     }
 }
 
@@ -145,37 +172,41 @@ pub fn own_number(base: &BaseMeaning<'_>, value: &Value) -> Option<i32>
     ensures { result ≡ own_number base.now.scope.now base.now.kind base.now.extent.now value.now }
 {
     let given = given_by(base.scope, value)?;
-    if fits(base.kind, given.kind) && base.extent.has(given.number) {
-        Some(given.number)
+    given_number(base.kind, base.extent, given)
+}
+
+fn given_number(kind: TypeKind, extent: &Extent, given: Given) -> Option<i32>
+    ensures { result ≡ given_number kind extent.now given }
+{
+    if fits(kind, given.kind) {
+        number_within(kind, extent, given)
     } else {
         None
     }
 }
 
-/// What is wrong with the value as an end of a range.
-pub fn end_fault(scope: &Scope, value: &Value) -> Option<TextKind>
-    ensures { result ≡ end_fault scope.now value.now }
+/// What is wrong with the value as an end of a range of this kind.
+pub fn end_fault(scope: &Scope, kind: TypeKind, value: &Value) -> Option<TextKind>
+    ensures { result ≡ end_fault scope.now kind value.now }
 {
-    match given_by(scope, value) {
-        Some(given) => {
-            if fits(TypeKind::Int, given.kind) {
-                None
-            } else {
-                Some(TextKind::WrongType)
-            }
-        }
-        None => Some(missing_fault(value)),
-    }
+    let whole = Extent::Whole;
+    let base = BaseMeaning {
+        scope,
+        kind,
+        extent: &whole,
+    };
+    member_fault(&base, value)
 }
 
-/// The number that the value is.
-pub fn end_number(scope: &Scope, value: &Value) -> Option<i32>
-    ensures { result ≡ end_number scope.now value.now }
+/// The number of the value, where it may be an end of a range of this kind.
+pub fn end_number(scope: &Scope, kind: TypeKind, value: &Value) -> Option<i32>
+    ensures { result ≡ end_number scope.now kind value.now }
 {
-    let given = given_by(scope, value)?;
-    if fits(TypeKind::Int, given.kind) {
-        Some(given.number)
-    } else {
-        None
-    }
+    let whole = Extent::Whole;
+    let base = BaseMeaning {
+        scope,
+        kind,
+        extent: &whole,
+    };
+    own_number(&base, value)
 }
