@@ -28,6 +28,7 @@ is_foreign_datum grounds objects kind datum = false
 -- The number that a written set has of a value: of an object that of the name under which it is declared, if it is.
 abbrev pub datum_number : List MadeObject → Datum → Option ℤ
 datum_number objects (datums.Number number) = Some number
+datum_number objects (datums.Decimal thousandths) = Some thousandths
 datum_number objects (datums.Truth truth) = Some (if truth then pos 1 else pos 0)
 datum_number objects (datums.Member entry) = Some (pos entry)
 datum_number objects (datums.Object number) =

@@ -2,7 +2,7 @@
 use Rattle.std.specs.Prelude.{ℕ, ◌+◌, Bool, true, false, List, [], ◌∷◌, Option, Some, None, is_some, slice_get}
 use Rattle.std.specs.Prelude.{if◌then◌else◌}
 use Rattle.std.specs.List.{flat_map}
-use Rattle.std.specs.Option.{option_and_then, option_map_or}
+use Rattle.std.specs.Option.{option_and_then, option_map, option_map_or}
 use Rattle.nddl_ast.specs.declared.expression.Constant.{Constant}
 use Rattle.nddl_ast.specs.declared.expression.Constant.TheVariants as constants
 use Rattle.nddl_ast.specs.declared.expression.Expr.{Expr}
@@ -10,6 +10,7 @@ use Rattle.nddl_ast.specs.declared.expression.Expr.TheVariants as exprs
 use Rattle.nddl_ast.specs.declared.kind.TextKind.TheVariants as faults
 use Rattle.nddl_ast.specs.declared.name.Name.{Name}
 use Rattle.nddl_ast.specs.declared.name.Path.{Path}
+use Rattle.nddl_ast.specs.Decimals.{constant_decimal}
 use Rattle.nddl_ast.specs.Places.{expr_place}
 use Rattle.nddl_symbols.specs.declared.declared.Sort.{Sort}
 use Rattle.nddl_symbols.specs.declared.declared.Sort.TheVariants as sorts
@@ -19,6 +20,7 @@ use Rattle.nddl_symbols.specs.declared.scope.Meaning.TheVariants as meanings
 use Rattle.nddl_symbols.specs.Finding.{faults_here}
 use Rattle.nddl_symbols.specs.Scope.{fault_if, meaning_of}
 use Rattle.nddl_typeexpr.specs.declared.kind.TypeKind.{TypeKind}
+use Rattle.nddl_typeexpr.specs.declared.kind.TypeKind.TheVariants as kinds
 use Rattle.nddl_resolve.specs.Paths.{expr_denoted}
 use Rattle.nddl_constructors.specs.Constants.{is_understood}
 use Rattle.nddl_constructors.specs.Wants.{wanted_at}
@@ -82,26 +84,27 @@ path_datum grounds scene objects path = data_behind objects (first_datum grounds
 
 -- ---- values
 
--- what is written out at a place; decimals mean nothing yet
-abbrev pub literal_datum : Constant → Option Datum
-literal_datum (constants.Number number) = Some (datums.Number number)
-literal_datum (constants.Truth truth) = Some (datums.Truth truth)
-literal_datum (constants.Decimal thousandths) = None
+-- What a constant that is written out stands for, where this kind may be wanted: a number stands for a decimal where one is.
+abbrev pub literal_datum : Option TypeKind → Constant → Option Datum
+literal_datum (Some kinds.Float) constant = option_map datums.Decimal (constant_decimal constant)
+literal_datum wanted (constants.Number number) = Some (datums.Number number)
+literal_datum wanted (constants.Decimal thousandths) = Some (datums.Decimal thousandths.0)
+literal_datum wanted (constants.Truth truth) = Some (datums.Truth truth)
 
-abbrev pub expr_datum : Grounds → Scenery → List MadeObject → Expr → Option Datum
-expr_datum grounds scene objects (exprs.Path path) = path_datum grounds scene objects path
-expr_datum grounds scene objects (exprs.Literal literal) = literal_datum literal.constant
+abbrev pub expr_datum : Grounds → Scenery → List MadeObject → Option TypeKind → Expr → Option Datum
+expr_datum grounds scene objects wanted (exprs.Path path) = path_datum grounds scene objects path
+expr_datum grounds scene objects wanted (exprs.Literal literal) = literal_datum wanted literal.constant
 
 -- nothing is wrong with the text of a value where this kind is wanted
 abbrev pub is_well_written : Grounds → Scenery → Option TypeKind → Expr → Bool
 is_well_written grounds scene wanted expr =
-    is_understood wanted (expr_denoted grounds.facts (around_formals scene.formals) expr)
+    is_understood wanted expr (expr_denoted grounds.facts (around_formals scene.formals) expr)
 
 -- What a value stands for where this kind is wanted. What is wrong as it is written, or hangs on something faulty, stands
 -- for nothing, and nothing more is said of it.
 unfoldable pub fine_datum : Grounds → Scenery → List MadeObject → Option TypeKind → Expr → Option Datum
 fine_datum grounds scene objects wanted expr =
-    if is_well_written grounds scene wanted expr then expr_datum grounds scene objects expr else None
+    if is_well_written grounds scene wanted expr then expr_datum grounds scene objects wanted expr else None
 
 -- what arguments stand for, of which the first has this number
 abbrev pub fine_data : Grounds → Scenery → List MadeObject → List (Option TypeKind) → ℕ → List Expr → List (Option Datum)

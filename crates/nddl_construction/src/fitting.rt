@@ -50,6 +50,7 @@ fn datum_number(objects: &[MadeObject], datum: Datum) -> Result<Option<i32>, All
 {
     match datum {
         Datum::Number(number) => Ok(Some(number)),
+        Datum::Decimal(thousandths) => Ok(Some(thousandths)),
         Datum::Truth(truth) => Ok(Some(if truth { 1 } else { 0 })),
         Datum::Member(entry) => Ok(Some(name_number(entry)?)),
         Datum::Object(number) => object_number(objects, number),

@@ -13,6 +13,8 @@ use nddl_symbols::Meaning;
 #[derive(Clone, Copy, Debug, PartialEq, Eq)]
 pub enum Datum {
     Number(i32),
+    /// A decimal, in thousandths.
+    Decimal(i32),
     Truth(bool),
     /// The member of an enum whose name in the scope has this number.
     Member(usize),

@@ -129,13 +129,15 @@ fn path_datum(
     data_behind(objects, begin, path.rest.as_slice())
 }
 
-fn literal_datum(constant: Constant) -> Option<Datum>
-    ensures { result ≡ literal_datum constant }
+// What a constant that is written out stands for, where this kind may be wanted.
+fn literal_datum(wanted: Option<TypeKind>, constant: Constant) -> Option<Datum>
+    ensures { result ≡ literal_datum wanted constant }
 {
-    match constant {
-        Constant::Number(number) => Some(Datum::Number(number)),
-        Constant::Truth(truth) => Some(Datum::Truth(truth)),
-        Constant::Decimal(_) => None,
+    match (wanted, constant) {
+        (Some(TypeKind::Float), constant) => Some(Datum::Decimal(constant.decimal()?)),
+        (_, Constant::Number(number)) => Some(Datum::Number(number)),
+        (_, Constant::Decimal(thousandths)) => Some(Datum::Decimal(thousandths.0)),
+        (_, Constant::Truth(truth)) => Some(Datum::Truth(truth)),
     }
 }
 
@@ -143,13 +145,14 @@ fn expr_datum(
     footing: &Ground<'_>,
     scene: &Scene<'_>,
     objects: &[MadeObject],
+    wanted: Option<TypeKind>,
     expr: &Expr,
 ) -> Option<Datum>
-    ensures { result ≡ expr_datum (grounds_of footing.now) (scenery_of scene.now) objects.now expr.now }
+    ensures { result ≡ expr_datum (grounds_of footing.now) (scenery_of scene.now) objects.now wanted expr.now }
 {
     match expr {
         Expr::Path(path) => path_datum(footing, scene, objects, path),
-        Expr::Literal(literal) => literal_datum(literal.constant),
+        Expr::Literal(literal) => literal_datum(wanted, literal.constant),
     }
 }
 
@@ -165,7 +168,7 @@ fn is_well_written(
 {
     let around = around_formals(scene.formals);
     let found = expr_denoted(alloc, &footing.basis, &around, expr)?;
-    Ok(is_understood(wanted, found))
+    Ok(is_understood(wanted, expr, found))
 }
 
 /// What a value stands for where this kind is wanted, unless something is wrong with it as it is written.
@@ -182,7 +185,7 @@ pub fn fine_datum(
         datum ≡ fine_datum (grounds_of footing.now) (scenery_of scene.now) objects.now wanted expr.now) }
 {
     if is_well_written(alloc, footing, scene, wanted, expr)? {
-        Ok(expr_datum(footing, scene, objects, expr))
+        Ok(expr_datum(footing, scene, objects, wanted, expr))
     } else {
         Ok(None)
     }

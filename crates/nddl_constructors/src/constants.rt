@@ -5,49 +5,55 @@ ghost use Rattle.nddl_symbols.specs.Finding.{earliest_fault};
 ghost use Rattle.nddl_hierarchy.specs.Facts.{facts_of};
 ghost use Rattle.nddl_resolve.specs.Paths.{around_of};
 ghost use Rattle.nddl_constructors.specs.Wanted.{wanted_kinds};
-ghost use Rattle.nddl_constructors.specs.Constants.{constant_fault, constant_faults, constants_faults, is_understood, is_unwanted, value_faults};
+ghost use Rattle.nddl_constructors.specs.Constants.{constant_fault, constant_faults, constants_faults, is_understood, value_faults, wanted_fault};
 
 use super::wanted::Wanted;
 use nddl_ast::TextKind;
 use nddl_ast::expression::Expr;
 use nddl_hierarchy::Basis;
-use nddl_resolve::{Around, Denoted, PathFault, expr_denoted};
-use nddl_symbols::{Fault, kind_if, note_at};
+use nddl_resolve::{Around, Denoted, PathFault, expr_denoted, kind_fault};
+use nddl_symbols::{Fault, note_at};
 use nddl_typeexpr::TypeKind;
-use nddl_typeexpr::kind::are_one_kind;
 use std::alloc::{AllocError, Global};
 
-// Whether another kind is wanted.
-fn is_unwanted(wanted: Option<TypeKind>, kind: TypeKind) -> bool
-    ensures { result ≡ is_unwanted wanted kind }
+// What is wrong with a value of this kind, where another may be wanted.
+fn wanted_fault(wanted: Option<TypeKind>, expr: &Expr, kind: TypeKind) -> Option<TextKind>
+    ensures { result ≡ wanted_fault wanted expr.now kind }
 {
     match wanted {
-        Some(wanted) => !are_one_kind(wanted, kind),
-        None => false,
+        Some(wanted) => kind_fault(wanted, expr, kind),
+        None => None,
     }
 }
 
-// What is wrong with what a value means, where a constant of this kind is wanted.
-fn constant_fault(wanted: Option<TypeKind>, denoted: Denoted) -> Option<TextKind>
-    ensures { result ≡ constant_fault wanted denoted }
+// What is wrong with a value that means this, where a constant of this kind is wanted.
+fn constant_fault(wanted: Option<TypeKind>, expr: &Expr, denoted: Denoted) -> Option<TextKind>
+    ensures { result ≡ constant_fault wanted expr.now denoted }
 {
     match denoted {
-        Denoted::Value { kind, constant } => kind_if(
-            !constant || is_unwanted(wanted, kind),
-            TextKind::WrongType,
-        ),
+        Denoted::Value { kind, constant } => {
+            if constant {
+                wanted_fault(wanted, expr, kind)
+            } else {
+                Some(TextKind::WrongType)
+            }
+        }
         Denoted::Token(_) => Some(TextKind::WrongType),
         Denoted::Class(_) => Some(TextKind::WrongType),
         Denoted::Faulty => None,
     }
 }
 
-/// Whether it means something, and nothing is wrong with that, where a constant of this kind is wanted.
-pub fn is_understood(wanted: Option<TypeKind>, found: Result<Denoted, PathFault>) -> bool
-    ensures { result ≡ is_understood wanted found }
+/// Whether the value means something, and nothing is wrong with that, where a constant of this kind is wanted.
+pub fn is_understood(
+    wanted: Option<TypeKind>,
+    expr: &Expr,
+    found: Result<Denoted, PathFault>,
+) -> bool
+    ensures { result ≡ is_understood wanted expr.now found }
 {
     match found {
-        Ok(denoted) => constant_fault(wanted, denoted).is_none(),
+        Ok(denoted) => constant_fault(wanted, expr, denoted).is_none(),
         Err(_) => false,
     }
 }
@@ -56,14 +62,17 @@ pub fn is_understood(wanted: Option<TypeKind>, found: Result<Denoted, PathFault>
 fn note_understood(
     decl: usize,
     wanted: Option<TypeKind>,
-    at: u32,
+    expr: &Expr,
     found: Result<Denoted, PathFault>,
     first: &mut Option<Fault>,
 )
-    ensures { first.new ≡ earliest_fault first.old (constant_faults decl wanted at found) }
+    ensures { first.new ≡ earliest_fault first.old (constant_faults decl wanted expr.now found) }
 {
     match found {
-        Ok(denoted) => note_at(first, decl, at, constant_fault(wanted, denoted)),
+        Ok(denoted) => {
+            let fault = constant_fault(wanted, expr, denoted);
+            note_at(first, decl, expr.place(), fault)
+        }
         Err(fault) => note_at(first, decl, fault.at, Some(fault.kind)),
     }
 }
@@ -83,7 +92,7 @@ pub fn note_value(
         (value_faults (facts_of basis.now) (around_of around.now) decl wanted expr.now)) }
 {
     let found = expr_denoted(alloc, basis, around, expr)?;
-    note_understood(decl, wanted, expr.place(), found, first);
+    note_understood(decl, wanted, expr, found, first);
     Ok(())
 }
 

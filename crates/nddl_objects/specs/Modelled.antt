@@ -32,6 +32,7 @@ member_value sort = pos 0
 abbrev pub datum_value : List Declared → Option Datum → ℤ
 datum_value names None = pos 0
 datum_value names (Some (datums.Number number)) = number
+datum_value names (Some (datums.Decimal thousandths)) = thousandths
 datum_value names (Some (datums.Truth truth)) = if truth then pos 1 else pos 0
 datum_value names (Some (datums.Member entry)) = option_map_or (λ declared. member_value declared.sort) (slice_get names entry) (pos 0)
 datum_value names (Some (datums.Object number)) = pos number

@@ -46,6 +46,7 @@ pub fn datum_value(scope: &Scope, datum: Option<Datum>) -> Result<i32, AllocErro
     match datum {
         None => Ok(0),
         Some(Datum::Number(number)) => Ok(number),
+        Some(Datum::Decimal(thousandths)) => Ok(thousandths),
         Some(Datum::Truth(truth)) => Ok(if truth { 1 } else { 0 }),
         Some(Datum::Member(entry)) => entry_value(scope, entry),
         Some(Datum::Object(number)) => value_at(number),

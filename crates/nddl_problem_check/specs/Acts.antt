@@ -21,7 +21,7 @@ use Rattle.nddl_typeexpr.specs.declared.kind.TypeKind.{TypeKind}
 use Rattle.nddl_hierarchy.specs.Facts.{Facts}
 use Rattle.nddl_resolve.specs.declared.denoted.Denoted.{Denoted}
 use Rattle.nddl_resolve.specs.declared.denoted.Denoted.TheVariants as denoted
-use Rattle.nddl_resolve.specs.Paths.{Surroundings, literal_denoted, path_denoted}
+use Rattle.nddl_resolve.specs.Paths.{Surroundings, path_denoted}
 use Rattle.nddl_resolve.specs.Following.{Understood, or_faulty}
 use Rattle.nddl_rule_check.specs.Calls.{no_act_faults}
 use Rattle.nddl_rule_check.specs.Slots.{unwanted_faults}
@@ -101,8 +101,7 @@ root_label_faults facts decl path =
 -- the same of an argument
 abbrev pub root_argument_faults : Facts → ℕ → Expr → List Fault
 root_argument_faults facts decl (exprs.Path path) = root_label_faults facts decl path
-root_argument_faults facts decl (exprs.Literal literal) =
-    unwanted_faults decl literal.at (literal_denoted literal.at literal.constant)
+root_argument_faults facts decl (exprs.Literal literal) = faults_here decl literal.at (Some faults.WrongType)
 
 -- ---- arguments
 

@@ -3,16 +3,15 @@
 ghost use Rattle.std.specs.Prelude.{◌≡◌, OnOk};
 ghost use Rattle.nddl_symbols.specs.Finding.{earliest_fault};
 ghost use Rattle.nddl_hierarchy.specs.Facts.{facts_of};
-ghost use Rattle.nddl_resolve.specs.Paths.{literal_denoted};
 ghost use Rattle.nddl_rule_check.specs.Slots.{unwanted_faults};
 ghost use Rattle.nddl_problem_check.specs.Acts.{is_alone_label, root_argument_faults, root_label_faults};
 
-use super::owners::{file_path_denoted, is_label_meaning, nothing_around};
+use super::owners::{file_path_denoted, is_label_meaning};
 use nddl_ast::TextKind;
 use nddl_ast::expression::Expr;
 use nddl_ast::name::Name;
 use nddl_hierarchy::Basis;
-use nddl_resolve::{Denoted, PathFault, expr_denoted};
+use nddl_resolve::{Denoted, PathFault};
 use nddl_symbols::{Fault, Scope, note_at};
 use std::alloc::{AllocError, Global};
 
@@ -76,8 +75,7 @@ pub fn note_root_argument(
             first,
         ),
         Expr::Literal(literal) => {
-            let found = expr_denoted(alloc, basis, &nothing_around(), expr)?;
-            note_unwanted(decl, literal.at, found, first);
+            note_at(first, decl, literal.at, Some(TextKind::WrongType));
             Ok(())
         }
     }

@@ -1,5 +1,5 @@
 -- The words for constraints and relations, and what a constraint asks of its arguments.
-use Rattle.std.specs.Prelude.{ℕ, ◌==◌, nat_lt, Bool, false, List, [], ◌∷◌, codes, Option, if◌then◌else◌}
+use Rattle.std.specs.Prelude.{ℕ, ◌==◌, nat_lt, Bool, true, false, ◌&&◌, not, List, [], ◌∷◌, codes, Option, if◌then◌else◌}
 use Rattle.std.specs.Map.{lookup}
 use Rattle.std.specs.Str.{bytes_eq}
 use Rattle.domain_core.specs.declared.kind.Kind.{Kind}
@@ -57,3 +57,15 @@ asked_at constraints.MulEq place = if place == 1 then asked.Factor else asked.Of
 asked_at constraints.TestEq place = if place == 0 then asked.Of kinds.Bool else asked.Compared
 asked_at constraints.TestLeq place = if place == 0 then asked.Of kinds.Bool else asked.Of kinds.Int
 asked_at kind place = asked.Compared
+
+-- the argument at this place is one of those that the constraint compares
+abbrev pub is_compared_at : Kind → ℕ → Bool
+is_compared_at constraints.MulEq place = not (place == 1)
+is_compared_at constraints.TestEq place = not (place == 0)
+is_compared_at constraints.TestLeq place = not (place == 0)
+is_compared_at kind place = true
+
+-- what the constraint asks of its argument at this place, where a decimal is among those that are compared or not
+abbrev pub asked_among : Bool → Kind → ℕ → Asked
+asked_among decimal kind place =
+    if decimal && is_compared_at kind place then asked.Of kinds.Float else asked_at kind place

@@ -14,7 +14,7 @@ use Rattle.nddl_symbols.specs.Finding.{faults_here}
 use Rattle.nddl_hierarchy.specs.Facts.{Facts}
 use Rattle.nddl_resolve.specs.declared.denoted.Seen.{Seen}
 use Rattle.nddl_resolve.specs.declared.denoted.TokenSort.{TokenSort}
-use Rattle.nddl_resolve.specs.Paths.{Surroundings, asked_token, literal_denoted, path_denoted}
+use Rattle.nddl_resolve.specs.Paths.{Surroundings, asked_token, path_denoted}
 use Rattle.nddl_resolve.specs.Following.{Understood, named_token, unknown_at, understood_faults}
 use Rattle.nddl_rule_check.specs.Constraints.{relation_named}
 
@@ -66,8 +66,7 @@ related_names facts around decl path (name ∷ more) = understood_faults decl (a
 
 abbrev pub related_faults : Facts → Surroundings → ℕ → Expr → List Fault
 related_faults facts around decl (exprs.Path path) = related_names facts around decl path path.rest
-related_faults facts around decl (exprs.Literal literal) =
-    unwanted_faults decl literal.at (literal_denoted literal.at literal.constant)
+related_faults facts around decl (exprs.Literal literal) = faults_here decl literal.at (Some faults.WrongType)
 
 -- what is wrong with the arguments of a relation whose name stands there: it has one
 abbrev pub relation_faults : Facts → Surroundings → ℕ → ℕ → List Expr → List Fault

@@ -1,5 +1,5 @@
 -- What is wrong with the types of locals, among whose values names mean what they mean everywhere in a rule.
-use Rattle.std.specs.Prelude.{ℕ, ℤ, List, [], ◌++◌, Option, Some, None, if◌then◌else◌}
+use Rattle.std.specs.Prelude.{ℕ, Bool, ℤ, List, [], ◌++◌, Option, Some, None, if◌then◌else◌}
 use Rattle.std.specs.List.{filter_map, flat_map}
 use Rattle.std.specs.Option.{option_map_or, option_or}
 use Rattle.nddl_ast.specs.declared.expression.Bounds.{Bounds}
@@ -14,12 +14,13 @@ use Rattle.nddl_symbols.specs.declared.fault.Fault.{Fault}
 use Rattle.nddl_symbols.specs.Finding.{faults_here}
 use Rattle.nddl_symbols.specs.Scope.{fault_if}
 use Rattle.nddl_typeexpr.specs.declared.kind.Extent.{Extent}
+use Rattle.nddl_typeexpr.specs.declared.kind.Extent.TheVariants as extents
 use Rattle.nddl_typeexpr.specs.declared.kind.TypeKind.{TypeKind}
 use Rattle.nddl_typeexpr.specs.declared.kind.TypeKind.TheVariants as kinds
 use Rattle.nddl_typeexpr.specs.Bases.{base_extent, base_fault, base_kind}
 use Rattle.nddl_typeexpr.specs.Bounds.{are_too_many, is_wrong_range}
 use Rattle.nddl_typeexpr.specs.Kinds.{is_ranged}
-use Rattle.nddl_typeexpr.specs.Values.{end_fault, end_number, member_fault, own_number, value_fault}
+use Rattle.nddl_typeexpr.specs.Values.{member_fault, own_number, value_fault}
 use Rattle.nddl_hierarchy.specs.Ancestors.{is_foreign, is_outside}
 use Rattle.nddl_hierarchy.specs.Facts.{Facts}
 use Rattle.nddl_resolve.specs.declared.denoted.Denoted.{Denoted}
@@ -56,14 +57,6 @@ near_member_fault facts kind meant = near_fault meant
 abbrev pub local_value_fault : Facts → Surroundings → Value → Option TextKind
 local_value_fault facts around value = option_map_or (λ meant. None) (near_value facts around value) (value_fault facts.names value)
 
--- what is wrong with a value as an end of a range
-abbrev pub local_end_fault : Facts → Surroundings → Value → Option TextKind
-local_end_fault facts around value = option_map_or near_fault (near_value facts around value) (end_fault facts.names value)
-
--- the number that a value is
-abbrev pub local_end_number : Facts → Surroundings → Value → Option ℤ
-local_end_number facts around value = option_map_or (λ meant. None) (near_value facts around value) (end_number facts.names value)
-
 -- what is wrong with a value of a type of this kind as an object: it is of another class
 abbrev pub object_faults : Facts → ℕ → TypeKind → Value → List Fault
 object_faults facts decl (kinds.Object class) value =
@@ -89,13 +82,18 @@ local_number facts around kind extent value =
 
 -- ---- bounds
 
--- what is wrong with a range behind a type that may have one
-abbrev pub local_ends_faults : Facts → Surroundings → Extent → ℕ → ℕ → Value → Value → List Fault
-local_ends_faults facts around extent decl at least greatest =
-    faults_here decl at
-    (fault_if (is_wrong_range extent (local_end_number facts around least) (local_end_number facts around greatest)) faults.NotInDomain)
-    ++ (faults_here decl (value_place least) (local_end_fault facts around least)
-    ++ faults_here decl (value_place greatest) (local_end_fault facts around greatest))
+-- the ends are in the wrong order, or one of them lies outside
+abbrev pub is_wrong_local : Facts → Surroundings → TypeKind → Extent → Value → Value → Bool
+is_wrong_local facts around kind extent least greatest =
+    is_wrong_range extent (local_number facts around kind extents.Whole least)
+    (local_number facts around kind extents.Whole greatest)
+
+-- What is wrong with a range behind a type that may have one. Each end is a value of its kind, which may lie anywhere.
+abbrev pub local_ends_faults : Facts → Surroundings → TypeKind → Extent → ℕ → ℕ → Value → Value → List Fault
+local_ends_faults facts around kind extent decl at least greatest =
+    faults_here decl at (fault_if (is_wrong_local facts around kind extent least greatest) faults.NotInDomain)
+    ++ (local_member_faults facts around decl kind extents.Whole least
+    ++ local_member_faults facts around decl kind extents.Whole greatest)
 
 -- what is wrong with a range behind another type
 abbrev pub local_no_range_faults : Facts → Surroundings → ℕ → Value → Value → List Fault
@@ -106,7 +104,7 @@ local_no_range_faults facts around decl least greatest =
 
 abbrev pub local_range_faults : Facts → Surroundings → TypeKind → Extent → ℕ → ℕ → Value → Value → List Fault
 local_range_faults facts around kind extent decl at least greatest =
-    if is_ranged kind extent then local_ends_faults facts around extent decl at least greatest
+    if is_ranged kind extent then local_ends_faults facts around kind extent decl at least greatest
     else local_no_range_faults facts around decl least greatest
 
 -- what is wrong with each value of a set

@@ -5,10 +5,11 @@ ghost use Rattle.nddl_symbols.specs.Finding.{earliest_fault};
 ghost use Rattle.nddl_hierarchy.specs.Facts.{facts_of};
 ghost use Rattle.nddl_resolve.specs.Paths.{around_of};
 ghost use Rattle.nddl_resolve.specs.Following.{understood_faults};
-ghost use Rattle.nddl_rule_check.specs.Arguments.{argument_faults, arguments_faults, asked_by_type, compared_faults, condition_faults, constraint_faults, init_faults, meant_by};
+ghost use Rattle.nddl_rule_check.specs.Arguments.{are_decimals, argument_faults, arguments_faults, asked_by_type, asked_of_both, compared_faults, condition_faults, constraint_faults, init_faults, meant_by};
+ghost use Rattle.nddl_rule_check.specs.Constraints.{asked_among};
 
-use super::asked::{Asked, asked_at, takes};
-use super::values::{compared_with, is_unfit};
+use super::asked::{Asked, asked_among, is_compared_at, takes};
+use super::values::{compared_with, is_decimal, unfit_fault};
 use domain_core::kind::Kind;
 use nddl_ast::TextKind;
 use nddl_ast::expression::{Expr, Init, Type};
@@ -16,7 +17,7 @@ use nddl_ast::statement::Condition;
 use nddl_hierarchy::{Basis, Spot};
 use nddl_resolve::denoted::or_faulty;
 use nddl_resolve::{Around, Denoted, PathFault, expr_denoted};
-use nddl_symbols::{Fault, kind_if, note_at};
+use nddl_symbols::{Fault, note_at};
 use nddl_typeexpr::TypeKind;
 use nddl_typeexpr::base::base_kind;
 use std::alloc::{AllocError, Global};
@@ -49,13 +50,8 @@ pub fn note_argument(
     let found = expr_denoted(alloc, &spot.basis, around, expr)?;
     note_understood(spot.decl, found, first);
     let meant = or_faulty(found);
-    let is_wrong = is_unfit(asks, compared, expr, meant);
-    note_at(
-        first,
-        spot.decl,
-        expr.place(),
-        kind_if(is_wrong, TextKind::WrongType),
-    );
+    let fault = unfit_fault(asks, compared, expr, meant);
+    note_at(first, spot.decl, expr.place(), fault);
     Ok(meant)
 }
 
@@ -80,6 +76,38 @@ pub fn note_constraint(
     }
 }
 
+// What the argument means for others.
+fn meant_by(
+    alloc: Global,
+    spot: &Spot<'_>,
+    around: &Around<'_>,
+    expr: &Expr,
+) -> Result<Denoted, AllocError>
+    ensures { IfOk result (λ meant. meant ≡ meant_by (facts_of spot.now.basis) (around_of around.now) expr.now) }
+{
+    let found = expr_denoted(alloc, &spot.basis, around, expr)?;
+    Ok(or_faulty(found))
+}
+
+// Whether one of the arguments is compared and means a value of kind float.
+fn are_decimals(
+    alloc: Global,
+    spot: &Spot<'_>,
+    around: &Around<'_>,
+    kind: Kind,
+    exprs: &[Expr],
+) -> Result<bool, AllocError>
+    ensures { IfOk result (λ so. so ≡ are_decimals (facts_of spot.now.basis) (around_of around.now) kind 0 exprs.now) }
+{
+    for (place, expr) in exprs.iter().enumerate() {
+        let meant = meant_by(alloc, spot, around, expr)?;
+        if is_compared_at(kind, place) && is_decimal(meant) {
+            return Ok(true);
+        }
+    }
+    Ok(false)
+}
+
 // Notes what is wrong with the arguments.
 #[tactic(auto, using(nddl_symbols::proofs::Earliest::earliest_append))]
 fn note_arguments(
@@ -91,11 +119,13 @@ fn note_arguments(
     first: &mut Option<Fault>,
 ) -> Result<(), AllocError>
     ensures { OnOk result (first.new ≡ earliest_fault first.old
-        (arguments_faults (facts_of spot.now.basis) (around_of around.now) spot.now.decl kind 0 None exprs.now)) }
+        (arguments_faults (facts_of spot.now.basis) (around_of around.now) spot.now.decl
+        (asked_among (are_decimals (facts_of spot.now.basis) (around_of around.now) kind 0 exprs.now) kind) 0 None exprs.now)) }
 {
+    let decimal = are_decimals(alloc, spot, around, kind, exprs)?;
     let mut compared = None;
     for (place, expr) in exprs.iter().enumerate() {
-        let asks = asked_at(kind, place);
+        let asks = asked_among(decimal, kind, place);
         let meant = note_argument(alloc, spot, around, asks, compared, expr, first)?;
         compared = compared_with(asks, compared, meant);
     }
@@ -125,6 +155,17 @@ pub fn note_condition(
     }
 }
 
+// What is asked of two arguments that are compared and mean this.
+fn asked_of_both(one: Denoted, other: Denoted) -> Asked
+    ensures { result ≡ asked_of_both one other }
+{
+    if is_decimal(one) || is_decimal(other) {
+        Asked::Of(TypeKind::Float)
+    } else {
+        Asked::Compared
+    }
+}
+
 // Notes what is wrong with two arguments that are compared.
 #[tactic(auto, using(nddl_symbols::proofs::Earliest::earliest_append))]
 fn note_compared(
@@ -138,7 +179,8 @@ fn note_compared(
     ensures { OnOk result (first.new ≡ earliest_fault first.old
         (compared_faults (facts_of spot.now.basis) (around_of around.now) spot.now.decl one.now other.now)) }
 {
-    let asks = Asked::Compared;
+    let next = meant_by(alloc, spot, around, other)?;
+    let asks = asked_of_both(meant_by(alloc, spot, around, one)?, next);
     let meant = note_argument(alloc, spot, around, asks, None, one, first)?;
     let compared = compared_with(asks, None, meant);
     note_argument(alloc, spot, around, asks, compared, other, first)?;

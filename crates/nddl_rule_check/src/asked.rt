@@ -1,7 +1,7 @@
 //! What constraints ask of their arguments.
 
 ghost use Rattle.std.specs.Prelude.{◌≡◌};
-ghost use Rattle.nddl_rule_check.specs.Constraints.{asked_at, takes};
+ghost use Rattle.nddl_rule_check.specs.Constraints.{asked_among, asked_at, is_compared_at, takes};
 
 use domain_core::kind::Kind;
 use nddl_typeexpr::TypeKind;
@@ -29,8 +29,8 @@ pub fn takes(kind: Kind, number: usize) -> bool
     }
 }
 
-/// What the constraint asks of its argument at this place.
-pub fn asked_at(kind: Kind, place: usize) -> Asked
+// What the constraint asks of its argument at this place, where no decimal is compared.
+fn asked_at(kind: Kind, place: usize) -> Asked
     ensures { result ≡ asked_at kind place }
 {
     match kind {
@@ -57,5 +57,28 @@ pub fn asked_at(kind: Kind, place: usize) -> Asked
             }
         }
         Kind::Eq | Kind::Neq | Kind::AllDiff | Kind::Field(_) => Asked::Compared,
+    }
+}
+
+/// Whether the argument at this place is one of those that the constraint compares.
+pub fn is_compared_at(kind: Kind, place: usize) -> bool
+    ensures { result ≡ is_compared_at kind place }
+{
+    match kind {
+        Kind::MulEq => place != 1,
+        Kind::TestEq | Kind::TestLeq => place != 0,
+        Kind::Eq | Kind::Neq | Kind::Lt | Kind::Leq => true,
+        Kind::AddEq | Kind::AllDiff | Kind::Field(_) => true,
+    }
+}
+
+/// What the constraint asks of its argument at this place, where a decimal is among those that are compared or not.
+pub fn asked_among(decimal: bool, kind: Kind, place: usize) -> Asked
+    ensures { result ≡ asked_among decimal kind place }
+{
+    if decimal && is_compared_at(kind, place) {
+        Asked::Of(TypeKind::Float)
+    } else {
+        asked_at(kind, place)
     }
 }

@@ -16,9 +16,7 @@ use nddl_ast::name::{Name, Path};
 use nddl_ast::statement::Ask;
 use nddl_hierarchy::{Basis, Spot};
 use nddl_resolve::following::{token_denoted, unknown_at};
-use nddl_resolve::{
-    Around, Denoted, PathFault, SeenNames, asked_token, expr_denoted, path_denoted,
-};
+use nddl_resolve::{Around, Denoted, PathFault, SeenNames, asked_token, path_denoted};
 use nddl_symbols::{Fault, note_at};
 use std::alloc::{AllocError, Global};
 
@@ -163,8 +161,7 @@ fn note_related(
             }
         },
         Expr::Literal(literal) => {
-            let found = expr_denoted(alloc, &spot.basis, around, expr)?;
-            note_unwanted(spot.decl, literal.at, found, first);
+            note_at(first, spot.decl, literal.at, Some(TextKind::WrongType));
             Ok(())
         }
     }

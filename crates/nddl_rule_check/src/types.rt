@@ -8,7 +8,7 @@ ghost use Rattle.nddl_symbols.specs.Scope.{fault_if};
 ghost use Rattle.nddl_hierarchy.specs.Facts.{facts_of};
 ghost use Rattle.nddl_resolve.specs.Paths.{around_of, near_denoted, own_denoted};
 ghost use Rattle.nddl_typeexpr.specs.Bounds.{are_too_many};
-ghost use Rattle.nddl_rule_check.specs.Types.{file_member_faults, local_bounds_faults, local_end_fault, local_end_number, local_ends_faults, local_member_faults, local_members_faults, local_no_range_faults, local_number, local_numbers, local_range_faults, local_type_faults, local_value_fault, near_fault, near_member_fault, near_value, object_faults, turn_fault};
+ghost use Rattle.nddl_rule_check.specs.Types.{file_member_faults, is_wrong_local, local_bounds_faults, local_ends_faults, local_member_faults, local_members_faults, local_no_range_faults, local_number, local_numbers, local_range_faults, local_type_faults, local_value_fault, near_fault, near_member_fault, near_value, object_faults, turn_fault};
 
 use eu_name::text::Text;
 use nddl_ast::TextKind;
@@ -21,7 +21,7 @@ use nddl_symbols::{Fault, kind_if, note_at};
 use nddl_typeexpr::base::{BaseMeaning, base_extent, base_fault, base_kind};
 use nddl_typeexpr::ranges::is_wrong_range;
 use nddl_typeexpr::sets::are_too_many;
-use nddl_typeexpr::values::{end_fault, end_number, member_fault, own_number, value_fault};
+use nddl_typeexpr::values::{member_fault, own_number, value_fault};
 use nddl_typeexpr::{Extent, TypeKind};
 use std::alloc::{AllocError, Global};
 
@@ -111,26 +111,6 @@ fn local_value_fault(basis: &Basis<'_>, around: &Around<'_>, value: &Value) -> O
     }
 }
 
-// What is wrong with the value as an end of a range.
-fn local_end_fault(basis: &Basis<'_>, around: &Around<'_>, value: &Value) -> Option<TextKind>
-    ensures { result ≡ local_end_fault (facts_of basis.now) (around_of around.now) value.now }
-{
-    match near_value(basis, around, value) {
-        Some(meant) => near_fault(meant),
-        None => end_fault(basis.types.scope, value),
-    }
-}
-
-// The number that the value is.
-fn local_end_number(basis: &Basis<'_>, around: &Around<'_>, value: &Value) -> Option<i32>
-    ensures { result ≡ local_end_number (facts_of basis.now) (around_of around.now) value.now }
-{
-    match near_value(basis, around, value) {
-        Some(_) => None,
-        None => end_number(basis.types.scope, value),
-    }
-}
-
 // Notes the value if it is an object of another class than a type of this kind has.
 fn note_object(
     alloc: Global,
@@ -153,7 +133,7 @@ fn note_object(
             );
             Ok(())
         }
-        TypeKind::Int | TypeKind::Bool | TypeKind::Enum(_) => Ok(()),
+        TypeKind::Int | TypeKind::Float | TypeKind::Bool | TypeKind::Enum(_) => Ok(()),
     }
 }
 
@@ -233,34 +213,48 @@ struct WrittenRange<'a> {
     greatest: &'a Value,
 }
 
+// Whether the ends are in the wrong order, or one of them lies outside.
+fn is_wrong_local(
+    basis: &Basis<'_>,
+    around: &Around<'_>,
+    kind: TypeKind,
+    extent: &Extent,
+    range: &WrittenRange<'_>,
+) -> bool
+    ensures { result ≡ is_wrong_local (facts_of basis.now) (around_of around.now) kind extent.now range.now.least.now
+        range.now.greatest.now }
+{
+    is_wrong_range(
+        extent,
+        local_number(basis, around, kind, &Extent::Whole, range.least),
+        local_number(basis, around, kind, &Extent::Whole, range.greatest),
+    )
+}
+
 // Notes what is wrong with a range behind a type that may have one.
 #[tactic(auto, using(nddl_symbols::proofs::Earliest::earliest_append))]
 fn note_ends(
+    alloc: Global,
     spot: &Spot<'_>,
     around: &Around<'_>,
+    kind: TypeKind,
     extent: &Extent,
     range: &WrittenRange<'_>,
     first: &mut Option<Fault>,
-)
-    ensures { first.new ≡ earliest_fault first.old (local_ends_faults (facts_of spot.now.basis) (around_of around.now)
-        extent.now spot.now.decl range.now.at range.now.least.now range.now.greatest.now) }
+) -> Result<(), AllocError>
+    ensures { OnOk result (first.new ≡ earliest_fault first.old (local_ends_faults (facts_of spot.now.basis)
+        (around_of around.now) kind extent.now spot.now.decl range.now.at range.now.least.now range.now.greatest.now)) }
 {
-    let (least, greatest) = (range.least, range.greatest);
-    let is_wrong = is_wrong_range(
-        extent,
-        local_end_number(&spot.basis, around, least),
-        local_end_number(&spot.basis, around, greatest),
-    );
-    let least_fault = local_end_fault(&spot.basis, around, least);
-    let greatest_fault = local_end_fault(&spot.basis, around, greatest);
+    let is_wrong = is_wrong_local(&spot.basis, around, kind, extent, range);
     note_at(
         first,
         spot.decl,
         range.at,
         kind_if(is_wrong, TextKind::NotInDomain),
     );
-    note_at(first, spot.decl, least.place(), least_fault);
-    note_at(first, spot.decl, greatest.place(), greatest_fault);
+    let whole = Extent::Whole;
+    note_member(alloc, spot, around, kind, &whole, range.least, first)?;
+    note_member(alloc, spot, around, kind, &whole, range.greatest, first)
 }
 
 // Notes what is wrong with a range behind another type.
@@ -284,20 +278,22 @@ fn note_no_range(
 
 // Notes what is wrong with a range.
 fn note_range(
+    alloc: Global,
     spot: &Spot<'_>,
     around: &Around<'_>,
     kind: TypeKind,
     extent: &Extent,
     range: &WrittenRange<'_>,
     first: &mut Option<Fault>,
-)
-    ensures { first.new ≡ earliest_fault first.old (local_range_faults (facts_of spot.now.basis) (around_of around.now)
-        kind extent.now spot.now.decl range.now.at range.now.least.now range.now.greatest.now) }
+) -> Result<(), AllocError>
+    ensures { OnOk result (first.new ≡ earliest_fault first.old (local_range_faults (facts_of spot.now.basis)
+        (around_of around.now) kind extent.now spot.now.decl range.now.at range.now.least.now range.now.greatest.now)) }
 {
     if extent.is_ranged(kind) {
-        note_ends(spot, around, extent, range, first)
+        note_ends(alloc, spot, around, kind, extent, range, first)
     } else {
-        note_no_range(spot, around, range.least, range.greatest, first)
+        note_no_range(spot, around, range.least, range.greatest, first);
+        Ok(())
     }
 }
 
@@ -385,8 +381,7 @@ fn note_bounds(
                 least,
                 greatest,
             };
-            note_range(spot, around, kind, extent, &range, first);
-            Ok(())
+            note_range(alloc, spot, around, kind, extent, &range, first)
         }
         Bounds::Set { at, values } => {
             let values = values.as_slice();

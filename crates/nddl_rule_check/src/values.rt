@@ -1,13 +1,14 @@
 //! Which values may stand as arguments.
 
 ghost use Rattle.std.specs.Prelude.{◌≡◌};
-ghost use Rattle.nddl_rule_check.specs.Values.{compared_with, is_factor, is_factor_constant, is_unfit, is_unfit_value, kind_of_value};
+ghost use Rattle.nddl_rule_check.specs.Values.{compared_with, is_decimal, is_factor, is_factor_constant, kind_of_value, unfit_fault, unfit_value_fault};
 
 use super::asked::Asked;
+use nddl_ast::TextKind;
 use nddl_ast::expression::{Constant, Expr};
-use nddl_resolve::Denoted;
+use nddl_resolve::{Denoted, kind_fault};
+use nddl_symbols::kind_if;
 use nddl_typeexpr::TypeKind;
-use nddl_typeexpr::kind::are_one_kind;
 
 /// Of which kind the value is, if it is one.
 pub fn kind_of_value(meant: Denoted) -> Option<TypeKind>
@@ -19,15 +20,28 @@ pub fn kind_of_value(meant: Denoted) -> Option<TypeKind>
     }
 }
 
-// Whether this is no value, or one of another kind than the one that is wanted.
-fn is_unfit_value(wanted: Option<TypeKind>, meant: Denoted) -> bool
-    ensures { result ≡ is_unfit_value wanted meant }
+/// Whether it means a value of kind float.
+pub fn is_decimal(meant: Denoted) -> bool
+    ensures { result ≡ is_decimal meant }
+{
+    match meant {
+        Denoted::Value {
+            kind: TypeKind::Float,
+            ..
+        } => true,
+        _ => false,
+    }
+}
+
+// What is wrong with an argument, which means this, where a value is wanted, of this kind if any.
+fn unfit_value_fault(wanted: Option<TypeKind>, expr: &Expr, meant: Denoted) -> Option<TextKind>
+    ensures { result ≡ unfit_value_fault wanted expr.now meant }
 {
     match (wanted, meant) {
-        (None, Denoted::Value { .. }) => false,
-        (Some(wanted), Denoted::Value { kind, .. }) => !are_one_kind(wanted, kind),
-        (_, Denoted::Faulty) => false,
-        (_, Denoted::Token(_) | Denoted::Class(_)) => true,
+        (None, Denoted::Value { .. }) => None,
+        (Some(wanted), Denoted::Value { kind, .. }) => kind_fault(wanted, expr, kind),
+        (_, Denoted::Faulty) => None,
+        (_, Denoted::Token(_) | Denoted::Class(_)) => Some(TextKind::WrongType),
     }
 }
 
@@ -50,15 +64,20 @@ fn is_factor_constant(constant: Constant) -> bool
     }
 }
 
-/// Whether the argument, which means this, isn't what is asked for, where those that are compared before it are of this
-/// kind.
-pub fn is_unfit(asks: Asked, compared: Option<TypeKind>, expr: &Expr, meant: Denoted) -> bool
-    ensures { result ≡ is_unfit asks compared expr.now meant }
+/// What is wrong with the argument, which means this, of which this is asked, where those that are compared before it are
+/// of this kind.
+pub fn unfit_fault(
+    asks: Asked,
+    compared: Option<TypeKind>,
+    expr: &Expr,
+    meant: Denoted,
+) -> Option<TextKind>
+    ensures { result ≡ unfit_fault asks compared expr.now meant }
 {
     match asks {
-        Asked::Of(kind) => is_unfit_value(Some(kind), meant),
-        Asked::Compared => is_unfit_value(compared, meant),
-        Asked::Factor => !is_factor(expr),
+        Asked::Of(kind) => unfit_value_fault(Some(kind), expr, meant),
+        Asked::Compared => unfit_value_fault(compared, expr, meant),
+        Asked::Factor => kind_if(!is_factor(expr), TextKind::WrongType),
     }
 }
 
