@@ -5,6 +5,8 @@ use Rattle.std.specs.List.{filter_map, flat_map}
 use Rattle.std.specs.Option.{option_and_then, option_map, option_map_or}
 use Rattle.model_core.specs.declared.class.Pred.{Pred}
 use Rattle.model_core.specs.declared.item.Term.TheVariants as terms
+use Rattle.model_core.specs.declared.variable.ValueKind.{ValueKind}
+use Rattle.model_core.specs.declared.variable.ValueKind.TheVariants as values
 use Rattle.nddl_ast.specs.declared.declaration.Member.{Member}
 use Rattle.nddl_ast.specs.declared.declaration.Member.TheVariants as members
 use Rattle.nddl_ast.specs.declared.declaration.Decl.{Decl}
@@ -22,6 +24,7 @@ use Rattle.nddl_typeexpr.specs.declared.kind.TypeKind.TheVariants as kinds
 use Rattle.nddl_typeexpr.specs.Bases.{typedef_meaning}
 use Rattle.nddl_hierarchy.specs.Ancestors.{above}
 use Rattle.nddl_hierarchy.specs.Decls.{decl_of_name, members_of}
+use Rattle.nddl_declarations.specs.Domains.{value_kind}
 use Rattle.nddl_types.specs.Classes.{builtin_fields, class_entries, class_number, is_first, line_down}
 use Rattle.nddl_types.specs.Predicates.{builtin_preds, given_preds}
 use Rattle.nddl_resolve.specs.declared.denoted.Denoted.{Denoted}
@@ -93,6 +96,11 @@ pred_shapes world =
 
 -- ---- names of the files
 
+-- the kind of what a name of the files means, if that is a value
+abbrev pub denoted_kind : Option Denoted → ValueKind
+denoted_kind (Some (denoted.Value kind constant)) = value_kind kind
+denoted_kind other = values.Int
+
 -- the declared class of what a name of the files means, if that is an object
 abbrev pub denoted_class : World → Option Denoted → ℕ
 denoted_class world (Some (denoted.Value kind constant)) = kind_class world.facts.names kind
@@ -122,13 +130,15 @@ root_stand world number declared meant =
 -- what the object's name of this number stands for, which is declared as one of this class
 abbrev pub object_stand : World → ℕ → ℕ → Stand
 object_stand world entry class =
-    option_map_or (λ value. stands.Value (terms.Lit value) class) (made_object (slice_get world.named_objects entry))
-    stands.Nothing
+    option_map_or (λ value. stands.Value (terms.Lit value) values.Object class)
+    (made_object (slice_get world.named_objects entry)) stands.Nothing
 
 -- what the name of this number and sort stands for, which means this, behind so many globals and roots
 abbrev pub sort_stand : World → ℕ → ℕ → ℕ → Declared → Option Denoted → Sort → Stand
-sort_stand world entry globals roots declared meant (sorts.Member of place) = stands.Value (terms.Lit (pos place)) 0
-sort_stand world entry globals roots declared meant sorts.Global = stands.Value (terms.Global globals) (denoted_class world meant)
+sort_stand world entry globals roots declared meant (sorts.Member of place) =
+    stands.Value (terms.Lit (pos place)) (values.Enum of) 0
+sort_stand world entry globals roots declared meant sorts.Global =
+    stands.Value (terms.Global globals) (denoted_kind meant) (denoted_class world meant)
 sort_stand world entry globals roots declared meant sorts.Object = object_stand world entry (denoted_class world meant)
 sort_stand world entry globals roots declared meant sorts.Root = root_stand world roots declared meant
 sort_stand world entry globals roots declared meant sorts.Forward = stands.Class (class_number world.facts.names (meanings.Entry entry))

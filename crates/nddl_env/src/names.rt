@@ -3,11 +3,12 @@
 ghost use Rattle.std.specs.Prelude.{◌≡◌, ◌+◌, ◌++◌, IfOk, OnOk, if◌then◌else◌, pos};
 ghost use Rattle.std.specs.Option.{option_copied};
 ghost use Rattle.model_core.specs.declared.item.Term.TheVariants as terms;
+ghost use Rattle.model_core.specs.declared.variable.ValueKind.TheVariants as values;
 ghost use Rattle.nddl_symbols.specs.declared.scope.Meaning.TheVariants as meanings;
 ghost use Rattle.nddl_symbols.specs.Names.{is_global_sort, is_root_sort};
 ghost use Rattle.nddl_types.specs.Classes.{class_number};
 ghost use Rattle.nddl_terms.specs.declared.stands.Stand.TheVariants as stands;
-ghost use Rattle.nddl_env.specs.Lexicons.{asked_name, denoted_class, name_stand, object_stand, pred_shapes, root_of_class, root_stand, scope_stands, sort_stand, stand_if_first, token_class};
+ghost use Rattle.nddl_env.specs.Lexicons.{asked_name, denoted_class, denoted_kind, name_stand, object_stand, pred_shapes, root_of_class, root_stand, scope_stands, sort_stand, stand_if_first, token_class};
 ghost use Rattle.nddl_env.specs.Shapes.{world_of};
 
 use super::objects::made_object;
@@ -15,10 +16,12 @@ use super::premises::Premises;
 use super::shapes::kind_class;
 use eu_name::sequence::Sequence;
 use model_core::item::Term;
+use model_core::variable::ValueKind;
 use nddl_ast::declaration::Decl;
 use nddl_ast::name::Name;
 use nddl_ast::path::last;
 use nddl_construction::reading::named_object_at;
+use nddl_declarations::domains::value_kind;
 use nddl_declarations::values::value_at;
 use nddl_hierarchy::decls::decl_at;
 use nddl_resolve::Denoted;
@@ -35,6 +38,16 @@ struct Position {
     number: usize,
     globals: u32,
     roots: u32,
+}
+
+// The kind of what a name means, if that is a value.
+fn denoted_kind(meant: Option<Denoted>) -> ValueKind
+    ensures { result ≡ denoted_kind meant }
+{
+    match meant {
+        Some(Denoted::Value { kind, .. }) => value_kind(kind),
+        _ => ValueKind::Int,
+    }
 }
 
 // The declared class of what a name means, if that is an object.
@@ -116,18 +129,20 @@ fn object_stand(premises: &Premises<'_>, entry: usize, class: u32) -> Result<Sta
     match made_object(named_object_at(premises.named_objects, entry))? {
         Some(value) => Ok(Stand::Value {
             term: Term::Lit(value),
+            kind: ValueKind::Object,
             class,
         }),
         None => Ok(Stand::Nothing),
     }
 }
 
-// What a member stands for.
-fn member_stand(place: u32) -> Result<Stand, AllocError>
-    ensures { IfOk result (λ stand. stand ≡ stands.Value (terms.Lit (pos place)) 0) }
+// What the member of this place of the enum stands for.
+fn member_stand(of: u32, place: u32) -> Result<Stand, AllocError>
+    ensures { IfOk result (λ stand. stand ≡ stands.Value (terms.Lit (pos place)) (values.Enum of) 0) }
 {
     Ok(Stand::Value {
         term: Term::Lit(value_at(place as usize)?),
+        kind: ValueKind::Enum(of),
         class: 0,
     })
 }
@@ -156,9 +171,10 @@ fn sort_stand(
         position.roots declared.now meant declared.now.sort) }
 {
     match declared.sort {
-        Sort::Member { place, .. } => member_stand(place),
+        Sort::Member { of, place } => member_stand(of, place),
         Sort::Global => Ok(Stand::Value {
             term: Term::Global(position.globals),
+            kind: denoted_kind(meant),
             class: denoted_class(premises, meant),
         }),
         Sort::Object => object_stand(premises, position.number, denoted_class(premises, meant)),

@@ -13,6 +13,7 @@ use Rattle.model_core.specs.declared.model.Placed.{Placed}
 use Rattle.model_core.specs.Tokens.{root_token}
 use Rattle.nddl_terms.specs.declared.stands.Stand.{Stand}
 use Rattle.nddl_terms.specs.declared.stands.Stand.TheVariants.{Value, Root}
+use Rattle.nddl_lower.specs.Compared.{decimal_stand, is_decimal_stand}
 
 -- the variable of the problem that a term is: behind so many declared globals come those that stand for fields
 abbrev pub term_variable : ℕ → Term → Option VarName
@@ -22,7 +23,7 @@ term_variable count (terms.Root number part) = Some (variables.Token (root_token
 term_variable count term = None
 
 abbrev pub stand_variable : ℕ → Stand → Option VarName
-stand_variable count (Value term class) = term_variable count term
+stand_variable count (Value term kind class) = term_variable count term
 stand_variable count stand = None
 
 -- the token that is posted under a label
@@ -32,8 +33,12 @@ stand_token stand = None
 
 -- a value that is known
 abbrev pub stand_number : Stand → Option ℤ
-stand_number (Value (terms.Lit value) class) = Some value
+stand_number (Value (terms.Lit value) kind class) = Some value
 stand_number stand = None
+
+-- the value that a variable is to have: a decimal, if the variable is one
+abbrev pub specified_number : Stand → Stand → Option ℤ
+specified_number owner given = stand_number (if is_decimal_stand owner then decimal_stand given else given)
 
 -- a variable is to have a value
 abbrev pub specify_of : Option VarName → Option ℤ → Option Decision
@@ -49,7 +54,7 @@ merge_of token target = None
 -- is one of these four, or says nothing of the problem.
 abbrev pub act_decision : ℕ → List ℕ → Stand → Stand → Option Decision
 act_decision count act owner given =
-    if bytes_eq act (codes "specify") then specify_of (stand_variable count owner) (stand_number given)
+    if bytes_eq act (codes "specify") then specify_of (stand_variable count owner) (specified_number owner given)
     else (if bytes_eq act (codes "activate") then option_map Activate (stand_token owner)
     else (if bytes_eq act (codes "merge") then merge_of (stand_token owner) (stand_token given)
     else (if bytes_eq act (codes "reject") then option_map Reject (stand_token owner)

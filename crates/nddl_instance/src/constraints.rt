@@ -9,9 +9,8 @@ use crate::outside::path_stand;
 use domain_core::kind::Kind;
 use eu_name::sequence::Sequence;
 use eu_name::text::Text;
-use model_core::item::Term;
 use nddl_ast::expression::Expr;
-use nddl_lower::arguments::{add_constraint_of, constant_term, stand_term};
+use nddl_lower::arguments::{add_constraint_of, constant_stand};
 use nddl_rule_check::words::constraint_named;
 use nddl_terms::{Growth, Stand};
 use std::alloc::{AllocError, Global};
@@ -29,10 +28,7 @@ pub fn argument(
 {
     match expr {
         Expr::Path(path) => path_stand(alloc, outside, path, growth),
-        Expr::Literal(literal) => Ok(Stand::Value {
-            term: constant_term(literal.constant),
-            class: 0,
-        }),
+        Expr::Literal(literal) => Ok(constant_stand(literal.constant)),
     }
 }
 
@@ -42,18 +38,18 @@ fn arguments(
     outside: &Outside<'_>,
     exprs: &[Expr],
     growth: &mut Growth,
-) -> Result<Sequence<Term>, AllocError>
+) -> Result<Sequence<Stand>, AllocError>
     ensures grown { OnOk result (growth.new
         ≡ (outer_arguments (outsides_of outside.now) exprs.now growth.old).growth) }
-    ensures terms { IfOk result (λ terms. terms
-        ≡ (outer_arguments (outsides_of outside.now) exprs.now growth.old).terms) }
+    ensures stands { IfOk result (λ stands. stands
+        ≡ (outer_arguments (outsides_of outside.now) exprs.now growth.old).stands) }
 {
-    let mut terms = Sequence::new(alloc);
+    let mut stands = Sequence::new(alloc);
     for expr in exprs {
         let stand = argument(alloc, outside, expr, growth)?;
-        terms.push(stand_term(stand))?;
+        stands.push(stand)?;
     }
-    Ok(terms)
+    Ok(stands)
 }
 
 // A constraint with these arguments.
@@ -66,8 +62,8 @@ fn add_outer_constraint(
 ) -> Result<(), AllocError>
     ensures { OnOk result (growth.new ≡ with_outer_constraint (outsides_of outside.now) kind exprs.now growth.old) }
 {
-    let terms = arguments(alloc, outside, exprs, growth)?;
-    add_constraint_of(alloc, kind, terms, growth)
+    let stands = arguments(alloc, outside, exprs, growth)?;
+    add_constraint_of(alloc, kind, stands.as_slice(), growth)
 }
 
 /// Adds the constraint that the word names, with these arguments, or nothing if it names none.

@@ -2,7 +2,7 @@
 
 ghost use Rattle.std.specs.Prelude.{◌≡◌, ◌+◌, ◌++◌, IfOk, OnOk};
 ghost use Rattle.model_core.specs.Tokens.{root_token};
-ghost use Rattle.nddl_instance.specs.Decisions.{act_decision, merge_of, placed_decision, specify_of, stand_number, stand_token, stand_variable, term_variable};
+ghost use Rattle.nddl_instance.specs.Decisions.{act_decision, merge_of, placed_decision, specified_number, specify_of, stand_number, stand_token, stand_variable, term_variable};
 
 use eu_name::name::{TokenName, VarName};
 use eu_name::sequence::Sequence;
@@ -10,6 +10,7 @@ use eu_name::text::Text;
 use model_core::decision::Decision;
 use model_core::item::Term;
 use model_core::model::Placed;
+use nddl_lower::compared::{decimal_stand, is_decimal_stand};
 use nddl_terms::Stand;
 use std::alloc::{AllocError, Global};
 
@@ -77,6 +78,17 @@ fn stand_number(stand: Stand) -> Option<i32>
     }
 }
 
+// The value that the variable is to have: a decimal, if the variable is one.
+fn specified_number(owner: Stand, given: Stand) -> Option<i32>
+    ensures { result ≡ specified_number owner given }
+{
+    if is_decimal_stand(owner) {
+        stand_number(decimal_stand(given))
+    } else {
+        stand_number(given)
+    }
+}
+
 fn specify_of(variable: Option<VarName>, value: Option<i32>) -> Option<Decision>
     ensures { result ≡ specify_of variable value }
 {
@@ -108,7 +120,7 @@ pub fn act_decision(
     let word = act.as_str();
     if word == "specify" {
         let variable = stand_variable(alloc, count, owner)?;
-        Ok(specify_of(variable, stand_number(given)))
+        Ok(specify_of(variable, specified_number(owner, given)))
     } else if word == "activate" {
         Ok(stand_token(alloc, owner).map(Decision::Activate))
     } else if word == "merge" {

@@ -1,4 +1,5 @@
 pub mod Arguments
 pub mod Calls
+pub mod Compared
 pub mod Locals
 pub mod Slots

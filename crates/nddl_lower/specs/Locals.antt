@@ -8,6 +8,7 @@ use Rattle.domain_core.specs.declared.kind.Kind.TheVariants.{Eq}
 use Rattle.model_core.specs.declared.item.Term.TheVariants as terms
 use Rattle.model_core.specs.declared.variable.Base.{Base}
 use Rattle.model_core.specs.declared.variable.Base.TheVariants as bases
+use Rattle.model_core.specs.declared.variable.ValueKind.{ValueKind}
 use Rattle.model_core.specs.declared.variable.ValueKind.TheVariants as kinds
 use Rattle.nddl_ast.specs.declared.expression.BaseType.{BaseType}
 use Rattle.nddl_ast.specs.declared.expression.BaseType.TheVariants as written
@@ -21,6 +22,7 @@ use Rattle.nddl_ast.specs.declared.expression.Type as types
 use Rattle.nddl_ast.specs.declared.expression.Value as value_of
 use Rattle.nddl_ast.specs.declared.expression.Value.TheVariants as values
 use Rattle.nddl_ast.specs.declared.statement.Variable.{Variable}
+use Rattle.nddl_ast.specs.Decimals.{constant_decimal}
 use Rattle.nddl_terms.specs.declared.tree.Meaning.{Meaning}
 use Rattle.nddl_terms.specs.declared.tree.Meaning.TheVariants as meanings
 use Rattle.nddl_declarations.specs.Ascending.{ascending_of}
@@ -35,6 +37,7 @@ use Rattle.nddl_terms.specs.Names.{name_read_at}
 use Rattle.nddl_terms.specs.Readings.{Readings}
 use Rattle.nddl_terms.specs.Stands.{file_stand, first_stand}
 use Rattle.nddl_lower.specs.Arguments.{argument, truth_value}
+use Rattle.nddl_lower.specs.Compared.{compared_terms}
 use Rattle.nddl_lower.specs.Slots.{class_base}
 
 -- ---- types that are names
@@ -43,9 +46,17 @@ use Rattle.nddl_lower.specs.Slots.{class_base}
 abbrev pub class_shape : Lexicon → ℕ → Shape
 class_shape lexicon class = record { kind = kinds.Object; base = class_base lexicon class; class = class }
 
+-- all numbers of a kind: those of decimals are thousandths
+abbrev pub numeric_shape : ValueKind → Shape
+numeric_shape kind = record { kind = kind; base = bases.Given (Range (negsuc 999999) (pos 1000000)); class = 0 }
+
 -- any whole number
 abbrev pub whole_shape : Shape
-whole_shape = record { kind = kinds.Int; base = bases.Given (Range (negsuc 999999) (pos 1000000)); class = 0 }
+whole_shape = numeric_shape kinds.Int
+
+-- any decimal
+abbrev pub decimal_shape : Shape
+decimal_shape = numeric_shape kinds.Float
 
 abbrev pub truth_shape : Shape
 truth_shape = record { kind = kinds.Bool; base = bases.Given (Set (ascending_of (pos 0 ∷ pos 1 ∷ []))); class = 0 }
@@ -68,6 +79,7 @@ meaning_shape lexicon meaning = whole_shape
 
 -- what a variable may be, before the bounds of its type restrict it
 abbrev pub base_shape : Readings → BaseType → Shape
+base_shape reading written.Float = decimal_shape
 base_shape reading written.Bool = truth_shape
 base_shape reading (written.Named name) = meaning_shape reading.lexicon (name_read_at name.at reading.names)
 base_shape reading base = whole_shape
@@ -76,36 +88,41 @@ base_shape reading base = whole_shape
 
 -- a value that is known: a member, an object, or the object for which a variable of `foreach` stands in these turns
 abbrev pub known_number : Stand → Option ℤ
-known_number (Value (terms.Lit value) class) = Some value
+known_number (Value (terms.Lit value) kind class) = Some value
 known_number stand = None
 
-abbrev pub constant_number : Constant → Option ℤ
-constant_number (constants.Number number) = Some number
-constant_number (constants.Truth truth) = Some (truth_value truth)
-constant_number (constants.Decimal thousandths) = None
+-- the value of this kind that a constant is or stands for
+abbrev pub constant_value : ValueKind → Constant → Option ℤ
+constant_value kinds.Float constant = constant_decimal constant
+constant_value kind (constants.Number number) = Some number
+constant_value kind (constants.Truth truth) = Some (truth_value truth)
+constant_value kind (constants.Decimal thousandths) = None
 
-abbrev pub value_number : Readings → List Made → Growth → value_of.Value → Option ℤ
-value_number reading turns growth (values.Name name) = known_number (first_stand reading turns growth name.at)
-value_number reading turns growth (values.Literal literal) = constant_number literal.constant
+abbrev pub value_number : Readings → List Made → Growth → ValueKind → value_of.Value → Option ℤ
+value_number reading turns growth kind (values.Name name) = known_number (first_stand reading turns growth name.at)
+value_number reading turns growth kind (values.Literal literal) = constant_value kind literal.constant
 
 -- an end of a range, which is a number
-abbrev pub range_end : Readings → List Made → Growth → value_of.Value → ℤ
-range_end reading turns growth value = option_map_or (λ number. number) (value_number reading turns growth value) (pos 0)
+abbrev pub range_end : Readings → List Made → Growth → ValueKind → value_of.Value → ℤ
+range_end reading turns growth kind value =
+    option_map_or (λ number. number) (value_number reading turns growth kind value) (pos 0)
 
--- the numbers between two ends
-abbrev pub range_base : Readings → List Made → Growth → value_of.Value → value_of.Value → Base
-range_base reading turns growth least greatest =
-    bases.Given (Range (range_end reading turns growth least) (range_end reading turns growth greatest))
+-- the numbers of this kind between two ends
+abbrev pub range_base : Readings → List Made → Growth → ValueKind → value_of.Value → value_of.Value → Base
+range_base reading turns growth kind least greatest =
+    bases.Given (Range (range_end reading turns growth kind least) (range_end reading turns growth kind greatest))
 
--- the values that are written out
-abbrev pub set_base : Readings → List Made → Growth → List value_of.Value → Base
-set_base reading turns growth some = bases.Given (Set (ascending_of (filter_map (value_number reading turns growth) some)))
+-- the values of this kind that are written out
+abbrev pub set_base : Readings → List Made → Growth → ValueKind → List value_of.Value → Base
+set_base reading turns growth kind some =
+    bases.Given (Set (ascending_of (filter_map (value_number reading turns growth kind) some)))
 
--- what the bounds of a type leave, if there are any
-abbrev pub bounds_base : Readings → List Made → Growth → Bounds → Option Base
-bounds_base reading turns growth bounds.All = None
-bounds_base reading turns growth (bounds.Range at least greatest) = Some (range_base reading turns growth least greatest)
-bounds_base reading turns growth (bounds.Set at some) = Some (set_base reading turns growth some)
+-- what the bounds of a type of this kind leave, if there are any
+abbrev pub bounds_base : Readings → List Made → Growth → ValueKind → Bounds → Option Base
+bounds_base reading turns growth kind bounds.All = None
+bounds_base reading turns growth kind (bounds.Range at least greatest) =
+    Some (range_base reading turns growth kind least greatest)
+bounds_base reading turns growth kind (bounds.Set at some) = Some (set_base reading turns growth kind some)
 
 -- the shape with this base in place of its own, if there is one
 abbrev pub with_base : Shape → Option Base → Shape
@@ -114,7 +131,8 @@ with_base shape (Some base) = record { kind = shape.kind; base = base; class = s
 
 -- what a variable of the type may be in these turns, with what was made so far
 abbrev pub type_shape : Readings → List Made → Growth → types.Type → Shape
-type_shape reading turns growth type = with_base (base_shape reading type.base) (bounds_base reading turns growth type.bounds)
+type_shape reading turns growth type =
+    let shape = base_shape reading type.base in with_base shape (bounds_base reading turns growth shape.kind type.bounds)
 
 -- ---- locals
 
@@ -122,16 +140,20 @@ type_shape reading turns growth type = with_base (base_shape reading type.base) 
 abbrev pub with_named_at : ℕ → Stand → Growth → Growth
 with_named_at at stand growth = record growth { named = growth.named ++ record { at = at; stand = stand } ∷ [] }
 
+-- the next local, if it is of this shape
+abbrev pub next_local : Shape → Growth → Stand
+next_local shape growth = Value (terms.Local (length growth.locals)) shape.kind shape.class
+
 -- the local of this shape that the text declares there
 abbrev pub with_declared : ℕ → Shape → Growth → Growth
-with_declared at shape growth =
-    with_next_local (unnamed shape) (with_named_at at (Value (terms.Local (length growth.locals)) shape.class) growth)
+with_declared at shape growth = with_next_local (unnamed shape) (with_named_at at (next_local shape growth) growth)
 
 -- what a local begins as comes before it, and that they are equal behind it
 abbrev pub with_begun : Readings → List Made → ℕ → Shape → Option Init → Growth → Growth
 with_begun reading turns at shape (Some (inits.Expr expr)) growth =
     let given = argument reading turns expr growth in
-    with_item (Constraint Eq (terms.Local (length given.growth.locals) ∷ given.term ∷ [])) (with_declared at shape given.growth)
+    with_item (Constraint Eq (compared_terms (next_local shape given.growth ∷ given.stand ∷ [])))
+    (with_declared at shape given.growth)
 with_begun reading turns at shape init growth = with_declared at shape growth
 
 -- a local of the text

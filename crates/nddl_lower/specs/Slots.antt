@@ -31,7 +31,7 @@ use Rattle.nddl_lower.specs.Arguments.{with_items}
 -- a token of the predicate of this name, asked of a class, or of an object or a variable of one
 abbrev pub wanted_of : Lexicon → Stand → List ℕ → Wanted
 wanted_of lexicon (Class class) name = record { pred = pred_named lexicon class name; object = None }
-wanted_of lexicon (Value term class) name = record { pred = pred_named lexicon class name; object = Some term }
+wanted_of lexicon (Value term kind class) name = record { pred = pred_named lexicon class name; object = Some term }
 wanted_of lexicon stand name = record { pred = None; object = None }
 
 -- the same, and what the rule has then

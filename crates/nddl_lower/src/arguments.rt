@@ -1,28 +1,22 @@
 //! What arguments, constraints and guards stand for.
 
 ghost use Rattle.std.specs.Prelude.{◌≡◌, IfOk, OnOk, map};
+ghost use Rattle.model_core.specs.declared.item.Term.TheVariants.{Lit};
+ghost use Rattle.nddl_terms.specs.declared.stands.Stand.TheVariants.{Value};
 ghost use Rattle.nddl_terms.specs.Readings.{readings_of};
-ghost use Rattle.nddl_lower.specs.Arguments.{all_differ, argument, given_arguments, condition_guard, constant_term, constraint_items, differ, no_term, stand_term, truth_value, with_constraint, with_items};
+ghost use Rattle.nddl_lower.specs.Arguments.{all_differ, argument, given_arguments, condition_guard, constant_stand, constraint_items, differ, differ_guard, equal_guard, truth_value, with_constraint, with_constraint_of, with_items};
 
+use super::compared::{compared_term, constraint_terms, is_decimal_stand, stand_term};
 use domain_core::kind::Kind;
 use eu_name::sequence::Sequence;
 use model_core::item::{Item, Term};
 use model_core::rule::Guard;
+use model_core::variable::ValueKind;
 use nddl_ast::expression::{Constant, Expr};
 use nddl_ast::statement::Condition;
 use nddl_terms::growth::term_pair;
 use nddl_terms::{Growth, Made, Reading, Stand, path_stand};
 use std::alloc::{AllocError, Global};
-
-/// The term of a value.
-pub fn stand_term(stand: Stand) -> Term
-    ensures { result ≡ stand_term stand }
-{
-    match stand {
-        Stand::Value { term, .. } => term,
-        _ => Term::Lit(0),
-    }
-}
 
 /// A truth as a value.
 pub fn truth_value(truth: bool) -> i32
@@ -31,14 +25,25 @@ pub fn truth_value(truth: bool) -> i32
     if truth { 1 } else { 0 }
 }
 
-/// The term of a value that is written out.
-pub fn constant_term(constant: Constant) -> Term
-    ensures { result ≡ constant_term constant }
+// A value of this kind that is known.
+fn value_stand(kind: ValueKind, value: i32) -> Stand
+    ensures { result ≡ Value (Lit value) kind 0 }
+{
+    Stand::Value {
+        term: Term::Lit(value),
+        kind,
+        class: 0,
+    }
+}
+
+/// What stands for a value that is written out.
+pub fn constant_stand(constant: Constant) -> Stand
+    ensures { result ≡ constant_stand constant }
 {
     match constant {
-        Constant::Number(number) => Term::Lit(number),
-        Constant::Truth(truth) => Term::Lit(truth_value(truth)),
-        Constant::Decimal(_) => Term::Lit(0),
+        Constant::Number(number) => value_stand(ValueKind::Int, number),
+        Constant::Decimal(thousandths) => value_stand(ValueKind::Float, thousandths.0),
+        Constant::Truth(truth) => value_stand(ValueKind::Bool, truth_value(truth)),
     }
 }
 
@@ -49,18 +54,15 @@ pub fn argument(
     turns: &[Made],
     expr: &Expr,
     growth: &mut Growth,
-) -> Result<Term, AllocError>
+) -> Result<Stand, AllocError>
     ensures grown { OnOk result (growth.new
         ≡ (argument (readings_of reading.now) turns.now expr.now growth.old).growth) }
-    ensures term { IfOk result (λ term. term
-        ≡ (argument (readings_of reading.now) turns.now expr.now growth.old).term) }
+    ensures stand { IfOk result (λ stand. stand
+        ≡ (argument (readings_of reading.now) turns.now expr.now growth.old).stand) }
 {
     match expr {
-        Expr::Path(path) => {
-            let stand = path_stand(alloc, reading, turns, path, growth)?;
-            Ok(stand_term(stand))
-        }
-        Expr::Literal(literal) => Ok(constant_term(literal.constant)),
+        Expr::Path(path) => path_stand(alloc, reading, turns, path, growth),
+        Expr::Literal(literal) => Ok(constant_stand(literal.constant)),
     }
 }
 
@@ -71,18 +73,18 @@ pub fn arguments(
     turns: &[Made],
     exprs: &[Expr],
     growth: &mut Growth,
-) -> Result<Sequence<Term>, AllocError>
+) -> Result<Sequence<Stand>, AllocError>
     ensures grown { OnOk result (growth.new
         ≡ (given_arguments (readings_of reading.now) turns.now exprs.now growth.old).growth) }
-    ensures terms { IfOk result (λ terms. terms
-        ≡ (given_arguments (readings_of reading.now) turns.now exprs.now growth.old).terms) }
+    ensures stands { IfOk result (λ stands. stands
+        ≡ (given_arguments (readings_of reading.now) turns.now exprs.now growth.old).stands) }
 {
-    let mut terms = Sequence::new(alloc);
+    let mut stands = Sequence::new(alloc);
     for expr in exprs {
-        let term = argument(alloc, reading, turns, expr, growth)?;
-        terms.push(term)?;
+        let stand = argument(alloc, reading, turns, expr, growth)?;
+        stands.push(stand)?;
     }
-    Ok(terms)
+    Ok(stands)
 }
 
 // The term differs from each of these.
@@ -111,8 +113,8 @@ fn add_differing(alloc: Global, terms: &[Term], growth: &mut Growth) -> Result<(
     Ok(())
 }
 
-/// A constraint with these terms.
-pub fn add_constraint_of(
+// A constraint with these terms.
+fn add_constraint_items(
     alloc: Global,
     kind: Kind,
     terms: Sequence<Term>,
@@ -124,6 +126,19 @@ pub fn add_constraint_of(
         Kind::AllDiff => add_differing(alloc, terms.as_slice(), growth),
         _ => growth.add_item(Item::Constraint(kind, terms)),
     }
+}
+
+/// A constraint of what stands for these.
+pub fn add_constraint_of(
+    alloc: Global,
+    kind: Kind,
+    stands: &[Stand],
+    growth: &mut Growth,
+) -> Result<(), AllocError>
+    ensures { OnOk result (growth.new ≡ with_constraint_of kind stands.now growth.old) }
+{
+    let terms = constraint_terms(alloc, kind, stands)?;
+    add_constraint_items(alloc, kind, terms, growth)
 }
 
 /// A constraint with these arguments.
@@ -138,8 +153,24 @@ pub fn add_constraint(
     ensures { OnOk result (growth.new
         ≡ with_constraint (readings_of reading.now) turns.now kind exprs.now growth.old) }
 {
-    let terms = arguments(alloc, reading, turns, exprs, growth)?;
-    add_constraint_of(alloc, kind, terms, growth)
+    let stands = arguments(alloc, reading, turns, exprs, growth)?;
+    add_constraint_of(alloc, kind, stands.as_slice(), growth)
+}
+
+// The two are equal.
+fn equal_guard(one: Stand, other: Stand) -> Guard
+    ensures { result ≡ equal_guard one other }
+{
+    let decimal = is_decimal_stand(one) || is_decimal_stand(other);
+    Guard::Equal(compared_term(decimal, one), compared_term(decimal, other))
+}
+
+// The two differ.
+fn differ_guard(one: Stand, other: Stand) -> Guard
+    ensures { result ≡ differ_guard one other }
+{
+    let decimal = is_decimal_stand(one) || is_decimal_stand(other);
+    Guard::Differ(compared_term(decimal, one), compared_term(decimal, other))
 }
 
 /// What an `if` tests.
@@ -157,18 +188,18 @@ pub fn guard_of(
 {
     match condition {
         Condition::Truth(expr) => {
-            let term = argument(alloc, reading, turns, expr, growth)?;
-            Ok(Guard::Equal(term, Term::Lit(1)))
+            let stand = argument(alloc, reading, turns, expr, growth)?;
+            Ok(Guard::Equal(stand_term(stand), Term::Lit(1)))
         }
         Condition::Equal(one, other) => {
             let left = argument(alloc, reading, turns, one, growth)?;
             let right = argument(alloc, reading, turns, other, growth)?;
-            Ok(Guard::Equal(left, right))
+            Ok(equal_guard(left, right))
         }
         Condition::NotEqual(one, other) => {
             let left = argument(alloc, reading, turns, one, growth)?;
             let right = argument(alloc, reading, turns, other, growth)?;
-            Ok(Guard::Differ(left, right))
+            Ok(differ_guard(left, right))
         }
     }
 }

@@ -7,6 +7,7 @@
 
 pub mod arguments;
 pub mod calls;
+pub mod compared;
 pub mod locals;
 pub mod slots;
 pub mod types;

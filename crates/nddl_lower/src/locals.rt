@@ -1,37 +1,39 @@
 //! What the locals of a rule stand for.
 
-ghost use Rattle.std.specs.Prelude.{◌≡◌, IfOk, OnOk, length};
+ghost use Rattle.std.specs.Prelude.{◌≡◌, IfOk, OnOk};
 ghost use Rattle.nddl_terms.specs.Readings.{readings_of};
-ghost use Rattle.nddl_lower.specs.Locals.{with_begun, with_declared, with_text_local};
+ghost use Rattle.nddl_lower.specs.Locals.{next_local, with_begun, with_declared, with_text_local};
 
 use super::arguments::argument;
+use super::compared::compared_terms;
 use super::types::type_shape;
 use domain_core::kind::Kind;
 use model_core::item::{Item, Term};
 use nddl_ast::expression::Init;
 use nddl_ast::statement::Variable;
-use nddl_terms::growth::{term_pair, unnamed};
+use nddl_terms::growth::unnamed;
 use nddl_terms::{Growth, Made, Reading, Shape, Stand};
 use std::alloc::{AllocError, Global};
 
-// The local of this shape that the text declares there. Answers its number.
+// The local of this shape that the text declares there. Answers what stands for it.
 fn add_declared(
     alloc: Global,
     at: u32,
     shape: &Shape,
     growth: &mut Growth,
-) -> Result<u32, AllocError>
+) -> Result<Stand, AllocError>
     ensures grown { OnOk result (growth.new ≡ with_declared at shape.now growth.old) }
-    ensures number { IfOk result (λ number. number ≡ length growth.old.locals) }
+    ensures stand { IfOk result (λ stand. stand ≡ next_local shape.now growth.old) }
 {
     let local = unnamed(alloc, shape)?;
     let number = growth.add_local(local)?;
     let stand = Stand::Value {
         term: Term::Local(number),
+        kind: shape.kind,
         class: shape.class,
     };
     growth.named.push(Made { at, stand })?;
-    Ok(number)
+    Ok(stand)
 }
 
 // The local of this shape; if it begins as an expression, with the constraint that it equals that.
@@ -49,9 +51,9 @@ fn add_begun(
 {
     match init {
         Some(Init::Expr(expr)) => {
-            let term = argument(alloc, reading, turns, expr, growth)?;
-            let number = add_declared(alloc, at, shape, growth)?;
-            let terms = term_pair(alloc, Term::Local(number), term)?;
+            let given = argument(alloc, reading, turns, expr, growth)?;
+            let local = add_declared(alloc, at, shape, growth)?;
+            let terms = compared_terms(alloc, &[local, given])?;
             growth.add_item(Item::Constraint(Kind::Eq, terms))
         }
         _ => {

@@ -37,7 +37,7 @@ fn wanted_of(lexicon: &Lexicon, owner: Stand, name: &Text) -> Result<Wanted, All
             let pred = lexicon.pred_named(class, name)?;
             Ok(Wanted { pred, object: None })
         }
-        Stand::Value { term, class } => {
+        Stand::Value { term, class, .. } => {
             let pred = lexicon.pred_named(class, name)?;
             Ok(Wanted {
                 pred,

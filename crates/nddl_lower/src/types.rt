@@ -3,7 +3,7 @@
 ghost use Rattle.std.specs.Prelude.{◌≡◌, IfOk};
 ghost use Rattle.std.specs.List.{filter_map};
 ghost use Rattle.nddl_terms.specs.Readings.{readings_of};
-ghost use Rattle.nddl_lower.specs.Locals.{range_base, set_base, base_shape, bounds_base, class_shape, constant_number, range_end, file_shape, known_number, meaning_shape, stand_shape, truth_shape, type_shape, value_number, whole_shape, with_base};
+ghost use Rattle.nddl_lower.specs.Locals.{range_base, set_base, base_shape, bounds_base, class_shape, constant_value, decimal_shape, range_end, file_shape, known_number, meaning_shape, numeric_shape, stand_shape, truth_shape, type_shape, value_number, whole_shape, with_base};
 
 use super::arguments::truth_value;
 use super::slots::class_base;
@@ -28,16 +28,30 @@ fn class_shape(alloc: Global, lexicon: &Lexicon, class: u32) -> Result<Shape, Al
     })
 }
 
+// All numbers of the kind.
+fn numeric_shape(kind: ValueKind) -> Result<Shape, AllocError>
+    ensures { IfOk result (λ shape. shape ≡ numeric_shape kind) }
+{
+    let domain = range(-1_000_000, 1_000_000)?;
+    Ok(Shape {
+        kind,
+        base: Base::Given(domain),
+        class: 0,
+    })
+}
+
 // Any whole number.
 fn whole_shape() -> Result<Shape, AllocError>
     ensures { IfOk result (λ shape. shape ≡ whole_shape) }
 {
-    let domain = range(-1_000_000, 1_000_000)?;
-    Ok(Shape {
-        kind: ValueKind::Int,
-        base: Base::Given(domain),
-        class: 0,
-    })
+    numeric_shape(ValueKind::Int)
+}
+
+// Any decimal.
+fn decimal_shape() -> Result<Shape, AllocError>
+    ensures { IfOk result (λ shape. shape ≡ decimal_shape) }
+{
+    numeric_shape(ValueKind::Float)
 }
 
 fn truth_shape(alloc: Global) -> Result<Shape, AllocError>
@@ -102,6 +116,7 @@ fn base_shape(alloc: Global, reading: &Reading<'_>, base: &BaseType) -> Result<S
     ensures { IfOk result (λ shape. shape ≡ base_shape (readings_of reading.now) base.now) }
 {
     match base {
+        BaseType::Float => decimal_shape(),
         BaseType::Bool => truth_shape(alloc),
         BaseType::Named(name) => {
             let meaning = reading.names.meaning(name.at);
@@ -124,13 +139,15 @@ fn known_number(stand: Stand) -> Option<i32>
     }
 }
 
-fn constant_number(constant: Constant) -> Option<i32>
-    ensures { result ≡ constant_number constant }
+// The value of this kind that a constant is or stands for.
+fn constant_value(kind: ValueKind, constant: Constant) -> Option<i32>
+    ensures { result ≡ constant_value kind constant }
 {
-    match constant {
-        Constant::Number(number) => Some(number),
-        Constant::Truth(truth) => Some(truth_value(truth)),
-        Constant::Decimal(_) => None,
+    match (kind, constant) {
+        (ValueKind::Float, _) => constant.decimal(),
+        (_, Constant::Number(number)) => Some(number),
+        (_, Constant::Truth(truth)) => Some(truth_value(truth)),
+        (_, Constant::Decimal(_)) => None,
     }
 }
 
@@ -138,21 +155,28 @@ fn value_number(
     reading: &Reading<'_>,
     turns: &[Made],
     growth: &Growth,
+    kind: ValueKind,
     value: &Value,
 ) -> Option<i32>
-    ensures { result ≡ value_number (readings_of reading.now) turns.now growth.now value.now }
+    ensures { result ≡ value_number (readings_of reading.now) turns.now growth.now kind value.now }
 {
     match value {
         Value::Name(name) => known_number(first_stand(reading, turns, growth, name.at)),
-        Value::Literal(literal) => constant_number(literal.constant),
+        Value::Literal(literal) => constant_value(kind, literal.constant),
     }
 }
 
 // An end of a range.
-fn end_number(reading: &Reading<'_>, turns: &[Made], growth: &Growth, value: &Value) -> i32
-    ensures { result ≡ range_end (readings_of reading.now) turns.now growth.now value.now }
+fn end_number(
+    reading: &Reading<'_>,
+    turns: &[Made],
+    growth: &Growth,
+    kind: ValueKind,
+    value: &Value,
+) -> i32
+    ensures { result ≡ range_end (readings_of reading.now) turns.now growth.now kind value.now }
 {
-    match value_number(reading, turns, growth, value) {
+    match value_number(reading, turns, growth, kind, value) {
         Some(number) => number,
         None => 0,
     }
@@ -164,14 +188,15 @@ fn value_numbers(
     reading: &Reading<'_>,
     turns: &[Made],
     growth: &Growth,
+    kind: ValueKind,
     values: &[Value],
 ) -> Result<Vec<i32>, AllocError>
     ensures { IfOk result (λ numbers. numbers.items
-        ≡ filter_map (value_number (readings_of reading.now) turns.now growth.now) values.now) }
+        ≡ filter_map (value_number (readings_of reading.now) turns.now growth.now kind) values.now) }
 {
     let mut numbers = Vec::new(alloc);
     for value in values {
-        if let Some(number) = value_number(reading, turns, growth, value) {
+        if let Some(number) = value_number(reading, turns, growth, kind, value) {
             numbers.push(number)?;
         }
     }
@@ -182,14 +207,15 @@ fn range_base(
     reading: &Reading<'_>,
     turns: &[Made],
     growth: &Growth,
+    kind: ValueKind,
     least: &Value,
     greatest: &Value,
 ) -> Result<Base, AllocError>
     ensures { IfOk result (λ base. base
-        ≡ range_base (readings_of reading.now) turns.now growth.now least.now greatest.now) }
+        ≡ range_base (readings_of reading.now) turns.now growth.now kind least.now greatest.now) }
 {
-    let least = end_number(reading, turns, growth, least);
-    let greatest = end_number(reading, turns, growth, greatest);
+    let least = end_number(reading, turns, growth, kind, least);
+    let greatest = end_number(reading, turns, growth, kind, greatest);
     let domain = range(least, greatest)?;
     Ok(Base::Given(domain))
 }
@@ -199,23 +225,25 @@ fn set_base(
     reading: &Reading<'_>,
     turns: &[Made],
     growth: &Growth,
+    kind: ValueKind,
     values: &[Value],
 ) -> Result<Base, AllocError>
-    ensures { IfOk result (λ base. base ≡ set_base (readings_of reading.now) turns.now growth.now values.now) }
+    ensures { IfOk result (λ base. base ≡ set_base (readings_of reading.now) turns.now growth.now kind values.now) }
 {
-    let numbers = value_numbers(alloc, reading, turns, growth, values)?;
+    let numbers = value_numbers(alloc, reading, turns, growth, kind, values)?;
     Ok(Base::Given(set_of_values(alloc, numbers.as_slice())?))
 }
 
-// What the bounds of a type leave, if there are any.
+// What the bounds of a type of this kind leave, if there are any.
 fn bounds_base(
     alloc: Global,
     reading: &Reading<'_>,
     turns: &[Made],
     growth: &Growth,
+    kind: ValueKind,
     bounds: &Bounds,
 ) -> Result<Option<Base>, AllocError>
-    ensures { IfOk result (λ base. base ≡ bounds_base (readings_of reading.now) turns.now growth.now bounds.now) }
+    ensures { IfOk result (λ base. base ≡ bounds_base (readings_of reading.now) turns.now growth.now kind bounds.now) }
 {
     match bounds {
         Bounds::All => Ok(None),
@@ -223,12 +251,13 @@ fn bounds_base(
             least,
             greatest,
             ..
-        } => Ok(Some(range_base(reading, turns, growth, least, greatest)?)),
+        } => Ok(Some(range_base(reading, turns, growth, kind, least, greatest)?)),
         Bounds::Set { values, .. } => Ok(Some(set_base(
             alloc,
             reading,
             turns,
             growth,
+            kind,
             values.as_slice(),
         )?)),
     }
@@ -258,7 +287,7 @@ pub fn type_shape(
 ) -> Result<Shape, AllocError>
     ensures { IfOk result (λ shape. shape ≡ type_shape (readings_of reading.now) turns.now growth.now written.now) }
 {
-    let base = bounds_base(alloc, reading, turns, growth, &written.bounds)?;
     let shape = base_shape(alloc, reading, &written.base)?;
+    let base = bounds_base(alloc, reading, turns, growth, shape.kind, &written.bounds)?;
     Ok(with_base(shape, base))
 }

@@ -6,6 +6,8 @@ use Rattle.std.specs.Option.{option_map, option_map_or}
 use Rattle.std.specs.Str.{bytes_eq}
 use Rattle.eu_name.specs.declared.name.Part.{Part}
 use Rattle.eu_name.specs.declared.name.Part.TheVariants as parts
+use Rattle.model_core.specs.declared.variable.ValueKind.{ValueKind}
+use Rattle.model_core.specs.declared.variable.ValueKind.TheVariants as kinds
 use Rattle.nddl_terms.specs.declared.lexicon.Attribute.{Attribute}
 use Rattle.nddl_terms.specs.declared.lexicon.Lexicon.{Lexicon}
 use Rattle.eu_forest.specs.Members.{list_at}
@@ -14,6 +16,10 @@ use Rattle.nddl_terms.specs.Preds.{class_named}
 -- the number of the field or parameter of this name
 abbrev pub attribute_number : List ℕ → List Attribute → Option ℕ
 attribute_number name attributes = position_from (λ attribute. bytes_eq name attribute.name) 0 attributes
+
+-- the kind of the one of this number
+abbrev pub attribute_kind : List Attribute → ℕ → ValueKind
+attribute_kind attributes number = option_map_or (λ attribute. attribute.shape.kind) (slice_get attributes number) kinds.Int
 
 -- the declared class of the one of this number
 abbrev pub attribute_class : List Attribute → ℕ → ℕ
@@ -49,6 +55,12 @@ part_called lexicon pred name =
     else (if bytes_eq name (codes "duration") then Some parts.Duration
     else (if bytes_eq name (codes "object") then Some parts.Object
     else option_map parts.Param (attribute_number name (pred_params lexicon pred)))))
+
+-- the kind of a part: a time is a whole number
+abbrev pub part_kind : Lexicon → ℕ → Part → ValueKind
+part_kind lexicon pred parts.Object = kinds.Object
+part_kind lexicon pred (parts.Param number) = attribute_kind (pred_params lexicon pred) number
+part_kind lexicon pred part = kinds.Int
 
 -- the declared class of a part: the object is of the predicate's class
 abbrev pub part_class : Lexicon → ℕ → Part → ℕ

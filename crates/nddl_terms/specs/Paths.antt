@@ -13,7 +13,8 @@ use Rattle.nddl_terms.specs.declared.stands.Made.{Made}
 use Rattle.nddl_terms.specs.declared.stands.Stand.{Stand}
 use Rattle.nddl_terms.specs.declared.stands.Stand.TheVariants.{Value, Slot, Root, Class, Nothing}
 use Rattle.nddl_terms.specs.Growth.{with_access}
-use Rattle.nddl_terms.specs.Lexicon.{attribute_class, attribute_number, shape_fields, part_class, part_called, place_of_value}
+use Rattle.nddl_terms.specs.Lexicon.{attribute_class, attribute_kind, attribute_number, shape_fields, part_class, part_kind}
+use Rattle.nddl_terms.specs.Lexicon.{part_called, place_of_value}
 use Rattle.nddl_terms.specs.Readings.{Readings}
 use Rattle.nddl_terms.specs.Stands.{first_stand}
 
@@ -35,13 +36,14 @@ known_value objects value number =
 -- the same, where its declared class has these fields
 abbrev pub known_stand : List Object → ℤ → List Attribute → ℕ → Stand
 known_stand objects value fields number =
-    option_map_or (λ content. Value (terms.Lit content) (attribute_class fields number)) (known_value objects value number) Nothing
+    option_map_or (λ content. Value (terms.Lit content) (attribute_kind fields number) (attribute_class fields number))
+    (known_value objects value number) Nothing
 
 -- the field of this number of a variable, where its declared class has these: a local more
 abbrev pub read_field : Term → List Attribute → ℕ → Growth → Reached
 read_field object fields number growth =
     option_map_or
-    (λ attribute. reached (Value (terms.Local (length growth.locals)) attribute.shape.class)
+    (λ attribute. reached (Value (terms.Local (length growth.locals)) attribute.shape.kind attribute.shape.class)
     (with_access object number attribute.shape growth))
     (slice_get fields number) (reached Nothing growth)
 
@@ -60,8 +62,10 @@ next_field reading object class name growth =
 
 -- the part of a token as a variable
 abbrev pub part_stand : Readings → Stand → Part → Stand
-part_stand reading (Slot number pred) part = Value (terms.Slot number part) (part_class reading.lexicon pred part)
-part_stand reading (Root number pred) part = Value (terms.Root number part) (part_class reading.lexicon pred part)
+part_stand reading (Slot number pred) part =
+    Value (terms.Slot number part) (part_kind reading.lexicon pred part) (part_class reading.lexicon pred part)
+part_stand reading (Root number pred) part =
+    Value (terms.Root number part) (part_kind reading.lexicon pred part) (part_class reading.lexicon pred part)
 part_stand reading here part = Nothing
 
 -- the part of this name of a token of the predicate
@@ -73,7 +77,7 @@ token_stand reading here pred name =
 
 -- what the name stands for behind what stands for this: a field of an object, or a part of a token
 abbrev pub next_stand : Readings → Stand → Name → Growth → Reached
-next_stand reading (Value term class) name growth = next_field reading term class name.text growth
+next_stand reading (Value term kind class) name growth = next_field reading term class name.text growth
 next_stand reading (Slot number pred) name growth = reached (token_stand reading (Slot number pred) pred name.text) growth
 next_stand reading (Root number pred) name growth = reached (token_stand reading (Root number pred) pred name.text) growth
 next_stand reading (Class class) name growth = reached Nothing growth

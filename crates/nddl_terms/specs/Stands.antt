@@ -10,7 +10,7 @@ use Rattle.nddl_terms.specs.declared.lexicon.Lexicon.{Lexicon}
 use Rattle.nddl_terms.specs.declared.stands.Made.{Made}
 use Rattle.nddl_terms.specs.declared.stands.Stand.{Stand}
 use Rattle.nddl_terms.specs.declared.stands.Stand.TheVariants.{Value, Class, Nothing}
-use Rattle.nddl_terms.specs.Lexicon.{part_class}
+use Rattle.nddl_terms.specs.Lexicon.{part_class, part_kind}
 use Rattle.nddl_terms.specs.Names.{name_read_at}
 use Rattle.nddl_terms.specs.Readings.{Readings}
 
@@ -33,7 +33,8 @@ file_stand lexicon place = slice_get lexicon.scope place
 
 -- a part of the token whose rule it is
 abbrev pub own_stand : Readings → Part → Stand
-own_stand reading part = Value (terms.Here part) (part_class reading.lexicon reading.pred part)
+own_stand reading part =
+    Value (terms.Here part) (part_kind reading.lexicon reading.pred part) (part_class reading.lexicon reading.pred part)
 
 -- What stands for what a name means, in these turns and with what was made so far: an object for a variable of `foreach`,
 -- and for a local or a slot of the text the latest one that was made of it.

@@ -1,7 +1,7 @@
 //! What is known of classes, predicates, types and the names of files once all objects are made.
 
 ghost use Rattle.std.specs.Prelude.{◌≡◌, IfOk, slice_get};
-ghost use Rattle.nddl_terms.specs.Lexicon.{attribute_class, attribute_number, class_objects, shape_fields, part_class, part_called, place_of_value, pred_class, pred_named, pred_params};
+ghost use Rattle.nddl_terms.specs.Lexicon.{attribute_class, attribute_kind, attribute_number, class_objects, shape_fields, part_class, part_called, part_kind, place_of_value, pred_class, pred_named, pred_params};
 
 use super::attributes::Attributes;
 use super::populations::Populations;
@@ -69,6 +69,16 @@ pub fn attribute_number(name: &Text, attributes: &[Attribute]) -> Option<usize>
     None
 }
 
+/// The kind of the field or parameter of this number.
+pub fn attribute_kind(attributes: &[Attribute], number: usize) -> ValueKind
+    ensures { result ≡ attribute_kind attributes.now number }
+{
+    match attributes.get(number) {
+        Some(attribute) => attribute.shape.kind,
+        None => ValueKind::Int,
+    }
+}
+
 /// The declared class of the field or parameter of this number.
 pub fn attribute_class(attributes: &[Attribute], number: usize) -> u32
     ensures { result ≡ attribute_class attributes.now number }
@@ -124,6 +134,17 @@ impl Lexicon {
         match self.preds.as_slice().get(pred as usize) {
             Some(shape) => shape.class,
             None => 0,
+        }
+    }
+
+    /// The kind of a part of a token.
+    pub fn part_kind(&self, pred: u32, part: Part) -> ValueKind
+        ensures { result ≡ part_kind self.now pred part }
+    {
+        match part {
+            Part::Object => ValueKind::Object,
+            Part::Param(number) => attribute_kind(self.params(pred), number as usize),
+            _ => ValueKind::Int,
         }
     }
 

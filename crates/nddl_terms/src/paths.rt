@@ -5,7 +5,7 @@ ghost use Rattle.nddl_terms.specs.Paths.{next_field, known_value, known_stand, p
 ghost use Rattle.nddl_terms.specs.Readings.{readings_of};
 
 use super::growth::Growth;
-use super::lexicon::{Attribute, as_number, attribute_class, value_place};
+use super::lexicon::{Attribute, as_number, attribute_class, attribute_kind, value_place};
 use super::stands::{Made, Reading, Stand, first_stand};
 use eu_name::name::Part;
 use eu_name::text::Text;
@@ -23,13 +23,14 @@ fn known_value(objects: &[Object], value: i32, number: usize) -> Option<i32>
     object.fields.as_slice().get(number).copied()
 }
 
-// What that field stands for: its value, with the class that these fields of the object's class give it.
+// What that field stands for: its value, with the kind and the class that these fields of the object's class give it.
 fn known_stand(objects: &[Object], value: i32, fields: &[Attribute], number: usize) -> Stand
     ensures { result ≡ known_stand objects.now value fields.now number }
 {
     match known_value(objects, value, number) {
         Some(value) => Stand::Value {
             term: Term::Lit(value),
+            kind: attribute_kind(fields, number),
             class: attribute_class(fields, number),
         },
         None => Stand::Nothing,
@@ -53,6 +54,7 @@ fn read_field(
             let local = growth.add_access(alloc, object, field, &attribute.shape)?;
             Ok(Stand::Value {
                 term: Term::Local(local),
+                kind: attribute.shape.kind,
                 class: attribute.shape.class,
             })
         }
@@ -91,10 +93,12 @@ fn part_stand(reading: &Reading<'_>, here: Stand, part: Part) -> Stand
     match here {
         Stand::Slot { number, pred } => Stand::Value {
             term: Term::Slot(number, part),
+            kind: reading.lexicon.part_kind(pred, part),
             class: reading.lexicon.part_class(pred, part),
         },
         Stand::Root { number, pred } => Stand::Value {
             term: Term::Root(number, part),
+            kind: reading.lexicon.part_kind(pred, part),
             class: reading.lexicon.part_class(pred, part),
         },
         _ => Stand::Nothing,
@@ -130,7 +134,9 @@ fn next_stand(
         ≡ (next_stand (readings_of reading.now) here name.now growth.old).stand) }
 {
     match here {
-        Stand::Value { term, class } => next_field(alloc, reading, term, class, &name.text, growth),
+        Stand::Value { term, class, .. } => {
+            next_field(alloc, reading, term, class, &name.text, growth)
+        }
         Stand::Slot { pred, .. } => token_stand(reading, here, pred, &name.text),
         Stand::Root { pred, .. } => token_stand(reading, here, pred, &name.text),
         _ => Ok(Stand::Nothing),

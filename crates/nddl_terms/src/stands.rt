@@ -13,16 +13,27 @@ use eu_name::name::Part;
 use eu_name::sequence::Sequence;
 use model_core::class::Object;
 use model_core::item::Term;
+use model_core::variable::ValueKind;
 
 /// What a path stands for in a rule that is unrolled, as far as it is read.
 #[derive(Clone, Copy)]
 pub enum Stand {
     /// A value that is known, or a variable; of objects the declared class.
-    Value { term: Term, class: u32 },
+    Value {
+        term: Term,
+        kind: ValueKind,
+        class: u32,
+    },
     /// The token of a slot of the rule.
-    Slot { number: u32, pred: u32 },
+    Slot {
+        number: u32,
+        pred: u32,
+    },
     /// A posted token.
-    Root { number: u32, pred: u32 },
+    Root {
+        number: u32,
+        pred: u32,
+    },
     Class(u32),
     /// Nothing that can stand in a rule with which nothing is wrong.
     Nothing,
@@ -124,6 +135,7 @@ fn own_stand(reading: &Reading<'_>, part: Part) -> Stand
 {
     Stand::Value {
         term: Term::Here(part),
+        kind: reading.lexicon.part_kind(reading.pred, part),
         class: reading.lexicon.part_class(reading.pred, part),
     }
 }

@@ -1,5 +1,5 @@
 -- What is counted of single statements is enough.
-use Rattle.std.proofs.Common.{◌≡◌, ℕ, ◌+◌, ◌-◌, ◌^◌, ◌≤◌, min, List, [], ◌∷◌, length, map, refl, subst, arith}
+use Rattle.std.proofs.Common.{◌≡◌, ℕ, ◌+◌, ◌-◌, ◌^◌, ◌≤◌, min, List, [], ◌∷◌, length, map, refl, ◌∙◌, subst, arith}
 use Rattle.std.proofs.lemmas.List.{length-append, length-map}
 use Rattle.domain_core.specs.declared.kind.Kind.{Kind}
 use Rattle.domain_core.specs.declared.kind.Kind.TheVariants as kinds
@@ -12,12 +12,14 @@ use Rattle.nddl_terms.specs.declared.tree.ReadName.{ReadName}
 use Rattle.nddl_terms.specs.declared.growth.Growth.{Growth}
 use Rattle.nddl_terms.specs.declared.lexicon.Lexicon.{Lexicon}
 use Rattle.nddl_terms.specs.declared.stands.Made.{Made}
+use Rattle.nddl_terms.specs.declared.stands.Stand.{Stand}
 use Rattle.nddl_terms.specs.Readings.{Readings}
 use Rattle.nddl_unroll.specs.declared.amounts.Amounts.{Amounts}
 use Rattle.nddl_unroll.specs.Amounts.{amounts_and}
 use Rattle.nddl_unroll.specs.Counting.{condition_reads, constraint_amounts, constraint_count, pairs_of}
 use Rattle.nddl_unroll.specs.Reads.{all_reads, expr_reads}
 use Rattle.nddl_lower.specs.Arguments.{all_differ, argument, condition_guard, constraint_items, differ, given_arguments, with_constraint}
+use Rattle.nddl_lower.specs.Compared.{compared_term, compared_terms, constraint_terms, has_decimal}
 use Rattle.nddl_unroll.proofs.Extras.{Adds, EachMade, Extra, IsKnownStand, Sound, adds_any, adds_items, adds_then, extra_and, extra_items, extra_reads}
 use Rattle.nddl_unroll.proofs.Paths.{path_adds}
 
@@ -72,7 +74,7 @@ arguments_add reading turns (expr ∷ more) growth sound known =
     (arguments_add reading turns more next (first.sound sound) known)
 
 pub as_many : (reading : Readings) (turns : List Made) (some : List Expr) (growth : Growth)
-    → length (given_arguments reading turns some growth).terms ≡ length some
+    → length (given_arguments reading turns some growth).stands ≡ length some
 as_many reading turns [] growth = refl
 as_many reading turns (expr ∷ more) growth =
     let rest = as_many reading turns more (argument reading turns expr growth).growth in omega (arith, rest)
@@ -103,9 +105,13 @@ abbrev pub sum_items : Kind → List Expr → ℕ
 sum_items kinds.AllDiff some = sum_pairs some
 sum_items kind some = 1
 
-pub items_are : (kind : Kind) (given : List Term) (some : List Expr) → length given ≡ length some → length (constraint_items kind given) ≡ sum_items kind some
-items_are kinds.AllDiff given some same = all_pairs given some same
-items_are kind given some same = refl
+as_many_compared : (stands : List Stand) → length (compared_terms stands) ≡ length stands
+as_many_compared stands = length-map stands (compared_term (has_decimal stands))
+
+pub items_are : (kind : Kind) (stands : List Stand) (some : List Expr) → length stands ≡ length some
+    → length (constraint_items kind (constraint_terms kind stands)) ≡ sum_items kind some
+items_are kinds.AllDiff stands some same = all_pairs (compared_terms stands) some (as_many_compared stands ∙ same)
+items_are kind stands some same = refl
 
 sum_counted : (kind : Kind) (some : List Expr) → min (sum_items kind some) (2 ^ 64 - 1) ≤ constraint_count kind some
 sum_counted kinds.AllDiff some = let counted = pairs_counted some 0 in omega (arith, counted)
@@ -120,7 +126,8 @@ constraint_enough reading kind some = record {
       adds_then (extra_reads (sum_reads reading.lexicon reading.names some)) (extra_items (sum_items kind some)) growth given.growth
       (with_constraint reading turns kind some growth) (arguments_add reading turns some growth sound known)
       (subst (λ (count : ℕ). Adds (extra_items count) given.growth (with_constraint reading turns kind some growth))
-      (items_are kind given.terms some (as_many reading turns some growth)) (adds_items (constraint_items kind given.terms) given.growth));
+      (items_are kind given.stands some (as_many reading turns some growth))
+      (adds_items (constraint_items kind (constraint_terms kind given.stands)) given.growth));
   counts =
       let reads = reads_counted reading.lexicon reading.names some 0 in
       let items = sum_counted kind some in

@@ -8,6 +8,7 @@ use Rattle.std.proofs.Math.Numerals.{suc-eq-add-one}
 use Rattle.model_core.specs.declared.item.Term.TheVariants as terms
 use Rattle.model_core.specs.declared.rule.Entry.TheVariants as entries
 use Rattle.model_core.specs.declared.rule.Guard.{Guard}
+use Rattle.model_core.specs.declared.variable.ValueKind.TheVariants as kinds
 use Rattle.model_core.specs.Block.{plain_entries}
 use Rattle.nddl_ast.specs.declared.name.Name.{Name}
 use Rattle.nddl_ast.specs.declared.statement.Condition.{Condition}
@@ -134,7 +135,7 @@ meaning_turns lexicon (Some (meanings.BuiltIn class)) = stand_turns lexicon (sta
 meaning_turns lexicon meaning = []
 
 known_no_turns : (lexicon : Lexicon) (stand : Stand) → IsKnownStand stand → stand_turns lexicon stand ≡ []
-known_no_turns lexicon (stands.Value term class) is = refl
+known_no_turns lexicon (stands.Value term kind class) is = refl
 known_no_turns lexicon (stands.Slot number pred) is = refl
 known_no_turns lexicon (stands.Root number pred) is = refl
 known_no_turns lexicon (stands.Class class) is = absurd is
@@ -145,7 +146,7 @@ slot_no_turns lexicon (stands.Slot number pred) is = refl
 slot_no_turns lexicon stand is = absurd is
 
 local_no_turns : (lexicon : Lexicon) (stand : Stand) → IsLocalStand stand → stand_turns lexicon stand ≡ []
-local_no_turns lexicon (stands.Value term class) is = refl
+local_no_turns lexicon (stands.Value term kind class) is = refl
 local_no_turns lexicon stand is = absurd is
 
 no_turns : (P : Stand → Type 0) (lexicon : Lexicon) (found : Option Stand) → ((s : Stand) → found ≡ Some s → P s)
@@ -189,7 +190,7 @@ objects_known lexicon (Some (meanings.BuiltIn class)) = stand_known lexicon (sta
 objects_known lexicon found = tt
 
 class_count : (class : ℕ) (objects : List ℤ) → length objects ≡ length (turn_stands class objects)
-class_count class objects = sym (length-map objects (λ object. stands.Value (terms.Lit object) class))
+class_count class objects = sym (length-map objects (λ object. stands.Value (terms.Lit object) kinds.Object class))
 
 file_count : (lexicon : Lexicon) (found : Option Stand) → stand_count lexicon found ≡ length (stand_turns lexicon (stand_or_nothing found))
 file_count lexicon None = refl

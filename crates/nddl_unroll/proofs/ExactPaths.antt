@@ -5,6 +5,7 @@ use Rattle.std.specs.Option.{option_and_then, option_map_or}
 use Rattle.eu_name.specs.declared.name.Part.{Part}
 use Rattle.model_core.specs.declared.item.Term.{Term}
 use Rattle.model_core.specs.declared.item.Term.TheVariants as terms
+use Rattle.model_core.specs.declared.variable.ValueKind.{ValueKind}
 use Rattle.nddl_ast.specs.declared.name.Name.{Name}
 use Rattle.nddl_ast.specs.declared.name.Path.{Path}
 use Rattle.nddl_terms.specs.declared.tree.Meaning.{Meaning}
@@ -15,7 +16,7 @@ use Rattle.nddl_terms.specs.declared.stands.Made.{Made}
 use Rattle.nddl_terms.specs.declared.stands.Stand.{Stand}
 use Rattle.nddl_terms.specs.declared.stands.Stand.TheVariants.{Value, Slot, Root, Class, Nothing}
 use Rattle.nddl_terms.specs.Growth.{with_access}
-use Rattle.nddl_terms.specs.Lexicon.{attribute_class, attribute_number, part_called, shape_fields}
+use Rattle.nddl_terms.specs.Lexicon.{attribute_class, attribute_kind, attribute_number, part_called, shape_fields}
 use Rattle.nddl_terms.specs.Names.{name_read_at}
 use Rattle.nddl_terms.specs.Paths.{Reached, known_value, numbered_field, part_stand, reached, read_field, next_stand, rest_stand}
 use Rattle.nddl_terms.specs.Readings.{Readings}
@@ -43,27 +44,28 @@ record LeadsJust (bound count : ℕ) (growth : Growth) (next : Reached) : Type 0
   rest : first + stand_reads next.stand (count - 1) ≡ bound
   plain : IsNoClass next.stand
 
-plain_field : (found : Option ℤ) (class : ℕ) → IsNoClass (option_map_or (λ content. Value (terms.Lit content) class) found Nothing)
-plain_field None class = tt
-plain_field (Some content) class = tt
+plain_field : (found : Option ℤ) (kind : ValueKind) (class : ℕ)
+    → IsNoClass (option_map_or (λ content. Value (terms.Lit content) kind class) found Nothing)
+plain_field None kind class = tt
+plain_field (Some content) kind class = tt
 
 known_just : (reading : Readings) (value : ℤ) (fields : List Attribute) (count : ℕ) (growth : Growth) (found : Option ℕ)
     → IsSomething (option_map_or (λ number. numbered_field reading.objects (terms.Lit value) fields number growth) found (reached Nothing growth)).stand
     → LeadsJust 0 count growth (option_map_or (λ number. numbered_field reading.objects (terms.Lit value) fields number growth) found (reached Nothing growth))
 known_just reading value fields count growth None is = absurd is
 known_just reading value fields count growth (Some number) is =
-    let none = known_field (known_value reading.objects value number) (attribute_class fields number) (count - 1) in
+    let none = known_field (known_value reading.objects value number) (attribute_kind fields number) (attribute_class fields number) (count - 1) in
     record {
       first = 0;
       gives = gives_none growth;
       rest = omega (arith, none);
-      plain = plain_field (known_value reading.objects value number) (attribute_class fields number);
+      plain = plain_field (known_value reading.objects value number) (attribute_kind fields number) (attribute_class fields number);
     }
 
 attribute_just : (object : Term) (number count : ℕ) (growth : Growth) (found : Option Attribute) → 1 ≤ count
-    → IsSomething (option_map_or (λ attribute. reached (Value (terms.Local (length growth.locals)) attribute.shape.class)
+    → IsSomething (option_map_or (λ attribute. reached (Value (terms.Local (length growth.locals)) attribute.shape.kind attribute.shape.class)
     (with_access object number attribute.shape growth)) found (reached Nothing growth)).stand
-    → LeadsJust count count growth (option_map_or (λ attribute. reached (Value (terms.Local (length growth.locals)) attribute.shape.class)
+    → LeadsJust count count growth (option_map_or (λ attribute. reached (Value (terms.Local (length growth.locals)) attribute.shape.kind attribute.shape.class)
     (with_access object number attribute.shape growth)) found (reached Nothing growth))
 attribute_just object number count growth None some is = absurd is
 attribute_just object number count growth (Some attribute) some is =
@@ -91,17 +93,17 @@ root_just reading number pred count growth (Some part) is =
 
 next_just : (reading : Readings) (here : Stand) (name : Name) (count : ℕ) (growth : Growth) → 1 ≤ count
     → IsSomething (next_stand reading here name growth).stand → LeadsJust (stand_reads here count) count growth (next_stand reading here name growth)
-next_just reading (Value (terms.Lit value) class) name count growth some is =
+next_just reading (Value (terms.Lit value) kind class) name count growth some is =
     known_just reading value (shape_fields reading.lexicon class) count growth (attribute_number name.text (shape_fields reading.lexicon class)) is
-next_just reading (Value (terms.Here part) class) name count growth some is =
+next_just reading (Value (terms.Here part) kind class) name count growth some is =
     read_just (terms.Here part) (shape_fields reading.lexicon class) count growth (attribute_number name.text (shape_fields reading.lexicon class)) some is
-next_just reading (Value (terms.Slot number part) class) name count growth some is =
+next_just reading (Value (terms.Slot number part) kind class) name count growth some is =
     read_just (terms.Slot number part) (shape_fields reading.lexicon class) count growth (attribute_number name.text (shape_fields reading.lexicon class)) some is
-next_just reading (Value (terms.Local number) class) name count growth some is =
+next_just reading (Value (terms.Local number) kind class) name count growth some is =
     read_just (terms.Local number) (shape_fields reading.lexicon class) count growth (attribute_number name.text (shape_fields reading.lexicon class)) some is
-next_just reading (Value (terms.Global number) class) name count growth some is =
+next_just reading (Value (terms.Global number) kind class) name count growth some is =
     read_just (terms.Global number) (shape_fields reading.lexicon class) count growth (attribute_number name.text (shape_fields reading.lexicon class)) some is
-next_just reading (Value (terms.Root number part) class) name count growth some is =
+next_just reading (Value (terms.Root number part) kind class) name count growth some is =
     read_just (terms.Root number part) (shape_fields reading.lexicon class) count growth (attribute_number name.text (shape_fields reading.lexicon class)) some is
 next_just reading (Slot number pred) name count growth some is =
     slot_just reading number pred count growth (part_called reading.lexicon pred name.text) is
@@ -121,14 +123,14 @@ nothing_behind reading (name ∷ more) growth is = nothing_behind reading more g
 something_before : (reading : Readings) (here : Stand) (names : List Name) (growth : Growth)
     → IsSomething (rest_stand reading here names growth).stand → IsSomething here
 something_before reading Nothing names growth is = nothing_behind reading names growth is
-something_before reading (Value term class) names growth is = tt
+something_before reading (Value term kind class) names growth is = tt
 something_before reading (Slot number pred) names growth is = tt
 something_before reading (Root number pred) names growth is = tt
 something_before reading (Class class) names growth is = tt
 
 no_more_reads : (here : Stand) → stand_reads here 0 ≡ 0
-no_more_reads (Value (terms.Lit value) class) = refl
-no_more_reads (Value term class) = refl
+no_more_reads (Value (terms.Lit value) kind class) = refl
+no_more_reads (Value term kind class) = refl
 no_more_reads (Slot number pred) = refl
 no_more_reads (Root number pred) = refl
 no_more_reads (Class class) = refl
@@ -162,43 +164,43 @@ nothing_same : (reading : Readings) (names : List Name) (growth : Growth) → (r
 nothing_same reading [] growth = refl
 nothing_same reading (name ∷ more) growth = nothing_same reading more growth
 
-value_same : (reading : Readings) (found : Option ℤ) (class : ℕ) (names : List Name) (growth : Growth)
-    → ((content : ℤ) → (rest_stand reading (Value (terms.Lit content) class) names growth).growth ≡ growth)
-    → (rest_stand reading (option_map_or (λ content. Value (terms.Lit content) class) found Nothing) names growth).growth ≡ growth
-value_same reading None class names growth again = nothing_same reading names growth
-value_same reading (Some content) class names growth again = again content
+value_same : (reading : Readings) (found : Option ℤ) (kind : ValueKind) (class : ℕ) (names : List Name) (growth : Growth)
+    → ((content : ℤ) → (rest_stand reading (Value (terms.Lit content) kind class) names growth).growth ≡ growth)
+    → (rest_stand reading (option_map_or (λ content. Value (terms.Lit content) kind class) found Nothing) names growth).growth ≡ growth
+value_same reading None kind class names growth again = nothing_same reading names growth
+value_same reading (Some content) kind class names growth again = again content
 
 field_same : (reading : Readings) (value : ℤ) (fields : List Attribute) (found : Option ℕ) (names : List Name) (growth : Growth)
-    → ((content : ℤ) (class : ℕ) → (rest_stand reading (Value (terms.Lit content) class) names growth).growth ≡ growth)
+    → ((content : ℤ) (kind : ValueKind) (class : ℕ) → (rest_stand reading (Value (terms.Lit content) kind class) names growth).growth ≡ growth)
     → (rest_stand reading (option_map_or (λ number. numbered_field reading.objects (terms.Lit value) fields number growth) found (reached Nothing growth)).stand
     names (option_map_or (λ number. numbered_field reading.objects (terms.Lit value) fields number growth) found (reached Nothing growth)).growth).growth ≡ growth
 field_same reading value fields None names growth again = nothing_same reading names growth
 field_same reading value fields (Some number) names growth again =
-    value_same reading (known_value reading.objects value number) (attribute_class fields number) names growth
-    (λ content. again content (attribute_class fields number))
+    value_same reading (known_value reading.objects value number) (attribute_kind fields number) (attribute_class fields number) names growth
+    (λ content. again content (attribute_kind fields number) (attribute_class fields number))
 
 -- what is behind a known object adds nothing to the rule
-known_same : (reading : Readings) (value : ℤ) (class : ℕ) (names : List Name) (growth : Growth)
-    → (rest_stand reading (Value (terms.Lit value) class) names growth).growth ≡ growth
-known_same reading value class [] growth = refl
-known_same reading value class (name ∷ more) growth =
+known_same : (reading : Readings) (value : ℤ) (kind : ValueKind) (class : ℕ) (names : List Name) (growth : Growth)
+    → (rest_stand reading (Value (terms.Lit value) kind class) names growth).growth ≡ growth
+known_same reading value kind class [] growth = refl
+known_same reading value kind class (name ∷ more) growth =
     field_same reading value (shape_fields reading.lexicon class) (attribute_number name.text (shape_fields reading.lexicon class)) more growth
-    (λ content below. known_same reading content below more growth)
+    (λ content kind below. known_same reading content kind below more growth)
 
 led_gives : (reading : Readings) (here : Stand) (names : List Name) (growth : Growth)
     → IsLed here (rest_stand reading here names growth).stand
     → Gives (extra_reads (stand_reads here (length names))) growth (rest_stand reading here names growth).growth
-led_gives reading (Value (terms.Lit value) class) names growth is =
-    subst (Gives (extra_reads 0) growth) (sym (known_same reading value class names growth)) (gives_none growth)
+led_gives reading (Value (terms.Lit value) kind class) names growth is =
+    subst (Gives (extra_reads 0) growth) (sym (known_same reading value kind class names growth)) (gives_none growth)
 led_gives reading here names growth is = rest_gives reading here names growth is
 
 led_before : (reading : Readings) (here : Stand) (names : List Name) (growth : Growth)
     → IsLed here (rest_stand reading here names growth).stand → IsSomething here
-led_before reading (Value (terms.Lit value) class) names growth is = tt
+led_before reading (Value (terms.Lit value) kind class) names growth is = tt
 led_before reading here names growth is = something_before reading here names growth is
 
 pub something_led : (here end : Stand) → IsSomething end → IsLed here end
-something_led (Value (terms.Lit value) class) end is = tt
+something_led (Value (terms.Lit value) kind class) end is = tt
 something_led here end is = is
 
 -- ---- what leads to classes
@@ -225,11 +227,11 @@ found_just P bound count None each just is = absurd is
 found_just P bound count (Some stand) each just is = just stand (each stand refl)
 
 known_reads : (count : ℕ) (stand : Stand) → IsKnownStand stand → stand_reads stand count ≡ 0
-known_reads count (Value (terms.Lit value) class) is = refl
+known_reads count (Value (terms.Lit value) kind class) is = refl
 known_reads count stand is = absurd is
 
 local_reads : (count : ℕ) (stand : Stand) → IsLocalStand stand → stand_reads stand count ≡ count
-local_reads count (Value (terms.Local number) class) is = refl
+local_reads count (Value (terms.Local number) kind class) is = refl
 local_reads count stand is = absurd is
 
 slot_reads : (count : ℕ) (stand : Stand) → IsSlotStand stand → stand_reads stand count ≡ count - 1
@@ -238,8 +240,8 @@ slot_reads count stand is = absurd is
 
 file_just : (found : Option Stand) (count : ℕ) → stand_reads (stand_or_nothing found) count ≡ file_reads found count
 file_just None count = refl
-file_just (Some (Value (terms.Lit value) class)) count = refl
-file_just (Some (Value term class)) count = refl
+file_just (Some (Value (terms.Lit value) kind class)) count = refl
+file_just (Some (Value term kind class)) count = refl
 file_just (Some stand) count = refl
 
 -- what stands for a name, if anything does, reads as much as is counted of what it means

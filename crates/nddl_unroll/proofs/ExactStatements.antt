@@ -9,6 +9,7 @@ use Rattle.model_core.specs.declared.item.Item.TheVariants.{Constraint, Relation
 use Rattle.model_core.specs.declared.item.Rel.{Rel}
 use Rattle.model_core.specs.declared.item.Term.{Term}
 use Rattle.model_core.specs.declared.item.Term.TheVariants as terms
+use Rattle.model_core.specs.declared.variable.ValueKind.{ValueKind}
 use Rattle.nddl_ast.specs.declared.expression.Expr.{Expr}
 use Rattle.nddl_ast.specs.declared.expression.Expr.TheVariants as exprs
 use Rattle.nddl_ast.specs.declared.expression.Init.{Init}
@@ -36,7 +37,8 @@ use Rattle.nddl_terms.specs.Readings.{Readings}
 use Rattle.nddl_terms.specs.Stands.{first_stand}
 use Rattle.nddl_lower.specs.Arguments.{argument, condition_guard, constraint_items, given_arguments, with_constraint, with_items}
 use Rattle.nddl_lower.specs.Calls.{with_ask, with_call, with_constraint_named, with_related, with_relation_to}
-use Rattle.nddl_lower.specs.Locals.{type_shape, with_begun, with_declared, with_named_at, with_text_local}
+use Rattle.nddl_lower.specs.Compared.{compared_terms, constraint_terms}
+use Rattle.nddl_lower.specs.Locals.{next_local, type_shape, with_begun, with_declared, with_named_at, with_text_local}
 use Rattle.nddl_lower.specs.Slots.{asked_labelled, asked_nothing, asked_of_owner, asked_own, asked_path, object_items, pred_slot, wanted_of, with_asked, with_asked_at, with_relation, with_wanted_token}
 use Rattle.nddl_unroll.specs.declared.amounts.Amounts.{Amounts}
 use Rattle.nddl_unroll.specs.Amounts.{amounts_and, no_amounts, one_local, some_items}
@@ -128,7 +130,8 @@ constraint_just reading kind some = record {
       gives_then (extra_reads (sum_reads reading.lexicon reading.names some)) (extra_items (sum_items kind some)) growth given.growth
       (with_constraint reading turns kind some growth) (arguments_give reading turns some growth sound known are)
       (subst (λ (count : ℕ). Gives (extra_items count) given.growth (with_constraint reading turns kind some growth))
-      (items_are kind given.terms some (as_many reading turns some growth)) (gives_items (constraint_items kind given.terms) given.growth));
+      (items_are kind given.stands some (as_many reading turns some growth))
+      (gives_items (constraint_items kind (constraint_terms kind given.stands)) given.growth));
   turns = refl;
   counts =
       let reads = reads_are reading.lexicon reading.names some 0 (omega arith) in
@@ -200,7 +203,7 @@ asked_gives lexicon at relation count (Some pred) object growth so_many is =
 -- what has a predicate is something
 wanted_something : (lexicon : Lexicon) (stand : Stand) (name : List ℕ) → IsSome (wanted_of lexicon stand name).pred → IsSomething stand
 wanted_something lexicon Nothing name is = absurd (cc)
-wanted_something lexicon (Value term class) name is = tt
+wanted_something lexicon (Value term kind class) name is = tt
 wanted_something lexicon (Slot number pred) name is = tt
 wanted_something lexicon (Root number pred) name is = tt
 wanted_something lexicon (Class class) name is = tt
@@ -208,7 +211,7 @@ wanted_something lexicon (Class class) name is = tt
 -- what has a predicate is a class, or has an object
 has_object : (lexicon : Lexicon) (stand : Stand) (name : List ℕ) → IsSome (wanted_of lexicon stand name).pred → (IsClass stand → ⊥)
     → object_count (wanted_of lexicon stand name).object ≡ 1
-has_object lexicon (Value term class) name is none = refl
+has_object lexicon (Value term kind class) name is none = refl
 has_object lexicon (Class class) name is none = absurd (none tt)
 has_object lexicon (Slot number pred) name is none = absurd (cc)
 has_object lexicon (Root number pred) name is none = absurd (cc)
@@ -352,14 +355,15 @@ ask_just reading ask = ask_case_just reading ask (relation_named ask.word.text)
 
 -- ---- locals
 
-named_gives : (at number class : ℕ) (growth : Growth) → Gives no_extra growth (with_named_at at (Value (terms.Local number) class) growth)
-named_gives at number class growth = record { slots = omega arith; locals = omega arith; items = omega arith; guards = omega arith }
+named_gives : (at number : ℕ) (kind : ValueKind) (class : ℕ) (growth : Growth)
+    → Gives no_extra growth (with_named_at at (Value (terms.Local number) kind class) growth)
+named_gives at number kind class growth = record { slots = omega arith; locals = omega arith; items = omega arith; guards = omega arith }
 
 declared_gives : (at : ℕ) (shape : Shape) (growth : Growth) → Gives extra_local growth (with_declared at shape growth)
 declared_gives at shape growth =
-    let noted = with_named_at at (Value (terms.Local (length growth.locals)) shape.class) growth in
+    let noted = with_named_at at (next_local shape growth) growth in
     gives_then no_extra extra_local growth noted (with_declared at shape growth)
-    (named_gives at (length growth.locals) shape.class growth) (gives_local shape noted)
+    (named_gives at (length growth.locals) shape.kind shape.class growth) (gives_local shape noted)
 
 local_just_alone : (at : ℕ) (shape : List Made → Growth → Shape) (Meant : List Made → Growth → Type 0)
     → Just (λ turns growth. with_declared at (shape turns growth) growth) Meant one_local
@@ -385,7 +389,7 @@ begun_just reading at shape (Some (inits.Expr expr)) = record {
       begun (expr_gives reading turns expr growth sound known is)
       (gives_then extra_local (extra_items 1) given.growth declared begun
       (declared_gives at (shape turns growth) given.growth)
-      (gives_item (Constraint kinds.Eq (terms.Local (length given.growth.locals) ∷ given.term ∷ [])) declared));
+      (gives_item (Constraint kinds.Eq (compared_terms (next_local (shape turns growth) given.growth ∷ given.stand ∷ []))) declared));
   turns = refl;
   counts = record { slots = omega arith; locals = omega arith; items = omega arith; guards = omega arith; turns = omega arith };
 }

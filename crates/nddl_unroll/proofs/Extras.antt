@@ -77,11 +77,11 @@ guards_in growth = guard_count (plain_entries growth.entries)
 
 -- a value that is known
 abbrev pub IsKnownStand : Stand → Type 0
-IsKnownStand (Value (terms.Lit value) class) = Unit {0}
+IsKnownStand (Value (terms.Lit value) kind class) = Unit {0}
 IsKnownStand stand = ⊥
 
 abbrev pub IsLocalStand : Stand → Type 0
-IsLocalStand (Value (terms.Local number) class) = Unit {0}
+IsLocalStand (Value (terms.Local number) kind class) = Unit {0}
 IsLocalStand stand = ⊥
 
 abbrev pub IsNoClass : Stand → Type 0

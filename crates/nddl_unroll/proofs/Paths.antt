@@ -5,6 +5,7 @@ use Rattle.std.specs.Option.{option_and_then, option_map_or, option_or}
 use Rattle.eu_name.specs.declared.name.Part.{Part}
 use Rattle.model_core.specs.declared.item.Term.{Term}
 use Rattle.model_core.specs.declared.item.Term.TheVariants as terms
+use Rattle.model_core.specs.declared.variable.ValueKind.{ValueKind}
 use Rattle.nddl_ast.specs.declared.name.Name.{Name}
 use Rattle.nddl_ast.specs.declared.name.Path.{Path}
 use Rattle.nddl_terms.specs.declared.tree.Meaning.{Meaning}
@@ -15,7 +16,7 @@ use Rattle.nddl_terms.specs.declared.stands.Made.{Made}
 use Rattle.nddl_terms.specs.declared.stands.Stand.{Stand}
 use Rattle.nddl_terms.specs.declared.stands.Stand.TheVariants.{Value, Slot, Root, Class, Nothing}
 use Rattle.nddl_terms.specs.Growth.{with_access}
-use Rattle.nddl_terms.specs.Lexicon.{attribute_class, attribute_number, part_called, shape_fields}
+use Rattle.nddl_terms.specs.Lexicon.{attribute_class, attribute_kind, attribute_number, part_called, shape_fields}
 use Rattle.nddl_terms.specs.Names.{name_read_at}
 use Rattle.nddl_terms.specs.Paths.{Reached, known_value, numbered_field, part_stand, reached, read_field, next_stand, rest_stand}
 use Rattle.nddl_terms.specs.Readings.{Readings}
@@ -26,8 +27,8 @@ use Rattle.nddl_unroll.proofs.Extras.{Adds, EachMade, IsKnownStand, Sound, Withi
 
 -- of so many names behind what stands for this, how many read a field of a variable at most
 abbrev pub stand_reads : Stand → ℕ → ℕ
-stand_reads (Value (terms.Lit value) class) count = 0
-stand_reads (Value term class) count = count
+stand_reads (Value (terms.Lit value) kind class) count = 0
+stand_reads (Value term kind class) count = count
 stand_reads (Slot number pred) count = count - 1
 stand_reads (Root number pred) count = count - 1
 stand_reads stand count = 0
@@ -45,19 +46,20 @@ leads_nowhere : (bound count : ℕ) (growth : Growth) → LeadsOn bound count gr
 leads_nowhere bound count growth = record { first = 0; adds = adds_any (extra_reads 0) growth; rest = omega arith }
 
 -- what a known object has in a field is known
-pub known_field : (found : Option ℤ) (class count : ℕ) → stand_reads (option_map_or (λ content. Value (terms.Lit content) class) found Nothing) count ≡ 0
-known_field None class count = refl
-known_field (Some content) class count = refl
+pub known_field : (found : Option ℤ) (kind : ValueKind) (class count : ℕ)
+    → stand_reads (option_map_or (λ content. Value (terms.Lit content) kind class) found Nothing) count ≡ 0
+known_field None kind class count = refl
+known_field (Some content) kind class count = refl
 
 known_leads : (reading : Readings) (value : ℤ) (fields : List Attribute) (count : ℕ) (growth : Growth) (found : Option ℕ)
     → LeadsOn 0 count growth (option_map_or (λ number. numbered_field reading.objects (terms.Lit value) fields number growth) found (reached Nothing growth))
 known_leads reading value fields count growth None = leads_nowhere 0 count growth
 known_leads reading value fields count growth (Some number) =
-    let none = known_field (known_value reading.objects value number) (attribute_class fields number) (count - 1) in
+    let none = known_field (known_value reading.objects value number) (attribute_kind fields number) (attribute_class fields number) (count - 1) in
     record { first = 0; adds = adds_any (extra_reads 0) growth; rest = omega (arith, none) }
 
 attribute_leads : (object : Term) (number count : ℕ) (growth : Growth) (found : Option Attribute) → 1 ≤ count
-    → LeadsOn count count growth (option_map_or (λ attribute. reached (Value (terms.Local (length growth.locals)) attribute.shape.class)
+    → LeadsOn count count growth (option_map_or (λ attribute. reached (Value (terms.Local (length growth.locals)) attribute.shape.kind attribute.shape.class)
     (with_access object number attribute.shape growth)) found (reached Nothing growth))
 attribute_leads object number count growth None some = leads_nowhere count count growth
 attribute_leads object number count growth (Some attribute) some =
@@ -82,17 +84,17 @@ root_leads reading number pred count growth (Some part) =
 
 next_leads : (reading : Readings) (here : Stand) (name : Name) (count : ℕ) (growth : Growth) → 1 ≤ count
     → LeadsOn (stand_reads here count) count growth (next_stand reading here name growth)
-next_leads reading (Value (terms.Lit value) class) name count growth some =
+next_leads reading (Value (terms.Lit value) kind class) name count growth some =
     known_leads reading value (shape_fields reading.lexicon class) count growth (attribute_number name.text (shape_fields reading.lexicon class))
-next_leads reading (Value (terms.Here part) class) name count growth some =
+next_leads reading (Value (terms.Here part) kind class) name count growth some =
     read_leads (terms.Here part) (shape_fields reading.lexicon class) count growth (attribute_number name.text (shape_fields reading.lexicon class)) some
-next_leads reading (Value (terms.Slot number part) class) name count growth some =
+next_leads reading (Value (terms.Slot number part) kind class) name count growth some =
     read_leads (terms.Slot number part) (shape_fields reading.lexicon class) count growth (attribute_number name.text (shape_fields reading.lexicon class)) some
-next_leads reading (Value (terms.Local number) class) name count growth some =
+next_leads reading (Value (terms.Local number) kind class) name count growth some =
     read_leads (terms.Local number) (shape_fields reading.lexicon class) count growth (attribute_number name.text (shape_fields reading.lexicon class)) some
-next_leads reading (Value (terms.Global number) class) name count growth some =
+next_leads reading (Value (terms.Global number) kind class) name count growth some =
     read_leads (terms.Global number) (shape_fields reading.lexicon class) count growth (attribute_number name.text (shape_fields reading.lexicon class)) some
-next_leads reading (Value (terms.Root number part) class) name count growth some =
+next_leads reading (Value (terms.Root number part) kind class) name count growth some =
     read_leads (terms.Root number part) (shape_fields reading.lexicon class) count growth (attribute_number name.text (shape_fields reading.lexicon class)) some
 next_leads reading (Slot number pred) name count growth some =
     slot_leads reading number pred count growth (part_called reading.lexicon pred name.text)
@@ -150,7 +152,7 @@ found_within P bound count None is few = omega arith
 found_within P bound count (Some stand) is few = few stand (is stand refl)
 
 known_within : (count : ℕ) (stand : Stand) → IsKnownStand stand → stand_reads stand count ≤ 0
-known_within count (Value (terms.Lit value) class) is = omega arith
+known_within count (Value (terms.Lit value) kind class) is = omega arith
 known_within count stand is = absurd is
 
 slot_within : (count : ℕ) (stand : Stand) → IsSlotStand stand → stand_reads stand count ≤ count - 1
@@ -158,14 +160,14 @@ slot_within count (Slot number pred) is = omega arith
 slot_within count stand is = absurd is
 
 any_within : (count : ℕ) (stand : Stand) → stand_reads stand count ≤ count
-any_within count (Value (terms.Lit value) class) = omega arith
-any_within count (Value term class) = omega arith
+any_within count (Value (terms.Lit value) kind class) = omega arith
+any_within count (Value term kind class) = omega arith
 any_within count stand = omega arith
 
 file_within : (found : Option Stand) (count : ℕ) → stand_reads (stand_or_nothing found) count ≤ file_reads found count
 file_within None count = omega arith
-file_within (Some (Value (terms.Lit value) class)) count = omega arith
-file_within (Some (Value term class)) count = omega arith
+file_within (Some (Value (terms.Lit value) kind class)) count = omega arith
+file_within (Some (Value term kind class)) count = omega arith
 file_within (Some stand) count = omega arith
 
 -- what stands for a name reads no more than is counted of what it means

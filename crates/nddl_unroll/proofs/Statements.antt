@@ -9,6 +9,7 @@ use Rattle.domain_core.specs.declared.kind.Kind.TheVariants.{Eq}
 use Rattle.model_core.specs.declared.item.Rel.{Rel}
 use Rattle.model_core.specs.declared.item.Term.{Term}
 use Rattle.model_core.specs.declared.item.Term.TheVariants as terms
+use Rattle.model_core.specs.declared.variable.ValueKind.{ValueKind}
 use Rattle.nddl_rule_check.specs.Constraints.{constraint_named, relation_named}
 use Rattle.nddl_ast.specs.declared.expression.Expr.{Expr}
 use Rattle.nddl_ast.specs.declared.expression.Expr.TheVariants as exprs
@@ -38,7 +39,8 @@ use Rattle.nddl_unroll.specs.Counting.{ask_amounts, asked_amounts, call_amounts,
 use Rattle.nddl_unroll.specs.Meant.{IsSlotStand}
 use Rattle.nddl_unroll.specs.Reads.{begins_with_class, expr_reads, front_reads, is_class_meaning, is_class_stand}
 use Rattle.nddl_lower.specs.Arguments.{argument, with_constraint, with_items}
-use Rattle.nddl_lower.specs.Locals.{type_shape, with_begun, with_declared, with_named_at, with_text_local}
+use Rattle.nddl_lower.specs.Compared.{compared_terms}
+use Rattle.nddl_lower.specs.Locals.{next_local, type_shape, with_begun, with_declared, with_named_at, with_text_local}
 use Rattle.nddl_lower.specs.Calls.{with_ask, with_call, with_constraint_named, with_related, with_relation_to}
 use Rattle.nddl_lower.specs.Slots.{asked_labelled, asked_nothing, asked_of_owner, asked_own, asked_path, object_items, pred_slot, wanted_of, with_asked, with_asked_at, with_relation, with_wanted_token}
 use Rattle.nddl_unroll.proofs.Counted.{Enough, constraint_enough, expr_adds}
@@ -257,20 +259,21 @@ ask_enough reading ask = ask_case reading ask (relation_named ask.word.text)
 
 -- ---- locals
 
-named_adds : (at number class : ℕ) (growth : Growth) → Adds no_extra growth (with_named_at at (Value (terms.Local number) class) growth)
-named_adds at number class growth = record {
+named_adds : (at number : ℕ) (kind : ValueKind) (class : ℕ) (growth : Growth)
+    → Adds no_extra growth (with_named_at at (Value (terms.Local number) kind class) growth)
+named_adds at number kind class growth = record {
   slots = omega arith;
   locals = omega arith;
   items = omega arith;
   guards = omega arith;
-  sound = λ is. record { named = each_more IsLocalStand growth.named (record { at = at; stand = Value (terms.Local number) class }) is.named tt; asked = is.asked; unnamed = is.unnamed };
+  sound = λ is. record { named = each_more IsLocalStand growth.named (record { at = at; stand = Value (terms.Local number) kind class }) is.named tt; asked = is.asked; unnamed = is.unnamed };
 }
 
 declared_adds : (at : ℕ) (shape : Shape) (growth : Growth) → Adds extra_local growth (with_declared at shape growth)
 declared_adds at shape growth =
-    let noted = with_named_at at (Value (terms.Local (length growth.locals)) shape.class) growth in
+    let noted = with_named_at at (next_local shape growth) growth in
     adds_then no_extra extra_local growth noted (with_declared at shape growth)
-    (named_adds at (length growth.locals) shape.class growth) (adds_local shape noted)
+    (named_adds at (length growth.locals) shape.kind shape.class growth) (adds_local shape noted)
 
 -- whatever the shape is in these turns, with what the rule has by then
 local_alone : (at : ℕ) (shape : List Made → Growth → Shape) → Enough (λ turns growth. with_declared at (shape turns growth) growth) one_local
@@ -294,7 +297,7 @@ begun_enough reading at shape (Some (inits.Expr expr)) = record {
       begun (expr_adds reading turns expr growth sound known)
       (adds_then extra_local (extra_items 1) given.growth declared begun
       (declared_adds at (shape turns growth) given.growth)
-      (adds_item (Constraint Eq (terms.Local (length given.growth.locals) ∷ given.term ∷ [])) declared));
+      (adds_item (Constraint Eq (compared_terms (next_local (shape turns growth) given.growth ∷ given.stand ∷ []))) declared));
   counts = record { slots = omega arith; locals = omega arith; items = omega arith; guards = omega arith };
 }
 

@@ -3,6 +3,7 @@ use Rattle.std.specs.Prelude.{ℕ, ℤ, List, [], ◌∷◌, ◌++◌, map}
 use Rattle.model_core.specs.declared.item.Term.TheVariants.{Lit}
 use Rattle.model_core.specs.declared.rule.Entry.{Entry}
 use Rattle.model_core.specs.declared.rule.Entry.TheVariants as entries
+use Rattle.model_core.specs.declared.variable.ValueKind.TheVariants.{Object}
 use Rattle.model_core.specs.Block.{plain_entries}
 use Rattle.model_core.specs.Entries.{Entries}
 use Rattle.nddl_ast.specs.declared.name.Name.{Name}
@@ -38,7 +39,7 @@ back_in outer growth = record growth { entries = outer }
 
 -- what the variable of a `foreach` over the class of this number stands for, in one turn after another, if these are its objects
 abbrev pub turn_stands : ℕ → List ℤ → List Stand
-turn_stands class objects = map (λ object. Value (Lit object) class) objects
+turn_stands class objects = map (λ object. Value (Lit object) Object class) objects
 
 -- what the variable of a `foreach` stands for in one turn after another, if the name that it goes over stands for a class
 abbrev pub stand_turns : Lexicon → Stand → List Stand

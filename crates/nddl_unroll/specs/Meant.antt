@@ -45,7 +45,7 @@ IsSlotStand stand = ⊥
 
 -- what begins as this leads to something, or is known: no field of a known object is read of a variable
 abbrev pub IsLed : Stand → Stand → Type 0
-IsLed (stands.Value (terms.Lit value) class) end = ⊤
+IsLed (stands.Value (terms.Lit value) kind class) end = ⊤
 IsLed begin end = IsSomething end
 
 -- ---- arguments

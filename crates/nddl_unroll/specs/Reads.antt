@@ -17,8 +17,8 @@ use Rattle.nddl_unroll.specs.Amounts.{plus}
 -- Of so many names behind one of the files: behind a known object none is such a field, behind a variable each, and behind
 -- a token each but the part.
 abbrev pub file_reads : Option Stand → ℕ → ℕ
-file_reads (Some (Value (terms.Lit value) class)) count = 0
-file_reads (Some (Value term class)) count = count
+file_reads (Some (Value (terms.Lit value) kind class)) count = 0
+file_reads (Some (Value term kind class)) count = count
 file_reads (Some (Slot number pred)) count = count - 1
 file_reads (Some (Root number pred)) count = count - 1
 file_reads stand count = 0

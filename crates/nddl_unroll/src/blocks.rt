@@ -15,6 +15,7 @@ ghost use Rattle.nddl_unroll.specs.Blocks.{all_turns, back_in, filled_block, in_
 use eu_name::sequence::Sequence;
 use model_core::item::Term;
 use model_core::rule::{Block, Entry, Guard};
+use model_core::variable::ValueKind;
 use nddl_ast::name::Name;
 use nddl_ast::statement::{Stmt, StmtBlock};
 use nddl_lower::arguments::guard_of;
@@ -193,6 +194,7 @@ fn unroll_objects(
     for object in reading.lexicon.objects(class) {
         let stand = Stand::Value {
             term: Term::Lit(*object),
+            kind: ValueKind::Object,
             class,
         };
         unroll_turn(alloc, reading, turns, variable, stand, body, growth)?;
