@@ -49,14 +49,15 @@ each f g (x ∷ xs) pass none =
     joined (f x) (flat_map f xs) (g x) (flat_map g xs) (pass x) (each f g xs pass) none
 
 module _ (names : List Declared) (decl : ℕ) where
-  ends : (extent : Extent) (at : ℕ) (least greatest : Value) → Passes (ends_faults names extent decl at least greatest) (ends_faults names extent 0 at least greatest)
-  ends extent at least greatest =
-      let wrong = fault_if (is_wrong_range extent (end_number names least) (end_number names greatest)) faults.NotInDomain in
-      joined (faults_here decl at wrong ++ faults_here decl (value_place least) (end_fault names least)) (faults_here decl (value_place greatest) (end_fault names greatest))
-      (faults_here 0 at wrong ++ faults_here 0 (value_place least) (end_fault names least)) (faults_here 0 (value_place greatest) (end_fault names greatest))
-      (joined (faults_here decl at wrong) (faults_here decl (value_place least) (end_fault names least))
-      (faults_here 0 at wrong) (faults_here 0 (value_place least) (end_fault names least)) (here decl at wrong) (here decl (value_place least) (end_fault names least)))
-      (here decl (value_place greatest) (end_fault names greatest))
+  ends : (kind : TypeKind) (extent : Extent) (at : ℕ) (least greatest : Value)
+      → Passes (ends_faults names kind extent decl at least greatest) (ends_faults names kind extent 0 at least greatest)
+  ends kind extent at least greatest =
+      let wrong = fault_if (is_wrong_range extent (end_number names kind least) (end_number names kind greatest)) faults.NotInDomain in
+      joined (faults_here decl at wrong ++ faults_here decl (value_place least) (end_fault names kind least)) (faults_here decl (value_place greatest) (end_fault names kind greatest))
+      (faults_here 0 at wrong ++ faults_here 0 (value_place least) (end_fault names kind least)) (faults_here 0 (value_place greatest) (end_fault names kind greatest))
+      (joined (faults_here decl at wrong) (faults_here decl (value_place least) (end_fault names kind least))
+      (faults_here 0 at wrong) (faults_here 0 (value_place least) (end_fault names kind least)) (here decl at wrong) (here decl (value_place least) (end_fault names kind least)))
+      (here decl (value_place greatest) (end_fault names kind greatest))
 
   no_range : (least greatest : Value) → Passes (no_range_faults names decl least greatest) (no_range_faults names 0 least greatest)
   no_range least greatest =
@@ -73,9 +74,9 @@ module _ (names : List Declared) (decl : ℕ) where
       → Passes (range_faults names kind extent decl at least greatest) (range_faults names kind extent 0 at least greatest)
   range kind extent at least greatest = by (is_ranged kind extent)
     where
-      by : (b : Bool) → Passes (if b then ends_faults names extent decl at least greatest else no_range_faults names decl least greatest)
-          (if b then ends_faults names extent 0 at least greatest else no_range_faults names 0 least greatest)
-      by true = ends extent at least greatest
+      by : (b : Bool) → Passes (if b then ends_faults names kind extent decl at least greatest else no_range_faults names decl least greatest)
+          (if b then ends_faults names kind extent 0 at least greatest else no_range_faults names 0 least greatest)
+      by true = ends kind extent at least greatest
       by false = no_range least greatest
 
   set : (kind : TypeKind) (extent : Extent) (at : ℕ) (values : List Value)
@@ -106,6 +107,7 @@ module _ (names : List Declared) (decl : ℕ) where
   objects program parents (Some (kinds.Object class)) bounds.All none = refl
   objects program parents (Some (kinds.Object class)) (bounds.Range at least greatest) none = refl
   objects program parents (Some kinds.Int) bound none = refl
+  objects program parents (Some kinds.Float) bound none = refl
   objects program parents (Some kinds.Bool) bound none = refl
   objects program parents (Some (kinds.Enum number)) bound none = refl
   objects program parents None bound none = refl

@@ -7,11 +7,10 @@ use Rattle.std.proofs.lemmas.Option.{same_Some}
 use Rattle.std.proofs.lemmas.Int.{ints}
 use Rattle.std.proofs.lemmas.List.{length-map}
 use Rattle.std.proofs.lemmas.List.Elements.{All-nil, All-cons, All-head, All-tail, All-weaker, All-map, All-contains, Contains-get_or}
-use Rattle.domain_core.specs.Domain.{AreMembers, IsDomain, IsRange, IsValue, Range, Set}
+use Rattle.domain_core.specs.Domain.{AreMembers, Has, IsDomain, IsRange, IsValue, Range, Set}
 use Rattle.model_core.specs.declared.class.Enum.{Enum}
 use Rattle.model_core.specs.declared.model.Model.{Model}
-use Rattle.model_core.specs.declared.variable.ValueKind.TheVariants as kinds_of
-use Rattle.model_core.specs.Kinds.{IsBaseOf, IsInKind, IsKind, IsValueOf}
+use Rattle.model_core.specs.Kinds.{IsBaseOf, IsInKind, IsKind, IsNumeric, IsValueOf}
 use Rattle.model_core.specs.Lawful.{IsLawfulBase, IsLawfulEnum}
 use Rattle.model_core.proofs.Items.{item_all, item_at, item_within}
 use Rattle.nddl_symbols.specs.declared.declared.Declared.{Declared}
@@ -23,7 +22,7 @@ use Rattle.nddl_typeexpr.specs.declared.kind.TypeKind.TheVariants as kinds
 use Rattle.nddl_declarations.specs.Ascending.{ascending_of, with_placed}
 use Rattle.nddl_declarations.specs.Domains.{base_of, enum_size, place_of_member, place_of_sort, value_kind}
 use Rattle.nddl_declarations.proofs.Placing.{ascending_has, ascending_is}
-use Rattle.nddl_laws.proofs.Fitting.{FitsExtent, FitsKind}
+use Rattle.nddl_laws.proofs.Fitting.{AreEnds, FitsExtent, FitsKind}
 use Rattle.nddl_laws.proofs.Lists.{all_kept}
 use Rattle.nddl_laws.proofs.Numbers.{HasEnum, HasMember}
 use Rattle.nddl_laws.proofs.Values.{IsKept, IsOwnMember}
@@ -63,7 +62,7 @@ ascending_few (number ∷ more) =
     omega arith
 
 -- a set of the values of a list, in order
-set_right : (values : List ℤ) → All IsValue values → 0 < length values → length values ≤ 4096 → AreMembers (ascending_of values)
+pub set_right : (values : List ℤ) → All IsValue values → 0 < length values → length values ≤ 4096 → AreMembers (ascending_of values)
 set_right values all some few = record {
   ascending = ascending_is values;
   values = λ k d within.
@@ -93,15 +92,26 @@ kept_long {X} {Y} f (x ∷ xs) all =
 
 -- ---- values
 
+-- all numbers, and those between two ends
+pub whole_ends : IsDomain (Range (negsuc 999999) (pos 1000000))
+whole_ends = ((omega (arith, ints), omega (arith, ints)), (omega (arith, ints), omega (arith, ints)), omega (arith, ints))
+
+pub between : (least greatest value : ℤ) → AreEnds least greatest → Has (Range least greatest) value → IsValue value
+between least greatest value ends has =
+    let low = ends.0.0 in
+    let high = ends.1.1 in
+    (let from = has.0 in omega (arith, ints), let to = has.1 in omega (arith, ints))
+
+-- numbers of members and of objects are values
+pub small : (k : ℕ) → k ≤ 4096 → IsValue (pos k)
+small k few = (omega (arith, ints), omega (arith, ints))
+
 module _ (names : List Declared) (enums : List Enum) (model : Model) (same : model.enums ≡ enums) (lawful : All IsLawfulEnum enums)
     (members : (entry number place : ℕ) (declared : Declared) → slice_get names entry ≡ Some declared
     → declared.sort ≡ sorts.Member number place → HasMember enums number place) where
   -- a value of the kind
   Listed : TypeKind → ℤ → Type 0
   Listed kind value = IsValue value × IsValueOf model (value_kind kind) value
-
-  small : (k : ℕ) → k ≤ 4096 → IsValue (pos k)
-  small k few = (omega (arith, ints), omega (arith, ints))
 
   -- the place of a member
   place_right : (number place : ℕ) → HasMember enums number place → Listed (kinds.Enum number) (pos place)
@@ -148,7 +158,7 @@ module _ (names : List Declared) (enums : List Enum) (model : Model) (same : mod
     some : 0 < length values
     few : length values ≤ 4096
 
-  listed_right : (kind : TypeKind) (values : List ℤ) → IsListedSet kind values → (range : IsRange (Set (ascending_of values)) → value_kind kind ≡ kinds_of.Int)
+  listed_right : (kind : TypeKind) (values : List ℤ) → IsListedSet kind values → (range : IsRange (Set (ascending_of values)) → IsNumeric (value_kind kind))
       → IsDomain (Set (ascending_of values)) × IsInKind model (value_kind kind) (Set (ascending_of values))
   unfolding Listed
   listed_right kind values is range = (
@@ -162,6 +172,10 @@ module _ (names : List Declared) (enums : List Enum) (model : Model) (same : mod
   int_set : (values : List ℤ) → FitsExtent names kinds.Int (extents.Set values) → IsListedSet kinds.Int values
   unfolding Listed
   int_set values fit = record { each = All-weaker IsValue (Listed kinds.Int) (λ value right. (right, right)) values fit.0; some = fit.1; few = fit.2 }
+
+  float_set : (values : List ℤ) → FitsExtent names kinds.Float (extents.Set values) → IsListedSet kinds.Float values
+  unfolding Listed
+  float_set values fit = record { each = All-weaker IsValue (Listed kinds.Float) (λ value right. (right, right)) values fit.0; some = fit.1; few = fit.2 }
 
   bool_set : (values : List ℤ) → FitsExtent names kinds.Bool (extents.Set values) → IsListedSet kinds.Bool values
   unfolding Listed
@@ -216,20 +230,12 @@ module _ (names : List Declared) (enums : List Enum) (model : Model) (same : mod
   pub base_right : (kind : TypeKind) (extent : Extent) → FitsKind enums kind → FitsExtent names kind extent
       → IsLawfulBase (base_of names enums kind extent) × IsBaseOf model (value_kind kind) (base_of names enums kind extent)
   base_right (kinds.Object class) extent here fit = (tt, refl)
-  base_right kinds.Int extents.Whole here fit =
-      let ends : IsDomain (Range (negsuc 999999) (pos 1000000)) = ((omega (arith, ints), omega (arith, ints)), (omega (arith, ints), omega (arith, ints)), omega (arith, ints)) in
-      (ends, record { values = λ value has. has; range = λ is. refl })
-  base_right kinds.Int (extents.Range least greatest) here fit = (
-    fit,
-    record {
-      values = λ value has.
-          let low = fit.0.0 in
-          let high = fit.1.1 in
-          (let least_is = has.0 in omega (arith, ints), let most = has.1 in omega (arith, ints));
-      range = λ is. refl;
-    },
-  )
-  base_right kinds.Int (extents.Set values) here fit = listed_right kinds.Int values (int_set values fit) (λ is. refl)
+  base_right kinds.Int extents.Whole here fit = (whole_ends, record { values = λ value has. has; range = λ is. tt })
+  base_right kinds.Int (extents.Range least greatest) here fit = (fit, record { values = λ value has. between least greatest value fit has; range = λ is. tt })
+  base_right kinds.Int (extents.Set values) here fit = listed_right kinds.Int values (int_set values fit) (λ is. tt)
+  base_right kinds.Float extents.Whole here fit = (whole_ends, record { values = λ value has. has; range = λ is. tt })
+  base_right kinds.Float (extents.Range least greatest) here fit = (fit, record { values = λ value has. between least greatest value fit has; range = λ is. tt })
+  base_right kinds.Float (extents.Set values) here fit = listed_right kinds.Float values (float_set values fit) (λ is. tt)
   base_right kinds.Bool extents.Whole here fit = listed_right kinds.Bool (pos 0 ∷ pos 1 ∷ []) bool_whole (λ is. absurd is)
   base_right kinds.Bool (extents.Range least greatest) here fit = absurd fit
   base_right kinds.Bool (extents.Set values) here fit = listed_right kinds.Bool values (bool_set values fit) (λ is. absurd is)
@@ -242,6 +248,7 @@ module _ (names : List Declared) (enums : List Enum) (model : Model) (same : mod
   -- the kind is the model's
   pub kind_right : (kind : TypeKind) → FitsKind enums kind → IsKind model (value_kind kind)
   kind_right kinds.Int here = tt
+  kind_right kinds.Float here = tt
   kind_right kinds.Bool here = tt
   kind_right (kinds.Enum number) here = (here.found, ap (λ some. slice_get some number) same ∙ here.there)
   kind_right (kinds.Object class) here = tt

@@ -45,14 +45,15 @@ use Rattle.nddl_symbols.specs.Names.{scope_names}
 use Rattle.nddl_symbols.specs.Repeats.{repeated_fault}
 use Rattle.nddl_symbols.specs.Scope.{fault_if, meaning_of}
 use Rattle.nddl_typeexpr.specs.declared.kind.Extent.{Extent}
+use Rattle.nddl_typeexpr.specs.declared.kind.Extent.TheVariants as extents
 use Rattle.nddl_typeexpr.specs.declared.kind.TypeKind.{TypeKind}
 use Rattle.nddl_typeexpr.specs.declared.kind.TypeKind.TheVariants as kinds
 use Rattle.nddl_typeexpr.specs.declared.values.Given.{Given}
 use Rattle.nddl_typeexpr.specs.declared.values.GivenKind.{GivenKind}
 use Rattle.nddl_typeexpr.specs.Bases.{base_extent, base_fault, base_kind, meaning_fault}
-use Rattle.nddl_typeexpr.specs.Bounds.{are_too_many, is_wrong_range}
+use Rattle.nddl_typeexpr.specs.Bounds.{are_too_many}
 use Rattle.nddl_typeexpr.specs.Kinds.{is_ranged}
-use Rattle.nddl_typeexpr.specs.Values.{end_fault, fits, given_fault, given_meaning, given_sort, given_value, member_fault, missing_fault}
+use Rattle.nddl_typeexpr.specs.Values.{given_fault, given_meaning, given_sort, given_value, member_fault}
 use Rattle.nddl_hierarchy.specs.Facts.{Facts}
 use Rattle.nddl_declarations.specs.Classes.{class_meaning_fault}
 use Rattle.nddl_declarations.specs.Faults.{all_faults}
@@ -64,15 +65,15 @@ use Rattle.nddl_resolve.specs.Following.{Understood, asked_by, object_alone, res
 use Rattle.nddl_resolve.specs.Paths.{Surroundings, asked_token, expr_denoted, first_denoted, last_seen, near_denoted, own_denoted, path_denoted}
 use Rattle.nddl_rule_check.specs.declared.asked.Asked.{Asked}
 use Rattle.nddl_rule_check.specs.declared.asked.Asked.TheVariants as asked
-use Rattle.nddl_rule_check.specs.Arguments.{argument_faults, arguments_faults, asked_by_type, compared_faults, condition_faults, constraint_faults, init_faults, meant_by}
+use Rattle.nddl_rule_check.specs.Arguments.{are_decimals, argument_faults, arguments_faults, asked_by_type, asked_of_both, compared_faults, condition_faults, constraint_faults, init_faults, meant_by}
 use Rattle.nddl_rule_check.specs.Blocks.{block_faults, local_faults, local_value, slot_faults, slot_value, turn_faults, turn_value}
 use Rattle.nddl_rule_check.specs.Calls.{body_call_faults, constraint_call_faults, named_call_faults, no_act_faults, rule_call_faults}
-use Rattle.nddl_rule_check.specs.Constraints.{asked_at, constraint_named, relation_named, takes}
+use Rattle.nddl_rule_check.specs.Constraints.{asked_among, constraint_named, relation_named, takes}
 use Rattle.nddl_rule_check.specs.Rules.{part_rule_faults}
 use Rattle.nddl_rule_check.specs.Seeing.{seeing_turn, token_alone}
 use Rattle.nddl_rule_check.specs.Slots.{ask_faults, is_label, is_name_seen, label_faults, labelled_slot, related_faults, related_names, relation_faults, slot_names, unwanted_faults}
-use Rattle.nddl_rule_check.specs.Types.{file_member_faults, local_bounds_faults, local_end_fault, local_end_number, local_ends_faults, local_member_faults, local_members_faults, local_no_range_faults, local_numbers, local_range_faults, local_type_faults, local_value_fault, near_fault, near_member_fault, near_value, object_faults}
-use Rattle.nddl_rule_check.specs.Values.{compared_with, is_unfit}
+use Rattle.nddl_rule_check.specs.Types.{file_member_faults, is_wrong_local, local_bounds_faults, local_ends_faults, local_member_faults, local_members_faults, local_no_range_faults, local_numbers, local_range_faults, local_type_faults, local_value_fault, near_member_fault, near_value, object_faults}
+use Rattle.nddl_rule_check.specs.Values.{compared_with, unfit_fault}
 use Rattle.nddl_terms.specs.declared.tree.Meaning as tree
 use Rattle.nddl_terms.specs.declared.tree.ReadName.{ReadName}
 use Rattle.nddl_rules.specs.Blocks.{asks_slot}
@@ -193,27 +194,28 @@ module _ (facts : Facts) (decl : ℕ) (outlook : Outlook) where
       let expr = exprs.Path path in
       in_path path (path_found facts decl outlook.around path
       (none_first (understood_faults decl (expr_denoted facts outlook.around expr))
-      (faults_here decl (expr_place expr) (fault_if (is_unfit asks compared expr (meant_by facts outlook.around expr)) faults.WrongType)) none))
+      (faults_here decl (expr_place expr) (unfit_fault asks compared expr (meant_by facts outlook.around expr))) none))
 
-  arguments_found : (kind : Kind) (place : ℕ) (compared : Option TypeKind) (some : List Expr)
-      → arguments_faults facts outlook.around decl kind place compared some ≡ [] → Found (exprs_lookups outlook some)
-  arguments_found kind place compared [] none = tt
-  arguments_found kind place compared (expr ∷ more) none =
-      let next = compared_with (asked_at kind place) compared (meant_by facts outlook.around expr) in
-      let here = argument_faults facts outlook.around decl (asked_at kind place) compared expr in
-      let rest = arguments_faults facts outlook.around decl kind (place + 1) next more in
+  arguments_found : (asks : ℕ → Asked) (place : ℕ) (compared : Option TypeKind) (some : List Expr)
+      → arguments_faults facts outlook.around decl asks place compared some ≡ [] → Found (exprs_lookups outlook some)
+  arguments_found asks place compared [] none = tt
+  arguments_found asks place compared (expr ∷ more) none =
+      let next = compared_with (asks place) compared (meant_by facts outlook.around expr) in
+      let here = argument_faults facts outlook.around decl (asks place) compared expr in
+      let rest = arguments_faults facts outlook.around decl asks (place + 1) next more in
       all_append (IsFound facts) (expr_lookups outlook expr) (exprs_lookups outlook more)
-      (argument_found (asked_at kind place) compared expr (none_first here rest none))
-      (arguments_found kind (place + 1) next more (none_second here rest none))
+      (argument_found (asks place) compared expr (none_first here rest none))
+      (arguments_found asks (place + 1) next more (none_second here rest none))
 
   constraint_found : (kind : Kind) (at : ℕ) (some : List Expr) → constraint_faults facts outlook.around decl kind at some ≡ []
       → Found (exprs_lookups outlook some)
-  constraint_found kind at some = by (takes kind (length some))
+  constraint_found kind at some = by (asked_among (are_decimals facts outlook.around kind 0 some) kind) (takes kind (length some))
     where
-      by : (b : Bool) → (if b then arguments_faults facts outlook.around decl kind 0 None some else faults_here decl at (Some faults.WrongCount)) ≡ []
+      by : (asks : ℕ → Asked) (b : Bool)
+          → (if b then arguments_faults facts outlook.around decl asks 0 None some else faults_here decl at (Some faults.WrongCount)) ≡ []
           → Found (exprs_lookups outlook some)
-      by true none = arguments_found kind 0 None some none
-      by false none = absurd (one_fault decl at faults.WrongCount none)
+      by asks true none = arguments_found asks 0 None some none
+      by asks false none = absurd (one_fault decl at faults.WrongCount none)
 
   constraint_call_found : (name : Name) (some : List Expr) → constraint_call_faults facts outlook.around decl name some ≡ []
       → Found (exprs_lookups outlook some)
@@ -295,12 +297,12 @@ module _ (facts : Facts) (decl : ℕ) (outlook : Outlook) where
 
   compared_found : (one other : Expr) → compared_faults facts outlook.around decl one other ≡ [] → Found (expr_lookups outlook one ++ expr_lookups outlook other)
   compared_found one other none =
-      let next = compared_with asked.Compared None (meant_by facts outlook.around one) in
-      let first = argument_faults facts outlook.around decl asked.Compared None one in
-      let second = argument_faults facts outlook.around decl asked.Compared next other in
+      let asks = asked_of_both (meant_by facts outlook.around one) (meant_by facts outlook.around other) in
+      let next = compared_with asks None (meant_by facts outlook.around one) in
+      let first = argument_faults facts outlook.around decl asks None one in
+      let second = argument_faults facts outlook.around decl asks next other in
       all_append (IsFound facts) (expr_lookups outlook one) (expr_lookups outlook other)
-      (argument_found asked.Compared None one (none_first first second none))
-      (argument_found asked.Compared next other (none_second first second none))
+      (argument_found asks None one (none_first first second none)) (argument_found asks next other (none_second first second none))
 
   condition_found : (condition : Condition) → condition_faults facts outlook.around decl condition ≡ [] → Found (condition_lookups outlook condition)
   condition_found (conditions.Truth expr) none = argument_found (asked.Of kinds.Bool) None expr none
@@ -365,16 +367,8 @@ module _ (facts : Facts) (decl : ℕ) (outlook : Outlook) where
       by None is same = absurd (differ same)
       by (Some found) is same = (found, is)
 
-  no_missing : (value : Value) → Some (missing_fault value) ≡ None → ⊥
-  no_missing value is = none-some (missing_fault value) (sym is)
-
-  end_found : (value : Value) → local_end_fault facts outlook.around value ≡ None → Found (value_lookups outlook value)
-  end_found value is = value_found value (by (near_value facts outlook.around value) is)
-    where
-      by : (o : Option Denoted) → option_map_or near_fault o (end_fault facts.names value) ≡ None
-          → (o ≡ None → (found : Given) × (given_value facts.names value ≡ Some found))
-      by (Some meant) is none = absurd (none-some meant (sym none))
-      by None is none = is_given value (λ (given : Given). if fits kinds.Int given.kind then None else Some faults.WrongType) (Some (missing_fault value)) None (no_missing value) is
+  no_unknown : Some faults.Unknown ≡ None → ⊥
+  no_unknown is = none-some faults.Unknown (sym is)
 
   member_found : (kind : TypeKind) (extent : Extent) (value : Value) → local_member_faults facts outlook.around decl kind extent value ≡ []
       → Found (value_lookups outlook value)
@@ -387,7 +381,7 @@ module _ (facts : Facts) (decl : ℕ) (outlook : Outlook) where
       by (Some meant) is none = absurd (none-some meant (sym none))
       by None is none =
           let own = faults_here decl (value_place value) (member_fault facts.names kind extent value) in
-          is_given value (given_fault kind extent) (Some (missing_fault value)) None (no_missing value)
+          is_given value (given_fault kind extent) (Some faults.Unknown) None no_unknown
           (no_fault decl (value_place value) (member_fault facts.names kind extent value) (none_first own (object_faults facts decl kind value) is))
 
   -- ---- types of locals
@@ -410,18 +404,17 @@ module _ (facts : Facts) (decl : ℕ) (outlook : Outlook) where
   range_found kind extent at least greatest = by (is_ranged kind extent)
     where
       by : (b : Bool)
-          → (if b then local_ends_faults facts outlook.around extent decl at least greatest
+          → (if b then local_ends_faults facts outlook.around kind extent decl at least greatest
           else local_no_range_faults facts outlook.around decl least greatest) ≡ []
           → Found (value_lookups outlook least ++ value_lookups outlook greatest)
       by true none =
-          let wrong = is_wrong_range extent (local_end_number facts outlook.around least) (local_end_number facts outlook.around greatest) in
-          let order = faults_here decl at (fault_if wrong faults.NotInDomain) in
-          let first = faults_here decl (value_place least) (local_end_fault facts outlook.around least) in
-          let second = faults_here decl (value_place greatest) (local_end_fault facts outlook.around greatest) in
+          let order = faults_here decl at (fault_if (is_wrong_local facts outlook.around kind extent least greatest) faults.NotInDomain) in
+          let first = local_member_faults facts outlook.around decl kind extents.Whole least in
+          let second = local_member_faults facts outlook.around decl kind extents.Whole greatest in
           let both : first ++ second ≡ [] = none_second order (first ++ second) none in
           all_append (IsFound facts) (value_lookups outlook least) (value_lookups outlook greatest)
-          (end_found least (no_fault decl (value_place least) (local_end_fault facts outlook.around least) (none_first first second both)))
-          (end_found greatest (no_fault decl (value_place greatest) (local_end_fault facts outlook.around greatest) (none_second first second both)))
+          (member_found kind extents.Whole least (none_first first second both))
+          (member_found kind extents.Whole greatest (none_second first second both))
       by false none =
           let first = faults_here decl (value_place least) (local_value_fault facts outlook.around least) in
           let wrong = faults_here decl (value_place least) (Some faults.WrongType) in

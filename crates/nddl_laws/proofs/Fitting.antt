@@ -13,7 +13,6 @@ use Rattle.nddl_ast.specs.declared.expression.Value.{Value}
 use Rattle.nddl_ast.specs.declared.kind.TextKind.TheVariants as faults
 use Rattle.nddl_ast.specs.Places.{value_place}
 use Rattle.nddl_symbols.specs.declared.declared.Declared.{Declared}
-use Rattle.nddl_symbols.specs.declared.fault.Fault.{Fault}
 use Rattle.nddl_symbols.specs.Finding.{faults_here}
 use Rattle.nddl_symbols.specs.Scope.{fault_if}
 use Rattle.nddl_typeexpr.specs.declared.kind.Extent.{Extent}
@@ -28,13 +27,18 @@ use Rattle.nddl_typeexpr.specs.Values.{end_fault, end_number, member_fault, own_
 use Rattle.nddl_laws.specs.Fine.{IsFineBounds, IsFineValue}
 use Rattle.nddl_laws.proofs.Lists.{all_kept, none_flat}
 use Rattle.nddl_laws.proofs.Numbers.{HasEnum}
-use Rattle.nddl_laws.proofs.Values.{IsKept, end_kept, no_fault, not_so, own_kept, own_there}
+use Rattle.nddl_laws.proofs.Values.{IsKept, no_fault, not_so, own_kept, own_there}
 use Rattle.nddl_laws.proofs.Nothing.{none_first, none_second}
+
+-- they may be the ends of a range
+abbrev pub AreEnds : ℤ → ℤ → Type 0
+AreEnds least greatest = IsValue least × IsValue greatest × (least ≤ℤ greatest)
 
 -- the values of a type of this kind are of it: of a range its ends are in order, and a set has from 1 to 4,096 members
 abbrev pub FitsExtent : List Declared → TypeKind → Extent → Type 0
 FitsExtent names kind extents.Whole = ⊤
-FitsExtent names kinds.Int (extents.Range least greatest) = IsValue least × IsValue greatest × (least ≤ℤ greatest)
+FitsExtent names kinds.Int (extents.Range least greatest) = AreEnds least greatest
+FitsExtent names kinds.Float (extents.Range least greatest) = AreEnds least greatest
 FitsExtent names kind (extents.Range least greatest) = ⊥
 FitsExtent names kind (extents.Set members) = All (IsKept names kind) members × (0 < length members) × (length members ≤ 4096)
 
@@ -84,28 +88,29 @@ in_order least greatest b is = by (int_le least greatest) refl is
     by true passes is = grind (arith, ints)
     by false fails is = absurd (let e : true ≡ false = is in cc)
 
-ends_fit : (names : List Declared) (extent : Extent) (at : ℕ) (least greatest : Value) → IsFineValue least → IsFineValue greatest
-    → ends_faults names extent 0 at least greatest ≡ []
-    → FitsExtent names kinds.Int (extent_between (end_number names least) (end_number names greatest))
-ends_fit names extent at least greatest one other none = by (end_number names least) (end_number names greatest) refl refl
+-- of a kind that keeps values what is left between two ends fits
+ends_fit : (names : List Declared) (kind : TypeKind) (extent : Extent) (at : ℕ) (least greatest : Value) → IsFineValue least → IsFineValue greatest
+    → ((number : ℤ) → IsKept names kind number → IsValue number)
+    → ((low high : ℤ) → AreEnds low high → FitsExtent names kind (extents.Range low high)) → ends_faults names kind extent 0 at least greatest ≡ []
+    → FitsExtent names kind (extent_between (end_number names kind least) (end_number names kind greatest))
+ends_fit names kind extent at least greatest one other value fits none = by (end_number names kind least) (end_number names kind greatest) refl refl
   where
-    ends : List Fault
-    ends = faults_here 0 at (fault_if (is_wrong_range extent (end_number names least) (end_number names greatest)) faults.NotInDomain)
+    right : is_wrong_range extent (end_number names kind least) (end_number names kind greatest) ≡ false
+    right =
+        let wrong = is_wrong_range extent (end_number names kind least) (end_number names kind greatest) in
+        let first = faults_here 0 at (fault_if wrong faults.NotInDomain) in
+        let second = faults_here 0 (value_place least) (end_fault names kind least) in
+        let third = faults_here 0 (value_place greatest) (end_fault names kind greatest) in
+        not_so wrong faults.NotInDomain
+        (no_fault 0 at (fault_if wrong faults.NotInDomain) (none_first first second (none_first (first ++ second) third none)))
 
-    right : is_wrong_range extent (end_number names least) (end_number names greatest) ≡ false
-    right = not_so (is_wrong_range extent (end_number names least) (end_number names greatest)) faults.NotInDomain
-        (no_fault 0 at (fault_if (is_wrong_range extent (end_number names least) (end_number names greatest)) faults.NotInDomain)
-        (none_first (faults_here 0 at (fault_if (is_wrong_range extent (end_number names least) (end_number names greatest)) faults.NotInDomain))
-        (faults_here 0 (value_place least) (end_fault names least))
-        (none_first (faults_here 0 at (fault_if (is_wrong_range extent (end_number names least) (end_number names greatest)) faults.NotInDomain)
-        ++ faults_here 0 (value_place least) (end_fault names least)) (faults_here 0 (value_place greatest) (end_fault names greatest)) none)))
-
-    by : (low high : Option ℤ) → end_number names least ≡ low → end_number names greatest ≡ high → FitsExtent names kinds.Int (extent_between low high)
+    by : (low high : Option ℤ) → end_number names kind least ≡ low → end_number names kind greatest ≡ high
+        → FitsExtent names kind (extent_between low high)
     by None high lower upper = tt
     by (Some low) None lower upper = tt
-    by (Some low) (Some high) lower upper = (
-      end_kept names least low one lower,
-      end_kept names greatest high other upper,
+    by (Some low) (Some high) lower upper = fits low high (
+      value low (own_kept names kind extents.Whole least low one lower),
+      value high (own_kept names kind extents.Whole greatest high other upper),
       in_order low high (is_within extent low && is_within extent high) (sym (λ i. is_wrong_range extent (lower i) (upper i)) ∙ right),
     )
 
@@ -156,10 +161,16 @@ pub bounds_fit : (names : List Declared) (kind : TypeKind) (extent : Extent) (bo
     → bounds_faults names kind extent 0 bound ≡ [] → FitsExtent names kind (bounds_extent names kind extent bound)
 bounds_fit names kind extent bounds.All fit fine none = fit
 bounds_fit names kind extent (bounds.Set at values) fit fine none = set_fits names kind extent at values fine.0 fine.1 none
-bounds_fit names kinds.Int extents.Whole (bounds.Range at least greatest) fit fine none = ends_fit names extents.Whole at least greatest fine.0 fine.1 none
+bounds_fit names kinds.Int extents.Whole (bounds.Range at least greatest) fit fine none =
+    ends_fit names kinds.Int extents.Whole at least greatest fine.0 fine.1 (λ number kept. kept) (λ low high ends. ends) none
 bounds_fit names kinds.Int (extents.Range low high) (bounds.Range at least greatest) fit fine none =
-    ends_fit names (extents.Range low high) at least greatest fine.0 fine.1 none
+    ends_fit names kinds.Int (extents.Range low high) at least greatest fine.0 fine.1 (λ number kept. kept) (λ low high ends. ends) none
 bounds_fit names kinds.Int (extents.Set members) (bounds.Range at least greatest) fit fine none = absurd (no_range names least greatest none)
+bounds_fit names kinds.Float extents.Whole (bounds.Range at least greatest) fit fine none =
+    ends_fit names kinds.Float extents.Whole at least greatest fine.0 fine.1 (λ number kept. kept) (λ low high ends. ends) none
+bounds_fit names kinds.Float (extents.Range low high) (bounds.Range at least greatest) fit fine none =
+    ends_fit names kinds.Float (extents.Range low high) at least greatest fine.0 fine.1 (λ number kept. kept) (λ low high ends. ends) none
+bounds_fit names kinds.Float (extents.Set members) (bounds.Range at least greatest) fit fine none = absurd (no_range names least greatest none)
 bounds_fit names kinds.Bool extent (bounds.Range at least greatest) fit fine none = absurd (no_range names least greatest none)
 bounds_fit names (kinds.Enum number) extent (bounds.Range at least greatest) fit fine none = absurd (no_range names least greatest none)
 bounds_fit names (kinds.Object class) extent (bounds.Range at least greatest) fit fine none = absurd (no_range names least greatest none)

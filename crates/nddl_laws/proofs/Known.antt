@@ -195,7 +195,7 @@ module _ (facts : Facts) (are : AreFacts (scope_names facts.program) facts.progr
   base_fits (bases.Named name) kind is below = meaning_fits (meaning_of facts.names name.text) kind is below
   base_fits bases.Int kind is below = record { of_kind = subst (FitsKind (enums_of facts.program)) (same_Some kinds.Int kind is) tt; of_extent = tt }
   base_fits bases.Bool kind is below = record { of_kind = subst (FitsKind (enums_of facts.program)) (same_Some kinds.Bool kind is) tt; of_extent = tt }
-  base_fits bases.Float kind is below = absurd (none-some kind is)
+  base_fits bases.Float kind is below = record { of_kind = subst (FitsKind (enums_of facts.program)) (same_Some kinds.Float kind is) tt; of_extent = tt }
   base_fits bases.Str kind is below = absurd (none-some kind is)
 
   type_fits_by : (type : types.Type) (meaning : TypeMeaning) → IsFineType type → fine_meaning facts type ≡ Some meaning

@@ -20,6 +20,7 @@ pub mod Bare
 pub mod Bases
 pub mod Classed
 pub mod Contained
+pub mod Decimals
 pub mod Declared
 pub mod Down
 pub mod First

@@ -47,24 +47,24 @@ longer : {X : Type 0} (some : List X) (x : X) → length (some ++ x ∷ []) ≡ 
 longer [] x = refl
 longer (y ∷ some) x = let rest = longer some x in omega arith
 
-turn_tally : (numbered : Numbered) (meant : Denoted) → tally_of (turn_numbered numbered meant) ≡ turn_more (tally_of numbered)
+pub turn_tally : (numbered : Numbered) (meant : Denoted) → tally_of (turn_numbered numbered meant) ≡ turn_more (tally_of numbered)
 turn_tally numbered meant = λ i.
     record { turns = longer numbered.turns meant i; locals = length numbered.locals; slots = length numbered.slots }
 
-local_tally : (numbered : Numbered) (meant : Denoted) → tally_of (local_numbered numbered meant) ≡ local_more (tally_of numbered)
+pub local_tally : (numbered : Numbered) (meant : Denoted) → tally_of (local_numbered numbered meant) ≡ local_more (tally_of numbered)
 local_tally numbered meant = λ i.
     record { turns = length numbered.turns; locals = longer numbered.locals meant i; slots = length numbered.slots }
 
-slot_tally : (numbered : Numbered) (meant : Denoted) → tally_of (slot_numbered numbered meant) ≡ slot_more (tally_of numbered)
+pub slot_tally : (numbered : Numbered) (meant : Denoted) → tally_of (slot_numbered numbered meant) ≡ slot_more (tally_of numbered)
 slot_tally numbered meant = λ i.
     record { turns = length numbered.turns; locals = length numbered.locals; slots = longer numbered.slots meant i }
 
-unlabelled_tally : (b : Bool) (numbered : Numbered) → tally_of (unlabelled_if b numbered) ≡ slot_if b (tally_of numbered)
+pub unlabelled_tally : (b : Bool) (numbered : Numbered) → tally_of (unlabelled_if b numbered) ≡ slot_if b (tally_of numbered)
 unlabelled_tally true numbered = slot_tally numbered denoted.Faulty
 unlabelled_tally false numbered = refl
 
 -- both walks give the same numbers
-block_tally : (facts : Facts) (around : Surroundings) (numbered : Numbered) (statements : Statements)
+pub block_tally : (facts : Facts) (around : Surroundings) (numbered : Numbered) (statements : Statements)
     → tally_of (block_numbered facts around numbered statements) ≡ tallied (tally_of numbered) statements
 block_tally facts around numbered Nothing = refl
 block_tally facts around numbered (Declares variable more) =

@@ -76,12 +76,12 @@ module _ (names : List Declared) (number : ℕ) where
   range_at : (kind : TypeKind) (extent : Extent) (at : ℕ) (least greatest : Value) → All (IsAt number) (range_faults names kind extent number at least greatest)
   range_at kind extent at least greatest = by (is_ranged kind extent)
     where
-      by : (b : Bool) → All (IsAt number) (if b then ends_faults names extent number at least greatest else no_range_faults names number least greatest)
+      by : (b : Bool) → All (IsAt number) (if b then ends_faults names kind extent number at least greatest else no_range_faults names number least greatest)
       by true =
-          let wrong = fault_if (is_wrong_range extent (end_number names least) (end_number names greatest)) faults.NotInDomain in
-          joined number (faults_here number at wrong ++ faults_here number (value_place least) (end_fault names least)) (faults_here number (value_place greatest) (end_fault names greatest))
-          (joined number (faults_here number at wrong) (faults_here number (value_place least) (end_fault names least)) (here number at wrong)
-          (here number (value_place least) (end_fault names least))) (here number (value_place greatest) (end_fault names greatest))
+          let wrong = fault_if (is_wrong_range extent (end_number names kind least) (end_number names kind greatest)) faults.NotInDomain in
+          joined number (faults_here number at wrong ++ faults_here number (value_place least) (end_fault names kind least)) (faults_here number (value_place greatest) (end_fault names kind greatest))
+          (joined number (faults_here number at wrong) (faults_here number (value_place least) (end_fault names kind least)) (here number at wrong)
+          (here number (value_place least) (end_fault names kind least))) (here number (value_place greatest) (end_fault names kind greatest))
       by false =
           joined number (faults_here number (value_place least) (value_fault names least) ++ faults_here number (value_place least) (Some faults.WrongType))
           (faults_here number (value_place greatest) (value_fault names greatest))
@@ -113,6 +113,7 @@ module _ (names : List Declared) (number : ℕ) where
   objects_at program parents (Some (kinds.Object class)) bounds.All = All-nil (IsAt number)
   objects_at program parents (Some (kinds.Object class)) (bounds.Range at least greatest) = All-nil (IsAt number)
   objects_at program parents (Some kinds.Int) bound = All-nil (IsAt number)
+  objects_at program parents (Some kinds.Float) bound = All-nil (IsAt number)
   objects_at program parents (Some kinds.Bool) bound = All-nil (IsAt number)
   objects_at program parents (Some (kinds.Enum of)) bound = All-nil (IsAt number)
   objects_at program parents None bound = All-nil (IsAt number)

@@ -35,7 +35,7 @@ use Rattle.nddl_declarations.specs.Members.{parameter_of, parameters_of}
 use Rattle.nddl_declarations.specs.Declares.{declared_variable, number_variable, variable_with, variables_of}
 use Rattle.nddl_types.specs.Classes.{builtin_fields, class_fields, declared_fields, enums_of, fields_at, given_fields, line_down}
 use Rattle.nddl_laws.specs.Fine.{IsFineDecl, IsFineMember, IsFinePart, IsFineType, IsFineTyped}
-use Rattle.nddl_laws.proofs.Bases.{base_right, kind_right}
+use Rattle.nddl_laws.proofs.Bases.{base_right, between, kind_right, whole_ends}
 use Rattle.nddl_laws.proofs.Known.{HasFineTypes, type_fits}
 use Rattle.nddl_laws.proofs.Lists.{all_flat, all_kept}
 use Rattle.nddl_laws.proofs.Numbers.{HasMember, member_there}
@@ -113,16 +113,10 @@ number_right model name least greatest ends = record {
   kind = tt;
   base = ends;
   inside = record {
-    values = λ value has.
-        let low = ends.0.0 in
-        let high = ends.1.1 in
-        (let least_is = has.0 in omega (arith, ints), let most = has.1 in omega (arith, ints));
-    range = λ is. refl;
+    values = λ value has. between least greatest value ends has;
+    range = λ is. tt;
   };
 }
-
-whole_ends : IsDomain (Range (negsuc 999999) (pos 1000000))
-whole_ends = ((omega (arith, ints), omega (arith, ints)), (omega (arith, ints), omega (arith, ints)), omega (arith, ints))
 
 pub quantity_ends : IsDomain (Range (pos 0) (pos 1000000))
 quantity_ends = ((omega (arith, ints), omega (arith, ints)), (omega (arith, ints), omega (arith, ints)), omega (arith, ints))

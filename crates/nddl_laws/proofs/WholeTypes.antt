@@ -107,7 +107,7 @@ module _ (facts : Facts) (are : AreFacts (scope_names facts.program) facts.progr
   base_has_kind (bases.Named name) none below = name_has_kind name (meaning_of facts.names name.text) refl none below
   base_has_kind bases.Int none below = (kinds.Int, refl)
   base_has_kind bases.Bool none below = (kinds.Bool, refl)
-  base_has_kind bases.Float none below = absurd (none-some faults.Float (sym none))
+  base_has_kind bases.Float none below = (kinds.Float, refl)
   base_has_kind bases.Str none below = absurd (none-some faults.WrongType (sym none))
 
   -- a type with which nothing is wrong means something, if the typedef does that its base names

@@ -13,6 +13,7 @@ use Rattle.model_core.specs.declared.rule.Guard.{Guard}
 use Rattle.model_core.specs.declared.rule.Guard.TheVariants.{Equal, Differ}
 use Rattle.model_core.specs.declared.rule.Rule.{Rule}
 use Rattle.model_core.specs.declared.rule.Turn.{Turn}
+use Rattle.model_core.specs.declared.variable.ValueKind.TheVariants as value_kinds
 use Rattle.model_core.specs.Blocks.{OfBranch, OfItem}
 use Rattle.model_core.specs.Kinds.{AreComparable, OfRule}
 use Rattle.model_core.specs.Lawful.{IsLawfulGuard, IsLawfulItem}
@@ -81,7 +82,7 @@ sort_of_files : (world : World) (entry globals roots : ℕ) (declared : Declared
 sort_of_files world entry globals roots declared meant (sorts.Member of place) = tt
 sort_of_files world entry globals roots declared meant sorts.Global = tt
 sort_of_files world entry globals roots declared meant sorts.Object =
-    found_of_files (λ value. stands.Value (terms.Lit value) (denoted_class world meant)) (made_object (slice_get world.named_objects entry)) (λ value. tt)
+    found_of_files (λ value. stands.Value (terms.Lit value) value_kinds.Object (denoted_class world meant)) (made_object (slice_get world.named_objects entry)) (λ value. tt)
 sort_of_files world entry globals roots declared meant sorts.Root = root_of_files world roots declared meant
 sort_of_files world entry globals roots declared meant sorts.Forward = tt
 sort_of_files world entry globals roots declared meant sorts.Body = tt

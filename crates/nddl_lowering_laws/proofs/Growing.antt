@@ -41,9 +41,10 @@ use Rattle.nddl_terms.specs.Preds.{is_pred_named}
 use Rattle.nddl_terms.specs.Paths.{next_stand, numbered_field, reached, rest_stand}
 use Rattle.nddl_terms.specs.Readings.{Readings}
 use Rattle.nddl_terms.specs.Stands.{first_stand}
+use Rattle.nddl_lower.specs.Compared.{compared_terms, constraint_terms}
 use Rattle.nddl_lower.specs.Arguments.{argument, condition_guard, constraint_items, given_arguments, with_constraint, with_items}
 use Rattle.nddl_lower.specs.Calls.{with_ask, with_call, with_constraint_named, with_related, with_relation_to}
-use Rattle.nddl_lower.specs.Locals.{type_shape, with_begun, with_declared, with_named_at, with_text_local}
+use Rattle.nddl_lower.specs.Locals.{next_local, type_shape, with_begun, with_declared, with_named_at, with_text_local}
 use Rattle.nddl_lower.specs.Slots.{asked_labelled, asked_nothing, asked_of_owner, asked_path, object_items, pred_slot, wanted_of, with_asked, with_asked_at, with_relation, with_wanted_token}
 use Rattle.nddl_unroll.specs.Blocks.{all_turns, back_in, filled_block, in_block, stand_turns, turn_of, unrolled}
 
@@ -97,7 +98,7 @@ named_there lexicon class name pred is =
 
 wanted_there : (lexicon : Lexicon) (stand : Stand) (name : List ℕ) (pred : ℕ) → (wanted_of lexicon stand name).pred ≡ Some pred → HasShape lexicon pred
 wanted_there lexicon (stands.Class class) name pred is = named_there lexicon class name pred is
-wanted_there lexicon (stands.Value term class) name pred is = named_there lexicon class name pred is
+wanted_there lexicon (stands.Value term own class) name pred is = named_there lexicon class name pred is
 wanted_there lexicon (stands.Slot number of) name pred is = absurd (let never : None ≡ Some pred = is in cc)
 wanted_there lexicon (stands.Root number of) name pred is = absurd (let never : None ≡ Some pred = is in cc)
 wanted_there lexicon stands.Nothing name pred is = absurd (let never : None ≡ Some pred = is in cc)
@@ -111,7 +112,7 @@ module _ (reading : Readings) (Kept : Growth → Growth → Type 0) (kept : IsKe
       kept.join growth declared (with_access object field shape growth) (kept.local shape growth) (kept.item (access object field growth) declared)
 
   attribute_kept : (object : Term) (number : ℕ) (growth : Growth) (found : Option Attribute)
-      → Kept growth (option_map_or (λ attribute. reached (stands.Value (terms.Local (length growth.locals)) attribute.shape.class)
+      → Kept growth (option_map_or (λ attribute. reached (stands.Value (terms.Local (length growth.locals)) attribute.shape.kind attribute.shape.class)
       (with_access object number attribute.shape growth)) found (reached stands.Nothing growth)).growth
   attribute_kept object number growth None = kept.same growth
   attribute_kept object number growth (Some attribute) = access_kept object number attribute.shape growth
@@ -127,7 +128,7 @@ module _ (reading : Readings) (Kept : Growth → Growth → Type 0) (kept : IsKe
   field_kept objects object fields growth (Some number) = numbered_kept objects object fields number growth
 
   next_kept : (here : Stand) (name : Name) (growth : Growth) → Kept growth (next_stand reading here name growth).growth
-  next_kept (stands.Value term class) name growth =
+  next_kept (stands.Value term own class) name growth =
       field_kept reading.objects term (shape_fields reading.lexicon class) growth (attribute_number name.text (shape_fields reading.lexicon class))
   next_kept (stands.Slot number pred) name growth = kept.same growth
   next_kept (stands.Root number pred) name growth = kept.same growth
@@ -172,7 +173,7 @@ module _ (reading : Readings) (Kept : Growth → Growth → Type 0) (kept : IsKe
   constraint_kept turns kind some growth =
       let given = given_arguments reading turns some growth in
       kept.join growth given.growth (with_constraint reading turns kind some growth) (exprs_kept turns some growth)
-      (kept.items (constraint_items kind given.terms) given.growth)
+      (kept.items (constraint_items kind (constraint_terms kind given.stands)) given.growth)
 
   -- ---- slots
 
@@ -266,7 +267,7 @@ module _ (reading : Readings) (Kept : Growth → Growth → Type 0) (kept : IsKe
 
   declared_kept : (at : ℕ) (shape : Shape) (growth : Growth) → Kept growth (with_declared at shape growth)
   declared_kept at shape growth =
-      let stand = stands.Value (terms.Local (length growth.locals)) shape.class in
+      let stand = next_local shape growth in
       let noted = with_named_at at stand growth in
       kept.join growth noted (with_declared at shape growth) (kept.named at stand growth) (kept.local shape noted)
 
@@ -280,7 +281,7 @@ module _ (reading : Readings) (Kept : Growth → Growth → Type 0) (kept : IsKe
       let whole = with_begun reading turns at shape (Some (inits.Expr expr)) growth in
       kept.join growth given.growth whole (expr_kept turns expr growth)
       (kept.join given.growth declared whole (declared_kept at shape given.growth)
-      (kept.item (Constraint Eq (terms.Local (length given.growth.locals) ∷ given.term ∷ [])) declared))
+      (kept.item (Constraint Eq (compared_terms (next_local shape given.growth ∷ given.stand ∷ []))) declared))
 
   pub local_kept : (turns : List Made) (variable : Variable) (growth : Growth)
       → Kept growth (with_text_local reading turns variable growth)

@@ -30,7 +30,7 @@ use Rattle.nddl_rules.specs.Sight.{Sight}
 use Rattle.nddl_rules.specs.Tally.{local_more, slot_more, turn_more}
 use Rattle.nddl_laws.specs.Lookups.{IsReadFor, Lookup, Outlook, asked_lookups, block_lookups, block_numbered, condition_lookups, expr_lookups, exprs_lookups, in_files, init_lookups, local_lookups, lookup_read, name_read, own_outlook, rule_lookups, rule_names, rule_numbered, sees_label, sees_local, sees_turn, type_lookups, unlabelled_if}
 use Rattle.nddl_laws.specs.Scoping.{Numbered, local_numbered, none_numbered, slot_numbered, sources_in, tally_of, turn_numbered}
-use Rattle.nddl_laws.proofs.Looking.{rule_alike}
+use Rattle.nddl_laws.proofs.Looking.{block_tally, local_tally, rule_alike, slot_tally, turn_tally, unlabelled_tally}
 use Rattle.nddl_lowering_laws.specs.Fine.{ReadNamesAreFound}
 use Rattle.nddl_lowering_laws.specs.Scoped.{AreExprsRead, AreRead, IsAskedRead, IsConditionRead, IsExprRead, IsInitRead}
 
@@ -129,56 +129,6 @@ left_part P (x ∷ one) other all = (all.0, left_part P one other all.1)
 right_part : {X : Type 0} (P : X → Type 0) (one other : List X) → AllByRecursion P (one ++ other) → AllByRecursion P other
 right_part P [] other all = all
 right_part P (x ∷ one) other all = right_part P one other all.1
-
--- ---- how many have a number
-
-longer : {X : Type 0} (some : List X) (x : X) → length (some ++ x ∷ []) ≡ length some + 1
-longer some x = omega (arith, length-append some (x ∷ []))
-
-turn_tally : (numbered : Numbered) (meant : Denoted) → tally_of (turn_numbered numbered meant) ≡ turn_more (tally_of numbered)
-turn_tally numbered meant = λ i.
-    record { turns = longer numbered.turns meant i; locals = length numbered.locals; slots = length numbered.slots }
-
-local_tally : (numbered : Numbered) (meant : Denoted) → tally_of (local_numbered numbered meant) ≡ local_more (tally_of numbered)
-local_tally numbered meant = λ i.
-    record { turns = length numbered.turns; locals = longer numbered.locals meant i; slots = length numbered.slots }
-
-slot_tally : (numbered : Numbered) (meant : Denoted) → tally_of (slot_numbered numbered meant) ≡ slot_more (tally_of numbered)
-slot_tally numbered meant = λ i.
-    record { turns = length numbered.turns; locals = length numbered.locals; slots = longer numbered.slots meant i }
-
-unlabelled_tally : (b : Bool) (numbered : Numbered) → tally_of (unlabelled_if b numbered) ≡ slot_if b (tally_of numbered)
-unlabelled_tally true numbered = slot_tally numbered denoted.Faulty
-unlabelled_tally false numbered = refl
-
-block_tally : (facts : Facts) (around : Surroundings) (numbered : Numbered) (stmts : Statements)
-    → tally_of (block_numbered facts around numbered stmts) ≡ tallied (tally_of numbered) stmts
-block_tally facts around numbered Nothing = refl
-block_tally facts around numbered (Declares variable more) =
-    let meant = local_value facts variable in
-    block_tally facts (seeing_local around variable.name meant) (local_numbered numbered meant) more
-    ∙ ap (λ tally. tallied tally more) (local_tally numbered meant)
-block_tally facts around numbered (Calls call more) =
-    block_tally facts around (unlabelled_if (asks_slot call) numbered) more
-    ∙ ap (λ tally. tallied tally more) (unlabelled_tally (asks_slot call) numbered)
-block_tally facts around numbered (Asks ask more) =
-    let meant = slot_value facts around ask in
-    block_tally facts (seeing_label around ask.label meant) (slot_numbered numbered meant) more
-    ∙ ap (λ tally. tallied tally more) (slot_tally numbered meant)
-block_tally facts around numbered (Tests at condition then_at inside more) =
-    block_tally facts around (block_numbered facts around numbered inside) more
-    ∙ ap (λ tally. tallied tally more) (block_tally facts around numbered inside)
-block_tally facts around numbered (Chooses at condition then_at inside else_at other more) =
-    let behind = block_numbered facts around numbered inside in
-    block_tally facts around (block_numbered facts around behind other) more
-    ∙ ap (λ tally. tallied tally more)
-    (block_tally facts around behind other ∙ ap (λ tally. tallied tally other) (block_tally facts around numbered inside))
-block_tally facts around numbered (Repeats at name class body_at body more) =
-    let meant = turn_value facts class in
-    block_tally facts around (block_numbered facts (seeing_turn around name meant) (turn_numbered numbered meant) body) more
-    ∙ ap (λ tally. tallied tally more)
-    (block_tally facts (seeing_turn around name meant) (turn_numbered numbered meant) body
-    ∙ ap (λ tally. tallied tally body) (turn_tally numbered meant))
 
 -- ---- statements
 

@@ -25,10 +25,11 @@ use Rattle.nddl_symbols.specs.Repeats.{repeated_fault}
 use Rattle.nddl_hierarchy.specs.Facts.{Facts}
 use Rattle.nddl_resolve.specs.Following.{Understood, understood_faults}
 use Rattle.nddl_resolve.specs.Paths.{Surroundings, path_denoted}
-use Rattle.nddl_rule_check.specs.Arguments.{arguments_faults, condition_faults, constraint_faults}
+use Rattle.nddl_rule_check.specs.declared.asked.Asked.{Asked}
+use Rattle.nddl_rule_check.specs.Arguments.{are_decimals, arguments_faults, condition_faults, constraint_faults}
 use Rattle.nddl_rule_check.specs.Blocks.{block_faults, local_faults, local_value, slot_faults, slot_value, turn_faults, turn_value}
 use Rattle.nddl_rule_check.specs.Calls.{body_call_faults, constraint_call_faults, named_call_faults, no_act_faults, rule_call_faults}
-use Rattle.nddl_rule_check.specs.Constraints.{constraint_named, constraint_words, relation_named, takes}
+use Rattle.nddl_rule_check.specs.Constraints.{asked_among, constraint_named, constraint_words, relation_named, takes}
 use Rattle.nddl_rule_check.specs.Rules.{part_rule_faults}
 use Rattle.nddl_rule_check.specs.Seeing.{seeing_label, seeing_local, seeing_turn}
 use Rattle.nddl_rule_check.specs.Slots.{ask_faults, labelled_slot, relation_faults}
@@ -63,12 +64,12 @@ module _ (facts : Facts) (decl : ℕ) (around : Surroundings) where
 
   -- as many arguments as the constraint may have
   takes_them : (kind : Kind) (at : ℕ) (some : List Expr) → constraint_faults facts around decl kind at some ≡ [] → takes kind (length some) ≡ true
-  takes_them kind at some none = by (takes kind (length some)) none
+  takes_them kind at some none = by (asked_among (are_decimals facts around kind 0 some) kind) (takes kind (length some)) none
     where
-      by : (so : Bool) → (if so then arguments_faults facts around decl kind 0 None some else faults_here decl at (Some faults.WrongCount)) ≡ []
-          → so ≡ true
-      by true none = refl
-      by false none = absurd (one_fault decl at faults.WrongCount none)
+      by : (asks : ℕ → Asked) (so : Bool)
+          → (if so then arguments_faults facts around decl asks 0 None some else faults_here decl at (Some faults.WrongCount)) ≡ [] → so ≡ true
+      by asks true none = refl
+      by asks false none = absurd (one_fault decl at faults.WrongCount none)
 
   constraint_takes : (name : Name) (some : List Expr) (kind : Kind) → constraint_named name.text ≡ Some kind
       → constraint_call_faults facts around decl name some ≡ [] → takes kind (length some) ≡ true

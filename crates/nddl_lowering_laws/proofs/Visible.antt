@@ -286,12 +286,12 @@ constraint_among seen kind some taken are = ((arity_is kind (length some) tt tak
 
 -- what stands for a name is seen
 abbrev pub IsStandAmong : SeenNames → Stand → Type 0
-IsStandAmong seen (stands.Value term class) = IsTermAmong seen term
+IsStandAmong seen (stands.Value term own class) = IsTermAmong seen term
 IsStandAmong seen (stands.Slot number pred) = Contains seen (names.Slot number)
 IsStandAmong seen stand = Unit {0}
 
 pub stand_more : (seen more : SeenNames) → HasMore seen more → (stand : Stand) → IsStandAmong seen stand → IsStandAmong more stand
-stand_more seen more grows (stands.Value term class) is = term_more seen more grows term is
+stand_more seen more grows (stands.Value term own class) is = term_more seen more grows term is
 stand_more seen more grows (stands.Slot number pred) is = grows (names.Slot number) is
 stand_more seen more grows (stands.Root number pred) is = tt
 stand_more seen more grows (stands.Class class) is = tt

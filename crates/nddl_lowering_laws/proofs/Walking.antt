@@ -1,9 +1,11 @@
 -- What stands in a rule that is unrolled names what is seen there: one statement after another.
-use Rattle.std.proofs.Common.{◌≡◌, ℕ, suc, ◌-◌, ◌==◌, ◌≤◌, List, [], ◌∷◌, ◌++◌, length, take, refl, sym, ◌∙◌, ap, subst, arith}
+use Rattle.std.proofs.Common.{◌≡◌, ℕ, suc, ◌-◌, ◌==◌, ◌≤◌, List, [], ◌∷◌, ◌++◌, length, map, take, refl, sym, ◌∙◌, ap, subst, arith}
 use Rattle.std.specs.Prelude.{ℤ, pos, Bool, Option, Some, None, true, false, All, Contains, IfSome, IsSome, is_some, slice_get, if◌then◌else◌}
+use Rattle.std.specs.List.{AllByRecursion}
 use Rattle.std.specs.Option.{option_and_then, option_map, option_map_or, option_or}
+use Rattle.std.proofs.lemmas.List.{length-map}
 use Rattle.domain_core.specs.declared.kind.Kind.{Kind}
-use Rattle.domain_core.specs.declared.kind.Kind.TheVariants.{Eq}
+use Rattle.domain_core.specs.declared.kind.Kind.TheVariants.{Eq, MulEq, TestEq, TestLeq}
 use Rattle.eu_index.specs.Hiding.{last_meaning}
 use Rattle.eu_index.specs.Index.{Noted, noted_number}
 use Rattle.eu_name.specs.declared.name.Part.{Part}
@@ -13,6 +15,8 @@ use Rattle.model_core.specs.declared.item.Rel.{Rel}
 use Rattle.model_core.specs.declared.item.Term.{Term}
 use Rattle.model_core.specs.declared.item.Term.TheVariants as terms
 use Rattle.model_core.specs.declared.rule.Entry.TheVariants as entries
+use Rattle.model_core.specs.declared.variable.ValueKind.{ValueKind}
+use Rattle.model_core.specs.declared.variable.ValueKind.TheVariants as value_kinds
 use Rattle.model_core.specs.Block.{plain_entries}
 use Rattle.model_core.proofs.Items.{item_all}
 use Rattle.model_rules.specs.declared.names.Name.TheVariants as names
@@ -47,13 +51,14 @@ use Rattle.nddl_terms.specs.declared.stands.Stand.TheVariants as stands
 use Rattle.nddl_terms.specs.declared.tree.Meaning.{Meaning}
 use Rattle.nddl_terms.specs.declared.tree.Meaning.TheVariants as meanings
 use Rattle.nddl_terms.specs.Growth.{access, unnamed, with_access, with_last_entry, with_next_local, with_slot}
-use Rattle.nddl_terms.specs.Lexicon.{attribute_class, attribute_number, class_objects, part_called, pred_class, pred_named, shape_fields}
+use Rattle.nddl_terms.specs.Lexicon.{attribute_class, attribute_kind, attribute_number, class_objects, part_called, pred_class, pred_named, shape_fields}
 use Rattle.nddl_terms.specs.Paths.{Reached, known_value, next_stand, numbered_field, part_stand, reached, rest_stand}
 use Rattle.nddl_terms.specs.Readings.{Readings}
 use Rattle.nddl_terms.specs.Stands.{declared_stand, file_stand, first_stand, latest_stand, meaning_stand, stand_if_at, stand_or_nothing}
-use Rattle.nddl_lower.specs.Arguments.{AllArgued, Argued, Tested, argument, condition_guard, constant_term, constraint_items, given_arguments, stand_term, with_constraint, with_items}
+use Rattle.nddl_lower.specs.Arguments.{AllReached, Tested, argument, condition_guard, constant_stand, constraint_items, given_arguments, with_constraint, with_items}
+use Rattle.nddl_lower.specs.Compared.{compared_term, compared_terms, constraint_terms, decimal_term, has_decimal, stand_term}
 use Rattle.nddl_lower.specs.Calls.{with_ask, with_call, with_constraint_named, with_related, with_relation_to}
-use Rattle.nddl_lower.specs.Locals.{type_shape, with_begun, with_declared, with_text_local}
+use Rattle.nddl_lower.specs.Locals.{next_local, type_shape, with_begun, with_declared, with_text_local}
 use Rattle.nddl_lower.specs.Slots.{AskedSlot, asked_labelled, asked_nothing, asked_of_owner, asked_path, object_items, pred_slot, wanted_of, with_asked, with_asked_at, with_relation, with_wanted_token}
 use Rattle.nddl_unroll.specs.Blocks.{all_turns, back_in, filled_block, in_block, stand_turns, turn_of, turn_stands, unrolled}
 use Rattle.nddl_unroll.specs.Meant.{AreMeant, InEachTurn}
@@ -62,21 +67,21 @@ use Rattle.nddl_unroll.proofs.Extras.{EachMade, IsKnownStand, each_more}
 use Rattle.nddl_lowering_laws.specs.Scoped.{AreApart, AreExprsRead, AreRead, HasFineCalls, IsAskedRead, IsConditionRead, IsExprRead, IsFirstRead, IsInitRead, local_places, slot_places}
 use Rattle.nddl_lowering_laws.specs.Seen.{IsOfFiles, sides_of}
 use Rattle.nddl_lowering_laws.proofs.Placing.{Placed, call_counts, call_locals, placed_first, placed_left, placed_right, tallied_locals, tallied_slots}
-use Rattle.nddl_lowering_laws.proofs.Visible.{EachAmong, Goes, HasMore, IsFoundAmong, IsStandAmong, IsViewed, OnFound, Reads, SeenNames, TermsAmong, Views, added_seen, adds_one, adds_same, constraint_among, entries_seen, found_more, found_stand, goes_branch, goes_join, goes_reading, last_on, local_seen, names_more, number_more, reads_item, reads_items, reads_join, reads_local, reads_same, seen_in, stand_last, term_more, two_among, views_beside, views_inside, views_later}
+use Rattle.nddl_lowering_laws.proofs.Visible.{EachAmong, Goes, HasMore, IsFoundAmong, IsStandAmong, IsViewed, OnFound, Reads, SeenNames, TermsAmong, Views, added_seen, adds_one, adds_same, constraint_among, entries_seen, found_more, found_stand, goes_branch, goes_join, goes_reading, last_on, local_seen, names_more, number_more, reads_item, reads_items, reads_join, reads_local, reads_same, seen_in, stand_last, stand_more, term_more, two_among, views_beside, views_inside, views_later}
 
 -- ---- what names stand for
 
 known_among : (seen : SeenNames) (stand : Stand) → IsKnownStand stand → IsStandAmong seen stand
-known_among seen (stands.Value (terms.Lit value) class) is = tt
+known_among seen (stands.Value (terms.Lit value) own class) is = tt
 known_among seen stand is = absurd is
 
 files_among : (seen : SeenNames) (stand : Stand) → IsOfFiles stand → IsStandAmong seen stand
-files_among seen (stands.Value (terms.Slot number part) class) is = absurd is
-files_among seen (stands.Value (terms.Local number) class) is = absurd is
-files_among seen (stands.Value (terms.Lit value) class) is = tt
-files_among seen (stands.Value (terms.Here part) class) is = tt
-files_among seen (stands.Value (terms.Global number) class) is = tt
-files_among seen (stands.Value (terms.Root number part) class) is = tt
+files_among seen (stands.Value (terms.Slot number part) own class) is = absurd is
+files_among seen (stands.Value (terms.Local number) own class) is = absurd is
+files_among seen (stands.Value (terms.Lit value) own class) is = tt
+files_among seen (stands.Value (terms.Here part) own class) is = tt
+files_among seen (stands.Value (terms.Global number) own class) is = tt
+files_among seen (stands.Value (terms.Root number part) own class) is = tt
 files_among seen (stands.Slot number pred) is = absurd is
 files_among seen (stands.Root number pred) is = tt
 files_among seen (stands.Class class) is = tt
@@ -131,7 +136,7 @@ module _ (reading : Readings) (files : All IsOfFiles reading.lexicon.scope) wher
   nowhere outer growth = record { reads = reads_same outer growth; among = tt }
 
   attribute_leads : (outer : SeenNames) (object : Term) (number : ℕ) (growth : Growth) (found : Option Attribute) → IsTermAmong (seen_in outer growth) object
-      → LeadsOn outer growth (option_map_or (λ attribute. reached (stands.Value (terms.Local (length growth.locals)) attribute.shape.class)
+      → LeadsOn outer growth (option_map_or (λ attribute. reached (stands.Value (terms.Local (length growth.locals)) attribute.shape.kind attribute.shape.class)
       (with_access object number attribute.shape growth)) found (reached stands.Nothing growth))
   attribute_leads outer object number growth None among = nowhere outer growth
   attribute_leads outer object number growth (Some attribute) among =
@@ -147,15 +152,15 @@ module _ (reading : Readings) (files : All IsOfFiles reading.lexicon.scope) wher
         among = second.more (names.Local local) here;
       }
 
-  known_leads : (outer : SeenNames) (growth : Growth) (found : Option ℤ) (class : ℕ)
-      → LeadsOn outer growth (reached (option_map_or (λ content. stands.Value (terms.Lit content) class) found stands.Nothing) growth)
-  known_leads outer growth None class = nowhere outer growth
-  known_leads outer growth (Some content) class = record { reads = reads_same outer growth; among = tt }
+  known_leads : (outer : SeenNames) (growth : Growth) (found : Option ℤ) (kind : ValueKind) (class : ℕ)
+      → LeadsOn outer growth (reached (option_map_or (λ content. stands.Value (terms.Lit content) kind class) found stands.Nothing) growth)
+  known_leads outer growth None kind class = nowhere outer growth
+  known_leads outer growth (Some content) kind class = record { reads = reads_same outer growth; among = tt }
 
   numbered_leads : (outer : SeenNames) (object : Term) (fields : List Attribute) (number : ℕ) (growth : Growth) → IsTermAmong (seen_in outer growth) object
       → LeadsOn outer growth (numbered_field reading.objects object fields number growth)
   numbered_leads outer (terms.Lit value) fields number growth among =
-      known_leads outer growth (known_value reading.objects value number) (attribute_class fields number)
+      known_leads outer growth (known_value reading.objects value number) (attribute_kind fields number) (attribute_class fields number)
   numbered_leads outer object fields number growth among = attribute_leads outer object number growth (slice_get fields number) among
 
   field_leads : (outer : SeenNames) (object : Term) (fields : List Attribute) (growth : Growth) (found : Option ℕ) → IsTermAmong (seen_in outer growth) object
@@ -175,7 +180,7 @@ module _ (reading : Readings) (files : All IsOfFiles reading.lexicon.scope) wher
 
   next_leads : (outer : SeenNames) (here : Stand) (name : Name) (growth : Growth) → IsStandAmong (seen_in outer growth) here
       → LeadsOn outer growth (next_stand reading here name growth)
-  next_leads outer (stands.Value term class) name growth among =
+  next_leads outer (stands.Value term own class) name growth among =
       field_leads outer term (shape_fields reading.lexicon class) growth (attribute_number name.text (shape_fields reading.lexicon class)) among
   next_leads outer (stands.Slot number pred) name growth among =
       slot_leads outer number pred growth (part_called reading.lexicon pred name.text) among
@@ -284,34 +289,62 @@ module _ (reading : Readings) (files : All IsOfFiles reading.lexicon.scope) wher
     -- ---- arguments
 
     term_among : (seen : SeenNames) (stand : Stand) → IsStandAmong seen stand → IsTermAmong seen (stand_term stand)
-    term_among seen (stands.Value term class) among = among
+    term_among seen (stands.Value term own class) among = among
     term_among seen (stands.Slot number pred) among = tt
     term_among seen (stands.Root number pred) among = tt
     term_among seen (stands.Class class) among = tt
     term_among seen stands.Nothing among = tt
 
-    constant_among : (seen : SeenNames) (constant : Constant) → IsTermAmong seen (constant_term constant)
-    constant_among seen (constants.Number number) = tt
-    constant_among seen (constants.Truth truth) = tt
-    constant_among seen (constants.Decimal thousandths) = tt
+    -- the term of what is compared names what is seen, as what stands for it does
+    decimal_among : (seen : SeenNames) (stand : Stand) → IsStandAmong seen stand → IsTermAmong seen (decimal_term stand)
+    decimal_among seen (stands.Value (terms.Lit number) value_kinds.Int class) among = tt
+    decimal_among seen stand among = term_among seen stand among
 
-    record Argues (outer : SeenNames) (growth : Growth) (given : Argued) : Type 0 where
-      reads : Reads outer growth given.growth
-      among : IsTermAmong (seen_in outer given.growth) given.term
+    compared_among : (seen : SeenNames) (decimal : Bool) (stand : Stand) → IsStandAmong seen stand → IsTermAmong seen (compared_term decimal stand)
+    compared_among seen true stand among = decimal_among seen stand among
+    compared_among seen false stand among = term_among seen stand among
+
+    abbrev StandsAmong : SeenNames → List Stand → Type 0
+    StandsAmong seen some = AllByRecursion (IsStandAmong seen) some
+
+    all_compared : (seen : SeenNames) (decimal : Bool) (some : List Stand) → StandsAmong seen some → TermsAmong seen (map (compared_term decimal) some)
+    all_compared seen decimal [] among = tt
+    all_compared seen decimal (stand ∷ more) among = (compared_among seen decimal stand among.0, all_compared seen decimal more among.1)
+
+    terms_among : (seen : SeenNames) (kind : Kind) (some : List Stand) → StandsAmong seen some → TermsAmong seen (constraint_terms kind some)
+    terms_among seen TestEq (truth ∷ compared) among =
+        (term_among seen truth among.0, all_compared seen (has_decimal compared) compared among.1)
+    terms_among seen TestLeq (truth ∷ compared) among =
+        (term_among seen truth among.0, all_compared seen (has_decimal compared) compared among.1)
+    terms_among seen MulEq (first ∷ factor ∷ product ∷ []) among = (
+      compared_among seen (has_decimal (first ∷ product ∷ [])) first among.0,
+      (term_among seen factor among.1.0, (compared_among seen (has_decimal (first ∷ product ∷ [])) product among.1.1.0, tt)),
+    )
+    terms_among seen kind some among = all_compared seen (has_decimal some) some among
+
+    -- there are as many terms
+    terms_length : (kind : Kind) (some : List Stand) → length (constraint_terms kind some) ≡ length some
+    terms_length TestEq (truth ∷ compared) = ap suc (length-map compared (compared_term (has_decimal compared)))
+    terms_length TestLeq (truth ∷ compared) = ap suc (length-map compared (compared_term (has_decimal compared)))
+    terms_length MulEq (first ∷ factor ∷ product ∷ []) = refl
+    terms_length kind some = length-map some (compared_term (has_decimal some))
+
+    constant_among : (seen : SeenNames) (constant : Constant) → IsStandAmong seen (constant_stand constant)
+    constant_among seen (constants.Number number) = tt
+    constant_among seen (constants.Decimal thousandths) = tt
+    constant_among seen (constants.Truth truth) = tt
 
     expr_argues : (outer : SeenNames) (turns : List Made) (growth : Growth) (sight : Sight) (tally : Tally) (expr : Expr)
-        → Stays outer turns growth sight tally → IsExprRead reading.names sources sight expr → Argues outer growth (argument reading turns expr growth)
+        → Stays outer turns growth sight tally → IsExprRead reading.names sources sight expr → LeadsOn outer growth (argument reading turns expr growth)
     expr_argues outer turns growth sight tally (exprs.Path path) stays read =
         let here = first_stand reading turns growth path.first.at in
-        let leads = rest_leads outer here path.rest growth (first_among outer turns growth sight tally path.first stays read) in
-        let end = rest_stand reading here path.rest growth in
-        record { reads = leads.reads; among = term_among (seen_in outer end.growth) end.stand leads.among }
+        rest_leads outer here path.rest growth (first_among outer turns growth sight tally path.first stays read)
     expr_argues outer turns growth sight tally (exprs.Literal literal) stays read =
         record { reads = reads_same outer growth; among = constant_among (seen_in outer growth) literal.constant }
 
-    record AllArgue (outer : SeenNames) (growth : Growth) (given : AllArgued) : Type 0 where
+    record AllArgue (outer : SeenNames) (growth : Growth) (given : AllReached) : Type 0 where
       reads : Reads outer growth given.growth
-      among : TermsAmong (seen_in outer given.growth) given.terms
+      among : StandsAmong (seen_in outer given.growth) given.stands
 
     exprs_argue : (outer : SeenNames) (turns : List Made) (growth : Growth) (sight : Sight) (tally : Tally) (some : List Expr)
         → Stays outer turns growth sight tally → AreExprsRead reading.names sources sight some → AllArgue outer growth (given_arguments reading turns some growth)
@@ -324,8 +357,15 @@ module _ (reading : Readings) (files : All IsOfFiles reading.lexicon.scope) wher
         let all = given_arguments reading turns more given.growth in
         record {
           reads = reads_join outer growth given.growth all.growth first.reads rest.reads;
-          among = (term_more (seen_in outer given.growth) (seen_in outer all.growth) rest.reads.more given.term first.among, rest.among);
+          among = (stand_more (seen_in outer given.growth) (seen_in outer all.growth) rest.reads.more given.stand first.among, rest.among);
         }
+
+    both_compared : (seen : SeenNames) (one other : Stand) → IsStandAmong seen one → IsStandAmong seen other
+        → All (IsTermAmong seen) (compared_terms (one ∷ other ∷ []))
+    both_compared seen one other first second =
+        let decimal = has_decimal (one ∷ other ∷ []) in
+        two_among seen (compared_term decimal one) (compared_term decimal other) (compared_among seen decimal one first)
+        (compared_among seen decimal other second)
 
     record Guards (outer : SeenNames) (growth : Growth) (tested : Tested) : Type 0 where
       reads : Reads outer growth tested.growth
@@ -337,7 +377,11 @@ module _ (reading : Readings) (files : All IsOfFiles reading.lexicon.scope) wher
     condition_guards outer turns growth sight tally (conditions.Truth expr) stays read =
         let given = argument reading turns expr growth in
         let argues = expr_argues outer turns growth sight tally expr stays read in
-        record { reads = argues.reads; sides = two_among (seen_in outer given.growth) given.term (terms.Lit (pos 1)) argues.among tt }
+        record {
+          reads = argues.reads;
+          sides = two_among (seen_in outer given.growth) (stand_term given.stand) (terms.Lit (pos 1))
+              (term_among (seen_in outer given.growth) given.stand argues.among) tt;
+        }
     condition_guards outer turns growth sight tally (conditions.Equal one other) stays read =
         let left = argument reading turns one growth in
         let right = argument reading turns other left.growth in
@@ -345,8 +389,8 @@ module _ (reading : Readings) (files : All IsOfFiles reading.lexicon.scope) wher
         let second = expr_argues outer turns left.growth sight tally other (stays_reading outer turns growth left.growth sight tally first.reads stays) read.1 in
         record {
           reads = reads_join outer growth left.growth right.growth first.reads second.reads;
-          sides = two_among (seen_in outer right.growth) left.term right.term
-              (term_more (seen_in outer left.growth) (seen_in outer right.growth) second.reads.more left.term first.among) second.among;
+          sides = both_compared (seen_in outer right.growth) left.stand right.stand
+              (stand_more (seen_in outer left.growth) (seen_in outer right.growth) second.reads.more left.stand first.among) second.among;
         }
     condition_guards outer turns growth sight tally (conditions.NotEqual one other) stays read =
         let left = argument reading turns one growth in
@@ -355,11 +399,11 @@ module _ (reading : Readings) (files : All IsOfFiles reading.lexicon.scope) wher
         let second = expr_argues outer turns left.growth sight tally other (stays_reading outer turns growth left.growth sight tally first.reads stays) read.1 in
         record {
           reads = reads_join outer growth left.growth right.growth first.reads second.reads;
-          sides = two_among (seen_in outer right.growth) left.term right.term
-              (term_more (seen_in outer left.growth) (seen_in outer right.growth) second.reads.more left.term first.among) second.among;
+          sides = both_compared (seen_in outer right.growth) left.stand right.stand
+              (stand_more (seen_in outer left.growth) (seen_in outer right.growth) second.reads.more left.stand first.among) second.among;
         }
 
-    given_length : (turns : List Made) (some : List Expr) (growth : Growth) → length (given_arguments reading turns some growth).terms ≡ length some
+    given_length : (turns : List Made) (some : List Expr) (growth : Growth) → length (given_arguments reading turns some growth).stands ≡ length some
     given_length turns [] growth = refl
     given_length turns (expr ∷ more) growth = ap suc (given_length turns more (argument reading turns expr growth).growth)
 
@@ -369,10 +413,12 @@ module _ (reading : Readings) (files : All IsOfFiles reading.lexicon.scope) wher
     constraint_reads outer turns growth sight tally kind some taken stays read =
         let given = given_arguments reading turns some growth in
         let all = exprs_argue outer turns growth sight tally some stays read in
-        let counted : takes kind (length given.terms) ≡ true = ap (takes kind) (given_length turns some growth) ∙ taken in
+        let those = constraint_terms kind given.stands in
+        let counted : takes kind (length those) ≡ true =
+        ap (takes kind) (terms_length kind given.stands ∙ given_length turns some growth) ∙ taken in
         reads_join outer growth given.growth (with_constraint reading turns kind some growth) all.reads
-        (reads_items outer (constraint_items kind given.terms) given.growth
-        (constraint_among (seen_in outer given.growth) kind given.terms counted all.among))
+        (reads_items outer (constraint_items kind those) given.growth
+        (constraint_among (seen_in outer given.growth) kind those counted (terms_among (seen_in outer given.growth) kind given.stands all.among)))
 
     -- ---- slots
 
@@ -443,7 +489,7 @@ module _ (reading : Readings) (files : All IsOfFiles reading.lexicon.scope) wher
 
     wanted_among : (seen : SeenNames) (stand : Stand) (name : List ℕ) → IsStandAmong seen stand
         → IsObjectAmong seen (wanted_of reading.lexicon stand name).object
-    wanted_among seen (stands.Value term class) name among = among
+    wanted_among seen (stands.Value term own class) name among = among
     wanted_among seen (stands.Class class) name among = tt
     wanted_among seen (stands.Slot number pred) name among = tt
     wanted_among seen (stands.Root number pred) name among = tt
@@ -498,7 +544,7 @@ module _ (reading : Readings) (files : All IsOfFiles reading.lexicon.scope) wher
     relation_reads : (outer : SeenNames) (relation : Rel) (stand : Stand) (growth : Growth) → IsStandAmong (seen_in outer growth) stand
         → Reads outer growth (with_relation relation stand growth)
     relation_reads outer relation (stands.Slot number pred) growth among = reads_item outer (Relation relation number) growth (tt, among)
-    relation_reads outer relation (stands.Value term class) growth among = reads_same outer growth
+    relation_reads outer relation (stands.Value term own class) growth among = reads_same outer growth
     relation_reads outer relation (stands.Root number pred) growth among = reads_same outer growth
     relation_reads outer relation (stands.Class class) growth among = reads_same outer growth
     relation_reads outer relation stands.Nothing growth among = reads_same outer growth
@@ -562,7 +608,7 @@ module _ (reading : Readings) (files : All IsOfFiles reading.lexicon.scope) wher
         → Begins outer from asked_from growth (with_declared at shape growth)
     declared_begins outer from asked_from at shape growth there =
         let number = length growth.locals in
-        let made : Made = record { at = at; stand = stands.Value (terms.Local number) shape.class } in
+        let made : Made = record { at = at; stand = next_local shape growth } in
         let new = with_declared at shape growth in
         let added = entries.Local number ∷ [] in
         let here = added_seen outer growth new added refl (names.Local number) (0, omega arith, refl) in
@@ -591,9 +637,10 @@ module _ (reading : Readings) (files : All IsOfFiles reading.lexicon.scope) wher
         let number = length given.growth.locals in
         let added = entries.Local number ∷ [] in
         let here = added_seen outer given.growth declared added refl (names.Local number) (0, omega arith, refl) in
-        let other = term_more (seen_in outer given.growth) (seen_in outer declared) begins.goes.more given.term argues.among in
-        let last = reads_item outer (Constraint Eq (terms.Local number ∷ given.term ∷ [])) declared
-        (refl, two_among (seen_in outer declared) (terms.Local number) given.term here other) in
+        let other = stand_more (seen_in outer given.growth) (seen_in outer declared) begins.goes.more given.stand argues.among in
+        let local = next_local shape given.growth in
+        let last = reads_item outer (Constraint Eq (compared_terms (local ∷ given.stand ∷ []))) declared
+        (refl, both_compared (seen_in outer declared) local given.stand here other) in
         let from = tally.locals in
         let asked_from = tally.slots in
         record {

@@ -54,8 +54,8 @@ HasArities top = (path : List Turn) (place : ℕ) (item : Item) → StandsAt top
 
 -- a name of the files stands for no slot or local of a rule
 abbrev pub IsOfFiles : Stand → Type 0
-IsOfFiles (stands.Value (terms.Slot number part) class) = ⊥
-IsOfFiles (stands.Value (terms.Local number) class) = ⊥
+IsOfFiles (stands.Value (terms.Slot number part) own class) = ⊥
+IsOfFiles (stands.Value (terms.Local number) own class) = ⊥
 IsOfFiles (stands.Slot number pred) = ⊥
 IsOfFiles stand = ⊤
 

@@ -22,52 +22,8 @@ use Rattle.nddl_construction.specs.declared.made.MadeObject.{MadeObject}
 use Rattle.nddl_construction.specs.declared.made.NamedObject.{NamedObject}
 use Rattle.nddl_construction.specs.declared.made.NamedObject.TheVariants as stands
 use Rattle.nddl_env.specs.Objects.{entry_object, made_object, objects_of}
+use Rattle.nddl_laws.proofs.Bases.{set_right, small}
 use Rattle.nddl_laws.proofs.Lists.{all_kept}
-
--- ---- numbers in order
-
-placed_some : (number : ℤ) (xs : List ℤ) → 0 < length (with_placed number xs)
-placed_some number [] = omega arith
-placed_some number (x ∷ xs) = by (int_lt number x) (int_lt x number)
-  where
-    by : (before behind : Bool) → 0 < length (if before then number ∷ (x ∷ xs) else (if behind then x ∷ with_placed number xs else x ∷ xs))
-    by true behind = omega arith
-    by false true = omega arith
-    by false false = omega arith
-
-placed_few : (number : ℤ) (xs : List ℤ) → length (with_placed number xs) ≤ length xs + 1
-placed_few number [] = omega arith
-placed_few number (x ∷ xs) = by (int_lt number x) (int_lt x number) (placed_few number xs)
-  where
-    by : (before behind : Bool) → length (with_placed number xs) ≤ length xs + 1
-        → length (if before then number ∷ (x ∷ xs) else (if behind then x ∷ with_placed number xs else x ∷ xs)) ≤ length (x ∷ xs) + 1
-    by true behind rest = omega arith
-    by false true rest = omega arith
-    by false false rest = omega arith
-
-ascending_some : (xs : List ℤ) → 0 < length xs → 0 < length (ascending_of xs)
-unfolding ascending_of
-ascending_some [] some = absurd (omega arith)
-ascending_some (number ∷ more) some = placed_some number (ascending_of more)
-
-ascending_few : (xs : List ℤ) → length (ascending_of xs) ≤ length xs
-unfolding ascending_of
-ascending_few [] = omega arith
-ascending_few (number ∷ more) =
-    let rest : length (ascending_of more) ≤ length more = ascending_few more in
-    let one : length (with_placed number (ascending_of more)) ≤ length (ascending_of more) + 1 = placed_few number (ascending_of more) in
-    omega arith
-
--- a set of the values of a list, in order
-set_right : (values : List ℤ) → All IsValue values → 0 < length values → length values ≤ 4096 → AreMembers (ascending_of values)
-set_right values all some few = record {
-  ascending = ascending_is values;
-  values = λ k d within.
-      let member = get_or (ascending_of values) k d in
-      All-contains IsValue values member all ((ascending_has values member).0 (Contains-get_or (ascending_of values) k d within));
-  some = ascending_some values some;
-  few = (let most : length (ascending_of values) ≤ length values = ascending_few values in omega arith);
-}
 
 -- ---- objects
 
@@ -75,9 +31,6 @@ pub stands_there : {X : Type 0} (xs : List X) (n : ℕ) → n < length xs → (x
 stands_there [] n less = absurd (omega arith)
 stands_there (x ∷ xs) zero less = (x, refl)
 stands_there (x ∷ xs) (suc n) less = stands_there xs n (omega arith)
-
-small : (k : ℕ) → k ≤ 4096 → IsValue (pos k)
-small k few = (omega (arith, ints), omega (arith, ints))
 
 -- the value is the number of one of so many objects
 abbrev pub IsNumberBelow : ℕ → ℤ → Type 0
@@ -163,6 +116,7 @@ module _ (named_objects : List NamedObject) (count : ℕ)
       by (Some stands.Unmade) at is = absurd (none-some value is)
       by (Some (stands.Made None)) at is = absurd (none-some value is)
       by (Some (stands.Made (Some (datums.Number number)))) at is = absurd (none-some value is)
+      by (Some (stands.Made (Some (datums.Decimal thousandths)))) at is = absurd (none-some value is)
       by (Some (stands.Made (Some (datums.Truth truth)))) at is = absurd (none-some value is)
       by (Some (stands.Made (Some (datums.Member member)))) at is = absurd (none-some value is)
       by (Some (stands.Made (Some (datums.Object number)))) at is = (number, sym (same_Some (pos number) value is), there entry number at)

@@ -135,7 +135,7 @@ module _ (facts : Facts) where
       by (Some (inits.New creation)) = new creation (is_config_sort (sort_of_variable variable))
   one_follows number decl progress = follows_not progress.so_far
 
-  all_follow : (number : ℕ) (some : List Decl) (progress : Progress) → (all_declared facts number some progress).so_far.first ≡ None → progress.so_far.first ≡ None
+  pub all_follow : (number : ℕ) (some : List Decl) (progress : Progress) → (all_declared facts number some progress).so_far.first ≡ None → progress.so_far.first ≡ None
   all_follow number [] progress none = none
   all_follow number (decl ∷ more) progress none =
       (one_follows number decl progress).first (all_follow (number + 1) more (one_declared facts number decl progress) none)
@@ -324,7 +324,7 @@ module _ (facts : Facts) (are : AreFacts (scope_names facts.program) facts.progr
             sound.declared own refl;
       }
 
-  one_sound : (number : ℕ) (decl : Decl) (progress : Progress) → slice_get facts.program number ≡ Some decl → IsFineDecl decl
+  pub one_sound : (number : ℕ) (decl : Decl) (progress : Progress) → slice_get facts.program number ≡ Some decl → IsFineDecl decl
       → (one_declared facts number decl progress).so_far.first ≡ None → IsSoundSoFar progress → IsSoundSoFar (one_declared facts number decl progress)
   one_sound number (decls.Variable variable) progress there fine_decl none sound = by variable.init refl none sound
     where

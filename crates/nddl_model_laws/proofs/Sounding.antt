@@ -83,6 +83,7 @@ use Rattle.nddl_model_laws.proofs.Typing.{AreDeclared, AreFormals, AreTyped, Ext
 
 same_int : (facts : Facts) (objects : List MadeObject) (datum : Datum) → IsKindly facts objects kinds.Int datum → IsDatum facts objects kinds.Int datum
 same_int facts objects (datums.Number number) is = is
+same_int facts objects (datums.Decimal thousandths) is = absurd is
 same_int facts objects (datums.Truth truth) is = absurd is
 same_int facts objects (datums.Member entry) is = absurd is
 same_int facts objects (datums.Object number) is = absurd is
@@ -318,6 +319,7 @@ module _ (facts : Facts) (are : AreFacts (scope_names facts.program) facts.progr
 
   pub object_kind : (kind : TypeKind) → is_no_object (Some kind) ≡ false → (class : Meaning) × (kind ≡ kinds.Object class)
   object_kind kinds.Int never = absurd (let e : true ≡ false = never in cc)
+  object_kind kinds.Float never = absurd (let e : true ≡ false = never in cc)
   object_kind kinds.Bool never = absurd (let e : true ≡ false = never in cc)
   object_kind (kinds.Enum number) never = absurd (let e : true ≡ false = never in cc)
   object_kind (kinds.Object class) fits = (class, refl)
@@ -451,10 +453,12 @@ module _ (facts : Facts) (are : AreFacts (scope_names facts.program) facts.progr
       → is_foreign_datum grounds new kind datum ≡ false → is_foreign_datum grounds old kind datum ≡ false
   foreign_before old new more None datum none = refl
   foreign_before old new more (Some kinds.Int) datum none = refl
+  foreign_before old new more (Some kinds.Float) datum none = refl
   foreign_before old new more (Some kinds.Bool) datum none = refl
   foreign_before old new more (Some (kinds.Enum number)) datum none = refl
   foreign_before old new more (Some (kinds.Object class)) None none = refl
   foreign_before old new more (Some (kinds.Object class)) (Some (datums.Number number)) none = refl
+  foreign_before old new more (Some (kinds.Object class)) (Some (datums.Decimal thousandths)) none = refl
   foreign_before old new more (Some (kinds.Object class)) (Some (datums.Truth truth)) none = refl
   foreign_before old new more (Some (kinds.Object class)) (Some (datums.Member entry)) none = refl
   foreign_before old new more (Some (kinds.Object class)) (Some (datums.Object number)) none = by (slice_get old number) refl

@@ -1,8 +1,8 @@
 -- What a value stands for is of the kind of which it is said to be.
-use Rattle.std.proofs.Common.{◌≡◌, ◌≢◌, ℕ, zero, suc, ◌+◌, Bool, true, false, not, ◌||◌, List, [], ◌∷◌, map, refl, sym, ◌∙◌, ap, subst, arith}
+use Rattle.std.proofs.Common.{◌≡◌, ◌≢◌, ℕ, zero, suc, ◌+◌, Bool, true, false, not, ◌||◌, List, [], ◌∷◌, map, ℤ, refl, sym, ◌∙◌, ap, subst, arith}
 use Rattle.std.specs.Prelude.{Option, Some, None, Ok, Err, All, slice_get, is_none, ⊤, if◌then◌else◌}
 use Rattle.std.specs.List.{AllByRecursion, position_from}
-use Rattle.std.specs.Option.{option_and_then, option_map_or, option_or}
+use Rattle.std.specs.Option.{option_and_then, option_map, option_map_or, option_or}
 use Rattle.std.specs.Str.{bytes_eq}
 use Rattle.std.proofs.lemmas.Bool.Decides.{Decides-eqb}
 use Rattle.std.proofs.lemmas.List.Elements.{All-head, All-tail}
@@ -12,8 +12,11 @@ use Rattle.nddl_ast.specs.declared.expression.Constant.{Constant}
 use Rattle.nddl_ast.specs.declared.expression.Constant.TheVariants as constants
 use Rattle.nddl_ast.specs.declared.expression.Expr.{Expr}
 use Rattle.nddl_ast.specs.declared.expression.Expr.TheVariants as exprs
+use Rattle.nddl_ast.specs.declared.expression.Literal.{Literal}
 use Rattle.nddl_ast.specs.declared.kind.TextKind.TheVariants as faults
 use Rattle.nddl_ast.specs.declared.name.Name.{Name}
+use Rattle.nddl_ast.specs.declared.name.Path.{Path}
+use Rattle.nddl_ast.specs.Decimals.{constant_decimal}
 use Rattle.nddl_symbols.specs.declared.declared.Declared.{Declared}
 use Rattle.nddl_symbols.specs.declared.declared.Sort.{Sort}
 use Rattle.nddl_symbols.specs.declared.declared.Sort.TheVariants as sorts
@@ -30,8 +33,9 @@ use Rattle.nddl_resolve.specs.declared.denoted.Seen.{Seen}
 use Rattle.nddl_resolve.specs.Fields.{class_field}
 use Rattle.nddl_resolve.specs.Files.{declared_value, file_denoted, meaning_denoted, sort_denoted}
 use Rattle.nddl_resolve.specs.Following.{Understood, found_at, found_next, object_alone, rest_denoted, unknown_at}
+use Rattle.nddl_resolve.specs.Kinds.{kind_fault, other_kind_fault}
 use Rattle.nddl_resolve.specs.Paths.{first_denoted, last_seen, literal_denoted}
-use Rattle.nddl_constructors.specs.Constants.{constant_fault, is_understood}
+use Rattle.nddl_constructors.specs.Constants.{constant_fault, is_understood, wanted_fault}
 use Rattle.nddl_constructors.specs.Creations.{is_of_class}
 use Rattle.nddl_constructors.specs.Formals.{around_formals, formal_number}
 use Rattle.nddl_constructors.specs.Wants.{wanted_at}
@@ -47,6 +51,7 @@ use Rattle.nddl_construction.specs.Reading.{data_behind, datum_at, expr_datum, f
 use Rattle.nddl_construction.specs.Scene.{Grounds, Scenery}
 use Rattle.nddl_laws.specs.Fine.{IsFineConstant, IsFineExpr}
 use Rattle.nddl_laws.proofs.Apart.{AreOnce}
+use Rattle.nddl_laws.proofs.Decimals.{constant_kept}
 use Rattle.nddl_model_laws.proofs.Fielded.{same_field, same_word}
 use Rattle.nddl_model_laws.proofs.Lined.{Lined}
 
@@ -68,6 +73,7 @@ pub record IsObjectAt (facts : Facts) (objects : List MadeObject) (class : Meani
 -- the value is one of this kind; of objects, of the class
 abbrev pub IsDatum : Facts → List MadeObject → TypeKind → Datum → Type 0
 IsDatum facts objects kinds.Int (datums.Number number) = IsValue number
+IsDatum facts objects kinds.Float (datums.Decimal thousandths) = IsValue thousandths
 IsDatum facts objects kinds.Bool (datums.Truth truth) = ⊤
 IsDatum facts objects (kinds.Enum number) (datums.Member entry) = IsMemberAt facts number entry
 IsDatum facts objects (kinds.Object class) (datums.Object number) = IsObjectAt facts objects class number
@@ -76,6 +82,7 @@ IsDatum facts objects kind datum = ⊥
 -- the same, of whatever class
 abbrev pub IsKindly : Facts → List MadeObject → TypeKind → Datum → Type 0
 IsKindly facts objects kinds.Int (datums.Number number) = IsValue number
+IsKindly facts objects kinds.Float (datums.Decimal thousandths) = IsValue thousandths
 IsKindly facts objects kinds.Bool (datums.Truth truth) = ⊤
 IsKindly facts objects (kinds.Enum number) (datums.Member entry) = IsMemberAt facts number entry
 IsKindly facts objects (kinds.Object class) (datums.Object number) = (object : MadeObject) × (slice_get objects number ≡ Some object)
@@ -119,6 +126,7 @@ extends_on one two three first second number object at =
 pub datum_stays : (facts : Facts) (old new : List MadeObject) → Extends old new → (kind : TypeKind) (datum : Datum) → IsDatum facts old kind datum
     → IsDatum facts new kind datum
 datum_stays facts old new more kinds.Int (datums.Number number) is = is
+datum_stays facts old new more kinds.Float (datums.Decimal thousandths) is = is
 datum_stays facts old new more kinds.Bool (datums.Truth truth) is = is
 datum_stays facts old new more (kinds.Enum number) (datums.Member entry) is = is
 datum_stays facts old new more (kinds.Object class) (datums.Object number) is =
@@ -129,6 +137,7 @@ datum_stays facts old new more kind datum is = absurd is
 pub kindly_stays : (facts : Facts) (old new : List MadeObject) → Extends old new → (kind : TypeKind) (datum : Datum) → IsKindly facts old kind datum
     → IsKindly facts new kind datum
 kindly_stays facts old new more kinds.Int (datums.Number number) is = is
+kindly_stays facts old new more kinds.Float (datums.Decimal thousandths) is = is
 kindly_stays facts old new more kinds.Bool (datums.Truth truth) is = is
 kindly_stays facts old new more (kinds.Enum number) (datums.Member entry) is = is
 kindly_stays facts old new more (kinds.Object class) (datums.Object number) is =
@@ -150,23 +159,33 @@ not_true false is = absurd (let e : true ≡ false = is in cc)
 pub kindly_of : (facts : Facts) (objects : List MadeObject) (wanted kind : TypeKind) (datum : Datum) → are_one_kind wanted kind ≡ true
     → IsDatum facts objects kind datum → IsKindly facts objects wanted datum
 kindly_of facts objects kinds.Int kinds.Int (datums.Number number) same is = is
+kindly_of facts objects kinds.Float kinds.Float (datums.Decimal thousandths) same is = is
 kindly_of facts objects kinds.Bool kinds.Bool (datums.Truth truth) same is = is
 kindly_of facts objects (kinds.Enum one) (kinds.Enum other) (datums.Member entry) same is =
     subst (λ (n : ℕ). IsMemberAt facts n entry) (sym ((Decides-eqb one other).0 same)) is
 kindly_of facts objects (kinds.Object one) (kinds.Object other) (datums.Object number) same is = (is.object, is.there)
+kindly_of facts objects kinds.Int kinds.Float datum same is = absurd (let e : false ≡ true = same in cc)
 kindly_of facts objects kinds.Int kinds.Bool datum same is = absurd (let e : false ≡ true = same in cc)
 kindly_of facts objects kinds.Int (kinds.Enum other) datum same is = absurd (let e : false ≡ true = same in cc)
 kindly_of facts objects kinds.Int (kinds.Object other) datum same is = absurd (let e : false ≡ true = same in cc)
+kindly_of facts objects kinds.Float kinds.Int datum same is = absurd (let e : false ≡ true = same in cc)
+kindly_of facts objects kinds.Float kinds.Bool datum same is = absurd (let e : false ≡ true = same in cc)
+kindly_of facts objects kinds.Float (kinds.Enum other) datum same is = absurd (let e : false ≡ true = same in cc)
+kindly_of facts objects kinds.Float (kinds.Object other) datum same is = absurd (let e : false ≡ true = same in cc)
 kindly_of facts objects kinds.Bool kinds.Int datum same is = absurd (let e : false ≡ true = same in cc)
+kindly_of facts objects kinds.Bool kinds.Float datum same is = absurd (let e : false ≡ true = same in cc)
 kindly_of facts objects kinds.Bool (kinds.Enum other) datum same is = absurd (let e : false ≡ true = same in cc)
 kindly_of facts objects kinds.Bool (kinds.Object other) datum same is = absurd (let e : false ≡ true = same in cc)
 kindly_of facts objects (kinds.Enum one) kinds.Int datum same is = absurd (let e : false ≡ true = same in cc)
+kindly_of facts objects (kinds.Enum one) kinds.Float datum same is = absurd (let e : false ≡ true = same in cc)
 kindly_of facts objects (kinds.Enum one) kinds.Bool datum same is = absurd (let e : false ≡ true = same in cc)
 kindly_of facts objects (kinds.Enum one) (kinds.Object other) datum same is = absurd (let e : false ≡ true = same in cc)
 kindly_of facts objects (kinds.Object one) kinds.Int datum same is = absurd (let e : false ≡ true = same in cc)
+kindly_of facts objects (kinds.Object one) kinds.Float datum same is = absurd (let e : false ≡ true = same in cc)
 kindly_of facts objects (kinds.Object one) kinds.Bool datum same is = absurd (let e : false ≡ true = same in cc)
 kindly_of facts objects (kinds.Object one) (kinds.Enum other) datum same is = absurd (let e : false ≡ true = same in cc)
 kindly_of facts objects kinds.Int kinds.Int datum same is = absurd is
+kindly_of facts objects kinds.Float kinds.Float datum same is = absurd is
 kindly_of facts objects kinds.Bool kinds.Bool datum same is = absurd is
 kindly_of facts objects (kinds.Enum one) (kinds.Enum other) datum same is = absurd is
 kindly_of facts objects (kinds.Object one) (kinds.Object other) datum same is = absurd is
@@ -175,6 +194,7 @@ kindly_of facts objects (kinds.Object one) (kinds.Object other) datum same is = 
 pub datum_of : (grounds : Grounds) (objects : List MadeObject) (kind : TypeKind) (datum : Datum)
     → is_foreign_datum grounds objects (Some kind) (Some datum) ≡ false → IsKindly grounds.facts objects kind datum → IsDatum grounds.facts objects kind datum
 datum_of grounds objects kinds.Int (datums.Number number) own is = is
+datum_of grounds objects kinds.Float (datums.Decimal thousandths) own is = is
 datum_of grounds objects kinds.Bool (datums.Truth truth) own is = is
 datum_of grounds objects (kinds.Enum number) (datums.Member entry) own is = is
 datum_of grounds objects (kinds.Object class) (datums.Object number) own is = record {
@@ -318,9 +338,11 @@ module _ (facts : Facts) (objects : List MadeObject) (typed : AreTyped facts obj
           let same : next ≡ denoted.Value it.0 true = same_Some next (denoted.Value it.0 true) (sym own ∙ it.1) in
           rest it.0 behind it.2 meant found (sym (ap (λ (n : Denoted). rest_denoted facts first n more) same) ∙ means) leads
   path_sound first (name ∷ more) (kinds.Object class) (datums.Number number) is meant found means leads = absurd is
+  path_sound first (name ∷ more) (kinds.Object class) (datums.Decimal thousandths) is meant found means leads = absurd is
   path_sound first (name ∷ more) (kinds.Object class) (datums.Truth truth) is meant found means leads = absurd is
   path_sound first (name ∷ more) (kinds.Object class) (datums.Member entry) is meant found means leads = absurd is
   path_sound first (name ∷ more) kinds.Int datum is meant found means leads = absurd (cc)
+  path_sound first (name ∷ more) kinds.Float datum is meant found means leads = absurd (cc)
   path_sound first (name ∷ more) kinds.Bool datum is meant found means leads = absurd (cc)
   path_sound first (name ∷ more) (kinds.Enum number) datum is meant found means leads = absurd (cc)
 
@@ -369,7 +391,7 @@ module _ (facts : Facts) (objects : List MadeObject) (typed : AreTyped facts obj
         by (Some (meanings.BuiltIn number)) means is = absurd (none-some datum is)
         by (Some (meanings.Entry entry)) means is = inner entry (slice_get facts.names entry) refl means is
 
-    front_sound : (scene : Scenery) (name : List ℕ) (begin : Denoted) (datum : Datum) → AreFormals facts objects scene.formals scene.values
+    pub front_sound : (scene : Scenery) (name : List ℕ) (begin : Denoted) (datum : Datum) → AreFormals facts objects scene.formals scene.values
         → first_denoted facts (around_formals scene.formals) name ≡ Some begin → first_datum grounds scene name ≡ Some datum → Leads begin datum
     front_sound scene name begin datum formals means is = by (formal_number scene.formals name) refl is
       where
@@ -390,59 +412,81 @@ module _ (facts : Facts) (objects : List MadeObject) (typed : AreTyped facts obj
 
     -- ---- values
 
-    unwanted_not : (wanted : Option TypeKind) (kind : TypeKind) → is_none (constant_fault wanted (denoted.Value kind true)) ≡ true
-        → (asked : TypeKind) → wanted ≡ Some asked → are_one_kind asked kind ≡ true
-    unwanted_not None kind none asked is = absurd (none-some asked is)
-    unwanted_not (Some one) kind none asked is =
-        subst (λ (k : TypeKind). are_one_kind k kind ≡ true) (same_Some one asked is) (by (are_one_kind one kind) none)
+    one_kind : (asked kind : TypeKind) → is_none (other_kind_fault asked kind) ≡ true → are_one_kind asked kind ≡ true
+    one_kind asked kind none = by (are_one_kind asked kind) none
       where
-        by : (b : Bool) → is_none (fault_if (false || not b) faults.WrongType) ≡ true → b ≡ true
+        by : (b : Bool) → is_none (fault_if (not b) faults.WrongType) ≡ true → b ≡ true
         by true fine = refl
         by false fine = absurd (let e : false ≡ true = fine in cc)
+
+    -- a path is no number that is written out
+    path_kind : (asked : TypeKind) (path : Path) (kind : TypeKind) → is_none (kind_fault asked (exprs.Path path) kind) ≡ true
+        → are_one_kind asked kind ≡ true
+    path_kind kinds.Float path kind none = one_kind kinds.Float kind none
+    path_kind asked path kind none = one_kind asked kind none
 
     -- a value that stands for something is of the kind that is wanted
     abbrev Fits : Option TypeKind → Datum → Type 0
     Fits wanted datum = (asked : TypeKind) → wanted ≡ Some asked → IsKindly facts objects asked datum
 
-    meant_fits : (wanted : Option TypeKind) (meant : Denoted) (datum : Datum) → Leads meant datum → is_none (constant_fault wanted meant) ≡ true → Fits wanted datum
-    meant_fits wanted meant datum leads fine asked is =
-        let none : is_none (constant_fault wanted (denoted.Value leads.0 true)) ≡ true = ap (λ (m : Denoted). is_none (constant_fault wanted m)) (sym leads.1) ∙ fine in
-        kindly_of facts objects asked leads.0 datum (unwanted_not wanted leads.0 none asked is) leads.2
+    meant_fits : (wanted : Option TypeKind) (path : Path) (meant : Denoted) (datum : Datum) → Leads meant datum
+        → is_none (constant_fault wanted (exprs.Path path) meant) ≡ true → Fits wanted datum
+    meant_fits wanted path meant datum leads fine asked is =
+        let expr = exprs.Path path in
+        let none : is_none (wanted_fault wanted expr leads.0) ≡ true = ap (λ (m : Denoted). is_none (constant_fault wanted expr m)) (sym leads.1) ∙ fine in
+        let told : is_none (kind_fault asked expr leads.0) ≡ true =
+        sym (ap (λ (w : Option TypeKind). is_none (wanted_fault w expr leads.0)) is) ∙ none in
+        kindly_of facts objects asked leads.0 datum (path_kind asked path leads.0 told) leads.2
+
+    decimal_sound : (constant : Constant) (datum : Datum) → IsFineConstant constant → option_map datums.Decimal (constant_decimal constant) ≡ Some datum
+        → IsKindly facts objects kinds.Float datum
+    decimal_sound constant datum right is = by (constant_decimal constant) refl is
+      where
+        by : (o : Option ℤ) → constant_decimal constant ≡ o → option_map datums.Decimal o ≡ Some datum → IsKindly facts objects kinds.Float datum
+        by None at found = absurd (none-some datum found)
+        by (Some decimal) at found =
+            subst (IsKindly facts objects kinds.Float) (same_Some (datums.Decimal decimal) datum found) (constant_kept constant decimal right at)
+
+    -- what is written out where this kind is wanted
+    literal_sound : (asked : TypeKind) (literal : Literal) (constant : Constant) (datum : Datum) → IsFineConstant constant
+        → is_none (constant_fault (Some asked) (exprs.Literal literal) (literal_denoted constant)) ≡ true → literal_datum (Some asked) constant ≡ Some datum
+        → IsKindly facts objects asked datum
+    literal_sound kinds.Float literal constant datum right fine is = decimal_sound constant datum right is
+    literal_sound asked literal (constants.Number number) datum right fine is =
+        kindly_of facts objects asked kinds.Int datum (one_kind asked kinds.Int fine)
+        (subst (IsDatum facts objects kinds.Int) (same_Some (datums.Number number) datum is) right)
+    literal_sound asked literal (constants.Decimal thousandths) datum right fine is =
+        kindly_of facts objects asked kinds.Float datum (one_kind asked kinds.Float fine)
+        (subst (IsDatum facts objects kinds.Float) (same_Some (datums.Decimal thousandths.0) datum is) right)
+    literal_sound asked literal (constants.Truth truth) datum right fine is =
+        kindly_of facts objects asked kinds.Bool datum (one_kind asked kinds.Bool fine)
+        (subst (IsDatum facts objects kinds.Bool) (same_Some (datums.Truth truth) datum is) tt)
 
     pub value_sound : (scene : Scenery) (wanted : Option TypeKind) (expr : Expr) (datum : Datum) → AreFormals facts objects scene.formals scene.values → IsFineExpr expr
         → fine_datum grounds scene objects wanted expr ≡ Some datum → Fits wanted datum
     unfolding fine_datum
-    value_sound scene wanted (exprs.Literal literal) datum formals right is =
-        outer (is_well_written grounds scene wanted (exprs.Literal literal)) refl is
+    value_sound scene wanted (exprs.Literal literal) datum formals right is asked same =
+        outer (is_well_written grounds scene (Some asked) (exprs.Literal literal)) refl
+        (sym (ap (λ (w : Option TypeKind). fine_datum grounds scene objects w (exprs.Literal literal)) same) ∙ is)
       where
-        inner : (constant : Constant) → IsFineConstant constant
-            → is_understood wanted (literal_denoted literal.at constant) ≡ true
-            → literal_datum constant ≡ Some datum → Fits wanted datum
-        inner (constants.Number number) right fine is =
-            meant_fits wanted (denoted.Value kinds.Int true) datum
-            (kinds.Int, refl, subst (IsDatum facts objects kinds.Int) (same_Some (datums.Number number) datum is) right) fine
-        inner (constants.Truth truth) right fine is =
-            meant_fits wanted (denoted.Value kinds.Bool true) datum
-            (kinds.Bool, refl, subst (IsDatum facts objects kinds.Bool) (same_Some (datums.Truth truth) datum is) tt) fine
-        inner (constants.Decimal thousandths) right fine is = absurd (none-some datum is)
-
-        outer : (b : Bool) → is_well_written grounds scene wanted (exprs.Literal literal) ≡ b
-            → (if b then expr_datum grounds scene objects (exprs.Literal literal) else None) ≡ Some datum → Fits wanted datum
-        outer true fine found = inner literal.constant right fine found
+        outer : (b : Bool) → is_well_written grounds scene (Some asked) (exprs.Literal literal) ≡ b
+            → (if b then literal_datum (Some asked) literal.constant else None) ≡ Some datum → IsKindly facts objects asked datum
+        outer true fine found = literal_sound asked literal literal.constant datum right fine found
         outer false fine found = absurd (none-some datum found)
-    value_sound scene wanted (exprs.Path path) datum formals right is =
-        outer (is_well_written grounds scene wanted (exprs.Path path)) refl is
+    value_sound scene wanted (exprs.Path path) datum formals right is asked same =
+        outer (is_well_written grounds scene wanted (exprs.Path path)) refl is asked same
       where
         last : (begin : Denoted) (front : Datum) → Leads begin front → data_behind objects (Some front) path.rest ≡ Some datum
-            → (u : Understood) → rest_denoted facts path.first.at begin path.rest ≡ u → is_understood wanted u ≡ true → Fits wanted datum
+            → (u : Understood) → rest_denoted facts path.first.at begin path.rest ≡ u → is_understood wanted (exprs.Path path) u ≡ true → Fits wanted datum
         last begin front leads found (Err fault) means fine = absurd (let e : false ≡ true = fine in cc)
         last begin front leads found (Ok meant) means fine =
             let told : rest_denoted facts path.first.at (denoted.Value leads.0 true) path.rest ≡ Ok meant =
             ap (λ (d : Denoted). rest_denoted facts path.first.at d path.rest) (sym leads.1) ∙ means in
-            meant_fits wanted meant datum (path_sound path.first.at path.rest leads.0 front leads.2 meant datum told found) fine
+            meant_fits wanted path meant datum (path_sound path.first.at path.rest leads.0 front leads.2 meant datum told found) fine
 
         inner : (b : Option Denoted) → first_denoted facts (around_formals scene.formals) path.first.text ≡ b
-            → is_understood wanted (option_map_or (λ (begin : Denoted). rest_denoted facts path.first.at begin path.rest) b (unknown_at path.first.at)) ≡ true
+            → is_understood wanted (exprs.Path path) (option_map_or (λ (begin : Denoted). rest_denoted facts path.first.at begin path.rest) b
+            (unknown_at path.first.at)) ≡ true
             → (d : Option Datum) → first_datum grounds scene path.first.text ≡ d → data_behind objects d path.rest ≡ Some datum → Fits wanted datum
         inner b means fine None at found = absurd (none-some datum (sym (none_behind objects path.rest) ∙ found))
         inner None means fine (Some front) at found = absurd (let e : false ≡ true = fine in cc)
@@ -450,7 +494,7 @@ module _ (facts : Facts) (objects : List MadeObject) (typed : AreTyped facts obj
             last begin front (front_sound scene path.first.text begin front formals means at) found (rest_denoted facts path.first.at begin path.rest) refl fine
 
         outer : (b : Bool) → is_well_written grounds scene wanted (exprs.Path path) ≡ b
-            → (if b then expr_datum grounds scene objects (exprs.Path path) else None) ≡ Some datum → Fits wanted datum
+            → (if b then expr_datum grounds scene objects wanted (exprs.Path path) else None) ≡ Some datum → Fits wanted datum
         outer true fine found =
             inner (first_denoted facts (around_formals scene.formals) path.first.text) refl fine (first_datum grounds scene path.first.text) refl found
         outer false fine found = absurd (none-some datum found)

@@ -64,6 +64,7 @@ module _ (facts : Facts) (objects : List MadeObject) (model : Model) (enums_lawf
   -- what a value stands for is of its kind
   datum_right : (kind : TypeKind) (datum : Datum) → IsDatum facts objects kind datum → IsValueOf model (value_kind kind) (datum_value facts.names (Some datum))
   datum_right kinds.Int (datums.Number number) is = is
+  datum_right kinds.Float (datums.Decimal thousandths) is = is
   datum_right kinds.Bool (datums.Truth truth) is = truth_right truth
   datum_right (kinds.Enum number) (datums.Member entry) is =
       let has = members entry number is.place is.declared is.there is.sort in
@@ -84,6 +85,7 @@ module _ (facts : Facts) (objects : List MadeObject) (model : Model) (enums_lawf
   -- nothing has the value 0, and this is of each kind
   nothing_right : (kind : TypeKind) → IsKind model (value_kind kind) → 0 < length objects → IsValueOf model (value_kind kind) (pos 0)
   nothing_right kinds.Int is some = (omega (arith, ints), omega (arith, ints))
+  nothing_right kinds.Float is some = (omega (arith, ints), omega (arith, ints))
   nothing_right kinds.Bool is some = inl refl
   nothing_right (kinds.Enum number) is some =
       let lawful = item_all IsLawfulEnum model.enums number is.0 enums_lawful is.1 in

@@ -168,6 +168,7 @@ module _ (facts : Facts) (are : AreFacts (scope_names facts.program) facts.progr
       numbers_right model (length objects) long few (filter_map (entry_object named_objects) some) (set_below named_objects (length objects) there some)
       (let most = kept_few (entry_object named_objects) some in let written : length some ≤ 4096 = fit.2 in omega arith)
   base_made kinds.Int extent here fit = base_right facts.names enums model same lawful members_there kinds.Int extent here fit
+  base_made kinds.Float extent here fit = base_right facts.names enums model same lawful members_there kinds.Float extent here fit
   base_made kinds.Bool extent here fit = base_right facts.names enums model same lawful members_there kinds.Bool extent here fit
   base_made (kinds.Enum number) extent here fit = base_right facts.names enums model same lawful members_there (kinds.Enum number) extent here fit
 

@@ -78,6 +78,7 @@ module _ (files : List FileDecls) (table : TypeTable) (given : AreGiven files) (
   kind_good : (kind : TypeKind) (constant : Bool) → KindThere files table given is kind → IsGood (denoted.Value kind constant)
   kind_good (kinds.Object class) constant there = there
   kind_good kinds.Int constant there = tt
+  kind_good kinds.Float constant there = tt
   kind_good kinds.Bool constant there = tt
   kind_good (kinds.Enum of) constant there = tt
 
@@ -98,6 +99,7 @@ module _ (files : List FileDecls) (table : TypeTable) (given : AreGiven files) (
   next_good first (denoted.Value (kinds.Object class) constant) name next good is =
       field_good class constant name.text next good (found_is name (class_field facts constant name.text class) next is)
   next_good first (denoted.Value kinds.Int constant) name next good is = absurd (cc)
+  next_good first (denoted.Value kinds.Float constant) name next good is = absurd (cc)
   next_good first (denoted.Value kinds.Bool constant) name next good is = absurd (cc)
   next_good first (denoted.Value (kinds.Enum of) constant) name next good is = absurd (cc)
   next_good first (denoted.Class class) name next good is = absurd (cc)
@@ -119,6 +121,7 @@ module _ (files : List FileDecls) (table : TypeTable) (given : AreGiven files) (
   token_good : (first : ℕ) (here : Denoted) (name : Name) (meant : Denoted) → IsGood here → token_denoted facts first here name ≡ Ok meant → IsTokenThere meant
   token_good first (denoted.Value (kinds.Object class) constant) name meant good is = named_good class name meant good is
   token_good first (denoted.Value kinds.Int constant) name meant good is = absurd (cc)
+  token_good first (denoted.Value kinds.Float constant) name meant good is = absurd (cc)
   token_good first (denoted.Value kinds.Bool constant) name meant good is = absurd (cc)
   token_good first (denoted.Value (kinds.Enum of) constant) name meant good is = absurd (cc)
   token_good first (denoted.Class class) name meant good is = named_good class name meant good is

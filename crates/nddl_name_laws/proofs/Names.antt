@@ -277,6 +277,7 @@ fine_new facts decl kind creation none =
 object_kind : (kind : TypeKind) → is_no_object (Some kind) ≡ false → (class : Meaning) × (kind ≡ kinds.Object class)
 object_kind (kinds.Object class) is = (class, refl)
 object_kind kinds.Int is = absurd (cc)
+object_kind kinds.Float is = absurd (cc)
 object_kind kinds.Bool is = absurd (cc)
 object_kind (kinds.Enum of) is = absurd (cc)
 

@@ -17,11 +17,11 @@ use Rattle.nddl_symbols.proofs.Earliest.{earliest_append, finds_earliest}
 abbrev all_kinds : List TextKind
 all_kinds =
     kinds.BadByte ∷ (kinds.OpenComment ∷ (kinds.OutOfRange ∷ (kinds.Syntax ∷ (kinds.Absent ∷ (kinds.LimitBytes
-    ∷ (kinds.LimitFiles ∷ (kinds.LimitDepth ∷ (kinds.LimitNesting ∷ (kinds.Float ∷ (kinds.Unknown ∷ (kinds.Twice
+    ∷ (kinds.LimitFiles ∷ (kinds.LimitDepth ∷ (kinds.LimitNesting ∷ (kinds.Unknown ∷ (kinds.Twice
     ∷ (kinds.WrongType ∷ (kinds.WrongCount ∷ (kinds.NotInDomain ∷ (kinds.Closed ∷ (kinds.LimitRules ∷ (kinds.LimitGuards
     ∷ (kinds.LimitSlots ∷ (kinds.LimitLocals ∷ (kinds.LimitItems ∷ (kinds.LimitTurns ∷ (kinds.LimitParameters
     ∷ (kinds.LimitObjects ∷ (kinds.LimitRoots ∷ (kinds.LimitGlobals ∷ (kinds.LimitFacts ∷ (kinds.LimitMembers
-    ∷ (kinds.LimitNew ∷ (kinds.NotAdmissible ∷ (kinds.AfterConflict ∷ []))))))))))))))))))))))))))))))
+    ∷ (kinds.LimitNew ∷ (kinds.NotAdmissible ∷ (kinds.AfterConflict ∷ [])))))))))))))))))))))))))))))
 
 ranked : (kind : TextKind) → slice_get all_kinds (kind_rank kind) ≡ Some kind
 ranked kinds.BadByte = refl
@@ -33,7 +33,6 @@ ranked kinds.LimitBytes = refl
 ranked kinds.LimitFiles = refl
 ranked kinds.LimitDepth = refl
 ranked kinds.LimitNesting = refl
-ranked kinds.Float = refl
 ranked kinds.Unknown = refl
 ranked kinds.Twice = refl
 ranked kinds.WrongType = refl

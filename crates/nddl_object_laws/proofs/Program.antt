@@ -59,7 +59,7 @@ init_done facts number variable (Some (inits.New creation)) progress = by (is_co
     by true = refl
     by false = refl
 
-decl_done : (facts : Facts) (number : ℕ) (decl : Decl) (progress : Progress)
+pub decl_done : (facts : Facts) (number : ℕ) (decl : Decl) (progress : Progress)
     → one_declared facts number decl progress ≡ doing_declared facts number (doing_of decl) progress
 decl_done facts number (decls.Variable variable) progress = init_done facts number variable variable.init progress
 decl_done facts number other progress = refl
@@ -122,7 +122,7 @@ module _ (facts : Facts) (all : List MadeObject) where
   abbrev wrong : Carried → List Fault
   wrong carried = carried_faults facts all carried
 
-  doing_is : (there : There) → IsClosed there → (number : ℕ) (doing : Doing) (met : Option Fault) (done : List Carried) (first : Option Fault)
+  pub doing_is : (there : There) → IsClosed there → (number : ℕ) (doing : Doing) (met : Option Fault) (done : List Carried) (first : Option Fault)
       → Agree (there.objects ++ carried_objects facts (doing_carried facts there number doing)) all
       → doing_declared facts number doing (progress_at facts there met done first)
       ≡ progress_at facts (there_behind facts there number doing) (earliest_fault met (flat_map wrong (doing_carried facts there number doing)))

@@ -1,5 +1,5 @@
 -- Values that are read are read of the objects that are there where the turn of a declaration comes.
-use Rattle.std.proofs.Common.{◌≡◌, ℕ, zero, suc, ◌+◌, ◌<◌, ◌≤◌, pos, Bool, true, false, List, [], ◌∷◌, ◌++◌, length, reverse, refl, sym, ◌∙◌, ap, subst, arith}
+use Rattle.std.proofs.Common.{◌≡◌, ℕ, zero, suc, ◌+◌, ◌<◌, ◌≤◌, pos, Bool, true, false, List, [], ◌∷◌, ◌++◌, length, reverse, ℤ, refl, sym, ◌∙◌, ap, subst, arith}
 use Rattle.std.specs.Prelude.{Option, Some, None, ⊤, ◌||◌, not, slice_get, option_map, option_and_then, if◌then◌else◌}
 use Rattle.std.specs.Option.{option_map_or}
 use Rattle.std.proofs.lemmas.List.{reverse-append}
@@ -14,6 +14,7 @@ use Rattle.nddl_ast.specs.declared.expression.Expr.TheVariants as exprs
 use Rattle.nddl_ast.specs.declared.expression.Type as types
 use Rattle.nddl_ast.specs.declared.kind.TextKind.TheVariants as faults
 use Rattle.nddl_ast.specs.declared.name.Name.{Name}
+use Rattle.nddl_ast.specs.Decimals.{constant_decimal}
 use Rattle.eu_forest.specs.Ancestors.{ancestry}
 use Rattle.nddl_symbols.specs.declared.declared.Declared.{Declared}
 use Rattle.nddl_symbols.specs.declared.declared.Sort.{Sort}
@@ -56,6 +57,7 @@ use Rattle.nddl_object_laws.specs.Carried.{There, grounds_there}
 abbrev pub IsBelow : ℕ → Option Datum → Type 0
 IsBelow count None = ⊤
 IsBelow count (Some (datums.Number number)) = ⊤
+IsBelow count (Some (datums.Decimal thousandths)) = ⊤
 IsBelow count (Some (datums.Truth truth)) = ⊤
 IsBelow count (Some (datums.Member entry)) = ⊤
 IsBelow count (Some (datums.Object number)) = number < count
@@ -86,6 +88,7 @@ pub record IsClosed (there : There) : Type 0 where
 pub below_more : (count more : ℕ) (datum : Option Datum) → count ≤ more → IsBelow count datum → IsBelow more datum
 below_more count more None least is = tt
 below_more count more (Some (datums.Number number)) least is = tt
+below_more count more (Some (datums.Decimal thousandths)) least is = tt
 below_more count more (Some (datums.Truth truth)) least is = tt
 below_more count more (Some (datums.Member entry)) least is = tt
 below_more count more (Some (datums.Object number)) least is = omega (arith, least, is)
@@ -141,6 +144,7 @@ module _ (facts : Facts) (there : There) (closed : IsClosed there) where
   field_below : (datum : Option Datum) (name : Name) → IsBelow before (datum_behind there.objects datum name)
   field_below None name = tt
   field_below (Some (datums.Number number)) name = tt
+  field_below (Some (datums.Decimal thousandths)) name = tt
   field_below (Some (datums.Truth truth)) name = tt
   field_below (Some (datums.Member entry)) name = tt
   field_below (Some (datums.Object number)) name = by (slice_get there.objects number) refl
@@ -182,22 +186,28 @@ module _ (facts : Facts) (there : There) (closed : IsClosed there) where
 
   -- ---- values
 
-  literal_below : (constant : Constant) → IsBelow before (literal_datum constant)
-  literal_below (constants.Number number) = tt
-  literal_below (constants.Truth truth) = tt
-  literal_below (constants.Decimal thousandths) = tt
+  decimal_below : (decimal : Option ℤ) → IsBelow before (option_map datums.Decimal decimal)
+  decimal_below None = tt
+  decimal_below (Some thousandths) = tt
 
-  expr_below : (scene : Scenery) (expr : Expr) → AreBelow before scene.values → IsBelow before (expr_datum grounds scene there.objects expr)
-  expr_below scene (exprs.Path path) are =
+  literal_below : (wanted : Option TypeKind) (constant : Constant) → IsBelow before (literal_datum wanted constant)
+  literal_below (Some kinds.Float) constant = decimal_below (constant_decimal constant)
+  literal_below wanted (constants.Number number) = tt
+  literal_below wanted (constants.Decimal thousandths) = tt
+  literal_below wanted (constants.Truth truth) = tt
+
+  expr_below : (scene : Scenery) (wanted : Option TypeKind) (expr : Expr) → AreBelow before scene.values
+      → IsBelow before (expr_datum grounds scene there.objects wanted expr)
+  expr_below scene wanted (exprs.Path path) are =
       names_below (first_datum grounds scene path.first.text) path.rest (first_below scene path.first.text are)
-  expr_below scene (exprs.Literal literal) are = literal_below literal.constant
+  expr_below scene wanted (exprs.Literal literal) are = literal_below wanted literal.constant
 
   pub fine_below : (scene : Scenery) (wanted : Option TypeKind) (expr : Expr) → AreBelow before scene.values
       → IsBelow before (fine_datum grounds scene there.objects wanted expr)
   unfolding fine_datum
   fine_below scene wanted expr are =
-      cond_below before (is_well_written grounds scene wanted expr) (expr_datum grounds scene there.objects expr)
-      (expr_below scene expr are)
+      cond_below before (is_well_written grounds scene wanted expr) (expr_datum grounds scene there.objects wanted expr)
+      (expr_below scene wanted expr are)
 
   pub data_below : (scene : Scenery) (wants : List (Option TypeKind)) (number : ℕ) (some : List Expr) → AreBelow before scene.values
       → (place : ℕ) → IsBelow before (datum_at (fine_data grounds scene there.objects wants number some) place)
@@ -254,6 +264,7 @@ module _ (facts : Facts) (there : There) (closed : IsClosed there) where
         → datum_behind objects datum name ≡ datum_behind there.objects datum name
     field_same None name is = refl
     field_same (Some (datums.Number number)) name is = refl
+    field_same (Some (datums.Decimal thousandths)) name is = refl
     field_same (Some (datums.Truth truth)) name is = refl
     field_same (Some (datums.Member entry)) name is = refl
     field_same (Some (datums.Object number)) name is =
@@ -267,17 +278,17 @@ module _ (facts : Facts) (there : There) (closed : IsClosed there) where
         ap (λ found. data_behind objects found more) (field_same datum name is)
         ∙ names_same (datum_behind there.objects datum name) more (field_below datum name)
 
-    expr_same : (scene : Scenery) (expr : Expr) → AreBelow before scene.values
-        → expr_datum grounds scene objects expr ≡ expr_datum grounds scene there.objects expr
-    expr_same scene (exprs.Path path) are =
+    expr_same : (scene : Scenery) (wanted : Option TypeKind) (expr : Expr) → AreBelow before scene.values
+        → expr_datum grounds scene objects wanted expr ≡ expr_datum grounds scene there.objects wanted expr
+    expr_same scene wanted (exprs.Path path) are =
         names_same (first_datum grounds scene path.first.text) path.rest (first_below scene path.first.text are)
-    expr_same scene (exprs.Literal literal) are = refl
+    expr_same scene wanted (exprs.Literal literal) are = refl
 
     pub fine_same : (scene : Scenery) (wanted : Option TypeKind) (expr : Expr) → AreBelow before scene.values
         → fine_datum grounds scene objects wanted expr ≡ fine_datum grounds scene there.objects wanted expr
     unfolding fine_datum
     fine_same scene wanted expr are =
-        ap (λ datum. if is_well_written grounds scene wanted expr then datum else None) (expr_same scene expr are)
+        ap (λ datum. if is_well_written grounds scene wanted expr then datum else None) (expr_same scene wanted expr are)
 
     pub data_same : (scene : Scenery) (wants : List (Option TypeKind)) (number : ℕ) (some : List Expr) → AreBelow before scene.values
         → fine_data grounds scene objects wants number some ≡ fine_data grounds scene there.objects wants number some
@@ -334,6 +345,7 @@ head_of object = record { class = object.class; entry = object.entry }
 abbrev pub IsAlikeIn : List MadeObject → List MadeObject → Option Datum → Type 0
 IsAlikeIn one other None = ⊤
 IsAlikeIn one other (Some (datums.Number number)) = ⊤
+IsAlikeIn one other (Some (datums.Decimal thousandths)) = ⊤
 IsAlikeIn one other (Some (datums.Truth truth)) = ⊤
 IsAlikeIn one other (Some (datums.Member entry)) = ⊤
 IsAlikeIn one other (Some (datums.Object number)) = option_map head_of (slice_get one number) ≡ option_map head_of (slice_get other number)
@@ -361,6 +373,7 @@ module _ (grounds : Grounds) (one other : List MadeObject) where
 
   number_alike : (datum : Datum) → IsAlikeIn one other (Some datum) → datum_number one datum ≡ datum_number other datum
   number_alike (datums.Number number) alike = refl
+  number_alike (datums.Decimal thousandths) alike = refl
   number_alike (datums.Truth truth) alike = refl
   number_alike (datums.Member entry) alike = refl
   number_alike (datums.Object number) alike =
@@ -407,6 +420,7 @@ pub kept_alike : (front objects : List MadeObject) → Keep front objects → (d
     → IsAlikeIn objects front datum
 kept_alike front objects keep None is = tt
 kept_alike front objects keep (Some (datums.Number number)) is = tt
+kept_alike front objects keep (Some (datums.Decimal thousandths)) is = tt
 kept_alike front objects keep (Some (datums.Truth truth)) is = tt
 kept_alike front objects keep (Some (datums.Member entry)) is = tt
 kept_alike front objects keep (Some (datums.Object number)) is = ap (option_map head_of) (keep number is)

@@ -120,6 +120,7 @@ agree_alike : (objects all : List MadeObject) → Agree objects all → (datum :
     → IsAlikeIn objects all datum
 agree_alike objects all agree None is = tt
 agree_alike objects all agree (Some (datums.Number number)) is = tt
+agree_alike objects all agree (Some (datums.Decimal thousandths)) is = tt
 agree_alike objects all agree (Some (datums.Truth truth)) is = tt
 agree_alike objects all agree (Some (datums.Member entry)) is = tt
 agree_alike objects all agree (Some (datums.Object number)) is = agree number is

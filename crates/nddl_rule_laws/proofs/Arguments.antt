@@ -2,14 +2,12 @@
 use Rattle.std.proofs.Common.{◌≡◌, ℕ, ◌+◌, List, [], ◌∷◌, ◌++◌, ℤ, refl, sym, subst}
 use Rattle.std.specs.Prelude.{Option, Some, None, Ok, Err}
 use Rattle.std.specs.Option.{option_map_or}
-use Rattle.domain_core.specs.declared.kind.Kind.{Kind}
 use Rattle.nddl_ast.specs.declared.expression.Expr.{Expr}
 use Rattle.nddl_ast.specs.declared.expression.Expr.TheVariants as exprs
 use Rattle.nddl_ast.specs.declared.expression.Init.{Init}
 use Rattle.nddl_ast.specs.declared.expression.Init.TheVariants as inits
 use Rattle.nddl_ast.specs.declared.expression.Type as types
 use Rattle.nddl_ast.specs.declared.declaration.FileDecls.{FileDecls}
-use Rattle.nddl_ast.specs.declared.kind.TextKind.TheVariants as faults
 use Rattle.nddl_ast.specs.declared.name.Name.{Name}
 use Rattle.nddl_ast.specs.declared.name.Path.{Path}
 use Rattle.nddl_ast.specs.declared.statement.Condition.{Condition}
@@ -17,7 +15,6 @@ use Rattle.nddl_ast.specs.declared.statement.Condition.TheVariants as conditions
 use Rattle.nddl_ast.specs.Places.{expr_place}
 use Rattle.nddl_symbols.specs.declared.scope.Meaning.{Meaning}
 use Rattle.nddl_symbols.specs.Finding.{faults_here}
-use Rattle.nddl_symbols.specs.Scope.{fault_if}
 use Rattle.nddl_typeexpr.specs.declared.kind.TypeKind.{TypeKind}
 use Rattle.nddl_typeexpr.specs.declared.kind.TypeKind.TheVariants as kinds
 use Rattle.nddl_resolve.specs.declared.denoted.Denoted.{Denoted}
@@ -26,9 +23,8 @@ use Rattle.nddl_resolve.specs.Following.{Understood, asked_by, asked_rest, rest_
 use Rattle.nddl_resolve.specs.Paths.{Surroundings, asked_token, expr_denoted, first_denoted, path_denoted}
 use Rattle.nddl_rule_check.specs.declared.asked.Asked.{Asked}
 use Rattle.nddl_rule_check.specs.declared.asked.Asked.TheVariants as asked
-use Rattle.nddl_rule_check.specs.Arguments.{argument_faults, arguments_faults, asked_by_type, compared_faults, condition_faults, init_faults, meant_by}
-use Rattle.nddl_rule_check.specs.Constraints.{asked_at}
-use Rattle.nddl_rule_check.specs.Values.{compared_with, is_unfit}
+use Rattle.nddl_rule_check.specs.Arguments.{argument_faults, arguments_faults, asked_by_type, asked_of_both, compared_faults, condition_faults, init_faults, meant_by}
+use Rattle.nddl_rule_check.specs.Values.{compared_with, unfit_fault}
 use Rattle.nddl_terms.specs.declared.growth.Growth.{Growth}
 use Rattle.nddl_terms.specs.declared.stands.Made.{Made}
 use Rattle.nddl_terms.specs.Paths.{rest_stand}
@@ -126,23 +122,23 @@ module _ (IsFor : Meaning → ℕ → Type 0) (IsPredFor : TokenSort → ℕ →
   expr_meant tally turns growth around sight decl asks compared expr sees names none =
       expr_understood tally turns growth around sight decl expr sees names
       (none_first (understood_faults decl (expr_denoted ground.facts around expr))
-      (faults_here decl (expr_place expr) (fault_if (is_unfit asks compared expr (meant_by ground.facts around expr)) faults.WrongType)) none)
+      (faults_here decl (expr_place expr) (unfit_fault asks compared expr (meant_by ground.facts around expr))) none)
 
-  pub exprs_meant : (tally : Tally) (turns : List Made) (growth : Growth) (around : Surroundings) (sight : Sight) (decl : ℕ) (kind : Kind) (place : ℕ)
+  pub exprs_meant : (tally : Tally) (turns : List Made) (growth : Growth) (around : Surroundings) (sight : Sight) (decl : ℕ) (asks : ℕ → Asked) (place : ℕ)
       (compared : Option TypeKind) (some : List Expr) → Seeing tally turns growth around sight
-      → InNames reading.names (exprs_read (sources_in ground) sight some) → arguments_faults ground.facts around decl kind place compared some ≡ []
+      → InNames reading.names (exprs_read (sources_in ground) sight some) → arguments_faults ground.facts around decl asks place compared some ≡ []
       → AreExprsMeant reading turns some growth
-  exprs_meant tally turns growth around sight decl kind place compared [] sees names none = tt
-  exprs_meant tally turns growth around sight decl kind place compared (expr ∷ more) sees names none =
+  exprs_meant tally turns growth around sight decl asks place compared [] sees names none = tt
+  exprs_meant tally turns growth around sight decl asks place compared (expr ∷ more) sees names none =
       let P : ReadName → Type 0 = λ read. name_read_at read.at reading.names ≡ Some read.meaning in
       let one = expr_read (sources_in ground) sight expr in
       let rest = exprs_read (sources_in ground) sight more in
-      let first = argument_faults ground.facts around decl (asked_at kind place) compared expr in
-      let next = compared_with (asked_at kind place) compared (meant_by ground.facts around expr) in
-      let second = arguments_faults ground.facts around decl kind (place + 1) next more in
+      let first = argument_faults ground.facts around decl (asks place) compared expr in
+      let next = compared_with (asks place) compared (meant_by ground.facts around expr) in
+      let second = arguments_faults ground.facts around decl asks (place + 1) next more in
       let given = argument reading turns expr growth in (
-        expr_meant tally turns growth around sight decl (asked_at kind place) compared expr sees (all_first P one rest names) (none_first first second none),
-        exprs_meant tally turns given.growth around sight decl kind (place + 1) next more
+        expr_meant tally turns growth around sight decl (asks place) compared expr sees (all_first P one rest names) (none_first first second none),
+        exprs_meant tally turns given.growth around sight decl asks (place + 1) next more
             (seeing_same tally turns growth given.growth around sight (argument_made reading turns expr growth) sees) (all_second P one rest names)
             (none_second first second none),
       )
@@ -157,12 +153,13 @@ module _ (IsFor : Meaning → ℕ → Type 0) (IsPredFor : TokenSort → ℕ →
       let P : ReadName → Type 0 = λ read. name_read_at read.at reading.names ≡ Some read.meaning in
       let left = expr_read (sources_in ground) sight one in
       let right = expr_read (sources_in ground) sight other in
-      let first = argument_faults ground.facts around decl asked.Compared None one in
-      let next = compared_with asked.Compared None (meant_by ground.facts around one) in
-      let second = argument_faults ground.facts around decl asked.Compared next other in
+      let asks = asked_of_both (meant_by ground.facts around one) (meant_by ground.facts around other) in
+      let first = argument_faults ground.facts around decl asks None one in
+      let next = compared_with asks None (meant_by ground.facts around one) in
+      let second = argument_faults ground.facts around decl asks next other in
       let given = argument reading turns one growth in (
-        expr_meant tally turns growth around sight decl asked.Compared None one sees (all_first P left right names) (none_first first second none),
-        expr_meant tally turns given.growth around sight decl asked.Compared next other
+        expr_meant tally turns growth around sight decl asks None one sees (all_first P left right names) (none_first first second none),
+        expr_meant tally turns given.growth around sight decl asks next other
             (seeing_same tally turns growth given.growth around sight (argument_made reading turns one growth) sees) (all_second P left right names)
             (none_second first second none),
       )

@@ -6,6 +6,7 @@ use Rattle.eu_name.specs.declared.name.Part.{Part}
 use Rattle.model_core.specs.declared.class.Object.{Object}
 use Rattle.model_core.specs.declared.item.Term.{Term}
 use Rattle.model_core.specs.declared.item.Term.TheVariants as terms
+use Rattle.model_core.specs.declared.variable.ValueKind.{ValueKind}
 use Rattle.model_core.proofs.Items.{item_at}
 use Rattle.nddl_ast.specs.declared.name.Name.{Name}
 use Rattle.nddl_symbols.specs.declared.scope.Meaning.{Meaning}
@@ -25,7 +26,7 @@ use Rattle.nddl_terms.specs.declared.lexicon.Lexicon.{Lexicon}
 use Rattle.nddl_terms.specs.declared.stands.Stand.{Stand}
 use Rattle.nddl_terms.specs.declared.stands.Stand.TheVariants as stands
 use Rattle.nddl_terms.specs.Growth.{with_access}
-use Rattle.nddl_terms.specs.Lexicon.{attribute_class, attribute_number, part_called, part_class, pred_named, shape_fields}
+use Rattle.nddl_terms.specs.Lexicon.{attribute_class, attribute_kind, attribute_number, part_called, part_class, pred_named, shape_fields}
 use Rattle.nddl_terms.specs.Paths.{known_stand, known_value, next_stand, numbered_field, part_stand, reached, read_field, rest_stand}
 use Rattle.nddl_terms.specs.Readings.{Readings}
 use Rattle.nddl_lower.specs.Slots.{AskedSlot, asked_behind, asked_nothing, asked_of_owner, wanted_of}
@@ -56,7 +57,7 @@ module _ (IsFor : Meaning → ℕ → Type 0) (IsPredFor : TokenSort → ℕ →
 
   -- what stands for something fits what it denotes
   abbrev pub Fits : Denoted → Stand → Type 0
-  Fits (denoted.Value kind constant) (stands.Value term class) = KindFits kind class × TermFits kind class term
+  Fits (denoted.Value kind constant) (stands.Value term own class) = KindFits kind class × TermFits kind class term
   Fits (denoted.Token token) (stands.Slot number pred) = IsPredFor token pred
   Fits (denoted.Token token) (stands.Root number pred) = IsPredFor token pred
   Fits (denoted.Class class) (stands.Class number) = IsFor class number
@@ -101,7 +102,7 @@ module _ (IsFor : Meaning → ℕ → Type 0) (IsPredFor : TokenSort → ℕ →
 
   -- what fits is something
   pub fits_something : (meant : Denoted) (stand : Stand) → Fits meant stand → IsSomething stand
-  fits_something meant (stands.Value term class) fits = tt
+  fits_something meant (stands.Value term own class) fits = tt
   fits_something meant (stands.Slot number pred) fits = tt
   fits_something meant (stands.Root number pred) fits = tt
   fits_something meant (stands.Class class) fits = tt
@@ -122,8 +123,9 @@ module _ (IsFor : Meaning → ℕ → Type 0) (IsPredFor : TokenSort → ℕ →
         let class_is : attribute_class fields number ≡ attribute.shape.class =
         ap (λ o. option_map_or (λ (one : Attribute). one.shape.class) o 0) there in
         subst (Fits (denoted.Value kind constant))
-        (sym (ap (λ o. option_map_or (λ content. stands.Value (terms.Lit content) (attribute_class fields number)) o stands.Nothing) known
-        ∙ ap (stands.Value (terms.Lit content)) class_is))
+        (sym (ap (λ o. option_map_or (λ content. stands.Value (terms.Lit content) (attribute_kind fields number) (attribute_class fields number)) o
+        stands.Nothing) known
+        ∙ ap (stands.Value (terms.Lit content) (attribute_kind fields number)) class_is))
         (fits, thing)
 
     -- and that of a variable
@@ -132,7 +134,7 @@ module _ (IsFor : Meaning → ℕ → Type 0) (IsPredFor : TokenSort → ℕ →
         → Fits (denoted.Value kind constant) (read_field object fields number growth).stand
     read_fits object number kind attribute fields constant growth there fits =
         subst (λ (o : Option Attribute). Fits (denoted.Value kind constant)
-        (option_map_or (λ (one : Attribute). reached (stands.Value (terms.Local (length growth.locals)) one.shape.class)
+        (option_map_or (λ (one : Attribute). reached (stands.Value (terms.Local (length growth.locals)) one.shape.kind one.shape.class)
         (with_access object number one.shape growth)) o (reached stands.Nothing growth)).stand)
         (sym there) (fits, tt)
 
@@ -168,8 +170,8 @@ module _ (IsFor : Meaning → ℕ → Type 0) (IsPredFor : TokenSort → ℕ →
     -- a field of an object
     field_fits : (of : Meaning) (constant : Bool) (term : Term) (class : ℕ) (name : Name) (growth : Growth) (next : Denoted)
         → IsFor of class → TermFits (kinds.Object of) class term → class_field facts constant name.text of ≡ Some next
-        → Fits next (next_stand reading (stands.Value term class) name growth).stand
-    field_fits of constant term class name growth next for fits found =
+        → (own : ValueKind) → Fits next (next_stand reading (stands.Value term own class) name growth).stand
+    field_fits of constant term class name growth next for fits found own =
         let it = serves.field of class constant name.text next for found in
         subst (λ (o : Option ℕ). Fits next
         (option_map_or (λ number. numbered_field reading.objects term (shape_fields reading.lexicon class) number growth) o (reached stands.Nothing growth)).stand)
@@ -181,22 +183,23 @@ module _ (IsFor : Meaning → ℕ → Type 0) (IsPredFor : TokenSort → ℕ →
     slot_fits token number pred name growth next for found =
         let it = serves.part token pred name.text next for found in
         subst (λ (o : Option Part). Fits next (option_map_or (part_stand reading (stands.Slot number pred)) o stands.Nothing)) (sym it.named)
-        (subst (λ d. Fits d (stands.Value (terms.Slot number it.part) (part_class reading.lexicon pred it.part))) (sym it.is) (it.fits, tt))
+        (subst (λ d. Fits d (part_stand reading (stands.Slot number pred) it.part)) (sym it.is) (it.fits, tt))
 
     root_fits : (token : TokenSort) (number pred : ℕ) (name : Name) (growth : Growth) (next : Denoted) → IsPredFor token pred
         → token_part facts name.text token ≡ Some next → Fits next (next_stand reading (stands.Root number pred) name growth).stand
     root_fits token number pred name growth next for found =
         let it = serves.part token pred name.text next for found in
         subst (λ (o : Option Part). Fits next (option_map_or (part_stand reading (stands.Root number pred)) o stands.Nothing)) (sym it.named)
-        (subst (λ d. Fits d (stands.Value (terms.Root number it.part) (part_class reading.lexicon pred it.part))) (sym it.is) (it.fits, tt))
+        (subst (λ d. Fits d (part_stand reading (stands.Root number pred) it.part)) (sym it.is) (it.fits, tt))
 
     next_fits : (first : ℕ) (meant : Denoted) (stand : Stand) (name : Name) (growth : Growth) (next : Denoted) → Fits meant stand
         → next_denoted facts first meant name ≡ Ok next → Fits next (next_stand reading stand name growth).stand
-    next_fits first (denoted.Value (kinds.Object of) constant) (stands.Value term class) name growth next fits is =
-        field_fits of constant term class name growth next fits.0 fits.1 (found_is name (class_field facts constant name.text of) next is)
-    next_fits first (denoted.Value kinds.Int constant) (stands.Value term class) name growth next fits is = absurd (cc)
-    next_fits first (denoted.Value kinds.Bool constant) (stands.Value term class) name growth next fits is = absurd (cc)
-    next_fits first (denoted.Value (kinds.Enum of) constant) (stands.Value term class) name growth next fits is = absurd (cc)
+    next_fits first (denoted.Value (kinds.Object of) constant) (stands.Value term own class) name growth next fits is =
+        field_fits of constant term class name growth next fits.0 fits.1 (found_is name (class_field facts constant name.text of) next is) own
+    next_fits first (denoted.Value kinds.Int constant) (stands.Value term own class) name growth next fits is = absurd (cc)
+    next_fits first (denoted.Value kinds.Float constant) (stands.Value term own class) name growth next fits is = absurd (cc)
+    next_fits first (denoted.Value kinds.Bool constant) (stands.Value term own class) name growth next fits is = absurd (cc)
+    next_fits first (denoted.Value (kinds.Enum of) constant) (stands.Value term own class) name growth next fits is = absurd (cc)
     next_fits first (denoted.Token token) (stands.Slot number pred) name growth next fits is =
         slot_fits token number pred name growth next fits (found_is name (token_part facts name.text token) next is)
     next_fits first (denoted.Token token) (stands.Root number pred) name growth next fits is =
@@ -206,17 +209,17 @@ module _ (IsFor : Meaning → ℕ → Type 0) (IsPredFor : TokenSort → ℕ →
     next_fits first (denoted.Value kind constant) (stands.Root number pred) name growth next fits is = absurd fits
     next_fits first (denoted.Value kind constant) (stands.Class number) name growth next fits is = absurd fits
     next_fits first (denoted.Value kind constant) stands.Nothing name growth next fits is = absurd fits
-    next_fits first (denoted.Token token) (stands.Value term class) name growth next fits is = absurd fits
+    next_fits first (denoted.Token token) (stands.Value term own class) name growth next fits is = absurd fits
     next_fits first (denoted.Token token) (stands.Class number) name growth next fits is = absurd fits
     next_fits first (denoted.Token token) stands.Nothing name growth next fits is = absurd fits
-    next_fits first (denoted.Class class) (stands.Value term number) name growth next fits is = absurd fits
+    next_fits first (denoted.Class class) (stands.Value term own number) name growth next fits is = absurd fits
     next_fits first (denoted.Class class) (stands.Slot number pred) name growth next fits is = absurd fits
     next_fits first (denoted.Class class) (stands.Root number pred) name growth next fits is = absurd fits
     next_fits first (denoted.Class class) stands.Nothing name growth next fits is = absurd fits
     next_fits first denoted.Faulty stand name growth next fits is = absurd (faulty_fits stand fits)
       where
         faulty_fits : (stand : Stand) → Fits denoted.Faulty stand → ⊥
-        faulty_fits (stands.Value term class) one = one
+        faulty_fits (stands.Value term own class) one = one
         faulty_fits (stands.Slot number pred) one = one
         faulty_fits (stands.Root number pred) one = one
         faulty_fits (stands.Class class) one = one
@@ -260,21 +263,22 @@ module _ (IsFor : Meaning → ℕ → Type 0) (IsPredFor : TokenSort → ℕ →
 
     owner_fits : (first : ℕ) (meant : Denoted) (stand : Stand) (name : Name) (end : Denoted) → Fits meant stand
         → token_denoted facts first meant name ≡ Ok end → TokenFits end (wanted_of reading.lexicon stand name.text).pred
-    owner_fits first (denoted.Value (kinds.Object of) constant) (stands.Value term class) name end fits is = named_fits of class name end fits.0 is
-    owner_fits first (denoted.Value kinds.Int constant) (stands.Value term class) name end fits is = absurd (cc)
-    owner_fits first (denoted.Value kinds.Bool constant) (stands.Value term class) name end fits is = absurd (cc)
-    owner_fits first (denoted.Value (kinds.Enum of) constant) (stands.Value term class) name end fits is = absurd (cc)
+    owner_fits first (denoted.Value (kinds.Object of) constant) (stands.Value term own class) name end fits is = named_fits of class name end fits.0 is
+    owner_fits first (denoted.Value kinds.Int constant) (stands.Value term own class) name end fits is = absurd (cc)
+    owner_fits first (denoted.Value kinds.Float constant) (stands.Value term own class) name end fits is = absurd (cc)
+    owner_fits first (denoted.Value kinds.Bool constant) (stands.Value term own class) name end fits is = absurd (cc)
+    owner_fits first (denoted.Value (kinds.Enum of) constant) (stands.Value term own class) name end fits is = absurd (cc)
     owner_fits first (denoted.Class of) (stands.Class class) name end fits is = named_fits of class name end fits is
     owner_fits first (denoted.Token token) stand name end fits is = absurd (cc)
     owner_fits first (denoted.Value kind constant) (stands.Slot number pred) name end fits is = absurd fits
     owner_fits first (denoted.Value kind constant) (stands.Root number pred) name end fits is = absurd fits
     owner_fits first (denoted.Value kind constant) (stands.Class number) name end fits is = absurd fits
     owner_fits first (denoted.Value kind constant) stands.Nothing name end fits is = absurd fits
-    owner_fits first (denoted.Class of) (stands.Value term class) name end fits is = absurd fits
+    owner_fits first (denoted.Class of) (stands.Value term own class) name end fits is = absurd fits
     owner_fits first (denoted.Class of) (stands.Slot number pred) name end fits is = absurd fits
     owner_fits first (denoted.Class of) (stands.Root number pred) name end fits is = absurd fits
     owner_fits first (denoted.Class of) stands.Nothing name end fits is = absurd fits
-    owner_fits first denoted.Faulty (stands.Value term class) name end fits is = absurd fits
+    owner_fits first denoted.Faulty (stands.Value term own class) name end fits is = absurd fits
     owner_fits first denoted.Faulty (stands.Slot number pred) name end fits is = absurd fits
     owner_fits first denoted.Faulty (stands.Root number pred) name end fits is = absurd fits
     owner_fits first denoted.Faulty (stands.Class class) name end fits is = absurd fits

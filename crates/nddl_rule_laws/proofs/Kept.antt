@@ -37,7 +37,7 @@ use Rattle.nddl_terms.specs.Readings.{Readings}
 use Rattle.nddl_terms.specs.Stands.{declared_stand, first_stand, latest_stand, stand_if_at}
 use Rattle.nddl_lower.specs.Arguments.{argument, condition_guard, given_arguments, with_constraint}
 use Rattle.nddl_lower.specs.Calls.{with_ask, with_call, with_constraint_named, with_related, with_relation_to}
-use Rattle.nddl_lower.specs.Locals.{type_shape, with_begun, with_text_local}
+use Rattle.nddl_lower.specs.Locals.{next_local, type_shape, with_begun, with_text_local}
 use Rattle.nddl_lower.specs.Slots.{AskedSlot, asked_behind, asked_labelled, asked_nothing, asked_of_owner, asked_path, with_asked, with_relation, with_wanted_token}
 use Rattle.nddl_rules.specs.declared.sight.Tally.{Tally}
 use Rattle.nddl_rules.specs.Blocks.{asks_slot, has_more, is_long_path}
@@ -56,7 +56,7 @@ pub made_then : (old between new : Growth) → SameMade old between → SameMade
 made_then old between new first second = record { named = second.named ∙ first.named; asked = second.asked ∙ first.asked }
 
 read_made : (object : Term) (number : ℕ) (growth : Growth) (found : Option Attribute)
-    → SameMade growth (option_map_or (λ (attribute : Attribute). reached (stands.Value (terms.Local (length growth.locals)) attribute.shape.class)
+    → SameMade growth (option_map_or (λ (attribute : Attribute). reached (stands.Value (terms.Local (length growth.locals)) attribute.shape.kind attribute.shape.class)
     (with_access object number attribute.shape growth)) found (reached stands.Nothing growth)).growth
 read_made object number growth None = record { named = refl; asked = refl }
 read_made object number growth (Some attribute) = record { named = refl; asked = refl }
@@ -72,7 +72,7 @@ field_made objects (terms.Global global) fields growth (Some number) = read_made
 field_made objects (terms.Root root part) fields growth (Some number) = read_made (terms.Root root part) number growth (slice_get fields number)
 
 next_made : (reading : Readings) (stand : Stand) (name : Name) (growth : Growth) → SameMade growth (next_stand reading stand name growth).growth
-next_made reading (stands.Value term class) name growth =
+next_made reading (stands.Value term own class) name growth =
     field_made reading.objects term (shape_fields reading.lexicon class) growth (attribute_number name.text (shape_fields reading.lexicon class))
 next_made reading (stands.Slot number pred) name growth = record { named = refl; asked = refl }
 next_made reading (stands.Root number pred) name growth = record { named = refl; asked = refl }
@@ -123,14 +123,14 @@ asked_made reading stand names growth = by (slice_get names (length names - 1))
 
 -- ---- what statements declare
 
--- a local is declared there
-pub record DeclaresLocal (at class : ℕ) (old new : Growth) : Type 0 where
+-- a local of this shape is declared there
+pub record DeclaresLocal (at : ℕ) (shape : Shape) (old new : Growth) : Type 0 where
   pub number : ℕ
-  pub named : new.named ≡ old.named ++ record { at = at; stand = stands.Value (terms.Local number) class } ∷ []
+  pub named : new.named ≡ old.named ++ record { at = at; stand = stands.Value (terms.Local number) shape.kind shape.class } ∷ []
   pub asked : new.asked ≡ old.asked
 
 begun_made : (reading : Readings) (turns : List Made) (at : ℕ) (shape : Shape) (init : Option Init) (growth : Growth)
-    → DeclaresLocal at shape.class growth (with_begun reading turns at shape init growth)
+    → DeclaresLocal at shape growth (with_begun reading turns at shape init growth)
 begun_made reading turns at shape None growth = record { number = length growth.locals; named = refl; asked = refl }
 begun_made reading turns at shape (Some (inits.New creation)) growth = record { number = length growth.locals; named = refl; asked = refl }
 begun_made reading turns at shape (Some (inits.Expr expr)) growth =
@@ -138,12 +138,12 @@ begun_made reading turns at shape (Some (inits.Expr expr)) growth =
     let same = argument_made reading turns expr growth in
     record {
       number = length given.growth.locals;
-      named = ap (λ (some : List Made). some ++ record { at = at; stand = stands.Value (terms.Local (length given.growth.locals)) shape.class } ∷ []) same.named;
+      named = ap (λ (some : List Made). some ++ record { at = at; stand = next_local shape given.growth } ∷ []) same.named;
       asked = same.asked;
     }
 
 pub local_made : (reading : Readings) (turns : List Made) (variable : Variable) (growth : Growth)
-    → DeclaresLocal variable.name.at (type_shape reading turns growth variable.declared).class growth (with_text_local reading turns variable growth)
+    → DeclaresLocal variable.name.at (type_shape reading turns growth variable.declared) growth (with_text_local reading turns variable growth)
 local_made reading turns variable growth =
     begun_made reading turns variable.name.at (type_shape reading turns growth variable.declared) variable.init growth
 
@@ -216,7 +216,7 @@ related_made reading turns call relation path [] growth rest arguments is = by (
   where
     by : (stand : Stand) → CallMakes call growth (with_relation relation stand growth)
     by (stands.Slot number pred) = makes_nothing (record { named = refl; asked = refl })
-    by (stands.Value term class) = makes_nothing (same_made growth)
+    by (stands.Value term own class) = makes_nothing (same_made growth)
     by (stands.Root number pred) = makes_nothing (same_made growth)
     by (stands.Class class) = makes_nothing (same_made growth)
     by stands.Nothing = makes_nothing (same_made growth)
@@ -319,12 +319,12 @@ module _ (places : TextPlaces) (once_locals : Once places.locals) (once_slots : 
     asked = λ number less. keeps.asked number (omega (arith, less, slots));
   }
 
-  pub keeps_local : (tally : Tally) (at class : ℕ) (old new : Growth) → slice_get places.locals tally.locals ≡ Some at → DeclaresLocal at class old new
-      → Keeps tally old new
-  keeps_local tally at class old new there made = record {
+  pub keeps_local : (tally : Tally) (at : ℕ) (shape : Shape) (old new : Growth) → slice_get places.locals tally.locals ≡ Some at
+      → DeclaresLocal at shape old new → Keeps tally old new
+  keeps_local tally at shape old new there made = record {
     named = λ number less.
         ap (declared_stand places.locals number) made.named
-        ∙ declared_other places.locals number tally.locals at old.named (stands.Value (terms.Local made.number) class) once_locals
+        ∙ declared_other places.locals number tally.locals at old.named (stands.Value (terms.Local made.number) shape.kind shape.class) once_locals
         (λ same. omega (arith, less, same)) there;
     asked = λ number less. ap (declared_stand places.slots number) made.asked;
   }

@@ -11,6 +11,7 @@ use Rattle.eu_name.specs.declared.name.Part.{Part}
 use Rattle.eu_name.specs.declared.name.Part.TheVariants as name_parts
 use Rattle.eu_forest.proofs.Fewer.{differs}
 use Rattle.model_core.specs.declared.class.Object.{Object}
+use Rattle.model_core.specs.declared.variable.ValueKind.TheVariants as value_kinds
 use Rattle.model_core.specs.declared.item.Term.TheVariants as terms
 use Rattle.model_core.specs.declared.variable.VarDecl.{VarDecl}
 use Rattle.nddl_ast.specs.declared.declaration.Decl.{Decl}
@@ -66,7 +67,7 @@ use Rattle.nddl_terms.specs.Names.{AreReadInOrder, name_read_at}
 use Rattle.nddl_terms.specs.PlainTree.{PlainTree}
 use Rattle.nddl_terms.specs.Readings.{Readings}
 use Rattle.nddl_terms.specs.Stands.{file_stand, meaning_stand}
-use Rattle.nddl_env.specs.Lexicons.{asked_name, denoted_class, lexicon_of, name_stand, object_stand, root_of_class, root_stand, sort_shape, sort_stand, token_class}
+use Rattle.nddl_env.specs.Lexicons.{asked_name, denoted_class, denoted_kind, lexicon_of, name_stand, object_stand, root_of_class, root_stand, sort_shape, sort_stand, token_class}
 use Rattle.nddl_env.specs.Shapes.{World, kind_class, shape_with}
 use Rattle.nddl_rules.specs.Reads.{own_part}
 use Rattle.nddl_rules.specs.Sight.{no_sight}
@@ -147,6 +148,7 @@ asked_last : (facts : Facts) (first : ℕ) (here : Denoted) (name : Name) (more 
     → class_predicate facts (last_in_path name more).text token.class ≡ Some token.predicate
 asked_last facts first (denoted.Value (kinds.Object class) constant) name [] token is = asked_token_is facts class name token is
 asked_last facts first (denoted.Value kinds.Int constant) name [] token is = absurd (cc)
+asked_last facts first (denoted.Value kinds.Float constant) name [] token is = absurd (cc)
 asked_last facts first (denoted.Value kinds.Bool constant) name [] token is = absurd (cc)
 asked_last facts first (denoted.Value (kinds.Enum of) constant) name [] token is = absurd (cc)
 asked_last facts first (denoted.Token other) name [] token is = absurd (cc)
@@ -233,6 +235,7 @@ module _ (files : List FileDecls) (table : TypeTable) (given : AreGiven files) (
       → ((of : Meaning) → kind ≡ kinds.Object of → number ≡ class_number is.facts.names of) → KindFits IsFor IsPredFor IsThing kind number
   kind_fits (kinds.Object class) number there same = there_for class number there (same class refl)
   kind_fits kinds.Int number there same = tt
+  kind_fits kinds.Float number there same = tt
   kind_fits kinds.Bool number there same = tt
   kind_fits (kinds.Enum of) number there same = tt
 
@@ -240,6 +243,7 @@ module _ (files : List FileDecls) (table : TypeTable) (given : AreGiven files) (
       → ValueFits IsFor IsPredFor IsThing kind number value
   value_fits (kinds.Object class) number value inside = inside class refl
   value_fits kinds.Int number value inside = tt
+  value_fits kinds.Float number value inside = tt
   value_fits kinds.Bool number value inside = tt
   value_fits (kinds.Enum of) number value inside = tt
 
@@ -372,14 +376,14 @@ module _ (files : List FileDecls) (table : TypeTable) (given : AreGiven files) (
       → is_first is.facts.names entry declared ≡ true → declared.sort ≡ sort → sort_denoted is.facts entry declared sort ≡ Some meant
       → Fits IsFor IsPredFor IsThing meant (sort_stand world entry globals roots declared (Some meant) sort)
   sort_fits entry globals roots declared (sorts.Member of place) meant there first same found =
-      subst (λ d. Fits IsFor IsPredFor IsThing d (stands.Value (terms.Lit (pos place)) 0)) (same_Some (denoted.Value (kinds.Enum of) true) meant found) (tt, tt)
+      subst (λ d. Fits IsFor IsPredFor IsThing d (stands.Value (terms.Lit (pos place)) (value_kinds.Enum of) 0)) (same_Some (denoted.Value (kinds.Enum of) true) meant found) (tt, tt)
   sort_fits entry globals roots declared sorts.Global meant there first same found =
       let it = global_value files table given is named_objects made_objects entry declared there same in
       let known = type_known files table given is named_objects made_objects it.2.0 it.0 it.2.1 in
       let value : meant ≡ denoted.Value known.0 false =
       sym (same_Some (declared_value is.facts false declared) meant found)
       ∙ (it.1 ∙ ap (λ o. option_map_or (λ (k : TypeKind). denoted.Value k false) o denoted.Faulty) known.1) in
-      subst (λ d. Fits IsFor IsPredFor IsThing d (stands.Value (terms.Global globals) (denoted_class world (Some d)))) (sym value)
+      subst (λ d. Fits IsFor IsPredFor IsThing d (stands.Value (terms.Global globals) (denoted_kind (Some d)) (denoted_class world (Some d)))) (sym value)
       (kind_fits known.0 (kind_class is.facts.names known.0) known.2 (λ of kind. ap (kind_class is.facts.names) kind), tt)
   sort_fits entry globals roots declared sorts.Object meant there first same found =
       let it = made.named entry declared there same in
@@ -388,7 +392,7 @@ module _ (files : List FileDecls) (table : TypeTable) (given : AreGiven files) (
       sym (same_Some (object_alone (declared_value is.facts true declared)) meant found) ∙ ap object_alone it.denotes in
       subst (λ d. Fits IsFor IsPredFor IsThing d (object_stand world entry (denoted_class world (Some d)))) (sym value)
       (subst (λ (o : Option ℤ). Fits IsFor IsPredFor IsThing (denoted.Value (kinds.Object it.class) true)
-      (option_map_or (λ value. stands.Value (terms.Lit value) class) o stands.Nothing)) (sym it.made)
+      (option_map_or (λ value. stands.Value (terms.Lit value) value_kinds.Object class) o stands.Nothing)) (sym it.made)
       (there_for it.class class (named_there it.class it.is_class) refl, it.inside))
   sort_fits entry globals roots declared sorts.Root meant there first same found =
       let it = made.posted entry declared there same in

@@ -299,7 +299,7 @@ module _ (IsFor : Meaning → ℕ → Type 0) (IsPredFor : TokenSort → ℕ →
         made meaning read means there right (stands.Class number) so fits =
             let one = subst (λ o. InNames reading.names (read_at class.at o)) there names in
             record { meaning = meaning; means = means; right = right; number = number; stands_so = stand_is turns growth class.at read (stands.Class number) one.0 so; fits = fits }
-        made meaning read means there right (stands.Value term number) so fits = absurd fits
+        made meaning read means there right (stands.Value term own number) so fits = absurd fits
         made meaning read means there right (stands.Slot number pred) so fits = absurd fits
         made meaning read means there right (stands.Root number pred) so fits = absurd fits
         made meaning read means there right stands.Nothing so fits = absurd fits

@@ -14,6 +14,7 @@ use Rattle.model_core.specs.declared.item.Rel.{Rel}
 use Rattle.model_core.specs.declared.item.Term.TheVariants as terms
 use Rattle.model_core.specs.declared.rule.Entry.TheVariants as entries
 use Rattle.model_core.specs.declared.variable.Base.{Base}
+use Rattle.model_core.specs.declared.variable.ValueKind.TheVariants as value_kinds
 use Rattle.model_core.specs.Block.{plain_entries}
 use Rattle.nddl_ast.specs.declared.declaration.FileDecls.{FileDecls}
 use Rattle.nddl_ast.specs.declared.declaration.PredicatePart.{PredicatePart}
@@ -46,10 +47,11 @@ use Rattle.nddl_resolve.specs.declared.denoted.Denoted.TheVariants as denoted
 use Rattle.nddl_resolve.specs.declared.denoted.TokenSort.{TokenSort}
 use Rattle.nddl_resolve.specs.Following.{Understood, named_token, or_faulty, understood_faults, unknown_at}
 use Rattle.nddl_resolve.specs.Paths.{Surroundings, asked_token, path_denoted}
-use Rattle.nddl_rule_check.specs.Arguments.{arguments_faults, condition_faults, constraint_faults, init_faults}
+use Rattle.nddl_rule_check.specs.declared.asked.Asked.{Asked}
+use Rattle.nddl_rule_check.specs.Arguments.{are_decimals, arguments_faults, condition_faults, constraint_faults, init_faults}
 use Rattle.nddl_rule_check.specs.Blocks.{block_faults, local_faults, local_value, object_unless, slot_faults, slot_value, turn_faults, turn_value}
 use Rattle.nddl_rule_check.specs.Calls.{body_call_faults, constraint_call_faults, named_call_faults, no_act_faults, rule_call_faults}
-use Rattle.nddl_rule_check.specs.Constraints.{constraint_named, constraint_words, relation_named, takes}
+use Rattle.nddl_rule_check.specs.Constraints.{asked_among, constraint_named, constraint_words, relation_named, takes}
 use Rattle.nddl_rule_check.specs.Rules.{part_rule_faults}
 use Rattle.nddl_rule_check.specs.Seeing.{seeing_label, seeing_local, seeing_turn}
 use Rattle.nddl_rule_check.specs.Slots.{ask_faults, is_label, labelled_slot, related_names, relation_faults, slot_names, unwanted_faults}
@@ -266,9 +268,9 @@ module _ (IsFor : Meaning → ℕ → Type 0) (IsPredFor : TokenSort → ℕ →
   unrolled_stays Nothing tally turns growth at = stays_same tally growth growth (record { named = refl; asked = refl })
   unrolled_stays (Declares variable more) tally turns growth at =
       let next = with_text_local reading turns variable growth in
-      let class = (type_shape reading turns growth variable.declared).class in
+      let shape = type_shape reading turns growth variable.declared in
       stays_then tally growth next (unrolled reading turns more next)
-      (keeps_local reading.places once.locals once.slots tally variable.name.at class growth next at.0 (local_made reading turns variable growth))
+      (keeps_local reading.places once.locals once.slots tally variable.name.at shape growth next at.0 (local_made reading turns variable growth))
       (stays_fewer tally (local_more tally) next (unrolled reading turns more next) (local_within tally) (unrolled_stays more (local_more tally) turns next at.1))
   unrolled_stays (Calls call more) tally turns growth at =
       let next = with_call reading turns call growth in
@@ -321,7 +323,7 @@ module _ (IsFor : Meaning → ℕ → Type 0) (IsPredFor : TokenSort → ℕ →
       → base_kind ground.facts.names ground.facts.known base ≡ Some kind → KindFits IsFor IsPredFor IsThing kind (base_shape reading base).class
   base_fits bases.Int kind names is = subst (λ k. KindFits IsFor IsPredFor IsThing k (base_shape reading bases.Int).class) (same_Some kinds.Int kind is) tt
   base_fits bases.Bool kind names is = subst (λ k. KindFits IsFor IsPredFor IsThing k (base_shape reading bases.Bool).class) (same_Some kinds.Bool kind is) tt
-  base_fits bases.Float kind names is = absurd (none-some kind is)
+  base_fits bases.Float kind names is = subst (λ k. KindFits IsFor IsPredFor IsThing k (base_shape reading bases.Float).class) (same_Some kinds.Float kind is) tt
   base_fits bases.Str kind names is = absurd (none-some kind is)
   base_fits (bases.Named name) kind names is =
       by (meaning_of ground.facts.names name.text) refl (scope_meaning (sources_in ground).scope name.text) refl
@@ -341,7 +343,7 @@ module _ (IsFor : Meaning → ℕ → Type 0) (IsPredFor : TokenSort → ℕ →
   local_fits : (turns : List Made) (growth : Growth) (around : Surroundings) (sight : Sight) (decl number : ℕ) (variable : Variable)
       → InNames reading.names (type_read (sources_in ground) sight variable.declared) → local_type_faults ground.facts around decl variable.declared ≡ []
       → Fits IsFor IsPredFor IsThing (local_value ground.facts variable)
-      (stands.Value (terms.Local number) (type_shape reading turns growth variable.declared).class)
+      (stands.Value (terms.Local number) (type_shape reading turns growth variable.declared).kind (type_shape reading turns growth variable.declared).class)
   unfolding local_type_faults
   local_fits turns growth around sight decl number variable names none =
       let of = variable.declared in
@@ -354,9 +356,9 @@ module _ (IsFor : Meaning → ℕ → Type 0) (IsPredFor : TokenSort → ℕ →
       let own = all_first Named (base_read (sources_in ground).scope of.base) (bounds_read (sources_in ground) sight of.bounds) names in
       let fits = base_fits of.base kind.0 own kind.1 in
       let class_is : (type_shape reading turns growth of).class ≡ (base_shape reading of.base).class =
-      based_class (base_shape reading of.base) (bounds_base reading turns growth of.bounds) in
+      based_class (base_shape reading of.base) (bounds_base reading turns growth (base_shape reading of.base).kind of.bounds) in
       subst (λ (o : Option TypeKind). Fits IsFor IsPredFor IsThing (option_map_or (λ (k : TypeKind). denoted.Value k false) o denoted.Faulty)
-      (stands.Value (terms.Local number) (type_shape reading turns growth of).class)) (sym kind.1)
+      (stands.Value (terms.Local number) (type_shape reading turns growth of).kind (type_shape reading turns growth of).class)) (sym kind.1)
       (subst (KindFits IsFor IsPredFor IsThing kind.0) (sym class_is) fits, tt)
 
   -- ---- calls
@@ -366,18 +368,18 @@ module _ (IsFor : Meaning → ℕ → Type 0) (IsPredFor : TokenSort → ℕ →
       → constraint_call_faults ground.facts around decl word some ≡ [] → IsConstraintMeant reading turns word some growth
   constraint_meant tally turns growth around sight decl word some sees names none = by (constraint_named word.text) none
     where
-      counted : (kind : Kind) (b : Bool)
-          → (if b then arguments_faults ground.facts around decl kind 0 None some else faults_here decl word.at (Some faults.WrongCount)) ≡ []
+      counted : (asks : ℕ → Asked) (b : Bool)
+          → (if b then arguments_faults ground.facts around decl asks 0 None some else faults_here decl word.at (Some faults.WrongCount)) ≡ []
           → AreExprsMeant reading turns some growth
-      counted kind true one =
-          exprs_meant IsFor IsPredFor IsThing files ground reading setting once.locals once.slots tally turns growth around sight decl kind 0 None some sees names one
-      counted kind false one = absurd (cc)
+      counted asks true one =
+          exprs_meant IsFor IsPredFor IsThing files ground reading setting once.locals once.slots tally turns growth around sight decl asks 0 None some sees names one
+      counted asks false one = absurd (cc)
 
       by : (o : Option Kind)
           → option_map_or (λ kind. constraint_faults ground.facts around decl kind word.at some) o (faults_here decl word.at (Some faults.Unknown)) ≡ []
           → IfSome o (λ kind. AreExprsMeant reading turns some growth)
       by None one = absurd (cc)
-      by (Some kind) one = counted kind (takes kind (length some)) one
+      by (Some kind) one = counted (asked_among (are_decimals ground.facts around kind 0 some) kind) (takes kind (length some)) one
 
   related_meant : (tally : Tally) (turns : List Made) (growth : Growth) (around : Surroundings) (sight : Sight) (decl : ℕ) (path : Path) (rest : List Name)
       → Sights tally turns growth around sight → InNames reading.names (front_read (sources_in ground) sight path.first)
@@ -491,14 +493,14 @@ module _ (IsFor : Meaning → ℕ → Type 0) (IsPredFor : TokenSort → ℕ →
   -- the block of a `foreach` in each of its turns
   turns_meant : (tally : Tally) (around : Surroundings) (sight : Sight) (name : Name) (meant : Denoted) (number : ℕ) (body : Statements)
       → slice_get reading.places.turns tally.turns ≡ Some name.at → AreAt reading.places (turn_more tally) body
-      → ((value : ℤ) → IsThing number value → Fits IsFor IsPredFor IsThing meant (stands.Value (terms.Lit value) number))
+      → ((value : ℤ) → IsThing number value → Fits IsFor IsPredFor IsThing meant (stands.Value (terms.Lit value) value_kinds.Object number))
       → IsBlockMeant (turn_more tally) (seeing_turn around name meant) (with_turn sight name.text tally.turns) body
       → (turns : List Made) (values : List ℤ) (growth : Growth) → All (IsThing number) values → Sights tally turns growth around sight
       → InEachTurn (λ object inner. AreMeant reading (turns ++ turn_of name object ∷ []) body inner)
       (λ object inner. unrolled reading (turns ++ turn_of name object ∷ []) body inner) (turn_stands number values) growth
   turns_meant tally around sight name meant number body there at fits block turns [] growth things sees = tt
   turns_meant tally around sight name meant number body there at fits block turns (value ∷ more) growth things sees =
-      let stand : Stand = stands.Value (terms.Lit value) number in
+      let stand : Stand = stands.Value (terms.Lit value) value_kinds.Object number in
       let inside : List Made = turns ++ turn_of name stand ∷ [] in
       let next = unrolled reading inside body growth in
       let stays = stays_fewer tally (turn_more tally) growth next (turn_within tally) (unrolled_stays body (turn_more tally) inside growth at) in (
@@ -535,9 +537,9 @@ module _ (IsFor : Meaning → ℕ → Type 0) (IsPredFor : TokenSort → ℕ →
       let own_names = all_first Named (local_read (sources_in ground) sight variable) rest names in
       let next = with_text_local reading turns variable growth in
       let made = local_made reading turns variable growth in
-      let class = (type_shape reading turns growth of).class in
-      let stand : Stand = stands.Value (terms.Local made.number) class in
-      let stays = keeps_local reading.places once.locals once.slots tally variable.name.at class growth next at.0 made in
+      let shape = type_shape reading turns growth of in
+      let stand : Stand = stands.Value (terms.Local made.number) shape.kind shape.class in
+      let stays = keeps_local reading.places once.locals once.slots tally variable.name.at shape growth next at.0 made in
       let there : declared_stand reading.places.locals tally.locals next.named ≡ Some stand =
       ap (declared_stand reading.places.locals tally.locals) made.named ∙ declared_last reading.places.locals tally.locals variable.name.at growth.named stand at.0 in
       let fits = local_fits turns growth around sight decl made.number variable (all_first Named typed begun own_names) (none_first first (second ++ third) here) in (
@@ -667,8 +669,9 @@ module _ (IsFor : Meaning → ℕ → Type 0) (IsPredFor : TokenSort → ℕ →
       let turn : Stand → Growth → Growth = λ object inner. unrolled reading (turns ++ turn_of name object ∷ []) body inner in
       let meant : Denoted = denoted.Value (kinds.Object it.meaning) true in
       let value_is : value ≡ meant = turn_value_is class it.meaning it.means it.right in
-      let fits : (one : ℤ) → IsThing it.number one → Fits IsFor IsPredFor IsThing value (stands.Value (terms.Lit one) it.number) = λ one thing.
-      subst (λ d. Fits IsFor IsPredFor IsThing d (stands.Value (terms.Lit one) it.number)) (sym value_is) (it.fits, thing) in
+      let fits : (one : ℤ) → IsThing it.number one → Fits IsFor IsPredFor IsThing value (stands.Value (terms.Lit one) value_kinds.Object it.number) =
+      λ one thing.
+      subst (λ d. Fits IsFor IsPredFor IsThing d (stands.Value (terms.Lit one) value_kinds.Object it.number)) (sym value_is) (it.fits, thing) in
       let values = class_objects reading.lexicon it.number in
       let P : Stand → Type 0 = λ stand.
       InEachTurn (λ object inner. AreMeant reading (turns ++ turn_of name object ∷ []) body inner) turn (stand_turns reading.lexicon stand) growth

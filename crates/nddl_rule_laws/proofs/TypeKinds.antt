@@ -135,7 +135,7 @@ module _ (files : List FileDecls) (table : TypeTable) (given : AreGiven files) (
   base_below (bases.Named name) kind so below = name_there name.text (meaning_of is.facts.names name.text) kind refl so below
   base_below bases.Int kind so below = subst KindThere (same_Some kinds.Int kind so) tt
   base_below bases.Bool kind so below = subst KindThere (same_Some kinds.Bool kind so) tt
-  base_below bases.Float kind so below = absurd (none-some kind so)
+  base_below bases.Float kind so below = subst KindThere (same_Some kinds.Float kind so) tt
   base_below bases.Str kind so below = absurd (none-some kind so)
 
   type_below : (type : types.Type) (meaning : TypeMeaning) → fine_meaning is.facts type ≡ Some meaning → ThereBelow (named_by is.facts.names type.base)

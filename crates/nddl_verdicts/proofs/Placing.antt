@@ -39,6 +39,7 @@ use Rattle.nddl_symbols.specs.Finding.{faults_here}
 use Rattle.nddl_symbols.specs.Repeats.{repeated_fault}
 use Rattle.nddl_symbols.specs.Scope.{meaning_of}
 use Rattle.nddl_typeexpr.specs.declared.kind.Extent.{Extent}
+use Rattle.nddl_typeexpr.specs.declared.kind.Extent.TheVariants as extents
 use Rattle.nddl_typeexpr.specs.declared.kind.TypeKind.{TypeKind}
 use Rattle.nddl_typeexpr.specs.declared.kind.TypeKind.TheVariants as kinds
 use Rattle.nddl_typeexpr.specs.Bases.{base_extent, base_kind}
@@ -47,13 +48,13 @@ use Rattle.nddl_hierarchy.specs.Facts.{Facts}
 use Rattle.nddl_resolve.specs.declared.denoted.Denoted.{Denoted}
 use Rattle.nddl_resolve.specs.declared.denoted.Denoted.TheVariants as denoted
 use Rattle.nddl_resolve.specs.Following.{Understood, understood_faults}
-use Rattle.nddl_resolve.specs.Paths.{Surroundings, asked_token, expr_denoted, literal_denoted, path_denoted}
+use Rattle.nddl_resolve.specs.Paths.{Surroundings, asked_token, expr_denoted, path_denoted}
 use Rattle.nddl_rule_check.specs.declared.asked.Asked.{Asked}
 use Rattle.nddl_rule_check.specs.declared.asked.Asked.TheVariants as asked
-use Rattle.nddl_rule_check.specs.Arguments.{argument_faults, arguments_faults, asked_by_type, compared_faults, condition_faults, constraint_faults, init_faults, meant_by}
+use Rattle.nddl_rule_check.specs.Arguments.{are_decimals, argument_faults, arguments_faults, asked_by_type, asked_of_both, compared_faults, condition_faults, constraint_faults, init_faults, meant_by}
 use Rattle.nddl_rule_check.specs.Blocks.{block_faults, local_faults, local_value, slot_faults, slot_value, turn_faults, turn_value}
 use Rattle.nddl_rule_check.specs.Calls.{body_call_faults, constraint_call_faults, named_call_faults, no_act_faults, rule_call_faults}
-use Rattle.nddl_rule_check.specs.Constraints.{asked_at, constraint_named, relation_named, takes}
+use Rattle.nddl_rule_check.specs.Constraints.{asked_among, constraint_named, relation_named, takes}
 use Rattle.nddl_rule_check.specs.Rules.{all_rule_faults, class_rule_faults, decl_rule_faults, member_rule_faults, member_token, members_rule_faults, part_rule_faults, rule_token, token_rule_faults}
 use Rattle.nddl_rule_check.specs.Seeing.{seeing_label, seeing_local, seeing_turn, token_alone}
 use Rattle.nddl_rule_check.specs.Slots.{ask_faults, is_label, label_faults, labelled_slot, related_faults, related_names, relation_faults, unwanted_faults}
@@ -106,19 +107,22 @@ module _ (Good : ℕ → Type 0) where
       argument : (around : Surroundings) (asks : Asked) (compared : Option TypeKind) (expr : Expr) → AllIn Good (argument_faults facts around decl asks compared expr)
       argument around asks compared expr = joined _ _ (understood (expr_denoted facts around expr)) (here (expr_place expr) _)
 
-      arguments : (around : Surroundings) (kind : Kind) (place : ℕ) (compared : Option TypeKind) (some : List Expr)
-          → AllIn Good (arguments_faults facts around decl kind place compared some)
-      arguments around kind place compared [] = nil
-      arguments around kind place compared (expr ∷ more) =
-          joined _ _ (argument around (asked_at kind place) compared expr)
-          (arguments around kind (place + 1) (compared_with (asked_at kind place) compared (meant_by facts around expr)) more)
+      arguments : (around : Surroundings) (asks : ℕ → Asked) (place : ℕ) (compared : Option TypeKind) (some : List Expr)
+          → AllIn Good (arguments_faults facts around decl asks place compared some)
+      arguments around asks place compared [] = nil
+      arguments around asks place compared (expr ∷ more) =
+          joined _ _ (argument around (asks place) compared expr)
+          (arguments around asks (place + 1) (compared_with (asks place) compared (meant_by facts around expr)) more)
 
       pub constraint : (around : Surroundings) (kind : Kind) (at : ℕ) (some : List Expr) → AllIn Good (constraint_faults facts around decl kind at some)
-      constraint around kind at some = either (takes kind (length some)) _ _ (arguments around kind 0 None some) (here at (Some faults.WrongCount))
+      constraint around kind at some =
+          either (takes kind (length some)) _ _ (arguments around (asked_among (are_decimals facts around kind 0 some) kind) 0 None some)
+          (here at (Some faults.WrongCount))
 
       compared : (around : Surroundings) (one other : Expr) → AllIn Good (compared_faults facts around decl one other)
       compared around one other =
-          joined _ _ (argument around asked.Compared None one) (argument around asked.Compared (compared_with asked.Compared None (meant_by facts around one)) other)
+          let asks = asked_of_both (meant_by facts around one) (meant_by facts around other) in
+          joined _ _ (argument around asks None one) (argument around asks (compared_with asks None (meant_by facts around one)) other)
 
       condition : (around : Surroundings) (tested : Condition) → AllIn Good (condition_faults facts around decl tested)
       condition around (conditions.Truth expr) = argument around (asked.Of kinds.Bool) None expr
@@ -150,7 +154,7 @@ module _ (Good : ℕ → Type 0) where
 
       related : (around : Surroundings) (expr : Expr) → AllIn Good (related_faults facts around decl expr)
       related around (exprs.Path path) = related_to around path path.rest
-      related around (exprs.Literal literal) = unwanted literal.at (literal_denoted literal.at literal.constant)
+      related around (exprs.Literal literal) = here literal.at (Some faults.WrongType)
 
       relation : (around : Surroundings) (at : ℕ) (some : List Expr) → AllIn Good (relation_faults facts around decl at some)
       relation around at [] = here at (Some faults.WrongCount)
@@ -178,6 +182,7 @@ module _ (Good : ℕ → Type 0) where
       object : (kind : TypeKind) (value : Value) → AllIn Good (object_faults facts decl kind value)
       object (kinds.Object class) value = here (value_place value) _
       object kinds.Int value = nil
+      object kinds.Float value = nil
       object kinds.Bool value = nil
       object (kinds.Enum of) value = nil
 
@@ -186,8 +191,10 @@ module _ (Good : ℕ → Type 0) where
           optional (λ (meant : Denoted). faults_here decl (value_place value) (near_member_fault facts kind meant)) (near_value facts around value) _
           (λ meant. here (value_place value) (near_member_fault facts kind meant)) (joined _ _ (here (value_place value) _) (object kind value))
 
-      ends : (around : Surroundings) (extent : Extent) (at : ℕ) (least greatest : Value) → AllIn Good (local_ends_faults facts around extent decl at least greatest)
-      ends around extent at least greatest = joined _ _ (here at _) (joined _ _ (here (value_place least) _) (here (value_place greatest) _))
+      ends : (around : Surroundings) (kind : TypeKind) (extent : Extent) (at : ℕ) (least greatest : Value)
+          → AllIn Good (local_ends_faults facts around kind extent decl at least greatest)
+      ends around kind extent at least greatest =
+          joined _ _ (here at _) (joined _ _ (member around kind extents.Whole least) (member around kind extents.Whole greatest))
 
       no_range : (around : Surroundings) (least greatest : Value) → AllIn Good (local_no_range_faults facts around decl least greatest)
       no_range around least greatest =
@@ -195,7 +202,7 @@ module _ (Good : ℕ → Type 0) where
 
       range : (around : Surroundings) (kind : TypeKind) (extent : Extent) (at : ℕ) (least greatest : Value)
           → AllIn Good (local_range_faults facts around kind extent decl at least greatest)
-      range around kind extent at least greatest = either (is_ranged kind extent) _ _ (ends around extent at least greatest) (no_range around least greatest)
+      range around kind extent at least greatest = either (is_ranged kind extent) _ _ (ends around kind extent at least greatest) (no_range around least greatest)
 
       set : (around : Surroundings) (kind : TypeKind) (extent : Extent) (at : ℕ) (some : List Value) → AllIn Good (local_set_faults facts around kind extent decl at some)
       set around kind extent at some =

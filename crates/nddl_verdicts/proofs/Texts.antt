@@ -29,7 +29,7 @@ use Rattle.nddl_typeexpr.specs.Bases.{base_kind}
 use Rattle.nddl_hierarchy.specs.Ancestors.{above}
 use Rattle.nddl_hierarchy.specs.Facts.{Facts}
 use Rattle.nddl_resolve.specs.Following.{Understood, or_faulty}
-use Rattle.nddl_resolve.specs.Paths.{Surroundings, expr_denoted, literal_denoted}
+use Rattle.nddl_resolve.specs.Paths.{Surroundings, expr_denoted}
 use Rattle.nddl_rule_check.specs.Values.{kind_of_value}
 use Rattle.nddl_constructors.specs.Bodies.{bodies_faults, body_faults, field_in_line, field_kind, named_bodies_faults, set_faults_in, super_faults}
 use Rattle.nddl_constructors.specs.Constants.{constant_faults, constants_faults, value_faults}
@@ -48,13 +48,13 @@ module _ (Good : ℕ → Type 0) where
   module _ (decl : ℕ) (good : Good decl) (facts : Facts) where
     -- ---- values
 
-    constant : (wanted : Option TypeKind) (at : ℕ) (found : Understood) → AllIn Good (constant_faults decl wanted at found)
-    constant wanted at (Ok found) = here Good decl good at _
-    constant wanted at (Err fault) = here Good decl good fault.at (Some fault.kind)
+    constant : (wanted : Option TypeKind) (expr : Expr) (found : Understood) → AllIn Good (constant_faults decl wanted expr found)
+    constant wanted expr (Ok found) = here Good decl good (expr_place expr) _
+    constant wanted expr (Err fault) = here Good decl good fault.at (Some fault.kind)
 
     value : (around : Surroundings) (wanted : Option TypeKind) (expr : Expr) → AllIn Good (value_faults facts around decl wanted expr)
     unfolding value_faults
-    value around wanted expr = constant wanted (expr_place expr) (expr_denoted facts around expr)
+    value around wanted expr = constant wanted expr (expr_denoted facts around expr)
 
     constants : (around : Surroundings) (wants : List (Option TypeKind)) (number : ℕ) (some : List Expr) → AllIn Good (constants_faults facts around decl wants number some)
     constants around wants number [] = nil Good
@@ -146,7 +146,7 @@ module _ (Good : ℕ → Type 0) where
 
     root_argument : (expr : Expr) → AllIn Good (root_argument_faults facts decl expr)
     root_argument (exprs.Path path) = root_label path
-    root_argument (exprs.Literal literal) = unwanted Good decl good literal.at (literal_denoted literal.at literal.constant)
+    root_argument (exprs.Literal literal) = here Good decl good literal.at (Some faults.WrongType)
 
     none_taken : (at : ℕ) (some : List Expr) → AllIn Good (none_taken_faults decl at some)
     none_taken at [] = nil Good
