@@ -18,8 +18,8 @@ IsSeated seats object place = Contains seats (record { variable = object; block 
 abbrev pub SeatsNumber : List VarKey → List Domain → List Watch → ℕ → Type 0
 SeatsNumber keys domains seats number =
     (place object : ℕ) (domain : Domain)
-    → slice_get keys number ≡ Some (Part place Object) → slice_get domains number ≡ Some domain → IsSingle domain (pos object)
-    → IsSeated seats object place
+    → slice_get keys number ≡ Some (Part place Object) → slice_get domains number ≡ Some domain
+    → IsSingle domain (pos object) → IsSeated seats object place
 
 -- so it is with all variables
 abbrev pub SeatsAll : List VarKey → List Domain → List Watch → Type 0

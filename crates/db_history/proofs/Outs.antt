@@ -1,5 +1,5 @@
 -- What is kept after a decision was taken out.
-use Rattle.std.proofs.Common.{◌≡◌, ℕ, Bool, true, false, List, [], ◌∷◌, ◌⊎◌, inl, inr, Result, Ok, Err, sym, ap, ◌∙◌, subst}
+use Rattle.std.proofs.Common.{◌≡◌, ℕ, Bool, true, false, List, ◌∷◌, ◌⊎◌, inl, inr, Result, Ok, Err, sym, ap, ◌∙◌, subst}
 use Rattle.std.specs.Prelude.{OnOk, OnErr, IfOk, IsOk}
 use Rattle.decision_log.specs.Taking.{kept_of}
 use Rattle.model_core.specs.declared.decision.Decision.{Decision}

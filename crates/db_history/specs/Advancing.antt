@@ -54,7 +54,8 @@ StartsFrom model (Err Memory) = ⊤
 
 -- the same of a store that is brought to rest before any decision
 abbrev pub BringsBeginningToRest : Model → Result (Unit {0}) NetFault → Stored → Type 0
-BringsBeginningToRest model (Ok done) stored = IsRestOf model [] (snapshot_of stored) × HaveTables model stored.net.tables × IsIdle stored.net
+BringsBeginningToRest model (Ok done) stored =
+    IsRestOf model [] (snapshot_of stored) × HaveTables model stored.net.tables × IsIdle stored.net
 BringsBeginningToRest model (Err Collapsed) stored = LeaveNothing model []
 BringsBeginningToRest model (Err Memory) stored = ⊤
 

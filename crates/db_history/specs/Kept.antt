@@ -37,7 +37,8 @@ IsJudged model decisions decision (Err (Refused reason)) = IsRefused model decis
 -- was none that put a decision at the end, and all stays
 abbrev pub WithdrawsLast : Model → History → Stood → Bool → History → Stood → Type 0
 WithdrawsLast model old old_stood true new stood =
-    (decision : Decision) × (old ≡ accepted new decision) × KeepsHistory model new stood × LeaveState model (standing new) true
-    × FollowStamps old_stood.stored stood.stored
+    (decision : Decision) × (old ≡ accepted new decision) × KeepsHistory model new stood
+    × LeaveState model (standing new) true × FollowStamps old_stood.stored stood.stored
 WithdrawsLast model old old_stood false new stood =
-    (new ≡ old) × (stood ≡ old_stood) × ((before : History) (decision : Decision) → old ≡ accepted before decision → ⊥)
+    (new ≡ old) × (stood ≡ old_stood)
+    × ((before : History) (decision : Decision) → old ≡ accepted before decision → ⊥)

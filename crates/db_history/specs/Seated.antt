@@ -9,7 +9,8 @@ use Rattle.db_fixpoint.specs.Seating.{AreSeatsUpTo, IsSeatingOf}
 pub record AreSeatedAt (stored : Stored) (marks : List Mark) (seating : Seating) : Type 0 where
   pub is : IsSeatingOf stored seating
   pub count : length seating.steps.items ≡ length marks
-  pub marked : (number count : ℕ) (mark : Mark) → slice_get marks number ≡ Some mark → slice_get seating.steps.items number ≡ Some count
+  pub marked : (number count : ℕ) (mark : Mark)
+      → slice_get marks number ≡ Some mark → slice_get seating.steps.items number ≡ Some count
       → AreSeatsUpTo stored (Some mark) (take count seating.seats)
   pub order : (one other less more : ℕ) → one < other
       → slice_get seating.steps.items one ≡ Some less → slice_get seating.steps.items other ≡ Some more → less ≤ more

@@ -21,7 +21,8 @@ pub record StandsForList (model : Model) (decisions : List Decision) (stored : S
   pub here : IsLeastOf model decisions (snapshot_of stored)
   pub idle : IsIdle stored.net
   pub count : length marks ≡ length decisions
-  pub marked : (number : ℕ) (mark : Mark) → slice_get marks number ≡ Some mark → IsMarkOf model (take number decisions) stored mark
+  pub marked : (number : ℕ) (mark : Mark)
+      → slice_get marks number ≡ Some mark → IsMarkOf model (take number decisions) stored mark
   pub order : (one other : ℕ) (mark later : Mark)
       → one < other → slice_get marks one ≡ Some mark → slice_get marks other ≡ Some later → IsMarkBefore mark later
 

@@ -2,7 +2,7 @@
 use Rattle.std.proofs.Common.{ℕ, ℤ, ◌<◌, ◌≤◌, List, [], ◌∷◌, length, inl, inr, arith}
 use Rattle.std.specs.Prelude.{All}
 use Rattle.std.proofs.lemmas.Int.{ints}
-use Rattle.std.proofs.lemmas.List.Elements.{All-cons, All-nil}
+use Rattle.std.proofs.lemmas.List.Elements.{All-cons, All-head, All-nil, All-tail}
 use Rattle.domain_core.specs.Domain.{IsValue}
 use Rattle.model_core.specs.declared.class.Class.{Class}
 use Rattle.model_core.specs.declared.item.Item.TheVariants.{Constraint, Relation}
@@ -33,7 +33,10 @@ module _ (model : Model) (scope : Scope) where
   each_kind kind terms all = λ k d below. (kind, all k d below)
 
   mul_kinds : (terms : List Term) → AreArguments model scope MulEq terms → All (HasKind model scope) terms
-  mul_kinds (x ∷ terms.Lit factor ∷ z ∷ []) are = each_kind kinds.Int (x ∷ terms.Lit factor ∷ z ∷ []) are.0
+  mul_kinds (x ∷ terms.Lit factor ∷ z ∷ []) are =
+      let outer = each_kind are.0.0 (x ∷ z ∷ []) are.0.2 in
+      All-cons (HasKind model scope) x (terms.Lit factor ∷ z ∷ []) (All-head (HasKind model scope) x (z ∷ []) outer)
+      (All-cons (HasKind model scope) (terms.Lit factor) (z ∷ []) (kinds.Int, are.1) (All-tail (HasKind model scope) x (z ∷ []) outer))
   mul_kinds terms are = absurd are
 
   field_kinds : (number : ℕ) (terms : List Term) → AreArguments model scope (Field number) terms → All (HasKind model scope) terms
@@ -46,14 +49,14 @@ module _ (model : Model) (scope : Scope) where
   pub arguments_kinds : (kind : Kind) (terms : List Term) → AreArguments model scope kind terms → All (HasKind model scope) terms
   arguments_kinds Eq terms are = each_kind are.0 terms are.1
   arguments_kinds Neq terms are = each_kind are.0 terms are.1
-  arguments_kinds Lt terms are = each_kind kinds.Int terms are
-  arguments_kinds Leq terms are = each_kind kinds.Int terms are
-  arguments_kinds AddEq terms are = each_kind kinds.Int terms are
+  arguments_kinds Lt terms are = each_kind are.0 terms are.2
+  arguments_kinds Leq terms are = each_kind are.0 terms are.2
+  arguments_kinds AddEq terms are = each_kind are.0 terms are.2
   arguments_kinds MulEq terms are = mul_kinds terms are
   arguments_kinds TestEq [] are = absurd are
   arguments_kinds TestEq (truth ∷ compared) are = All-cons (HasKind model scope) truth compared (kinds.Bool, are.0) (each_kind are.1.0 compared are.1.1)
   arguments_kinds TestLeq [] are = absurd are
-  arguments_kinds TestLeq (truth ∷ compared) are = All-cons (HasKind model scope) truth compared (kinds.Bool, are.0) (each_kind kinds.Int compared are.1)
+  arguments_kinds TestLeq (truth ∷ compared) are = All-cons (HasKind model scope) truth compared (kinds.Bool, are.0) (each_kind are.1.0 compared are.1.2)
   arguments_kinds AllDiff terms are = absurd are
   arguments_kinds (Field number) terms are = field_kinds number terms are
 
@@ -61,6 +64,7 @@ module _ (model : Model) (lawful : IsLawful model) where
   -- whatever kind it is of, it is a value
   pub value_of_kind : (kind : ValueKind) (value : ℤ) → IsValueOf model kind value → IsValue value
   value_of_kind kinds.Int value is = is
+  value_of_kind kinds.Float value is = is
   value_of_kind kinds.Bool value (inl is) = (omega (arith, ints, is), omega (arith, ints, is))
   value_of_kind kinds.Bool value (inr is) = (omega (arith, ints, is), omega (arith, ints, is))
   value_of_kind (kinds.Enum number) value is =
@@ -90,7 +94,7 @@ module _ (model : Model) (lawful : IsLawful model) where
 
   module _ (tables : List tables.Field) (have : HaveTables model tables) where
     factor_term : (scope : Scope) (terms : List Term) → AreArguments model scope MulEq terms → HasFactorTerm terms
-    factor_term scope (x ∷ terms.Lit factor ∷ z ∷ []) are = are.1
+    factor_term scope (x ∷ terms.Lit factor ∷ z ∷ []) are = are.2
     factor_term scope terms are = absurd are
 
     field_table : (scope : Scope) (number : ℕ) (terms : List Term) → AreArguments model scope (Field number) terms → number < length tables

@@ -38,8 +38,8 @@ pub record WantsLocal (model : Model) (pred place rule number : ℕ) (key : VarK
   pub declared : IsDeclaredLocal model pred rule number base
 
 -- the variable is one of these locals of the token at the place, with its base
-pub record WantsLocals (model : Model) (pred place rule : ℕ) (owner : TokenName) (locals : List VarName) (key : VarKey) (base : Base)
-    : Type 0 where
+pub record WantsLocals (model : Model) (pred place rule : ℕ) (owner : TokenName) (locals : List VarName)
+    (key : VarKey) (base : Base) : Type 0 where
   pub number : ℕ
   pub listed : Contains locals (name.Local owner rule number)
   pub wants : WantsLocal model pred place rule number key base

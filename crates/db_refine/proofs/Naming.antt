@@ -26,7 +26,7 @@ use Rattle.model_core.specs.declared.variable.ValueKind.TheVariants as kinds
 use Rattle.model_core.specs.Blocks.{TokenBlock, IsBlock, Direct, direct, OfSlot, OfLocal, OfItem, OfBranch, block_at}
 use Rattle.model_core.specs.Decided.{IsActive}
 use Rattle.model_core.specs.Entries.{Entries}
-use Rattle.model_core.specs.Kinds.{Scope, OfRule, IsPartOfKind, IsOfKind, AreArguments}
+use Rattle.model_core.specs.Kinds.{Scope, OfRule, IsPartOfKind, IsOfKind, AreNumbers, AreArguments}
 use Rattle.model_core.specs.Lawful.{IsLawful, IsLawfulEntry}
 use Rattle.model_core.specs.Standing.{StandsAt, IsSeen, IsTermSeen}
 use Rattle.model_core.specs.State.{IsBlockOf, StandsOpen}
@@ -58,17 +58,23 @@ module _ (model : Model) (scope : Scope) where
   all_kind : (kind : ValueKind) (compared : List Term) → All (IsOfKind model scope kind) compared → All (HasKind model scope) compared
   all_kind kind compared are = All-weaker (IsOfKind model scope kind) (HasKind model scope) (λ term is. (kind, is)) compared are
 
+  numbers_kind : (compared : List Term) → AreNumbers model scope compared → All (HasKind model scope) compared
+  numbers_kind compared (kind, numeric, are) = all_kind kind compared are
+
   arguments_kind : (kind : Kind) (arguments : List Term) → AreArguments model scope kind arguments → All (HasKind model scope) arguments
   arguments_kind kind.Eq arguments are = all_kind are.0 arguments are.1
   arguments_kind kind.Neq arguments are = all_kind are.0 arguments are.1
-  arguments_kind kind.Lt arguments are = all_kind kinds.Int arguments are
-  arguments_kind kind.Leq arguments are = all_kind kinds.Int arguments are
-  arguments_kind kind.AddEq arguments are = all_kind kinds.Int arguments are
-  arguments_kind kind.MulEq (first ∷ Lit factor ∷ product ∷ []) are = all_kind kinds.Int (first ∷ Lit factor ∷ product ∷ []) are.0
+  arguments_kind kind.Lt arguments are = numbers_kind arguments are
+  arguments_kind kind.Leq arguments are = numbers_kind arguments are
+  arguments_kind kind.AddEq arguments are = numbers_kind arguments are
+  arguments_kind kind.MulEq (first ∷ Lit factor ∷ product ∷ []) (are, is_value, some) =
+      let kinded = numbers_kind (first ∷ product ∷ []) are in
+      All-cons (HasKind model scope) first (Lit factor ∷ product ∷ []) (All-head (HasKind model scope) first (product ∷ []) kinded)
+      (All-cons (HasKind model scope) (Lit factor) (product ∷ []) (kinds.Int, is_value) (All-tail (HasKind model scope) first (product ∷ []) kinded))
   arguments_kind kind.TestEq (truth ∷ compared) are =
       All-cons (HasKind model scope) truth compared (kinds.Bool, are.0) (all_kind are.1.0 compared are.1.1)
   arguments_kind kind.TestLeq (truth ∷ compared) are =
-      All-cons (HasKind model scope) truth compared (kinds.Bool, are.0) (all_kind kinds.Int compared are.1)
+      All-cons (HasKind model scope) truth compared (kinds.Bool, are.0) (numbers_kind compared are.1)
   arguments_kind (kind.Field number) (object ∷ value ∷ []) are =
       All-cons (HasKind model scope) object (value ∷ []) (kinds.Object, are.of_kind)
       (All-cons (HasKind model scope) value [] (are.variable.kind, are.value_kind) (All-nil (HasKind model scope)))

@@ -105,7 +105,7 @@ int_variable : (model : Model) (name : List ℕ) (high : ℕ) → high ≤ 10000
 int_variable model name high few = record {
   kind = tt;
   base = ((omega (arith, ints), omega (arith, ints)), (omega (arith, ints), omega (arith, ints, few)), omega (arith, ints));
-  inside = record { values = λ v has. (omega (arith, ints, has.0), omega (arith, ints, has.1, few)); range = λ is. refl };
+  inside = record { values = λ v has. (omega (arith, ints, has.0), omega (arith, ints, has.1, few)); range = λ is. tt };
 }
 
 object_name : (name : List ℕ) → is_plain name ≡ true → IsObjectName name
@@ -181,7 +181,8 @@ x_lawful items few are_items =
 -- x is at most 1
 x_item : (globals : List VarDecl) → IsLawfulItem (problem_of (declared_x ∷ globals) (at_most_1 ∷ [])) OfProblem at_most_1
 x_item globals =
-    (refl, two (IsOfKind (problem_of (declared_x ∷ globals) (at_most_1 ∷ [])) OfProblem kinds.Int) (term.Global 0) (term.Lit (pos 1)) (declared_x, refl, refl) (omega (arith, ints), omega (arith, ints)))
+    let is_int = two (IsOfKind (problem_of (declared_x ∷ globals) (at_most_1 ∷ [])) OfProblem kinds.Int) (term.Global 0) (term.Lit (pos 1)) (declared_x, refl, refl) (omega (arith, ints), omega (arith, ints)) in
+    (refl, (kinds.Int, tt, is_int))
 
 pub free_lawful : IsLawful free_x
 free_lawful = x_lawful [] (omega arith) (none (IsLawfulItem free_x OfProblem))
@@ -199,8 +200,12 @@ halved_lawful number few =
     (one Named (declared_to number) (plain_name (codes "x") refl))
     (one (IsLawfulItem (halved number) OfProblem) (twice_is number) (
       refl,
-      with_first (IsOfKind (halved number) OfProblem kinds.Int) (term.Global 0) (term.Global 0 ∷ term.Lit (pos number) ∷ []) variable
-          (two (IsOfKind (halved number) OfProblem kinds.Int) (term.Global 0) (term.Lit (pos number)) variable value),
+      (
+        kinds.Int,
+        tt,
+        with_first (IsOfKind (halved number) OfProblem kinds.Int) (term.Global 0) (term.Global 0 ∷ term.Lit (pos number) ∷ []) variable
+            (two (IsOfKind (halved number) OfProblem kinds.Int) (term.Global 0) (term.Lit (pos number)) variable value),
+      ),
     ))
     refl refl
 
@@ -483,8 +488,12 @@ limited_is_lawful root_kind =
     one_root_lawful (at_most_one ∷ []) kind.Plain pred.Plain [] [] root_kind tt (omega arith) (no_rules (at_most_one ∷ []) kind.Plain pred.Plain (root_kind ∷ []))
     (one (IsLawfulItem (limited root_kind) OfProblem) at_most_one (
       refl,
-      two (IsOfKind (limited root_kind) OfProblem kinds.Int) (term.Root 0 (Param 0)) (term.Lit (pos 1))
-          (root_of 0 root_kind, refl, (_, record { predicate = predicate_of pred.Plain []; is_predicate = refl; declared = refl }, refl)) (omega (arith, ints), omega (arith, ints)),
+      (
+        kinds.Int,
+        tt,
+        two (IsOfKind (limited root_kind) OfProblem kinds.Int) (term.Root 0 (Param 0)) (term.Lit (pos 1))
+            (root_of 0 root_kind, refl, (_, record { predicate = predicate_of pred.Plain []; is_predicate = refl; declared = refl }, refl)) (omega (arith, ints), omega (arith, ints)),
+      ),
     ))
 
 pub limited_lawful : IsLawful (limited Rejectable)

@@ -12,7 +12,8 @@ use Rattle.model_core.specs.Tokens.{root_token}
 use Rattle.plan_defs.specs.Refusals.{Hinders}
 use Rattle.model_core.specs.declared.refusal.Refusal.{Refusal}
 use Rattle.law_examples.specs.Cases.{moment}
-use Rattle.law_examples.specs.Scenes.{both_objects, object_called, predicate_of, predicate_called, root_of, label_of, scene, Moment, scene_state}
+use Rattle.law_examples.specs.Scenes.{both_objects, object_called, predicate_of, predicate_called, root_of, label_of}
+use Rattle.law_examples.specs.Scenes.{scene, Moment, scene_state}
 
 -- no reason speaks against the decision
 abbrev pub IsUnhindered : Model → List Decision → State → Decision → Type 0

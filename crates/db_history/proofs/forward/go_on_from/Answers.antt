@@ -1,4 +1,4 @@
-use Rattle.std.proofs.Common.{◌<◌, ◌+◌, List, length, take, sym, subst, arith}
+use Rattle.std.proofs.Common.{◌<◌, List, length, sym, subst, arith}
 use Rattle.model_core.specs.declared.decision.Decision.{Decision}
 use Rattle.db_history.specs.Standing.{KeepsList}
 use Rattle.db_history.proofs.Returning.{take_whole}

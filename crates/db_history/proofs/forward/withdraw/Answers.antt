@@ -1,6 +1,5 @@
-use Rattle.std.proofs.Common.{◌≡◌, List, length, ap}
+use Rattle.std.proofs.Common.{List, length, ap}
 use Rattle.model_core.specs.declared.decision.Decision.{Decision}
-use Rattle.model_core.specs.History.{standing}
 use Rattle.db_history.proofs.Keeping.{can_withdraw, withdraws}
 use Rattle.db_history.proofs.forward.withdraw.Goals as goal
 

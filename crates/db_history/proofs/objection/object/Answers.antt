@@ -1,4 +1,3 @@
-use Rattle.std.proofs.Common.{Some, None}
 use Rattle.db_history.proofs.Judging.{none_speaks, one_speaks}
 use Rattle.db_history.proofs.objection.object.Goals as goal
 

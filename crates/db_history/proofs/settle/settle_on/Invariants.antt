@@ -1,4 +1,4 @@
-use Rattle.std.proofs.Common.{◌≡◌, take}
+use Rattle.std.proofs.Common.{take}
 use Rattle.plan_defs.specs.Settling.{IsSettled}
 use Rattle.db_history.specs.Standing.{KeepsList}
 use Rattle.db_history.specs.Settled.{GoesOver}
