@@ -152,6 +152,7 @@ IsSaidOf model (Of line) = IsLineOf model line
 
 pub value_is_of : (model : Model) (kind : ValueKind) (value : ℤ) (word : List ℕ) → IsValueText model kind value word → IsValueOf model kind value
 value_is_of model kinds.Int value word is = is.0
+value_is_of model kinds.Float value word is = is.0
 value_is_of model kinds.Bool value word (inl is) = inl is.0
 value_is_of model kinds.Bool value word (inr is) = inr is.0
 value_is_of model (kinds.Enum number) value word is = record { found = is.found; is_enum = is.is_enum; place = is.place; is_place = is.is_place; member = word; is_member = is.is_member }

@@ -65,6 +65,7 @@ exactly_written gap expected = word_written gap (λ (said : Unit {0}) word. word
 
 value_spelled : (model : Model) (kind : ValueKind) (value : ℤ) (word other : List ℕ) → IsValueText model kind value word → IsValueText model kind value other → word ≡ other
 value_spelled model kinds.Int value word other a b = a.1 ∙ sym b.1
+value_spelled model kinds.Float value word other a b = a.1 ∙ sym b.1
 value_spelled model kinds.Bool value word other (inl a) (inl b) = a.1 ∙ sym b.1
 value_spelled model kinds.Bool value word other (inl a) (inr b) = let both : pos 0 ≡ pos 1 = sym a.0 ∙ b.0 in cc
 value_spelled model kinds.Bool value word other (inr a) (inl b) = let both : pos 1 ≡ pos 0 = sym a.0 ∙ b.0 in cc

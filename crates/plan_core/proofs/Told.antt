@@ -39,10 +39,11 @@ use Rattle.plan_text.specs.Found.{IsOther}
 use Rattle.plan_text.specs.Lines.{keyword_text, IsNoKeyword, IsOtherParameter}
 use Rattle.plan_text.specs.PlanTexts.{opening_text, IsNoOpening, IsCount, IsNoCount}
 use Rattle.plan_text.specs.Subjects.{IsNameOf, IsFreshName, IsNoFreshName, IsGlobalOf, IsTokenOf, IsLocalOf, IsLocalOfKind, IsTargetName, IsNoTarget, IsPredicateText, AreTwoNames, IsNoPredicate}
-use Rattle.plan_text.specs.Values.{IsPlainNumber, IsNumberWord, IsValueWord, IsValueText, IsNoValueText}
+use Rattle.plan_text.specs.Values.{IsNumberWord, IsDecimalWord, IsValueWord, IsValueText, IsNoValueText}
 use Rattle.plan_resolve.proofs.Naming.{one_name}
 use Rattle.plan_resolve.proofs.Telling.{value_told}
 use Rattle.plan_core.proofs.Once.{SaysOnce}
+use Rattle.plan_text.proofs.Decimals.{number_word, decimal_word}
 use Rattle.plan_text.proofs.Points.{no_point}
 use Rattle.plan_resolve.proofs.Valuing.{name_no_point}
 
@@ -192,23 +193,6 @@ label_once names expected = record { says = λ word one other a b. refl; whole =
 
 -- ---- values
 
-plain_decimal : (n : ℕ) → n < 2 ^ 64 → IsPlainNumber (decimal n)
-plain_decimal n small = record {
-  some = decimal_nonempty n small;
-  all = All-from_recursion (λ byte. IsTrue (is_ascii_digit byte)) (decimal n) (digits_decimal own n small);
-  no_zero = first n small;
-}
-  where
-    first : (n : ℕ) → n < 2 ^ 64 → 1 < length (decimal n) → get_or (decimal n) 0 0 ≡ 48 → ⊥
-    first zero small long is = let single : length (decimal 0) ≡ 1 = ap length (decimal_digit 0 (omega arith)) in omega (arith, long)
-    first (suc n) small long is = omega (arith, first_decimal (suc n) (omega arith) small, is)
-
-number_word : (value : ℤ) → IsValue value → IsNumberWord (signed_decimal value)
-number_word (pos n) is = inl (plain_decimal n (omega (arith, ints, is)))
-number_word (negsuc n) is =
-    let small : suc n < 2 ^ 64 = omega (arith, ints, is) in
-    inr (decimal (suc n), (refl, plain_decimal (suc n) small, λ zero_only. omega (arith, first_decimal (suc n) (omega arith) small, ap (λ l. get_or l 0 0) zero_only)))
-
 name_path : (name : List ℕ) → IsName name → slice_split is_point name ≡ name ∷ []
 name_path name is = slice_split_none is_point name (All-from_recursion (λ byte. is_point byte ≡ false) name (no_point name (name_no_point name is)))
 
@@ -229,12 +213,13 @@ member_path name is = subst (All IsName) (sym (name_path name is)) (All-from_rec
 -- what is the text of a value has the form of one
 value_word : (model : Model) (kind : ValueKind) (value : ℤ) (word : List ℕ) → IsLawful model → IsValueText model kind value word → IsValueWord word
 value_word model kinds.Int value word lawful is = inl (subst IsNumberWord (sym is.1) (number_word value is.0))
-value_word model kinds.Bool value word lawful (inl is) = inr (inl (inr is.1))
-value_word model kinds.Bool value word lawful (inr is) = inr (inl (inl is.1))
+value_word model kinds.Float value word lawful is = inr (inl (subst IsDecimalWord (sym is.1) (decimal_word value is.0)))
+value_word model kinds.Bool value word lawful (inl is) = inr (inr (inl (inr is.1)))
+value_word model kinds.Bool value word lawful (inr is) = inr (inr (inl (inl is.1)))
 value_word model (kinds.Enum number) value word lawful is =
-    inr (inr (member_path word (item_all IsName is.found.members is.place word (item_all IsLawfulEnum model.enums number is.found lawful.enums is.is_enum).members is.is_member)))
+    inr (inr (inr (member_path word (item_all IsName is.found.members is.place word (item_all IsLawfulEnum model.enums number is.found lawful.enums is.is_enum).members is.is_member))))
 value_word model kinds.Object value word lawful (object, ((place, at, is), named)) =
-    inr (inr (subst IsPath named (object_path object.name (item_all (IsLawfulObject model) model.objects place object lawful.objects is).name)))
+    inr (inr (inr (subst IsPath named (object_path object.name (item_all (IsLawfulObject model) model.objects place object lawful.objects is).name))))
 
 pub value_once : (model : Model) (kind : ValueKind) → IsLawful model → SaysOnce (IsValueText model kind) (IsNoValueText model kind)
 value_once model kind lawful = record { says = λ word one other a b. value_told model kind word one other lawful a b; whole = whole; amiss = amiss }

@@ -11,6 +11,7 @@ use Rattle.model_core.specs.declared.variable.ValueKind.TheVariants as kinds
 use Rattle.model_core.specs.Lawful.{IsLawful}
 use Rattle.model_core.proofs.Distinct.{pairs_front, pairs_back, place_once}
 use Rattle.plan_text.specs.Values.{IsValueText}
+use Rattle.plan_text.proofs.Decimals.{decimal_text_injective}
 use Rattle.plan_resolve.proofs.Valuing.{value_small}
 
 some_is : {X : Type 0} (one other : X) → Some one ≡ Some other → one ≡ other
@@ -40,6 +41,7 @@ objects_once model i j one other lawful first second same =
 
 pub value_told : (model : Model) (kind : ValueKind) (word : List ℕ) (one other : ℤ) → IsLawful model → IsValueText model kind one word → IsValueText model kind other word → one ≡ other
 value_told model kinds.Int word one other lawful a b = signed_decimal_injective one other (value_small one a.0) (value_small other b.0) (sym a.1 ∙ b.1)
+value_told model kinds.Float word one other lawful a b = decimal_text_injective one other a.0 b.0 (sym a.1 ∙ b.1)
 value_told model kinds.Bool word one other lawful (inl a) (inl b) = a.0 ∙ sym b.0
 value_told model kinds.Bool word one other lawful (inl a) (inr b) = absurd (omega (arith, ap length (sym a.1 ∙ b.1)))
 value_told model kinds.Bool word one other lawful (inr a) (inl b) = absurd (omega (arith, ap length (sym a.1 ∙ b.1)))

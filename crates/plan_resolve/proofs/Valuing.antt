@@ -1,18 +1,17 @@
 -- What words say of values.
-use Rattle.std.proofs.Common.{◌≡◌, ℕ, ◌+◌, ◌<◌, ◌≤◌, ◌^◌, ◌↔◌, Bool, true, false, not, List, [], ◌∷◌, ◌++◌, length, get_or, slice_get, ℤ, pos, negsuc, Option, Some, None, Result, Ok, All, IsTrue, FitsSigned, w32, length-append, true≢false, refl, sym, ◌∙◌, ap, subst, arith}
-use Rattle.std.specs.Prelude.{MatchOption, IfSome}
-use Rattle.std.specs.Fmt.{signed_decimal}
+use Rattle.std.proofs.Common.{◌≡◌, ℕ, suc, ◌/◌, ◌%◌, ◌<◌, ◌≤◌, ◌^◌, ◌↔◌, Bool, true, false, List, [], ◌∷◌, ◌++◌, length, slice_get, ℤ, pos, negsuc, Option, Some, None, Result, Ok, All, IsTrue, FitsSigned, w32, true≢false, refl, sym, ◌∙◌, ap, subst, arith}
+use Rattle.std.specs.Prelude.{MatchOption, IfSome, ◌≤ℤ◌}
+use Rattle.std.specs.Fmt.{decimal, signed_decimal}
 use Rattle.std.specs.List.{AllByRecursion}
 use Rattle.std.specs.Str.{IsUtf8, IsAscii}
 use Rattle.std.specs.Str.Parse.{ParsesSigned}
 use Rattle.std.proofs.lemmas.Bool.Decides.{nat_tests}
-use Rattle.std.proofs.lemmas.Fmt.{parse-signed_decimal, IsAscii-signed}
+use Rattle.std.proofs.lemmas.Fmt.{parse-signed_decimal, IsAscii-signed, signed_decimal_injective}
 use Rattle.std.proofs.lemmas.Int.{ints}
-use Rattle.std.proofs.lemmas.List.{get_or-append-add}
 use Rattle.std.proofs.lemmas.List.Elements.{recursion_from_All}
 use Rattle.std.proofs.lemmas.Str.{IsUtf8-from_ascii}
 use Rattle.domain_core.specs.Domain.{IsValue}
-use Rattle.eu_name.proofs.Fronts.{Passes, same_fronts}
+use Rattle.eu_name.proofs.Fronts.{Passes}
 use Rattle.eu_name.specs.Word.{IsName, is_word_start, is_word_byte}
 use Rattle.model_core.specs.declared.class.Enum.{Enum}
 use Rattle.model_core.specs.declared.class.Object.{Object}
@@ -24,7 +23,8 @@ use Rattle.model_core.proofs.Items.{item_within, item_all}
 use Rattle.model_core.specs.Naming.{is_point}
 use Rattle.plan_text.proofs.Points.{goes_on}
 use Rattle.plan_text.specs.Subjects.{AreTwoNames}
-use Rattle.plan_text.specs.Values.{IsValueText}
+use Rattle.plan_text.specs.Values.{three_digits, thousandths_text, decimal_text, IsValueText}
+use Rattle.plan_text.proofs.Decimals.{cut_same, no_cut, thousandths_cut, thousandths_point, thousandths_injective, thousandths_no_sign, three_same, same_three}
 use lib.Signed.{mag}
 
 -- ---- numbers
@@ -45,6 +45,77 @@ parsed_is value word text r is same kept parses = parse-signed_decimal w32 value
 pub number_is_text : (value : ℤ) (word : List ℕ) → IsValue value → word ≡ signed_decimal value → IsUtf8 word
 number_is_text value word is same = IsUtf8-from_ascii word (subst IsAscii (sym same) (IsAscii-signed value (value_small value is)))
 
+-- ---- decimals
+
+whole_value : (n : ℕ) → n ≤ 1000000 → IsValue (pos (n / 1000))
+whole_value n small = (omega (arith, ints), omega (arith, ints))
+
+-- what a word says of thousandths
+abbrev pub SaysThousandths : List ℕ → Option ℤ → Type 0
+SaysThousandths word r =
+    MatchOption r ((n : ℕ) → n ≤ 1000000 → word ≡ thousandths_text n → ⊥) (λ value. (n : ℕ) × ((value ≡ pos n) × (n ≤ 1000000) × (word ≡ thousandths_text n)))
+
+abbrev IsCut : List ℕ → List ℕ → List ℕ → Type 0
+IsCut word one other = All (λ byte. is_point byte ≡ false) one × (word ≡ one ++ (46 ∷ other))
+
+pub thousandths_said : (word one other : List ℕ) (whole passed : ℤ) (rest : ℕ) (r : Option ℤ) → passed ≡ whole → IsCut word one other → IsValue whole × (one ≡ signed_decimal whole) → (rest < 1000) × (other ≡ three_digits rest)
+    → MatchOption r ((n : ℕ) → n ≤ 1000000 → passed ≡ pos (n / 1000) → rest ≡ n % 1000 → ⊥)
+    (λ value. (n : ℕ) × ((value ≡ pos n) × (n ≤ 1000000) × (passed ≡ pos (n / 1000)) × (rest ≡ n % 1000)))
+    → SaysThousandths word r
+thousandths_said word one other whole passed rest None kept cut is digits none = λ n small same.
+    let parts = thousandths_cut word one other n (omega arith) cut same in
+    let wholes : whole ≡ pos (n / 1000) = signed_decimal_injective whole (pos (n / 1000)) (value_small whole is.0) (value_small (pos (n / 1000)) (whole_value n small)) (sym is.1 ∙ parts.0) in
+    let rests : rest % 1000 ≡ n % 1000 = three_same rest n (sym digits.1 ∙ parts.1) in
+    none n small (kept ∙ wholes) (omega (arith, rests, digits.0))
+thousandths_said word one other whole passed rest (Some value) kept cut is digits (n, (counts, small, wholes, rests)) =
+    let front : one ≡ decimal (n / 1000) = is.1 ∙ ap signed_decimal (sym kept ∙ wholes) in
+    let back : other ≡ three_digits n = digits.1 ∙ same_three rest n (omega (arith, rests, digits.0)) in
+    (n, (counts, small, cut.1 ∙ λ i. front i ++ (46 ∷ back i)))
+
+pub no_point_said : (word : List ℕ) → All (λ byte. is_point byte ≡ false) word → (n : ℕ) → n ≤ 1000000 → word ≡ thousandths_text n → ⊥
+no_point_said word plain n small same = thousandths_point word n plain same
+
+pub no_whole_said : (word one other : List ℕ) → IsCut word one other → ((value : ℤ) → IsValue value → one ≡ signed_decimal value → ⊥) → (n : ℕ) → n ≤ 1000000 → word ≡ thousandths_text n → ⊥
+no_whole_said word one other cut none n small same = none (pos (n / 1000)) (whole_value n small) (thousandths_cut word one other n (omega arith) cut same).0
+
+pub no_digits_said : (word one other : List ℕ) → IsCut word one other → ((n : ℕ) → other ≡ three_digits n → ⊥) → (n : ℕ) → n ≤ 1000000 → word ≡ thousandths_text n → ⊥
+no_digits_said word one other cut none n small same = none n (thousandths_cut word one other n (omega arith) cut same).1
+
+-- ---- with a sign
+
+-- what a word says of a decimal
+abbrev pub SaysDecimal : List ℕ → Option ℤ → Type 0
+SaysDecimal word r = MatchOption r ((value : ℤ) → IsValue value → word ≡ decimal_text value → ⊥) (λ value. IsValue value × (word ≡ decimal_text value))
+
+-- a text behind a sign is that of a negative value
+signed_text : (word digits : List ℕ) (value : ℤ) → IsValue value → word ≡ 45 ∷ digits → word ≡ decimal_text value → (n : ℕ) × ((value ≡ negsuc n) × (suc n ≤ 1000000) × (digits ≡ thousandths_text (suc n)))
+signed_text word digits (pos n) is behind same = absurd (thousandths_no_sign n digits (omega (arith, ints, is)) (sym same ∙ behind))
+signed_text word digits (negsuc n) is behind same =
+    let both : 45 ∷ digits ≡ 45 ∷ thousandths_text (suc n) = sym behind ∙ same in
+    let rests : digits ≡ thousandths_text (suc n) = cc in
+    (n, (refl, omega (arith, ints, is), rests))
+
+pub no_negative_said : (word digits : List ℕ) (value : ℤ) → word ≡ 45 ∷ digits → value ≤ℤ pos 0 → (n : ℕ) × ((value ≡ pos n) × (n ≤ 1000000) × (digits ≡ thousandths_text n)) → (other : ℤ) → IsValue other → word ≡ decimal_text other → ⊥
+no_negative_said word digits value behind least (m, (counts, small, same)) other is text =
+    let negative = signed_text word digits other is behind text in
+    let counted : m ≡ suc negative.0 = thousandths_injective m (suc negative.0) (omega arith) (omega (arith, negative.1.1)) (sym same ∙ negative.1.2) in
+    absurd (omega (arith, ints, least, counts, counted))
+
+pub none_negative_said : (word digits : List ℕ) → word ≡ 45 ∷ digits → ((n : ℕ) → n ≤ 1000000 → digits ≡ thousandths_text n → ⊥) → (other : ℤ) → IsValue other → word ≡ decimal_text other → ⊥
+none_negative_said word digits behind none other is text =
+    let negative = signed_text word digits other is behind text in
+    none (suc negative.0) negative.1.1 negative.1.2
+
+-- without a sign
+pub positive_said : (word : List ℕ) (r : Option ℤ) → ((rest : List ℕ) → word ≡ 45 ∷ rest → ⊥) → SaysThousandths word r → SaysDecimal word r
+positive_said word None plain none = λ value is text. from value is text
+  where
+    from : (value : ℤ) → IsValue value → word ≡ decimal_text value → ⊥
+    from (pos n) is text = none n (omega (arith, ints, is)) text
+    from (negsuc n) is text = plain (thousandths_text (suc n)) text
+positive_said word (Some value) plain (n, (counts, small, same)) =
+    subst (λ v. IsValue v × (word ≡ decimal_text v)) (sym counts) ((omega (arith, ints), omega (arith, ints)), same)
+
 -- ---- names with a point between them
 
 word_no_point : (byte : ℕ) → is_word_byte byte ≡ true → goes_on byte ≡ true
@@ -62,16 +133,9 @@ pub name_no_point : (name : List ℕ) → IsName name → Passes goes_on name
 name_no_point [] is = absurd is.0
 name_no_point (first ∷ rest) is = (start_no_point first is.0.0, rest_no_point rest (recursion_from_All (λ byte. IsTrue (is_word_byte byte)) rest is.0.1))
 
-pub passing : (word : List ℕ) → AllByRecursion (λ byte. is_point byte ≡ false) word → Passes goes_on word
-passing [] are = tt
-passing (byte ∷ word) are = (ap not are.0, passing word are.1)
-
 -- there is one way to cut a word at its first point
-pub cut_once : (word class pred one other : List ℕ) → All (λ byte. is_point byte ≡ false) class × (word ≡ class ++ (46 ∷ pred)) → IsName one → word ≡ one ++ (46 ∷ other) → (class ≡ one) × (pred ≡ other)
-cut_once word class pred one other (plain, is) name same =
-    let both = same_fronts goes_on class one (46 ∷ pred) (46 ∷ other) (passing class (recursion_from_All (λ byte. is_point byte ≡ false) class plain)) (name_no_point one name) refl refl (sym is ∙ same) in
-    let tails : 46 ∷ pred ≡ 46 ∷ other = both.1 in
-    (both.0, (cc))
+cut_once : (word class pred one other : List ℕ) → All (λ byte. is_point byte ≡ false) class × (word ≡ class ++ (46 ∷ pred)) → IsName one → word ≡ one ++ (46 ∷ other) → (class ≡ one) × (pred ≡ other)
+cut_once word class pred one other cut name same = cut_same word class pred one other cut (name_no_point one name) same
 
 pub two_names_are : (word class pred : List ℕ) (r : Bool) → All (λ byte. is_point byte ≡ false) class × (word ≡ class ++ (46 ∷ pred)) → IsTrue true ↔ IsName class → IsTrue r ↔ IsName pred → IsTrue r ↔ AreTwoNames word
 two_names_are word class pred r cut first second = (
@@ -86,11 +150,7 @@ no_first_name word class pred r cut first fails = (
 )
 
 pub no_two_names : (word : List ℕ) → All (λ byte. is_point byte ≡ false) word → AreTwoNames word → ⊥
-no_two_names word plain (class, (pred, (first, second, whole))) =
-    let all : All (λ byte. is_point byte ≡ false) (class ++ (46 ∷ pred)) = subst (All (λ byte. is_point byte ≡ false)) whole plain in
-    let there : get_or (class ++ (46 ∷ pred)) (length class + 0) 0 ≡ 46 = get_or-append-add class (46 ∷ pred) 0 0 in
-    let none : is_point 46 ≡ false = subst (λ b. is_point b ≡ false) there (all (length class + 0) 0 (omega (arith, length-append class (46 ∷ pred)))) in
-    true≢false none
+no_two_names word plain (class, (pred, (first, second, whole))) = no_cut word class pred plain whole
 
 -- ---- members and objects
 

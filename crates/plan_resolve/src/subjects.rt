@@ -32,7 +32,7 @@ use plan_text::fault::Wrong;
 use plan_text::names::{self, local_kind};
 use plan_text::subject::{NamedGlobal, NamedLocal, NamedToken};
 use plan_text::value_words::cut_at_point;
-use plan_text::words::is_word;
+use plan_text::words::{behind, is_word};
 use std::alloc::{AllocError, Global};
 
 // The global, token or local that the word names.
@@ -259,15 +259,6 @@ pub fn judge_target(
         Some(name) => Ok(name),
         None => Err(Wrong::Unknown),
     }
-}
-
-// What stands behind this front of the word.
-fn behind<'a>(word: &'a [u8], front: &[u8]) -> Option<&'a [u8]>
-    ensures { MatchOption result
-        ((rest : List ℕ) → word.now ≡ front.now ++ rest → ⊥)
-        (λ after. word.now ≡ front.now ++ after.now) }
-{
-    word.strip_prefix(front)
 }
 
 // Whether the word is the two with a point between them.

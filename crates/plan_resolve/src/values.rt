@@ -1,12 +1,13 @@
 //! What words say of values.
 
-ghost use Rattle.std.specs.Prelude.{◌≡◌, ◌⊎◌, ◌↔◌, ◌<◌, ℕ, ℤ, pos, IsTrue, Some, None, IfSome, MatchOption, option_copied, codes, slice_get};
+ghost use Rattle.std.specs.Prelude.{◌≡◌, ◌⊎◌, ◌↔◌, ◌<◌, ◌≤◌, ◌+◌, ◌/◌, ◌%◌, ℕ, ℤ, pos, IsTrue, Some, None, IfSome, MatchOption, option_copied, codes, slice_get};
+ghost use Rattle.std.specs.Char.{is_ascii_digit};
 ghost use Rattle.std.specs.Fmt.{signed_decimal};
 ghost use Rattle.domain_core.specs.Domain.{IsValue};
 ghost use Rattle.model_core.specs.declared.class.Enum.{Enum};
 ghost use Rattle.model_core.specs.Lawful.{IsLawful};
 ghost use Rattle.plan_text.specs.Found.{Judges};
-ghost use Rattle.plan_text.specs.Values.{IsTruthWord, IsValueText, IsNoValueText};
+ghost use Rattle.plan_text.specs.Values.{decimal_text, thousandths_text, three_digits, IsTruthWord, IsValueText, IsNoValueText};
 
 use super::indexed::IndexedModel;
 use domain_core::domain::{GREATEST_VALUE, LEAST_VALUE};
@@ -15,8 +16,8 @@ use itoa::Buffer;
 use model_core::class::Enum;
 use model_core::variable::ValueKind;
 use plan_text::fault::Wrong;
-use plan_text::value_words::is_value_word;
-use plan_text::words::is_word;
+use plan_text::value_words::{are_three_digits, cut_at_point, is_value_word};
+use plan_text::words::{behind, is_word};
 
 // The number that `parse` finds in the word: that of which the word is the text, if it is one's.
 fn parsed(word: &[u8]) -> Option<i32>
@@ -46,6 +47,76 @@ fn number_value(word: &[u8]) -> Option<i32>
         Some(value) if LEAST_VALUE <= value && value <= GREATEST_VALUE && is_text_of(value, word) =>
             { Some(value) }
         _ => None,
+    }
+}
+
+// The number below 1,000 of which these are the three digits.
+fn three_digits_value(digits: &[u8]) -> Option<u32>
+    ensures { MatchOption result
+        ((n : ℕ) → digits.now ≡ three_digits n → ⊥)
+        (λ n. (n < 1000) × (digits.now ≡ three_digits n)) }
+{
+    if !are_three_digits(digits) {
+        return None;
+    }
+    Some(digit_value(digits[0]) * 100 + digit_value(digits[1]) * 10 + digit_value(digits[2]))
+}
+
+// What the digit stands for.
+fn digit_value(digit: u8) -> u32
+    requires { IsTrue (is_ascii_digit digit) }
+    ensures { (result < 10) × (digit ≡ 48 + result) }
+{
+    (digit - b'0') as u32
+}
+
+// So many whole ones and thousandths, in thousandths, if they are a value that isn't negative.
+fn in_thousandths(whole: i32, rest: u32) -> Option<i32>
+    requires whole { IsValue whole }
+    requires rest { rest < 1000 }
+    ensures { MatchOption result
+        ((n : ℕ) → n ≤ 1000000 → whole ≡ pos (n / 1000) → rest ≡ n % 1000 → ⊥)
+        (λ value. (n : ℕ) × ((value ≡ pos n) × (n ≤ 1000000) × (whole ≡ pos (n / 1000)) × (rest ≡ n % 1000))) }
+{
+    let value = whole * 1000 + rest as i32;
+    if 0 <= whole && value <= GREATEST_VALUE {
+        Some(value)
+    } else {
+        None
+    }
+}
+
+// How many thousandths the word is: a whole number that isn't negative, a point and three digits.
+fn thousandths_value(word: &[u8]) -> Option<i32>
+    ensures { MatchOption result
+        ((n : ℕ) → n ≤ 1000000 → word.now ≡ thousandths_text n → ⊥)
+        (λ value. (n : ℕ) × ((value ≡ pos n) × (n ≤ 1000000) × (word.now ≡ thousandths_text n))) }
+{
+    let Some((whole, digits)) = cut_at_point(word) else {
+        return None;
+    };
+    let Some(whole) = number_value(whole) else {
+        return None;
+    };
+    match three_digits_value(digits) {
+        Some(rest) => in_thousandths(whole, rest),
+        None => None,
+    }
+}
+
+// The decimal that the word is, in thousandths.
+fn decimal_value(word: &[u8]) -> Option<i32>
+    ensures { MatchOption result
+        ((value : ℤ) → IsValue value → word.now ≡ decimal_text value → ⊥)
+        (λ value. IsValue value × (word.now ≡ decimal_text value)) }
+{
+    match behind(word, b"-") {
+        Some(digits) => match thousandths_value(digits) {
+            Some(value) if value > 0 => Some(-value),
+            Some(_zero) => None,
+            None => None,
+        },
+        None => thousandths_value(word),
     }
 }
 
@@ -117,6 +188,7 @@ pub fn value_of(model: &IndexedModel<'_>, kind: ValueKind, word: &[u8]) -> Optio
 {
     match kind {
         ValueKind::Int => number_value(word),
+        ValueKind::Float => decimal_value(word),
         ValueKind::Bool => truth_value(word),
         ValueKind::Enum(number) => value_at(member_place(model, number, word)),
         ValueKind::Object => value_at(model.object_named(word)),

@@ -1,5 +1,5 @@
 -- A plan of a model has a text: each of its lines can be put behind those before it.
-use Rattle.std.proofs.Common.{◌≡◌, ℕ, zero, suc, ◌+◌, ◌<◌, ◌≤◌, ℤ, pos, Bool, true, false, w32, to_z, of_z, List, [], ◌∷◌, ◌++◌, length, take, drop, get_or, Some, Result, Ok, refl, sym, ap, subst, inl, inr, arith, codes}
+use Rattle.std.proofs.Common.{◌≡◌, ℕ, zero, suc, ◌+◌, ◌<◌, ◌≤◌, ℤ, pos, w32, to_z, of_z, List, [], ◌∷◌, ◌++◌, length, take, drop, get_or, Some, Result, Ok, refl, sym, ap, subst, inl, inr, arith, codes}
 use Rattle.std.specs.Prelude.{map, All, slice_get}
 use Rattle.std.specs.Fmt.{signed_decimal}
 use Rattle.std.specs.List.{AllZip}
@@ -38,7 +38,7 @@ use Rattle.plan_text.specs.Found.{Found}
 use Rattle.plan_text.specs.Lines.{keyword_text, OneKeyword, OnePart, FirstParts, LastParts, TokenValues}
 use Rattle.plan_text.specs.PlanTexts.{global_statements, IsPlanText}
 use Rattle.plan_text.specs.Subjects.{IsNameOf, OnePredicate}
-use Rattle.plan_text.specs.Values.{OneValue}
+use Rattle.plan_text.specs.Values.{OneValue, decimal_text}
 use Rattle.plan_text.specs.Words.{IsUnbroken, IsPaused}
 use Rattle.plan_text.specs.Writing.{EndsLine, Adds, AddsLine, AddsLines}
 use Rattle.plan_text.proofs.Adding.{adds_word}
@@ -57,6 +57,7 @@ done = Ok tt
 
 pub values_have_texts : ValuesHaveTexts
 values_have_texts model kinds.Int value is = (signed_decimal value, (is, refl))
+values_have_texts model kinds.Float value is = (decimal_text value, (is, refl))
 values_have_texts model kinds.Bool value (inl none) = (codes "false", inl (none, refl))
 values_have_texts model kinds.Bool value (inr one) = (codes "true", inr (one, refl))
 values_have_texts model (kinds.Enum number) value is =

@@ -11,4 +11,5 @@ pub mod LocalValues
 pub mod Globals
 pub mod Texts
 pub mod Points
+pub mod Decimals
 pub mod Existing

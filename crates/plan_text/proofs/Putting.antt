@@ -20,12 +20,12 @@ use Rattle.model_core.proofs.WellFormed.{token_text_well_formed}
 use Rattle.eu_name.specs.Word.{IsName}
 use Rattle.plan_text.specs.Words.{IsPaused, IsUnbroken}
 use Rattle.plan_text.specs.Subjects.{IsNameOf}
-use Rattle.plan_text.specs.Values.{OneValue, IsValueText, IsMemberNamed}
+use Rattle.plan_text.specs.Values.{OneValue, decimal_text, IsValueText, IsMemberNamed}
 use Rattle.plan_text.specs.Found.{Exactly}
 use Rattle.plan_text.specs.Lines.{OnePart}
 use Rattle.plan_text.specs.Writing.{Adds}
 use Rattle.plan_text.proofs.Adding.{adds_word, adds_then}
-use Rattle.plan_text.proofs.Unbroken.{name_unbroken, object_unbroken, number_unbroken, unbroken_from}
+use Rattle.plan_text.proofs.Unbroken.{name_unbroken, object_unbroken, number_unbroken, decimal_unbroken, unbroken_from}
 
 kept_member : (model : Model) (number : ℕ) (value : ℤ) → IsLawful model → IsMemberOf model number value → to_z w32 (of_z w32 value) ≡ value
 kept_member model number value lawful is =
@@ -56,6 +56,12 @@ number_put model kind value written gap old new r same is of put =
     let value_of = subst (λ k. IsValueOf model k value) is of in
     shown_put model kind kinds.Int value (signed_decimal value) gap old new r is (value_of, refl) (subst (λ v. OnOk r (new ≡ old ++ (gap ++ signed_decimal v))) same put)
 
+pub decimal_put : {A E : Type 0} (model : Model) (kind : ValueKind) (value written : ℤ) (gap old new : List ℕ) (r : Result A E) → written ≡ value → kind ≡ kinds.Float → IsValueOf model kind value
+    → OnOk r (new ≡ old ++ (gap ++ decimal_text written)) → OnOk r (Shows model kind value gap old new)
+decimal_put model kind value written gap old new r same is of put =
+    let value_of = subst (λ k. IsValueOf model k value) is of in
+    shown_put model kind kinds.Float value (decimal_text value) gap old new r is (value_of, refl) (subst (λ v. OnOk r (new ≡ old ++ (gap ++ decimal_text v))) same put)
+
 pub truth_put : {A E : Type 0} (model : Model) (kind : ValueKind) (value written : ℤ) (text gap old new : List ℕ) (r : Result A E) → written ≡ value → kind ≡ kinds.Bool → IsValueOf model kind value
     → (written ≡ pos 0 → text ≡ codes "false") → (written ≡ pos 1 → text ≡ codes "true") → OnOk r (new ≡ old ++ (gap ++ text)) → OnOk r (Shows model kind value gap old new)
 truth_put model kind value written text gap old new r same is of zero one put =
@@ -72,6 +78,7 @@ object_name_unbroken model value word lawful (object, ((place, is_place, is_obje
 
 value_unbroken : (model : Model) (kind : ValueKind) (value : ℤ) (word : List ℕ) → IsLawful model → IsValueText model kind value word → IsUnbroken word
 value_unbroken model kinds.Int value word lawful (is, same) = subst IsUnbroken (sym same) (number_unbroken value is)
+value_unbroken model kinds.Float value word lawful (is, same) = subst IsUnbroken (sym same) (decimal_unbroken value is)
 value_unbroken model kinds.Bool value word lawful (inl (is, same)) = subst IsUnbroken (sym same) (unbroken_from (codes "false") (omega arith) (refl, (refl, (refl, (refl, (refl, tt))))))
 value_unbroken model kinds.Bool value word lawful (inr (is, same)) = subst IsUnbroken (sym same) (unbroken_from (codes "true") (omega arith) (refl, (refl, (refl, (refl, tt)))))
 value_unbroken model (kinds.Enum number) value word lawful is = member_unbroken model number value word lawful is

@@ -39,6 +39,7 @@ use Rattle.plan_text.proofs.Unbroken.{name_unbroken}
 -- a value is kept as it is handed on
 pub kept_value : (model : Model) (kind : ValueKind) (value : ℤ) → IsLawful model → IsValueOf model kind value → to_z w32 (of_z w32 value) ≡ value
 kept_value model kinds.Int value lawful is = omega (arith, ints, is)
+kept_value model kinds.Float value lawful is = omega (arith, ints, is)
 kept_value model kinds.Bool value lawful is = elim is [ inl first ↦ omega (arith, ints, first) | inr second ↦ omega (arith, ints, second) ]
 kept_value model (kinds.Enum number) value lawful is =
     let few = (item_all IsLawfulEnum model.enums number is.found lawful.enums is.is_enum).few in

@@ -1,5 +1,5 @@
 -- Words without a gap.
-use Rattle.std.proofs.Common.{◌≡◌, ℕ, ◌<◌, ◌^◌, true, false, ℤ, pos, negsuc, suc, List, [], ◌∷◌, ◌++◌, length, refl, sym, ap, subst, inl, inr, IsTrue, codes, arith, length-append}
+use Rattle.std.proofs.Common.{◌≡◌, ℕ, ◌/◌, ◌<◌, ◌^◌, true, false, ℤ, pos, negsuc, suc, List, [], ◌∷◌, ◌++◌, length, refl, sym, ap, subst, inl, inr, IsTrue, codes, arith, length-append}
 use Rattle.std.specs.Char.{is_ascii_digit}
 use Rattle.std.specs.Fmt.{decimal, signed_decimal}
 use Rattle.std.specs.List.{AllByRecursion, flat_map, join_with_byte}
@@ -17,7 +17,9 @@ use Rattle.eu_name.specs.Word.{IsName, is_word_start, is_word_byte}
 use Rattle.eu_name.proofs.Fronts.{Passes}
 use Rattle.eu_name.proofs.Numbers.{own}
 use Rattle.model_core.specs.Naming.{IsObjectName}
+use Rattle.plan_text.specs.Values.{three_digits, thousandths_text, decimal_text}
 use Rattle.plan_text.specs.Words.{is_gap, IsUnbroken}
+use Rattle.plan_text.proofs.Decimals.{three_pass}
 
 -- no byte is a gap
 abbrev pub NoGap : List ℕ → Type 0
@@ -120,3 +122,14 @@ number_unbroken (pos n) is =
 number_unbroken (negsuc n) is =
     let small : suc n < 2 ^ 64 = omega (arith, ints, is) in
     unbroken_from (45 ∷ decimal (suc n)) (omega arith) (refl, decimal_no_gap (suc n) small)
+
+thousandths_no_gap : (n : ℕ) → n < 2 ^ 64 → NoGap (thousandths_text n)
+thousandths_no_gap n small =
+    no_gap_append (decimal (n / 1000)) (46 ∷ three_digits n) (decimal_no_gap (n / 1000) (omega arith)) (refl, digits_no_gap (three_digits n) (three_pass n))
+
+thousandths_some : (n : ℕ) → 0 < length (thousandths_text n)
+thousandths_some n = omega (arith, length-append (decimal (n / 1000)) (46 ∷ three_digits n))
+
+pub decimal_unbroken : (value : ℤ) → IsValue value → IsUnbroken (decimal_text value)
+decimal_unbroken (pos n) is = unbroken_from (thousandths_text n) (thousandths_some n) (thousandths_no_gap n (omega (arith, ints, is)))
+decimal_unbroken (negsuc n) is = unbroken_from (45 ∷ thousandths_text (suc n)) (omega arith) (refl, thousandths_no_gap (suc n) (omega (arith, ints, is)))

@@ -1,9 +1,10 @@
 //! Which words have the form of a value.
 
 ghost use Rattle.std.specs.Prelude.{◌≡◌, ◌↔◌, ◌≤◌, ◌++◌, All, false, not, length, IsTrue, MatchOption, codes};
+ghost use Rattle.std.specs.Char.{is_ascii_digit};
 ghost use Rattle.std.specs.List.{prefix_len};
 ghost use Rattle.model_core.specs.Naming.{is_point, IsPath};
-ghost use Rattle.plan_text.specs.Values.{IsPlainNumber, IsNumberWord, IsTruthWord, IsValueWord};
+ghost use Rattle.plan_text.specs.Values.{IsPlainNumber, IsNumberWord, IsPlainDecimal, IsDecimalWord, IsTruthWord, IsValueWord};
 
 use super::words::is_word;
 use eu_name::word::is_name;
@@ -24,6 +25,33 @@ fn is_number_word(word: &[u8]) -> bool
     match word.split_first() {
         Some((b'-', digits)) => is_plain_number(digits) && !is_word(digits, b"0"),
         _ => is_plain_number(word),
+    }
+}
+
+/// Whether these are three digits.
+pub fn are_three_digits(digits: &[u8]) -> bool
+    ensures { IsTrue result ↔ ((length digits.now ≡ 3) × All (λ byte. IsTrue (is_ascii_digit byte)) digits.now) }
+{
+    digits.len() == 3 && digits.iter().all(|byte| byte.is_ascii_digit())
+}
+
+// Whether the word is a number without a zero before others, a point and three digits.
+fn is_plain_decimal(word: &[u8]) -> bool
+    ensures { IsTrue result ↔ IsPlainDecimal word.now }
+{
+    match cut_at_point(word) {
+        Some((whole, digits)) => is_plain_number(whole) && are_three_digits(digits),
+        None => false,
+    }
+}
+
+// Whether the word has the form of a decimal.
+fn is_decimal_word(word: &[u8]) -> bool
+    ensures { IsTrue result ↔ IsDecimalWord word.now }
+{
+    match word.split_first() {
+        Some((b'-', digits)) => is_plain_decimal(digits) && !is_word(digits, b"0.000"),
+        _ => is_plain_decimal(word),
     }
 }
 
@@ -73,5 +101,5 @@ pub fn cut_at_point(word: &[u8]) -> Option<(&[u8], &[u8])>
 pub fn is_value_word(word: &[u8]) -> bool
     ensures { IsTrue result ↔ IsValueWord word.now }
 {
-    is_number_word(word) || is_truth_word(word) || is_path_word(word)
+    is_number_word(word) || is_decimal_word(word) || is_truth_word(word) || is_path_word(word)
 }

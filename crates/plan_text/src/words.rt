@@ -1,6 +1,6 @@
 //! The words of a plan text.
 
-ghost use Rattle.std.specs.Prelude.{◌≡◌, ◌≤◌, ◌-◌, ◌↔◌, not, [], length, IsTrue, MatchOption};
+ghost use Rattle.std.specs.Prelude.{◌≡◌, ◌≤◌, ◌-◌, ◌↔◌, ◌++◌, not, List, ℕ, [], length, IsTrue, MatchOption};
 ghost use Rattle.std.specs.List.{prefix_len};
 ghost use Rattle.plan_text.specs.Words.{is_gap, HasWord, HasNoWord, place_in};
 ghost use Rattle.plan_text.specs.Found.{Exactly, FindsWords, rest_behind};
@@ -64,6 +64,15 @@ pub fn is_word(word: &[u8], expected: &[u8]) -> bool
     ensures { IsTrue result ↔ (word.now ≡ expected.now) }
 {
     word == expected
+}
+
+/// What stands behind this front of the word.
+pub fn behind<'a>(word: &'a [u8], front: &[u8]) -> Option<&'a [u8]>
+    ensures { MatchOption result
+        ((rest : List ℕ) → word.now ≡ front.now ++ rest → ⊥)
+        (λ after. word.now ≡ front.now ++ after.now) }
+{
+    word.strip_prefix(front)
 }
 
 impl<'a> Cursor<'a> {

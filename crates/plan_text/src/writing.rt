@@ -1,6 +1,6 @@
 //! Writing of plan texts.
 
-ghost use Rattle.std.specs.Prelude.{◌≡◌, ◌++◌, ◌∷◌, [], ◌<◌, List, ℕ, pos, length, map, All, IfOk, OnOk, codes, if◌then◌else◌};
+ghost use Rattle.std.specs.Prelude.{◌≡◌, ◌+◌, ◌%◌, ◌++◌, ◌∷◌, [], ◌<◌, List, ℕ, pos, int_lt, length, map, All, IfOk, OnOk, codes, if◌then◌else◌};
 ghost use Rattle.std.specs.Fmt.{signed_decimal};
 ghost use Rattle.std.specs.List.{AllZip};
 ghost use Rattle.eu_name.specs.declared.name.Part.TheVariants.{Start};
@@ -25,7 +25,7 @@ ghost use Rattle.plan_text.specs.declared.statement.Statement.TheVariants as sta
 ghost use Rattle.plan_text.specs.Lines.{keyword_text, OneKeyword, OnePart, FirstParts, LastParts, TokenValues};
 ghost use Rattle.plan_text.specs.PlanTexts.{global_statements, IsPlanText};
 ghost use Rattle.plan_text.specs.Subjects.{IsNameOf, IsLocalOfKind, OnePredicate};
-ghost use Rattle.plan_text.specs.Values.{IsMemberNamed, IsValueText, OneValue};
+ghost use Rattle.plan_text.specs.Values.{decimal_text, thousandths_text, IsMemberNamed, IsValueText, OneValue};
 ghost use Rattle.plan_text.specs.Words.{IsPaused, IsUnbroken};
 ghost use Rattle.plan_text.specs.Writing.{Adds, AddsLine, AddsLines, EndsLine};
 
@@ -64,6 +64,7 @@ pub fn put_shown(
 {
     match kind {
         ValueKind::Int => put_number(out, gap, value),
+        ValueKind::Float => put_decimal(out, gap, value),
         ValueKind::Bool => put_word(out, gap, truth_text(value)),
         ValueKind::Enum(number) => put_word(out, gap, member_text(model, number, value)),
         ValueKind::Object => put_word(out, gap, object_text(model, value)),
@@ -117,6 +118,42 @@ pub fn put_number(out: &mut Vec<u8>, gap: &[u8], value: i32) -> Result<(), Alloc
 {
     let mut buffer = Buffer::new();
     put_word(out, gap, buffer.format(value).as_bytes())
+}
+
+/// The decimal of which the value counts the thousandths, behind the gap.
+pub fn put_decimal(out: &mut Vec<u8>, gap: &[u8], value: i32) -> Result<(), AllocError>
+    ensures { OnOk result (out.new.items ≡ out.old.items ++ (gap.now ++ decimal_text value)) }
+{
+    put_word(out, gap, sign_text(value))?;
+    put_thousandths(out, value.unsigned_abs())
+}
+
+// The sign with which the value is written.
+fn sign_text(value: i32) -> &'static [u8]
+    ensures { result.now ≡ (if int_lt value (pos 0) then codes "-" else []) }
+{
+    if value < 0 { b"-" } else { b"" }
+}
+
+// So many thousandths.
+fn put_thousandths(out: &mut Vec<u8>, count: u32) -> Result<(), AllocError>
+    ensures { OnOk result (out.new.items ≡ out.old.items ++ thousandths_text count) }
+{
+    let mut buffer = Buffer::new();
+    out.extend_from_slice(buffer.format(count / 1000).as_bytes())?;
+    let digits = [
+        last_digit(count / 100),
+        last_digit(count / 10),
+        last_digit(count),
+    ];
+    put_word(out, b".", &digits)
+}
+
+// The last digit of the number.
+fn last_digit(number: u32) -> u8
+    ensures { result ≡ 48 + number % 10 }
+{
+    b'0' + (number % 10) as u8
 }
 
 /// How the truth is written.

@@ -1,4 +1,3 @@
-use Rattle.std.proofs.Common.{ap, ◌∙◌}
 use Rattle.plan_resolve.proofs.Indexing.{noted_next}
 use Rattle.plan_resolve.proofs.indexed.note_object.Goals as goal
 

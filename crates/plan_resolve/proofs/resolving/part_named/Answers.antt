@@ -2,7 +2,6 @@ use Rattle.std.proofs.Common.{◌≡◌, ℕ, subst}
 use Rattle.std.proofs.lemmas.Bool.{false≢true}
 use Rattle.model_core.specs.declared.model.Model.{Model}
 use Rattle.model_core.specs.declared.variable.VarDecl.{VarDecl}
-use Rattle.model_core.specs.Names.{IsPartWord}
 use Rattle.model_core.specs.Variables.{HasParameter}
 use Rattle.model_core.proofs.Lookups.{no_part}
 use Rattle.plan_resolve.proofs.resolving.part_named.Goals as goal

@@ -1,6 +1,6 @@
 use Rattle.std.proofs.Common.{w32, to_z, of_z, arith}
 use Rattle.std.proofs.lemmas.Int.{ints}
-use Rattle.plan_text.proofs.Putting.{number_put, truth_put, member_text_put, object_text_put, member_of, object_of}
+use Rattle.plan_text.proofs.Putting.{number_put, decimal_put, truth_put, member_text_put, object_text_put, member_of, object_of}
 use Rattle.plan_text.proofs.writing.put_shown.Goals as goal
 
 pub member_text-requires : goal.member_text-requires
@@ -12,6 +12,10 @@ object_text-requires c = object_of c.args.model.now c.args.kind c.args.value c.r
 pub returns-in-Int : goal.returns-in-Int
 returns-in-Int c =
     number_put c.args.model.now c.args.kind c.args.value (to_z w32 (of_z w32 c.args.value)) c.args.gap.now c.args.out.now.items c.put_number.new.out.items c.put_number.result (omega (arith, ints)) c.in-Int.is c.requires.value c.put_number.ensures
+
+pub returns-in-Float : goal.returns-in-Float
+returns-in-Float c =
+    decimal_put c.args.model.now c.args.kind c.args.value (to_z w32 (of_z w32 c.args.value)) c.args.gap.now c.args.out.now.items c.put_decimal.new.out.items c.put_decimal.result (omega (arith, ints)) c.in-Float.is c.requires.value c.put_decimal.ensures
 
 pub returns-in-Bool : goal.returns-in-Bool
 returns-in-Bool c =
