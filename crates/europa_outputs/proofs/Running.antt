@@ -1,6 +1,5 @@
 -- Words have an output.
-use Rattle.std.proofs.Common.{◌≡◌, ℕ, ◌<◌, ◌≤◌, true, false, inl, inr, List, [], ◌∷◌, ◌++◌, Option, Some, None, refl, sym, subst, codes, arith}
-use Rattle.std.specs.Prelude.{IfSome}
+use Rattle.std.proofs.Common.{◌≡◌, ℕ, ◌≤◌, true, false, inl, inr, List, ◌++◌, Option, refl, codes}
 use Rattle.std.specs.Fmt.{decimal}
 use Rattle.law_states.specs.Undeniable.{Undeniable}
 use Rattle.law_states.proofs.Denying.{is_or_not}
@@ -10,7 +9,7 @@ use Rattle.problem_gen.specs.Generated.{generated_text}
 use Rattle.plan_verdicts.proofs.Checking.{texts_are_checked}
 use Rattle.run_words.specs.declared.request.Request.{Request}
 use Rattle.run_words.specs.declared.request.Request.TheVariants.{Plan, Script, Check, Show, Generate, Try}
-use Rattle.run_words.specs.Requests.{Asks, AreStepsOf, AreTokensOf}
+use Rattle.run_words.specs.Requests.{Asks}
 use Rattle.run_load.specs.Laws.{PosedIsSound}
 use Rattle.run_commands.specs.Checking.{PlanFileOutput}
 use Rattle.run_commands.specs.Printed.{usage_line}
@@ -22,34 +21,11 @@ use Rattle.session_loop.specs.Ends.{begun}
 use Rattle.session_loop.specs.Lines.{lines_of}
 use Rattle.europa_run.specs.Output.{Given, end_of, SessionOutput, RequestOutput, is_script}
 use Rattle.europa_run.specs.Pieces.{IsInRange}
+use Rattle.europa_run.proofs.Ranging.{asked_in_range}
 use Rattle.europa_outputs.specs.Outputs.{HasOutput, HasUnjudgedFiles, HasJudgedFiles, CommandsHaveOutputs, WordsHaveAnOutput}
 use Rattle.europa_outputs.proofs.Posing.{files_pose}
 use Rattle.europa_outputs.proofs.Printing.{posed_some, show_some, plan_file_some}
 use Rattle.europa_outputs.proofs.Searching.{search_some, trial_some}
-
--- ---- what words ask for lies in its range
-
-abbrev AreSome : Option ℕ → Type 0
-AreSome steps = IfSome steps (λ number. 0 < number)
-
-steps_some : (text : Option (List ℕ)) (steps : Option ℕ) → AreStepsOf text steps → AreSome steps
-steps_some None steps is = subst AreSome (sym is) tt
-steps_some (Some text) steps is =
-    let some : 0 < is.0 = omega (arith, is.2.3) in
-    subst AreSome (sym is.1) some
-
-tokens_few : (text : Option (List ℕ)) (tokens : ℕ) → AreTokensOf text tokens → tokens ≤ 512
-tokens_few None tokens is = omega (arith, is)
-tokens_few (Some text) tokens is = is.4
-
-asked_in_range : (words : List (List ℕ)) (request : Request (List ℕ)) → Asks words request → IsInRange request
-asked_in_range [] request asks = absurd asks
-asked_in_range (word ∷ rest) (Plan file steps tokens) asks = (steps_some asks.1.0 steps asks.1.4, tokens_few asks.1.1 tokens asks.1.5)
-asked_in_range (word ∷ rest) (Script file) asks = tt
-asked_in_range (word ∷ rest) (Check file plan) asks = tt
-asked_in_range (word ∷ rest) (Show file) asks = tt
-asked_in_range (word ∷ rest) (Generate number) asks = (asks.1.2.3, asks.1.2.4)
-asked_in_range (word ∷ rest) (Try number) asks = (asks.1.2.3, asks.1.2.4)
 
 -- ---- requests
 

@@ -1,10 +1,8 @@
 -- Each search from a sound database ends in some way, and something is told of that.
-use Rattle.std.proofs.Common.{◌≡◌, ℕ, zero, suc, ◌+◌, ◌-◌, ◌≤◌, List, [], ◌∷◌, ◌++◌, count_by, refl, sym, ap, ◌∙◌, subst, codes, append_assoc, arith}
+use Rattle.std.proofs.Common.{◌≡◌, ℕ, ◌-◌, ◌≤◌, List, [], ◌++◌, count_by, refl, sym, ap, ◌∙◌, subst, codes, arith}
 use Rattle.std.specs.Fmt.{decimal}
-use Rattle.std.proofs.lemmas.List.{append-nil}
 use Rattle.law_states.specs.Undeniable.{Undeniable}
 use Rattle.law_states.proofs.Founding.{plan_is_valid}
-use Rattle.law_states.proofs.Leaving.{next_stays}
 use Rattle.law_states.proofs.Planning.{flawless_states_have_plans}
 use Rattle.law_states.proofs.Splitting.{settles_behind}
 use Rattle.law_search.specs.Outcomes.{HasOutcome}
@@ -13,57 +11,21 @@ use Rattle.law_search.specs.SearchLaws.{IsFoundList}
 use Rattle.law_search.proofs.Outcoming.{searches_have_outcomes}
 use Rattle.law_search.proofs.Searching.{found_by}
 use Rattle.model_core.specs.declared.decision.Decision.{Decision}
-use Rattle.model_core.specs.declared.model.Model.{Model}
-use Rattle.model_core.specs.History.{History, standing, accepted}
+use Rattle.model_core.specs.History.{standing}
 use Rattle.plan_db.specs.Database.{Database, taken_in, IsSound}
-use Rattle.plan_db.specs.Rewinding.{TakesMore}
 use Rattle.plan_defs.specs.declared.plan.Plan.{Plan}
-use Rattle.plan_defs.specs.History.{IsHistory}
 use Rattle.plan_defs.specs.Settling.{SettlesAfter, IsSettled}
-use Rattle.plan_defs.proofs.Histories.{accepted_is, standing_settled}
+use Rattle.plan_defs.proofs.Histories.{standing_settled}
 use Rattle.plan_report.specs.declared.counting.Counts.{Counts}
 use Rattle.plan_report.specs.Counting.{is_active, is_merged}
 use Rattle.flaw_core.specs.declared.ending.SearchEnd.{SearchEnd}
 use Rattle.flaw_core.specs.declared.ending.SearchEnd.TheVariants.{Found, Exhausted, Budget}
 use Rattle.session_replies.specs.Texts.{printed_line, bound_text, IsFlawlessEnd, TellsSearch}
+use Rattle.session_core.proofs.ExistingLines.{taken_on, left_and_spent, all_spent}
 use Rattle.session_core.proofs.PlanTexts.{flawless_states_have_plan_texts}
 use Rattle.run_commands.specs.Searching.{SearchesTo, EndOutput, SearchOutput, end_of}
 use Rattle.run_commands.specs.Trying.{TellsTrial, found_text}
 use Rattle.europa_outputs.specs.Outputs.{HasOutput}
-
--- ---- what is found
-
--- a history with these decisions taken too, one after another
-record IsTakenOn (model : Model) (old : History) (more : List Decision) : Type 0 where
-  history : History
-  is : IsHistory model history
-  count : ℕ
-  takes : TakesMore count old history
-  stands : standing history ≡ standing old ++ more
-
--- one more before the others
-takes_before : (count : ℕ) (old new : History) (decision : Decision) → TakesMore count (accepted old decision) new → TakesMore (suc count) old new
-takes_before zero old new decision same = (old, (decision, (refl, same)))
-takes_before (suc count) old new decision (before, (last, (takes, same))) = (before, (last, (takes_before count old before decision takes, same)))
-
-taken_on : (model : Model) (old : History) (more : List Decision) → IsHistory model old → SettlesAfter model (standing old) more (standing old ++ more) → IsTakenOn model old more
-taken_on model old [] is settles = record { history = old; is = is; count = 0; takes = refl; stands = sym (append-nil (standing old)) }
-taken_on model old (decision ∷ more) is settles =
-    let next = next_stays model (standing old) decision more settles in
-    let rest = taken_on model (accepted old decision) more (accepted_is model old decision is next.0) next.1 in
-    record {
-      history = rest.history;
-      is = rest.is;
-      count = suc rest.count;
-      takes = takes_before rest.count old rest.history decision rest.takes;
-      stands = rest.stands ∙ append_assoc (standing old) (decision ∷ []) more;
-    }
-
-left_and_spent : (left units : ℕ) → left ≤ units → (units - left) + left ≡ units
-left_and_spent left units few = omega (arith, few)
-
-all_spent : (left units : ℕ) → left ≡ 0 → units - left ≡ units
-all_spent left units none = omega (arith, none)
 
 -- ---- searches
 

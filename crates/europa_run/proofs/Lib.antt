@@ -3,7 +3,7 @@ mod Halting
 mod Once
 mod Planned
 mod Printing
-mod Ranging
+pub mod Ranging
 mod Requests
 mod Scripted
 mod Scripts

@@ -1,6 +1,8 @@
 pub mod Parts
 pub mod Ascii
 pub mod Numerals
+pub mod Decimals
+pub mod Thousandths
 pub mod Commands
 pub mod Counting
 pub mod Low

@@ -6,7 +6,7 @@ use Rattle.std.proofs.lemmas.List.Elements.{All-from_recursion, recursion_from_A
 use Rattle.eu_name.specs.Word.{IsName, is_word_start, is_word_byte}
 use Rattle.model_core.specs.Naming.{is_point}
 use Rattle.plan_text.specs.Values.{IsTruthWord}
-use Rattle.script_lang.proofs.Ascii.{number_is_ascii}
+use Rattle.script_lang.proofs.Ascii.{number_is_ascii, decimal_is_ascii}
 use Rattle.script_lang.specs.Line.{IsValueWord}
 
 abbrev AreLow : List ℕ → Type 0
@@ -57,5 +57,6 @@ truth_is_low word (inr is) = subst AreLow (sym is) (omega arith, (omega arith, (
 
 pub value_is_low : (word : List ℕ) → IsValueWord word → All (λ byte. byte < 128) word
 value_is_low word (inl number) = number_is_ascii word number
-value_is_low word (inr (inl truth)) = low word (truth_is_low word truth)
-value_is_low word (inr (inr path)) = low word (whole_is_low word (names_are_low (slice_split is_point word) (recursion_from_All IsName (slice_split is_point word) path)))
+value_is_low word (inr (inl decimal)) = decimal_is_ascii word decimal
+value_is_low word (inr (inr (inl truth))) = low word (truth_is_low word truth)
+value_is_low word (inr (inr (inr path))) = low word (whole_is_low word (names_are_low (slice_split is_point word) (recursion_from_All IsName (slice_split is_point word) path)))

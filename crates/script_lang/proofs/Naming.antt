@@ -1,6 +1,7 @@
 -- What names and values two words say.
-use Rattle.std.proofs.Common.{◌≡◌, ℕ, List, [], ◌∷◌, Result, Ok, Err, refl, sym, ◌∙◌, subst}
+use Rattle.std.proofs.Common.{◌≡◌, ◌↔◌, ℕ, Bool, false, IsTrue, List, [], ◌∷◌, Result, Ok, Err, refl, sym, ◌∙◌, subst}
 use Rattle.std.specs.Prelude.{IfOk, IfErr}
+use Rattle.std.proofs.lemmas.Bool.{false≢true}
 use Rattle.script_lang.specs.declared.command.LineFault.{LineFault}
 use Rattle.script_lang.specs.declared.command.LineFault.TheVariants.{TooLong, Syntax, Memory}
 use Rattle.script_lang.specs.Line.{IsValueWord}
@@ -43,3 +44,7 @@ pub says_pair : {A B : Type 0} (One : List ℕ → A → Type 0) (Other : List �
 says_pair One Other words first second one other r are same says says' =
     says_two One Other words first second r are
     (subst (Says (λ found. One first found.0 × Other second found.1)) (sym same) (says_both (One first) (Other second) one other says says'))
+
+-- a word that can be no value is said to be none
+pub none_said : (word found : List ℕ) (answer : Bool) → IsTrue answer ↔ IsValueWord word → answer ≡ false → IsValueOf word found → ⊥
+none_said word found answer told fails is = false≢true (sym fails ∙ told.1 (subst IsValueWord (sym is.0) is.1))

@@ -11,11 +11,11 @@ use Rattle.script_lang.specs.declared.command.Command.TheVariants.{Undo, Domain,
 use Rattle.script_lang.specs.declared.command.LineFault.{LineFault}
 use Rattle.script_lang.specs.declared.command.LineFault.TheVariants.{TooLong, Syntax, Memory}
 use Rattle.script_lang.specs.Words.{words_of}
-use Rattle.script_lang.specs.Number.{IsSignedNumber}
+use Rattle.script_lang.specs.Number.{IsSignedNumber, IsSignedDecimal}
 
--- the word can be a value: a number, a truth, or names with single points between them
+-- the word can be a value: a number, a decimal, a truth, or names with single points between them
 abbrev pub IsValueWord : List ℕ → Type 0
-IsValueWord word = IsSignedNumber word ⊎ (IsTruthWord word ⊎ IsPath word)
+IsValueWord word = IsSignedNumber word ⊎ (IsSignedDecimal word ⊎ (IsTruthWord word ⊎ IsPath word))
 
 -- the words are this one alone
 abbrev pub AreAlone : List (List ℕ) → List ℕ → Type 0

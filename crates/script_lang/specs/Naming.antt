@@ -19,7 +19,7 @@ use Rattle.script_lang.specs.declared.command.Command.{Command}
 use Rattle.script_lang.specs.declared.command.Command.TheVariants.{Specify, Activate, Merge, Reject, Order}
 use Rattle.script_lang.specs.declared.command.DecisionText.{DecisionText}
 use Rattle.script_lang.specs.declared.command.DecisionText.TheVariants as texts
-use Rattle.script_lang.specs.Number.{IsSignedNumber, signed_value}
+use Rattle.script_lang.specs.Number.{IsSignedNumber, signed_value, SaysThousandths}
 
 -- the variable is of this kind
 abbrev pub IsVariableOfKind : Model → ValueKind → VarName → Type 0
@@ -31,9 +31,11 @@ IsVariableOfKind model kind (variables.Local token rule number) =
     (slot : Slot) × (HasToken model token slot
     × ((variable : VarDecl) × (HasLocal model slot rule number variable × (kind ≡ variable.kind))))
 
--- the word says the value of the kind: any number of those that have digits, and of every other kind what is written of it
+-- the word says the value of the kind: any number of those that have digits, any thousandths of those that have a point too,
+-- and of every other kind what is written of it
 abbrev pub SaysValue : Model → ValueKind → ℤ → List ℕ → Type 0
 SaysValue model kinds.Int value word = IsSignedNumber word × (value ≡ signed_value word)
+SaysValue model kinds.Float value word = SaysThousandths value word
 SaysValue model kind value word = IsValueText model kind value word
 
 -- the command asks for the decision: its words name what the decision is about, and say its value

@@ -8,7 +8,8 @@ use eu_name::text::Text;
 pub enum Command {
     /// Nothing: the line has no word.
     Empty,
-    /// To give the variable the value. The value is a number, which may lie outside the range of values, or a path of names.
+    /// To give the variable the value. The value is a number or a decimal, which may lie outside the range of values, or a
+    /// path of names.
     Specify { variable: NameText, value: Text },
     /// To have the token take place.
     Activate { token: NameText },

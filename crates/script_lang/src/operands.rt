@@ -8,7 +8,7 @@ ghost use Rattle.script_lang.specs.declared.command.LineFault.TheVariants.{Memor
 ghost use Rattle.script_lang.specs.Operands.{Says, Tells, IsValueOf, IsOne, AreTwo, joined};
 
 use crate::command::LineFault;
-use crate::number::is_number;
+use crate::number::{is_decimal, is_number};
 use crate::words::{next_word, only_word, two_words};
 use eu_name::name_text::{NameFault, NameText};
 use eu_name::reading::read_name;
@@ -32,7 +32,7 @@ fn kept(alloc: Global, word: &[u8]) -> Result<Text, LineFault>
 fn is_value_word(word: &[u8]) -> bool
     ensures { IsTrue result ↔ IsValueWord word.now }
 {
-    is_number(word) || is_truth_word(word) || is_path_word(word)
+    is_number(word) || is_decimal(word) || is_truth_word(word) || is_path_word(word)
 }
 
 // The value that the word is, as it is written.

@@ -1,16 +1,17 @@
 //! Of which kind variables are, and what words say of values.
 
 ghost use Rattle.std.specs.Prelude.{◌≡◌, ℤ, MatchOption};
+ghost use Rattle.domain_core.specs.Domain.{IsValue};
 ghost use Rattle.model_core.specs.declared.variable.Base.{Base as Declared};
 ghost use Rattle.model_core.specs.declared.variable.ValueKind.{ValueKind};
 ghost use Rattle.model_core.specs.declared.variable.VarDecl.{VarDecl};
 ghost use Rattle.model_core.specs.Kinds.{IsPartOfKind};
 ghost use Rattle.model_core.specs.Lawful.{IsLawful};
 ghost use Rattle.model_core.specs.Variables.{HasBase, HasParameter, IsGlobal};
-ghost use Rattle.script_lang.specs.Number.{IsSignedNumber, signed_value};
+ghost use Rattle.script_lang.specs.Number.{IsSignedNumber, SaysThousandths, signed_value};
 ghost use Rattle.script_lang.specs.Naming.{IsVariableOfKind, SaysValue, StandsFor};
 
-use crate::number::{self, is_number};
+use crate::number::{self, decimal_parts, is_number, thousandths_of};
 use domain_core::domain::GREATEST_VALUE;
 use eu_name::name::{Part, VarName};
 use model_core::model::Model;
@@ -68,22 +69,45 @@ pub fn kind_of(model: &Model, name: &VarName) -> ValueKind
     }
 }
 
+// The value; where there is none in the range of values, one outside of it, which stands for all of those.
+fn or_outside(value: Option<i32>) -> i32
+    ensures { MatchOption value (IsValue result → ⊥) (λ inside. result ≡ inside) }
+{
+    match value {
+        Some(value) => value,
+        None => GREATEST_VALUE + 1,
+    }
+}
+
 // The number that the word is; one outside the range of values stands for all of those.
 fn number_said(word: &[u8]) -> Option<i32>
     ensures { MatchOption result
         (IsSignedNumber word.now → ⊥)
         (λ value. IsSignedNumber word.now × StandsFor value (signed_value word.now)) }
 {
-    if !is_number(word) {
-        return None;
-    }
-    match number::value_of(word) {
-        Some(value) => Some(value),
-        None => Some(GREATEST_VALUE + 1),
+    if is_number(word) {
+        Some(or_outside(number::value_of(word)))
+    } else {
+        None
     }
 }
 
-/// The value of the kind that the word says. A number outside the range of values is answered by another one outside of it.
+// The thousandths that the word says; some outside the range of values stand for all of those.
+fn thousandths_said(word: &[u8]) -> Option<i32>
+    ensures { MatchOption result
+        ((value : ℤ) → SaysThousandths value word.now → ⊥)
+        (λ value. (said : ℤ) × (SaysThousandths said word.now × StandsFor value said)) }
+{
+    if is_number(word) {
+        return Some(or_outside(thousandths_of(word, b"000")));
+    }
+    match decimal_parts(word) {
+        Some((whole, fraction)) => Some(or_outside(thousandths_of(whole, fraction))),
+        None => None,
+    }
+}
+
+/// The value of the kind that the word says. One outside the range of values is answered by another one outside of it.
 pub fn value_said(model: &IndexedModel<'_>, kind: ValueKind, word: &[u8]) -> Option<i32>
     requires { IsLawful model.now }
     ensures { MatchOption result
@@ -92,6 +116,7 @@ pub fn value_said(model: &IndexedModel<'_>, kind: ValueKind, word: &[u8]) -> Opt
 {
     match kind {
         ValueKind::Int => number_said(word),
+        ValueKind::Float => thousandths_said(word),
         ValueKind::Bool => values::value_of(model, kind, word),
         ValueKind::Enum(_number) => values::value_of(model, kind, word),
         ValueKind::Object => values::value_of(model, kind, word),

@@ -42,19 +42,19 @@ use Rattle.session_core.proofs.Existing.{collapsed_or_least, unless_full, plain_
 -- ---- what is found
 
 -- a history with these decisions taken too, one after another
-record IsTakenOn (model : Model) (old : History) (more : List Decision) : Type 0 where
-  history : History
-  is : IsHistory model history
-  count : ℕ
-  takes : TakesMore count old history
-  stands : standing history ≡ standing old ++ more
+pub record IsTakenOn (model : Model) (old : History) (more : List Decision) : Type 0 where
+  pub history : History
+  pub is : IsHistory model history
+  pub count : ℕ
+  pub takes : TakesMore count old history
+  pub stands : standing history ≡ standing old ++ more
 
 -- one more before the others
 takes_before : (count : ℕ) (old new : History) (decision : Decision) → TakesMore count (accepted old decision) new → TakesMore (suc count) old new
 takes_before zero old new decision same = (old, (decision, (refl, same)))
 takes_before (suc count) old new decision (before, (last, (takes, same))) = (before, (last, (takes_before count old before decision takes, same)))
 
-taken_on : (model : Model) (old : History) (more : List Decision) → IsHistory model old → SettlesAfter model (standing old) more (standing old ++ more) → IsTakenOn model old more
+pub taken_on : (model : Model) (old : History) (more : List Decision) → IsHistory model old → SettlesAfter model (standing old) more (standing old ++ more) → IsTakenOn model old more
 taken_on model old [] is settles = record { history = old; is = is; count = 0; takes = refl; stands = sym (append-nil (standing old)) }
 taken_on model old (decision ∷ more) is settles =
     let next = next_stays model (standing old) decision more settles in
@@ -67,10 +67,10 @@ taken_on model old (decision ∷ more) is settles =
       stands = rest.stands ∙ append_assoc (standing old) (decision ∷ []) more;
     }
 
-left_and_spent : (left units : ℕ) → left ≤ units → (units - left) + left ≡ units
+pub left_and_spent : (left units : ℕ) → left ≤ units → (units - left) + left ≡ units
 left_and_spent left units few = omega (arith, few)
 
-all_spent : (left units : ℕ) → left ≡ 0 → units - left ≡ units
+pub all_spent : (left units : ℕ) → left ≡ 0 → units - left ≡ units
 all_spent left units none = omega (arith, none)
 
 module _ (old : Database) (sound : IsSound old) (steps tokens : ℕ) (few : tokens ≤ 512) where

@@ -47,6 +47,7 @@ module _ (model : Model) where
 
   pub value_text_one : (kind : ValueKind) (value : ℤ) (one other : List ℕ) → IsValueText model kind value one → IsValueText model kind value other → one ≡ other
   value_text_one kinds.Int value one other p q = p.1 ∙ sym q.1
+  value_text_one kinds.Float value one other p q = p.1 ∙ sym q.1
   value_text_one kinds.Bool value one other (inl p) (inl q) = p.1 ∙ sym q.1
   value_text_one kinds.Bool value one other (inl p) (inr q) = let both = sym p.0 ∙ q.0 in absurd (omega (arith, ints, both))
   value_text_one kinds.Bool value one other (inr p) (inl q) = let both = sym p.0 ∙ q.0 in absurd (omega (arith, ints, both))

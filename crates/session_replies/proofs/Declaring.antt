@@ -1,5 +1,5 @@
 -- What variables are declared with, by kind.
-use Rattle.std.proofs.Common.{◌≡◌, ℕ, ℤ, List, [], ◌∷◌, Some, slice_get, refl, sym, ap, ◌∙◌, subst}
+use Rattle.std.proofs.Common.{◌≡◌, ℕ, ℤ, List, [], ◌∷◌, Some, slice_get, sym, ap, ◌∙◌, subst}
 use Rattle.domain_core.specs.Domain.{Domain, Has, IsDomain}
 use Rattle.domain_core.proofs.Words.{has_value}
 use Rattle.eu_name.specs.declared.name.Part.{Part}
@@ -19,9 +19,9 @@ use Rattle.model_core.specs.declared.variable.ValueKind.{ValueKind}
 use Rattle.model_core.specs.declared.variable.ValueKind.TheVariants as kinds
 use Rattle.model_core.specs.declared.variable.VarDecl.{VarDecl}
 use Rattle.model_core.specs.Kinds.{IsValueOf, IsBaseOf, IsPartOfKind}
-use Rattle.model_core.specs.Lawful.{IsLawful, IsLawfulRoot, IsLawfulSlot, IsLawfulVariable, IsToken}
+use Rattle.model_core.specs.Lawful.{IsLawful, IsLawfulRoot, IsLawfulSlot, IsLawfulVariable}
 use Rattle.model_core.specs.Tokens.{HasToken, Reaches, LeadsToSlot, slot_of}
-use Rattle.model_core.specs.Variables.{HasBase, HasPartBase, HasParameter, HasLocal, IsGlobal, IsInBase}
+use Rattle.model_core.specs.Variables.{HasBase, HasPartBase, HasParameter, HasLocal, IsInBase}
 use Rattle.model_core.proofs.Leading.{token_once}
 use Rattle.model_core.proofs.Rules.{has_rule_once}
 use Rattle.model_core.proofs.Lawful.{rule_lawful, base_lawful}
@@ -31,7 +31,7 @@ use Rattle.script_lang.specs.Naming.{IsVariableOfKind}
 
 module _ (model : Model) where
   int_base : (domain : Domain) → IsDomain domain → IsBaseOf model kinds.Int (Given domain)
-  int_base domain is = record { values = λ value has. has_value domain value is has; range = λ range. refl }
+  int_base domain is = record { values = λ value has. has_value domain value is has; range = λ range. tt }
 
   of_variable : (one other : VarDecl) (kind : ValueKind) (base : Base) → one ≡ other → base ≡ one.base → kind ≡ other.kind → IsLawfulVariable model one → IsBaseOf model kind base
   of_variable one other kind base same is_base is_kind fine =

@@ -40,7 +40,7 @@ use Rattle.plan_defs.specs.Flaws.{Flaw, Undecided, Undetermined, Unordered, Unti
 use Rattle.plan_defs.proofs.Kinding.{pred_of_slot}
 use Rattle.script_lang.specs.Naming.{IsVariableOfKind}
 use Rattle.session_replies.specs.Existence.{DomainsHaveLines, TokensHaveLines, DecisionsHaveLines, EdgesHaveLines, FlawsHaveLines}
-use Rattle.session_replies.specs.Lines.{spaced, IsTokenWord, IsVariableWord, IsDomainText, IsStateText, IsLineOnToken, IsLineOnTokens, IsDecisionLine, IsPointWord, IsFlawText}
+use Rattle.session_replies.specs.Lines.{spaced, printed_number, IsTokenWord, IsVariableWord, IsDomainText, IsStateText, IsLineOnToken, IsLineOnTokens, IsDecisionLine, IsPointWord, IsFlawText}
 use Rattle.session_replies.specs.Writable.{IsWritable, IsPointWritable, IsFlawWritable}
 use Rattle.session_replies.proofs.Declaring.{values_of_kind, declared_of_kind}
 use Rattle.session_replies.proofs.Spacing.{variable_word}
@@ -57,7 +57,7 @@ member_texts model kind (value ∷ members) are =
 
 domain_text : (model : Model) (kind : ValueKind) (domain : Domain) → ((value : ℤ) → Has domain value → IsValueOf model kind value)
     → (shown : List ℕ) × IsDomainText model kind domain shown
-domain_text model kind (Range lo hi) are = (codes "[" ++ (signed_decimal lo ++ (codes " " ++ (signed_decimal hi ++ codes "]"))), refl)
+domain_text model kind (Range lo hi) are = (codes "[" ++ (printed_number kind lo ++ (codes " " ++ (printed_number kind hi ++ codes "]"))), refl)
 domain_text model kind (Set members) are =
     let words = member_texts model kind members are in
     (codes "{" ++ (spaced words.0 ++ codes "}"), (words.0, (words.1, refl)))

@@ -10,5 +10,6 @@ pub mod Timing
 pub mod Tokening
 pub mod Seen
 pub mod Separated
+pub mod Numbers
 pub mod ReadBack
 pub mod Existing

@@ -1,20 +1,11 @@
 -- Lines of decisions are read back.
-use Rattle.std.proofs.Common.{◌≡◌, ℕ, ◌<◌, ◌≤◌, ◌^◌, true, false, eqb, ℤ, pos, negsuc, suc, List, [], ◌∷◌, length, Ok, refl, sym, ap, ◌∙◌, subst, inl, inr, IsTrue, All, codes, arith}
-use Rattle.std.specs.Prelude.{neg_ℤ}
-use Rattle.std.specs.Char.{is_ascii_digit}
-use Rattle.std.specs.Fmt.{decimal, signed_decimal}
+use Rattle.std.proofs.Common.{◌≡◌, ℕ, ◌<◌, ◌≤◌, true, false, ℤ, List, [], ◌∷◌, length, Ok, refl, sym, ap, ◌∙◌, subst, inl, inr, IsTrue, All, codes, arith}
 use Rattle.std.specs.List.{AllByRecursion, slice_split, join_with_byte}
-use Rattle.std.specs.Str.Parse.{digits_value}
 use Rattle.std.proofs.lemmas.Bool.Decides.{nat_tests}
-use Rattle.std.proofs.lemmas.Fmt.{digits_decimal, digits_value-decimal, decimal_nonempty}
-use Rattle.std.proofs.lemmas.Int.{ints}
 use Rattle.std.proofs.lemmas.List.Elements.{All-from_recursion, recursion_from_All}
 use Rattle.std.proofs.lemmas.List.Splits.{slice_split_none, slice_split_at}
-use Rattle.domain_core.specs.Domain.{IsValue}
 use Rattle.eu_name.specs.declared.name.TokenName.{TokenName}
 use Rattle.eu_name.specs.Word.{IsName, is_word_start, is_word_byte}
-use Rattle.eu_name.proofs.Fronts.{Passes}
-use Rattle.eu_name.proofs.Numbers.{own}
 use Rattle.model_core.specs.declared.decision.Decision.{Decision}
 use Rattle.model_core.specs.declared.decision.Decision.TheVariants as decisions
 use Rattle.model_core.specs.declared.model.Model.{Model}
@@ -27,34 +18,12 @@ use Rattle.plan_text.specs.Values.{IsValueText}
 use Rattle.script_lang.specs.declared.command.Command.{Command}
 use Rattle.script_lang.specs.declared.command.Command.TheVariants.{Specify, Activate, Merge, Reject, Order}
 use Rattle.script_lang.specs.Line.{IsValueWord, ReadsLine}
-use Rattle.script_lang.specs.Number.{IsSignedNumber, signed_value}
 use Rattle.script_lang.specs.Words.{words_of}
 use Rattle.session_replies.specs.Lines.{IsDecisionLine, IsLineOnToken, IsLineOnTokens}
 use Rattle.script_lang.specs.Naming.{AsksDecision, SaysValue}
 use Rattle.session_replies.specs.Reading.{DecisionLinesAreReadBack}
-use Rattle.session_replies.proofs.Separated.{IsWhole, name_whole, spelling_whole, object_whole, number_whole, two_words, three_words}
-
--- ---- numbers
-
-no_minus : (byte : ℕ) → is_ascii_digit byte ≡ true → eqb byte 45 ≡ false
-no_minus byte is = grind (arith, nat_tests)
-
-plain_number : (digits : List ℕ) → Passes is_ascii_digit digits → 0 < length digits → IsSignedNumber digits × (signed_value digits ≡ pos (digits_value 10 digits))
-plain_number [] passes some = absurd (omega arith)
-plain_number (first ∷ rest) passes some =
-    let other = no_minus first passes.0 in
-    (rw other (some, All-from_recursion (λ byte. IsTrue (is_ascii_digit byte)) (first ∷ rest) passes), rw other refl)
-
-number_said : (value : ℤ) → IsValue value → IsSignedNumber (signed_decimal value) × (value ≡ signed_value (signed_decimal value))
-number_said (pos n) is =
-    let small : n < 2 ^ 64 = omega (arith, ints, is) in
-    let plain = plain_number (decimal n) (digits_decimal own n small) (decimal_nonempty n small) in
-    (plain.0, sym (plain.1 ∙ ap pos (digits_value-decimal own n small)))
-number_said (negsuc n) is =
-    let small : suc n < 2 ^ 64 = omega (arith, ints, is) in (
-      (decimal_nonempty (suc n) small, All-from_recursion (λ byte. IsTrue (is_ascii_digit byte)) (decimal (suc n)) (digits_decimal own (suc n) small)),
-      sym (ap (λ (m : ℕ). neg_ℤ (pos m)) (digits_value-decimal own (suc n) small)),
-    )
+use Rattle.session_replies.proofs.Separated.{IsWhole, name_whole, spelling_whole, object_whole, number_whole, decimal_whole, two_words, three_words}
+use Rattle.session_replies.proofs.Numbers.{number_said, decimal_signed, decimal_said}
 
 -- ---- paths
 
@@ -103,16 +72,18 @@ value_said : (model : Model) (kind : ValueKind) (value : ℤ) (word : List ℕ) 
 value_said model kinds.Int value word lawful (is, same) =
     let said = number_said value is in
     subst (λ (w : List ℕ). IsWhole w × (IsValueWord w × SaysValue model kinds.Int value w)) (sym same) (number_whole value is, (inl said.0, said))
+value_said model kinds.Float value word lawful (is, same) =
+    subst (λ (w : List ℕ). IsWhole w × (IsValueWord w × SaysValue model kinds.Float value w)) (sym same) (decimal_whole value is, (inr (inl (decimal_signed value is)), decimal_said value is))
 value_said model kinds.Bool value word lawful (inl (is, same)) =
-    (subst IsWhole (sym same) (omega arith, (refl, (refl, (refl, (refl, (refl, tt)))))), (inr (inl (inr same)), inl (is, same)))
+    (subst IsWhole (sym same) (omega arith, (refl, (refl, (refl, (refl, (refl, tt)))))), (inr (inr (inl (inr same))), inl (is, same)))
 value_said model kinds.Bool value word lawful (inr (is, same)) =
-    (subst IsWhole (sym same) (omega arith, (refl, (refl, (refl, (refl, tt))))), (inr (inl (inl same)), inr (is, same)))
+    (subst IsWhole (sym same) (omega arith, (refl, (refl, (refl, (refl, tt))))), (inr (inr (inl (inl same))), inr (is, same)))
 value_said model (kinds.Enum number) value word lawful is =
     let name = member_name model number value word lawful is in
-    (name_whole word name, (inr (inr (member_path word name)), is))
+    (name_whole word name, (inr (inr (inr (member_path word name))), is))
 value_said model kinds.Object value word lawful is =
     let name = object_name model value word lawful is in
-    (object_whole word name, (inr (inr (object_path word name)), is))
+    (object_whole word name, (inr (inr (inr (object_path word name))), is))
 
 -- ---- lines
 

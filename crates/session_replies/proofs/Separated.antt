@@ -1,5 +1,5 @@
 -- Words without a blank.
-use Rattle.std.proofs.Common.{◌≡◌, ℕ, ◌<◌, ◌^◌, true, false, ℤ, pos, negsuc, suc, List, [], ◌∷◌, ◌++◌, length, refl, sym, ap, ◌∙◌, subst, inl, inr, IsTrue, codes, arith, length-append}
+use Rattle.std.proofs.Common.{◌≡◌, ℕ, ◌/◌, ◌<◌, ◌^◌, true, false, ℤ, pos, negsuc, suc, List, [], ◌∷◌, ◌++◌, length, refl, sym, ap, ◌∙◌, subst, inl, inr, IsTrue, codes, arith, length-append}
 use Rattle.std.specs.Char.{is_ascii_digit}
 use Rattle.std.specs.Fmt.{decimal, signed_decimal}
 use Rattle.std.specs.List.{AllByRecursion, flat_map, join_with_byte}
@@ -17,6 +17,8 @@ use Rattle.eu_name.specs.Word.{IsName, is_word_start, is_word_byte}
 use Rattle.eu_name.proofs.Fronts.{Passes}
 use Rattle.eu_name.proofs.Numbers.{own}
 use Rattle.model_core.specs.Naming.{IsObjectName}
+use Rattle.plan_text.specs.Values.{three_digits, thousandths_text, decimal_text}
+use Rattle.plan_text.proofs.Decimals.{three_pass}
 use Rattle.script_lang.specs.Words.{is_separator, words_of}
 use Rattle.script_lang.proofs.Parts.{runs_are_words, blanks_separate}
 
@@ -121,6 +123,17 @@ number_whole (pos n) is =
 number_whole (negsuc n) is =
     let small : suc n < 2 ^ 64 = omega (arith, ints, is) in
     (omega arith, (refl, of_decimal (suc n) small))
+
+of_thousandths : (n : ℕ) → n < 2 ^ 64 → IsWhole (thousandths_text n)
+of_thousandths n small = (
+  omega (arith, length-append (decimal (n / 1000)) (46 ∷ three_digits n)),
+  both (decimal (n / 1000)) (46 ∷ three_digits n) (of_decimal (n / 1000) (omega arith)) (refl, of_digits (three_digits n) (three_pass n)),
+)
+
+-- a decimal
+pub decimal_whole : (value : ℤ) → IsValue value → IsWhole (decimal_text value)
+decimal_whole (pos n) is = of_thousandths n (omega (arith, ints, is))
+decimal_whole (negsuc n) is = (omega arith, (refl, (of_thousandths (suc n) (omega (arith, ints, is))).1))
 
 -- ---- lines
 

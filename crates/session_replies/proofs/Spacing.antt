@@ -1,7 +1,6 @@
 -- Domains as they are written.
 use Rattle.std.proofs.Common.{◌≡◌, ℕ, ℤ, ◌+◌, ◌<◌, ◌≤◌, List, [], ◌∷◌, ◌++◌, length, take, get_or, Result, Ok, Err, refl, sym, ap, ◌∙◌, subst, append_assoc, length-take, codes, arith}
 use Rattle.std.specs.Prelude.{OnOk}
-use Rattle.std.specs.Fmt.{signed_decimal}
 use Rattle.std.specs.List.{AllZip, flat_map}
 use Rattle.std.proofs.lemmas.Grind.{flat_map-append}
 use Rattle.std.proofs.lemmas.List.{append-nil, take_more, take_all}
@@ -17,7 +16,7 @@ use Rattle.model_core.proofs.WellFormed.{variable_text_well_formed}
 use Rattle.plan_text.specs.Values.{IsValueText}
 use Rattle.plan_values.proofs.Valuing.{zip_length}
 use Rattle.script_lang.specs.Naming.{IsVariableOfKind}
-use Rattle.session_replies.specs.Lines.{spaced, IsVariableWord, IsDomainText, IsDomainLine}
+use Rattle.session_replies.specs.Lines.{spaced, printed_number, IsVariableWord, IsDomainText, IsDomainLine}
 use Rattle.session_replies.specs.Written.{WritesBehind, WritesLine, WritesMembers}
 use Rattle.session_replies.proofs.Lining.{zip_push}
 
@@ -85,25 +84,25 @@ module _ (model : Model) (kind : ValueKind) where
   set_put domain old opened filled new (Err e) set begun written close = tt
 
   pub range_is : {A E : Type 0} (domain : Domain) (old new : List ℕ) (r : Result A E) → IsRange domain
-      → OnOk r (new ≡ old ++ (codes " [" ++ (signed_decimal (least domain) ++ (codes " " ++ (signed_decimal (greatest domain) ++ codes "]")))))
+      → OnOk r (new ≡ old ++ (codes " [" ++ (printed_number kind (least domain) ++ (codes " " ++ (printed_number kind (greatest domain) ++ codes "]")))))
       → OnOk r (WritesBehind (codes " ") (IsDomainText model kind domain) old new)
-  range_is (Range lo hi) old new (Ok x) range put = (codes "[" ++ (signed_decimal lo ++ (codes " " ++ (signed_decimal hi ++ codes "]"))), (refl, put))
+  range_is (Range lo hi) old new (Ok x) range put = (codes "[" ++ (printed_number kind lo ++ (codes " " ++ (printed_number kind hi ++ codes "]"))), (refl, put))
   range_is (Set members) old new (Ok x) range put = absurd range
   range_is domain old new (Err e) range put = tt
 
 -- the ends in brackets
-pub range_put : {A E : Type 0} (domain : Domain) (lo hi : ℤ) (old low high new : List ℕ) (r : Result A E) → lo ≡ least domain → hi ≡ greatest domain
-    → low ≡ old ++ (codes " [" ++ signed_decimal lo) → high ≡ low ++ (codes " " ++ signed_decimal hi) → OnOk r (new ≡ high ++ codes "]")
-    → OnOk r (new ≡ old ++ (codes " [" ++ (signed_decimal (least domain) ++ (codes " " ++ (signed_decimal (greatest domain) ++ codes "]")))))
-range_put domain lo hi old low high new (Ok x) is_low is_high first second third =
-    third ∙ (ap (λ (bytes : List ℕ). bytes ++ codes "]") (second ∙ ap (λ (bytes : List ℕ). bytes ++ (codes " " ++ signed_decimal hi)) first)
-    ∙ (append_assoc (old ++ (codes " [" ++ signed_decimal lo)) (codes " " ++ signed_decimal hi) (codes "]")
-    ∙ (append_assoc old (codes " [" ++ signed_decimal lo) ((codes " " ++ signed_decimal hi) ++ codes "]")
-    ∙ (ap (λ (bytes : List ℕ). old ++ bytes) (append_assoc (codes " [") (signed_decimal lo) ((codes " " ++ signed_decimal hi) ++ codes "]"))
-    ∙ (ap (λ (bytes : List ℕ). old ++ (codes " [" ++ (signed_decimal lo ++ bytes))) (append_assoc (codes " ") (signed_decimal hi) (codes "]"))
-    ∙ (ap (λ (v : ℤ). old ++ (codes " [" ++ (signed_decimal v ++ (codes " " ++ (signed_decimal hi ++ codes "]"))))) is_low
-    ∙ ap (λ (v : ℤ). old ++ (codes " [" ++ (signed_decimal (least domain) ++ (codes " " ++ (signed_decimal v ++ codes "]"))))) is_high))))))
-range_put domain lo hi old low high new (Err e) is_low is_high first second third = tt
+pub range_put : {A E : Type 0} (kind : ValueKind) (domain : Domain) (lo hi : ℤ) (old low high new : List ℕ) (r : Result A E) → lo ≡ least domain → hi ≡ greatest domain
+    → low ≡ old ++ (codes " [" ++ printed_number kind lo) → high ≡ low ++ (codes " " ++ printed_number kind hi) → OnOk r (new ≡ high ++ codes "]")
+    → OnOk r (new ≡ old ++ (codes " [" ++ (printed_number kind (least domain) ++ (codes " " ++ (printed_number kind (greatest domain) ++ codes "]")))))
+range_put kind domain lo hi old low high new (Ok x) is_low is_high first second third =
+    third ∙ (ap (λ (bytes : List ℕ). bytes ++ codes "]") (second ∙ ap (λ (bytes : List ℕ). bytes ++ (codes " " ++ printed_number kind hi)) first)
+    ∙ (append_assoc (old ++ (codes " [" ++ printed_number kind lo)) (codes " " ++ printed_number kind hi) (codes "]")
+    ∙ (append_assoc old (codes " [" ++ printed_number kind lo) ((codes " " ++ printed_number kind hi) ++ codes "]")
+    ∙ (ap (λ (bytes : List ℕ). old ++ bytes) (append_assoc (codes " [") (printed_number kind lo) ((codes " " ++ printed_number kind hi) ++ codes "]"))
+    ∙ (ap (λ (bytes : List ℕ). old ++ (codes " [" ++ (printed_number kind lo ++ bytes))) (append_assoc (codes " ") (printed_number kind hi) (codes "]"))
+    ∙ (ap (λ (v : ℤ). old ++ (codes " [" ++ (printed_number kind v ++ (codes " " ++ (printed_number kind hi ++ codes "]"))))) is_low
+    ∙ ap (λ (v : ℤ). old ++ (codes " [" ++ (printed_number kind (least domain) ++ (codes " " ++ (printed_number kind v ++ codes "]"))))) is_high))))))
+range_put kind domain lo hi old low high new (Err e) is_low is_high first second third = tt
 
 -- a text that names the variable, as a word
 pub variable_word : (model : Model) (name : VarName) (text : NameText) → IsLawful model → NamesVariable model text name → IsVariableWord model name (name_spelling text)

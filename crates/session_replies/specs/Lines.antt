@@ -14,6 +14,7 @@ use Rattle.model_core.specs.declared.decision.Decision.TheVariants.{Specify, Act
 use Rattle.model_core.specs.declared.model.Model.{Model}
 use Rattle.model_core.specs.declared.rule.Slot.{Slot}
 use Rattle.model_core.specs.declared.variable.ValueKind.{ValueKind}
+use Rattle.model_core.specs.declared.variable.ValueKind.TheVariants as kinds
 use Rattle.model_core.specs.declared.view.TokenState.{TokenState}
 use Rattle.model_core.specs.declared.view.TokenState.TheVariants as standing
 use Rattle.model_core.specs.Names.{NamesToken, NamesVariable}
@@ -21,7 +22,7 @@ use Rattle.model_core.specs.State.{State}
 use Rattle.model_core.specs.Tokens.{HasToken}
 use Rattle.model_core.specs.TokenStates.{HasTokenState}
 use Rattle.plan_text.specs.Subjects.{IsPredicateText}
-use Rattle.plan_text.specs.Values.{IsValueText}
+use Rattle.plan_text.specs.Values.{IsValueText, decimal_text}
 use Rattle.db_edges.specs.declared.edge.NamedEdge.{NamedEdge}
 use Rattle.db_edges.specs.declared.edge.Point.{Point}
 use Rattle.db_edges.specs.declared.edge.Point.TheVariants as points
@@ -56,10 +57,15 @@ abbrev pub spaced : List (List ℕ) → List ℕ
 spaced [] = []
 spaced (word ∷ words) = word ++ flat_map (λ next. codes " " ++ next) words
 
+-- how a number of the kind is printed: thousandths as a decimal
+abbrev pub printed_number : ValueKind → ℤ → List ℕ
+printed_number kinds.Float value = decimal_text value
+printed_number kind value = signed_decimal value
+
 -- a range is printed by its ends, and a set by its members, as values of the kind
 abbrev pub IsDomainText : Model → ValueKind → Domain → List ℕ → Type 0
 IsDomainText model kind (Range lo hi) text =
-    text ≡ codes "[" ++ (signed_decimal lo ++ (codes " " ++ (signed_decimal hi ++ codes "]")))
+    text ≡ codes "[" ++ (printed_number kind lo ++ (codes " " ++ (printed_number kind hi ++ codes "]")))
 IsDomainText model kind (Set members) text =
     (words : List (List ℕ)) × (AllZip (IsValueText model kind) members words
     × (text ≡ codes "{" ++ (spaced words ++ codes "}")))

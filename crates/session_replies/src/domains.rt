@@ -1,13 +1,12 @@
 //! The lines of variables with their domains.
 
 ghost use Rattle.std.specs.Prelude.{◌≡◌, ◌++◌, ◌<◌, List, ℤ, [], OnOk, codes};
-ghost use Rattle.std.specs.Fmt.{signed_decimal};
 ghost use Rattle.domain_core.specs.Domain.{Set, Has, IsNth, IsRange, count_of, greatest, least};
 ghost use Rattle.model_core.specs.declared.variable.Base.{Base};
 ghost use Rattle.model_core.specs.Kinds.{IsValueOf};
 ghost use Rattle.model_core.specs.Lawful.{IsLawful};
 ghost use Rattle.model_core.specs.Variables.{HasBase, IsInBase};
-ghost use Rattle.session_replies.specs.Lines.{IsDomainLine, IsDomainText};
+ghost use Rattle.session_replies.specs.Lines.{IsDomainLine, IsDomainText, printed_number};
 ghost use Rattle.session_replies.specs.Written.{WritesBehind, WritesLine, WritesMembers};
 
 use super::counting::{put_line_feed, put_text};
@@ -15,7 +14,7 @@ use domain_core::domain::Dom;
 use eu_name::name::VarName;
 use model_core::model::Model;
 use model_core::variable::ValueKind;
-use plan_text::writing::{put_number, put_shown, put_variable};
+use plan_text::writing::{put_decimal, put_number, put_shown, put_variable};
 use script_lang::kind_of;
 use std::alloc::{AllocError, Global};
 
@@ -73,13 +72,28 @@ fn put_set(
     put_text(out, b"}")
 }
 
-// The ends of the range in brackets, behind a space.
-fn put_range(out: &mut Vec<u8>, domain: &Dom) -> Result<(), AllocError>
-    ensures { OnOk result (out.new.items ≡ out.old.items
-        ++ (codes " [" ++ (signed_decimal (least domain.now) ++ (codes " " ++ (signed_decimal (greatest domain.now) ++ codes "]"))))) }
+// The number of the kind, behind the gap.
+fn put_printed_number(
+    out: &mut Vec<u8>,
+    gap: &[u8],
+    kind: ValueKind,
+    value: i32,
+) -> Result<(), AllocError>
+    ensures { OnOk result (out.new.items ≡ out.old.items ++ (gap.now ++ printed_number kind value)) }
 {
-    put_number(out, b" [", domain.lo())?;
-    put_number(out, b" ", domain.hi())?;
+    match kind {
+        ValueKind::Float => put_decimal(out, gap, value),
+        _ => put_number(out, gap, value),
+    }
+}
+
+// The ends of the range in brackets, behind a space.
+fn put_range(out: &mut Vec<u8>, kind: ValueKind, domain: &Dom) -> Result<(), AllocError>
+    ensures { OnOk result (out.new.items ≡ out.old.items ++ (codes " [" ++ (printed_number kind (least domain.now)
+        ++ (codes " " ++ (printed_number kind (greatest domain.now) ++ codes "]"))))) }
+{
+    put_printed_number(out, b" [", kind, domain.lo())?;
+    put_printed_number(out, b" ", kind, domain.hi())?;
     put_text(out, b"]")
 }
 
@@ -95,7 +109,7 @@ fn put_domain(
     ensures { OnOk result (WritesBehind (codes " ") (IsDomainText model.now kind domain.now) out.old.items out.new.items) }
 {
     if domain.is_range() {
-        put_range(out, domain)
+        put_range(out, kind, domain)
     } else {
         put_set(out, model, kind, domain)
     }
