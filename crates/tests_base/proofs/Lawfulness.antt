@@ -51,7 +51,7 @@ lawful_ranged : (name : List ℕ) (greatest : ℕ) → greatest ≤ 1000000 → 
 lawful_ranged name greatest small = record {
   kind = tt;
   base = ((omega (arith, ints), omega (arith, ints)), (omega (arith, ints), omega (arith, ints, small)), omega (arith, ints));
-  inside = record { values = λ value has. (omega (arith, ints, has), omega (arith, ints, small, has)); range = λ is_range. refl };
+  inside = record { values = λ value has. (omega (arith, ints, has), omega (arith, ints, small, has)); range = λ is_range. tt };
 }
 
 only_domain : IsDomain spirit_alone

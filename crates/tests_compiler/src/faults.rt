@@ -5,9 +5,13 @@ use super::rows::assert_rows;
 
 // A text, and maybe that of the file `q`.
 const FIRST: &str = "
-eq(1.5, 1); float f; | Float m 12
-class A { A(float n) { } } | Float m 12
-int [0.5 3] x; | Float m 5
+int [0.5 3] x; | WrongType m 5
+float {0.5, 2000} f; | NotInDomain m 12
+float [0 2000] f; | NotInDomain m 9
+float [1 0.5] f; | NotInDomain m 6
+typedef float [0 2.5] T; T [1 3] x; | NotInDomain m 27
+typedef float [0 2.5] T; T {1, 2.501} x; | NotInDomain m 31
+int {1, 1.5} x; | WrongType m 8
 x y; | Unknown m 0
 PlannerConfig p; | Unknown m 0
 class A { predicate P { int v; B w; } } | Unknown m 31
@@ -66,7 +70,7 @@ A {q} x; typedef A B; typedef B A; | Unknown m 3
 E [q 1] x; typedef string E; | Unknown m 3
 E [true false] x; typedef string E; | WrongType m 26
 E {1, true, 1} x; typedef q E; | Unknown m 26
-class C { E [1 0.5] x; } typedef string E; | Float m 15
+class C { E [1 0.5] x; } typedef string E; | WrongType m 33
 class C { predicate P { E {q} v; } } typedef T E; typedef E T; | Unknown m 27
 class C { C(E {q} n) { } } typedef string E; | Unknown m 15
 class B extends A { bool k; } class A extends q { int k; } | Twice m 25

@@ -22,7 +22,34 @@ typedef int T; int x; eq(x, T); | Unknown m 28
 class N { predicate P { int v; } } N n = new N(); goal(n.P g); leq(g.w, g.v); | Unknown m 69
 class A { } class B extends A { int k; B() { k = 1; } } A x = new B(); eq(x.k, 1); | Unknown m 76
 class N { predicate P { } } N n = new N(); goal(n.P g); leq(g.start, start); | Unknown m 69
-int x; eq(x, 1.5); eq(q, 1); | Float m 13
+int x; eq(x, 1.5); eq(q, 1); | WrongType m 10
+eq(1.5, 1); float f; f.specify(2); | fine
+class A { float f; A(float n) { f = n; } } A a = new A(1000); A b = new A(-0.5); | fine
+float f; int i; eq(i, f); | WrongType m 19
+float f; int i; bool b; testLEQ(b, i, f); | WrongType m 35
+bool b; float f; eq(b, f); | WrongType m 20
+float f; mulEq(f, 1.5, f); | WrongType m 18
+float f; mulEq(f, 2, f); addEq(f, 1, 0.5); leq(-1000, f); lt(f, inf); allDiff(f, 1, 2.5); | fine
+int x; int y; addEq(x, y, 1.5); | WrongType m 20
+int x; int y; mulEq(x, 2, 1.5); | WrongType m 20
+float f = 2000; | NotInDomain m 10
+float f; f.specify(1001); | NotInDomain m 19
+float f; eq(f, -1001); | NotInDomain m 15
+typedef float T; int i; T x = i; | WrongType m 30
+int x = 1.0; | WrongType m 8
+int x; x.specify(1.0); | WrongType m 17
+class A { float f; A(int n) { f = n; } } | WrongType m 34
+class A { float f; A(float v) { f = v; } } class B extends A { B() { super(1001); } } | NotInDomain m 75
+class A { float f; A(float v) { f = v; } } A a = new A(1001); | NotInDomain m 55
+class A { float f; A(float v) { f = v; } } A a = new A(true); | WrongType m 55
+class A { float [0 1] f; A(float v) { f = v; } } A a = new A(2); | NotInDomain m 59
+class T extends Reusable { T() { super(1.5); } } | WrongType m 39
+PlannerConfig p = new PlannerConfig(0, 10.0, 5); | WrongType m 39
+class N { predicate P { eq(duration, 1.5); } } | WrongType m 27
+class N { predicate P { float v; } } N::P { int k; if (v == k) { } } | WrongType m 60
+class N { predicate P { float v; } } N::P { if (v != 1001) { } } | NotInDomain m 53
+class N { predicate P { float v; } } N::P { float {1, 2000} w; } | NotInDomain m 54
+class N { predicate P { float v; } } N::P { int w = 0.5; } | WrongType m 52
 class A { int k; A(int n) { k = n; } } A a = new A(3); A x; int y; eq(x.k, a.k); leq(y, x.k); | fine
 class R { predicate P { } } R::P { foreach (o in R) { R {o} x; } } R r = new R(); | fine
 class R { predicate P { } } R::P { foreach (r in R) { R {r} x; } } R r = new R(); R s = new R(); goal(r.P g); | fine

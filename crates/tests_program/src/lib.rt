@@ -9,6 +9,8 @@ mod checks;
 #[cfg(test)]
 mod costs;
 #[cfg(test)]
+mod decimals;
+#[cfg(test)]
 mod faults;
 #[cfg(test)]
 mod fronts;

@@ -120,9 +120,21 @@ text Syntax m.nddl 5
 
 == 3 script m.nddl
 -- m.nddl
-float f;
+float f; int i; eq(f, i);
 -- output
-text Float m.nddl 0
+text WrongType m.nddl 22
+
+== 3 script m.nddl
+-- m.nddl
+float [0 1.2345] f;
+-- output
+text OutOfRange m.nddl 9
+
+== 3 script m.nddl
+-- m.nddl
+int [0 1.5] x;
+-- output
+text WrongType m.nddl 7
 
 == 3 script m.nddl
 -- m.nddl

@@ -152,11 +152,15 @@ then_entry (suc zero) what stands =
       subst (IsLawfulEntry mission 0 mission_rule then_path) is (
         (
           refl,
-          All-from_recursion (IsOfKind mission (OfRule 0 mission_rule) kinds.Int) (terms.Local 0 ∷ terms.Slot 1 (Param 0) ∷ []) (
-            (span_variable [] 9, refl, refl),
-            (
-              (record { pred = 1; object = Given (alone_on 2) }, refl, (span_variable (codes "quantity") 1000000, record { predicate = mission_act 1 (codes "uses") Uses; is_predicate = refl; declared = refl }, refl)),
-              tt,
+          (
+            kinds.Int,
+            tt,
+            All-from_recursion (IsOfKind mission (OfRule 0 mission_rule) kinds.Int) (terms.Local 0 ∷ terms.Slot 1 (Param 0) ∷ []) (
+              (span_variable [] 9, refl, refl),
+              (
+                (record { pred = 1; object = Given (alone_on 2) }, refl, (span_variable (codes "quantity") 1000000, record { predicate = mission_act 1 (codes "uses") Uses; is_predicate = refl; declared = refl }, refl)),
+                tt,
+              ),
             ),
           ),
         ),
@@ -363,17 +367,25 @@ lawful_items : All (IsLawfulItem mission OfProblem) mission_items
 lawful_items = All-from_recursion (IsLawfulItem mission OfProblem) mission_items (
   (
     refl,
-    All-from_recursion (IsOfKind mission OfProblem kinds.Int) (terms.Global 0 ∷ terms.Lit (pos 5) ∷ []) (
-      (span_variable (codes "total") 10, refl, refl),
-      ((omega (arith, ints), omega (arith, ints)), tt),
+    (
+      kinds.Int,
+      tt,
+      All-from_recursion (IsOfKind mission OfProblem kinds.Int) (terms.Global 0 ∷ terms.Lit (pos 5) ∷ []) (
+        (span_variable (codes "total") 10, refl, refl),
+        ((omega (arith, ints), omega (arith, ints)), tt),
+      ),
     ),
   ),
   (
     (
       refl,
-      All-from_recursion (IsOfKind mission OfProblem kinds.Int) (terms.Root 3 Start ∷ terms.Root 2 Start ∷ []) (
-        (root_on (codes "drill") Rejectable 1 2, refl, refl),
-        ((root_on (codes "there") Rejectable 0 1, refl, refl), tt),
+      (
+        kinds.Int,
+        tt,
+        All-from_recursion (IsOfKind mission OfProblem kinds.Int) (terms.Root 3 Start ∷ terms.Root 2 Start ∷ []) (
+          (root_on (codes "drill") Rejectable 1 2, refl, refl),
+          ((root_on (codes "there") Rejectable 0 1, refl, refl), tt),
+        ),
       ),
     ),
     tt,

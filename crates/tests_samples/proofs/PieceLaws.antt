@@ -56,7 +56,7 @@ pub lawful_span : (model : Model) (name : List ℕ) (greatest : ℕ) → greates
 lawful_span model name greatest small = record {
   kind = tt;
   base = ((omega (arith, ints), omega (arith, ints)), (omega (arith, ints), omega (arith, ints, small)), omega (arith, ints));
-  inside = record { values = λ value has. (omega (arith, ints, has), omega (arith, ints, small, has)); range = λ is_range. refl };
+  inside = record { values = λ value has. (omega (arith, ints, has), omega (arith, ints, small, has)); range = λ is_range. tt };
 }
 
 pub class_is : (model : Model) (number : ℕ) (name : List ℕ) → is_plain name ≡ true → IsLawfulClass model number (bare_class name)

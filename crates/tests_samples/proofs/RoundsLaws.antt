@@ -149,9 +149,13 @@ lawful_items : All (IsLawfulItem rounds OfProblem) rounds.problem.items
 lawful_items = All-from_recursion (IsLawfulItem rounds OfProblem) rounds.problem.items (
   (
     refl,
-    All-from_recursion (IsOfKind rounds OfProblem kinds.Int) (terms.Global 0 ∷ terms.Global 1 ∷ []) (
-      (span_variable (codes "x") 10, refl, refl),
-      ((span_variable (codes "y") 10, refl, refl), tt),
+    (
+      kinds.Int,
+      tt,
+      All-from_recursion (IsOfKind rounds OfProblem kinds.Int) (terms.Global 0 ∷ terms.Global 1 ∷ []) (
+        (span_variable (codes "x") 10, refl, refl),
+        ((span_variable (codes "y") 10, refl, refl), tt),
+      ),
     ),
   ),
   tt,

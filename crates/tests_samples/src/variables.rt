@@ -8,6 +8,7 @@ use model_core::variable::{Base, ValueKind, VarDecl};
 fn tell_kind(kind: ValueKind, lines: &mut Lines) {
     match kind {
         ValueKind::Int => lines.say("int"),
+        ValueKind::Float => lines.say("float"),
         ValueKind::Bool => lines.say("bool"),
         ValueKind::Enum(number) => lines.numbered("enum ", number),
         ValueKind::Object => lines.say("object"),
