@@ -10,11 +10,14 @@ FORM, VERSION = "europa plan", 1
 TRUTHS = {"true": True, "false": False}
 
 
-def value(text: str) -> Union[int, bool, str]:
-    """A value of a plan: a number, a truth, or a name."""
+def value(text: str) -> Union[int, float, bool, str]:
+    """A value of a plan: a number, a decimal, a truth, or a name. A decimal is one of JSON, whose spelling is its own."""
     if text in TRUTHS:
         return TRUTHS[text]
-    return int(text) if text.lstrip("-").isdecimal() else text
+    digits = text.lstrip("-")
+    if digits.isdecimal():
+        return int(text)
+    return float(text) if digits.replace(".", "", 1).isdecimal() else text
 
 
 def verdict(checked: Checked) -> Dict[str, Any]:

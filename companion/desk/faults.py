@@ -9,7 +9,7 @@ import re
 from dataclasses import dataclass
 from typing import Callable, Dict, List, Optional
 
-from .lexemes import Lexeme, lexemes
+from .lexemes import Lexeme, lexemes, number_value
 from .plain import plain
 from .sources import Source, Sources, file_name, readable
 from .words import (CONSTRAINTS, OBJECT, PARTS, POSTS, RELATIONS, RESERVED, RESERVOIR, REUSABLE, SETTINGS, TIMELINE)
@@ -93,12 +93,6 @@ def missing_file(spot: Spot) -> str:
            "since a file is looked for from the folder of the call"
 
 
-def float_there(spot: Spot) -> str:
-    if spot.text == "float":
-        return "`float` has no meaning yet: use `int`"
-    return f"the decimal {spot.name} has no meaning yet: use whole numbers"
-
-
 def unknown(spot: Spot) -> str:
     return f"there is nothing of the name {spot.name} here{like(spot)}"
 
@@ -121,6 +115,8 @@ def wrong_type(spot: Spot) -> str:
         return "nothing can be of the type `string`"
     if spot.text == "new":
         return "`new` can't stand here, where no object is made"
+    if spot.here and spot.here.kind == "decimal":
+        return f"the decimal {spot.name} can't stand here: only variables of type `float` have decimals"
     return f"{spot.name} is of another kind than is wanted here"
 
 
@@ -139,7 +135,15 @@ def not_in_domain(spot: Spot) -> str:
     if spot.behind_new:
         return f"what {spot.name} is made with doesn't fit: an object of another class, a value outside of a field's " \
                "type, a capacity below 0, a level outside of its limits, or a horizon or steps out of range"
+    if stands_for_no_decimal(spot):
+        return f"{spot.name} lies outside of the type, or stands where a decimal is wanted, which is at most 1,000"
     return f"{spot.name} lies outside of the type"
+
+
+def stands_for_no_decimal(spot: Spot) -> bool:
+    """Whether it is a number beyond the decimals."""
+    number = number_value(spot.text) if spot.here and spot.here.kind == "number" else None
+    return number is not None and abs(number) > 1000 * 1000
 
 
 def not_admissible(spot: Spot) -> str:
@@ -157,7 +161,6 @@ KINDS: Dict[str, Callable[[Spot], str]] = {
     "Limit:files": lambda spot: "this would be the 65th file, and there may be 64",
     "Limit:depth": lambda spot: "this file is included 9 deep, and includes may be 8 deep",
     "Limit:nesting": lambda spot: "this block is nested 17 deep, and blocks may be 16 deep",
-    "Float": float_there,
     "Unknown": unknown,
     "Twice": twice,
     "WrongType": wrong_type,

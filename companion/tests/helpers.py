@@ -12,7 +12,7 @@ COMPANION = os.path.dirname(os.path.dirname(os.path.realpath(__file__)))
 TOP = os.path.dirname(COMPANION)
 DESK = os.path.join(TOP, "desk")
 EXAMPLES = os.path.join(TOP, "examples")
-NAMES = ("crew", "first", "ordered", "rover", "satellite")
+NAMES = ("crew", "first", "ordered", "rover", "satellite", "telescope")
 BUILT = os.path.join(TOP, "out", "europa")
 EUROPA = os.environ.get("EUROPA") or (BUILT if os.path.exists(BUILT) else "")
 

@@ -23,7 +23,6 @@ TEXTS = {
     "Syntax": ("int int x;", 1, 5, "`int` can't stand here behind `int`"),
     "Absent": ('#include "gone.nddl"\n', 1, 1, "there is no file `gone.nddl`"),
     "Limit:nesting": (RULES + DEEP, 2, 230, "nested 17 deep"),
-    "Float": ("int x;\nfloat y;", 2, 1, "`float` has no meaning yet"),
     "Unknown": ("class Rover { }\nRovr r;", 2, 1, "nothing of the name `Rovr` here; is `Rover` meant?"),
     "Twice": ("int x;\nint x;", 2, 5, "`x` is declared already"),
     "WrongType": ("int x;\neq(x, true);", 2, 7, "`true` is of another kind"),
@@ -112,7 +111,8 @@ class Faults(InFolder):
                            ("class A { predicate P { } }\ngoal(A.P g);", "could have no object"),
                            ("class A extends Reusable { A(int n) { super(n); } }\nA a = new A(-1);", "capacity below 0"),
                            ("class A { }\nA a = new A(1);", "made with too many"), ("int {1 2} x;", "can't stand here"),
-                           ("int [0 5] x;\nx.specify(9);", "this decision is refused"), ("int x = 1.5;", "decimal")):
+                           ("int [0 5] x;\nx.specify(9);", "this decision is refused"), ("int x = 1.5;", "the decimal `1.5` can't stand here"),
+                           ("float f;\neq(f, 1001);", "which is at most 1,000")):
             with self.subTest(text):
                 self.assertIn(part, self.explained(self.put("m.nddl", text))[0])
 

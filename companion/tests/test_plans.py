@@ -62,6 +62,13 @@ BROKEN = {
 }
 
 
+def spelled(value: object) -> str:
+    """A value of the JSON as a plan has it."""
+    if isinstance(value, bool):
+        return str(value).lower()
+    return f"{value:.3f}" if isinstance(value, float) else str(value)
+
+
 class Sentences(unittest.TestCase):
     def test_each_clause_has_a_sentence_and_is_tried(self) -> None:
         words = table_words("PLANS.md", "A plan is valid if it keeps ten clauses:")
@@ -207,19 +214,18 @@ class Examples(InFolder):
 
     def document(self, found: dict, plan: str) -> None:
         """The lines of the plan can be written again from its JSON."""
-        lines = [f"global {name} {value}" for name, value in found["globals"].items()]
+        lines = [f"global {name} {spelled(value)}" for name, value in found["globals"].items()]
         for token in found["tokens"]:
             if token["state"] == "merged":
                 lines.append(f"merged {token['name']} {token['target']}")
             elif token["state"] == "rejected":
                 lines.append(f"rejected {token['name']}")
             else:
-                values = "".join(f" {name} {str(value).lower() if isinstance(value, bool) else value}"
-                                 for name, value in token["parameters"].items())
+                values = "".join(f" {name} {spelled(value)}" for name, value in token["parameters"].items())
                 lines.append(f"{token['state']} {token['name']} {token['class']}.{token['predicate']} start "
                              f"{token['start']} end {token['end']} duration {token['duration']} object "
                              f"{token['object']}{values}")
-                lines += [f"local {local['name']} {local['value']}" for local in token["locals"]]
+                lines += [f"local {local['name']} {spelled(local['value'])}" for local in token["locals"]]
         self.assertEqual(lines, plan.splitlines()[2:-1])
         self.assertEqual(found["visits"], int(plan.split()[1]))
         self.assertEqual(found["verdict"], {"valid": True})

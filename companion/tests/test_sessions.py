@@ -15,7 +15,7 @@ from desk.names import Kind
 from desk.steps import Steps, same_front
 from desk.europa import Reply
 
-from .helpers import DESK, InFolder, desk, environment, example, needs_europa, table_words
+from .helpers import DESK, NAMES, InFolder, desk, environment, example, needs_europa, table_words
 
 
 def session(name: str, *lines: str, words: "tuple[str, ...]" = ()) -> "list[str]":
@@ -57,7 +57,7 @@ class Parts(unittest.TestCase):
 @needs_europa
 class Sessions(InFolder):
     def test_the_scripts_of_the_examples(self) -> None:
-        for name in ("crew", "first", "ordered", "rover", "satellite"):
+        for name in NAMES:
             with self.subTest(name):
                 with open(os.path.join("..", "examples", f"{name}.script"), encoding="utf-8") as opened:
                     told = session(name, opened.read())

@@ -3,9 +3,10 @@ import re
 
 NUMBER = r"(?:0|[1-9][0-9]*)"
 SIGNED = r"(?:0|-?[1-9][0-9]*)"
+DECIMAL = rf"(?!-0\.000)-?{NUMBER}\.[0-9]{{3}}"
 WORD = r"[A-Za-z_][A-Za-z0-9_]*"
 OBJECT = rf"{WORD}(?:\.{WORD})*"
-VALUE = rf"(?:{SIGNED}|{OBJECT})"
+VALUE = rf"(?:{DECIMAL}|{SIGNED}|{OBJECT})"
 TOKEN = rf"{WORD}(?:/{NUMBER}:{NUMBER})*"
 LOCAL = rf"{TOKEN}/{NUMBER}!{NUMBER}"
 GLOBAL = rf"(?:{WORD}|!{NUMBER})"
@@ -33,7 +34,7 @@ USAGE = "usage: europa plan FILE [--steps N] [--tokens N] | script FILE | check 
 
 READING = ["BadByte", "OpenComment", "OutOfRange", "Syntax", "Absent", "Limit:bytes", "Limit:nesting"]
 LIMITS = "files depth rules guards slots locals items turns parameters members objects new roots facts globals"
-MEANING = ["Float", "Unknown", "Twice", "WrongType", "WrongCount", "NotInDomain", "Closed", "NotAdmissible", "AfterConflict"]
+MEANING = ["Unknown", "Twice", "WrongType", "WrongCount", "NotInDomain", "Closed", "NotAdmissible", "AfterConflict"]
 KINDS = READING + MEANING + [f"Limit:{word}" for word in LIMITS.split()]
 
 # The statuses that a command may have here, where writing goes well and there is memory.
@@ -169,14 +170,14 @@ FLAW = "|".join([
 # Of each command its words, what it may be refused for, whether it may be inconsistent, and what it may be answered else. Any
 # name is read where one is wanted; that it isn't a token's or a variable's is for the replies to say.
 COMMANDS = {
-    "specify": (rf"{NAME} (?:-?[0-9]+|{OBJECT})", "full inconsistent unknown decided not-in-domain not-active", True, "ok"),
+    "specify": (rf"{NAME} (?:-?[0-9]+(?:\.[0-9]{{1,3}})?|{OBJECT})", "full inconsistent unknown decided not-in-domain not-active", True, "ok"),
     "activate": (NAME, "full inconsistent unknown decided active-full", True, "ok"),
     "merge": (rf"{NAME} {NAME}", "full inconsistent unknown decided not-active not-same-predicate", True, "ok"),
     "reject": (NAME, "full inconsistent unknown decided not-rejectable", True, "ok"),
     "order": (rf"{NAME} {NAME}", "full inconsistent unknown decided not-active same", True, "ok"),
     "reset": (rf"{NAME}(?: {NAME})?", "full no-decision", True, "ok"),
     "undo": ("", "nothing", True, "ok"),
-    "domain": (NAME, "unknown", True, rf"{VARIABLE} (?:\[{SIGNED} {SIGNED}\]|\{{{VALUE}(?: {VALUE})*\}})"),
+    "domain": (NAME, "unknown", True, rf"{VARIABLE} (?:\[{SIGNED} {SIGNED}\]|\[{DECIMAL} {DECIMAL}\]|\{{{VALUE}(?: {VALUE})*\}})"),
     "tokens": ("", "", True, None),
     "decisions": ("", "", False, None),
     "flaws": ("", "", True, rf"flaw (?:{FLAW})"),

@@ -4,6 +4,7 @@
 thousand choices, something is put that is of any kind in place of what is wanted.
 """
 NUMBERS = ["-1000000", "-17", "-1", "0", "1", "2", "3", "5", "007", "+4", "12", "inf", "-inf", "1000000", "1000001"]
+DECIMALS = ["-1000.000", "-0.125", "0.0", "0.25", "1.5", "007.5", "2", "3.125", "-1", "1000", "inf", "-inf", "1001", "1.2345"]
 RELATIONS = ["any", "before", "after", "meets", "met_by", "equals", "contains", "contained_by", "starts", "ends", "parallels",
              "paralleled_by", "starts_during", "contains_start", "ends_during", "contains_end"]
 PARTS = ["start", "end", "duration"]
@@ -80,18 +81,22 @@ class Problem:
         return [name for name in self.classes if name not in BUILT_IN]
 
     def any_kind(self):
-        kinds = ["int"] * 4 + ["bool"] * 2 + list(self.enums)
+        kinds = ["int"] * 4 + ["float", "bool"] * 2 + list(self.enums)
         return self.pick(kinds + [f"@{name}" for name in self.own_classes()])
 
     def type_of(self, kind):
         """The text of a type of this kind."""
         if self.slip():
-            return self.pick(["string", "float", "float [0.5 1.5]", "Nothing", "bool [0 1]", "int [5 1]", "int {}"])
+            return self.pick(["string", "int [0.5 1.5]", "float [0 2000]", "Nothing", "bool [0 1]", "int [5 1]", "int {}"])
         if kind == "int":
             low, high = sorted([self.random.randint(-3, 9), self.random.randint(-3, 9)])
             named = [name for name, of in self.typedefs.items() if of == kind]
             ranges = [f"int [{low} {high}]", f"int[{low}, +{abs(high) + 9}]", f"int {{{low}, {high}, 2}}"]
             return self.pick(["int"] + named + ranges)
+        if kind == "float":
+            least, greatest = sorted([self.random.randint(-8, 20), self.random.randint(-8, 20)])
+            named = [name for name, of in self.typedefs.items() if of == kind]
+            return self.pick(["float"] + named + [f"float [{least / 4} {greatest / 4}]", f"float{{{least / 4}, 1, 0.25}}"])
         named = [name for name, of in self.typedefs.items() if of == kind]
         plain = kind.lstrip("@")
         sets = [f"{kind} {{{', '.join(self.some_members(kind))}}}"] if kind in self.enums else []
@@ -111,6 +116,8 @@ class Problem:
             return str(self.random.randint(*SIZES[kind]))
         if kind == "int":
             return str(self.random.randint(0, 9)) if self.chance(85) else self.pick(NUMBERS[:14])
+        if kind == "float":
+            return self.pick(DECIMALS[3:10]) if self.chance(85) else self.pick(DECIMALS[:12])
         if kind == "bool":
             return self.pick(["true", "false"])
         if kind in self.enums:
@@ -155,7 +162,7 @@ class Problem:
         for number in self.some(2):
             self.add_enum(f"E{number}")
         for number in self.some(2):
-            kind = self.pick(["int", "int", "bool"] + list(self.enums))
+            kind = self.pick(["int", "int", "float", "bool"] + list(self.enums))
             self.lines.append(f"typedef {self.type_of(kind)} T{number};")
             self.typedefs[f"T{number}"] = kind
         for number in range(self.random.randint(1, 4)):
@@ -195,7 +202,7 @@ class Problem:
         self.classes[name] = it
         members = []
         for number in self.some(2):
-            kind = self.pick(["int", "int", "bool"] + list(self.enums) + [f"@{at}" for at in parents])
+            kind = self.pick(["int", "int", "float", "bool"] + list(self.enums) + [f"@{at}" for at in parents])
             it.fields.append((kind, f"f{name[1:]}{number}"))
             members.append(f"{kind.lstrip('@')} {it.fields[-1][1]};")
         for number in self.some(2):
@@ -363,7 +370,7 @@ class Problem:
     def constraint(self, entries):
         """A constraint over values that stand there."""
         name = self.pick(["eq", "neq", "allDiff", "lt", "leq", "leq", "addEq", "mulEq", "testEQ", "testLEQ"])
-        kind = "int" if name in ("lt", "leq", "addEq", "mulEq", "testLEQ") else self.any_kind()
+        kind = self.pick(["int", "int", "float"]) if name in ("lt", "leq", "addEq", "mulEq", "testLEQ") else self.any_kind()
         count = {"addEq": 3, "allDiff": self.random.randint(2, 4)}.get(name, 2)
         if self.slip():
             name, count = self.pick(["eq", "before", "leq", "like"]), self.random.randint(0, 4)
