@@ -15,19 +15,16 @@ use Rattle.nddl_ast.specs.declared.statement.Condition.{Condition}
 use Rattle.nddl_ast.specs.declared.statement.Condition.TheVariants as conditions
 use Rattle.nddl_ast.specs.Tree.{Statements, Nothing, Declares, Calls, Asks, Tests, Chooses, Repeats}
 use Rattle.nddl_hierarchy.specs.Facts.{Facts}
-use Rattle.nddl_resolve.specs.declared.denoted.Denoted.{Denoted}
-use Rattle.nddl_resolve.specs.declared.denoted.Denoted.TheVariants as denoted
-use Rattle.nddl_resolve.specs.Paths.{Surroundings}
 use Rattle.nddl_rule_check.specs.Blocks.{local_value, slot_value, turn_value}
-use Rattle.nddl_rule_check.specs.Seeing.{seeing_label, seeing_local, seeing_turn}
+use Rattle.nddl_rule_check.specs.Seeing.{seeing_turn}
 use Rattle.nddl_terms.specs.declared.tree.Meaning.{Meaning}
 use Rattle.nddl_terms.specs.declared.tree.ReadName.{ReadName}
 use Rattle.nddl_terms.specs.Names.{AreReadInOrder, name_read_at}
 use Rattle.nddl_rules.specs.declared.sight.Tally.{Tally}
-use Rattle.nddl_rules.specs.Blocks.{asks_slot, slot_if, tallied}
+use Rattle.nddl_rules.specs.Blocks.{asks_slot, tallied}
 use Rattle.nddl_rules.specs.Reads.{NameSources, front_meaning, read_at, scope_meaning}
 use Rattle.nddl_rules.specs.Sight.{Sight}
-use Rattle.nddl_rules.specs.Tally.{local_more, slot_more, turn_more}
+use Rattle.nddl_rules.specs.Tally.{turn_more}
 use Rattle.nddl_laws.specs.Lookups.{IsReadFor, Lookup, Outlook, asked_lookups, block_lookups, block_numbered, condition_lookups, expr_lookups, exprs_lookups, in_files, init_lookups, local_lookups, lookup_read, name_read, own_outlook, rule_lookups, rule_names, rule_numbered, sees_label, sees_local, sees_turn, type_lookups, unlabelled_if}
 use Rattle.nddl_laws.specs.Scoping.{Numbered, local_numbered, none_numbered, slot_numbered, sources_in, tally_of, turn_numbered}
 use Rattle.nddl_laws.proofs.Looking.{block_tally, local_tally, rule_alike, slot_tally, turn_tally, unlabelled_tally}

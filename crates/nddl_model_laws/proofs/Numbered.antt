@@ -1,21 +1,19 @@
 -- Sets of numbers of objects are lawful bases.
 use Rattle.std.proofs.Common.{◌≡◌, ℕ, zero, suc, ◌+◌, ◌<◌, ◌≤◌, Bool, true, false, List, [], ◌∷◌, ◌++◌, length, get_or, map, ℤ, pos, negsuc, refl, sym, subst, arith}
-use Rattle.std.specs.Prelude.{Option, Some, None, All, slice_get, int_lt, if◌then◌else◌}
+use Rattle.std.specs.Prelude.{Option, Some, None, All, slice_get, if◌then◌else◌}
 use Rattle.std.specs.List.{filter_map, cons_option}
 use Rattle.std.proofs.lemmas.Option.{same_Some, none-some}
-use Rattle.std.proofs.lemmas.Int.{ints}
 use Rattle.std.proofs.lemmas.List.{length-map}
-use Rattle.std.proofs.lemmas.List.Elements.{All-nil, All-cons, All-append, All-weaker, All-map, All-contains, Contains-get_or}
-use Rattle.domain_core.specs.Domain.{AreMembers, IsValue}
+use Rattle.std.proofs.lemmas.List.Elements.{All-nil, All-cons, All-append, All-weaker, All-map, All-contains}
+use Rattle.domain_core.specs.Domain.{IsValue}
 use Rattle.model_core.specs.declared.model.Model.{Model}
 use Rattle.model_core.specs.declared.variable.ValueKind.TheVariants as value_kinds
 use Rattle.model_core.specs.Kinds.{IsBaseOf, IsValueOf}
 use Rattle.model_core.specs.Lawful.{IsLawfulBase}
 use Rattle.nddl_symbols.specs.declared.scope.Meaning.{Meaning}
 use Rattle.nddl_hierarchy.specs.Facts.{Facts}
-use Rattle.nddl_declarations.specs.Ascending.{ascending_of, with_placed}
 use Rattle.nddl_declarations.specs.Domains.{numbers_base}
-use Rattle.nddl_declarations.proofs.Placing.{ascending_has, ascending_is}
+use Rattle.nddl_declarations.proofs.Placing.{ascending_has}
 use Rattle.nddl_constructors.specs.Creations.{is_of_class}
 use Rattle.nddl_construction.specs.declared.made.Datum.TheVariants as datums
 use Rattle.nddl_construction.specs.declared.made.MadeObject.{MadeObject}

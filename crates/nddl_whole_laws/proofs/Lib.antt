@@ -1,0 +1,10 @@
+pub mod Changing
+pub mod Leading
+pub mod Each
+pub mod Handing
+pub mod Setting
+pub mod Carrying
+pub mod Turns
+pub mod Levels
+pub mod Horizon
+pub mod Known
