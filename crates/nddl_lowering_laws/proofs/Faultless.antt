@@ -3,10 +3,13 @@ use Rattle.std.proofs.Common.{ℕ, ◌+◌, Bool, true, false, List, [], ◌∷�
 use Rattle.std.specs.Prelude.{Option, Some, None, All, slice_get, if◌then◌else◌}
 use Rattle.std.specs.Option.{option_and_then, option_map_or}
 use Rattle.std.proofs.lemmas.List.Elements.{All-append, All-cons, All-nil}
+use Rattle.domain_core.specs.declared.kind.Kind.{Kind}
+use Rattle.domain_core.specs.declared.kind.Kind.TheVariants as constraints
 use Rattle.eu_name.proofs.Members.{get_within}
 use Rattle.model_core.specs.declared.class.Object.{Object}
 use Rattle.model_core.specs.declared.item.Item.{Item}
 use Rattle.model_core.specs.declared.item.Item.TheVariants.{Constraint, Relation}
+use Rattle.model_core.specs.declared.item.Term.{Term}
 use Rattle.model_core.specs.declared.item.Term.TheVariants as terms
 use Rattle.model_core.specs.declared.model.Model.{Model}
 use Rattle.model_core.specs.declared.rule.Guard.{Guard}
@@ -15,7 +18,7 @@ use Rattle.model_core.specs.declared.rule.Rule.{Rule}
 use Rattle.model_core.specs.declared.rule.Turn.{Turn}
 use Rattle.model_core.specs.declared.variable.ValueKind.TheVariants as value_kinds
 use Rattle.model_core.specs.Blocks.{OfBranch, OfItem}
-use Rattle.model_core.specs.Kinds.{AreComparable, OfRule}
+use Rattle.model_core.specs.Kinds.{AreArguments, AreComparable, OfRule}
 use Rattle.model_core.specs.Lawful.{IsLawfulGuard, IsLawfulItem}
 use Rattle.model_core.specs.Standing.{IsTermSeen, StandsAt}
 use Rattle.nddl_ast.specs.declared.declaration.FileDecls.{FileDecls}
@@ -52,7 +55,8 @@ use Rattle.std.specs.List.{AllZip}
 use Rattle.nddl_rule_laws.specs.Grounds.{HasFineText, HasGround, of_body, of_rule}
 use Rattle.nddl_rule_laws.proofs.Grounds.{trees_have_grounds}
 use Rattle.nddl_rule_laws.proofs.Meanings.{trees_meant}
-use Rattle.nddl_lowering_laws.specs.Faultless.{FaultlessRulesAreLawful, HasFittingKinds, NamesWhatIsSeen, RulesNameWhatIsSeen, TreesAreScoped}
+use Rattle.nddl_lowering_laws.specs.Faultless.{FaultlessRulesAreLawful, HasFittingFields, NamesWhatIsSeen, RulesNameWhatIsSeen, TreesAreScoped}
+use Rattle.nddl_lowering_laws.specs.Fitting.{HasFittingArguments}
 use Rattle.nddl_lowering_laws.specs.Scoped.{AreApart, AreRead, HasFineCalls, local_places, slot_places}
 use Rattle.nddl_lowering_laws.specs.Seen.{IsOfFiles, IsScoped, sides_of}
 use Rattle.nddl_lowering_laws.specs.Whole.{HasLawfulKinds}
@@ -61,6 +65,7 @@ use Rattle.nddl_lowering_laws.proofs.Joining.{rules_lawful}
 use Rattle.nddl_lowering_laws.proofs.Reading.{names_found}
 use Rattle.nddl_lowering_laws.proofs.Relating.{blocks_fine, bodies_fine}
 use Rattle.nddl_lowering_laws.proofs.Sighted.{items_have_arities, relations_have_slots, terms_are_seen}
+use Rattle.nddl_lowering_laws.proofs.Trees.{arguments_fit}
 
 -- ---- names of the files
 
@@ -157,15 +162,21 @@ guard_lawful : (model : Model) (pred : ℕ) (rule : Rule) (path : List Turn) (gu
 guard_lawful model pred rule path (Equal left right) same seen = (same, seen)
 guard_lawful model pred rule path (Differ left right) same seen = (same, seen)
 
-module _ (model : Model) (pred : ℕ) (rule : Rule) (names : NamesWhatIsSeen rule) (fits : HasFittingKinds model pred rule) where
+module _ (model : Model) (pred : ℕ) (rule : Rule) (names : NamesWhatIsSeen rule) (fits : HasFittingArguments model pred rule)
+    (fields : HasFittingFields model pred rule) where
+  arguments_lawful : (path : List Turn) (place : ℕ) (kind : Kind) (some : List Term) → StandsAt rule.top path place (OfItem (Constraint kind some))
+      → AreArguments model (OfRule pred rule) kind some
+  arguments_lawful path place (constraints.Field number) some stands_there = fields.fields path place number some stands_there
+  arguments_lawful path place kind some stands_there = fits.arguments path place kind some tt stands_there
+
   item_lawful : (path : List Turn) (place : ℕ) (item : Item) → StandsAt rule.top path place (OfItem item) → IsLawfulItem model (OfRule pred rule) item
   item_lawful path place (Constraint kind some) stands_there =
-      (names.arities path place (Constraint kind some) stands_there, fits.arguments path place kind some stands_there)
+      (names.arities path place (Constraint kind some) stands_there, arguments_lawful path place kind some stands_there)
   item_lawful path place (Relation relation number) stands_there = get_within rule.slots number (names.related path place relation number stands_there)
 
   kinds_lawful : HasLawfulKinds model pred rule
   kinds_lawful = record {
-    locals = fits.locals;
+    locals = fields.locals;
     items = λ path place item stands_there. (item_lawful path place item stands_there, names.seen path place (OfItem item) stands_there);
     guards = λ path place guard first second stands_there.
         guard_lawful model pred rule path guard (fits.guards path place guard first second stands_there)
@@ -176,6 +187,7 @@ pub faultless_lawful : FaultlessRulesAreLawful
 faultless_lawful model files table trees world objects has =
     let lexicon = lexicon_of world in
     let seen = rules_seen files table trees world objects has.faultless in
+    let fits = arguments_fit model files table trees world objects has.faultless has.things in
     rules_lawful model table files trees lexicon objects (
     record {
       given = has.faultless.given;
@@ -185,6 +197,6 @@ faultless_lawful model files table trees world objects has =
       preds = has.preds;
       kinds = λ k d below.
           let tree = get_or trees k d in
-          kinds_lawful model tree.pred (tree_rule lexicon objects tree) (seen k d below) (has.kinds k d below);
+          kinds_lawful model tree.pred (tree_rule lexicon objects tree) (seen k d below) (fits k d below) (has.fields k d below);
     }
     )

@@ -45,7 +45,7 @@ use Rattle.nddl_lower.specs.Compared.{compared_terms, constraint_terms}
 use Rattle.nddl_lower.specs.Arguments.{argument, condition_guard, constraint_items, given_arguments, with_constraint, with_items}
 use Rattle.nddl_lower.specs.Calls.{with_ask, with_call, with_constraint_named, with_related, with_relation_to}
 use Rattle.nddl_lower.specs.Locals.{next_local, type_shape, with_begun, with_declared, with_named_at, with_text_local}
-use Rattle.nddl_lower.specs.Slots.{asked_labelled, asked_nothing, asked_of_owner, asked_path, object_items, pred_slot, wanted_of, with_asked, with_asked_at, with_relation, with_wanted_token}
+use Rattle.nddl_lower.specs.Slots.{asked_behind, asked_labelled, asked_nothing, asked_of_owner, asked_path, object_items, pred_slot, wanted_of, with_asked, with_asked_at, with_relation, with_wanted_token}
 use Rattle.nddl_unroll.specs.Blocks.{all_turns, back_in, filled_block, in_block, stand_turns, turn_of, unrolled}
 
 -- the files have a predicate of this number
@@ -62,6 +62,21 @@ pub record IsKept (lexicon : Lexicon) (Kept : Growth → Growth → Type 0) : Ty
   pub slot : (pred : ℕ) (growth : Growth) → HasShape lexicon pred → Kept growth (with_slot (pred_slot lexicon pred) growth)
   pub named : (at : ℕ) (stand : Stand) (growth : Growth) → Kept growth (with_named_at at stand growth)
   pub asked : (at : ℕ) (stand : Stand) (growth : Growth) → Kept growth (with_asked_at at stand growth)
+
+-- the same of the steps that only read
+pub record IsReadKept (Kept : Growth → Growth → Type 0) : Type 0 where
+  pub same : (growth : Growth) → Kept growth growth
+  pub join : (first second third : Growth) → Kept first second → Kept second third → Kept first third
+  pub access : (object : Term) (field : ℕ) (shape : Shape) (growth : Growth) → Kept growth (with_access object field shape growth)
+
+pub reads_kept : (lexicon : Lexicon) (Kept : Growth → Growth → Type 0) → IsKept lexicon Kept → IsReadKept Kept
+reads_kept lexicon Kept kept = record {
+  same = kept.same;
+  join = kept.join;
+  access = λ object field shape growth.
+      let declared = with_next_local (unnamed shape) growth in
+      kept.join growth declared (with_access object field shape growth) (kept.local shape growth) (kept.item (access object field growth) declared);
+}
 
 -- ---- predicates that are found
 
@@ -103,19 +118,14 @@ wanted_there lexicon (stands.Slot number of) name pred is = absurd (let never : 
 wanted_there lexicon (stands.Root number of) name pred is = absurd (let never : None ≡ Some pred = is in cc)
 wanted_there lexicon stands.Nothing name pred is = absurd (let never : None ≡ Some pred = is in cc)
 
-module _ (reading : Readings) (Kept : Growth → Growth → Type 0) (kept : IsKept reading.lexicon Kept) where
+module _ (reading : Readings) (Kept : Growth → Growth → Type 0) (kept : IsReadKept Kept) where
   -- ---- paths
-
-  access_kept : (object : Term) (field : ℕ) (shape : Shape) (growth : Growth) → Kept growth (with_access object field shape growth)
-  access_kept object field shape growth =
-      let declared = with_next_local (unnamed shape) growth in
-      kept.join growth declared (with_access object field shape growth) (kept.local shape growth) (kept.item (access object field growth) declared)
 
   attribute_kept : (object : Term) (number : ℕ) (growth : Growth) (found : Option Attribute)
       → Kept growth (option_map_or (λ attribute. reached (stands.Value (terms.Local (length growth.locals)) attribute.shape.kind attribute.shape.class)
       (with_access object number attribute.shape growth)) found (reached stands.Nothing growth)).growth
   attribute_kept object number growth None = kept.same growth
-  attribute_kept object number growth (Some attribute) = access_kept object number attribute.shape growth
+  attribute_kept object number growth (Some attribute) = kept.access object number attribute.shape growth
 
   numbered_kept : (objects : List Object) (object : Term) (fields : List Attribute) (number : ℕ) (growth : Growth)
       → Kept growth (numbered_field objects object fields number growth).growth
@@ -135,7 +145,7 @@ module _ (reading : Readings) (Kept : Growth → Growth → Type 0) (kept : IsKe
   next_kept (stands.Class class) name growth = kept.same growth
   next_kept stands.Nothing name growth = kept.same growth
 
-  rest_kept : (here : Stand) (names : List Name) (growth : Growth) → Kept growth (rest_stand reading here names growth).growth
+  pub rest_kept : (here : Stand) (names : List Name) (growth : Growth) → Kept growth (rest_stand reading here names growth).growth
   rest_kept here [] growth = kept.same growth
   rest_kept here (name ∷ more) growth =
       let next = next_stand reading here name growth in
@@ -148,7 +158,7 @@ module _ (reading : Readings) (Kept : Growth → Growth → Type 0) (kept : IsKe
   expr_kept turns (exprs.Path path) growth = rest_kept (first_stand reading turns growth path.first.at) path.rest growth
   expr_kept turns (exprs.Literal literal) growth = kept.same growth
 
-  exprs_kept : (turns : List Made) (some : List Expr) (growth : Growth) → Kept growth (given_arguments reading turns some growth).growth
+  pub exprs_kept : (turns : List Made) (some : List Expr) (growth : Growth) → Kept growth (given_arguments reading turns some growth).growth
   exprs_kept turns [] growth = kept.same growth
   exprs_kept turns (expr ∷ more) growth =
       let first = argument reading turns expr growth in
@@ -168,11 +178,27 @@ module _ (reading : Readings) (Kept : Growth → Growth → Type 0) (kept : IsKe
   condition_kept turns (conditions.Equal one other) growth = both_kept turns one other growth
   condition_kept turns (conditions.NotEqual one other) growth = both_kept turns one other growth
 
+  -- what a path leads up to that asks for a token
+  pub wanted_kept : (stand : Stand) (names : List Name) (growth : Growth) → Kept growth (asked_behind reading stand names growth).growth
+  wanted_kept stand names growth = by (slice_get names (length names - 1))
+    where
+      by : (o : Option Name)
+          → Kept growth (option_map_or (λ (last : Name). asked_of_owner reading.lexicon (rest_stand reading stand (take (length names - 1) names) growth) last.text)
+          o (asked_nothing growth)).growth
+      by None = kept.same growth
+      by (Some last) = rest_kept stand (take (length names - 1) names) growth
+
+module _ (reading : Readings) (Kept : Growth → Growth → Type 0) (kept : IsKept reading.lexicon Kept) where
+  reads : IsReadKept Kept
+  reads = reads_kept reading.lexicon Kept kept
+
+  -- ---- constraints
+
   constraint_kept : (turns : List Made) (kind : Kind) (some : List Expr) (growth : Growth)
       → Kept growth (with_constraint reading turns kind some growth)
   constraint_kept turns kind some growth =
       let given = given_arguments reading turns some growth in
-      kept.join growth given.growth (with_constraint reading turns kind some growth) (exprs_kept turns some growth)
+      kept.join growth given.growth (with_constraint reading turns kind some growth) (exprs_kept reading Kept reads turns some growth)
       (kept.items (constraint_items kind (constraint_terms kind given.stands)) given.growth)
 
   -- ---- slots
@@ -207,7 +233,7 @@ module _ (reading : Readings) (Kept : Growth → Growth → Type 0) (kept : IsKe
       let wanted = wanted_of reading.lexicon owner.stand name.text in
       kept.join growth owner.growth
       (option_map_or (λ found. with_wanted_token reading.lexicon at relation found wanted.object owner.growth) wanted.pred owner.growth)
-      (rest_kept here front growth)
+      (rest_kept reading Kept reads here front growth)
       (asked_kept at relation wanted.pred wanted.object owner.growth (wanted_there reading.lexicon owner.stand name.text))
 
   path_kept : (turns : List Made) (at : ℕ) (relation : Rel) (path : Path) (growth : Growth)
@@ -279,7 +305,7 @@ module _ (reading : Readings) (Kept : Growth → Growth → Type 0) (kept : IsKe
       let given = argument reading turns expr growth in
       let declared = with_declared at shape given.growth in
       let whole = with_begun reading turns at shape (Some (inits.Expr expr)) growth in
-      kept.join growth given.growth whole (expr_kept turns expr growth)
+      kept.join growth given.growth whole (expr_kept reading Kept reads turns expr growth)
       (kept.join given.growth declared whole (declared_kept at shape given.growth)
       (kept.item (Constraint Eq (compared_terms (next_local shape given.growth ∷ given.stand ∷ []))) declared))
 
@@ -295,7 +321,7 @@ IsKeptByBranches Kept =
     → Kept outer (with_last_entry (entries.Branch guard (filled_block filled) (filled_block second)) (back_in outer.entries second))
 
 module _ (reading : Readings) (Kept : Growth → Growth → Type 0) (kept : IsKept reading.lexicon Kept) (branches : IsKeptByBranches Kept) where
-  turns_kept : (turn : Stand → Growth → Growth) → ((object : Stand) (growth : Growth) → Kept growth (turn object growth))
+  pub turns_kept : (turn : Stand → Growth → Growth) → ((object : Stand) (growth : Growth) → Kept growth (turn object growth))
       → (objects : List Stand) (growth : Growth) → Kept growth (all_turns turn objects growth)
   turns_kept turn each [] growth = kept.same growth
   turns_kept turn each (object ∷ more) growth =
@@ -321,7 +347,7 @@ module _ (reading : Readings) (Kept : Growth → Growth → Type 0) (kept : IsKe
       let tested = condition_guard reading turns condition growth in
       let filled = unrolled reading turns inside (in_block tested.growth) in
       let branched = with_last_entry (entries.Branch tested.guard (filled_block filled) (plain_entries [])) (back_in tested.growth.entries filled) in
-      kept.join growth tested.growth (unrolled reading turns more branched) (condition_kept reading Kept kept turns condition growth)
+      kept.join growth tested.growth (unrolled reading turns more branched) (condition_kept reading Kept (reads_kept reading.lexicon Kept kept) turns condition growth)
       (kept.join tested.growth branched (unrolled reading turns more branched)
       (branches tested.guard tested.growth filled (in_block filled) (unrolled_kept turns inside (in_block tested.growth))
       (kept.same (in_block filled)))
@@ -331,7 +357,7 @@ module _ (reading : Readings) (Kept : Growth → Growth → Type 0) (kept : IsKe
       let filled = unrolled reading turns inside (in_block tested.growth) in
       let second = unrolled reading turns other (in_block filled) in
       let branched = with_last_entry (entries.Branch tested.guard (filled_block filled) (filled_block second)) (back_in tested.growth.entries second) in
-      kept.join growth tested.growth (unrolled reading turns more branched) (condition_kept reading Kept kept turns condition growth)
+      kept.join growth tested.growth (unrolled reading turns more branched) (condition_kept reading Kept (reads_kept reading.lexicon Kept kept) turns condition growth)
       (kept.join tested.growth branched (unrolled reading turns more branched)
       (branches tested.guard tested.growth filled second (unrolled_kept turns inside (in_block tested.growth))
       (unrolled_kept turns other (in_block filled)))

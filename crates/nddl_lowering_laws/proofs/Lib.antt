@@ -17,3 +17,9 @@ pub mod Sighted
 pub mod Relating
 pub mod Reading
 pub mod Faultless
+pub mod Held
+pub mod Suited
+pub mod Comparing
+pub mod Fitted
+pub mod Blocks
+pub mod Trees

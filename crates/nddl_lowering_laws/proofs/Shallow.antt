@@ -30,7 +30,7 @@ use Rattle.nddl_lower.specs.Locals.{with_text_local}
 use Rattle.nddl_unroll.specs.Blocks.{all_turns, back_in, filled_block, in_block, stand_turns, turn_of, unrolled}
 use Rattle.nddl_unroll.specs.Rules.{tree_readings, tree_rule}
 use Rattle.nddl_lowering_laws.specs.Nested.{IsShallow}
-use Rattle.nddl_lowering_laws.proofs.Growing.{IsKept, ask_kept, call_kept, condition_kept, local_kept}
+use Rattle.nddl_lowering_laws.proofs.Growing.{IsKept, ask_kept, call_kept, condition_kept, local_kept, reads_kept}
 
 -- blocks lie in one another so many deep at most, beside this one
 abbrev pub AreNested : ℕ → Entries → Type 0
@@ -136,7 +136,7 @@ unrolled_nested reading turns (Tests at condition then_at inside more) (suc left
     let tested = condition_guard reading turns condition growth in
     let filled = unrolled reading turns inside (in_block tested.growth) in
     let branch = entries.Branch tested.guard (filled_block filled) (plain_entries []) in
-    let first = condition_kept reading (StayNested (suc left)) (nested_kept reading.lexicon (suc left)) turns condition growth are in
+    let first = condition_kept reading (StayNested (suc left)) (reads_kept reading.lexicon (StayNested (suc left)) (nested_kept reading.lexicon (suc left))) turns condition growth are in
     let inner = unrolled_nested reading turns inside left (in_block tested.growth) parts.0 tt in
     unrolled_nested reading turns more (suc left) (with_last_entry branch (back_in tested.growth.entries filled)) parts.1
     (nested_append (suc left) tested.growth.entries (branch ∷ []) first (inner, (tt, tt)))
@@ -149,7 +149,7 @@ unrolled_nested reading turns (Chooses at condition then_at inside else_at other
     let filled = unrolled reading turns inside (in_block tested.growth) in
     let second = unrolled reading turns other (in_block filled) in
     let branch = entries.Branch tested.guard (filled_block filled) (filled_block second) in
-    let first = condition_kept reading (StayNested (suc left)) (nested_kept reading.lexicon (suc left)) turns condition growth are in
+    let first = condition_kept reading (StayNested (suc left)) (reads_kept reading.lexicon (StayNested (suc left)) (nested_kept reading.lexicon (suc left))) turns condition growth are in
     let inner = unrolled_nested reading turns inside left (in_block tested.growth) blocks.0 tt in
     let outer = unrolled_nested reading turns other left (in_block filled) blocks.1 tt in
     unrolled_nested reading turns more (suc left) (with_last_entry branch (back_in tested.growth.entries second)) parts.1

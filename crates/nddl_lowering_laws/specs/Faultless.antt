@@ -1,17 +1,15 @@
 -- What is lawful in the rules of faultless files.
 use Rattle.std.specs.Prelude.{◌≡◌, ◌<◌, ℕ, List, [], All, length}
-use Rattle.domain_core.specs.declared.kind.Kind.{Kind}
+use Rattle.domain_core.specs.declared.kind.Kind.TheVariants.{Field}
 use Rattle.model_core.specs.declared.class.Object.{Object}
 use Rattle.model_core.specs.declared.item.Item.TheVariants.{Constraint, Relation}
 use Rattle.model_core.specs.declared.item.Rel.{Rel}
 use Rattle.model_core.specs.declared.item.Term.{Term}
 use Rattle.model_core.specs.declared.model.Model.{Model}
-use Rattle.model_core.specs.declared.rule.Guard.{Guard}
 use Rattle.model_core.specs.declared.rule.Rule.{Rule}
 use Rattle.model_core.specs.declared.rule.Turn.{Turn}
-use Rattle.model_core.specs.Blocks.{OfBranch, OfItem}
-use Rattle.model_core.specs.Entries.{Entries}
-use Rattle.model_core.specs.Kinds.{AreArguments, AreComparable, OfRule}
+use Rattle.model_core.specs.Blocks.{OfItem}
+use Rattle.model_core.specs.Kinds.{AreArguments, OfRule}
 use Rattle.model_core.specs.Lawful.{IsLawfulVariable}
 use Rattle.model_core.specs.Standing.{StandsAt}
 use Rattle.nddl_ast.specs.declared.declaration.FileDecls.{FileDecls}
@@ -23,7 +21,8 @@ use Rattle.nddl_instance.specs.Numbers.{rules_of_pred}
 use Rattle.nddl_unroll.specs.Rules.{tree_rule, tree_rules}
 use Rattle.nddl_unroll.specs.Weighing.{tree_limits}
 use Rattle.nddl_rule_laws.specs.Meanings.{AreFaultless}
-use Rattle.nddl_lowering_laws.specs.Seen.{HasArities, HasSeenTerms, IsScoped, sides_of}
+use Rattle.nddl_lowering_laws.specs.Fitting.{HasThings}
+use Rattle.nddl_lowering_laws.specs.Seen.{HasArities, HasSeenTerms, IsScoped}
 use Rattle.nddl_lowering_laws.specs.Slots.{HasPredsOf}
 use Rattle.nddl_lowering_laws.specs.Whole.{ListsLawfulRules}
 
@@ -52,24 +51,23 @@ RulesNameWhatIsSeen =
 
 -- ---- kinds
 
--- in a rule of this predicate locals are lawful, arguments are of kinds that the constraint takes, and the two sides of a guard
--- are of one kind
-pub record HasFittingKinds (model : Model) (pred : ℕ) (rule : Rule) : Type 0 where
+-- in a rule of this predicate locals are lawful, and what is read from a field of an object is of the field's kind
+pub record HasFittingFields (model : Model) (pred : ℕ) (rule : Rule) : Type 0 where
   pub locals : All (IsLawfulVariable model) rule.locals
-  pub arguments : (path : List Turn) (place : ℕ) (kind : Kind) (some : List Term)
-      → StandsAt rule.top path place (OfItem (Constraint kind some))
-      → AreArguments model (OfRule pred rule) kind some
-  pub guards : (path : List Turn) (place : ℕ) (guard : Guard) (then otherwise : Entries)
-      → StandsAt rule.top path place (OfBranch guard then otherwise) → AreComparable model (OfRule pred rule) (sides_of guard)
+  pub fields : (path : List Turn) (place number : ℕ) (some : List Term)
+      → StandsAt rule.top path place (OfItem (Constraint (Field number) some))
+      → AreArguments model (OfRule pred rule) (Field number) some
 
--- no limit is told of the rules of faultless files, the model has these rules and the predicates of the files, and kinds fit
+-- no limit is told of the rules of faultless files, the model has these rules, the predicates of the files and what they name,
+-- and fields fit
 pub record HasFaultlessRules (model : Model) (files : List FileDecls) (table : TypeTable) (trees : List PlainTree) (world : World)
     (objects : List Object) : Type 0 where
   pub faultless : AreFaultless files table trees world objects
   pub no_limit : tree_limits (lexicon_of world) trees ≡ []
   pub rules : model.rules ≡ tree_rules (lexicon_of world) objects trees
   pub preds : HasPredsOf model (lexicon_of world)
-  pub kinds : All (λ tree. HasFittingKinds model tree.pred (tree_rule (lexicon_of world) objects tree)) trees
+  pub things : HasThings model (lexicon_of world) objects
+  pub fields : All (λ tree. HasFittingFields model tree.pred (tree_rule (lexicon_of world) objects tree)) trees
 
 -- then each predicate lists lawful rules, which are few
 abbrev pub FaultlessRulesAreLawful : Type 0

@@ -7,3 +7,4 @@ pub mod Scoped
 pub mod Seen
 pub mod Fine
 pub mod Faultless
+pub mod Fitting

@@ -27,6 +27,7 @@ use Rattle.nddl_rule_check.specs.Arguments.{argument_faults, arguments_faults, a
 use Rattle.nddl_rule_check.specs.Values.{compared_with, unfit_fault}
 use Rattle.nddl_terms.specs.declared.growth.Growth.{Growth}
 use Rattle.nddl_terms.specs.declared.stands.Made.{Made}
+use Rattle.nddl_terms.specs.declared.stands.Stand.{Stand}
 use Rattle.nddl_terms.specs.Paths.{rest_stand}
 use Rattle.nddl_terms.specs.Readings.{Readings}
 use Rattle.nddl_terms.specs.Stands.{first_stand}
@@ -51,17 +52,18 @@ pub understood : (decl : ℕ) (u : Understood) → understood_faults decl u ≡ 
 understood decl (Ok meant) none = (meant, refl)
 understood decl (Err fault) none = absurd (cc)
 
-module _ (IsFor : Meaning → ℕ → Type 0) (IsPredFor : TokenSort → ℕ → Type 0) (IsThing : ℕ → ℤ → Type 0) (files : List FileDecls) (ground : RuleGround)
-    (reading : Readings) (setting : IsSetting IsFor IsPredFor IsThing files ground reading) (once_locals : Once reading.places.locals)
+module _ (IsFor : Meaning → ℕ → Type 0) (IsPredFor : TokenSort → ℕ → Type 0) (IsThing : ℕ → ℤ → Type 0)
+    (IsHeld : Stand → Type 0) (files : List FileDecls) (ground : RuleGround)
+    (reading : Readings) (setting : IsSetting IsFor IsPredFor IsThing IsHeld files ground reading) (once_locals : Once reading.places.locals)
     (once_slots : Once reading.places.slots) where
   abbrev pub Seeing : Tally → List Made → Growth → Surroundings → Sight → Type 0
-  Seeing = Sees IsFor IsPredFor IsThing files ground reading setting
+  Seeing = Sees IsFor IsPredFor IsThing IsHeld files ground reading setting
 
   -- what declares nothing leaves what is seen
   pub seeing_same : (tally : Tally) (turns : List Made) (old new : Growth) (around : Surroundings) (sight : Sight) → SameMade old new
       → Seeing tally turns old around sight → Seeing tally turns new around sight
   seeing_same tally turns old new around sight same sees =
-      sees_kept IsFor IsPredFor IsThing files ground reading setting once_locals once_slots tally tally turns old new around sight (within_itself tally)
+      sees_kept IsFor IsPredFor IsThing IsHeld files ground reading setting once_locals once_slots tally tally turns old new around sight (within_itself tally)
       (keeps_same reading.places once_locals once_slots tally old new same) sees
 
   -- ---- paths
@@ -77,8 +79,8 @@ module _ (IsFor : Meaning → ℕ → Type 0) (IsPredFor : TokenSort → ℕ →
       by None first none = absurd (cc)
       by (Some begin) first rest =
           let stand = first_stand reading turns growth path.first.at in
-          let fits = name_fits IsFor IsPredFor IsThing files ground reading setting tally turns growth around sight sees path.first begin names first in
-          let behind = rest_fits IsFor IsPredFor IsThing ground.facts reading setting.serves path.first.at begin stand path.rest growth end fits rest in
+          let fits = name_fits IsFor IsPredFor IsThing IsHeld files ground reading setting tally turns growth around sight sees path.first begin names first in
+          let behind = rest_fits IsFor IsPredFor IsThing ground.facts reading setting.serves path.first.at begin stand path.rest growth end fits.0 rest in
           something_led stand (rest_stand reading stand path.rest growth).stand
           (fits_something IsFor IsPredFor IsThing end (rest_stand reading stand path.rest growth).stand behind)
 
@@ -95,9 +97,9 @@ module _ (IsFor : Meaning → ℕ → Type 0) (IsPredFor : TokenSort → ℕ →
       behind begin first [] same none = absurd (cc)
       behind begin first (name ∷ more) same some =
           let stand = first_stand reading turns growth path.first.at in
-          let fits = name_fits IsFor IsPredFor IsThing files ground reading setting tally turns growth around sight sees path.first begin names first in
+          let fits = name_fits IsFor IsPredFor IsThing IsHeld files ground reading setting tally turns growth around sight sees path.first begin names first in
           subst (λ rest. TokenFits IsFor IsPredFor IsThing ground.facts reading setting.serves end (asked_behind reading stand rest growth).wanted.pred) (sym same)
-          (asked_fits IsFor IsPredFor IsThing ground.facts reading setting.serves path.first.at begin stand name more growth end fits some)
+          (asked_fits IsFor IsPredFor IsThing ground.facts reading setting.serves path.first.at begin stand name more growth end fits.0 some)
 
       by : (o : Option Denoted) → first_denoted ground.facts around path.first.text ≡ o
           → option_map_or (λ owner. asked_by ground.facts owner path) o (unknown_at path.first.at) ≡ Ok end

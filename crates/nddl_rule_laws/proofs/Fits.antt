@@ -7,12 +7,14 @@ use Rattle.model_core.specs.declared.class.Object.{Object}
 use Rattle.model_core.specs.declared.item.Term.{Term}
 use Rattle.model_core.specs.declared.item.Term.TheVariants as terms
 use Rattle.model_core.specs.declared.variable.ValueKind.{ValueKind}
+use Rattle.model_core.specs.declared.variable.ValueKind.TheVariants as value_kinds
 use Rattle.model_core.proofs.Items.{item_at}
 use Rattle.nddl_ast.specs.declared.name.Name.{Name}
 use Rattle.nddl_symbols.specs.declared.scope.Meaning.{Meaning}
 use Rattle.nddl_typeexpr.specs.declared.kind.TypeKind.{TypeKind}
 use Rattle.nddl_typeexpr.specs.declared.kind.TypeKind.TheVariants as kinds
 use Rattle.nddl_hierarchy.specs.Facts.{Facts}
+use Rattle.nddl_declarations.specs.Domains.{value_kind}
 use Rattle.nddl_resolve.specs.declared.denoted.Denoted.{Denoted}
 use Rattle.nddl_resolve.specs.declared.denoted.Denoted.TheVariants as denoted
 use Rattle.nddl_resolve.specs.declared.denoted.Predicate.{Predicate}
@@ -23,10 +25,11 @@ use Rattle.nddl_resolve.specs.Predicates.{class_predicate, token_part}
 use Rattle.nddl_terms.specs.declared.growth.Growth.{Growth}
 use Rattle.nddl_terms.specs.declared.lexicon.Attribute.{Attribute}
 use Rattle.nddl_terms.specs.declared.lexicon.Lexicon.{Lexicon}
+use Rattle.nddl_terms.specs.declared.lexicon.Shape.{Shape}
 use Rattle.nddl_terms.specs.declared.stands.Stand.{Stand}
 use Rattle.nddl_terms.specs.declared.stands.Stand.TheVariants as stands
 use Rattle.nddl_terms.specs.Growth.{with_access}
-use Rattle.nddl_terms.specs.Lexicon.{attribute_class, attribute_kind, attribute_number, part_called, part_class, pred_named, shape_fields}
+use Rattle.nddl_terms.specs.Lexicon.{attribute_class, attribute_kind, attribute_number, part_called, part_class, part_kind, pred_named, shape_fields}
 use Rattle.nddl_terms.specs.Paths.{known_stand, known_value, next_stand, numbered_field, part_stand, reached, read_field, rest_stand}
 use Rattle.nddl_terms.specs.Readings.{Readings}
 use Rattle.nddl_lower.specs.Slots.{AskedSlot, asked_behind, asked_nothing, asked_of_owner, wanted_of}
@@ -45,7 +48,11 @@ module _ (IsFor : Meaning → ℕ → Type 0) (IsPredFor : TokenSort → ℕ →
   KindFits (kinds.Object class) number = IsFor class number
   KindFits kind number = ⊤
 
-  -- and are of it
+  -- so it is of what a variable may be
+  abbrev pub ShapeFits : TypeKind → Shape → Type 0
+  ShapeFits kind shape = (shape.kind ≡ value_kind kind) × KindFits kind shape.class
+
+  -- objects are of the class
   abbrev pub ValueFits : TypeKind → ℕ → ℤ → Type 0
   ValueFits (kinds.Object class) number value = IsThing number value
   ValueFits kind number value = ⊤
@@ -55,9 +62,9 @@ module _ (IsFor : Meaning → ℕ → Type 0) (IsPredFor : TokenSort → ℕ →
   TermFits kind number (terms.Lit value) = ValueFits kind number value
   TermFits kind number term = ⊤
 
-  -- what stands for something fits what it denotes
+  -- what stands for something fits what it denotes, and is of its kind
   abbrev pub Fits : Denoted → Stand → Type 0
-  Fits (denoted.Value kind constant) (stands.Value term own class) = KindFits kind class × TermFits kind class term
+  Fits (denoted.Value kind constant) (stands.Value term own class) = (own ≡ value_kind kind) × KindFits kind class × TermFits kind class term
   Fits (denoted.Token token) (stands.Slot number pred) = IsPredFor token pred
   Fits (denoted.Token token) (stands.Root number pred) = IsPredFor token pred
   Fits (denoted.Class class) (stands.Class number) = IsFor class number
@@ -72,6 +79,7 @@ module _ (IsFor : Meaning → ℕ → Type 0) (IsPredFor : TokenSort → ℕ →
     pub attribute : Attribute
     pub named : attribute_number name fields ≡ Some number
     pub there : slice_get fields number ≡ Some attribute
+    pub is_kind : attribute.shape.kind ≡ value_kind kind
     pub fits : KindFits kind attribute.shape.class
     pub known : (value : ℤ) → IsThing class value
         → (content : ℤ) × (known_value objects value number ≡ Some content) × ValueFits kind attribute.shape.class content
@@ -83,6 +91,7 @@ module _ (IsFor : Meaning → ℕ → Type 0) (IsPredFor : TokenSort → ℕ →
     pub is : found ≡ denoted.Value kind constant
     pub part : Part
     pub named : part_called lexicon pred name ≡ Some part
+    pub is_kind : part_kind lexicon pred part ≡ value_kind kind
     pub fits : KindFits kind (part_class lexicon pred part)
 
   -- and the predicate of this name
@@ -116,27 +125,29 @@ module _ (IsFor : Meaning → ℕ → Type 0) (IsPredFor : TokenSort → ℕ →
   module _ (facts : Facts) (reading : Readings) (serves : Serves facts reading.lexicon reading.objects) where
     -- the field that was found of a known object
     known_fits : (class number : ℕ) (kind : TypeKind) (attribute : Attribute) (fields : List Attribute) (constant : Bool) (value content : ℤ)
-        → slice_get fields number ≡ Some attribute → KindFits kind attribute.shape.class → known_value reading.objects value number ≡ Some content
-        → ValueFits kind attribute.shape.class content
+        → slice_get fields number ≡ Some attribute → attribute.shape.kind ≡ value_kind kind → KindFits kind attribute.shape.class
+        → known_value reading.objects value number ≡ Some content → ValueFits kind attribute.shape.class content
         → Fits (denoted.Value kind constant) (known_stand reading.objects value fields number)
-    known_fits class number kind attribute fields constant value content there fits known thing =
+    known_fits class number kind attribute fields constant value content there same fits known thing =
+        let kind_is : attribute_kind fields number ≡ value_kind kind =
+        ap (λ o. option_map_or (λ (one : Attribute). one.shape.kind) o value_kinds.Int) there ∙ same in
         let class_is : attribute_class fields number ≡ attribute.shape.class =
         ap (λ o. option_map_or (λ (one : Attribute). one.shape.class) o 0) there in
         subst (Fits (denoted.Value kind constant))
         (sym (ap (λ o. option_map_or (λ content. stands.Value (terms.Lit content) (attribute_kind fields number) (attribute_class fields number)) o
         stands.Nothing) known
         ∙ ap (stands.Value (terms.Lit content) (attribute_kind fields number)) class_is))
-        (fits, thing)
+        (kind_is, fits, thing)
 
     -- and that of a variable
     read_fits : (object : Term) (number : ℕ) (kind : TypeKind) (attribute : Attribute) (fields : List Attribute) (constant : Bool) (growth : Growth)
-        → slice_get fields number ≡ Some attribute → KindFits kind attribute.shape.class
+        → slice_get fields number ≡ Some attribute → attribute.shape.kind ≡ value_kind kind → KindFits kind attribute.shape.class
         → Fits (denoted.Value kind constant) (read_field object fields number growth).stand
-    read_fits object number kind attribute fields constant growth there fits =
+    read_fits object number kind attribute fields constant growth there same fits =
         subst (λ (o : Option Attribute). Fits (denoted.Value kind constant)
         (option_map_or (λ (one : Attribute). reached (stands.Value (terms.Local (length growth.locals)) one.shape.kind one.shape.class)
         (with_access object number one.shape growth)) o (reached stands.Nothing growth)).stand)
-        (sym there) (fits, tt)
+        (sym there) (same, fits, tt)
 
     numbered_fits : (term : Term) (class : ℕ) (name : List ℕ) (of : Meaning) (growth : Growth) (found : Denoted)
         (it : FieldFits reading.objects class name (shape_fields reading.lexicon class) found)
@@ -145,25 +156,26 @@ module _ (IsFor : Meaning → ℕ → Type 0) (IsPredFor : TokenSort → ℕ →
     numbered_fits (terms.Lit value) class name of growth found it fits =
         let known = it.known value fits in
         subst (λ d. Fits d (known_stand reading.objects value (shape_fields reading.lexicon class) it.number)) (sym it.is)
-        (known_fits class it.number it.kind it.attribute (shape_fields reading.lexicon class) it.constant value known.0 it.there it.fits known.1 known.2)
+        (known_fits class it.number it.kind it.attribute (shape_fields reading.lexicon class) it.constant value known.0 it.there it.is_kind it.fits known.1
+        known.2)
     numbered_fits (terms.Here part) class name of growth found it fits =
         subst (λ d. Fits d (read_field (terms.Here part) (shape_fields reading.lexicon class) it.number growth).stand) (sym it.is)
-        (read_fits (terms.Here part) it.number it.kind it.attribute (shape_fields reading.lexicon class) it.constant growth it.there it.fits)
+        (read_fits (terms.Here part) it.number it.kind it.attribute (shape_fields reading.lexicon class) it.constant growth it.there it.is_kind it.fits)
     numbered_fits (terms.Slot slot part) class name of growth found it fits =
         subst (λ d. Fits d (read_field (terms.Slot slot part) (shape_fields reading.lexicon class) it.number growth).stand) (sym it.is)
-        (read_fits (terms.Slot slot part) it.number it.kind it.attribute (shape_fields reading.lexicon class) it.constant growth it.there it.fits)
+        (read_fits (terms.Slot slot part) it.number it.kind it.attribute (shape_fields reading.lexicon class) it.constant growth it.there it.is_kind it.fits)
     numbered_fits (terms.Local local) class name of growth found it fits =
         subst (λ d. Fits d (read_field (terms.Local local) (shape_fields reading.lexicon class) it.number growth).stand) (sym it.is)
-        (read_fits (terms.Local local) it.number it.kind it.attribute (shape_fields reading.lexicon class) it.constant growth it.there it.fits)
+        (read_fits (terms.Local local) it.number it.kind it.attribute (shape_fields reading.lexicon class) it.constant growth it.there it.is_kind it.fits)
     numbered_fits (terms.Global global) class name of growth found it fits =
         subst (λ d. Fits d (read_field (terms.Global global) (shape_fields reading.lexicon class) it.number growth).stand) (sym it.is)
-        (read_fits (terms.Global global) it.number it.kind it.attribute (shape_fields reading.lexicon class) it.constant growth it.there it.fits)
+        (read_fits (terms.Global global) it.number it.kind it.attribute (shape_fields reading.lexicon class) it.constant growth it.there it.is_kind it.fits)
     numbered_fits (terms.Root root part) class name of growth found it fits =
         subst (λ d. Fits d (read_field (terms.Root root part) (shape_fields reading.lexicon class) it.number growth).stand) (sym it.is)
-        (read_fits (terms.Root root part) it.number it.kind it.attribute (shape_fields reading.lexicon class) it.constant growth it.there it.fits)
+        (read_fits (terms.Root root part) it.number it.kind it.attribute (shape_fields reading.lexicon class) it.constant growth it.there it.is_kind it.fits)
 
     -- what was found under a name
-    found_is : (name : Name) (o : Option Denoted) (next : Denoted) → found_at name o ≡ Ok next → o ≡ Some next
+    pub found_is : (name : Name) (o : Option Denoted) (next : Denoted) → found_at name o ≡ Ok next → o ≡ Some next
     found_is name None next is = absurd (cc)
     found_is name (Some found) next is = ap (λ d. Some d) (same_ok found next is)
 
@@ -183,19 +195,19 @@ module _ (IsFor : Meaning → ℕ → Type 0) (IsPredFor : TokenSort → ℕ →
     slot_fits token number pred name growth next for found =
         let it = serves.part token pred name.text next for found in
         subst (λ (o : Option Part). Fits next (option_map_or (part_stand reading (stands.Slot number pred)) o stands.Nothing)) (sym it.named)
-        (subst (λ d. Fits d (part_stand reading (stands.Slot number pred) it.part)) (sym it.is) (it.fits, tt))
+        (subst (λ d. Fits d (part_stand reading (stands.Slot number pred) it.part)) (sym it.is) (it.is_kind, it.fits, tt))
 
     root_fits : (token : TokenSort) (number pred : ℕ) (name : Name) (growth : Growth) (next : Denoted) → IsPredFor token pred
         → token_part facts name.text token ≡ Some next → Fits next (next_stand reading (stands.Root number pred) name growth).stand
     root_fits token number pred name growth next for found =
         let it = serves.part token pred name.text next for found in
         subst (λ (o : Option Part). Fits next (option_map_or (part_stand reading (stands.Root number pred)) o stands.Nothing)) (sym it.named)
-        (subst (λ d. Fits d (part_stand reading (stands.Root number pred) it.part)) (sym it.is) (it.fits, tt))
+        (subst (λ d. Fits d (part_stand reading (stands.Root number pred) it.part)) (sym it.is) (it.is_kind, it.fits, tt))
 
-    next_fits : (first : ℕ) (meant : Denoted) (stand : Stand) (name : Name) (growth : Growth) (next : Denoted) → Fits meant stand
+    pub next_fits : (first : ℕ) (meant : Denoted) (stand : Stand) (name : Name) (growth : Growth) (next : Denoted) → Fits meant stand
         → next_denoted facts first meant name ≡ Ok next → Fits next (next_stand reading stand name growth).stand
     next_fits first (denoted.Value (kinds.Object of) constant) (stands.Value term own class) name growth next fits is =
-        field_fits of constant term class name growth next fits.0 fits.1 (found_is name (class_field facts constant name.text of) next is) own
+        field_fits of constant term class name growth next fits.1 fits.2 (found_is name (class_field facts constant name.text of) next is) own
     next_fits first (denoted.Value kinds.Int constant) (stands.Value term own class) name growth next fits is = absurd (cc)
     next_fits first (denoted.Value kinds.Float constant) (stands.Value term own class) name growth next fits is = absurd (cc)
     next_fits first (denoted.Value kinds.Bool constant) (stands.Value term own class) name growth next fits is = absurd (cc)
@@ -263,7 +275,7 @@ module _ (IsFor : Meaning → ℕ → Type 0) (IsPredFor : TokenSort → ℕ →
 
     owner_fits : (first : ℕ) (meant : Denoted) (stand : Stand) (name : Name) (end : Denoted) → Fits meant stand
         → token_denoted facts first meant name ≡ Ok end → TokenFits end (wanted_of reading.lexicon stand name.text).pred
-    owner_fits first (denoted.Value (kinds.Object of) constant) (stands.Value term own class) name end fits is = named_fits of class name end fits.0 is
+    owner_fits first (denoted.Value (kinds.Object of) constant) (stands.Value term own class) name end fits is = named_fits of class name end fits.1 is
     owner_fits first (denoted.Value kinds.Int constant) (stands.Value term own class) name end fits is = absurd (cc)
     owner_fits first (denoted.Value kinds.Float constant) (stands.Value term own class) name end fits is = absurd (cc)
     owner_fits first (denoted.Value kinds.Bool constant) (stands.Value term own class) name end fits is = absurd (cc)
@@ -285,7 +297,7 @@ module _ (IsFor : Meaning → ℕ → Type 0) (IsPredFor : TokenSort → ℕ →
     owner_fits first denoted.Faulty stands.Nothing name end fits is = absurd fits
 
     -- behind one name more the same is asked
-    behind_more : (stand : Stand) (name next : Name) (more : List Name) (growth : Growth)
+    pub behind_more : (stand : Stand) (name next : Name) (more : List Name) (growth : Growth)
         → (asked_behind reading stand (name ∷ next ∷ more) growth)
         ≡ asked_behind reading (next_stand reading stand name growth).stand (next ∷ more) (next_stand reading stand name growth).growth
     behind_more stand name next more growth =

@@ -3,7 +3,7 @@ use Rattle.std.proofs.Common.{◌≡◌, ℕ, zero, suc, ◌+◌, ◌<◌, true,
 use Rattle.std.specs.Prelude.{Option, Some, None, All, AllPairs, slice_get, reverse}
 use Rattle.std.specs.List.{AllZip, flat_map}
 use Rattle.std.specs.Option.{option_and_then, option_map_or}
-use Rattle.std.proofs.lemmas.List.Elements.{All-nil, All-cons, All-append, All-weaker}
+use Rattle.std.proofs.lemmas.List.Elements.{All-nil, All-cons, All-append, All-head, All-tail, All-weaker}
 use Rattle.std.proofs.lemmas.Option.{same_Some, none-some}
 use Rattle.eu_index.specs.Index.{Noted, noted_number}
 use Rattle.eu_forest.specs.Ancestors.{ancestry}
@@ -18,6 +18,8 @@ use Rattle.nddl_ast.specs.declared.declaration.Decl.TheVariants as decls
 use Rattle.nddl_ast.specs.declared.declaration.FileDecls.{FileDecls}
 use Rattle.nddl_ast.specs.declared.declaration.Member.{Member}
 use Rattle.nddl_ast.specs.declared.declaration.Member.TheVariants as members
+use Rattle.nddl_ast.specs.declared.declaration.PredicatePart.{PredicatePart}
+use Rattle.nddl_ast.specs.declared.declaration.PredicatePart.TheVariants as pieces
 use Rattle.nddl_ast.specs.declared.kind.TextKind.{TextKind}
 use Rattle.nddl_ast.specs.declared.name.Name.{Name}
 use Rattle.nddl_ast.specs.Block.{statements_of}
@@ -53,6 +55,7 @@ use Rattle.nddl_rules.specs.Sight.{no_sight}
 use Rattle.nddl_rules.specs.Tally.{no_tally}
 use Rattle.nddl_rules.specs.Told.{AreFileTrees, scope_places}
 use Rattle.nddl_rules.specs.Written.{noted_preds, places_of, preds_above, texts_written}
+use Rattle.nddl_laws.specs.Fine.{AreFineStatements, IsFineMember, IsFinePart}
 use Rattle.nddl_laws.specs.Given.{AreGiven}
 use Rattle.nddl_laws.specs.Lookups.{IsReadFor, rule_lookups, rule_names, rule_numbered}
 use Rattle.nddl_laws.specs.Nodes.{statements_nodes}
@@ -130,6 +133,13 @@ rule_fine facts decl class predicate body meaning means fine =
     by None none = inner (class_predicate facts predicate.text meaning) refl none
     by (Some kind) none = absurd (cc)
 
+-- the constraints in the body of a predicate are as the parser makes them, if its parts are
+parts_written : (some : List PredicatePart) → All IsFinePart some → AreFineStatements (statements_of (part_statements some))
+parts_written [] fine = tt
+parts_written (pieces.Parameter typed ∷ more) fine = parts_written more (All-tail IsFinePart (pieces.Parameter typed) more fine)
+parts_written (pieces.Constraint call ∷ more) fine =
+    (All-head IsFinePart (pieces.Constraint call) more fine, parts_written more (All-tail IsFinePart (pieces.Constraint call) more fine))
+
 module _ (files : List FileDecls) (table : TypeTable) (given : AreGiven files) (is : IsTable files table) where
   -- what a tree of the table stands on
   pub record IsGrounded (tree : PlainTree) : Type 0 where
@@ -139,6 +149,7 @@ module _ (files : List FileDecls) (table : TypeTable) (given : AreGiven files) (
     pub below : IsBelow is.facts (owner files table given is tree.pred pred at).class token.class
     pub found : FoundIn is.facts pred.name token.class token.predicate
     pub text : HasFineText is.facts token tree.body
+    pub written : AreFineStatements tree.body
     pub rising : AllPairs (λ one other. one < other) (statements_nodes tree.body)
     pub names : tree.names ≡ block_names (record { scope = scope_places [] 0 table.scope; params = pred.params }) no_sight no_tally tree.body
 
@@ -211,6 +222,7 @@ module _ (files : List FileDecls) (table : TypeTable) (given : AreGiven files) (
       below : IsBelow is.facts (owner files table given is number pred at).class token.class
       found : FoundIn is.facts pred.name token.class token.predicate
       text : HasFineText is.facts token (text_statements is.facts.program place)
+      written : AreFineStatements (text_statements is.facts.program place)
       rising : AllPairs (λ one other. one < other) (statements_nodes (text_statements is.facts.program place))
 
     text_token : (place : TextPlace) → IsTextFor (noted_preds table.classes [] 0 table.preds) is.facts.program up place → HasToken place
@@ -231,6 +243,7 @@ module _ (files : List FileDecls) (table : TypeTable) (given : AreGiven files) (
           found = subst (λ name. FoundIn is.facts name Upper one.predicate) by_name.named
               (class_found is.facts predicate.text Upper one.predicate one.is);
           text = subst (HasFineText is.facts token) (sym same) (of_rule (0 + place.decl) one.none);
+          written = subst AreFineStatements (sym same) fine.fine.1.1;
           rising = subst Rising (sym same) rising;
         }
     text_token place (member_text class_at class parent some member pred_at name parts there member_is here found) =
@@ -256,6 +269,8 @@ module _ (files : List FileDecls) (table : TypeTable) (given : AreGiven files) (
           found = found_member declared.entry member pred_at name parts refl (in_line files table given is declared.entry declared.known)
               (ap (λ list. slice_get list member) declared.members_are ∙ here) by_name.named;
           text = subst (HasFineText is.facts token) (sym same) (of_body (0 + place.decl) parts refl faultless);
+          written = subst AreFineStatements (sym same) (parts_written parts (item_all IsFineMember some member (members.Predicate pred_at name parts)
+              fine.fine.1.1 here).1);
           rising = subst Rising (sym same) (body_rises class_at class parent some member pred_at name parts here nodes);
         }
 
@@ -287,7 +302,7 @@ module _ (files : List FileDecls) (table : TypeTable) (given : AreGiven files) (
           let has = text_token rules number pred at up it place text in
           All-cons IsGrounded
           (tree_with (scope_places [] 0 table.scope) number pred file.name (text_head is.facts.program place) (text_statements is.facts.program place)) []
-          (record { pred = pred; at = at; token = has.token; below = has.below; found = has.found; text = has.text; rising = has.rising; names = refl })
+          (record { pred = pred; at = at; token = has.token; below = has.below; found = has.found; text = has.text; written = has.written; rising = has.rising; names = refl })
           (All-nil IsGrounded)
 
   -- the trees of one predicate

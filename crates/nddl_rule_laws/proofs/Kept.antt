@@ -5,11 +5,13 @@ use Rattle.std.specs.List.{list_any}
 use Rattle.std.specs.Option.{option_and_then, option_map_or, option_or}
 use Rattle.std.proofs.lemmas.Bool.Decides.{Decides-eqb}
 use Rattle.eu_forest.proofs.Fewer.{differs}
+use Rattle.eu_forest.proofs.Lists.{get-append_last}
 use Rattle.domain_core.specs.declared.kind.Kind.{Kind}
 use Rattle.model_core.specs.declared.class.Object.{Object}
 use Rattle.model_core.specs.declared.item.Rel.{Rel}
 use Rattle.model_core.specs.declared.item.Term.{Term}
 use Rattle.model_core.specs.declared.item.Term.TheVariants as terms
+use Rattle.model_core.specs.declared.rule.Slot.{Slot}
 use Rattle.nddl_ast.specs.declared.expression.Expr.{Expr}
 use Rattle.nddl_ast.specs.declared.expression.Expr.TheVariants as exprs
 use Rattle.nddl_ast.specs.declared.expression.Init.{Init}
@@ -30,7 +32,7 @@ use Rattle.nddl_terms.specs.declared.stands.Made.{Made}
 use Rattle.nddl_terms.specs.declared.stands.Stand.{Stand}
 use Rattle.nddl_terms.specs.declared.stands.Stand.TheVariants as stands
 use Rattle.nddl_terms.specs.declared.stands.TextPlaces.{TextPlaces}
-use Rattle.nddl_terms.specs.Growth.{with_access}
+use Rattle.nddl_terms.specs.Growth.{unnamed, with_access}
 use Rattle.nddl_terms.specs.Lexicon.{attribute_number, shape_fields}
 use Rattle.nddl_terms.specs.Paths.{next_stand, numbered_field, reached, rest_stand}
 use Rattle.nddl_terms.specs.Readings.{Readings}
@@ -38,7 +40,7 @@ use Rattle.nddl_terms.specs.Stands.{declared_stand, first_stand, latest_stand, s
 use Rattle.nddl_lower.specs.Arguments.{argument, condition_guard, given_arguments, with_constraint}
 use Rattle.nddl_lower.specs.Calls.{with_ask, with_call, with_constraint_named, with_related, with_relation_to}
 use Rattle.nddl_lower.specs.Locals.{next_local, type_shape, with_begun, with_text_local}
-use Rattle.nddl_lower.specs.Slots.{AskedSlot, asked_behind, asked_labelled, asked_nothing, asked_of_owner, asked_path, with_asked, with_relation, with_wanted_token}
+use Rattle.nddl_lower.specs.Slots.{AskedSlot, asked_behind, asked_labelled, asked_nothing, asked_of_owner, asked_path, pred_slot, with_asked, with_relation, with_wanted_token}
 use Rattle.nddl_rules.specs.declared.sight.Tally.{Tally}
 use Rattle.nddl_rules.specs.Blocks.{asks_slot, has_more, is_long_path}
 
@@ -128,11 +130,14 @@ pub record DeclaresLocal (at : ℕ) (shape : Shape) (old new : Growth) : Type 0 
   pub number : ℕ
   pub named : new.named ≡ old.named ++ record { at = at; stand = stands.Value (terms.Local number) shape.kind shape.class } ∷ []
   pub asked : new.asked ≡ old.asked
+  pub there : slice_get new.locals number ≡ Some (unnamed shape)
 
 begun_made : (reading : Readings) (turns : List Made) (at : ℕ) (shape : Shape) (init : Option Init) (growth : Growth)
     → DeclaresLocal at shape growth (with_begun reading turns at shape init growth)
-begun_made reading turns at shape None growth = record { number = length growth.locals; named = refl; asked = refl }
-begun_made reading turns at shape (Some (inits.New creation)) growth = record { number = length growth.locals; named = refl; asked = refl }
+begun_made reading turns at shape None growth =
+    record { number = length growth.locals; named = refl; asked = refl; there = get-append_last growth.locals (unnamed shape) }
+begun_made reading turns at shape (Some (inits.New creation)) growth =
+    record { number = length growth.locals; named = refl; asked = refl; there = get-append_last growth.locals (unnamed shape) }
 begun_made reading turns at shape (Some (inits.Expr expr)) growth =
     let given = argument reading turns expr growth in
     let same = argument_made reading turns expr growth in
@@ -140,6 +145,7 @@ begun_made reading turns at shape (Some (inits.Expr expr)) growth =
       number = length given.growth.locals;
       named = ap (λ (some : List Made). some ++ record { at = at; stand = next_local shape given.growth } ∷ []) same.named;
       asked = same.asked;
+      there = get-append_last given.growth.locals (unnamed shape);
     }
 
 pub local_made : (reading : Readings) (turns : List Made) (variable : Variable) (growth : Growth)
@@ -152,6 +158,7 @@ pub record AsksSlot (at : ℕ) (old new : Growth) (pred : ℕ) : Type 0 where
   pub number : ℕ
   pub named : new.named ≡ old.named
   pub asked : new.asked ≡ old.asked ++ record { at = at; stand = stands.Slot number pred } ∷ []
+  pub there : (slot : Slot) × (slice_get new.slots number ≡ Some slot) × (slot.pred ≡ pred)
 
 -- a slot, if there is a predicate, or nothing
 abbrev pub AsksIf : ℕ → Growth → Growth → Option ℕ → Type 0
@@ -165,6 +172,7 @@ wanted_made lexicon at relation object old growth (Some pred) same = record {
   number = length growth.slots;
   named = same.named;
   asked = ap (λ (some : List Made). some ++ record { at = at; stand = stands.Slot (length growth.slots) pred } ∷ []) same.asked;
+  there = (pred_slot lexicon pred, get-append_last growth.slots (pred_slot lexicon pred), refl);
 }
 
 with_asked_made : (lexicon : Lexicon) (at : ℕ) (relation : Rel) (old : Growth) (asked : AskedSlot) → SameMade old asked.growth

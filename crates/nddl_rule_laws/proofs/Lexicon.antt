@@ -11,7 +11,10 @@ use Rattle.std.proofs.lemmas.Option.{same_Some, none-some}
 use Rattle.std.proofs.lemmas.Slice.Eq.{bytes_eq-Decides}
 use Rattle.model_core.specs.declared.class.Enum.{Enum}
 use Rattle.model_core.specs.declared.class.Pred.{Pred}
+use Rattle.model_core.specs.declared.variable.ValueKind.{ValueKind}
+use Rattle.model_core.specs.declared.variable.ValueKind.TheVariants as value_kinds
 use Rattle.model_core.specs.declared.variable.VarDecl.{VarDecl}
+use Rattle.model_core.specs.Lawful.{quantity}
 use Rattle.model_core.specs.Naming.{names_of, token_part_words}
 use Rattle.model_core.proofs.Items.{item_all, item_at, item_is, item_within}
 use Rattle.nddl_ast.specs.declared.declaration.FileDecls.{FileDecls}
@@ -35,6 +38,7 @@ use Rattle.nddl_hierarchy.specs.Decls.{members_of}
 use Rattle.nddl_hierarchy.specs.Inherited.{words_noted}
 use Rattle.nddl_hierarchy.specs.Members.{named_typed}
 use Rattle.nddl_declarations.specs.Declares.{variable_with, variables_of}
+use Rattle.nddl_declarations.specs.Domains.{value_kind}
 use Rattle.nddl_declarations.specs.Known.{all_type_faults, fine_meaning}
 use Rattle.nddl_declarations.specs.Members.{parameter_of, parameters_of, typed_faults, typed_names}
 use Rattle.std.specs.Prelude.{nat_lt}
@@ -63,7 +67,7 @@ use Rattle.nddl_laws.proofs.Lists.{none_flat}
 use Rattle.nddl_laws.proofs.Members.{IsRightAt, members_right}
 use Rattle.nddl_laws.proofs.Nothing.{none_first}
 use Rattle.nddl_rule_laws.proofs.Classes.{Extended, IsBelow, both_so, bare, class_name, has_table, preds_same, right}
-use Rattle.nddl_rule_laws.proofs.Owners.{FoundIn, InLine, IsOwning, found_below, found_given, found_member, in_later, owner, owning_placed, params_same, position_is, pred_there, seen_of}
+use Rattle.nddl_rule_laws.proofs.Owners.{FoundIn, InLine, IsOwning, found_below, found_given, found_member, in_later, owner, owning_placed, position_is, pred_there, quantity_of}
 use Rattle.nddl_rule_laws.proofs.TypeKinds.{KindThere}
 use Rattle.nddl_rule_laws.proofs.Shapes.{attribute_found, attribute_names, lexicon, typed_as, world}
 
@@ -132,6 +136,13 @@ parameter_named name (parts.Parameter other ∷ more) typed is = by (bytes_eq na
 parameter_there : (some : List PredicatePart) (typed : Typed) → Contains some (parts.Parameter typed) → Contains (parameters_of some) typed
 parameter_there some typed has = contains_kept parameter_of some (parts.Parameter typed) typed has refl
 
+-- of which kinds they are
+abbrev pub attribute_kinds : List Attribute → List ValueKind
+attribute_kinds some = map (λ (attribute : Attribute). attribute.shape.kind) some
+
+abbrev pub kinds_of : List VarDecl → List ValueKind
+kinds_of some = map (λ (variable : VarDecl). variable.kind) some
+
 -- names are found at the same places of both
 pub same_positions : (name : List ℕ) (start : ℕ) (xs : List Attribute) (ys : List VarDecl) → attribute_names xs ≡ names_of ys
     → position_from (λ (attribute : Attribute). bytes_eq name attribute.name) start xs ≡ position_from (λ (param : VarDecl). bytes_eq name param.name) start ys
@@ -160,15 +171,21 @@ module _ (files : List FileDecls) (table : TypeTable) (given : AreGiven files) (
 
   -- the shape is that of the predicate
   abbrev IsShapeOf : PredShape → Pred → Type 0
-  IsShapeOf shape pred = (shape.class ≡ pred.class) × (shape.name ≡ pred.name) × (attribute_names shape.params ≡ names_of pred.params)
+  IsShapeOf shape pred =
+      (shape.class ≡ pred.class) × (shape.name ≡ pred.name) × (attribute_names shape.params ≡ names_of pred.params)
+      × (attribute_kinds shape.params ≡ kinds_of pred.params)
 
   number_names : (some : List VarDecl) → attribute_names (map number_attribute some) ≡ names_of some
   number_names [] = refl
   number_names (variable ∷ more) = ap (λ rest. variable.name ∷ rest) (number_names more)
 
+  number_kinds : (some : List VarDecl) → attribute_kinds (map number_attribute some) ≡ kinds_of some
+  number_kinds [] = refl
+  number_kinds (variable ∷ more) = ap (λ rest. variable.kind ∷ rest) (number_kinds more)
+
   given_alike : (some : List Pred) → AllZip IsShapeOf (map given_shape some) some
   given_alike [] = tt
-  given_alike (pred ∷ more) = ((refl, refl, number_names pred.params), given_alike more)
+  given_alike (pred ∷ more) = ((refl, refl, number_names pred.params, number_kinds pred.params), given_alike more)
 
   part_names : (some : List PredicatePart)
       → attribute_names (filter_map (part_attribute World_of) some) ≡ names_of (variables_of is.facts enums (parameters_of some))
@@ -183,9 +200,22 @@ module _ (files : List FileDecls) (table : TypeTable) (given : AreGiven files) (
       by None rest = rest
       by (Some meaning) rest = ap (λ names. typed.name.text ∷ names) rest
 
+  part_kinds : (some : List PredicatePart)
+      → attribute_kinds (filter_map (part_attribute World_of) some) ≡ kinds_of (variables_of is.facts enums (parameters_of some))
+  part_kinds [] = refl
+  part_kinds (parts.Constraint call ∷ more) = part_kinds more
+  part_kinds (parts.Parameter typed ∷ more) = by (fine_meaning is.facts typed.declared) (part_kinds more)
+    where
+      by : (o : Option TypeMeaning)
+          → attribute_kinds (filter_map (part_attribute World_of) more) ≡ kinds_of (variables_of is.facts enums (parameters_of more))
+          → attribute_kinds (cons_option (option_map (attribute_with World_of typed) o) (filter_map (part_attribute World_of) more))
+          ≡ kinds_of (cons_option (option_map (variable_with is.facts enums typed) o) (variables_of is.facts enums (parameters_of more)))
+      by None rest = rest
+      by (Some meaning) rest = ap (λ others. value_kind meaning.kind ∷ others) rest
+
   members_alike : (class : ℕ) (some : List Member) → AllZip IsShapeOf (filter_map (member_shape World_of class) some) (filter_map (pred_of is.facts enums class) some)
   members_alike class [] = tt
-  members_alike class (members.Predicate at name inside ∷ more) = ((refl, refl, part_names inside), members_alike class more)
+  members_alike class (members.Predicate at name inside ∷ more) = ((refl, refl, part_names inside, part_kinds inside), members_alike class more)
   members_alike class (members.Field typed ∷ more) = members_alike class more
   members_alike class (members.Constructor name formals sets ∷ more) = members_alike class more
 
@@ -289,6 +319,7 @@ module _ (files : List FileDecls) (table : TypeTable) (given : AreGiven files) (
     pub attribute : Attribute
     pub named : attribute_number name params ≡ Some place
     pub at : slice_get params place ≡ Some attribute
+    pub is_kind : attribute.shape.kind ≡ value_kind kind
     pub class_is : (of : Meaning) → kind ≡ kinds.Object of → attribute.shape.class ≡ class_number is.facts.names of
 
   params_are : (number : ℕ) (shape : PredShape) → slice_get shapes number ≡ Some shape
@@ -330,6 +361,21 @@ module _ (files : List FileDecls) (table : TypeTable) (given : AreGiven files) (
       let shape = zip_back IsShapeOf shapes table.preds number pred shapes_alike at in
       ap attribute_names (params_are number shape.0 shape.1) ∙ shape.2.2
 
+  -- and their kinds
+  params_kinds : (number : ℕ) (pred : Pred) → slice_get table.preds number ≡ Some pred
+      → attribute_kinds (pred_params (lexicon files table given is named_objects objects) number) ≡ kinds_of pred.params
+  params_kinds number pred at =
+      let shape = zip_back IsShapeOf shapes table.preds number pred shapes_alike at in
+      ap attribute_kinds (params_are number shape.0 shape.1) ∙ shape.2.3
+
+  first_kind : (params : List Attribute) (attribute : Attribute) (kind : ValueKind) → attribute_kinds params ≡ kind ∷ []
+      → slice_get params 0 ≡ Some attribute → attribute.shape.kind ≡ kind
+  first_kind [] attribute kind same at = absurd (none-some attribute at)
+  first_kind (first ∷ more) attribute kind same at =
+      let here : first.shape.kind ∷ attribute_kinds more ≡ kind ∷ [] = same in
+      let one : first.shape.kind ≡ kind = cc in
+      ap (λ (a : Attribute). a.shape.kind) (sym (same_Some first attribute at)) ∙ one
+
   pub class_of_pred : (number : ℕ) (pred : Pred) → slice_get table.preds number ≡ Some pred
       → pred_class (lexicon files table given is named_objects objects) number ≡ pred.class
   class_of_pred number pred at =
@@ -343,13 +389,13 @@ module _ (files : List FileDecls) (table : TypeTable) (given : AreGiven files) (
 
   -- a parameter of a number
   number_found : (params : List Attribute) (name : List ℕ) (some : List VarDecl) → attribute_names params ≡ names_of some
-      → (place : ℕ) × (position_from (λ (param : VarDecl). bytes_eq name param.name) 0 some ≡ Some place)
-      → (place : ℕ) × (attribute_number name params ≡ Some place) × ((attribute : Attribute) × (slice_get params place ≡ Some attribute))
-  number_found params name some names found =
+      → (place : ℕ) → position_from (λ (param : VarDecl). bytes_eq name param.name) 0 some ≡ Some place
+      → (attribute_number name params ≡ Some place) × ((attribute : Attribute) × (slice_get params place ≡ Some attribute))
+  number_found params name some names place found =
       let same = same_positions name 0 params some names in
-      let at = position_is (λ (attribute : Attribute). bytes_eq name attribute.name) params 0 found.0 (same ∙ found.1) in
-      let e : at.0 ≡ found.0 = (let sum : found.0 ≡ 0 + at.0 = at.1 in omega arith) in
-      (found.0, same ∙ found.1, (at.2.0, ap (slice_get params) (sym e) ∙ at.2.1))
+      let at = position_is (λ (attribute : Attribute). bytes_eq name attribute.name) params 0 place (same ∙ found) in
+      let e : at.0 ≡ place = (let sum : place ≡ 0 + at.0 = at.1 in omega arith) in
+      (same ∙ found, (at.2.0, ap (slice_get params) (sym e) ∙ at.2.1))
 
   pub has_parameter : (token : TokenSort) (number : ℕ) (name : List ℕ) (found : Denoted) → IsPredOf token number
       → parameter_value is.facts name token.predicate ≡ Some found
@@ -390,24 +436,28 @@ module _ (files : List FileDecls) (table : TypeTable) (given : AreGiven files) (
             attribute = attribute;
             named = ap (λ n. attribute_number n (pred_params (lexicon files table given is named_objects objects) number)) (sym has.1) ∙ found_as.named;
             at = found_as.there;
+            is_kind = refl;
             class_is = λ of kind. ap (kind_class is.facts.names) kind;
           }
 
-      quantity_in : (b : Bool) → bytes_eq name (codes "quantity") ≡ b → names_of it.pred.params ≡ codes "quantity" ∷ []
+      quantity_in : (b : Bool) → bytes_eq name (codes "quantity") ≡ b → it.pred.params ≡ quantity ∷ []
           → (if b then Some (denoted.Value kinds.Int false) else None) ≡ Some found
           → HasParameter name (pred_params (lexicon files table given is named_objects objects) number) found
-      quantity_in false named names told = absurd (none-some found told)
-      quantity_in true named names told =
+      quantity_in false named params told = absurd (none-some found told)
+      quantity_in true named params told =
+          let names : names_of it.pred.params ≡ codes "quantity" ∷ [] = ap (λ (some : List VarDecl). names_of some) params in
           let at = number_found (pred_params (lexicon files table given is named_objects objects) number) name it.pred.params
-          (params_named number it.pred it.at) (0, first_of it.pred.params names) in
+          (params_named number it.pred it.at) 0 (first_of it.pred.params names) in
           record {
             kind = kinds.Int;
             is_value = sym (same_Some (denoted.Value kinds.Int false) found told);
             there = tt;
-            place = at.0;
-            attribute = at.2.0;
-            named = at.1;
-            at = at.2.1;
+            place = 0;
+            attribute = at.1.0;
+            named = at.0;
+            at = at.1.1;
+            is_kind = first_kind (pred_params (lexicon files table given is named_objects objects) number) at.1.0 value_kinds.Int
+                (params_kinds number it.pred it.at ∙ ap (λ (some : List VarDecl). kinds_of some) params) at.1.1;
             class_is = λ of kind. absurd (let e : kinds.Int ≡ kinds.Object of = kind in cc);
           }
         where
@@ -433,6 +483,6 @@ module _ (files : List FileDecls) (table : TypeTable) (given : AreGiven files) (
           (named_typed name (parameters_of list))) declared) ∙ told)
       by (found_given given_number is_it below named) told =
           quantity_in (bytes_eq name (codes "quantity")) refl
-          (sym (params_same files table given is it.pred (contains_at table.preds number it.pred it.at) (owner files table given is number it.pred it.at) token.predicate (found_given given_number is_it below named))
-          ∙ ap (seen_of is.facts) is_it)
+          (quantity_of files table given is it.pred (contains_at table.preds number it.pred it.at) (owner files table given is number it.pred it.at)
+          token.predicate (found_given given_number is_it below named) is_it)
           (sym (ap (parameter_value is.facts name) is_it) ∙ told)

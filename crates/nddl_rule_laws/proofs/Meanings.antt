@@ -1,6 +1,6 @@
 -- All that is read in the trees of faultless files means something.
 use Rattle.std.proofs.Common.{◌≡◌, ℕ, suc, ◌+◌, ◌<◌, Bool, true, false, ◌&&◌, ◌||◌, List, [], ◌∷◌, get_or, ℤ, pos, refl, sym, ◌∙◌, ap, subst, arith}
-use Rattle.std.specs.Prelude.{Option, Some, None, Ok, Err, All, Contains, slice_get, codes, if◌then◌else◌}
+use Rattle.std.specs.Prelude.{⊤, Option, Some, None, Ok, Err, All, Contains, slice_get, codes, if◌then◌else◌}
 use Rattle.std.specs.List.{AllByRecursion, position_from}
 use Rattle.std.specs.Option.{option_and_then, option_map, option_map_or}
 use Rattle.std.specs.Str.{bytes_eq}
@@ -12,6 +12,7 @@ use Rattle.eu_name.specs.declared.name.Part.TheVariants as name_parts
 use Rattle.eu_forest.proofs.Fewer.{differs}
 use Rattle.model_core.specs.declared.class.Object.{Object}
 use Rattle.model_core.specs.declared.variable.ValueKind.TheVariants as value_kinds
+use Rattle.model_core.proofs.Items.{item_all}
 use Rattle.model_core.specs.declared.item.Term.TheVariants as terms
 use Rattle.model_core.specs.declared.variable.VarDecl.{VarDecl}
 use Rattle.nddl_ast.specs.declared.declaration.Decl.{Decl}
@@ -30,12 +31,14 @@ use Rattle.nddl_symbols.specs.declared.scope.Meaning.TheVariants as meanings
 use Rattle.nddl_symbols.specs.Joined.{joined_decls}
 use Rattle.nddl_symbols.specs.Names.{is_class_sort, scope_names}
 use Rattle.nddl_symbols.specs.Scope.{is_class_at, meaning_of, named_number}
+use Rattle.nddl_typeexpr.specs.declared.kind.Extent.TheVariants as extents
 use Rattle.nddl_typeexpr.specs.declared.kind.TypeKind.{TypeKind}
 use Rattle.nddl_typeexpr.specs.declared.kind.TypeKind.TheVariants as kinds
 use Rattle.nddl_typeexpr.specs.declared.kind.TypeMeaning.{TypeMeaning}
 use Rattle.nddl_typeexpr.specs.Bases.{meaning_kind, sort_kind, typedef_meaning}
 use Rattle.nddl_hierarchy.specs.Decls.{decl_of_name}
 use Rattle.nddl_hierarchy.specs.Facts.{Facts}
+use Rattle.nddl_declarations.specs.Domains.{value_kind}
 use Rattle.nddl_types.specs.declared.table.Named.{Named}
 use Rattle.nddl_types.specs.declared.table.TypeTable.{TypeTable}
 use Rattle.nddl_types.specs.Classes.{class_number, is_first}
@@ -62,7 +65,7 @@ use Rattle.nddl_terms.specs.declared.tree.Meaning as tree
 use Rattle.nddl_terms.specs.declared.tree.Meaning.TheVariants as reads
 use Rattle.nddl_terms.specs.declared.tree.ReadName.{ReadName}
 use Rattle.nddl_terms.specs.Growth.{no_growth}
-use Rattle.nddl_terms.specs.Lexicon.{attribute_class, attribute_number, class_objects, part_called, part_class, pred_class, pred_params, shape_fields}
+use Rattle.nddl_terms.specs.Lexicon.{attribute_class, attribute_number, class_objects, part_called, part_class, part_kind, pred_class, pred_params, shape_fields}
 use Rattle.nddl_terms.specs.Names.{AreReadInOrder, name_read_at}
 use Rattle.nddl_terms.specs.PlainTree.{PlainTree}
 use Rattle.nddl_terms.specs.Readings.{Readings}
@@ -90,7 +93,7 @@ use Rattle.nddl_rules.specs.Blocks.{block_names}
 use Rattle.nddl_rule_laws.specs.Grounds.{HasFineText, of_body, of_rule}
 use Rattle.nddl_rule_laws.specs.Meanings.{AreMade, IsNamedClass, LimitsAreTold, TreesAreCounted, TreesAreMeant}
 use Rattle.nddl_rule_laws.proofs.Classes.{Extended, IsBelow, are_facts, below_itself, first_means, first_number, right}
-use Rattle.nddl_rule_laws.proofs.Fits.{FieldFits, Fits, KindFits, PartFits, PredFits, ValueFits}
+use Rattle.nddl_rule_laws.proofs.Fits.{FieldFits, Fits, KindFits, PartFits, PredFits, ShapeFits, ValueFits}
 use Rattle.nddl_rule_laws.proofs.Grounds.{IsGrounded, all_grounded, ground_is, ground_of}
 use Rattle.nddl_rule_laws.proofs.TypeKinds.{IsThere, KindThere, builtin_there, entry_there, typedef_there}
 use Rattle.nddl_rule_laws.proofs.Lexicon.{IsPredOf, class_of_pred, has_parameter, has_pred, owner_extended, params_named, same_positions}
@@ -99,13 +102,13 @@ use Rattle.nddl_rule_laws.proofs.Placing.{rule_at}
 use Rattle.nddl_rule_laws.proofs.Rising.{text_once}
 use Rattle.nddl_rule_laws.proofs.Scopes.{global_value, place_aligned}
 use Rattle.nddl_rule_laws.proofs.Shapes.{field_below, field_found, has_field, type_known}
-use Rattle.nddl_rule_laws.proofs.Sights.{InNames, IsSetting, none_seen}
+use Rattle.nddl_rule_laws.proofs.Sights.{Holding, InNames, IsSetting, none_seen}
 use Rattle.nddl_rule_laws.proofs.Statements.{all_single, block_meant, body_meant}
 
 -- ---- names in order
 
 -- each name is read where it stands
-names_read : (names : List ReadName) → AreReadInOrder names → InNames names names
+pub names_read : (names : List ReadName) → AreReadInOrder names → InNames names names
 names_read [] ordered = tt
 names_read (read ∷ more) ordered =
     let later : AllByRecursion (λ (other : ReadName). read.at < other.at) more =
@@ -217,10 +220,10 @@ module _ (files : List FileDecls) (table : TypeTable) (given : AreGiven files) (
 
   -- ---- what serves for what
 
-  abbrev IsFor : Meaning → ℕ → Type 0
+  abbrev pub IsFor : Meaning → ℕ → Type 0
   IsFor class number = (it : Extended files table given is number) × IsBelow is.facts it.class class
 
-  abbrev IsPredFor : TokenSort → ℕ → Type 0
+  abbrev pub IsPredFor : TokenSort → ℕ → Type 0
   IsPredFor = IsPredOf files table given is named_objects made_objects
 
   abbrev IsThing : ℕ → ℤ → Type 0
@@ -274,10 +277,11 @@ module _ (files : List FileDecls) (table : TypeTable) (given : AreGiven files) (
         attribute = has.attribute;
         named = has.named;
         there = has.at;
+        is_kind = has.is_kind;
         fits = kind_fits has.kind has.attribute.shape.class has.there has.class_is;
         known = λ value thing.
             let content = made.whole number has.place value has.attribute thing has.at in
-            (content.content, content.known, value_fits has.kind has.attribute.shape.class content.content (λ of kind. content.inside (has.object_is of kind)));
+            (content.content, content.known, value_fits has.kind has.attribute.shape.class content.content (λ of kind. content.inside (has.is_kind ∙ ap value_kind kind)));
       }
 
   predicate_serves : (class : Meaning) (number : ℕ) (name : List ℕ) (found : Predicate) → IsFor class number → class_predicate is.facts name class ≡ Some found
@@ -297,7 +301,7 @@ module _ (files : List FileDecls) (table : TypeTable) (given : AreGiven files) (
       → PartFits IsFor IsPredFor IsThing lexicon number name found
   part_serves token number name found for there =
       let it = by (bytes_eq name (codes "start")) (bytes_eq name (codes "end")) (bytes_eq name (codes "duration")) (bytes_eq name (codes "object")) there in
-      record { kind = it.0; constant = false; is = it.1; part = it.2.0; named = it.2.1; fits = it.2.2 }
+      record { kind = it.0; constant = false; is = it.1; part = it.2.0; named = it.2.1; is_kind = it.2.2; fits = it.2.3 }
     where
       by : (start end duration object : Bool)
           → (if start || (end || duration) then Some (changing_value kinds.Int)
@@ -307,12 +311,12 @@ module _ (files : List FileDecls) (table : TypeTable) (given : AreGiven files) (
           else (if end then Some name_parts.End
           else (if duration then Some name_parts.Duration
           else (if object then Some name_parts.Object else option_map name_parts.Param (attribute_number name (pred_params lexicon number)))))) ≡ Some part)
-          × KindFits IsFor IsPredFor IsThing kind (part_class lexicon number part))
-      by true end duration object same = (kinds.Int, sym (same_Some (denoted.Value kinds.Int false) found same), (name_parts.Start, refl, tt))
-      by false true duration object same = (kinds.Int, sym (same_Some (denoted.Value kinds.Int false) found same), (name_parts.End, refl, tt))
-      by false false true object same = (kinds.Int, sym (same_Some (denoted.Value kinds.Int false) found same), (name_parts.Duration, refl, tt))
+          × (part_kind lexicon number part ≡ value_kind kind) × KindFits IsFor IsPredFor IsThing kind (part_class lexicon number part))
+      by true end duration object same = (kinds.Int, sym (same_Some (denoted.Value kinds.Int false) found same), (name_parts.Start, refl, refl, tt))
+      by false true duration object same = (kinds.Int, sym (same_Some (denoted.Value kinds.Int false) found same), (name_parts.End, refl, refl, tt))
+      by false false true object same = (kinds.Int, sym (same_Some (denoted.Value kinds.Int false) found same), (name_parts.Duration, refl, refl, tt))
       by false false false true same =
-          (kinds.Object token.class, sym (same_Some (denoted.Value (kinds.Object token.class) false) found same), (name_parts.Object, refl, own_for token number for))
+          (kinds.Object token.class, sym (same_Some (denoted.Value (kinds.Object token.class) false) found same), (name_parts.Object, refl, refl, own_for token number for))
       by false false false false same =
           let has = has_parameter files table given is named_objects made_objects token number name found for same in
           let class_is : attribute_class (pred_params lexicon number) has.place ≡ has.attribute.shape.class =
@@ -322,6 +326,7 @@ module _ (files : List FileDecls) (table : TypeTable) (given : AreGiven files) (
             (
               name_parts.Param has.place,
               ap (option_map name_parts.Param) has.named,
+              ap (λ o. option_map_or (λ (attribute : Attribute). attribute.shape.kind) o value_kinds.Int) has.at ∙ has.is_kind,
               kind_fits has.kind (attribute_class (pred_params lexicon number) has.place) has.there (λ of kind. class_is ∙ has.class_is of kind),
             ),
           )
@@ -376,7 +381,7 @@ module _ (files : List FileDecls) (table : TypeTable) (given : AreGiven files) (
       → is_first is.facts.names entry declared ≡ true → declared.sort ≡ sort → sort_denoted is.facts entry declared sort ≡ Some meant
       → Fits IsFor IsPredFor IsThing meant (sort_stand world entry globals roots declared (Some meant) sort)
   sort_fits entry globals roots declared (sorts.Member of place) meant there first same found =
-      subst (λ d. Fits IsFor IsPredFor IsThing d (stands.Value (terms.Lit (pos place)) (value_kinds.Enum of) 0)) (same_Some (denoted.Value (kinds.Enum of) true) meant found) (tt, tt)
+      subst (λ d. Fits IsFor IsPredFor IsThing d (stands.Value (terms.Lit (pos place)) (value_kinds.Enum of) 0)) (same_Some (denoted.Value (kinds.Enum of) true) meant found) (refl, tt, tt)
   sort_fits entry globals roots declared sorts.Global meant there first same found =
       let it = global_value files table given is named_objects made_objects entry declared there same in
       let known = type_known files table given is named_objects made_objects it.2.0 it.0 it.2.1 in
@@ -384,7 +389,7 @@ module _ (files : List FileDecls) (table : TypeTable) (given : AreGiven files) (
       sym (same_Some (declared_value is.facts false declared) meant found)
       ∙ (it.1 ∙ ap (λ o. option_map_or (λ (k : TypeKind). denoted.Value k false) o denoted.Faulty) known.1) in
       subst (λ d. Fits IsFor IsPredFor IsThing d (stands.Value (terms.Global globals) (denoted_kind (Some d)) (denoted_class world (Some d)))) (sym value)
-      (kind_fits known.0 (kind_class is.facts.names known.0) known.2 (λ of kind. ap (kind_class is.facts.names) kind), tt)
+      (refl, kind_fits known.0 (kind_class is.facts.names known.0) known.2 (λ of kind. ap (kind_class is.facts.names) kind), tt)
   sort_fits entry globals roots declared sorts.Object meant there first same found =
       let it = made.named entry declared there same in
       let class = class_number is.facts.names it.class in
@@ -393,7 +398,7 @@ module _ (files : List FileDecls) (table : TypeTable) (given : AreGiven files) (
       subst (λ d. Fits IsFor IsPredFor IsThing d (object_stand world entry (denoted_class world (Some d)))) (sym value)
       (subst (λ (o : Option ℤ). Fits IsFor IsPredFor IsThing (denoted.Value (kinds.Object it.class) true)
       (option_map_or (λ value. stands.Value (terms.Lit value) value_kinds.Object class) o stands.Nothing)) (sym it.made)
-      (there_for it.class class (named_there it.class it.is_class) refl, it.inside))
+      (refl, there_for it.class class (named_there it.class it.is_class) refl, it.inside))
   sort_fits entry globals roots declared sorts.Root meant there first same found =
       let it = made.posted entry declared there same in
       let value : meant ≡ denoted.Token it.token = sym (same_Some (root_value is.facts declared) meant found) ∙ it.denotes in
@@ -451,9 +456,12 @@ module _ (files : List FileDecls) (table : TypeTable) (given : AreGiven files) (
     files_fit name (reads.Slot number) meaning meant means found denotes = absurd (none-some meaning found)
     files_fit name (reads.Here part) meaning meant means found denotes = absurd (none-some meaning found)
 
+  abbrev Shaped : TypeKind → Shape → Type 0
+  Shaped = ShapeFits IsFor IsPredFor IsThing
+
   -- what a variable may be whose type is a name of the files
   shape_fits : (place : ℕ) (kind : TypeKind) (meaning : Meaning) (has : HasPlace place meaning)
-      → meaning_kind is.facts.names is.facts.known meaning ≡ Some kind → KindFits IsFor IsPredFor IsThing kind (file_shape lexicon place).class
+      → meaning_kind is.facts.names is.facts.known meaning ≡ Some kind → Shaped kind (file_shape lexicon place)
   shape_fits place kind meaning has found =
       by has.declared.sort refl
       (sym (ap (option_and_then (λ (d : Declared). sort_kind is.facts.known has.entry d.sort)) has.there)
@@ -466,34 +474,38 @@ module _ (files : List FileDecls) (table : TypeTable) (given : AreGiven files) (
       class_case : (sort : Sort) → has.declared.sort ≡ sort → is_class_sort sort ≡ true → sort_shape world has.entry sort ≡ None
           → sort_stand world has.entry has.globals has.roots has.declared (file_denoted is.facts has.declared.name) sort
           ≡ stands.Class (class_number is.facts.names (meanings.Entry has.entry))
-          → kinds.Object (meanings.Entry has.entry) ≡ kind → KindFits IsFor IsPredFor IsThing kind (file_shape lexicon place).class
+          → kinds.Object (meanings.Entry has.entry) ≡ kind → Shaped kind (file_shape lexicon place)
       class_case sort same class none stand is_kind =
           let number = class_number is.facts.names (meanings.Entry has.entry) in
           let types_none : slice_get lexicon.types place ≡ Some None = has.shape ∙ ap (λ o. Some o) (ap (sort_shape world has.entry) same ∙ none) in
           let stand_is : file_stand lexicon place ≡ Some (stands.Class number) =
           has.stand ∙ ap (λ s. Some s) (ap (sort_stand world has.entry has.globals has.roots has.declared (file_denoted is.facts has.declared.name)) same ∙ stand) in
-          let shape_is : (file_shape lexicon place).class ≡ number =
-          ap (λ (s : Shape). s.class) (shaped None types_none ∙ ap (stand_shape lexicon) stand_is) in
-          subst (λ k. KindFits IsFor IsPredFor IsThing k (file_shape lexicon place).class) is_kind
-          (there_for (meanings.Entry has.entry) (file_shape lexicon place).class
-          (class_entry has.entry has.declared sort has.there has.first same class) shape_is)
+          let shape_is : file_shape lexicon place ≡ class_shape lexicon number = shaped None types_none ∙ ap (stand_shape lexicon) stand_is in
+          subst (λ k. Shaped k (file_shape lexicon place)) is_kind
+          (subst (Shaped (kinds.Object (meanings.Entry has.entry))) (sym shape_is)
+          (refl, there_for (meanings.Entry has.entry) number (class_entry has.entry has.declared sort has.there has.first same class) refl))
+
+      -- the type of the name means this
+      meant_case : (m : TypeMeaning) → slice_get lexicon.types place ≡ Some (Some (shape_with world m)) → KindThere files table given is m.kind
+          → Shaped m.kind (file_shape lexicon place)
+      meant_case m shape_there there =
+          subst (Shaped m.kind) (sym (shaped (Some (shape_with world m)) shape_there))
+          (refl, kind_fits m.kind (kind_class is.facts.names m.kind) there (λ of same_kind. ap (kind_class is.facts.names) same_kind))
 
       typedef_case : (o : Option TypeMeaning) → typedef_meaning is.facts.known has.entry ≡ o → has.declared.sort ≡ sorts.Typedef
-          → option_map (λ (m : TypeMeaning). m.kind) o ≡ Some kind → KindFits IsFor IsPredFor IsThing kind (file_shape lexicon place).class
+          → option_map (λ (m : TypeMeaning). m.kind) o ≡ Some kind → Shaped kind (file_shape lexicon place)
       typedef_case None known same none = absurd (none-some kind none)
       typedef_case (Some m) known same some =
           let shape_there : slice_get lexicon.types place ≡ Some (Some (shape_with world m)) =
           has.shape ∙ ap (λ o. Some o) (ap (sort_shape world has.entry) same ∙ ap (option_map (shape_with world)) known) in
-          let class_is : (file_shape lexicon place).class ≡ kind_class is.facts.names m.kind =
-          ap (λ (s : Shape). s.class) (shaped (Some (shape_with world m)) shape_there) in
-          subst (λ k. KindFits IsFor IsPredFor IsThing k (file_shape lexicon place).class) (same_Some m.kind kind some)
-          (kind_fits m.kind (file_shape lexicon place).class (typedef_there files table given is has.entry m known)
-          (λ of same_kind. class_is ∙ ap (kind_class is.facts.names) same_kind))
+          subst (λ k. Shaped k (file_shape lexicon place)) (same_Some m.kind kind some)
+          (meant_case m shape_there (typedef_there files table given is has.entry m known))
 
-      by : (sort : Sort) → has.declared.sort ≡ sort → sort_kind is.facts.known has.entry sort ≡ Some kind
-          → KindFits IsFor IsPredFor IsThing kind (file_shape lexicon place).class
+      by : (sort : Sort) → has.declared.sort ≡ sort → sort_kind is.facts.known has.entry sort ≡ Some kind → Shaped kind (file_shape lexicon place)
       by (sorts.Enum number) same told =
-          subst (λ k. KindFits IsFor IsPredFor IsThing k (file_shape lexicon place).class) (same_Some (kinds.Enum number) kind told) tt
+          subst (λ k. Shaped k (file_shape lexicon place)) (same_Some (kinds.Enum number) kind told)
+          (meant_case (record { kind = kinds.Enum number; extent = extents.Whole })
+          (has.shape ∙ ap (λ o. Some o) (ap (sort_shape world has.entry) same)) tt)
       by sorts.Typedef same told = typedef_case (typedef_meaning is.facts.known has.entry) refl same told
       by sorts.Forward same told = class_case sorts.Forward same refl refl refl (same_Some (kinds.Object (meanings.Entry has.entry)) kind told)
       by sorts.Body same told = class_case sorts.Body same refl refl refl (same_Some (kinds.Object (meanings.Entry has.entry)) kind told)
@@ -505,14 +517,14 @@ module _ (files : List FileDecls) (table : TypeTable) (given : AreGiven files) (
 
   bases_fit : (name : List ℕ) (read : tree.Meaning) (meaning : Meaning) (kind : TypeKind) → meaning_of is.facts.names name ≡ Some meaning
       → file_read is.facts.names table.scope read ≡ Some meaning → meaning_kind is.facts.names is.facts.known meaning ≡ Some kind
-      → KindFits IsFor IsPredFor IsThing kind (meaning_shape lexicon (Some read)).class
+      → Shaped kind (meaning_shape lexicon (Some read))
   bases_fit name (reads.BuiltIn number) meaning kind means found kind_is =
       let same : meanings.BuiltIn number ≡ meaning = same_Some (meanings.BuiltIn number) meaning found in
       let few = few_builtin is.facts.names name number (means ∙ ap (λ m. Some m) (sym same)) in
       let value : kinds.Object (meanings.BuiltIn number) ≡ kind =
       same_Some (kinds.Object (meanings.BuiltIn number)) kind (ap (meaning_kind is.facts.names is.facts.known) same ∙ kind_is) in
-      subst (λ k. KindFits IsFor IsPredFor IsThing k (class_shape lexicon number).class) value
-      (there_for (meanings.BuiltIn number) number (builtin_there files table given is number few) refl)
+      subst (λ k. Shaped k (class_shape lexicon number)) value
+      (refl, there_for (meanings.BuiltIn number) number (builtin_there files table given is number few) refl)
   bases_fit name (reads.Scope place) meaning kind means found kind_is = shape_fits place kind meaning (has_place place meaning found) kind_is
   bases_fit name (reads.Turn number) meaning kind means found kind_is = absurd (none-some meaning found)
   bases_fit name (reads.Local number) meaning kind means found kind_is = absurd (none-some meaning found)
@@ -531,22 +543,43 @@ module _ (files : List FileDecls) (table : TypeTable) (given : AreGiven files) (
       else (if bytes_eq name (codes "duration") then Some name_parts.Duration
       else (if bytes_eq name (codes "object") then Some name_parts.Object else option_map name_parts.Param (sym same i))))
 
-  setting_of : (tree : PlainTree) (it : IsGrounded files table given is tree)
-      → IsSetting IsFor IsPredFor IsThing files (ground_of files table given is tree it) (tree_readings lexicon objects tree)
-  setting_of tree it =
-      let own : IsPredFor it.token tree.pred = record { pred = it.pred; at = it.at; below = it.below; found = it.found } in
-      record {
-        is_ground = ground_is files table given is tree it;
-        serves = record { field = field_serves; predicate = predicate_serves; part = part_serves };
-        own = own;
-        parts = λ name. own_parts tree.pred it.pred.params name
-            (same_positions name 0 (pred_params lexicon tree.pred) it.pred.params (params_named files table given is named_objects made_objects tree.pred it.pred it.at));
-        files_fit = files_fit (tree_readings lexicon objects tree) refl;
-        own_class = own_for it.token tree.pred own;
-        bases_mean = base_means is.facts (are_facts files table given is) is.fine (right files table given is);
-        bases_fit = bases_fit;
-        things = λ number k d within. Contains-get_or (class_objects lexicon number) k d within;
-      }
+  module _ (IsHeld : Stand → Type 0) where
+    read_held : (reading : Readings) (holds : Holding IsHeld reading) (read : tree.Meaning) (meaning : Meaning) (stand : Stand)
+        → file_read is.facts.names table.scope read ≡ Some meaning → meaning_stand reading [] no_growth read ≡ Some stand → IsHeld stand
+    read_held reading holds (reads.BuiltIn number) meaning stand found stands_so =
+        subst IsHeld (same_Some (stands.Class number) stand stands_so) (holds.class number)
+    read_held reading holds (reads.Scope place) meaning stand found stands_so = item_all IsHeld reading.lexicon.scope place stand holds.scope stands_so
+    read_held reading holds (reads.Turn number) meaning stand found stands_so = absurd (none-some meaning found)
+    read_held reading holds (reads.Local number) meaning stand found stands_so = absurd (none-some meaning found)
+    read_held reading holds (reads.Slot number) meaning stand found stands_so = absurd (none-some meaning found)
+    read_held reading holds (reads.Here part) meaning stand found stands_so = absurd (none-some meaning found)
+
+    pub setting_of : (tree : PlainTree) (it : IsGrounded files table given is tree) → Holding IsHeld (tree_readings lexicon objects tree)
+        → IsSetting IsFor IsPredFor IsThing IsHeld files (ground_of files table given is tree it) (tree_readings lexicon objects tree)
+    setting_of tree it holds =
+        let reading = tree_readings lexicon objects tree in
+        let own : IsPredFor it.token tree.pred = record { pred = it.pred; at = it.at; below = it.below; found = it.found } in
+        record {
+          is_ground = ground_is files table given is tree it;
+          serves = record { field = field_serves; predicate = predicate_serves; part = part_serves };
+          own = own;
+          parts = λ name. own_parts tree.pred it.pred.params name
+              (same_positions name 0 (pred_params lexicon tree.pred) it.pred.params (params_named files table given is named_objects made_objects tree.pred it.pred it.at));
+          parts_held = holds.own;
+          files_fit = λ name read meaning meant means found denotes.
+              let one = files_fit reading refl name read meaning meant means found denotes in
+              (one.0, one.1, (one.2, read_held reading holds read meaning one.0 found (one.1 [] no_growth)));
+          own_class = own_for it.token tree.pred own;
+          bases_mean = base_means is.facts (are_facts files table given is) is.fine (right files table given is);
+          bases_fit = bases_fit;
+          things = λ number k d within. Contains-get_or (class_objects lexicon number) k d within;
+        }
+
+  abbrev Anything : Stand → Type 0
+  Anything stand = ⊤
+
+  anything : (reading : Readings) → Holding Anything reading
+  anything reading = record { scope = λ k d within. tt; class = λ number. tt; own = λ name part named. tt }
 
   tree_meant : (tree : PlainTree) → AreReadInOrder tree.names → IsGrounded files table given is tree → IsTreeMeant lexicon objects tree
   tree_meant tree ordered it = by it.text
@@ -554,19 +587,22 @@ module _ (files : List FileDecls) (table : TypeTable) (given : AreGiven files) (
       named : InNames tree.names (block_names (sources_in (ground_of files table given is tree it)) no_sight no_tally tree.body)
       named = subst (InNames tree.names) it.names (names_read tree.names ordered)
 
+      setting : IsSetting IsFor IsPredFor IsThing Anything files (ground_of files table given is tree it) (tree_readings lexicon objects tree)
+      setting = setting_of Anything tree it (anything (tree_readings lexicon objects tree))
+
       by : HasFineText is.facts it.token tree.body → IsTreeMeant lexicon objects tree
       by (of_rule decl none) =
-          block_meant IsFor IsPredFor IsThing files (ground_of files table given is tree it) (tree_readings lexicon objects tree) (setting_of tree it)
-          (text_once tree.body it.rising) decl tree.body no_tally (token_alone it.token) no_sight [] none
+          block_meant IsFor IsPredFor IsThing Anything files (ground_of files table given is tree it) (tree_readings lexicon objects tree) setting
+          (text_once tree.body it.rising) (λ stand. tt) decl tree.body no_tally (token_alone it.token) no_sight [] none
           (rule_at tree.body (all_single is.facts decl (token_alone it.token) [] tree.body none)) named [] no_growth
-          (none_seen IsFor IsPredFor IsThing files (ground_of files table given is tree it) (tree_readings lexicon objects tree) (setting_of tree it) no_growth no_tally)
+          (none_seen IsFor IsPredFor IsThing Anything files (ground_of files table given is tree it) (tree_readings lexicon objects tree) setting no_growth no_tally)
       by (of_body decl some same none) =
           subst (λ (body : Statements). AreMeant (tree_readings lexicon objects tree) [] body no_growth) (sym same)
-          (body_meant IsFor IsPredFor IsThing files (ground_of files table given is tree it) (tree_readings lexicon objects tree) (setting_of tree it)
+          (body_meant IsFor IsPredFor IsThing Anything files (ground_of files table given is tree it) (tree_readings lexicon objects tree) setting
           (text_once tree.body it.rising) decl some no_tally (token_alone it.token) no_sight none
           (subst (λ (body : Statements). InNames tree.names (block_names (sources_in (ground_of files table given is tree it)) no_sight no_tally body)) same named)
           [] no_growth
-          (none_seen IsFor IsPredFor IsThing files (ground_of files table given is tree it) (tree_readings lexicon objects tree) (setting_of tree it) no_growth no_tally))
+          (none_seen IsFor IsPredFor IsThing Anything files (ground_of files table given is tree it) (tree_readings lexicon objects tree) setting no_growth no_tally))
 
   all_meant : (trees : List PlainTree) → AreFileTrees table files trees → All (IsTreeMeant lexicon objects) trees
   all_meant trees are = λ k d within.

@@ -20,6 +20,8 @@ use Rattle.nddl_ast.specs.declared.declaration.FileDecls.{FileDecls}
 use Rattle.nddl_ast.specs.declared.declaration.Member.{Member}
 use Rattle.nddl_ast.specs.declared.declaration.Member.TheVariants as members
 use Rattle.nddl_ast.specs.declared.declaration.PredicatePart.{PredicatePart}
+use Rattle.model_core.specs.declared.variable.VarDecl.{VarDecl}
+use Rattle.model_core.specs.Lawful.{quantity}
 use Rattle.nddl_ast.specs.declared.declaration.Typed.{Typed}
 use Rattle.nddl_ast.specs.declared.kind.TextKind.TheVariants as faults
 use Rattle.nddl_ast.specs.declared.name.Name.{Name}
@@ -259,7 +261,7 @@ module _ (facts : Facts) (name : List ℕ) where
 
 -- the parameters of a built-in predicate
 abbrev pub HasQuantity : Pred → Type 0
-HasQuantity pred = names_of pred.params ≡ codes "quantity" ∷ []
+HasQuantity pred = pred.params ≡ quantity ∷ []
 
 -- one of these predicates has the name, is of the class, and has a quantity
 abbrev pub HasNamed : ℕ → List ℕ → List Pred → Type 0
@@ -429,6 +431,7 @@ module _ (files : List FileDecls) (table : TypeTable) (given : AreGiven files) (
     pub of : pred.class ≡ class_number is.facts.names class
     pub named : pred.name ≡ name
     pub params : seen_of is.facts predicate ≡ names_of pred.params
+    pub built_in : predicate ≡ predicates.BuiltIn → HasQuantity pred
 
   pub pred_there : (class : Meaning) (name : List ℕ) (predicate : Predicate) → IsPlaced files table given is class → FoundIn is.facts name class predicate
       → PredThere class name predicate
@@ -446,6 +449,7 @@ module _ (files : List FileDecls) (table : TypeTable) (given : AreGiven files) (
         of = refl;
         named = same;
         params = ap (seen_of is.facts) it ∙ declared_names entry member at called parts there;
+        built_in = λ built. absurd (let e : predicates.Declared entry member ≡ predicates.BuiltIn = sym it ∙ built in cc);
       }
   pred_there (meanings.Entry class) name predicate placed (found_given number it below named) =
       let own_number = class_number is.facts.names (meanings.Entry class) in
@@ -462,7 +466,8 @@ module _ (files : List FileDecls) (table : TypeTable) (given : AreGiven files) (
         there = in_table placed.0 class one placed.1 inside;
         of = give.2.1;
         named = give.2.0;
-        params = ap (seen_of is.facts) it ∙ sym give.2.2;
+        params = ap (seen_of is.facts) it ∙ sym (ap (λ (params : List VarDecl). names_of params) give.2.2);
+        built_in = λ built. give.2.2;
       }
   pred_there (meanings.BuiltIn class) name predicate placed (found_member entry member at called parts it line there same) = absurd line
   pred_there (meanings.BuiltIn class) name predicate placed (found_given number it below named) =
@@ -472,7 +477,8 @@ module _ (files : List FileDecls) (table : TypeTable) (given : AreGiven files) (
         there = builtin_in_table number give.0 (which_builtin name number named) give.1;
         of = give.2.1 ∙ sym below;
         named = give.2.0;
-        params = ap (seen_of is.facts) it ∙ sym give.2.2;
+        params = ap (seen_of is.facts) it ∙ sym (ap (λ (params : List VarDecl). names_of params) give.2.2);
+        built_in = λ built. give.2.2;
       }
 
   pub owning_placed : (class : Meaning) (pred : Pred) → IsOwning class pred → IsPlaced files table given is class
@@ -489,3 +495,10 @@ module _ (files : List FileDecls) (table : TypeTable) (given : AreGiven files) (
   params_same pred has own predicate found =
       let it = pred_there own.class pred.name predicate (owning_placed own.class pred own.owning) found in
       it.params ∙ ap (λ (p : Pred). names_of p.params) (one_pred it.pred pred it.there has (it.of ∙ sym own.number) it.named)
+
+  -- so a built-in one has its quantity
+  pub quantity_of : (pred : Pred) → Contains table.preds pred → (own : HasOwner pred) (predicate : Predicate)
+      → FoundIn is.facts pred.name own.class predicate → predicate ≡ predicates.BuiltIn → HasQuantity pred
+  quantity_of pred has own predicate found built =
+      let it = pred_there own.class pred.name predicate (owning_placed own.class pred own.owning) found in
+      subst HasQuantity (one_pred it.pred pred it.there has (it.of ∙ sym own.number) it.named) (it.built_in built)

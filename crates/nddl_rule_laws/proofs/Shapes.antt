@@ -1,11 +1,11 @@
 -- The fields of the classes of a lexicon are those of the classes of files.
 use Rattle.std.proofs.Common.{◌≡◌, ◌≢◌, ℕ, zero, suc, ◌+◌, ◌<◌, ◌==◌, Bool, true, false, ◌||◌, List, [], ◌∷◌, ◌++◌, map, refl, sym, ◌∙◌, ap, subst, arith}
-use Rattle.std.specs.Prelude.{Option, Some, None, AllPairs, Contains, slice_get, codes, if◌then◌else◌}
+use Rattle.std.specs.Prelude.{Option, Some, None, All, AllPairs, Contains, slice_get, codes, if◌then◌else◌}
 use Rattle.std.specs.List.{cons_option, flat_map, filter_map, list_any}
 use Rattle.std.specs.Option.{option_map, option_map_or, option_or}
 use Rattle.std.specs.Str.{bytes_eq}
 use Rattle.std.proofs.lemmas.List.{map-append}
-use Rattle.std.proofs.lemmas.List.Elements.{Contains-append_left, Contains-append_right}
+use Rattle.std.proofs.lemmas.List.Elements.{All-contains, All-from_recursion, All-nil, Contains-append_left, Contains-append_right}
 use Rattle.std.proofs.lemmas.Option.{same_Some, none-some, slice_get-map}
 use Rattle.std.proofs.lemmas.Slice.Eq.{bytes_eq-Decides}
 use Rattle.eu_forest.specs.Ancestors.{ancestry}
@@ -338,8 +338,22 @@ module _ (files : List FileDecls) (table : TypeTable) (given : AreGiven files) (
     pub attribute : Attribute
     pub named : attribute_number name (shape_fields lexicon number) ≡ Some place
     pub at : slice_get (shape_fields lexicon number) place ≡ Some attribute
+    pub is_kind : attribute.shape.kind ≡ value_kind kind
     pub class_is : (of : Meaning) → kind ≡ kinds.Object of → attribute.shape.class ≡ class_number is.facts.names of
-    pub object_is : (of : Meaning) → kind ≡ kinds.Object of → attribute.shape.kind ≡ value_kinds.Object
+
+  -- the fields of built-in classes are whole numbers
+  number_kind : (number : ℕ) (field : VarDecl) → Contains (builtin_fields number) field → field.kind ≡ value_kinds.Int
+  number_kind number field has =
+      All-contains (λ (one : VarDecl). one.kind ≡ value_kinds.Int) (builtin_fields number) field (by (number == 2) (number == 3)) has
+    where
+      by : (two three : Bool)
+          → All (λ (one : VarDecl). one.kind ≡ value_kinds.Int) (if two then whole_field (codes "capacity") ∷ []
+          else (if three then whole_field (codes "initial") ∷ whole_field (codes "low") ∷ whole_field (codes "high") ∷ [] else []))
+      by true three = All-from_recursion (λ (one : VarDecl). one.kind ≡ value_kinds.Int) (whole_field (codes "capacity") ∷ []) (refl, tt)
+      by false true =
+          All-from_recursion (λ (one : VarDecl). one.kind ≡ value_kinds.Int)
+          (whole_field (codes "initial") ∷ whole_field (codes "low") ∷ whole_field (codes "high") ∷ []) (refl, (refl, (refl, tt)))
+      by false false = All-nil (λ (one : VarDecl). one.kind ≡ value_kinds.Int)
 
   -- the attribute by its own name is that by an equal one
   renamed : (number : ℕ) (it : Extended files table given is number) (name : List ℕ) (attribute : Attribute)
@@ -362,9 +376,10 @@ module _ (files : List FileDecls) (table : TypeTable) (given : AreGiven files) (
       whole class same attribute has called =
           renamed number it name attribute (subst (λ c. Contains (class_attributes world c) attribute) (sym same) has) called
 
-      number_in : (class : Meaning) → it.class ≡ class → (field : VarDecl) → Contains (class_attributes world class) (number_attribute field) → field.name ≡ name
+      number_in : (class : Meaning) → it.class ≡ class → (field : VarDecl) → field.kind ≡ value_kinds.Int
+          → Contains (class_attributes world class) (number_attribute field) → field.name ≡ name
           → found ≡ denoted.Value kinds.Int constant → HasField constant name number found
-      number_in class same field has called value =
+      number_in class same field whole_number has called value =
           let at = whole class same (number_attribute field) has called in
           record {
             kind = kinds.Int;
@@ -374,8 +389,8 @@ module _ (files : List FileDecls) (table : TypeTable) (given : AreGiven files) (
             attribute = number_attribute field;
             named = at.1;
             at = at.2;
+            is_kind = whole_number;
             class_is = λ of kind. absurd (let e : kinds.Int ≡ kinds.Object of = kind in cc);
-            object_is = λ of kind. absurd (let e : kinds.Int ≡ kinds.Object of = kind in cc);
           }
 
       by : (class : Meaning) → it.class ≡ class → FieldIn is.facts constant name class found → HasField constant name number found
@@ -399,8 +414,8 @@ module _ (files : List FileDecls) (table : TypeTable) (given : AreGiven files) (
             attribute = attribute;
             named = at.1;
             at = at.2;
+            is_kind = refl;
             class_is = λ of kind. ap (kind_class is.facts.names) kind;
-            object_is = λ of kind. ap value_kind kind;
           }
       by (meanings.Entry class) same (given_field given_number below called value) =
           let field = builtin_field name (builtin_fields given_number) called in
@@ -410,11 +425,11 @@ module _ (files : List FileDecls) (table : TypeTable) (given : AreGiven files) (
           (contains_map number_attribute (builtin_fields given_number) field.0 field.1) in
           let here = Contains-append_left (map number_attribute (given_fields (above is.facts.names is.facts.program entry)))
           (filter_map (member_attribute world) (members_of is.facts.names is.facts.program entry)) (number_attribute field.0) numbers in
-          number_in (meanings.Entry class) same field.0
+          number_in (meanings.Entry class) same field.0 (number_kind given_number field.0 field.1)
           (contains_flat (attributes_at world) (line_down is.facts class) entry (number_attribute field.0) below.1 here) field.2 value
       by (meanings.BuiltIn class) same (own_field entry typed line has called value) = absurd line
       by (meanings.BuiltIn class) same (given_field given_number below called value) =
           let field = builtin_field name (builtin_fields given_number) called in
           let numbers = contains_map number_attribute (builtin_fields given_number) field.0 field.1 in
-          number_in (meanings.BuiltIn class) same field.0
+          number_in (meanings.BuiltIn class) same field.0 (number_kind given_number field.0 field.1)
           (subst (λ n. Contains (map number_attribute (builtin_fields n)) (number_attribute field.0)) (sym below) numbers) field.2 value

@@ -51,7 +51,7 @@ use Rattle.nddl_unroll.specs.Meant.{IsSlotStand}
 use Rattle.nddl_laws.specs.Scoping.{AreAlike, IsGround, RuleGround, file_read, none_numbered, part_denoted, sources_in}
 use Rattle.nddl_laws.proofs.Scoping.{name_alike, seen_any}
 use Rattle.nddl_laws.proofs.Values.{no_fault}
-use Rattle.nddl_rule_laws.proofs.Fits.{Fits, KindFits, Serves}
+use Rattle.nddl_rule_laws.proofs.Fits.{Fits, ShapeFits, Serves}
 use Rattle.nddl_rule_laws.proofs.Kept.{Keeps, Once, declared_last, declared_other}
 use Rattle.nddl_rule_laws.proofs.Placing.{IsWithin}
 
@@ -104,13 +104,21 @@ pub all_second : {X : Type 0} (P : X → Type 0) (xs ys : List X) → AllByRecur
 all_second P [] ys all = all
 all_second P (x ∷ xs) ys all = all_second P xs ys all.1
 
+-- what is asked of all that stands for something is so of the names of the files, and of the parts of the token
+pub record Holding (IsHeld : Stand → Type 0) (reading : Readings) : Type 0 where
+  pub scope : All IsHeld reading.lexicon.scope
+  pub class : (number : ℕ) → IsHeld (stands.Class number)
+  pub own : (name : List ℕ) (part : Part) → part_called reading.lexicon reading.pred name ≡ Some part → IsHeld (own_stand reading part)
+
 -- what is read in these names is so read among all names of the rule
 abbrev pub InNames : List ReadName → List ReadName → Type 0
 InNames names some = AllByRecursion (λ (read : ReadName). name_read_at read.at names ≡ Some read.meaning) some
 
-module _ (IsFor : Meaning → ℕ → Type 0) (IsPredFor : TokenSort → ℕ → Type 0) (IsThing : ℕ → ℤ → Type 0) where
+module _ (IsFor : Meaning → ℕ → Type 0) (IsPredFor : TokenSort → ℕ → Type 0) (IsThing : ℕ → ℤ → Type 0)
+    (IsHeld : Stand → Type 0) where
+  -- what stands for something fits what it denotes, and has what is asked of all that stands for something
   abbrev pub Suits : Denoted → Stand → Type 0
-  Suits = Fits IsFor IsPredFor IsThing
+  Suits meant stand = Fits IsFor IsPredFor IsThing meant stand × IsHeld stand
 
   -- ---- where a rule is unrolled
 
@@ -121,6 +129,7 @@ module _ (IsFor : Meaning → ℕ → Type 0) (IsPredFor : TokenSort → ℕ →
     pub serves : Serves IsFor IsPredFor IsThing ground.facts reading.lexicon reading.objects
     pub own : IsPredFor ground.token reading.pred
     pub parts : (name : List ℕ) → own_part ground.params name ≡ part_called reading.lexicon reading.pred name
+    pub parts_held : (name : List ℕ) (part : Part) → part_called reading.lexicon reading.pred name ≡ Some part → IsHeld (own_stand reading part)
     pub files_fit : (name : List ℕ) (read : tree.Meaning) (meaning : Meaning) (meant : Denoted) → meaning_of ground.facts.names name ≡ Some meaning
         → file_read ground.facts.names ground.scope read ≡ Some meaning
         → meaning_denoted ground.facts meaning ≡ Some meant
@@ -131,7 +140,7 @@ module _ (IsFor : Meaning → ℕ → Type 0) (IsPredFor : TokenSort → ℕ →
     pub bases_fit : (name : List ℕ) (read : tree.Meaning) (meaning : Meaning) (kind : TypeKind) → meaning_of ground.facts.names name ≡ Some meaning
         → file_read ground.facts.names ground.scope read ≡ Some meaning
         → meaning_kind ground.facts.names ground.facts.known meaning ≡ Some kind
-        → KindFits IsFor IsPredFor IsThing kind (meaning_shape reading.lexicon (Some read)).class
+        → ShapeFits IsFor IsPredFor IsThing kind (meaning_shape reading.lexicon (Some read))
     pub things : (number : ℕ) → All (IsThing number) (class_objects reading.lexicon number)
 
   module _ (files : List FileDecls) (ground : RuleGround) (reading : Readings) (setting : IsSetting files ground reading) where
@@ -204,7 +213,8 @@ module _ (IsFor : Meaning → ℕ → Type 0) (IsPredFor : TokenSort → ℕ →
         by (Some meant) here alike =
             let it = setting.serves.part ground.token reading.pred name meant setting.own here in
             subst (AreAlike (λ meant part. Suits meant (own_stand reading part)) (Some meant)) (sym (setting.parts name ∙ it.named))
-            (subst (λ d. Suits d (own_stand reading it.part)) (sym it.is) (it.fits, tt))
+            (subst (λ d. Suits d (own_stand reading it.part)) (sym it.is)
+            ((it.is_kind, it.fits, tt), setting.parts_held name it.part it.named))
 
     -- the name of the files
     pub file_alike : (name : List ℕ) → AreAlike (λ meaning read. file_read ground.facts.names ground.scope read ≡ Some meaning)
@@ -298,11 +308,11 @@ module _ (IsFor : Meaning → ℕ → Type 0) (IsPredFor : TokenSort → ℕ →
             → (stand : Stand) → meaning_stand reading turns growth read ≡ Some stand → Suits (denoted.Class meaning) stand → ClassFits turns growth class
         made meaning read means there right (stands.Class number) so fits =
             let one = subst (λ o. InNames reading.names (read_at class.at o)) there names in
-            record { meaning = meaning; means = means; right = right; number = number; stands_so = stand_is turns growth class.at read (stands.Class number) one.0 so; fits = fits }
-        made meaning read means there right (stands.Value term own number) so fits = absurd fits
-        made meaning read means there right (stands.Slot number pred) so fits = absurd fits
-        made meaning read means there right (stands.Root number pred) so fits = absurd fits
-        made meaning read means there right stands.Nothing so fits = absurd fits
+            record { meaning = meaning; means = means; right = right; number = number; stands_so = stand_is turns growth class.at read (stands.Class number) one.0 so; fits = fits.0 }
+        made meaning read means there right (stands.Value term own number) so fits = absurd fits.0
+        made meaning read means there right (stands.Slot number pred) so fits = absurd fits.0
+        made meaning read means there right (stands.Root number pred) so fits = absurd fits.0
+        made meaning read means there right stands.Nothing so fits = absurd fits.0
 
         by : (o : Option Meaning) → meaning_of ground.facts.names class.text ≡ o → (q : Option tree.Meaning) → scope_meaning (sources_in ground).scope class.text ≡ q
             → AreAlike (λ meaning read. file_read ground.facts.names ground.scope read ≡ Some meaning) o q

@@ -13,6 +13,7 @@ use Rattle.domain_core.specs.declared.kind.Kind.{Kind}
 use Rattle.model_core.specs.declared.item.Rel.{Rel}
 use Rattle.model_core.specs.declared.item.Term.TheVariants as terms
 use Rattle.model_core.specs.declared.rule.Entry.TheVariants as entries
+use Rattle.model_core.specs.declared.rule.Slot.{Slot}
 use Rattle.model_core.specs.declared.variable.Base.{Base}
 use Rattle.model_core.specs.declared.variable.ValueKind.TheVariants as value_kinds
 use Rattle.model_core.specs.Block.{plain_entries}
@@ -84,11 +85,11 @@ use Rattle.nddl_laws.specs.Scoping.{AreAlike, RuleGround, file_read, sources_in}
 use Rattle.nddl_laws.proofs.Nothing.{none_first, none_second}
 use Rattle.nddl_laws.proofs.Values.{no_fault}
 use Rattle.nddl_rule_laws.proofs.Arguments.{condition_meant, exprs_meant, init_meant, token_meant, understood}
-use Rattle.nddl_rule_laws.proofs.Fits.{Fits, KindFits, TokenFits, named_fits, token_there}
+use Rattle.nddl_rule_laws.proofs.Fits.{Fits, ShapeFits, TokenFits, named_fits, token_there}
 use Rattle.nddl_rule_laws.proofs.Kept.{AsksIf, Keeps, SameMade, ask_made, call_made, condition_made, declared_last, keeps_fewer, keeps_if, keeps_local, keeps_same, keeps_slot, keeps_then, ask_asks, local_made, makes_nothing, makes_slot}
 use Rattle.nddl_rule_laws.proofs.Placing.{AreAt, AreSingle, IsSingle, IsWithin, call_within, local_within, slot_within, tallied_within, turn_within, within_both, within_itself}
 use Rattle.nddl_rule_laws.proofs.Rising.{AreOnce}
-use Rattle.nddl_rule_laws.proofs.Sights.{InNames, IsSetting, Sees, all_first, all_second, class_fits, file_alike, label_fits, sees_kept, sees_label, sees_local, sees_turn}
+use Rattle.nddl_rule_laws.proofs.Sights.{InNames, IsSetting, Sees, Suits, all_first, all_second, class_fits, file_alike, label_fits, sees_kept, sees_label, sees_local, sees_turn}
 
 -- ---- calls
 
@@ -111,12 +112,23 @@ pub no_relation : (name : List ℕ) (kind : Kind) → constraint_named name ≡ 
 unfolding constraint_named
 no_relation name kind is = among name kind constraint_words constraints_differ is
 
+-- so the name of a constraint with which nothing is wrong is none of a relation
+pub constraint_free : (facts : Facts) (around : Surroundings) (decl : ℕ) (word : Name) (some : List Expr)
+    → constraint_call_faults facts around decl word some ≡ [] → relation_named word.text ≡ None
+constraint_free facts around decl word some none = by (constraint_named word.text) refl none
+  where
+    by : (o : Option Kind) → constraint_named word.text ≡ o
+        → option_map_or (λ kind. constraint_faults facts around decl kind word.at some) o (faults_here decl word.at (Some faults.Unknown)) ≡ []
+        → relation_named word.text ≡ None
+    by None is one = absurd (cc)
+    by (Some kind) is one = no_relation word.text kind is
+
 -- a call with which nothing is wrong is no act
 act_wrong : (decl : ℕ) (act : Name) (u : Understood) → no_act_faults decl act u ≡ [] → ⊥
 act_wrong decl act (Ok meant) none = cc
 act_wrong decl act (Err fault) none = cc
 
-named_fine : (facts : Facts) (around : Surroundings) (decl : ℕ) (call : Call) → rule_call_faults facts around decl call ≡ []
+pub named_fine : (facts : Facts) (around : Surroundings) (decl : ℕ) (call : Call) → rule_call_faults facts around decl call ≡ []
     → named_call_faults facts around decl call.path.first call.arguments ≡ []
 named_fine facts around decl call none = by (path_before call.path) none
   where
@@ -127,7 +139,7 @@ named_fine facts around decl call none = by (path_before call.path) none
     by None one = one
     by (Some front) one = absurd (act_wrong decl (last_name call.path) (path_denoted facts around front) one)
 
-body_fine : (facts : Facts) (around : Surroundings) (decl : ℕ) (call : Call) → body_call_faults facts around decl call ≡ []
+pub body_fine : (facts : Facts) (around : Surroundings) (decl : ℕ) (call : Call) → body_call_faults facts around decl call ≡ []
     → constraint_call_faults facts around decl call.path.first call.arguments ≡ []
 body_fine facts around decl call none = by (path_before call.path) none
   where
@@ -194,43 +206,42 @@ all_single facts decl around own (Repeats at name class body_at body more) none 
       all_single facts decl around own more (none_second second third rest),
     )
 
--- the class of a shape is that of its base
-based_class : (shape : Shape) (o : Option Base) → (with_base shape o).class ≡ shape.class
-based_class shape None = refl
-based_class shape (Some base) = refl
+module _ (IsFor : Meaning → ℕ → Type 0) (IsPredFor : TokenSort → ℕ → Type 0) (IsThing : ℕ → ℤ → Type 0)
+    (IsHeld : Stand → Type 0) (files : List FileDecls) (ground : RuleGround)
+    (reading : Readings) (setting : IsSetting IsFor IsPredFor IsThing IsHeld files ground reading) (once : AreOnce reading.places) where
+  abbrev pub Sights : Tally → List Made → Growth → Surroundings → Sight → Type 0
+  Sights = Sees IsFor IsPredFor IsThing IsHeld files ground reading setting
 
-module _ (IsFor : Meaning → ℕ → Type 0) (IsPredFor : TokenSort → ℕ → Type 0) (IsThing : ℕ → ℤ → Type 0) (files : List FileDecls) (ground : RuleGround)
-    (reading : Readings) (setting : IsSetting IsFor IsPredFor IsThing files ground reading) (once : AreOnce reading.places) where
-  abbrev Sights : Tally → List Made → Growth → Surroundings → Sight → Type 0
-  Sights = Sees IsFor IsPredFor IsThing files ground reading setting
+  abbrev pub Fitting : Denoted → Stand → Type 0
+  Fitting = Suits IsFor IsPredFor IsThing IsHeld
 
-  abbrev Stays : Tally → Growth → Growth → Type 0
+  abbrev pub Stays : Tally → Growth → Growth → Type 0
   Stays = Keeps reading.places once.locals once.slots
 
-  abbrev Named : ReadName → Type 0
+  abbrev pub Named : ReadName → Type 0
   Named read = name_read_at read.at reading.names ≡ Some read.meaning
 
-  abbrev IsToken : Denoted → Option ℕ → Type 0
+  abbrev pub IsToken : Denoted → Option ℕ → Type 0
   IsToken = TokenFits IsFor IsPredFor IsThing ground.facts reading setting.serves
 
   -- what the rule has further on leaves what is seen
-  further : (few many : Tally) (turns : List Made) (old new : Growth) (around : Surroundings) (sight : Sight) → IsWithin few many → Stays few old new
+  pub further : (few many : Tally) (turns : List Made) (old new : Growth) (around : Surroundings) (sight : Sight) → IsWithin few many → Stays few old new
       → Sights few turns old around sight → Sights many turns new around sight
   further few many turns old new around sight within stays sees =
-      sees_kept IsFor IsPredFor IsThing files ground reading setting once.locals once.slots few many turns old new around sight within stays sees
+      sees_kept IsFor IsPredFor IsThing IsHeld files ground reading setting once.locals once.slots few many turns old new around sight within stays sees
 
-  stays_fewer : (few many : Tally) (old new : Growth) → IsWithin few many → Stays many old new → Stays few old new
+  pub stays_fewer : (few many : Tally) (old new : Growth) → IsWithin few many → Stays many old new → Stays few old new
   stays_fewer few many old new within stays = keeps_fewer reading.places once.locals once.slots few many old new within.locals within.slots stays
 
-  stays_then : (tally : Tally) (old between new : Growth) → Stays tally old between → Stays tally between new → Stays tally old new
+  pub stays_then : (tally : Tally) (old between new : Growth) → Stays tally old between → Stays tally between new → Stays tally old new
   stays_then tally old between new first second = keeps_then reading.places once.locals once.slots tally old between new first second
 
-  stays_same : (tally : Tally) (old new : Growth) → SameMade old new → Stays tally old new
+  pub stays_same : (tally : Tally) (old new : Growth) → SameMade old new → Stays tally old new
   stays_same tally old new same = keeps_same reading.places once.locals once.slots tally old new same
 
   -- ---- what the rule has further on
 
-  call_stays : (tally : Tally) (turns : List Made) (call : Call) (growth : Growth)
+  pub call_stays : (tally : Tally) (turns : List Made) (call : Call) (growth : Growth)
       → (asks_slot call ≡ true → slice_get reading.places.slots tally.slots ≡ Some call.path.first.at) → Stays tally growth (with_call reading turns call growth)
   call_stays tally turns call growth at = elim (call_made reading turns call growth) [
     | makes_nothing same ↦ stays_same tally growth (with_call reading turns call growth) same
@@ -238,7 +249,7 @@ module _ (IsFor : Meaning → ℕ → Type 0) (IsPredFor : TokenSort → ℕ →
         keeps_slot reading.places once.locals once.slots tally call.path.first.at pred growth (with_call reading turns call growth) (at asks) slot
   ]
 
-  ask_stays : (tally : Tally) (turns : List Made) (ask : Ask) (growth : Growth) → slice_get reading.places.slots tally.slots ≡ Some ask.label.at
+  pub ask_stays : (tally : Tally) (turns : List Made) (ask : Ask) (growth : Growth) → slice_get reading.places.slots tally.slots ≡ Some ask.label.at
       → Stays tally growth (with_ask reading turns ask growth)
   ask_stays tally turns ask growth at = elim (ask_made reading turns ask growth) [
     | inl same ↦ stays_same tally growth (with_ask reading turns ask growth) same
@@ -247,7 +258,7 @@ module _ (IsFor : Meaning → ℕ → Type 0) (IsPredFor : TokenSort → ℕ →
         (with_ask reading turns ask growth) at made
   ]
 
-  turns_stay : (tally : Tally) (turn : Stand → Growth → Growth) (objects : List Stand) (growth : Growth)
+  pub turns_stay : (tally : Tally) (turn : Stand → Growth → Growth) (objects : List Stand) (growth : Growth)
       → ((object : Stand) (inner : Growth) → Stays tally inner (turn object inner)) → Stays tally growth (all_turns turn objects growth)
   turns_stay tally turn [] growth each = stays_same tally growth growth (record { named = refl; asked = refl })
   turns_stay tally turn (object ∷ more) growth each =
@@ -255,7 +266,7 @@ module _ (IsFor : Meaning → ℕ → Type 0) (IsPredFor : TokenSort → ℕ →
       (turns_stay tally turn more (turn object growth) each)
 
   -- behind a block nothing has come but what is declared in it
-  block_stays : (tally : Tally) (growth filled : Growth) (turns : List Made) (condition : Condition) → Stays tally (in_block (condition_guard reading turns condition growth).growth) filled
+  pub block_stays : (tally : Tally) (growth filled : Growth) (turns : List Made) (condition : Condition) → Stays tally (in_block (condition_guard reading turns condition growth).growth) filled
       → Stays tally growth filled
   block_stays tally growth filled turns condition inside =
       let tested = condition_guard reading turns condition growth in
@@ -263,7 +274,7 @@ module _ (IsFor : Meaning → ℕ → Type 0) (IsPredFor : TokenSort → ℕ →
       stays_then tally growth (in_block tested.growth) filled
       (stays_same tally growth (in_block tested.growth) (record { named = same.named; asked = same.asked })) inside
 
-  unrolled_stays : (statements : Statements) (tally : Tally) (turns : List Made) (growth : Growth) → AreAt reading.places tally statements
+  pub unrolled_stays : (statements : Statements) (tally : Tally) (turns : List Made) (growth : Growth) → AreAt reading.places tally statements
       → Stays tally growth (unrolled reading turns statements growth)
   unrolled_stays Nothing tally turns growth at = stays_same tally growth growth (record { named = refl; asked = refl })
   unrolled_stays (Declares variable more) tally turns growth at =
@@ -319,28 +330,35 @@ module _ (IsFor : Meaning → ℕ → Type 0) (IsPredFor : TokenSort → ℕ →
 
   -- ---- types of locals
 
+  abbrev pub Shaped : TypeKind → Shape → Type 0
+  Shaped = ShapeFits IsFor IsPredFor IsThing
+
+  based_fits : (kind : TypeKind) (shape : Shape) (o : Option Base) → Shaped kind shape → Shaped kind (with_base shape o)
+  based_fits kind shape None fits = fits
+  based_fits kind shape (Some base) fits = fits
+
   base_fits : (base : BaseType) (kind : TypeKind) → InNames reading.names (base_read (sources_in ground).scope base)
-      → base_kind ground.facts.names ground.facts.known base ≡ Some kind → KindFits IsFor IsPredFor IsThing kind (base_shape reading base).class
-  base_fits bases.Int kind names is = subst (λ k. KindFits IsFor IsPredFor IsThing k (base_shape reading bases.Int).class) (same_Some kinds.Int kind is) tt
-  base_fits bases.Bool kind names is = subst (λ k. KindFits IsFor IsPredFor IsThing k (base_shape reading bases.Bool).class) (same_Some kinds.Bool kind is) tt
-  base_fits bases.Float kind names is = subst (λ k. KindFits IsFor IsPredFor IsThing k (base_shape reading bases.Float).class) (same_Some kinds.Float kind is) tt
+      → base_kind ground.facts.names ground.facts.known base ≡ Some kind → Shaped kind (base_shape reading base)
+  base_fits bases.Int kind names is = subst (λ k. Shaped k (base_shape reading bases.Int)) (same_Some kinds.Int kind is) (refl, tt)
+  base_fits bases.Bool kind names is = subst (λ k. Shaped k (base_shape reading bases.Bool)) (same_Some kinds.Bool kind is) (refl, tt)
+  base_fits bases.Float kind names is = subst (λ k. Shaped k (base_shape reading bases.Float)) (same_Some kinds.Float kind is) (refl, tt)
   base_fits bases.Str kind names is = absurd (none-some kind is)
   base_fits (bases.Named name) kind names is =
       by (meaning_of ground.facts.names name.text) refl (scope_meaning (sources_in ground).scope name.text) refl
-      (file_alike IsFor IsPredFor IsThing files ground reading setting name.text) is
+      (file_alike IsFor IsPredFor IsThing IsHeld files ground reading setting name.text) is
     where
       by : (o : Option Meaning) → meaning_of ground.facts.names name.text ≡ o → (q : Option tree.Meaning) → scope_meaning (sources_in ground).scope name.text ≡ q
           → AreAlike (λ meaning read. file_read ground.facts.names ground.scope read ≡ Some meaning) o q
           → option_and_then (meaning_kind ground.facts.names ground.facts.known) o ≡ Some kind
-          → KindFits IsFor IsPredFor IsThing kind (base_shape reading (bases.Named name)).class
+          → Shaped kind (base_shape reading (bases.Named name))
       by None means q there alike found = absurd (none-some kind found)
       by (Some meaning) means None there alike found = absurd alike
       by (Some meaning) means (Some read) there alike found =
           let one = subst (λ o. InNames reading.names (read_at name.at o)) there names in
-          subst (λ o. KindFits IsFor IsPredFor IsThing kind (meaning_shape reading.lexicon o).class) (sym one.0)
+          subst (λ o. Shaped kind (meaning_shape reading.lexicon o)) (sym one.0)
           (setting.bases_fit name.text read meaning kind means alike found)
 
-  local_fits : (turns : List Made) (growth : Growth) (around : Surroundings) (sight : Sight) (decl number : ℕ) (variable : Variable)
+  pub local_fits : (turns : List Made) (growth : Growth) (around : Surroundings) (sight : Sight) (decl number : ℕ) (variable : Variable)
       → InNames reading.names (type_read (sources_in ground) sight variable.declared) → local_type_faults ground.facts around decl variable.declared ≡ []
       → Fits IsFor IsPredFor IsThing (local_value ground.facts variable)
       (stands.Value (terms.Local number) (type_shape reading turns growth variable.declared).kind (type_shape reading turns growth variable.declared).class)
@@ -354,12 +372,11 @@ module _ (IsFor : Meaning → ℕ → Type 0) (IsPredFor : TokenSort → ℕ →
       let right = no_fault decl of.at (base_fault ground.facts.names of.base) (none_first first second none) in
       let kind = setting.bases_mean of.base right in
       let own = all_first Named (base_read (sources_in ground).scope of.base) (bounds_read (sources_in ground) sight of.bounds) names in
-      let fits = base_fits of.base kind.0 own kind.1 in
-      let class_is : (type_shape reading turns growth of).class ≡ (base_shape reading of.base).class =
-      based_class (base_shape reading of.base) (bounds_base reading turns growth (base_shape reading of.base).kind of.bounds) in
+      let shape = base_shape reading of.base in
+      let fits = based_fits kind.0 shape (bounds_base reading turns growth shape.kind of.bounds) (base_fits of.base kind.0 own kind.1) in
       subst (λ (o : Option TypeKind). Fits IsFor IsPredFor IsThing (option_map_or (λ (k : TypeKind). denoted.Value k false) o denoted.Faulty)
       (stands.Value (terms.Local number) (type_shape reading turns growth of).kind (type_shape reading turns growth of).class)) (sym kind.1)
-      (subst (KindFits IsFor IsPredFor IsThing kind.0) (sym class_is) fits, tt)
+      (fits.0, fits.1, tt)
 
   -- ---- calls
 
@@ -372,7 +389,7 @@ module _ (IsFor : Meaning → ℕ → Type 0) (IsPredFor : TokenSort → ℕ →
           → (if b then arguments_faults ground.facts around decl asks 0 None some else faults_here decl word.at (Some faults.WrongCount)) ≡ []
           → AreExprsMeant reading turns some growth
       counted asks true one =
-          exprs_meant IsFor IsPredFor IsThing files ground reading setting once.locals once.slots tally turns growth around sight decl asks 0 None some sees names one
+          exprs_meant IsFor IsPredFor IsThing IsHeld files ground reading setting once.locals once.slots tally turns growth around sight decl asks 0 None some sees names one
       counted asks false one = absurd (cc)
 
       by : (o : Option Kind)
@@ -392,12 +409,12 @@ module _ (IsFor : Meaning → ℕ → Type 0) (IsPredFor : TokenSort → ℕ →
 
       by : (b : Bool) → is_label around path.first.text ≡ b
           → (if b then [] else unwanted_faults decl path.first.at (path_denoted ground.facts around path)) ≡ [] → IsRelatedMeant reading turns path [] growth
-      by true label one = label_fits IsFor IsPredFor IsThing files ground reading setting tally turns growth around sight sees path.first names label
+      by true label one = label_fits IsFor IsPredFor IsThing IsHeld files ground reading setting tally turns growth around sight sees path.first names label
       by false label one = absurd (unwanted (path_denoted ground.facts around path) one)
   related_meant tally turns growth around sight decl path (name ∷ more) sees names none =
       let it = understood decl (asked_token ground.facts around path) none in
       token_there IsFor IsPredFor IsThing ground.facts reading setting.serves it.0 (asked_path reading turns path growth).wanted.pred
-      (token_meant IsFor IsPredFor IsThing files ground reading setting once.locals once.slots tally turns growth around sight path it.0 sees names it.1)
+      (token_meant IsFor IsPredFor IsThing IsHeld files ground reading setting once.locals once.slots tally turns growth around sight path it.0 sees names it.1)
 
   relation_meant : (tally : Tally) (turns : List Made) (growth : Growth) (around : Surroundings) (sight : Sight) (decl at : ℕ) (some : List Expr)
       → Sights tally turns growth around sight → InNames reading.names (exprs_read (sources_in ground) sight some)
@@ -424,14 +441,14 @@ module _ (IsFor : Meaning → ℕ → Type 0) (IsPredFor : TokenSort → ℕ →
   -- ---- relations with a label
 
   -- the token that is asked for is of a predicate that there is
-  record LabelFits (turns : List Made) (growth : Growth) (around : Surroundings) (ask : Ask) : Type 0 where
-    relation : Rel
-    named : relation_named ask.word.text ≡ Some relation
-    end : Denoted
-    is : labelled_slot ground.facts around ask.path ≡ Ok end
-    fits : IsToken end (asked_labelled reading turns ask.path ask.path.rest growth).wanted.pred
+  pub record LabelFits (turns : List Made) (growth : Growth) (around : Surroundings) (ask : Ask) : Type 0 where
+    pub relation : Rel
+    pub named : relation_named ask.word.text ≡ Some relation
+    pub end : Denoted
+    pub is : labelled_slot ground.facts around ask.path ≡ Ok end
+    pub fits : IsToken end (asked_labelled reading turns ask.path ask.path.rest growth).wanted.pred
 
-  label_there : (tally : Tally) (turns : List Made) (growth : Growth) (around : Surroundings) (sight : Sight) (decl : ℕ) (ask : Ask)
+  pub label_there : (tally : Tally) (turns : List Made) (growth : Growth) (around : Surroundings) (sight : Sight) (decl : ℕ) (ask : Ask)
       → Sights tally turns growth around sight → InNames reading.names (asked_read (sources_in ground) sight ask.path.first ask.path.rest)
       → ask_faults ground.facts around decl ask ≡ [] → LabelFits turns growth around ask
   label_there tally turns growth around sight decl ask sees names none = by (relation_named ask.word.text) refl none
@@ -448,7 +465,7 @@ module _ (IsFor : Meaning → ℕ → Type 0) (IsPredFor : TokenSort → ℕ →
           named_fits IsFor IsPredFor IsThing ground.facts reading setting.serves ground.token.class (pred_class reading.lexicon reading.pred) ask.path.first end
           setting.own_class (own end one)
       ends (name ∷ more) end one named =
-          token_meant IsFor IsPredFor IsThing files ground reading setting once.locals once.slots tally turns growth around sight ask.path end sees named one
+          token_meant IsFor IsPredFor IsThing IsHeld files ground reading setting once.locals once.slots tally turns growth around sight ask.path end sees named one
 
       by : (o : Option Rel) → relation_named ask.word.text ≡ o
           → (if is_some o then understood_faults decl (labelled_slot ground.facts around ask.path) else faults_here decl ask.word.at (Some faults.Unknown)) ≡ []
@@ -469,14 +486,15 @@ module _ (IsFor : Meaning → ℕ → Type 0) (IsPredFor : TokenSort → ℕ →
   -- ---- statements
 
   -- what stands for a label that is seen from here on
-  record SlotFits (at : ℕ) (old new : Growth) (end : Denoted) : Type 0 where
-    number : ℕ
-    pred : ℕ
-    asked : new.asked ≡ old.asked ++ record { at = at; stand = stands.Slot number pred } ∷ []
-    fits : Fits IsFor IsPredFor IsThing end (stands.Slot number pred)
+  pub record SlotFits (at : ℕ) (old new : Growth) (end : Denoted) : Type 0 where
+    pub number : ℕ
+    pub pred : ℕ
+    pub asked : new.asked ≡ old.asked ++ record { at = at; stand = stands.Slot number pred } ∷ []
+    pub fits : Fits IsFor IsPredFor IsThing end (stands.Slot number pred)
+    pub there : (slot : Slot) × (slice_get new.slots number ≡ Some slot) × (slot.pred ≡ pred)
 
-  slot_fits : (at : ℕ) (old new : Growth) (end : Denoted) (found : Option ℕ) → IsToken end found → AsksIf at old new found → SlotFits at old new end
-  slot_fits at old new (denoted.Token token) (Some pred) is made = record { number = made.number; pred = pred; asked = made.asked; fits = is }
+  pub slot_fits : (at : ℕ) (old new : Growth) (end : Denoted) (found : Option ℕ) → IsToken end found → AsksIf at old new found → SlotFits at old new end
+  slot_fits at old new (denoted.Token token) (Some pred) is made = record { number = made.number; pred = pred; asked = made.asked; fits = is; there = made.there }
   slot_fits at old new (denoted.Token token) None is made = absurd is
   slot_fits at old new (denoted.Value kind constant) (Some pred) is made = absurd is
   slot_fits at old new (denoted.Value kind constant) None is made = absurd is
@@ -493,7 +511,7 @@ module _ (IsFor : Meaning → ℕ → Type 0) (IsPredFor : TokenSort → ℕ →
   -- the block of a `foreach` in each of its turns
   turns_meant : (tally : Tally) (around : Surroundings) (sight : Sight) (name : Name) (meant : Denoted) (number : ℕ) (body : Statements)
       → slice_get reading.places.turns tally.turns ≡ Some name.at → AreAt reading.places (turn_more tally) body
-      → ((value : ℤ) → IsThing number value → Fits IsFor IsPredFor IsThing meant (stands.Value (terms.Lit value) value_kinds.Object number))
+      → ((value : ℤ) → IsThing number value → Fitting meant (stands.Value (terms.Lit value) value_kinds.Object number))
       → IsBlockMeant (turn_more tally) (seeing_turn around name meant) (with_turn sight name.text tally.turns) body
       → (turns : List Made) (values : List ℤ) (growth : Growth) → All (IsThing number) values → Sights tally turns growth around sight
       → InEachTurn (λ object inner. AreMeant reading (turns ++ turn_of name object ∷ []) body inner)
@@ -505,23 +523,23 @@ module _ (IsFor : Meaning → ℕ → Type 0) (IsPredFor : TokenSort → ℕ →
       let next = unrolled reading inside body growth in
       let stays = stays_fewer tally (turn_more tally) growth next (turn_within tally) (unrolled_stays body (turn_more tally) inside growth at) in (
         block inside growth
-            (sees_turn IsFor IsPredFor IsThing files ground reading setting once.turns tally (turn_more tally) turns growth around sight name meant stand
+            (sees_turn IsFor IsPredFor IsThing IsHeld files ground reading setting once.turns tally (turn_more tally) turns growth around sight name meant stand
             (turn_within tally) (omega arith) sees there (fits value (All-head (IsThing number) value more things))),
         turns_meant tally around sight name meant number body there at fits block turns more next (All-tail (IsThing number) value more things)
             (further tally tally turns growth next around sight (within_itself tally) stays sees),
       )
 
   -- what the variable of a `foreach` denotes
-  turn_value_is : (class : Name) (meaning : Meaning) → meaning_of ground.facts.names class.text ≡ Some meaning
+  pub turn_value_is : (class : Name) (meaning : Meaning) → meaning_of ground.facts.names class.text ≡ Some meaning
       → class_meaning_fault ground.facts.names (Some meaning) ≡ None → turn_value ground.facts class ≡ denoted.Value (kinds.Object meaning) true
   turn_value_is class meaning means right =
       ap (λ o. object_unless o (is_some (class_meaning_fault ground.facts.names o))) means ∙ ap (λ o. object_unless (Some meaning) (is_some o)) right
 
-  pub block_meant : (decl : ℕ) (statements : Statements) (tally : Tally) (around : Surroundings) (sight : Sight) (own : Noted)
+  pub block_meant : (all : (stand : Stand) → IsHeld stand) (decl : ℕ) (statements : Statements) (tally : Tally) (around : Surroundings) (sight : Sight) (own : Noted)
       → block_faults ground.facts decl around own statements ≡ [] → AreAt reading.places tally statements
       → InNames reading.names (block_names (sources_in ground) sight tally statements) → IsBlockMeant tally around sight statements
-  block_meant decl Nothing tally around sight own none at names turns growth sees = tt
-  block_meant decl (Declares variable more) tally around sight own none at names turns growth sees =
+  block_meant all decl Nothing tally around sight own none at names turns growth sees = tt
+  block_meant all decl (Declares variable more) tally around sight own none at names turns growth sees =
       let of = variable.declared in
       let meant = local_value ground.facts variable in
       let one = local_faults ground.facts around decl own variable in
@@ -543,14 +561,14 @@ module _ (IsFor : Meaning → ℕ → Type 0) (IsPredFor : TokenSort → ℕ →
       let there : declared_stand reading.places.locals tally.locals next.named ≡ Some stand =
       ap (declared_stand reading.places.locals tally.locals) made.named ∙ declared_last reading.places.locals tally.locals variable.name.at growth.named stand at.0 in
       let fits = local_fits turns growth around sight decl made.number variable (all_first Named typed begun own_names) (none_first first (second ++ third) here) in (
-        init_meant IsFor IsPredFor IsThing files ground reading setting once.locals once.slots tally turns growth around sight decl of variable.init sees
+        init_meant IsFor IsPredFor IsThing IsHeld files ground reading setting once.locals once.slots tally turns growth around sight decl of variable.init sees
             (all_second Named typed begun own_names) (none_second second third (none_second first (second ++ third) here)),
-        block_meant decl more (local_more tally) (seeing_local around variable.name meant) next_sight (with_noted own variable.name.text 0)
+        block_meant all decl more (local_more tally) (seeing_local around variable.name meant) next_sight (with_noted own variable.name.text 0)
             (none_second one two none) at.1 (all_second Named (local_read (sources_in ground) sight variable) rest names) turns next
-            (sees_local IsFor IsPredFor IsThing files ground reading setting tally (local_more tally) turns next around sight variable.name meant stand (omega arith)
-            (further tally (local_more tally) turns growth next around sight (local_within tally) stays sees) there fits),
+            (sees_local IsFor IsPredFor IsThing IsHeld files ground reading setting tally (local_more tally) turns next around sight variable.name meant stand (omega arith)
+            (further tally (local_more tally) turns growth next around sight (local_within tally) stays sees) there (fits, all stand)),
       )
-  block_meant decl (Calls call more) tally around sight own none at names turns growth sees =
+  block_meant all decl (Calls call more) tally around sight own none at names turns growth sees =
       let one = rule_call_faults ground.facts around decl call in
       let two = block_faults ground.facts decl around own more in
       let read = exprs_read (sources_in ground) sight call.arguments in
@@ -558,10 +576,10 @@ module _ (IsFor : Meaning → ℕ → Type 0) (IsPredFor : TokenSort → ℕ →
       let next = with_call reading turns call growth in (
         call_meant tally turns growth around sight decl call sees (all_first Named read rest names)
             (named_fine ground.facts around decl call (none_first one two none)),
-        block_meant decl more (call_tally tally call) around sight own (none_second one two none) at.1 (all_second Named read rest names) turns next
+        block_meant all decl more (call_tally tally call) around sight own (none_second one two none) at.1 (all_second Named read rest names) turns next
             (further tally (call_tally tally call) turns growth next around sight (call_within tally call) (call_stays tally turns call growth at.0) sees),
       )
-  block_meant decl (Asks ask more) tally around sight own none at names turns growth sees =
+  block_meant all decl (Asks ask more) tally around sight own none at names turns growth sees =
       let meant = slot_value ground.facts around ask in
       let one = slot_faults ground.facts around decl own ask in
       let two = block_faults ground.facts decl (seeing_label around ask.label meant) (with_noted own ask.label.text 0) more in
@@ -578,12 +596,12 @@ module _ (IsFor : Meaning → ℕ → Type 0) (IsPredFor : TokenSort → ℕ →
       ap (declared_stand reading.places.slots tally.slots) slot.asked ∙ declared_last reading.places.slots tally.slots ask.label.at growth.asked stand at.0 in
       let fits : Fits IsFor IsPredFor IsThing meant stand = subst (λ d. Fits IsFor IsPredFor IsThing d stand) (sym (ap or_faulty it.is)) slot.fits in (
         ask_meant turns growth around ask it,
-        block_meant decl more (slot_more tally) (seeing_label around ask.label meant) next_sight (with_noted own ask.label.text 0)
+        block_meant all decl more (slot_more tally) (seeing_label around ask.label meant) next_sight (with_noted own ask.label.text 0)
             (none_second one two none) at.1 (all_second Named read rest names) turns next
-            (sees_label IsFor IsPredFor IsThing files ground reading setting tally (slot_more tally) turns next around sight ask.label meant stand (omega arith)
-            (further tally (slot_more tally) turns growth next around sight (slot_within tally) (ask_stays tally turns ask growth at.0) sees) there fits tt),
+            (sees_label IsFor IsPredFor IsThing IsHeld files ground reading setting tally (slot_more tally) turns next around sight ask.label meant stand (omega arith)
+            (further tally (slot_more tally) turns growth next around sight (slot_within tally) (ask_stays tally turns ask growth at.0) sees) there (fits, all stand) tt),
       )
-  block_meant decl (Tests at_if condition then_at chosen more) tally around sight own none at names turns growth sees =
+  block_meant all decl (Tests at_if condition then_at chosen more) tally around sight own none at names turns growth sees =
       let one = condition_faults ground.facts around decl condition in
       let two = block_faults ground.facts decl around [] chosen in
       let three = block_faults ground.facts decl around own more in
@@ -602,15 +620,15 @@ module _ (IsFor : Meaning → ℕ → Type 0) (IsPredFor : TokenSort → ℕ →
       let stays = stays_then tally growth filled next
       (block_stays tally growth filled turns condition (unrolled_stays chosen tally turns (in_block tested.growth) at.0))
       (stays_same tally filled next (record { named = refl; asked = refl })) in (
-        condition_meant IsFor IsPredFor IsThing files ground reading setting once.locals once.slots tally turns growth around sight decl condition sees
+        condition_meant IsFor IsPredFor IsThing IsHeld files ground reading setting once.locals once.slots tally turns growth around sight decl condition sees
             (all_first Named read (inside ++ rest) names) (none_first one (two ++ three) none),
         (
-          block_meant decl chosen tally around sight [] (none_first two three left_faults) at.0 (all_first Named inside rest left_names) turns (in_block tested.growth) begins,
-          block_meant decl more behind around sight own (none_second two three left_faults) at.1 (all_second Named inside rest left_names) turns next
+          block_meant all decl chosen tally around sight [] (none_first two three left_faults) at.0 (all_first Named inside rest left_names) turns (in_block tested.growth) begins,
+          block_meant all decl more behind around sight own (none_second two three left_faults) at.1 (all_second Named inside rest left_names) turns next
               (further tally behind turns growth next around sight (tallied_within tally chosen) stays sees),
         ),
       )
-  block_meant decl (Chooses at_if condition then_at chosen else_at left more) tally around sight own none at names turns growth sees =
+  block_meant all decl (Chooses at_if condition then_at chosen else_at left more) tally around sight own none at names turns growth sees =
       let one = condition_faults ground.facts around decl condition in
       let two = block_faults ground.facts decl around [] chosen in
       let three = block_faults ground.facts decl around [] left in
@@ -638,20 +656,20 @@ module _ (IsFor : Meaning → ℕ → Type 0) (IsPredFor : TokenSort → ℕ →
       let second = stays_then tally growth (in_block filled) other first
       (stays_fewer tally behind (in_block filled) other (tallied_within tally chosen) (unrolled_stays left behind turns (in_block filled) at.1.0)) in
       let stays = stays_then tally growth other next second (stays_same tally other next (record { named = refl; asked = refl })) in (
-        condition_meant IsFor IsPredFor IsThing files ground reading setting once.locals once.slots tally turns growth around sight decl condition sees
+        condition_meant IsFor IsPredFor IsThing IsHeld files ground reading setting once.locals once.slots tally turns growth around sight decl condition sees
             (all_first Named read (inside ++ (outside ++ rest)) names) (none_first one (two ++ (three ++ four)) none),
         (
-          block_meant decl chosen tally around sight [] (none_first two (three ++ four) left_faults) at.0 (all_first Named inside (outside ++ rest) left_names) turns
+          block_meant all decl chosen tally around sight [] (none_first two (three ++ four) left_faults) at.0 (all_first Named inside (outside ++ rest) left_names) turns
               (in_block tested.growth) begins,
           (
-            block_meant decl left behind around sight [] (none_first three four last_faults) at.1.0 (all_first Named outside rest last_names) turns (in_block filled)
+            block_meant all decl left behind around sight [] (none_first three four last_faults) at.1.0 (all_first Named outside rest last_names) turns (in_block filled)
                 (further tally behind turns growth (in_block filled) around sight (tallied_within tally chosen) first sees),
-            block_meant decl more last around sight own (none_second three four last_faults) at.1.1 (all_second Named outside rest last_names) turns next
+            block_meant all decl more last around sight own (none_second three four last_faults) at.1.1 (all_second Named outside rest last_names) turns next
                 (further tally last turns growth next around sight (within_both tally behind last (tallied_within tally chosen) (tallied_within behind left)) stays sees),
           ),
         ),
       )
-  block_meant decl (Repeats at_each name class body_at body more) tally around sight own none at names turns growth sees =
+  block_meant all decl (Repeats at_each name class body_at body more) tally around sight own none at names turns growth sees =
       let value = turn_value ground.facts class in
       let inside_tally = turn_more tally in
       let behind = tallied inside_tally body in
@@ -664,14 +682,15 @@ module _ (IsFor : Meaning → ℕ → Type 0) (IsPredFor : TokenSort → ℕ →
       let inside = block_names (sources_in ground) next_sight inside_tally body in
       let rest = block_names (sources_in ground) sight behind more in
       let left_names = all_second Named read (inside ++ rest) names in
-      let it = class_fits IsFor IsPredFor IsThing files ground reading setting turns growth decl class (all_first Named read (inside ++ rest) names)
+      let it = class_fits IsFor IsPredFor IsThing IsHeld files ground reading setting turns growth decl class (all_first Named read (inside ++ rest) names)
       (none_first one (two ++ three) none) in
       let turn : Stand → Growth → Growth = λ object inner. unrolled reading (turns ++ turn_of name object ∷ []) body inner in
       let meant : Denoted = denoted.Value (kinds.Object it.meaning) true in
       let value_is : value ≡ meant = turn_value_is class it.meaning it.means it.right in
-      let fits : (one : ℤ) → IsThing it.number one → Fits IsFor IsPredFor IsThing value (stands.Value (terms.Lit one) value_kinds.Object it.number) =
-      λ one thing.
-      subst (λ d. Fits IsFor IsPredFor IsThing d (stands.Value (terms.Lit one) value_kinds.Object it.number)) (sym value_is) (it.fits, thing) in
+      let fits : (one : ℤ) → IsThing it.number one → Fitting value (stands.Value (terms.Lit one) value_kinds.Object it.number) = λ one thing. (
+        subst (λ d. Fits IsFor IsPredFor IsThing d (stands.Value (terms.Lit one) value_kinds.Object it.number)) (sym value_is) (refl, it.fits, thing),
+        all (stands.Value (terms.Lit one) value_kinds.Object it.number),
+      ) in
       let values = class_objects reading.lexicon it.number in
       let P : Stand → Type 0 = λ stand.
       InEachTurn (λ object inner. AreMeant reading (turns ++ turn_of name object ∷ []) body inner) turn (stand_turns reading.lexicon stand) growth
@@ -683,17 +702,17 @@ module _ (IsFor : Meaning → ℕ → Type 0) (IsPredFor : TokenSort → ℕ →
       (unrolled_stays body inside_tally (turns ++ turn_of name object ∷ []) inner at.1.0)) in
       subst P (sym it.stands_so) (
         turns_meant tally around sight name value it.number body at.0 at.1.0 fits
-            (block_meant decl body inside_tally (seeing_turn around name value) next_sight [] (none_first two three left_faults) at.1.0
+            (block_meant all decl body inside_tally (seeing_turn around name value) next_sight [] (none_first two three left_faults) at.1.0
             (all_first Named inside rest left_names))
             turns values growth (setting.things it.number) sees,
-        block_meant decl more behind around sight own (none_second two three left_faults) at.1.1 (all_second Named inside rest left_names) turns next
+        block_meant all decl more behind around sight own (none_second two three left_faults) at.1.1 (all_second Named inside rest left_names) turns next
             (further tally behind turns growth next around sight (within_both tally inside_tally behind (turn_within tally) (tallied_within inside_tally body)) stays sees),
       )
 
   -- ---- constraints in the body of a predicate
 
   -- a constraint declares nothing
-  constraint_stays : (turns : List Made) (growth : Growth) (call : Call) → relation_named call.path.first.text ≡ None
+  pub constraint_stays : (turns : List Made) (growth : Growth) (call : Call) → relation_named call.path.first.text ≡ None
       → SameMade growth (with_call reading turns call growth)
   constraint_stays turns growth call none = elim (call_made reading turns call growth) [
     | makes_nothing same ↦ same
@@ -706,19 +725,12 @@ module _ (IsFor : Meaning → ℕ → Type 0) (IsPredFor : TokenSort → ℕ →
       → constraint_call_faults ground.facts around decl call.path.first call.arguments ≡ []
       → (relation_named call.path.first.text ≡ None) × IsCallMeant reading turns call growth
   body_call_meant tally turns growth around sight decl call sees names none =
-      let free = by (constraint_named call.path.first.text) refl none in
+      let free = constraint_free ground.facts around decl call.path.first call.arguments none in
       let meant = constraint_meant tally turns growth around sight decl call.path.first call.arguments sees names none in (
         free,
         subst (λ (o : Option Rel). MatchOption o (IsConstraintMeant reading turns call.path.first call.arguments growth)
             (λ relation. IsRelationMeant reading turns call.arguments growth)) (sym free) meant,
       )
-    where
-      by : (o : Option Kind) → constraint_named call.path.first.text ≡ o
-          → option_map_or (λ kind. constraint_faults ground.facts around decl kind call.path.first.at call.arguments) o
-          (faults_here decl call.path.first.at (Some faults.Unknown)) ≡ []
-          → relation_named call.path.first.text ≡ None
-      by None is one = absurd (cc)
-      by (Some kind) is one = no_relation call.path.first.text kind is
 
   pub body_meant : (decl : ℕ) (some : List PredicatePart) (tally : Tally) (around : Surroundings) (sight : Sight)
       → flat_map (part_rule_faults ground.facts decl around) some ≡ []
