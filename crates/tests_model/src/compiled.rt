@@ -2,6 +2,7 @@
 
 ghost use Rattle.nddl_laws.specs.Given.{AreGiven};
 
+use model_core::model::Model;
 use nddl_ast::TextFault;
 use nddl_ast::declaration::FileDecls;
 use nddl_parser::read_all;
@@ -20,12 +21,18 @@ fn fault_line(alloc: Global, fault: &TextFault) -> Result<String, AllocError> {
     }
 }
 
+// The lines of the model, told of a copy: one with the same end of its horizon is equal.
+fn copied_lines(alloc: Global, model: &Model) -> Result<String, AllocError> {
+    let copied = model.with_end(model.problem.end)?;
+    model_lines(alloc, &copied)
+}
+
 // The model of the files, or what is wrong first with them.
 fn compiled(alloc: Global, files: &[FileDecls]) -> Result<String, AllocError>
     requires { AreGiven files.now }
 {
     match compile(alloc, files) {
-        Ok(model) => model_lines(alloc, &model),
+        Ok(model) => copied_lines(alloc, &model),
         Err(fault) => fault_line(alloc, &fault),
     }
 }
