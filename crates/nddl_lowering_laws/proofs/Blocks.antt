@@ -64,7 +64,7 @@ use Rattle.nddl_rule_laws.proofs.Kept.{ask_asks, condition_made, declared_last, 
 use Rattle.nddl_rule_laws.proofs.Placing.{AreAt, IsWithin, call_within, local_within, slot_within, tallied_within, turn_within, within_both, within_itself}
 use Rattle.nddl_rule_laws.proofs.Rising.{AreOnce}
 use Rattle.nddl_rule_laws.proofs.Sights.{InNames, IsSetting, Sees, Suits, all_first, all_second, class_fits, sees_label, sees_local, sees_turn}
-use Rattle.nddl_rule_laws.proofs.Statements.{SlotFits, Stays, ask_stays, block_stays, body_fine, call_stays, constraint_free, constraint_stays, further, label_there, local_fits, named_fine, slot_fits, stays_fewer, stays_same, stays_then, turn_value_is, turns_stay, unrolled_stays}
+use Rattle.nddl_rule_laws.proofs.Statements.{Stays, ask_stays, block_stays, body_fine, call_stays, constraint_free, constraint_stays, further, label_there, local_fits, named_fine, slot_fits, stays_fewer, stays_same, stays_then, turn_value_is, turns_stay, unrolled_stays}
 use Rattle.nddl_lowering_laws.specs.Fitting.{HasThings}
 use Rattle.nddl_lowering_laws.proofs.Fitted.{StaysFit, ask_fitted, call_fitted, condition_fits, fit_both, local_fitted, named_fitted, reads_fit}
 use Rattle.nddl_lowering_laws.proofs.Growing.{IsKeptByBranches, condition_kept, turns_kept, unrolled_kept}
@@ -76,8 +76,8 @@ branches_grow guard outer filled second first last = record {
   slots = λ number slot is. last.slots number slot (first.slots number slot is);
 }
 
-module _ (IsFor : Meaning → ℕ → Type 0) (IsPredFor : TokenSort → ℕ → Type 0) (files : List FileDecls) (ground : RuleGround) (reading : Readings)
-    (model : Model) (things : HasThings model reading.lexicon reading.objects) (rule : Rule)
+module _ (IsFor : Meaning → ℕ → Type 0) (IsPredFor : TokenSort → ℕ → Type 0) (files : List FileDecls) (ground : RuleGround)
+    (reading : Readings) (model : Model) (things : HasThings model reading.lexicon reading.objects) (rule : Rule)
     (setting : IsSetting IsFor IsPredFor (IsThingIn reading.lexicon) (IsHeld model reading.pred rule) files ground reading)
     (once : AreOnce reading.places) where
   abbrev Thing : ℕ → ℤ → Type 0
@@ -102,14 +102,15 @@ module _ (IsFor : Meaning → ℕ → Type 0) (IsPredFor : TokenSort → ℕ →
   Keeping = Stays IsFor IsPredFor Thing Held files ground reading setting once
 
   -- what the rule has behind these statements it has before them
-  leads_before : (turns : List Made) (statements : Statements) (growth : Growth) → Leads (unrolled reading turns statements growth) → Leads growth
+  leads_before : (turns : List Made) (statements : Statements) (growth : Growth)
+      → Leads (unrolled reading turns statements growth) → Leads growth
   leads_before turns statements growth leads =
       leads_back rule growth (unrolled reading turns statements growth)
       (unrolled_kept reading Grows (all_grow reading.lexicon) branches_grow turns statements growth) leads
 
   -- what is seen stays so
-  seen_on : (few many : Tally) (turns : List Made) (old new : Growth) (around : Surroundings) (sight : Sight) → IsWithin few many → Keeping few old new
-      → Seen few turns old around sight → Seen many turns new around sight
+  seen_on : (few many : Tally) (turns : List Made) (old new : Growth) (around : Surroundings) (sight : Sight) → IsWithin few many
+      → Keeping few old new → Seen few turns old around sight → Seen many turns new around sight
   seen_on = further IsFor IsPredFor Thing Held files ground reading setting once
 
   -- ---- turns
@@ -117,18 +118,20 @@ module _ (IsFor : Meaning → ℕ → Type 0) (IsPredFor : TokenSort → ℕ →
   -- the block with what the rule has as it begins
   abbrev IsBlockFit : Tally → Surroundings → Sight → Statements → Type 0
   IsBlockFit tally around sight statements =
-      (turns : List Made) (growth : Growth) → Seen tally turns growth around sight → Leads (unrolled reading turns statements growth)
-      → StayLawful growth (unrolled reading turns statements growth)
+      (turns : List Made) (growth : Growth) → Seen tally turns growth around sight
+      → Leads (unrolled reading turns statements growth) → StayLawful growth (unrolled reading turns statements growth)
 
   -- the block of a `foreach` in each of its turns
-  turns_fit : (tally : Tally) (around : Surroundings) (sight : Sight) (name : Name) (meant : Denoted) (number : ℕ) (body : Statements)
-      → slice_get reading.places.turns tally.turns ≡ Some name.at → AreAt reading.places (turn_more tally) body
-      → ((value : ℤ) → Thing number value
-      → Suits IsFor IsPredFor Thing Held meant (stands.Value (terms.Lit value) value_kinds.Object number))
-      → IsBlockFit (turn_more tally) (seeing_turn around name meant) (with_turn sight name.text tally.turns) body
-      → (turns : List Made) (values : List ℤ) (growth : Growth) → All (Thing number) values → Seen tally turns growth around sight
-      → Leads (all_turns (λ object inner. unrolled reading (turns ++ turn_of name object ∷ []) body inner) (turn_stands number values) growth)
-      → StayLawful growth (all_turns (λ object inner. unrolled reading (turns ++ turn_of name object ∷ []) body inner) (turn_stands number values) growth)
+  turns_fit : (tally : Tally) (around : Surroundings) (sight : Sight) (name : Name) (meant : Denoted) (number : ℕ)
+      (body : Statements) → slice_get reading.places.turns tally.turns ≡ Some name.at → AreAt reading.places (turn_more tally)
+      body → ((value : ℤ) → Thing number value → Suits IsFor IsPredFor Thing Held meant
+      (stands.Value (terms.Lit value) value_kinds.Object number)) → IsBlockFit (turn_more tally) (seeing_turn around name meant)
+      (with_turn sight name.text tally.turns) body → (turns : List Made) (values : List ℤ) (growth : Growth)
+      → All (Thing number) values → Seen tally turns growth around sight
+      → Leads (all_turns (λ object inner. unrolled reading (turns ++ turn_of name object ∷ []) body inner)
+      (turn_stands number values) growth) → StayLawful growth
+      (all_turns (λ object inner. unrolled reading (turns ++ turn_of name object ∷ []) body inner) (turn_stands number values)
+      growth)
   turns_fit tally around sight name meant number body there at fits block turns [] growth each sees leads fit = fit
   turns_fit tally around sight name meant number body there at fits block turns (value ∷ more) growth each sees leads fit =
       let stand : Stand = stands.Value (terms.Lit value) value_kinds.Object number in
@@ -136,19 +139,19 @@ module _ (IsFor : Meaning → ℕ → Type 0) (IsPredFor : TokenSort → ℕ →
       let inside : List Made = turns ++ turn_of name stand ∷ [] in
       let next = unrolled reading inside body growth in
       let last = all_turns turn (turn_stands number more) next in
-      let stays = stays_fewer IsFor IsPredFor Thing Held files ground reading setting once tally (turn_more tally) growth next (turn_within tally)
-      (unrolled_stays IsFor IsPredFor Thing Held files ground reading setting once body (turn_more tally) inside growth at) in
+      let stays = stays_fewer IsFor IsPredFor Thing Held files ground reading setting once tally (turn_more tally) growth next
+      (turn_within tally) (unrolled_stays IsFor IsPredFor Thing Held files ground reading setting once body (turn_more tally)
+      inside growth at) in
       let begins : Leads next =
       leads_back rule next last
       (turns_kept reading Grows (all_grow reading.lexicon) branches_grow turn
-      (λ object inner. unrolled_kept reading Grows (all_grow reading.lexicon) branches_grow (turns ++ turn_of name object ∷ []) body inner)
-      (turn_stands number more) next) leads in
-      turns_fit tally around sight name meant number body there at fits block turns more next (All-tail (Thing number) value more each)
-      (seen_on tally tally turns growth next around sight (within_itself tally) stays sees) leads
-      (block inside growth
-      (sees_turn IsFor IsPredFor Thing Held files ground reading setting once.turns tally (turn_more tally) turns growth around sight name meant stand
-      (turn_within tally) (omega arith) sees there (fits value (All-head (Thing number) value more each)))
-      begins fit)
+      (λ object inner. unrolled_kept reading Grows (all_grow reading.lexicon) branches_grow (turns ++ turn_of name object ∷ [])
+      body inner) (turn_stands number more) next) leads in
+      turns_fit tally around sight name meant number body there at fits block turns more next
+      (All-tail (Thing number) value more each) (seen_on tally tally turns growth next around sight (within_itself tally)
+      stays sees) leads (block inside growth (sees_turn IsFor IsPredFor Thing Held files ground reading setting once.turns
+      tally (turn_more tally) turns growth around sight name meant stand (turn_within tally) (omega arith) sees there
+      (fits value (All-head (Thing number) value more each))) begins fit)
 
   -- ---- statements
 
@@ -161,7 +164,8 @@ module _ (IsFor : Meaning → ℕ → Type 0) (IsPredFor : TokenSort → ℕ →
       let of = variable.declared in
       let meant = local_value ground.facts variable in
       let one = local_faults ground.facts around decl own variable in
-      let two = block_faults ground.facts decl (seeing_local around variable.name meant) (with_noted own variable.name.text 0) more in
+      let two = block_faults ground.facts decl (seeing_local around variable.name meant) (with_noted own variable.name.text 0)
+      more in
       let here : one ≡ [] = none_first one two none in
       let first = local_type_faults ground.facts around decl of in
       let second = repeated_fault decl own variable.name in
@@ -178,15 +182,18 @@ module _ (IsFor : Meaning → ℕ → Type 0) (IsPredFor : TokenSort → ℕ →
       let stand : Stand = stands.Value (terms.Local made.number) shape.kind shape.class in
       let stays = keeps_local reading.places once.locals once.slots tally variable.name.at shape growth next at.0 made in
       let there : declared_stand reading.places.locals tally.locals next.named ≡ Some stand =
-      ap (declared_stand reading.places.locals tally.locals) made.named ∙ declared_last reading.places.locals tally.locals variable.name.at growth.named stand at.0 in
-      let fits = local_fits IsFor IsPredFor Thing Held files ground reading setting once turns growth around sight decl made.number variable
-      (all_first IsNamed typed begun own_names) (none_first first (second ++ third) here) in
+      ap (declared_stand reading.places.locals tally.locals) made.named ∙ declared_last reading.places.locals tally.locals
+      variable.name.at growth.named stand at.0 in
+      let fits = local_fits IsFor IsPredFor Thing Held files ground reading setting once turns growth around sight decl
+      made.number variable (all_first IsNamed typed begun own_names) (none_first first (second ++ third) here) in
       let held : Held stand = (unnamed shape, begins.locals made.number (unnamed shape) made.there, refl) in
-      block_fits decl more (local_more tally) (seeing_local around variable.name meant) next_sight (with_noted own variable.name.text 0)
-      (none_second one two none) at.1 (all_second IsNamed (local_read (sources_in ground) sight variable) rest names) fine.1 turns next
-      (sees_local IsFor IsPredFor Thing Held files ground reading setting tally (local_more tally) turns next around sight variable.name meant stand (omega arith)
-      (seen_on tally (local_more tally) turns growth next around sight (local_within tally) stays sees) there (fits, held)) leads
-      (local_fitted IsFor IsPredFor files ground reading model things rule setting once tally turns growth around sight decl variable sees own_names fine.0
+      block_fits decl more (local_more tally) (seeing_local around variable.name meant) next_sight
+      (with_noted own variable.name.text 0) (none_second one two none) at.1
+      (all_second IsNamed (local_read (sources_in ground) sight variable) rest names) fine.1 turns next
+      (sees_local IsFor IsPredFor Thing Held files ground reading setting tally (local_more tally) turns next around sight
+      variable.name meant stand (omega arith) (seen_on tally (local_more tally) turns growth next around sight
+      (local_within tally) stays sees) there (fits, held)) leads (local_fitted IsFor IsPredFor files ground reading model
+      things rule setting once tally turns growth around sight decl variable sees own_names fine.0
       (none_first first (second ++ third) here) (none_second second third (none_second first (second ++ third) here)) begins fit)
   block_fits decl (Calls call more) tally around sight own none at names fine turns growth sees leads fit =
       let one = rule_call_faults ground.facts around decl call in
@@ -194,38 +201,44 @@ module _ (IsFor : Meaning → ℕ → Type 0) (IsPredFor : TokenSort → ℕ →
       let read = exprs_read (sources_in ground) sight call.arguments in
       let rest = block_names (sources_in ground) sight (call_tally tally call) more in
       let next = with_call reading turns call growth in
-      block_fits decl more (call_tally tally call) around sight own (none_second one two none) at.1 (all_second IsNamed read rest names) fine.1 turns next
-      (seen_on tally (call_tally tally call) turns growth next around sight (call_within tally call)
-      (call_stays IsFor IsPredFor Thing Held files ground reading setting once tally turns call growth at.0) sees) leads
-      (call_fitted IsFor IsPredFor files ground reading model things rule setting once tally turns growth around sight decl call sees
-      (all_first IsNamed read rest names) fine.0.1 (named_fine ground.facts around decl call (none_first one two none)) (leads_before turns more next leads) fit)
+      block_fits decl more (call_tally tally call) around sight own (none_second one two none) at.1
+      (all_second IsNamed read rest names) fine.1 turns next (seen_on tally (call_tally tally call) turns growth next around
+      sight (call_within tally call) (call_stays IsFor IsPredFor Thing Held files ground reading setting once tally turns
+      call growth at.0) sees) leads (call_fitted IsFor IsPredFor files ground reading model things rule setting once tally
+      turns growth around sight decl call sees (all_first IsNamed read rest names) fine.0.1
+      (named_fine ground.facts around decl call (none_first one two none)) (leads_before turns more next leads) fit)
   block_fits decl (Asks ask more) tally around sight own none at names fine turns growth sees leads fit =
       let meant = slot_value ground.facts around ask in
       let one = slot_faults ground.facts around decl own ask in
       let two = block_faults ground.facts decl (seeing_label around ask.label meant) (with_noted own ask.label.text 0) more in
-      let asking = none_first (ask_faults ground.facts around decl ask) (repeated_fault decl own ask.label) (none_first one two none) in
+      let asking = none_first (ask_faults ground.facts around decl ask) (repeated_fault decl own ask.label)
+      (none_first one two none) in
       let read = asked_read (sources_in ground) sight ask.path.first ask.path.rest in
       let next_sight = with_label sight ask.label.text tally.slots in
       let rest = block_names (sources_in ground) next_sight (slot_more tally) more in
       let next = with_ask reading turns ask growth in
       let begins : Leads next = leads_before turns more next leads in
-      let it = label_there IsFor IsPredFor Thing Held files ground reading setting once tally turns growth around sight decl ask sees
-      (all_first IsNamed read rest names) asking in
+      let it = label_there IsFor IsPredFor Thing Held files ground reading setting once tally turns growth around sight decl ask
+      sees (all_first IsNamed read rest names) asking in
       let slot = slot_fits IsFor IsPredFor Thing Held files ground reading setting once ask.label.at growth next it.end
-      (asked_labelled reading turns ask.path ask.path.rest growth).wanted.pred it.fits (ask_asks reading turns ask growth it.relation it.named) in
+      (asked_labelled reading turns ask.path ask.path.rest growth).wanted.pred it.fits
+      (ask_asks reading turns ask growth it.relation it.named) in
       let stand : Stand = stands.Slot slot.number slot.pred in
       let there : declared_stand reading.places.slots tally.slots next.asked ≡ Some stand =
-      ap (declared_stand reading.places.slots tally.slots) slot.asked ∙ declared_last reading.places.slots tally.slots ask.label.at growth.asked stand at.0 in
-      let fits : Fits IsFor IsPredFor Thing meant stand = subst (λ d. Fits IsFor IsPredFor Thing d stand) (sym (ap or_faulty it.is)) slot.fits in
+      ap (declared_stand reading.places.slots tally.slots) slot.asked ∙ declared_last reading.places.slots tally.slots
+      ask.label.at growth.asked stand at.0 in
+      let fits : Fits IsFor IsPredFor Thing meant stand = subst (λ d. Fits IsFor IsPredFor Thing d stand)
+      (sym (ap or_faulty it.is)) slot.fits in
       let held : Held stand = (slot.there.0, begins.slots slot.number slot.there.0 slot.there.1, slot.there.2) in
       block_fits decl more (slot_more tally) (seeing_label around ask.label meant) next_sight (with_noted own ask.label.text 0)
       (none_second one two none) at.1 (all_second IsNamed read rest names) fine.1 turns next
-      (sees_label IsFor IsPredFor Thing Held files ground reading setting tally (slot_more tally) turns next around sight ask.label meant stand (omega arith)
-      (seen_on tally (slot_more tally) turns growth next around sight (slot_within tally)
-      (ask_stays IsFor IsPredFor Thing Held files ground reading setting once tally turns ask growth at.0) sees) there (fits, held) tt) leads
-      (ask_fitted IsFor IsPredFor files ground reading model things rule setting once tally turns growth around sight decl ask sees
-      (all_first IsNamed read rest names) asking begins fit)
-  block_fits decl (Tests at_if condition then_at chosen more) tally around sight own none at names fine turns growth sees leads fit =
+      (sees_label IsFor IsPredFor Thing Held files ground reading setting tally (slot_more tally) turns next around sight
+      ask.label meant stand (omega arith) (seen_on tally (slot_more tally) turns growth next around sight (slot_within tally)
+      (ask_stays IsFor IsPredFor Thing Held files ground reading setting once tally turns ask growth at.0) sees) there
+      (fits, held) tt) leads (ask_fitted IsFor IsPredFor files ground reading model things rule setting once tally turns
+      growth around sight decl ask sees (all_first IsNamed read rest names) asking begins fit)
+  block_fits decl (Tests at_if condition then_at chosen more) tally around sight own none at names fine turns growth sees leads
+      fit =
       let one = condition_faults ground.facts around decl condition in
       let two = block_faults ground.facts decl around [] chosen in
       let three = block_faults ground.facts decl around own more in
@@ -249,17 +262,21 @@ module _ (IsFor : Meaning → ℕ → Type 0) (IsPredFor : TokenSort → ℕ →
       (record { named = same.named; asked = same.asked })) sees in
       let stays = stays_then IsFor IsPredFor Thing Held files ground reading setting once tally growth filled next
       (block_stays IsFor IsPredFor Thing Held files ground reading setting once tally growth filled turns condition
-      (unrolled_stays IsFor IsPredFor Thing Held files ground reading setting once chosen tally turns (in_block tested.growth) at.0))
-      (stays_same IsFor IsPredFor Thing Held files ground reading setting once tally filled next (record { named = refl; asked = refl })) in
-      let guard = condition_fits IsFor IsPredFor files ground reading model things rule setting once tally turns growth around sight decl condition sees
-      (all_first IsNamed read (inside ++ rest) names) fine.0.0 (none_first one (two ++ three) none) tested_leads in
-      let block = block_fits decl chosen tally around sight [] (none_first two three left_faults) at.0 (all_first IsNamed inside rest left_names) fine.0.1 turns
-      (in_block tested.growth) begins filled_leads tt in
+      (unrolled_stays IsFor IsPredFor Thing Held files ground reading setting once chosen tally turns (in_block tested.growth)
+      at.0)) (stays_same IsFor IsPredFor Thing Held files ground reading setting once tally filled next
+      (record { named = refl; asked = refl })) in
+      let guard = condition_fits IsFor IsPredFor files ground reading model things rule setting once tally turns growth around
+      sight decl condition sees (all_first IsNamed read (inside ++ rest) names) fine.0.0 (none_first one (two ++ three) none)
+      tested_leads in
+      let block = block_fits decl chosen tally around sight [] (none_first two three left_faults) at.0
+      (all_first IsNamed inside rest left_names) fine.0.1 turns (in_block tested.growth) begins filled_leads tt in
       let before = condition_kept reading StayLawful (reads_fit model reading.pred rule) turns condition growth fit in
-      block_fits decl more behind around sight own (none_second two three left_faults) at.1 (all_second IsNamed inside rest left_names) fine.1 turns next
-      (seen_on tally behind turns growth next around sight (tallied_within tally chosen) stays sees) leads
-      (fit_both model reading.pred rule tested.growth.entries (branch ∷ []) before (guard, (block, (tt, tt))))
-  block_fits decl (Chooses at_if condition then_at chosen else_at left more) tally around sight own none at names fine turns growth sees leads fit =
+      block_fits decl more behind around sight own (none_second two three left_faults) at.1
+      (all_second IsNamed inside rest left_names) fine.1 turns next (seen_on tally behind turns growth next around sight
+      (tallied_within tally chosen) stays sees) leads (fit_both model reading.pred rule tested.growth.entries (branch ∷ [])
+      before (guard, (block, (tt, tt))))
+  block_fits decl (Chooses at_if condition then_at chosen else_at left more) tally around sight own none at names fine turns
+      growth sees leads fit =
       let one = condition_faults ground.facts around decl condition in
       let two = block_faults ground.facts decl around [] chosen in
       let three = block_faults ground.facts decl around [] left in
@@ -291,25 +308,31 @@ module _ (IsFor : Meaning → ℕ → Type 0) (IsPredFor : TokenSort → ℕ →
       (record { named = same.named; asked = same.asked })) sees in
       let first = stays_then IsFor IsPredFor Thing Held files ground reading setting once tally growth filled (in_block filled)
       (block_stays IsFor IsPredFor Thing Held files ground reading setting once tally growth filled turns condition
-      (unrolled_stays IsFor IsPredFor Thing Held files ground reading setting once chosen tally turns (in_block tested.growth) at.0))
-      (stays_same IsFor IsPredFor Thing Held files ground reading setting once tally filled (in_block filled) (record { named = refl; asked = refl })) in
-      let second = stays_then IsFor IsPredFor Thing Held files ground reading setting once tally growth (in_block filled) other first
-      (stays_fewer IsFor IsPredFor Thing Held files ground reading setting once tally behind (in_block filled) other (tallied_within tally chosen)
-      (unrolled_stays IsFor IsPredFor Thing Held files ground reading setting once left behind turns (in_block filled) at.1.0)) in
+      (unrolled_stays IsFor IsPredFor Thing Held files ground reading setting once chosen tally turns (in_block tested.growth)
+      at.0)) (stays_same IsFor IsPredFor Thing Held files ground reading setting once tally filled (in_block filled)
+      (record { named = refl; asked = refl })) in
+      let second = stays_then IsFor IsPredFor Thing Held files ground reading setting once tally growth (in_block filled) other
+      first (stays_fewer IsFor IsPredFor Thing Held files ground reading setting once tally behind (in_block filled) other
+      (tallied_within tally chosen) (unrolled_stays IsFor IsPredFor Thing Held files ground reading setting once left behind
+      turns (in_block filled) at.1.0)) in
       let stays = stays_then IsFor IsPredFor Thing Held files ground reading setting once tally growth other next second
-      (stays_same IsFor IsPredFor Thing Held files ground reading setting once tally other next (record { named = refl; asked = refl })) in
-      let guard = condition_fits IsFor IsPredFor files ground reading model things rule setting once tally turns growth around sight decl condition sees
-      (all_first IsNamed read (inside ++ (outside ++ rest)) names) fine.0.0 (none_first one (two ++ (three ++ four)) none) tested_leads in
+      (stays_same IsFor IsPredFor Thing Held files ground reading setting once tally other next
+      (record { named = refl; asked = refl })) in
+      let guard = condition_fits IsFor IsPredFor files ground reading model things rule setting once tally turns growth around
+      sight decl condition sees (all_first IsNamed read (inside ++ (outside ++ rest)) names) fine.0.0
+      (none_first one (two ++ (three ++ four)) none) tested_leads in
       let block = block_fits decl chosen tally around sight [] (none_first two (three ++ four) left_faults) at.0
       (all_first IsNamed inside (outside ++ rest) left_names) fine.0.1.0 turns (in_block tested.growth) begins filled_leads tt in
-      let other_block = block_fits decl left behind around sight [] (none_first three four last_faults) at.1.0 (all_first IsNamed outside rest last_names)
-      fine.0.1.1 turns (in_block filled) (seen_on tally behind turns growth (in_block filled) around sight (tallied_within tally chosen) first sees)
-      other_leads tt in
+      let other_block = block_fits decl left behind around sight [] (none_first three four last_faults) at.1.0
+      (all_first IsNamed outside rest last_names) fine.0.1.1 turns (in_block filled) (seen_on tally behind turns growth
+      (in_block filled) around sight (tallied_within tally chosen) first sees) other_leads tt in
       let before = condition_kept reading StayLawful (reads_fit model reading.pred rule) turns condition growth fit in
-      block_fits decl more last around sight own (none_second three four last_faults) at.1.1 (all_second IsNamed outside rest last_names) fine.1 turns next
-      (seen_on tally last turns growth next around sight (within_both tally behind last (tallied_within tally chosen) (tallied_within behind left)) stays sees)
+      block_fits decl more last around sight own (none_second three four last_faults) at.1.1
+      (all_second IsNamed outside rest last_names) fine.1 turns next (seen_on tally last turns growth next around sight
+      (within_both tally behind last (tallied_within tally chosen) (tallied_within behind left)) stays sees)
       leads (fit_both model reading.pred rule tested.growth.entries (branch ∷ []) before (guard, (block, (other_block, tt))))
-  block_fits decl (Repeats at_each name class body_at body more) tally around sight own none at names fine turns growth sees leads fit =
+  block_fits decl (Repeats at_each name class body_at body more) tally around sight own none at names fine turns growth sees
+      leads fit =
       let value = turn_value ground.facts class in
       let inside_tally = turn_more tally in
       let behind = tallied inside_tally body in
@@ -322,15 +345,17 @@ module _ (IsFor : Meaning → ℕ → Type 0) (IsPredFor : TokenSort → ℕ →
       let inside = block_names (sources_in ground) next_sight inside_tally body in
       let rest = block_names (sources_in ground) sight behind more in
       let left_names = all_second IsNamed read (inside ++ rest) names in
-      let it = class_fits IsFor IsPredFor Thing Held files ground reading setting turns growth decl class (all_first IsNamed read (inside ++ rest) names)
-      (none_first one (two ++ three) none) in
+      let it = class_fits IsFor IsPredFor Thing Held files ground reading setting turns growth decl class
+      (all_first IsNamed read (inside ++ rest) names) (none_first one (two ++ three) none) in
       let turn : Stand → Growth → Growth = λ object inner. unrolled reading (turns ++ turn_of name object ∷ []) body inner in
       let meant : Denoted = denoted.Value (kinds.Object it.meaning) true in
       let value_is : value ≡ meant =
       turn_value_is IsFor IsPredFor Thing Held files ground reading setting once class it.meaning it.means it.right in
-      let fits : (one : ℤ) → Thing it.number one → Suits IsFor IsPredFor Thing Held value (stands.Value (terms.Lit one) value_kinds.Object it.number) =
+      let fits : (one : ℤ) → Thing it.number one → Suits IsFor IsPredFor Thing Held value
+      (stands.Value (terms.Lit one) value_kinds.Object it.number) =
       λ one thing. (
-        subst (λ d. Fits IsFor IsPredFor Thing d (stands.Value (terms.Lit one) value_kinds.Object it.number)) (sym value_is) (refl, it.fits, thing),
+        subst (λ d. Fits IsFor IsPredFor Thing d (stands.Value (terms.Lit one) value_kinds.Object it.number)) (sym value_is)
+            (refl, it.fits, thing),
         things.values it.number one thing,
       ) in
       let values = class_objects reading.lexicon it.number in
@@ -339,12 +364,15 @@ module _ (IsFor : Meaning → ℕ → Type 0) (IsPredFor : TokenSort → ℕ →
       → StayLawful growth (unrolled reading turns more (all_turns turn (stand_turns reading.lexicon stand) growth)) in
       let objects = turn_stands it.number values in
       let next = all_turns turn objects growth in
-      let stays = turns_stay IsFor IsPredFor Thing Held files ground reading setting once tally turn objects growth (λ object inner.
-      stays_fewer IsFor IsPredFor Thing Held files ground reading setting once tally inside_tally inner (turn object inner) (turn_within tally)
-      (unrolled_stays IsFor IsPredFor Thing Held files ground reading setting once body inside_tally (turns ++ turn_of name object ∷ []) inner at.1.0)) in
+      let stays = turns_stay IsFor IsPredFor Thing Held files ground reading setting once tally turn objects growth
+      (λ object inner.
+      stays_fewer IsFor IsPredFor Thing Held files ground reading setting once tally inside_tally inner (turn object inner)
+      (turn_within tally) (unrolled_stays IsFor IsPredFor Thing Held files ground reading setting once body inside_tally
+      (turns ++ turn_of name object ∷ []) inner at.1.0)) in
       subst P (sym it.stands_so) (λ so fit_before.
-      block_fits decl more behind around sight own (none_second two three left_faults) at.1.1 (all_second IsNamed inside rest left_names) fine.1 turns next
-      (seen_on tally behind turns growth next around sight (within_both tally inside_tally behind (turn_within tally) (tallied_within inside_tally body)) stays sees)
+      block_fits decl more behind around sight own (none_second two three left_faults) at.1.1
+      (all_second IsNamed inside rest left_names) fine.1 turns next (seen_on tally behind turns growth next around sight
+      (within_both tally inside_tally behind (turn_within tally) (tallied_within inside_tally body)) stays sees)
       so
       (turns_fit tally around sight name value it.number body at.0 at.1.0 fits
       (block_fits decl body inside_tally (seeing_turn around name value) next_sight [] (none_first two three left_faults) at.1.0
@@ -354,25 +382,26 @@ module _ (IsFor : Meaning → ℕ → Type 0) (IsPredFor : TokenSort → ℕ →
 
   -- ---- constraints in the body of a predicate
 
-  body_call_fitted : (tally : Tally) (turns : List Made) (growth : Growth) (around : Surroundings) (sight : Sight) (decl : ℕ) (call : Call)
-      → Seen tally turns growth around sight → InNames reading.names (exprs_read (sources_in ground) sight call.arguments)
-      → All IsFineExpr call.arguments → constraint_call_faults ground.facts around decl call.path.first call.arguments ≡ []
-      → relation_named call.path.first.text ≡ None → Leads (with_call reading turns call growth) → StayLawful growth (with_call reading turns call growth)
+  body_call_fitted : (tally : Tally) (turns : List Made) (growth : Growth) (around : Surroundings) (sight : Sight) (decl : ℕ)
+      (call : Call) → Seen tally turns growth around sight → InNames reading.names (exprs_read (sources_in ground) sight
+      call.arguments) → All IsFineExpr call.arguments → constraint_call_faults ground.facts around decl call.path.first
+      call.arguments ≡ [] → relation_named call.path.first.text ≡ None → Leads (with_call reading turns call growth)
+      → StayLawful growth (with_call reading turns call growth)
   body_call_fitted tally turns growth around sight decl call sees names fine none free leads =
       let P : Option Rel → Type 0 = λ o.
       Leads (option_map_or (λ relation. with_relation_to reading turns call.path.first.at relation call.arguments growth) o
       (with_constraint_named reading turns call.path.first call.arguments growth))
-      → StayLawful growth (option_map_or (λ relation. with_relation_to reading turns call.path.first.at relation call.arguments growth) o
-      (with_constraint_named reading turns call.path.first call.arguments growth)) in
+      → StayLawful growth (option_map_or (λ relation. with_relation_to reading turns call.path.first.at relation call.arguments
+      growth) o (with_constraint_named reading turns call.path.first call.arguments growth)) in
       subst P (sym free)
-      (named_fitted IsFor IsPredFor files ground reading model things rule setting once tally turns growth around sight decl call.path.first call.arguments sees
-      names fine none)
-      leads
+      (named_fitted IsFor IsPredFor files ground reading model things rule setting once tally turns growth around sight decl
+      call.path.first call.arguments sees names fine none) leads
 
   pub body_fits : (decl : ℕ) (some : List PredicatePart) (tally : Tally) (around : Surroundings) (sight : Sight)
       → flat_map (part_rule_faults ground.facts decl around) some ≡ []
       → InNames reading.names (block_names (sources_in ground) sight tally (statements_of (part_statements some)))
-      → AreFineStatements (statements_of (part_statements some)) → IsBlockFit tally around sight (statements_of (part_statements some))
+      → AreFineStatements (statements_of (part_statements some)) → IsBlockFit tally around sight
+      (statements_of (part_statements some))
   body_fits decl [] tally around sight none names fine turns growth sees leads fit = fit
   body_fits decl (pieces.Parameter typed ∷ more) tally around sight none names fine turns growth sees leads fit =
       body_fits decl more tally around sight none names fine turns growth sees leads fit
@@ -385,8 +414,8 @@ module _ (IsFor : Meaning → ℕ → Type 0) (IsPredFor : TokenSort → ℕ →
       let right = body_fine ground.facts around decl call (none_first one two none) in
       let free = constraint_free ground.facts around decl call.path.first call.arguments right in
       let next = with_call reading turns call growth in
-      body_fits decl more (call_tally tally call) around sight (none_second one two none) (all_second IsNamed read rest names) fine.1 turns next
-      (seen_on tally (call_tally tally call) turns growth next around sight (call_within tally call)
+      body_fits decl more (call_tally tally call) around sight (none_second one two none) (all_second IsNamed read rest names)
+      fine.1 turns next (seen_on tally (call_tally tally call) turns growth next around sight (call_within tally call)
       (stays_same IsFor IsPredFor Thing Held files ground reading setting once tally growth next
       (constraint_stays IsFor IsPredFor Thing Held files ground reading setting once turns growth call free)) sees) leads
       (body_call_fitted tally turns growth around sight decl call sees (all_first IsNamed read rest names) fine.0.1 right free

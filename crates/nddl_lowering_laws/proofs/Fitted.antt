@@ -1,5 +1,5 @@
 -- What one statement of a rule stands for has lawful arguments, if nothing is wrong with it.
-use Rattle.std.proofs.Common.{◌≡◌, ℕ, ◌-◌, Bool, true, false, ◌||◌, List, [], ◌∷◌, ◌++◌, length, map, take, refl, sym, ◌∙◌, ap, subst}
+use Rattle.std.proofs.Common.{◌≡◌, ℕ, Bool, true, false, ◌||◌, List, [], ◌∷◌, ◌++◌, length, map, refl, sym, ◌∙◌, ap, subst}
 use Rattle.std.specs.Prelude.{⊤, Option, Some, None, Ok, Err, All, is_some, slice_get, if◌then◌else◌}
 use Rattle.std.specs.List.{AllByRecursion}
 use Rattle.std.specs.Option.{option_map_or}
@@ -47,16 +47,14 @@ use Rattle.nddl_resolve.specs.declared.denoted.Denoted.{Denoted}
 use Rattle.nddl_resolve.specs.declared.denoted.Denoted.TheVariants as denoted
 use Rattle.nddl_resolve.specs.declared.denoted.TokenSort.{TokenSort}
 use Rattle.nddl_resolve.specs.Following.{Understood, asked_by, asked_names, asked_rest, found_next, next_denoted, token_denoted, understood_faults, unknown_at}
-use Rattle.nddl_resolve.specs.Paths.{Surroundings, asked_token, first_denoted, path_denoted}
-use Rattle.nddl_rule_check.specs.declared.asked.Asked.{Asked}
+use Rattle.nddl_resolve.specs.Paths.{Surroundings, asked_token, first_denoted}
 use Rattle.nddl_rule_check.specs.declared.asked.Asked.TheVariants as asked
-use Rattle.nddl_rule_check.specs.Arguments.{argument_faults, are_decimals, arguments_faults, asked_by_type, asked_of_both, compared_faults, condition_faults, constraint_faults, init_faults, meant_by}
-use Rattle.nddl_rule_check.specs.Blocks.{local_value}
+use Rattle.nddl_rule_check.specs.Arguments.{argument_faults, are_decimals, arguments_faults, asked_of_both, compared_faults, condition_faults, constraint_faults, init_faults, meant_by}
 use Rattle.nddl_rule_check.specs.Calls.{constraint_call_faults, named_call_faults}
 use Rattle.nddl_rule_check.specs.Constraints.{asked_among, constraint_named, relation_named, takes}
 use Rattle.nddl_rule_check.specs.Slots.{ask_faults, labelled_slot, related_names, relation_faults, slot_names}
 use Rattle.nddl_rule_check.specs.Types.{local_bounds_faults, local_type_faults}
-use Rattle.nddl_rule_check.specs.Values.{compared_with, is_decimal, unfit_fault, unfit_value_fault}
+use Rattle.nddl_rule_check.specs.Values.{compared_with, is_decimal, unfit_value_fault}
 use Rattle.nddl_terms.specs.declared.growth.Growth.{Growth}
 use Rattle.nddl_terms.specs.declared.lexicon.Shape.{Shape}
 use Rattle.nddl_terms.specs.declared.stands.Made.{Made}
@@ -70,11 +68,11 @@ use Rattle.nddl_terms.specs.Readings.{Readings}
 use Rattle.nddl_terms.specs.Stands.{first_stand}
 use Rattle.nddl_lower.specs.Arguments.{argument, condition_guard, constraint_items, given_arguments, with_constraint, with_items}
 use Rattle.nddl_lower.specs.Calls.{with_ask, with_call, with_constraint_named, with_related, with_relation_to}
-use Rattle.nddl_lower.specs.Compared.{compared_term, compared_terms, constraint_terms, has_decimal, is_decimal_stand, stand_term}
+use Rattle.nddl_lower.specs.Compared.{compared_term, compared_terms, constraint_terms, has_decimal, is_decimal_stand}
 use Rattle.nddl_lower.specs.Locals.{next_local, type_shape, with_begun, with_declared, with_named_at, with_text_local}
 use Rattle.nddl_lower.specs.Slots.{AskedSlot, asked_behind, asked_labelled, asked_path, object_items, pred_slot, wanted_of, with_asked, with_asked_at, with_relation, with_wanted_token}
 use Rattle.nddl_rules.specs.declared.sight.Tally.{Tally}
-use Rattle.nddl_rules.specs.Reads.{asked_read, base_read, bounds_read, condition_read, expr_read, exprs_read, front_read, init_read, local_read, type_read}
+use Rattle.nddl_rules.specs.Reads.{asked_read, condition_read, expr_read, exprs_read, front_read, init_read, local_read, type_read}
 use Rattle.nddl_rules.specs.Sight.{Sight}
 use Rattle.nddl_unroll.specs.Blocks.{filled_block}
 use Rattle.nddl_laws.specs.Fine.{IsFineCondition, IsFineExpr, IsFineStart, IsFineVariable}
@@ -144,15 +142,16 @@ module _ (model : Model) (pred : ℕ) (rule : Rule) where
     same = λ growth fit. fit;
     join = λ first second third one other fit. other (one fit);
     access = λ object field shape growth fit.
-        fit_item (access object field growth) (with_next_local (unnamed shape) growth) (λ plain. absurd plain) (fit_local shape growth fit);
+        fit_item (access object field growth) (with_next_local (unnamed shape) growth) (λ plain. absurd plain)
+        (fit_local shape growth fit);
   }
 
 fine_each : (some : List Expr) → All IsFineExpr some → AllByRecursion IsFineExpr some
 fine_each [] all = tt
 fine_each (expr ∷ more) all = (All-head IsFineExpr expr more all, fine_each more (All-tail IsFineExpr expr more all))
 
-module _ (IsFor : Meaning → ℕ → Type 0) (IsPredFor : TokenSort → ℕ → Type 0) (files : List FileDecls) (ground : RuleGround) (reading : Readings)
-    (model : Model) (things : HasThings model reading.lexicon reading.objects) (rule : Rule)
+module _ (IsFor : Meaning → ℕ → Type 0) (IsPredFor : TokenSort → ℕ → Type 0) (files : List FileDecls) (ground : RuleGround)
+    (reading : Readings) (model : Model) (things : HasThings model reading.lexicon reading.objects) (rule : Rule)
     (setting : IsSetting IsFor IsPredFor (IsThingIn reading.lexicon) (IsHeld model reading.pred rule) files ground reading)
     (once : AreOnce reading.places) where
   abbrev Held : Stand → Type 0
@@ -181,40 +180,46 @@ module _ (IsFor : Meaning → ℕ → Type 0) (IsPredFor : TokenSort → ℕ →
 
   -- ---- constraints
 
-  constraint_fitted : (tally : Tally) (turns : List Made) (growth : Growth) (around : Surroundings) (sight : Sight) (decl : ℕ) (kind : Kind) (at : ℕ)
-      (some : List Expr) → Seen tally turns growth around sight → InNames reading.names (exprs_read (sources_in ground) sight some)
-      → All IsFineExpr some → constraint_faults ground.facts around decl kind at some ≡ [] → Leads (with_constraint reading turns kind some growth)
-      → Stays growth (with_constraint reading turns kind some growth)
-  constraint_fitted tally turns growth around sight decl kind at some sees names fine none leads = by (takes kind (length some)) refl none
+  constraint_fitted : (tally : Tally) (turns : List Made) (growth : Growth) (around : Surroundings) (sight : Sight) (decl : ℕ)
+      (kind : Kind) (at : ℕ) (some : List Expr) → Seen tally turns growth around sight → InNames reading.names
+      (exprs_read (sources_in ground) sight some) → All IsFineExpr some → constraint_faults ground.facts around decl kind at
+      some ≡ [] → Leads (with_constraint reading turns kind some growth) → Stays growth (with_constraint reading turns kind some
+      growth)
+  constraint_fitted tally turns growth around sight decl kind at some sees names fine none leads =
+      by (takes kind (length some)) refl none
     where
       by : (b : Bool) → takes kind (length some) ≡ b
-          → (if b then arguments_faults ground.facts around decl (asked_among (are_decimals ground.facts around kind 0 some) kind) 0 None some
-          else faults_here decl at (Some faults.WrongCount)) ≡ []
+          → (if b then arguments_faults ground.facts around decl (asked_among (are_decimals ground.facts around kind 0 some)
+          kind) 0 None some else faults_here decl at (Some faults.WrongCount)) ≡ []
           → Stays growth (with_constraint reading turns kind some growth)
       by true taken one fit =
           let given = given_arguments reading turns some growth in
           let it = all_answered IsFor IsPredFor files ground reading model things rule setting once around decl
           (asked_among (are_decimals ground.facts around kind 0 some) kind) 0 None some one in
           let begins : Leads given.growth = record { locals = leads.locals; slots = leads.slots } in
-          let suited = exprs_suited IsFor IsPredFor files ground reading model things rule setting once tally turns growth around sight decl some sees names
-          (fine_each some fine) it.0 begins in
+          let suited = exprs_suited IsFor IsPredFor files ground reading model things rule setting once tally turns growth around
+          sight decl some sees names (fine_each some fine) it.0 begins in
           fit_items model reading.pred rule (constraint_items kind (constraint_terms kind given.stands)) given.growth
-          (constraint_fits IsFor IsPredFor files ground reading model things rule setting once around kind some given.stands taken it.1 suited)
-          (exprs_kept reading Stays reads turns some growth fit)
+          (constraint_fits IsFor IsPredFor files ground reading model things rule setting once around kind some given.stands
+          taken it.1 suited) (exprs_kept reading Stays reads turns some growth fit)
       by false taken one fit = absurd (cc)
 
-  pub named_fitted : (tally : Tally) (turns : List Made) (growth : Growth) (around : Surroundings) (sight : Sight) (decl : ℕ) (word : Name)
-      (some : List Expr) → Seen tally turns growth around sight → InNames reading.names (exprs_read (sources_in ground) sight some)
-      → All IsFineExpr some → constraint_call_faults ground.facts around decl word some ≡ [] → Leads (with_constraint_named reading turns word some growth)
+  pub named_fitted : (tally : Tally) (turns : List Made) (growth : Growth) (around : Surroundings) (sight : Sight) (decl : ℕ)
+      (word : Name) (some : List Expr) → Seen tally turns growth around sight → InNames reading.names
+      (exprs_read (sources_in ground) sight some) → All IsFineExpr some → constraint_call_faults ground.facts around decl word
+      some ≡ [] → Leads (with_constraint_named reading turns word some growth)
       → Stays growth (with_constraint_named reading turns word some growth)
-  named_fitted tally turns growth around sight decl word some sees names fine none leads = by (constraint_named word.text) none leads
+  named_fitted tally turns growth around sight decl word some sees names fine none leads =
+      by (constraint_named word.text) none leads
     where
       by : (o : Option Kind)
-          → option_map_or (λ kind. constraint_faults ground.facts around decl kind word.at some) o (faults_here decl word.at (Some faults.Unknown)) ≡ []
+          → option_map_or (λ kind. constraint_faults ground.facts around decl kind word.at some) o
+          (faults_here decl word.at (Some faults.Unknown)) ≡ []
           → Leads (option_map_or (λ kind. with_constraint reading turns kind some growth) o growth)
           → Stays growth (option_map_or (λ kind. with_constraint reading turns kind some growth) o growth)
       by None one further = absurd (cc)
-      by (Some kind) one further = constraint_fitted tally turns growth around sight decl kind word.at some sees names fine one further
+      by (Some kind) one further =
+          constraint_fitted tally turns growth around sight decl kind word.at some sees names fine one further
 
   -- ---- tokens
 
@@ -236,34 +241,43 @@ module _ (IsFor : Meaning → ℕ → Type 0) (IsPredFor : TokenSort → ℕ →
       (fit_slot model reading.pred rule (pred_slot reading.lexicon pred) noted fit))
     where
       there : slice_get rule.slots (length growth.slots) ≡ Some (pred_slot reading.lexicon pred)
-      there = leads.slots (length growth.slots) (pred_slot reading.lexicon pred) (get-append_last growth.slots (pred_slot reading.lexicon pred))
+      there =
+          leads.slots (length growth.slots) (pred_slot reading.lexicon pred)
+          (get-append_last growth.slots (pred_slot reading.lexicon pred))
 
-      equal_fit : (object : Option Term) → IsObjectTerm object → EachFit model reading.pred rule (object_items (length growth.slots) object)
+      equal_fit : (object : Option Term) → IsObjectTerm object → EachFit model reading.pred rule
+          (object_items (length growth.slots) object)
       equal_fit None object_is = tt
       equal_fit (Some term) object_is = (
         λ plain. (
           value_kinds.Object,
-          All-from_recursion (IsOfKind model (OfRule reading.pred rule) value_kinds.Object) (terms.Slot (length growth.slots) parts.Object ∷ term ∷ [])
-              ((pred_slot reading.lexicon pred, there, refl), (object_is, tt)),
+          All-from_recursion (IsOfKind model (OfRule reading.pred rule) value_kinds.Object)
+              (terms.Slot (length growth.slots) parts.Object ∷ term ∷ []) (
+                (pred_slot reading.lexicon pred, there, refl),
+                (object_is, tt),
+              ),
         ),
         tt,
       )
 
-  asked_fitted : (at : ℕ) (relation : Rel) (asks : AskedSlot) → IsObjectTerm asks.wanted.object → Leads (with_asked reading.lexicon at relation asks)
-      → Stays asks.growth (with_asked reading.lexicon at relation asks)
+  asked_fitted : (at : ℕ) (relation : Rel) (asks : AskedSlot) → IsObjectTerm asks.wanted.object
+      → Leads (with_asked reading.lexicon at relation asks) → Stays asks.growth (with_asked reading.lexicon at relation asks)
   asked_fitted at relation asks is leads = by asks.wanted.pred leads
     where
       by : (o : Option ℕ)
-          → Leads (option_map_or (λ pred. with_wanted_token reading.lexicon at relation pred asks.wanted.object asks.growth) o asks.growth)
-          → Stays asks.growth (option_map_or (λ pred. with_wanted_token reading.lexicon at relation pred asks.wanted.object asks.growth) o asks.growth)
+          → Leads (option_map_or (λ pred. with_wanted_token reading.lexicon at relation pred asks.wanted.object asks.growth) o
+          asks.growth) → Stays asks.growth (option_map_or (λ pred. with_wanted_token reading.lexicon at relation pred
+          asks.wanted.object asks.growth) o asks.growth)
       by None further fit = fit
       by (Some pred) further fit = token_fitted at relation pred asks.wanted.object asks.growth is further fit
 
-  asked_leads : (at : ℕ) (relation : Rel) (asks : AskedSlot) → Leads (with_asked reading.lexicon at relation asks) → Leads asks.growth
+  asked_leads : (at : ℕ) (relation : Rel) (asks : AskedSlot) → Leads (with_asked reading.lexicon at relation asks)
+      → Leads asks.growth
   asked_leads at relation asks leads = by asks.wanted.pred leads
     where
       by : (o : Option ℕ)
-          → Leads (option_map_or (λ pred. with_wanted_token reading.lexicon at relation pred asks.wanted.object asks.growth) o asks.growth) → Leads asks.growth
+          → Leads (option_map_or (λ pred. with_wanted_token reading.lexicon at relation pred asks.wanted.object asks.growth) o
+          asks.growth) → Leads asks.growth
       by None further = further
       by (Some pred) further =
           leads_back rule asks.growth (with_wanted_token reading.lexicon at relation pred asks.wanted.object asks.growth)
@@ -287,17 +301,20 @@ module _ (IsFor : Meaning → ℕ → Type 0) (IsPredFor : TokenSort → ℕ →
   owner_object first meant (stands.Class class) name end fits held is = tt
   owner_object first meant stands.Nothing name end fits held is = tt
 
-  names_object : (first : ℕ) (meant : Denoted) (stand : Stand) (name : Name) (more : List Name) (growth : Growth) (end : Denoted) → Fitting meant stand
-      → Held stand → asked_names ground.facts first meant name more ≡ Ok end → Leads (asked_behind reading stand (name ∷ more) growth).growth
-      → IsObjectTerm (asked_behind reading stand (name ∷ more) growth).wanted.object
+  names_object : (first : ℕ) (meant : Denoted) (stand : Stand) (name : Name) (more : List Name) (growth : Growth) (end : Denoted)
+      → Fitting meant stand → Held stand → asked_names ground.facts first meant name more ≡ Ok end
+      → Leads (asked_behind reading stand (name ∷ more) growth).growth → IsObjectTerm (asked_behind reading stand (name ∷ more)
+      growth).wanted.object
   names_object first meant stand name [] growth end fits held is leads = owner_object first meant stand name end fits held is
   names_object first meant stand name (next ∷ more) growth end fits held is leads =
       let step = next_stand reading stand name growth in
       let behind = asked_behind reading step.stand (next ∷ more) step.growth in
-      let same = behind_more IsFor IsPredFor (IsThingIn reading.lexicon) ground.facts reading setting.serves stand name next more growth in
+      let same = behind_more IsFor IsPredFor (IsThingIn reading.lexicon) ground.facts reading setting.serves stand name next more
+      growth in
       let further : Leads behind.growth = subst (λ (asks : AskedSlot). Leads asks.growth) same leads in
       let begins : Leads step.growth =
-      leads_back rule step.growth behind.growth (wanted_kept reading Grows (reads_grow reading.lexicon) step.stand (next ∷ more) step.growth) further in
+      leads_back rule step.growth behind.growth (wanted_kept reading Grows (reads_grow reading.lexicon) step.stand (next ∷ more)
+      step.growth) further in
       subst (λ (asks : AskedSlot). IsObjectTerm asks.wanted.object) (sym same)
       (by (next_denoted ground.facts first meant name) refl is begins
       (λ so fit hold rest. names_object first so step.stand next more step.growth end fit hold rest further))
@@ -305,29 +322,33 @@ module _ (IsFor : Meaning → ℕ → Type 0) (IsPredFor : TokenSort → ℕ →
       by : (u : Understood) → next_denoted ground.facts first meant name ≡ u
           → found_next (λ further. asked_names ground.facts first further next more) u ≡ Ok end
           → Leads (next_stand reading stand name growth).growth
-          → ((so : Denoted) → Fitting so (next_stand reading stand name growth).stand → Held (next_stand reading stand name growth).stand
-          → asked_names ground.facts first so next more ≡ Ok end
-          → IsObjectTerm (asked_behind reading (next_stand reading stand name growth).stand (next ∷ more) (next_stand reading stand name growth).growth).wanted.object)
-          → IsObjectTerm (asked_behind reading (next_stand reading stand name growth).stand (next ∷ more) (next_stand reading stand name growth).growth).wanted.object
+          → ((so : Denoted) → Fitting so (next_stand reading stand name growth).stand
+          → Held (next_stand reading stand name growth).stand → asked_names ground.facts first so next more ≡ Ok end
+          → IsObjectTerm (asked_behind reading (next_stand reading stand name growth).stand (next ∷ more)
+          (next_stand reading stand name growth).growth).wanted.object)
+          → IsObjectTerm (asked_behind reading (next_stand reading stand name growth).stand (next ∷ more)
+          (next_stand reading stand name growth).growth).wanted.object
       by (Ok so) here rest begins behind =
-          behind so (next_fits IsFor IsPredFor (IsThingIn reading.lexicon) ground.facts reading setting.serves first meant stand name growth so fits here)
-          (next_held model reading things rule IsFor IsPredFor ground.facts setting.serves first meant stand name growth so fits held here begins) rest
+          behind so (next_fits IsFor IsPredFor (IsThingIn reading.lexicon) ground.facts reading setting.serves first meant stand
+          name growth so fits here) (next_held model reading things rule IsFor IsPredFor ground.facts setting.serves first
+          meant stand name growth so fits held here begins) rest
       by (Err fault) here rest begins behind = absurd (cc)
 
-  path_object : (tally : Tally) (turns : List Made) (growth : Growth) (around : Surroundings) (sight : Sight) (path : Path) (end : Denoted)
-      → Seen tally turns growth around sight → InNames reading.names (front_read (sources_in ground) sight path.first)
-      → asked_token ground.facts around path ≡ Ok end → Leads (asked_path reading turns path growth).growth
+  path_object : (tally : Tally) (turns : List Made) (growth : Growth) (around : Surroundings) (sight : Sight) (path : Path)
+      (end : Denoted) → Seen tally turns growth around sight → InNames reading.names (front_read (sources_in ground) sight
+      path.first) → asked_token ground.facts around path ≡ Ok end → Leads (asked_path reading turns path growth).growth
       → IsObjectTerm (asked_path reading turns path growth).wanted.object
-  path_object tally turns growth around sight path end sees names is leads = by (first_denoted ground.facts around path.first.text) refl is
+  path_object tally turns growth around sight path end sees names is leads =
+      by (first_denoted ground.facts around path.first.text) refl is
     where
-      behind : (begin : Denoted) → first_denoted ground.facts around path.first.text ≡ Some begin → (rest : List Name) → path.rest ≡ rest
-          → asked_rest ground.facts path.first.at begin rest ≡ Ok end
+      behind : (begin : Denoted) → first_denoted ground.facts around path.first.text ≡ Some begin → (rest : List Name)
+          → path.rest ≡ rest → asked_rest ground.facts path.first.at begin rest ≡ Ok end
           → IsObjectTerm (asked_path reading turns path growth).wanted.object
       behind begin first [] same none = absurd (cc)
       behind begin first (name ∷ more) same some =
           let stand = first_stand reading turns growth path.first.at in
-          let suits = name_fits IsFor IsPredFor (IsThingIn reading.lexicon) Held files ground reading setting tally turns growth around sight sees path.first begin
-          names first in
+          let suits = name_fits IsFor IsPredFor (IsThingIn reading.lexicon) Held files ground reading setting tally turns growth
+          around sight sees path.first begin names first in
           let P : List Name → Type 0 = λ rest. Leads (asked_behind reading stand rest growth).growth
           → IsObjectTerm (asked_behind reading stand rest growth).wanted.object in
           subst P (sym same) (names_object path.first.at begin stand name more growth end suits.0 suits.1 some) leads
@@ -338,9 +359,10 @@ module _ (IsFor : Meaning → ℕ → Type 0) (IsPredFor : TokenSort → ℕ →
       by None first none = absurd (cc)
       by (Some begin) first some = behind begin first path.rest refl some
 
-  path_fitted : (tally : Tally) (turns : List Made) (growth : Growth) (around : Surroundings) (sight : Sight) (at : ℕ) (relation : Rel) (path : Path)
-      (end : Denoted) → Seen tally turns growth around sight → InNames reading.names (front_read (sources_in ground) sight path.first)
-      → asked_token ground.facts around path ≡ Ok end → Leads (with_asked reading.lexicon at relation (asked_path reading turns path growth))
+  path_fitted : (tally : Tally) (turns : List Made) (growth : Growth) (around : Surroundings) (sight : Sight) (at : ℕ)
+      (relation : Rel) (path : Path) (end : Denoted) → Seen tally turns growth around sight → InNames reading.names
+      (front_read (sources_in ground) sight path.first) → asked_token ground.facts around path ≡ Ok end
+      → Leads (with_asked reading.lexicon at relation (asked_path reading turns path growth))
       → Stays growth (with_asked reading.lexicon at relation (asked_path reading turns path growth))
   path_fitted tally turns growth around sight at relation path end sees names is leads fit =
       let asks = asked_path reading turns path growth in
@@ -350,11 +372,13 @@ module _ (IsFor : Meaning → ℕ → Type 0) (IsPredFor : TokenSort → ℕ →
 
   -- ---- calls
 
-  related_fitted : (tally : Tally) (turns : List Made) (growth : Growth) (around : Surroundings) (sight : Sight) (decl at : ℕ) (relation : Rel) (path : Path)
-      (rest : List Name) → Seen tally turns growth around sight → InNames reading.names (front_read (sources_in ground) sight path.first)
-      → related_names ground.facts around decl path rest ≡ [] → Leads (with_related reading turns at relation path rest growth)
-      → Stays growth (with_related reading turns at relation path rest growth)
-  related_fitted tally turns growth around sight decl at relation path [] sees names none leads = by (first_stand reading turns growth path.first.at)
+  related_fitted : (tally : Tally) (turns : List Made) (growth : Growth) (around : Surroundings) (sight : Sight) (decl at : ℕ)
+      (relation : Rel) (path : Path) (rest : List Name) → Seen tally turns growth around sight → InNames reading.names
+      (front_read (sources_in ground) sight path.first) → related_names ground.facts around decl path rest ≡ []
+      → Leads (with_related reading turns at relation path rest growth) → Stays growth (with_related reading turns at relation
+      path rest growth)
+  related_fitted tally turns growth around sight decl at relation path [] sees names none leads =
+      by (first_stand reading turns growth path.first.at)
     where
       by : (stand : Stand) → Stays growth (with_relation relation stand growth)
       by (stands.Slot number pred) fit = fit_item model reading.pred rule (Relation relation number) growth tt fit
@@ -366,67 +390,78 @@ module _ (IsFor : Meaning → ℕ → Type 0) (IsPredFor : TokenSort → ℕ →
       let it = understood decl (asked_token ground.facts around path) none in
       path_fitted tally turns growth around sight at relation path it.0 sees names it.1 leads
 
-  relation_fitted : (tally : Tally) (turns : List Made) (growth : Growth) (around : Surroundings) (sight : Sight) (decl at : ℕ) (relation : Rel)
-      (some : List Expr) → Seen tally turns growth around sight → InNames reading.names (exprs_read (sources_in ground) sight some)
-      → relation_faults ground.facts around decl at some ≡ [] → Leads (with_relation_to reading turns at relation some growth)
-      → Stays growth (with_relation_to reading turns at relation some growth)
+  relation_fitted : (tally : Tally) (turns : List Made) (growth : Growth) (around : Surroundings) (sight : Sight) (decl at : ℕ)
+      (relation : Rel) (some : List Expr) → Seen tally turns growth around sight → InNames reading.names
+      (exprs_read (sources_in ground) sight some) → relation_faults ground.facts around decl at some ≡ []
+      → Leads (with_relation_to reading turns at relation some growth) → Stays growth (with_relation_to reading turns at relation
+      some growth)
   relation_fitted tally turns growth around sight decl at relation [] sees names none leads fit = fit
   relation_fitted tally turns growth around sight decl at relation (exprs.Path path ∷ []) sees names none leads fit =
       related_fitted tally turns growth around sight decl at relation path path.rest sees
       (all_first IsNamed (front_read (sources_in ground) sight path.first) [] names) none leads fit
   relation_fitted tally turns growth around sight decl at relation (exprs.Literal literal ∷ []) sees names none leads fit = fit
-  relation_fitted tally turns growth around sight decl at relation (exprs.Path path ∷ other ∷ more) sees names none leads fit = fit
-  relation_fitted tally turns growth around sight decl at relation (exprs.Literal literal ∷ other ∷ more) sees names none leads fit = fit
+  relation_fitted tally turns growth around sight decl at relation (exprs.Path path ∷ other ∷ more) sees names none leads fit =
+      fit
+  relation_fitted tally turns growth around sight decl at relation (exprs.Literal literal ∷ other ∷ more) sees names none leads
+      fit = fit
 
-  pub call_fitted : (tally : Tally) (turns : List Made) (growth : Growth) (around : Surroundings) (sight : Sight) (decl : ℕ) (call : Call)
-      → Seen tally turns growth around sight → InNames reading.names (exprs_read (sources_in ground) sight call.arguments)
-      → All IsFineExpr call.arguments → named_call_faults ground.facts around decl call.path.first call.arguments ≡ []
-      → Leads (with_call reading turns call growth) → Stays growth (with_call reading turns call growth)
-  call_fitted tally turns growth around sight decl call sees names fine none leads = by (relation_named call.path.first.text) none leads
+  pub call_fitted : (tally : Tally) (turns : List Made) (growth : Growth) (around : Surroundings) (sight : Sight) (decl : ℕ)
+      (call : Call) → Seen tally turns growth around sight → InNames reading.names (exprs_read (sources_in ground) sight
+      call.arguments) → All IsFineExpr call.arguments → named_call_faults ground.facts around decl call.path.first
+      call.arguments ≡ [] → Leads (with_call reading turns call growth) → Stays growth (with_call reading turns call growth)
+  call_fitted tally turns growth around sight decl call sees names fine none leads =
+      by (relation_named call.path.first.text) none leads
     where
       by : (o : Option Rel)
           → (if is_some o then relation_faults ground.facts around decl call.path.first.at call.arguments
           else constraint_call_faults ground.facts around decl call.path.first call.arguments) ≡ []
           → Leads (option_map_or (λ relation. with_relation_to reading turns call.path.first.at relation call.arguments growth) o
           (with_constraint_named reading turns call.path.first call.arguments growth))
-          → Stays growth (option_map_or (λ relation. with_relation_to reading turns call.path.first.at relation call.arguments growth) o
-          (with_constraint_named reading turns call.path.first call.arguments growth))
-      by None one further = named_fitted tally turns growth around sight decl call.path.first call.arguments sees names fine one further
+          → Stays growth (option_map_or (λ relation. with_relation_to reading turns call.path.first.at relation call.arguments
+          growth) o (with_constraint_named reading turns call.path.first call.arguments growth))
+      by None one further =
+          named_fitted tally turns growth around sight decl call.path.first call.arguments sees names fine one further
       by (Some relation) one further =
           relation_fitted tally turns growth around sight decl call.path.first.at relation call.arguments sees names one further
 
-  labelled_fitted : (tally : Tally) (turns : List Made) (growth : Growth) (around : Surroundings) (sight : Sight) (at : ℕ) (relation : Rel) (path : Path)
-      (rest : List Name) (end : Denoted) → Seen tally turns growth around sight → InNames reading.names (asked_read (sources_in ground) sight path.first rest)
-      → slot_names ground.facts around path rest ≡ Ok end → Leads (with_asked reading.lexicon at relation (asked_labelled reading turns path rest growth))
+  labelled_fitted : (tally : Tally) (turns : List Made) (growth : Growth) (around : Surroundings) (sight : Sight) (at : ℕ)
+      (relation : Rel) (path : Path) (rest : List Name) (end : Denoted) → Seen tally turns growth around sight
+      → InNames reading.names (asked_read (sources_in ground) sight path.first rest) → slot_names ground.facts around path
+      rest ≡ Ok end → Leads (with_asked reading.lexicon at relation (asked_labelled reading turns path rest growth))
       → Stays growth (with_asked reading.lexicon at relation (asked_labelled reading turns path rest growth))
   labelled_fitted tally turns growth around sight at relation path [] end sees names is leads =
       asked_fitted at relation (asked_labelled reading turns path [] growth) tt leads
   labelled_fitted tally turns growth around sight at relation path (name ∷ more) end sees names is leads =
       path_fitted tally turns growth around sight at relation path end sees names is leads
 
-  pub ask_fitted : (tally : Tally) (turns : List Made) (growth : Growth) (around : Surroundings) (sight : Sight) (decl : ℕ) (ask : Ask)
-      → Seen tally turns growth around sight → InNames reading.names (asked_read (sources_in ground) sight ask.path.first ask.path.rest)
-      → ask_faults ground.facts around decl ask ≡ [] → Leads (with_ask reading turns ask growth) → Stays growth (with_ask reading turns ask growth)
+  pub ask_fitted : (tally : Tally) (turns : List Made) (growth : Growth) (around : Surroundings) (sight : Sight) (decl : ℕ)
+      (ask : Ask) → Seen tally turns growth around sight → InNames reading.names (asked_read (sources_in ground) sight
+      ask.path.first ask.path.rest) → ask_faults ground.facts around decl ask ≡ [] → Leads (with_ask reading turns ask growth)
+      → Stays growth (with_ask reading turns ask growth)
   ask_fitted tally turns growth around sight decl ask sees names none leads = by (relation_named ask.word.text) none leads
     where
       by : (o : Option Rel)
-          → (if is_some o then understood_faults decl (labelled_slot ground.facts around ask.path) else faults_here decl ask.word.at (Some faults.Unknown)) ≡ []
-          → Leads (option_map_or (λ relation. with_asked reading.lexicon ask.label.at relation (asked_labelled reading turns ask.path ask.path.rest growth)) o growth)
-          → Stays growth
-          (option_map_or (λ relation. with_asked reading.lexicon ask.label.at relation (asked_labelled reading turns ask.path ask.path.rest growth)) o growth)
+          → (if is_some o then understood_faults decl (labelled_slot ground.facts around ask.path) else faults_here decl
+          ask.word.at (Some faults.Unknown)) ≡ []
+          → Leads (option_map_or (λ relation. with_asked reading.lexicon ask.label.at relation
+          (asked_labelled reading turns ask.path ask.path.rest growth)) o growth) → Stays growth
+          (option_map_or (λ relation. with_asked reading.lexicon ask.label.at relation (asked_labelled reading turns ask.path
+          ask.path.rest growth)) o growth)
       by None one further = absurd (cc)
       by (Some relation) one further =
           let it = understood decl (labelled_slot ground.facts around ask.path) one in
-          labelled_fitted tally turns growth around sight ask.label.at relation ask.path ask.path.rest it.0 sees names it.1 further
+          labelled_fitted tally turns growth around sight ask.label.at relation ask.path ask.path.rest it.0 sees names it.1
+          further
 
   -- ---- guards
 
-  both_suited : (tally : Tally) (turns : List Made) (growth : Growth) (around : Surroundings) (sight : Sight) (decl : ℕ) (one other : Expr)
-      → Seen tally turns growth around sight
-      → InNames reading.names (expr_read (sources_in ground) sight one ++ expr_read (sources_in ground) sight other)
-      → IsFineExpr one × IsFineExpr other → compared_faults ground.facts around decl one other ≡ []
+  both_suited : (tally : Tally) (turns : List Made) (growth : Growth) (around : Surroundings) (sight : Sight) (decl : ℕ)
+      (one other : Expr) → Seen tally turns growth around sight → InNames reading.names
+      (expr_read (sources_in ground) sight one ++ expr_read (sources_in ground) sight other) → IsFineExpr one × IsFineExpr other
+      → compared_faults ground.facts around decl one other ≡ []
       → Leads (argument reading turns other (argument reading turns one growth).growth).growth
-      → Comparable (compared_terms ((argument reading turns one growth).stand ∷ (argument reading turns other (argument reading turns one growth).growth).stand ∷ []))
+      → Comparable (compared_terms ((argument reading turns one growth).stand ∷ (argument reading turns other
+      (argument reading turns one growth).growth).stand ∷ []))
   both_suited tally turns growth around sight decl one other sees names fine none leads =
       let left_read = expr_read (sources_in ground) sight one in
       let right_read = expr_read (sources_in ground) sight other in
@@ -442,24 +477,28 @@ module _ (IsFor : Meaning → ℕ → Type 0) (IsPredFor : TokenSort → ℕ →
       let left = argument reading turns one growth in
       let right = argument reading turns other left.growth in
       let begins : Leads left.growth =
-      leads_back rule left.growth right.growth (expr_kept reading Grows (reads_grow reading.lexicon) turns other left.growth) leads in
-      let further = seeing_same IsFor IsPredFor (IsThingIn reading.lexicon) Held files ground reading setting once.locals once.slots tally turns growth left.growth
-      around sight (argument_made reading turns one growth) sees in
-      let x = expr_suited IsFor IsPredFor files ground reading model things rule setting once tally turns growth around sight decl one sees
-      (all_first IsNamed left_read right_read names) fine.0 first.0 begins in
-      let y = expr_suited IsFor IsPredFor files ground reading model things rule setting once tally turns left.growth around sight decl other further
-      (all_second IsNamed left_read right_read names) fine.1 second.0 leads in
-      both_fit IsFor IsPredFor files ground reading model things rule setting once around one other left.stand right.stand decimal refl
-      (first.1, (second.1, tt)) x y
+      leads_back rule left.growth right.growth (expr_kept reading Grows (reads_grow reading.lexicon) turns other left.growth)
+      leads in
+      let further = seeing_same IsFor IsPredFor (IsThingIn reading.lexicon) Held files ground reading setting once.locals
+      once.slots tally turns growth left.growth around sight (argument_made reading turns one growth) sees in
+      let x = expr_suited IsFor IsPredFor files ground reading model things rule setting once tally turns growth around sight
+      decl one sees (all_first IsNamed left_read right_read names) fine.0 first.0 begins in
+      let y = expr_suited IsFor IsPredFor files ground reading model things rule setting once tally turns left.growth around
+      sight decl other further (all_second IsNamed left_read right_read names) fine.1 second.0 leads in
+      both_fit IsFor IsPredFor files ground reading model things rule setting once around one other left.stand right.stand
+      decimal refl (first.1, (second.1, tt)) x y
 
-  pub condition_fits : (tally : Tally) (turns : List Made) (growth : Growth) (around : Surroundings) (sight : Sight) (decl : ℕ) (condition : Condition)
-      → Seen tally turns growth around sight → InNames reading.names (condition_read (sources_in ground) sight condition) → IsFineCondition condition
-      → condition_faults ground.facts around decl condition ≡ [] → Leads (condition_guard reading turns condition growth).growth
+  pub condition_fits : (tally : Tally) (turns : List Made) (growth : Growth) (around : Surroundings) (sight : Sight) (decl : ℕ)
+      (condition : Condition) → Seen tally turns growth around sight → InNames reading.names
+      (condition_read (sources_in ground) sight condition) → IsFineCondition condition → condition_faults ground.facts around
+      decl condition ≡ [] → Leads (condition_guard reading turns condition growth).growth
       → Comparable (sides_of (condition_guard reading turns condition growth).guard)
   condition_fits tally turns growth around sight decl (conditions.Truth expr) sees names fine none leads =
-      let it = one_answered IsFor IsPredFor files ground reading model things rule setting once around decl (asked.Of kinds.Bool) None expr none in
-      truth_fits IsFor IsPredFor files ground reading model things rule setting once around expr (argument reading turns expr growth).stand
-      (expr_suited IsFor IsPredFor files ground reading model things rule setting once tally turns growth around sight decl expr sees names fine it.0 leads) it.1
+      let it = one_answered IsFor IsPredFor files ground reading model things rule setting once around decl (asked.Of kinds.Bool)
+      None expr none in
+      truth_fits IsFor IsPredFor files ground reading model things rule setting once around expr
+      (argument reading turns expr growth).stand (expr_suited IsFor IsPredFor files ground reading model things rule setting
+      once tally turns growth around sight decl expr sees names fine it.0 leads) it.1
   condition_fits tally turns growth around sight decl (conditions.Equal one other) sees names fine none leads =
       both_suited tally turns growth around sight decl one other sees names fine none leads
   condition_fits tally turns growth around sight decl (conditions.NotEqual one other) sees names fine none leads =
@@ -472,7 +511,8 @@ module _ (IsFor : Meaning → ℕ → Type 0) (IsPredFor : TokenSort → ℕ →
   local_term true number kind class = refl
   local_term false number kind class = refl
 
-  decimal_kind : (kind : TypeKind) (term : Term) (class : ℕ) → is_decimal_stand (stands.Value term (value_kind kind) class) ≡ is_float kind
+  decimal_kind : (kind : TypeKind) (term : Term) (class : ℕ) → is_decimal_stand
+      (stands.Value term (value_kind kind) class) ≡ is_float kind
   decimal_kind kinds.Int term class = refl
   decimal_kind kinds.Float term class = refl
   decimal_kind kinds.Bool term class = refl
@@ -488,7 +528,8 @@ module _ (IsFor : Meaning → ℕ → Type 0) (IsPredFor : TokenSort → ℕ →
   begins_fit around kind number own class expr stand same held suited none =
       let local : Stand = stands.Value (terms.Local number) own class in
       let first : is_decimal_stand local ≡ is_float kind =
-      ap (λ (k : ValueKind). is_decimal_stand (stands.Value (terms.Local number) k class)) same ∙ decimal_kind kind (terms.Local number) class in
+      ap (λ (k : ValueKind). is_decimal_stand (stands.Value (terms.Local number) k class)) same ∙ decimal_kind kind
+      (terms.Local number) class in
       let has : has_decimal (local ∷ stand ∷ []) ≡ is_float kind =
       ap (λ (b : Bool). b || (is_decimal_stand stand || false)) first
       ∙ either (is_float kind) (is_decimal_stand stand)
@@ -499,18 +540,21 @@ module _ (IsFor : Meaning → ℕ → Type 0) (IsPredFor : TokenSort → ℕ →
       (subst (λ (k : ValueKind). IsOfKind model (OfRule reading.pred rule) k (terms.Local number)) same held) in
       let other : K (compared_term (is_float kind) stand) =
       wanted_kind IsFor IsPredFor files ground reading model things rule setting once kind around expr stand suited none in
-      subst (λ (d : Bool). Comparable (map (compared_term d) (local ∷ stand ∷ []))) (sym has)
-      (value_kind kind, All-from_recursion K (compared_term (is_float kind) local ∷ compared_term (is_float kind) stand ∷ []) (one, (other, tt)))
+      subst (λ (d : Bool). Comparable (map (compared_term d) (local ∷ stand ∷ []))) (sym has) (
+        value_kind kind,
+        All-from_recursion K (compared_term (is_float kind) local ∷ compared_term (is_float kind) stand ∷ [])
+            (one, (other, tt)),
+      )
     where
       either : (float decimal : Bool) → (float ≡ false → decimal ≡ false) → (float || (decimal || false)) ≡ float
       either true decimal plain = refl
       either false true plain = plain refl
       either false false plain = refl
 
-  begun_fitted : (tally : Tally) (turns : List Made) (growth : Growth) (around : Surroundings) (sight : Sight) (decl at : ℕ) (kind : TypeKind) (shape : Shape)
-      (expr : Expr) → Seen tally turns growth around sight → InNames reading.names (expr_read (sources_in ground) sight expr) → IsFineExpr expr
-      → shape.kind ≡ value_kind kind → argument_faults ground.facts around decl (asked.Of kind) None expr ≡ []
-      → Leads (with_begun reading turns at shape (Some (inits.Expr expr)) growth)
+  begun_fitted : (tally : Tally) (turns : List Made) (growth : Growth) (around : Surroundings) (sight : Sight) (decl at : ℕ)
+      (kind : TypeKind) (shape : Shape) (expr : Expr) → Seen tally turns growth around sight → InNames reading.names
+      (expr_read (sources_in ground) sight expr) → IsFineExpr expr → shape.kind ≡ value_kind kind → argument_faults ground.facts
+      around decl (asked.Of kind) None expr ≡ [] → Leads (with_begun reading turns at shape (Some (inits.Expr expr)) growth)
       → Stays growth (with_begun reading turns at shape (Some (inits.Expr expr)) growth)
   begun_fitted tally turns growth around sight decl at kind shape expr sees names fine same none leads fit =
       let given = argument reading turns expr growth in
@@ -521,12 +565,14 @@ module _ (IsFor : Meaning → ℕ → Type 0) (IsPredFor : TokenSort → ℕ →
         locals = λ place local is. leads.locals place local (still_there given.growth.locals (unnamed shape ∷ []) place local is);
         slots = leads.slots;
       } in
-      let it = one_answered IsFor IsPredFor files ground reading model things rule setting once around decl (asked.Of kind) None expr none in
-      let suited = expr_suited IsFor IsPredFor files ground reading model things rule setting once tally turns growth around sight decl expr sees names fine
-      it.0 begins in
-      fit_item model reading.pred rule (Constraint Eq (compared_terms (next_local shape given.growth ∷ given.stand ∷ []))) (with_declared at shape given.growth)
-      (λ plain. begins_fit around kind number shape.kind shape.class expr given.stand same (unnamed shape, there, refl) suited it.1)
-      (fit_local model reading.pred rule shape noted (expr_kept reading Stays reads turns expr growth fit))
+      let it = one_answered IsFor IsPredFor files ground reading model things rule setting once around decl (asked.Of kind) None
+      expr none in
+      let suited = expr_suited IsFor IsPredFor files ground reading model things rule setting once tally turns growth around
+      sight decl expr sees names fine it.0 begins in
+      fit_item model reading.pred rule (Constraint Eq (compared_terms (next_local shape given.growth ∷ given.stand ∷ [])))
+      (with_declared at shape given.growth) (λ plain. begins_fit around kind number shape.kind shape.class expr given.stand
+      same (unnamed shape, there, refl) suited it.1) (fit_local model reading.pred rule shape noted
+      (expr_kept reading Stays reads turns expr growth fit))
 
   -- the type of a local with which nothing is wrong is of a kind
   local_kind : (around : Surroundings) (decl : ℕ) (of : types.Type) → local_type_faults ground.facts around decl of ≡ []
@@ -539,30 +585,34 @@ module _ (IsFor : Meaning → ℕ → Type 0) (IsPredFor : TokenSort → ℕ →
       (base_kind ground.facts.names ground.facts.known of.base) [] in
       setting.bases_mean of.base (no_fault decl of.at wrong (none_first (faults_here decl of.at wrong) bounds typed))
 
-  pub local_fitted : (tally : Tally) (turns : List Made) (growth : Growth) (around : Surroundings) (sight : Sight) (decl : ℕ) (variable : Variable)
-      → Seen tally turns growth around sight → InNames reading.names (local_read (sources_in ground) sight variable) → IsFineVariable variable
-      → local_type_faults ground.facts around decl variable.declared ≡ [] → init_faults ground.facts around decl variable.declared variable.init ≡ []
+  pub local_fitted : (tally : Tally) (turns : List Made) (growth : Growth) (around : Surroundings) (sight : Sight) (decl : ℕ)
+      (variable : Variable) → Seen tally turns growth around sight → InNames reading.names (local_read (sources_in ground) sight
+      variable) → IsFineVariable variable → local_type_faults ground.facts around decl variable.declared ≡ []
+      → init_faults ground.facts around decl variable.declared variable.init ≡ []
       → Leads (with_text_local reading turns variable growth) → Stays growth (with_text_local reading turns variable growth)
   local_fitted tally turns growth around sight decl variable sees names fine typed none leads = by variable.init refl none leads
     where
       by : (init : Option Init) → variable.init ≡ init → init_faults ground.facts around decl variable.declared init ≡ []
           → Leads (with_begun reading turns variable.name.at (type_shape reading turns growth variable.declared) init growth)
-          → Stays growth (with_begun reading turns variable.name.at (type_shape reading turns growth variable.declared) init growth)
+          → Stays growth (with_begun reading turns variable.name.at (type_shape reading turns growth variable.declared) init
+          growth)
       by None is begun further = fit_local model reading.pred rule (type_shape reading turns growth variable.declared)
           (with_named_at variable.name.at (next_local (type_shape reading turns growth variable.declared) growth) growth)
       by (Some (inits.New creation)) is begun further = absurd (cc)
       by (Some (inits.Expr expr)) is begun further =
           let of = variable.declared in
           let kind = local_kind around decl of typed in
-          let own = all_first IsNamed (type_read (sources_in ground) sight of) (init_read (sources_in ground) sight variable.init) names in
-          let behind = all_second IsNamed (type_read (sources_in ground) sight of) (init_read (sources_in ground) sight variable.init) names in
+          let own = all_first IsNamed (type_read (sources_in ground) sight of)
+          (init_read (sources_in ground) sight variable.init) names in
+          let behind = all_second IsNamed (type_read (sources_in ground) sight of)
+          (init_read (sources_in ground) sight variable.init) names in
           let typed_so : Fitting (denoted.Value kind.0 false) (next_local (type_shape reading turns growth of) growth) =
           subst (λ (o : Option TypeKind). Fitting (option_map_or (λ (k : TypeKind). denoted.Value k false) o denoted.Faulty)
           (next_local (type_shape reading turns growth of) growth)) kind.1
-          (local_fits IsFor IsPredFor (IsThingIn reading.lexicon) Held files ground reading setting once turns growth around sight decl (length growth.locals)
-          variable own typed) in
+          (local_fits IsFor IsPredFor (IsThingIn reading.lexicon) Held files ground reading setting once turns growth around
+          sight decl (length growth.locals) variable own typed) in
           begun_fitted tally turns growth around sight decl variable.name.at kind.0 (type_shape reading turns growth of) expr sees
           (subst (λ (init : Option Init). InNames reading.names (init_read (sources_in ground) sight init)) is behind)
           (subst IsFineStart is fine.1.1) typed_so.0
-          (subst (λ (o : Option TypeKind). argument_faults ground.facts around decl (option_map_or asked.Of o asked.Compared) None expr ≡ []) kind.1 begun)
-          further
+          (subst (λ (o : Option TypeKind). argument_faults ground.facts around decl (option_map_or asked.Of o asked.Compared)
+          None expr ≡ []) kind.1 begun) further

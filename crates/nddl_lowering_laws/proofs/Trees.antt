@@ -1,6 +1,6 @@
 -- The rules of faultless files have lawful arguments, where the model has what the files name.
-use Rattle.std.proofs.Common.{◌≡◌, ℕ, zero, suc, ◌<◌, List, [], ◌∷◌, get_or, refl, sym, subst}
-use Rattle.std.specs.Prelude.{⊤, Some, All, AllPairs, slice_get}
+use Rattle.std.proofs.Common.{◌≡◌, ℕ, zero, suc, List, [], ◌∷◌, get_or, sym, subst}
+use Rattle.std.specs.Prelude.{⊤, Some, All, slice_get}
 use Rattle.std.proofs.lemmas.List.Elements.{All-weaker}
 use Rattle.model_core.specs.declared.class.Object.{Object}
 use Rattle.model_core.specs.declared.item.Item.TheVariants.{Constraint}
@@ -74,7 +74,8 @@ module _ (model : Model) (pred : ℕ) (rule : Rule) where
   IsFitEntry (OfSlot number) = ⊤
   IsFitEntry (OfLocal number) = ⊤
 
-  entry_fit : (block : Entries) → IsFit block → (place : ℕ) (what : Direct) → slice_get (direct block) place ≡ Some what → IsFitEntry what
+  entry_fit : (block : Entries) → IsFit block → (place : ℕ) (what : Direct) → slice_get (direct block) place ≡ Some what
+      → IsFitEntry what
   entry_fit NoEntry are place what at = absurd (cc)
   entry_fit (WithSlot slot more) are zero what at = subst IsFitEntry (some_same (OfSlot slot) what at) tt
   entry_fit (WithSlot slot more) are (suc place) what at = entry_fit more are place what at
@@ -82,7 +83,8 @@ module _ (model : Model) (pred : ℕ) (rule : Rule) where
   entry_fit (WithLocal local more) are (suc place) what at = entry_fit more are place what at
   entry_fit (WithItem item more) are zero what at = subst IsFitEntry (some_same (OfItem item) what at) are.0
   entry_fit (WithItem item more) are (suc place) what at = entry_fit more are.1 place what at
-  entry_fit (WithBranch guard first second more) are zero what at = subst IsFitEntry (some_same (OfBranch guard first second) what at) are.0
+  entry_fit (WithBranch guard first second more) are zero what at =
+      subst IsFitEntry (some_same (OfBranch guard first second) what at) are.0
   entry_fit (WithBranch guard first second more) are (suc place) what at = entry_fit more are.1.1.1 place what at
 
   -- and so is what stands in the blocks of a branch
@@ -95,31 +97,36 @@ module _ (model : Model) (pred : ℕ) (rule : Rule) where
   side_fit (WithLocal local more) are (suc place) guard first second at side = side_fit more are place guard first second at side
   side_fit (WithItem item more) are zero guard first second at side = absurd (cc)
   side_fit (WithItem item more) are (suc place) guard first second at side = side_fit more are.1 place guard first second at side
-  side_fit (WithBranch other one two more) are zero guard first second at Then = let same : one ≡ first = cc in subst IsFit same are.1.0
-  side_fit (WithBranch other one two more) are zero guard first second at Otherwise = let same : two ≡ second = cc in subst IsFit same are.1.1.0
-  side_fit (WithBranch other one two more) are (suc place) guard first second at side = side_fit more are.1.1.1 place guard first second at side
+  side_fit (WithBranch other one two more) are zero guard first second at Then =
+      let same : one ≡ first = cc in subst IsFit same are.1.0
+  side_fit (WithBranch other one two more) are zero guard first second at Otherwise =
+      let same : two ≡ second = cc in subst IsFit same are.1.1.0
+  side_fit (WithBranch other one two more) are (suc place) guard first second at side =
+      side_fit more are.1.1.1 place guard first second at side
 
-  fit_on_way : (block : Entries) → IsFit block → (path : List Turn) (inside : Entries) → LeadsToBlock block path inside → (place : ℕ) (what : Direct)
-      → slice_get (direct inside) place ≡ Some what → IsFitEntry what
+  fit_on_way : (block : Entries) → IsFit block → (path : List Turn) (inside : Entries) → LeadsToBlock block path inside
+      → (place : ℕ) (what : Direct) → slice_get (direct inside) place ≡ Some what → IsFitEntry what
   fit_on_way block are [] inside here place what at =
       entry_fit block are place what (subst (λ (b : Entries). slice_get (direct b) place ≡ Some what) here at)
   fit_on_way block are (turn ∷ path) inside there place what at =
-      fit_on_way (chosen turn.side there.1.0 there.1.1) (side_fit block are turn.entry there.0 there.1.0 there.1.1 there.1.2.0 turn.side) path inside
-      there.1.2.1.1 place what at
+      fit_on_way (chosen turn.side there.1.0 there.1.1) (side_fit block are turn.entry there.0 there.1.0 there.1.1 there.1.2.0
+      turn.side) path inside there.1.2.1.1 place what at
 
   fitting : IsFit rule.top → HasFittingArguments model pred rule
   fitting are = record {
-    arguments = λ path place kind some plain stands. fit_on_way rule.top are path stands.block stands.way place (OfItem (Constraint kind some)) stands.stands plain;
+    arguments =
+        λ path place kind some plain stands. fit_on_way rule.top are path stands.block stands.way place
+        (OfItem (Constraint kind some)) stands.stands plain;
     guards = λ path place guard first second stands.
         fit_on_way rule.top are path stands.block stands.way place (OfBranch guard first second) stands.stands;
   }
 
 -- ---- trees
 
-module _ (files : List FileDecls) (table : TypeTable) (given : AreGiven files) (is : IsTable files table) (named_objects : List NamedObject)
-    (made_objects : List MadeObject) (objects : List Object)
-    (made : AreMade (record { facts = is.facts; enums = table.enums; named_objects = named_objects; objects = made_objects }) objects)
-    (model : Model) where
+module _ (files : List FileDecls) (table : TypeTable) (given : AreGiven files) (is : IsTable files table)
+    (named_objects : List NamedObject) (made_objects : List MadeObject) (objects : List Object)
+    (made : AreMade (record { facts = is.facts; enums = table.enums; named_objects = named_objects; objects = made_objects })
+    objects) (model : Model) where
   abbrev world : World
   world = record { facts = is.facts; enums = table.enums; named_objects = named_objects; objects = made_objects }
 
@@ -159,21 +166,21 @@ module _ (files : List FileDecls) (table : TypeTable) (given : AreGiven files) (
       setting : IsSetting For PredFor (IsThingIn lexicon) Held files ground reading
       setting = setting_of files table given is named_objects made_objects objects made Held tree it holds
 
-      text_fits : InNames tree.names (block_names (sources_in ground) no_sight no_tally tree.body) → HasFineText is.facts it.token tree.body
-          → AreFit model tree.pred rule (filled_block (unrolled reading [] tree.body no_growth))
+      text_fits : InNames tree.names (block_names (sources_in ground) no_sight no_tally tree.body) → HasFineText is.facts
+          it.token tree.body → AreFit model tree.pred rule (filled_block (unrolled reading [] tree.body no_growth))
       text_fits named (of_rule decl none) =
-          block_fits For PredFor files ground reading model things rule setting (text_once tree.body it.rising) decl tree.body no_tally (token_alone it.token)
-          no_sight [] none (rule_at tree.body (all_single is.facts decl (token_alone it.token) [] tree.body none)) named it.written [] no_growth
-          (none_seen For PredFor (IsThingIn lexicon) Held files ground reading setting no_growth no_tally) leads tt
+          block_fits For PredFor files ground reading model things rule setting (text_once tree.body it.rising) decl tree.body
+          no_tally (token_alone it.token) no_sight [] none
+          (rule_at tree.body (all_single is.facts decl (token_alone it.token) [] tree.body none)) named it.written []
+          no_growth (none_seen For PredFor (IsThingIn lexicon) Held files ground reading setting no_growth no_tally) leads tt
       text_fits named (of_body decl some same none) =
           subst (λ (body : Statements). LeadsTo rule (unrolled reading [] body no_growth)
           → AreFit model tree.pred rule (filled_block (unrolled reading [] body no_growth))) (sym same)
-          (λ so. body_fits For PredFor files ground reading model things rule setting (text_once tree.body it.rising) decl some no_tally (token_alone it.token)
-          no_sight none
-          (subst (λ (body : Statements). InNames tree.names (block_names (sources_in ground) no_sight no_tally body)) same named)
-          (subst AreFineStatements same it.written) [] no_growth
-          (none_seen For PredFor (IsThingIn lexicon) Held files ground reading setting no_growth no_tally) so tt)
-          leads
+          (λ so. body_fits For PredFor files ground reading model things rule setting (text_once tree.body it.rising) decl some
+          no_tally (token_alone it.token) no_sight none
+          (subst (λ (body : Statements). InNames tree.names (block_names (sources_in ground) no_sight no_tally body)) same
+          named) (subst AreFineStatements same it.written) [] no_growth (none_seen For PredFor (IsThingIn lexicon) Held files
+          ground reading setting no_growth no_tally) so tt) leads
 
       tree_fits : AreReadInOrder tree.names → AreFit model tree.pred rule rule.top
       tree_fits ordered = text_fits (subst (InNames tree.names) it.names (names_read tree.names ordered)) it.text
@@ -183,15 +190,22 @@ module _ (files : List FileDecls) (table : TypeTable) (given : AreGiven files) (
   all_fit things trees are = λ k d within.
       let tree = get_or trees k d in
       fitting model tree.pred (tree_rule lexicon objects tree)
-      (tree_fits things tree (all_grounded files table given is trees are k d within) (trees_ordered table files trees given are k d within))
+      (tree_fits things tree (all_grounded files table given is trees are k d within) (trees_ordered table files trees given are
+      k d within))
 
 -- ---- laws
 
 pub arguments_fit : ArgumentsFit
 arguments_fit model files table trees world objects are things =
     let is = are.is_table in
-    let same : world.facts ≡ is.facts = one_facts (scope_names (joined_decls files)) (joined_decls files) world.facts is.facts are.facts is.are in
-    let plain : World = record { facts = is.facts; enums = table.enums; named_objects = world.named_objects; objects = world.objects } in
+    let same : world.facts ≡ is.facts = one_facts (scope_names (joined_decls files)) (joined_decls files) world.facts is.facts
+    are.facts is.are in
+    let plain : World = record {
+      facts = is.facts;
+      enums = table.enums;
+      named_objects = world.named_objects;
+      objects = world.objects;
+    } in
     let world_is : world ≡ plain =
     λ i. record { facts = same i; enums = are.enums i; named_objects = world.named_objects; objects = world.objects } in
     let made : AreMade plain objects = subst (λ (w : World). AreMade w objects) world_is are.made in
