@@ -37,7 +37,7 @@ use Rattle.nddl_lower.specs.Compared.{compared_term, compared_terms, constraint_
 use Rattle.nddl_laws.specs.Scoping.{RuleGround}
 use Rattle.nddl_rule_laws.proofs.Rising.{AreOnce}
 use Rattle.nddl_rule_laws.proofs.Sights.{IsSetting}
-use Rattle.nddl_lowering_laws.specs.Fitting.{HasThings, IsPlain}
+use Rattle.nddl_lowering_laws.specs.Fitting.{HasThings, IsNoAccess}
 use Rattle.nddl_lowering_laws.proofs.Held.{IsHeld, IsThingIn}
 use Rattle.nddl_lowering_laws.proofs.Suited.{AllSuited, AreAnswered, AreAsked, Suited, all_asked, all_of_kind, all_same, decimal_same, factor_written, is_float, wanted_kind}
 
@@ -45,7 +45,7 @@ use Rattle.nddl_lowering_laws.proofs.Suited.{AllSuited, AreAnswered, AreAsked, S
 
 -- the arguments of the constraint are lawful in the rule of the predicate, unless it is that something is in a field
 abbrev pub IsFitItem : Model → ℕ → Rule → Item → Type 0
-IsFitItem model pred rule (Constraint kind some) = IsPlain kind → AreArguments model (OfRule pred rule) kind some
+IsFitItem model pred rule (Constraint kind some) = IsNoAccess kind → AreArguments model (OfRule pred rule) kind some
 IsFitItem model pred rule (Relation relation slot) = ⊤
 
 abbrev pub EachFit : Model → ℕ → Rule → List Item → Type 0

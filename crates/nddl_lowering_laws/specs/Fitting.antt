@@ -55,13 +55,13 @@ pub record HasThings (model : Model) (lexicon : Lexicon) (objects : List Object)
 -- ---- lawful arguments
 
 -- the constraint isn't that something is in a field
-abbrev pub IsPlain : Kind → Type 0
-IsPlain (constraints.Field number) = ⊥
-IsPlain kind = ⊤
+abbrev pub IsNoAccess : Kind → Type 0
+IsNoAccess (constraints.Field number) = ⊥
+IsNoAccess kind = ⊤
 
 -- in a rule of this predicate constraints have arguments of kinds that they take, and the two sides of a guard are of one kind
 pub record HasFittingArguments (model : Model) (pred : ℕ) (rule : Rule) : Type 0 where
-  pub arguments : (path : List Turn) (place : ℕ) (kind : Kind) (some : List Term) → IsPlain kind
+  pub arguments : (path : List Turn) (place : ℕ) (kind : Kind) (some : List Term) → IsNoAccess kind
       → StandsAt rule.top path place (OfItem (Constraint kind some)) → AreArguments model (OfRule pred rule) kind some
   pub guards : (path : List Turn) (place : ℕ) (guard : Guard) (then otherwise : Entries)
       → StandsAt rule.top path place (OfBranch guard then otherwise) → AreComparable model (OfRule pred rule) (sides_of guard)
