@@ -1,7 +1,7 @@
 //! The kinds of constraint.
 
 /// The kinds of constraint.
-#[derive(Clone, Copy)]
+#[derive(Clone, Copy, PartialEq, Eq)]
 pub enum Kind {
     Eq,
     Neq,

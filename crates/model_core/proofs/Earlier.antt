@@ -15,6 +15,8 @@ use Rattle.eu_name.specs.declared.name.VarName.TheVariants as variables
 use Rattle.model_core.specs.declared.class.Class.{Class}
 use Rattle.model_core.specs.declared.class.Object.{Object}
 use Rattle.model_core.specs.declared.class.Pred.{Pred}
+use Rattle.model_core.specs.declared.decision.ConArg.{ConArg}
+use Rattle.model_core.specs.declared.decision.ConArg.TheVariants as arguments
 use Rattle.model_core.specs.declared.decision.Decision.{Decision}
 use Rattle.model_core.specs.declared.decision.Decision.TheVariants as decisions
 use Rattle.model_core.specs.declared.item.Item.{Item}
@@ -41,7 +43,7 @@ use Rattle.model_core.specs.Kinds.{OfProblem, OfRule, IsOfKind, AreOfKind, AreCo
 use Rattle.model_core.specs.Kinds.{AccessesField, AreArguments}
 use Rattle.model_core.specs.Lawful.{IsLawfulVariable, IsLawfulClass, IsLawfulObject, IsLawfulSlot, IsLawfulItem}
 use Rattle.model_core.specs.Lawful.{IsLawfulGuard, IsLawfulEntry, IsLawfulRule, IsLawfulPred, IsLawfulRoot, IsToken}
-use Rattle.model_core.specs.Lawful.{IsLawfulDecision, ExtendsFields}
+use Rattle.model_core.specs.Lawful.{IsLawfulArgument, IsLawfulDecision, ExtendsFields}
 use Rattle.model_core.specs.Tokens.{HasRule, LeadsToSlot, Reaches, HasToken, slot_of}
 use Rattle.model_core.specs.Variables.{HasParameter, HasPartBase, HasLocalBase, HasBase}
 
@@ -369,12 +371,19 @@ module _ (model : Model) (end : ℤ) where
       (kept.0, (slot, has_token_kept token slot has, kept.1))
   some_base (variables.Local token rule number) base has = (base, local_base_kept token rule number base has)
 
+  argument_kept : (argument : ConArg) → IsLawfulArgument model argument → IsLawfulArgument earlier argument
+  argument_kept (arguments.Var name) (base, has) = some_base name base has
+  argument_kept (arguments.Value value) is = is
+
   decision_kept : (decision : Decision) → IsLawfulDecision model decision → IsLawfulDecision earlier decision
   decision_kept (decisions.Specify variable value) ((base, has), is) = (some_base variable base has, is)
   decision_kept (decisions.Activate token) is = token_kept token is
   decision_kept (decisions.Merge token target) (is, is_target) = (token_kept token is, token_kept target is_target)
   decision_kept (decisions.Reject token) is = token_kept token is
   decision_kept (decisions.Order first second) (is, is_second) = (token_kept first is, token_kept second is_second)
+  decision_kept (decisions.Constrain kind given) are =
+      All-weaker (IsLawfulArgument model) (IsLawfulArgument earlier) argument_kept given are
+  decision_kept (decisions.Relate relation first second) (is, is_second) = (token_kept first is, token_kept second is_second)
 
 pub earlier_end : EarlierEndsAreLawful
 earlier_end model end lawful order no_later = record {

@@ -15,3 +15,5 @@ pub mod Lawful
 pub mod Locals
 pub mod Few
 pub mod Earlier
+pub mod Equality
+pub mod Kinding

@@ -3,6 +3,8 @@ use Rattle.std.specs.Prelude.{◌≡◌, ℕ, ◌⊎◌, ℤ, pos, ⊤, List, []
 use Rattle.domain_core.specs.Domain.{Domain, IsRange, IsValue, Has}
 use Rattle.eu_name.specs.declared.name.Part.{Part}
 use Rattle.eu_name.specs.declared.name.Part.TheVariants as parts
+use Rattle.eu_name.specs.declared.name.VarName.{VarName}
+use Rattle.eu_name.specs.declared.name.VarName.TheVariants as variables
 use Rattle.model_core.specs.declared.class.Class.{Class}
 use Rattle.model_core.specs.declared.class.Enum.{Enum}
 use Rattle.model_core.specs.declared.class.Object.{Object}
@@ -20,8 +22,8 @@ use Rattle.model_core.specs.declared.variable.Base.TheVariants.{Given, Void}
 use Rattle.model_core.specs.declared.variable.ValueKind.{ValueKind}
 use Rattle.model_core.specs.declared.variable.ValueKind.TheVariants as kinds
 use Rattle.model_core.specs.declared.variable.VarDecl.{VarDecl}
-use Rattle.model_core.specs.Tokens.{IsRoot}
-use Rattle.model_core.specs.Variables.{IsGlobal, HasParameter}
+use Rattle.model_core.specs.Tokens.{IsRoot, HasToken}
+use Rattle.model_core.specs.Variables.{IsGlobal, HasParameter, HasLocal}
 
 -- the class of the first number extends that of the second
 abbrev pub IsParentClass : Model → ℕ → ℕ → Type 0
@@ -94,6 +96,16 @@ IsPartOfKind model pred kind parts.Object = kind ≡ kinds.Object
 IsPartOfKind model pred kind (parts.Param number) =
     (variable : VarDecl) × HasParameter model pred number variable × (kind ≡ variable.kind)
 IsPartOfKind model pred kind part = kind ≡ kinds.Int
+
+-- the variable is of this kind
+abbrev pub IsVariableOfKind : Model → ValueKind → VarName → Type 0
+IsVariableOfKind model kind (variables.Global number) =
+    (variable : VarDecl) × (IsGlobal model number variable × (kind ≡ variable.kind))
+IsVariableOfKind model kind (variables.Token token part) =
+    (slot : Slot) × (HasToken model token slot × IsPartOfKind model slot.pred kind part)
+IsVariableOfKind model kind (variables.Local token rule number) =
+    (slot : Slot) × (HasToken model token slot
+    × ((variable : VarDecl) × (HasLocal model slot rule number variable × (kind ≡ variable.kind))))
 
 -- where a constraint stands: in the problem, or in a rule of the predicate of this number
 pub data Scope : Type 0 where

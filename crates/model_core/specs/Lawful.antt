@@ -14,8 +14,10 @@ use Rattle.model_core.specs.declared.class.ObjectKind.TheVariants as object_kind
 use Rattle.model_core.specs.declared.class.Pred.{Pred}
 use Rattle.model_core.specs.declared.class.PredKind.{PredKind}
 use Rattle.model_core.specs.declared.class.PredKind.TheVariants.{Plain}
+use Rattle.model_core.specs.declared.decision.ConArg.{ConArg}
+use Rattle.model_core.specs.declared.decision.ConArg.TheVariants.{Var, Value}
 use Rattle.model_core.specs.declared.decision.Decision.{Decision}
-use Rattle.model_core.specs.declared.decision.Decision.TheVariants.{Specify, Activate, Merge, Reject, Order}
+use Rattle.model_core.specs.declared.decision.Decision.TheVariants.{Specify, Activate, Merge, Reject, Order, Constrain, Relate}
 use Rattle.model_core.specs.declared.item.Item.{Item}
 use Rattle.model_core.specs.declared.item.Item.TheVariants.{Constraint, Relation}
 use Rattle.model_core.specs.declared.model.Model.{Model}
@@ -199,13 +201,20 @@ pub record IsLawfulRoot (model : Model) (root : Root) : Type 0 where
 abbrev pub IsToken : Model → TokenName → Type 0
 IsToken model token = (slot : Slot) × HasToken model token slot
 
--- the decision names tokens and variables that the model has, and a value
+-- the model has the variable, or the value is one
+abbrev pub IsLawfulArgument : Model → ConArg → Type 0
+IsLawfulArgument model (Var name) = (base : Base) × HasBase model name base
+IsLawfulArgument model (Value value) = IsValue value
+
+-- the decision names tokens and variables that the model has, and values
 abbrev pub IsLawfulDecision : Model → Decision → Type 0
 IsLawfulDecision model (Specify variable value) = ((base : Base) × HasBase model variable base) × IsValue value
 IsLawfulDecision model (Activate token) = IsToken model token
 IsLawfulDecision model (Merge token target) = IsToken model token × IsToken model target
 IsLawfulDecision model (Reject token) = IsToken model token
 IsLawfulDecision model (Order first second) = IsToken model first × IsToken model second
+IsLawfulDecision model (Constrain kind arguments) = All (IsLawfulArgument model) arguments
+IsLawfulDecision model (Relate relation first second) = IsToken model first × IsToken model second
 
 -- the horizon begins at 0 or later and isn't a single instant, and a search may visit 1 to 1,000,000 lists
 pub record IsHorizon (problem : Problem) : Type 0 where

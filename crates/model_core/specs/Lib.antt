@@ -8,6 +8,7 @@ pub mod Variables
 pub mod State
 pub mod History
 pub mod Kinds
+pub mod Arguments
 pub mod Naming
 pub mod Standing
 pub mod Numbers

@@ -14,7 +14,7 @@ pub enum Item {
 }
 
 /// The temporal relations between two tokens.
-#[derive(Clone, Copy)]
+#[derive(Clone, Copy, PartialEq, Eq)]
 pub enum Rel {
     Any,
     Before,

@@ -8,6 +8,7 @@ pub mod class;
 pub mod copy;
 pub mod decision;
 pub mod item;
+mod kinds;
 pub mod lookup;
 pub mod model;
 pub mod refusal;

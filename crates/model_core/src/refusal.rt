@@ -5,9 +5,11 @@
 pub enum Refusal {
     /// A token or a variable that it names isn't there.
     Unknown,
+    /// The constraint doesn't take these arguments: they are too few or too many, or not of the kinds that it takes.
+    WrongType,
     /// What it is about is decided already.
     Decided,
-    /// The variable isn't declared with the value.
+    /// The variable isn't declared with the value, or the value is none of the kind in which the constraint reads it.
     NotInDomain,
     /// A token would have to be active, or taken, that isn't.
     NotActive,
@@ -15,7 +17,7 @@ pub enum Refusal {
     NotSamePredicate,
     /// The token isn't a rejectable.
     NotRejectable,
-    /// It puts a token before itself.
+    /// It puts a token before itself, or relates it to itself.
     SameToken,
     /// As many tokens are active as there may be.
     ActiveFull,

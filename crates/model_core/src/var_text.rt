@@ -43,8 +43,8 @@ impl Model {
         }
     }
 
-    // The predicate of a token that the model has.
-    fn pred_of(&self, token: &TokenName) -> u32
+    /// The number of the predicate of a token that the model has.
+    pub fn pred_of(&self, token: &TokenName) -> u32
         requires { (slot : Slot) × HasToken self.now token.now slot }
         ensures { (slot : Slot) → HasToken self.now token.now slot → slot.pred ≡ result }
     {

@@ -3,13 +3,13 @@
 ghost use Rattle.std.specs.Prelude.{◌↔◌, All, IsTrue, MatchOption, ℕ};
 ghost use Rattle.eu_name.specs.declared.name.Part.TheVariants as parts;
 ghost use Rattle.eu_name.specs.declared.name.VarName.TheVariants as variables;
-ghost use Rattle.model_core.specs.Lawful.{IsLawfulDecision, IsToken};
+ghost use Rattle.model_core.specs.Lawful.{IsLawfulArgument, IsLawfulDecision, IsToken};
 ghost use Rattle.model_core.specs.Tokens.{HasPred};
 ghost use Rattle.model_lawful.specs.Parts.{HasPart, HasRuleLocal, HasVariable};
 
 use domain_core::number::is_value;
 use eu_name::name::{Part, TokenName, VarName};
-use model_core::decision::Decision;
+use model_core::decision::{ConArg, Decision};
 use model_core::model::{Model, Placed};
 use model_typing::finding::{global_at, param_at, root_at};
 
@@ -113,7 +113,26 @@ fn is_variable(model: &Model, variable: &VarName) -> bool
     }
 }
 
-// Whether the decision names tokens and variables that the model has, and a value.
+// Whether the model has the variable that the argument is, or it is a value.
+fn is_lawful_argument(model: &Model, argument: &ConArg) -> bool
+    ensures { IsTrue result ↔ IsLawfulArgument model.now argument.now }
+{
+    match argument {
+        ConArg::Var(variable) => is_variable(model, variable),
+        ConArg::Value(value) => is_value(*value),
+    }
+}
+
+// Whether all of the arguments are lawful.
+fn are_lawful_arguments(model: &Model, arguments: &[ConArg]) -> bool
+    ensures { IsTrue result ↔ All (IsLawfulArgument model.now) arguments.now }
+{
+    arguments
+        .iter()
+        .all(|argument| is_lawful_argument(model, argument))
+}
+
+// Whether the decision names tokens and variables that the model has, and values.
 fn is_lawful_decision(model: &Model, decision: &Decision) -> bool
     ensures { IsTrue result ↔ IsLawfulDecision model.now decision.now }
 {
@@ -123,6 +142,8 @@ fn is_lawful_decision(model: &Model, decision: &Decision) -> bool
         Decision::Merge(token, target) => is_token(model, token) && is_token(model, target),
         Decision::Reject(token) => is_token(model, token),
         Decision::Order(first, second) => is_token(model, first) && is_token(model, second),
+        Decision::Constrain(_, arguments) => are_lawful_arguments(model, arguments.as_slice()),
+        Decision::Relate(_, first, second) => is_token(model, first) && is_token(model, second),
     }
 }
 

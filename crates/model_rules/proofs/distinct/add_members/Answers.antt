@@ -1,4 +1,4 @@
-use Rattle.std.proofs.Common.{Bool, ◌∙◌, sym, ap, map, subst}
+use Rattle.std.proofs.Common.{Bool, map, subst}
 use Rattle.model_rules.specs.Distinct.{AddsAll}
 use Rattle.model_rules.proofs.Adding.{flat_twice}
 use Rattle.model_rules.proofs.distinct.add_members.Goals as goal
