@@ -1,5 +1,5 @@
 -- That open blocks are in an order.
-use Rattle.std.proofs.Common.{◌≡◌, ℕ, List, [], ◌∷◌, inl, inr, sym, subst, ◌∙◌, arith}
+use Rattle.std.proofs.Common.{◌≡◌, List, [], ◌∷◌, inl, inr, sym, subst, ◌∙◌}
 use Rattle.eu_name.proofs.Orders.{number_irreflexive, number_transitive, token_irreflexive, token_transitive}
 use Rattle.model_core.specs.Blocks.{TokenBlock, IsTurnBefore, IsPathBefore, IsBlockBefore}
 use Rattle.model_core.specs.declared.rule.Side.{Side}

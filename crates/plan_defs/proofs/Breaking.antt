@@ -1,5 +1,5 @@
 -- There is one clause that a plan breaks first, and one place where it does.
-use Rattle.std.proofs.Common.{◌≡◌, ℕ, ◌<◌, ◌≤◌, ◌⊎◌, ℤ, ◌<ℤ◌, ⊎_elim, inl, inr, refl, sym, ap, subst, ◌∙◌, arith}
+use Rattle.std.proofs.Common.{◌≡◌, ℕ, ◌<◌, ◌⊎◌, ℤ, ◌<ℤ◌, ⊎_elim, inl, inr, refl, sym, ap, subst, arith}
 use Rattle.std.proofs.lemmas.Bool.{cases_lt}
 use Rattle.std.proofs.lemmas.Int.{ints, by_lt_z}
 use Rattle.eu_name.specs.NameOrder.{ByNumber}
@@ -9,7 +9,6 @@ use Rattle.plan_defs.specs.declared.plan.Clause.TheVariants.{V1, V2, V3, V4, V5,
 use Rattle.plan_defs.specs.declared.plan.Place.{Place}
 use Rattle.plan_defs.specs.declared.plan.Place.TheVariants.{Global, Root, Line, Slot, Local, Problem, Item, Pair, Instant}
 use Rattle.plan_defs.specs.declared.plan.Plan.{Plan}
-use Rattle.plan_defs.specs.Valid.{IsClauseKept}
 use Rattle.plan_defs.specs.Broken.{clauses_before, AreLesserNames, IsBroken, IsLeastBroken, IsFirstBroken}
 
 -- one of two things comes first, or they are equal

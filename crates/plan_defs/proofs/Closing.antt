@@ -1,13 +1,13 @@
 -- The own state of a valid plan is propagated for the decisions that the plan agrees with.
-use Rattle.std.proofs.Common.{◌≡◌, ◌≢◌, ℕ, ◌+◌, ◌<◌, ◌≤◌, ◌⊎◌, ℤ, pos, ◌+ℤ◌, ◌≤ℤ◌, ◌<ℤ◌, Bool, true, false, List, [], ◌∷◌, ◌++◌, length, Some, ⊎_elim, inl, inr, refl, sym, ap, ◌∙◌, subst, arith}
-use Rattle.std.specs.Prelude.{All, AllPairs, Contains, slice_get, map, ⊤}
+use Rattle.std.proofs.Common.{◌≡◌, ◌≢◌, ℕ, ◌+◌, ◌<◌, ◌⊎◌, ℤ, ◌≤ℤ◌, true, false, List, [], ◌∷◌, ◌++◌, length, Some, ⊎_elim, inl, inr, refl, sym, ap, ◌∙◌, subst, arith}
+use Rattle.std.specs.Prelude.{AllPairs, Contains, slice_get, ⊤}
 use Rattle.std.specs.List.{AllZip}
 use Rattle.std.proofs.lemmas.Bool.{cases_lt}
 use Rattle.std.proofs.lemmas.Int.{ints}
 use Rattle.std.proofs.lemmas.List.{length-map}
 use Rattle.std.proofs.lemmas.List.Elements.{All-contains}
 use Rattle.std.proofs.lemmas.Slice.Zip.{AllZip-long}
-use Rattle.domain_core.specs.Domain.{Domain, Range, Has, IsSingle, IsDomain, least, greatest}
+use Rattle.domain_core.specs.Domain.{Domain, Range, Has}
 use Rattle.domain_core.proofs.Words.{single_least, single_greatest}
 use Rattle.eu_name.specs.declared.name.Part.{Part}
 use Rattle.eu_name.specs.declared.name.Part.TheVariants.{Start, End, Duration, Object, Param}
@@ -15,9 +15,8 @@ use Rattle.eu_name.specs.declared.name.Step.{Step}
 use Rattle.eu_name.specs.declared.name.TokenName.{TokenName}
 use Rattle.eu_name.specs.declared.name.VarName.{VarName}
 use Rattle.eu_name.specs.declared.name.VarName.TheVariants.{Token, Local, Global}
-use Rattle.model_core.specs.declared.class.Pred.{Pred}
 use Rattle.model_core.specs.declared.decision.Decision.{Decision}
-use Rattle.model_core.specs.declared.decision.Decision.TheVariants.{Specify, Activate, Merge, Reject, Order}
+use Rattle.model_core.specs.declared.decision.Decision.TheVariants.{Specify, Activate, Merge, Reject, Order, Constrain, Relate}
 use Rattle.model_core.specs.declared.item.Term.{Term}
 use Rattle.model_core.specs.declared.model.Model.{Model}
 use Rattle.model_core.specs.declared.model.Root.{Root}
@@ -31,17 +30,15 @@ use Rattle.model_core.specs.declared.rule.Slot.{Slot}
 use Rattle.model_core.specs.declared.rule.Turn.{Turn}
 use Rattle.model_core.specs.declared.variable.Base.{Base}
 use Rattle.model_core.specs.declared.variable.Base.TheVariants.{Given}
-use Rattle.model_core.specs.declared.variable.VarDecl.{VarDecl}
-use Rattle.model_core.specs.declared.variable.ValueKind.{ValueKind}
-use Rattle.model_core.specs.Blocks.{TokenBlock, Follows, HasBlock, OfBranch, OfLocal, OfSlot, OfItem, chosen, direct}
+use Rattle.model_core.specs.Blocks.{TokenBlock, Follows, HasBlock, OfBranch, OfLocal, OfItem, chosen, direct}
 use Rattle.domain_core.specs.Constraints.{Holds, reach_of}
 use Rattle.model_core.specs.Decided.{IsTaken, IsActive}
 use Rattle.model_core.specs.Entries.{Entries}
 use Rattle.model_core.specs.Kinds.{IsValueOf}
-use Rattle.model_core.specs.Lawful.{IsLawful, IsToken}
+use Rattle.model_core.specs.Lawful.{IsLawful}
 use Rattle.model_core.specs.State.{State, Gives, StandsOpen}
-use Rattle.model_core.specs.Tokens.{HasToken, HasRule, IsRoot, IsRejectable, IsFact, root_token, slot_token}
-use Rattle.model_core.specs.Variables.{HasPartBase, HasParameter}
+use Rattle.model_core.specs.Tokens.{HasToken, HasRule, IsRoot, IsRejectable, root_token, slot_token}
+use Rattle.model_core.specs.Variables.{HasPartBase}
 use Rattle.model_core.proofs.Leading.{token_once}
 use Rattle.model_core.proofs.Numbering.{items_numbered}
 use Rattle.model_core.proofs.Rules.{has_rule_once}
@@ -51,20 +48,19 @@ use Rattle.plan_defs.specs.declared.plan.Line.TheVariants as lines
 use Rattle.plan_defs.specs.declared.plan.Place.TheVariants as places
 use Rattle.plan_defs.specs.declared.plan.Plan.{Plan}
 use Rattle.plan_defs.specs.Broken.{AgreesWith, IsTrueIn}
-use Rattle.plan_defs.specs.Claims.{Claim, IsClaim, IsOfProblem, IsOfBlock, IsOfToken, IsOfMerge, IsOfOrder, HasPart, lasts, equal, part_of, at_most}
+use Rattle.plan_defs.specs.Claims.{Claim, IsClaim, IsOfProblem, IsOfBlock, IsOfToken, IsOfMerge, IsOfOrder, Posts, HasPart, lasts, equal, part_of, at_most}
 use Rattle.plan_defs.specs.Closure.{IsPropagatedState, IsRespected}
 use Rattle.plan_defs.specs.Consistency.{IsClaimConsistent, HasField}
-use Rattle.plan_defs.specs.PlanStates.{HasLine, IsOpenBlock, IsPlanState, HasPlanValues}
+use Rattle.plan_defs.specs.PlanStates.{HasLine, IsPlanState, HasPlanValues}
 use Rattle.plan_defs.specs.Plans.{IsPlanOf, IsLineBefore, IsLineOf, AreTokenValues, value_kinds, TakesPlaceWith, IsActivatedIn, IsTakenIn, HasPartValue, GivesValue, place_in_values, plan_situation}
-use Rattle.plan_defs.specs.Refusals.{IsDeclared}
 use Rattle.plan_defs.specs.Situations.{situation_of}
-use Rattle.plan_defs.specs.Support.{MayBe, Opens, IsOpen, AsksFor, IsSupportedToken, IsSupportedBlock, front_token, one_side, other_side}
+use Rattle.plan_defs.specs.Support.{MayBe, Opens, IsOpen, AsksFor, IsSupportedToken, front_token, one_side, other_side}
 use Rattle.plan_defs.specs.Terms.{Context, InRule, Argument, Value, Variable, HasDomain, Counts, ArgumentCounts}
 use Rattle.plan_defs.specs.Timelines.{IsTimeline, ShareTimeline, EndsTooLate, CanEndBefore, IsOn}
 use Rattle.plan_defs.specs.Valid.{IsValid, IsLineAt, Becomes, SuitsToken, SuitsMerge, HasDeclaredValue, AsksForLocal, IsAsked, IsLineOfSort, IsClaimTrue, HasArgumentValue, EndsBy}
 use Rattle.plan_defs.proofs.Lower.{Follows-map, HasBlock-map, counts_further, says_further}
 use Rattle.eu_name.proofs.Members.{get_from_contains, get_below, get_within}
-use Rattle.plan_defs.proofs.Saying.{own_or_merged, own_or_rejected, taken_or_rejected, merged_or_rejected, fact_or_not, one_target}
+use Rattle.plan_defs.proofs.Saying.{own_or_merged, own_or_rejected, taken_or_rejected, one_target}
 use Rattle.plan_defs.proofs.Singles.{IsJust, just_value, just_domain, just_consistent}
 use Rattle.plan_defs.proofs.States.{gives_domain}
 
@@ -431,12 +427,23 @@ module _ (model : Model) (decisions : List Decision) (plan : Plan) (state : Stat
       subst (λ (c : Claim). IsClaimConsistent model state c) (sym p.says)
       (consistent (at_most (part_of p.one End) (part_of p.other Start)) (agrees (Order p.one p.other) p.ordered))
 
+  -- what a decision posts is true in the plan
+  true_posted : (decision : Decision) (claim : Claim) → IsTrueIn model plan decision → Posts decision claim → IsClaimTrue model plan claim
+  true_posted (Specify name value) claim is posts = absurd posts
+  true_posted (Activate token) claim is posts = absurd posts
+  true_posted (Merge token target) claim is posts = absurd posts
+  true_posted (Reject token) claim is posts = absurd posts
+  true_posted (Order one other) claim is posts = absurd posts
+  true_posted (Constrain kind arguments) claim is posts = subst (λ (c : Claim). IsClaimTrue model plan c) (sym posts) is
+  true_posted (Relate relation one other) claim is posts = is.holds claim posts
+
   claims : (claim : Claim) → IsClaim model decisions state claim → IsClaimConsistent model state claim
   claims claim (inl p) = consistent claim (of_problem claim p)
   claims claim (inr (inl p)) = consistent claim (of_block claim p)
   claims claim (inr (inr (inl p))) = of_token claim p
   claims claim (inr (inr (inr (inl p)))) = of_merge claim p
-  claims claim (inr (inr (inr (inr p)))) = of_order claim p
+  claims claim (inr (inr (inr (inr (inl p))))) = of_order claim p
+  claims claim (inr (inr (inr (inr (inr p))))) = consistent claim (true_posted p.decision claim (agrees p.decision p.stands) p.posts)
 
   respected : (decision : Decision) → Contains decisions decision → IsRespected decision state
   respected (Specify name value) there = λ domain gives. own.values name value domain (agrees (Specify name value) there) gives
@@ -444,6 +451,8 @@ module _ (model : Model) (decisions : List Decision) (plan : Plan) (state : Stat
   respected (Merge token target) there = tt
   respected (Reject token) there = tt
   respected (Order one other) there = tt
+  respected (Constrain kind arguments) there = tt
+  respected (Relate relation one other) there = tt
 
   -- ---- timelines
 

@@ -1,9 +1,9 @@
 -- Where no further token can come, all that takes place in a plan is active for the decisions, so levels fit too.
-use Rattle.std.proofs.Common.{◌≡◌, ℕ, zero, suc, ◌+◌, ◌<◌, ◌≤◌, ◌⊎◌, ℤ, pos, ◌+ℤ◌, ◌≤ℤ◌, ◌<ℤ◌, Bool, true, false, List, [], ◌∷◌, ◌++◌, length, Some, ⊎_elim, inl, inr, refl, sym, ap, ◌∙◌, subst, append_assoc, length-append, arith}
-use Rattle.std.specs.Prelude.{Contains, slice_get}
+use Rattle.std.proofs.Common.{◌≡◌, ℕ, zero, suc, ◌+◌, ◌≤◌, ℤ, pos, ◌≤ℤ◌, Bool, true, false, List, [], ◌∷◌, ◌++◌, length, inl, inr, refl, sym, ap, ◌∙◌, subst, append_assoc, length-append, arith}
+use Rattle.std.specs.Prelude.{Contains}
 use Rattle.std.specs.List.{AllZip}
 use Rattle.std.proofs.lemmas.Int.{ints}
-use Rattle.domain_core.specs.Domain.{Domain, Range, Has, IsSingle, least, greatest}
+use Rattle.domain_core.specs.Domain.{Domain, Has}
 use Rattle.domain_core.proofs.Words.{single_least, single_greatest}
 use Rattle.eu_name.specs.declared.name.Part.TheVariants.{Start, Object, Param}
 use Rattle.eu_name.specs.declared.name.Step.{Step}
@@ -13,7 +13,7 @@ use Rattle.eu_name.specs.declared.name.VarName.TheVariants.{Token}
 use Rattle.model_core.specs.declared.class.PredKind.{PredKind}
 use Rattle.model_core.specs.declared.class.PredKind.TheVariants.{Plain, Produce, Consume}
 use Rattle.model_core.specs.declared.decision.Decision.{Decision}
-use Rattle.model_core.specs.declared.decision.Decision.TheVariants.{Activate, Merge, Reject}
+use Rattle.model_core.specs.declared.decision.Decision.TheVariants.{Merge, Reject}
 use Rattle.model_core.specs.declared.item.Term.{Term}
 use Rattle.model_core.specs.declared.model.Model.{Model}
 use Rattle.model_core.specs.declared.model.Root.{Root}
@@ -22,10 +22,10 @@ use Rattle.model_core.specs.declared.model.RootKind.TheVariants.{Goal, Rejectabl
 use Rattle.model_core.specs.declared.rule.Guard.{Guard}
 use Rattle.model_core.specs.declared.rule.Side.{Side}
 use Rattle.model_core.specs.Blocks.{TokenBlock}
-use Rattle.model_core.specs.Decided.{IsActivated, IsTaken, IsActive, IsDecided}
+use Rattle.model_core.specs.Decided.{IsActivated, IsTaken, IsActive}
 use Rattle.model_core.specs.Lawful.{IsLawful, IsToken}
 use Rattle.model_core.specs.State.{State, Gives}
-use Rattle.model_core.specs.Tokens.{HasToken, IsRoot, IsRejectable, IsFact}
+use Rattle.model_core.specs.Tokens.{IsRoot, IsRejectable}
 use Rattle.plan_defs.specs.declared.plan.Clause.TheVariants.{V10}
 use Rattle.plan_defs.specs.declared.plan.Line as the_line
 use Rattle.plan_defs.specs.declared.plan.Line.TheVariants as lines
@@ -34,18 +34,17 @@ use Rattle.plan_defs.specs.declared.plan.Plan.{Plan}
 use Rattle.plan_defs.specs.Broken.{AgreesWith}
 use Rattle.plan_defs.specs.Closure.{IsClosed}
 use Rattle.plan_defs.specs.PlanStates.{HasLine, IsPlanState, HasPlanValues}
-use Rattle.plan_defs.specs.Plans.{IsPlanOf, TakesPlaceWith, IsActivatedIn, IsTakenIn, GivesValue, plan_situation}
-use Rattle.plan_defs.specs.Resources.{IsActor, MayBeOn, SurelyChanges, MayChange, IsHighChange, IsLowChange, StaysWithin, FitReservoirs, IsTokenComplete}
+use Rattle.plan_defs.specs.Plans.{IsPlanOf, TakesPlaceWith, IsActivatedIn, IsTakenIn, plan_situation}
+use Rattle.plan_defs.specs.Resources.{IsActor, SurelyChanges, MayChange, IsHighChange, IsLowChange, StaysWithin, IsTokenComplete}
 use Rattle.plan_defs.specs.Situations.{situation_of}
-use Rattle.plan_defs.specs.Sums.{sum_of}
-use Rattle.plan_defs.specs.Support.{MayBe, Opens, IsOpen, AsksFor, IsSupportedToken, front_token, one_side, other_side}
-use Rattle.plan_defs.specs.Terms.{Context, InRule, Argument, Value, Variable, HasDomain, Counts, ArgumentCounts}
-use Rattle.plan_defs.specs.Valid.{IsValid, Becomes, IsAsked, IsAskedToken, IsPartOf, IsOfSort, HasActed, AddedBy, TookBy, IsRise, LeavesLevel, IsLevelWithin}
-use Rattle.plan_defs.proofs.Closing.{last_step, LastStep, given, asked, root_becomes, taken_line, line_of, propagated_state}
-use Rattle.plan_defs.proofs.Filling.{IsTokensLine, tokens_of, shared, tokens_same, quantity_from_zero, acted, merged_acts, rejected_acts, sort_of, one_sort, produce_consume, produce_plain, consume_plain, same_some, fit_reusables}
+use Rattle.plan_defs.specs.Support.{MayBe, Opens, AsksFor, IsSupportedToken, front_token, one_side, other_side}
+use Rattle.plan_defs.specs.Terms.{Context, InRule, Argument, Value, Variable, HasDomain, ArgumentCounts}
+use Rattle.plan_defs.specs.Valid.{IsValid, Becomes, IsAskedToken, HasActed, IsRise, IsLevelWithin}
+use Rattle.plan_defs.proofs.Closing.{last_step, LastStep, given, asked, root_becomes, line_of, propagated_state}
+use Rattle.plan_defs.proofs.Filling.{IsTokensLine, shared, tokens_same, quantity_from_zero, acted, merged_acts, rejected_acts, sort_of, one_sort, produce_consume, produce_plain, consume_plain, same_some, fit_reusables}
 use Rattle.plan_defs.proofs.Lower.{HasBlock-map}
 use Rattle.eu_name.proofs.Members.{get_same}
-use Rattle.plan_defs.proofs.Saying.{own_or_merged, own_or_rejected, merged_or_rejected, taken_or_rejected, fact_or_not}
+use Rattle.plan_defs.proofs.Saying.{own_or_merged, own_or_rejected, taken_or_rejected, fact_or_not}
 use Rattle.plan_defs.proofs.States.{gives_domain}
 
 -- ---- the last step of a list that is split elsewhere

@@ -4,7 +4,7 @@ use Rattle.std.specs.Prelude.{Contains}
 use Rattle.std.proofs.lemmas.List.Elements.{Contains-push_cases}
 use Rattle.eu_name.specs.declared.name.TokenName.{TokenName}
 use Rattle.model_core.specs.declared.decision.Decision.{Decision}
-use Rattle.model_core.specs.declared.decision.Decision.TheVariants.{Specify, Activate, Merge, Reject, Order}
+use Rattle.model_core.specs.declared.decision.Decision.TheVariants.{Specify, Activate, Merge, Reject, Order, Constrain, Relate}
 use Rattle.model_core.specs.declared.model.Model.{Model}
 use Rattle.model_core.specs.Decided.{IsDecided}
 use Rattle.model_core.specs.Tokens.{IsFact}
@@ -19,6 +19,8 @@ Decides (Activate other) token = other ≡ token
 Decides (Merge other target) token = other ≡ token
 Decides (Reject other) token = other ≡ token
 Decides (Order one other) token = ⊥
+Decides (Constrain kind arguments) token = ⊥
+Decides (Relate relation one other) token = ⊥
 
 -- one decision of the list at most says what becomes of a token, and none of a fact
 pub record DecidesOnce (model : Model) (decisions : List Decision) : Type 0 where
@@ -33,6 +35,8 @@ module _ (model : Model) (kept : List Decision) where
   decided_by (Merge other target) token there is = inr (inl (inr (target, subst (λ t. Contains kept (Merge t target)) is there)))
   decided_by (Reject other) token there is = inr (inr (subst (λ t. Contains kept (Reject t)) is there))
   decided_by (Order one other) token there is = absurd is
+  decided_by (Constrain kind arguments) token there is = absurd is
+  decided_by (Relate relation one other) token there is = absurd is
 
   already : (a : Decision) (token : TokenName) → Decides a token → IsDecided model kept token → IsAlreadyDecided model kept a
   already (Specify name value) token is decided = absurd is
@@ -40,6 +44,8 @@ module _ (model : Model) (kept : List Decision) where
   already (Merge other target) token is decided = subst (IsDecided model kept) (sym is) decided
   already (Reject other) token is decided = subst (IsDecided model kept) (sym is) decided
   already (Order one other) token is decided = absurd is
+  already (Constrain kind arguments) token is decided = absurd is
+  already (Relate relation one other) token is decided = absurd is
 
   module _ (decision : Decision) (once : DecidesOnce model kept) (free : IsAlreadyDecided model kept decision → ⊥) where
     -- what the new decision decides was undecided

@@ -1,53 +1,44 @@
 -- The own state of a valid plan keeps resources too, so it is closed.
-use Rattle.std.proofs.Common.{◌≡◌, ℕ, ◌+◌, ◌<◌, ◌⊎◌, ℤ, pos, ◌+ℤ◌, ◌≤ℤ◌, ◌<ℤ◌, Bool, true, false, List, [], ◌∷◌, ◌++◌, length, Some, ⊎_elim, inl, inr, refl, sym, ap, ◌∙◌, subst, arith}
-use Rattle.std.specs.Prelude.{All, AllPairs, Contains, slice_get, codes}
+use Rattle.std.proofs.Common.{◌≡◌, ℤ, pos, ◌+ℤ◌, ◌≤ℤ◌, Bool, List, [], ◌∷◌, Some, ⊎_elim, inl, inr, refl, sym, ap, ◌∙◌, subst, arith}
+use Rattle.std.specs.Prelude.{AllPairs, Contains, slice_get, codes}
 use Rattle.std.specs.List.{AllZip}
 use Rattle.std.proofs.lemmas.Int.{ints}
-use Rattle.domain_core.specs.Domain.{Domain, Range, Has, IsSingle, IsDomain, least, greatest}
+use Rattle.domain_core.specs.Domain.{Domain, Range, Has, IsSingle, IsDomain}
 use Rattle.domain_core.proofs.Words.{single_least, single_greatest}
 use Rattle.eu_name.specs.declared.name.Part.{Part}
 use Rattle.eu_name.specs.declared.name.Part.TheVariants.{Start, End, Object, Param}
-use Rattle.eu_name.specs.declared.name.Step.{Step}
 use Rattle.eu_name.specs.declared.name.TokenName.{TokenName}
 use Rattle.eu_name.specs.declared.name.VarName.{VarName}
 use Rattle.eu_name.specs.declared.name.VarName.TheVariants.{Token}
-use Rattle.eu_name.specs.NameOrder.{IsTokenBefore, IsVarBefore, ByToken}
+use Rattle.eu_name.specs.NameOrder.{IsTokenBefore, IsVarBefore}
 use Rattle.eu_name.proofs.Orders.{token_order}
-use Rattle.model_core.specs.declared.class.Object as classes
-use Rattle.model_core.specs.declared.class.ObjectKind.TheVariants.{Reusable, Reservoir}
 use Rattle.model_core.specs.declared.class.Pred.{Pred}
 use Rattle.model_core.specs.declared.class.PredKind.{PredKind}
 use Rattle.model_core.specs.declared.class.PredKind.TheVariants.{Plain, Uses, Produce, Consume}
 use Rattle.model_core.specs.declared.decision.Decision.{Decision}
 use Rattle.model_core.specs.declared.model.Model.{Model}
 use Rattle.model_core.specs.declared.rule.Slot.{Slot}
-use Rattle.model_core.specs.declared.variable.Base.{Base}
 use Rattle.model_core.specs.declared.variable.Base.TheVariants.{Given}
 use Rattle.model_core.specs.declared.variable.ValueKind.TheVariants as kinds
 use Rattle.model_core.specs.declared.variable.VarDecl.{VarDecl}
-use Rattle.model_core.specs.Decided.{IsActive}
-use Rattle.model_core.specs.Kinds.{IsObject}
 use Rattle.model_core.specs.Lawful.{IsLawful, HasQuantity}
 use Rattle.model_core.specs.State.{State, Gives}
-use Rattle.model_core.specs.Tokens.{HasToken}
-use Rattle.model_core.specs.Variables.{HasPartBase, HasParameter}
 use Rattle.model_core.proofs.Leading.{token_once}
-use Rattle.plan_defs.specs.declared.plan.Clause.TheVariants.{V9, V10}
+use Rattle.plan_defs.specs.declared.plan.Clause.TheVariants.{V9}
 use Rattle.plan_defs.specs.declared.plan.Line as the_line
 use Rattle.plan_defs.specs.declared.plan.Line.TheVariants as lines
 use Rattle.plan_defs.specs.declared.plan.Place.TheVariants as places
 use Rattle.plan_defs.specs.declared.plan.Plan.{Plan}
 use Rattle.plan_defs.specs.Broken.{AgreesWith}
 use Rattle.plan_defs.specs.Claims.{HasPart}
-use Rattle.plan_defs.specs.Closure.{IsPropagatedState}
-use Rattle.plan_defs.specs.PlanStates.{HasLine, IsPlanState, HasPlanValues}
-use Rattle.plan_defs.specs.Plans.{IsPlanOf, IsLineBefore, order_name, TakesPlaceWith, GivesValue, HasPartValue, place_in_values}
-use Rattle.plan_defs.specs.Resources.{IsActor, MayBeOn, HasStarted, MayHaveStarted, HasNotEnded, IsLeastQuantity, IsGreatestQuantity, SurelyUses, IsShare, SurelyChanges, MayChange, IsHighChange, IsLowChange, KeepsCapacity, StaysWithin, FitReusables, IsInstant}
+use Rattle.plan_defs.specs.PlanStates.{HasLine, IsPlanState}
+use Rattle.plan_defs.specs.Plans.{IsPlanOf, IsLineBefore, order_name, TakesPlaceWith, GivesValue, place_in_values}
+use Rattle.plan_defs.specs.Resources.{IsActor, HasStarted, IsLeastQuantity, SurelyUses, IsShare, KeepsCapacity, FitReusables}
 use Rattle.plan_defs.specs.Refusals.{IsDeclared}
 use Rattle.plan_defs.specs.Sums.{sum_of}
 use Rattle.plan_defs.specs.Timelines.{IsOn}
-use Rattle.plan_defs.specs.Valid.{IsValid, SuitsToken, IsOfSort, IsPartOf, HasActed, IsActing, UsesAt, AddedBy, TookBy, IsUsed, IsRise, LeavesLevel, IsWithinCapacity, IsLevelWithin}
-use Rattle.plan_defs.proofs.Closing.{suits, active_line, propagated_state}
+use Rattle.plan_defs.specs.Valid.{IsValid, SuitsToken, IsOfSort, IsPartOf, HasActed, IsActing, IsUsed, IsWithinCapacity}
+use Rattle.plan_defs.proofs.Closing.{suits, active_line}
 use Rattle.eu_name.proofs.Members.{get_same}
 use Rattle.eu_name.proofs.Ordered.{contains_head, contains_later, contains_cases, contains_none, ordered_head, ordered_tail, ordered_none, ordered_cons, same_members}
 use Rattle.plan_defs.proofs.Saying.{one_own, own_or_merged, own_or_rejected}

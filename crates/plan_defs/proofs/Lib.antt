@@ -28,3 +28,4 @@ pub mod Parting
 pub mod Telling
 pub mod Stating
 pub mod Histories
+pub mod Counting

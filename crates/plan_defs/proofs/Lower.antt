@@ -231,8 +231,15 @@ module _ (model : Model) (front back : List Decision) where
       has_part = p.has_part;
       says = p.says;
     }))))
-    claim_longer claim (inr (inr (inr (inr p)))) =
-        inr (inr (inr (inr (record { one = p.one; other = p.other; ordered = Contains-append_left front back _ p.ordered; says = p.says }))))
+    claim_longer claim (inr (inr (inr (inr (inl p))))) =
+        inr (inr (inr (inr (inl (record { one = p.one; other = p.other; ordered = Contains-append_left front back _ p.ordered; says = p.says })))))
+    claim_longer claim (inr (inr (inr (inr (inr p))))) = inr (inr (inr (inr (inr (record {
+      decision = p.decision;
+      stands = Contains-append_left front back _ p.stands;
+      posts = p.posts;
+      counts = All-weaker (ArgumentCounts model (IsTaken front)) (ArgumentCounts model (IsTaken whole))
+          (counts_further model (IsTaken front) (IsTaken whole) taken_longer) claim.arguments p.counts;
+    })))))
 
     shares_longer : (one other : TokenName) → ShareTimeline model front state one other → ShareTimeline model whole state one other
     shares_longer one other p = record {

@@ -5,11 +5,12 @@ use Rattle.model_core.specs.declared.decision.Decision.{Decision}
 use Rattle.model_core.specs.declared.model.Model.{Model}
 use Rattle.model_core.specs.State.{State}
 use Rattle.plan_defs.specs.Refusals.{rank_of, IsFirstRefusal}
-use Rattle.model_core.specs.declared.refusal.Refusal.TheVariants.{Unknown, Decided, NotInDomain, NotActive, NotSamePredicate, NotRejectable, SameToken, ActiveFull}
+use Rattle.model_core.specs.declared.refusal.Refusal.TheVariants.{Unknown, WrongType, Decided, NotInDomain, NotActive, NotSamePredicate, NotRejectable, SameToken, ActiveFull}
 use Rattle.model_core.specs.declared.refusal.Refusal.{Refusal}
 
 place_same : (one other : Refusal) → rank_of one ≡ rank_of other → one ≡ other
 place_same Unknown Unknown e = refl
+place_same WrongType WrongType e = refl
 place_same Decided Decided e = refl
 place_same NotInDomain NotInDomain e = refl
 place_same NotActive NotActive e = refl

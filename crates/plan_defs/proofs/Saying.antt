@@ -1,5 +1,5 @@
 -- What a plan says of a token it says by one line.
-use Rattle.std.proofs.Common.{◌≡◌, ℤ, Bool, true, false, List, inl, inr, refl}
+use Rattle.std.proofs.Common.{◌≡◌, ℤ, true, false, List, inl, inr, refl}
 use Rattle.std.specs.Prelude.{AllPairs, Contains}
 use Rattle.eu_name.specs.declared.name.TokenName.{TokenName}
 use Rattle.eu_name.specs.NameOrder.{IsVarBefore}

@@ -1,8 +1,10 @@
 -- What a plan breaks first, and which plans agree with decisions.
-use Rattle.std.specs.Prelude.{◌≡◌, ℕ, ◌<◌, ◌≤◌, ◌<ℤ◌, ⊤, List, Contains}
+use Rattle.std.specs.Prelude.{ℕ, ◌<◌, ◌≤◌, ◌<ℤ◌, ⊤, List, Contains}
+use Rattle.eu_name.specs.declared.name.TokenName.{TokenName}
 use Rattle.eu_name.specs.NameOrder.{ByNumber}
 use Rattle.model_core.specs.declared.decision.Decision.{Decision}
-use Rattle.model_core.specs.declared.decision.Decision.TheVariants.{Specify, Activate, Merge, Reject, Order}
+use Rattle.model_core.specs.declared.decision.Decision.TheVariants.{Specify, Activate, Merge, Reject, Order, Constrain, Relate}
+use Rattle.model_core.specs.declared.item.Rel.{Rel}
 use Rattle.model_core.specs.declared.model.Model.{Model}
 use Rattle.plan_defs.specs.declared.plan.Clause.{Clause}
 use Rattle.plan_defs.specs.declared.plan.Clause.TheVariants.{V1, V2, V3, V4, V5, V6, V7, V8, V9, V10}
@@ -10,8 +12,9 @@ use Rattle.plan_defs.specs.declared.plan.Line.TheVariants as lines
 use Rattle.plan_defs.specs.declared.plan.Place.{Place}
 use Rattle.plan_defs.specs.declared.plan.Place.TheVariants.{Global, Root, Line, Slot, Local, Problem, Item, Pair, Instant}
 use Rattle.plan_defs.specs.declared.plan.Plan.{Plan}
-use Rattle.plan_defs.specs.Plans.{GivesValue, IsActivatedIn}
-use Rattle.plan_defs.specs.Valid.{IsClauseKept, EndsBy}
+use Rattle.plan_defs.specs.Claims.{Claim, posted_claim, relates}
+use Rattle.plan_defs.specs.Plans.{GivesValue, HasValues, IsActivatedIn}
+use Rattle.plan_defs.specs.Valid.{IsClauseKept, IsClaimTrue, EndsBy}
 
 -- how many clauses come before this one
 abbrev pub clauses_before : Clause → ℕ
@@ -61,6 +64,12 @@ module _ (model : Model) (plan : Plan) where
     pub first : (earlier : Clause) (other : Place)
         → clauses_before earlier < clauses_before clause → IsClauseKept model plan earlier other
 
+  -- both tokens have values, of which the relation holds
+  pub record AreRelated (relation : Rel) (one other : TokenName) : Type 0 where
+    pub one_has : HasValues plan one
+    pub other_has : HasValues plan other
+    pub holds : (claim : Claim) → Contains (relates relation one other) claim → IsClaimTrue model plan claim
+
   -- what the decision says is so in the plan
   abbrev pub IsTrueIn : Decision → Type 0
   IsTrueIn (Specify name value) = GivesValue plan name value
@@ -68,6 +77,8 @@ module _ (model : Model) (plan : Plan) where
   IsTrueIn (Merge token target) = Contains plan.lines (lines.Merged token target)
   IsTrueIn (Reject token) = Contains plan.lines (lines.Rejected token)
   IsTrueIn (Order one other) = EndsBy model plan one other
+  IsTrueIn (Constrain kind arguments) = IsClaimTrue model plan (posted_claim kind arguments)
+  IsTrueIn (Relate relation one other) = AreRelated relation one other
 
   -- what each of the decisions says is so
   abbrev pub AgreesWith : List Decision → Type 0

@@ -1,12 +1,14 @@
 -- What has to be consistent in a state: constraints over values and variables.
-use Rattle.std.specs.Prelude.{◌≡◌, ◌⊎◌, List, [], ◌∷◌, All, Contains}
+use Rattle.std.specs.Prelude.{◌≡◌, ◌⊎◌, List, [], ◌∷◌, map, All, Contains}
 use Rattle.std.specs.List.{AllZip}
 use Rattle.eu_name.specs.declared.name.Part.{Part}
 use Rattle.eu_name.specs.declared.name.Part.TheVariants.{Start, End, Duration}
 use Rattle.eu_name.specs.declared.name.TokenName.{TokenName}
 use Rattle.eu_name.specs.declared.name.VarName.TheVariants.{Token}
+use Rattle.model_core.specs.declared.decision.ConArg.{ConArg}
+use Rattle.model_core.specs.declared.decision.ConArg.TheVariants as given
 use Rattle.model_core.specs.declared.decision.Decision.{Decision}
-use Rattle.model_core.specs.declared.decision.Decision.TheVariants.{Merge, Order}
+use Rattle.model_core.specs.declared.decision.Decision.TheVariants.{Merge, Order, Constrain, Relate}
 use Rattle.model_core.specs.declared.item.Item.{Item}
 use Rattle.model_core.specs.declared.item.Item.TheVariants.{Constraint, Relation}
 use Rattle.domain_core.specs.declared.kind.Kind.{Kind}
@@ -23,7 +25,7 @@ use Rattle.model_core.specs.Entries.{Entries}
 use Rattle.model_core.specs.State.{State}
 use Rattle.model_core.specs.Tokens.{slot_token, HasToken}
 use Rattle.model_core.specs.Variables.{HasPartBase}
-use Rattle.plan_defs.specs.Terms.{Context, InProblem, InRule, Argument, Variable, Means, ArgumentCounts}
+use Rattle.plan_defs.specs.Terms.{Context, InProblem, InRule, Argument, Value, Variable, Means, ArgumentCounts}
 
 -- a constraint with what its arguments mean
 pub record Claim : Type 0 where
@@ -126,11 +128,34 @@ pub record IsOfOrder (decisions : List Decision) (claim : Claim) : Type 0 where
   pub ordered : Contains decisions (Order one other)
   pub says : claim ≡ at_most (part_of one End) (part_of other Start)
 
--- what has to be consistent: what the problem, the open blocks, the tokens, the merges and the orders say
+-- what an argument of a posted constraint means
+abbrev pub argument_of : ConArg → Argument
+argument_of (given.Var name) = Variable name
+argument_of (given.Value value) = Value value
+
+-- what a posted constraint says
+abbrev pub posted_claim : Kind → List ConArg → Claim
+posted_claim kind arguments = record { kind = kind; arguments = map argument_of arguments }
+
+-- the decision posts the claim: a constraint as it stands, and each that a relation says of its tokens
+abbrev pub Posts : Decision → Claim → Type 0
+Posts (Constrain kind arguments) claim = claim ≡ posted_claim kind arguments
+Posts (Relate relation one other) claim = Contains (relates relation one other) claim
+Posts decision claim = ⊥
+
+-- a decision posts it, and all that it is about counts
+pub record IsOfPosting (model : Model) (decisions : List Decision) (claim : Claim) : Type 0 where
+  pub decision : Decision
+  pub stands : Contains decisions decision
+  pub posts : Posts decision claim
+  pub counts : All (ArgumentCounts model (IsTaken decisions)) claim.arguments
+
+-- what has to be consistent: what the problem, the open blocks, the tokens, the merges and the orders say, and what is posted
 abbrev pub IsClaim : Model → List Decision → State → Claim → Type 0
 IsClaim model decisions state claim =
     IsOfProblem model (IsTaken decisions) claim
     ⊎ (IsOfBlock model (IsTaken decisions) (Contains state.blocks) claim
     ⊎ (IsOfToken state claim
     ⊎ (IsOfMerge model decisions claim
-    ⊎ IsOfOrder decisions claim)))
+    ⊎ (IsOfOrder decisions claim
+    ⊎ IsOfPosting model decisions claim))))

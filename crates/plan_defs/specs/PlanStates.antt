@@ -1,5 +1,5 @@
 -- The state that a plan is by itself.
-use Rattle.std.specs.Prelude.{◌≡◌, ◌↔◌, ◌⊎◌, ℤ, List, Contains}
+use Rattle.std.specs.Prelude.{◌↔◌, ◌⊎◌, ℤ, List, Contains}
 use Rattle.domain_core.specs.Domain.{Domain, Has, IsSingle}
 use Rattle.eu_name.specs.declared.name.TokenName.{TokenName}
 use Rattle.eu_name.specs.declared.name.VarName.{VarName}

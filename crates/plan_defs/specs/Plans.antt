@@ -91,6 +91,13 @@ IsMergedIn plan token = (target : TokenName) × Contains plan.lines (lines.Merge
 abbrev pub IsTakenIn : Plan → TokenName → Type 0
 IsTakenIn plan token = IsActivatedIn plan token ⊎ IsMergedIn plan token
 
+-- the token has values: its own, or those of the one that it is
+abbrev pub HasValues : Plan → TokenName → Type 0
+HasValues plan token =
+    ((values : List ℤ) × TakesPlaceWith plan token values)
+    ⊎ ((target : TokenName) × Contains plan.lines (lines.Merged token target)
+    × ((values : List ℤ) × TakesPlaceWith plan target values))
+
 -- where the value of a part stands among those of a token
 abbrev pub place_in_values : Part → ℕ
 place_in_values Start = 0

@@ -1,32 +1,42 @@
 -- Which decisions may be taken after which.
-use Rattle.std.specs.Prelude.{◌≡◌, ◌≢◌, ℕ, ◌<◌, ◌≤◌, ℤ, ◌⊎◌, List, length, All, AllPairs, Contains}
+use Rattle.std.specs.Prelude.{◌≡◌, ◌≢◌, ℕ, ◌<◌, ◌≤◌, ℤ, ◌⊎◌, ⊤, List, length, map, All, AllPairs, Contains}
 use Rattle.domain_core.specs.Domain.{Domain, Has}
 use Rattle.eu_name.specs.declared.name.TokenName.{TokenName}
 use Rattle.eu_name.specs.declared.name.VarName.{VarName}
+use Rattle.model_core.specs.declared.decision.ConArg.{ConArg}
+use Rattle.model_core.specs.declared.decision.ConArg.TheVariants.{Var, Value}
 use Rattle.model_core.specs.declared.decision.Decision.{Decision}
-use Rattle.model_core.specs.declared.decision.Decision.TheVariants.{Specify, Activate, Merge, Reject, Order}
+use Rattle.model_core.specs.declared.decision.Decision.TheVariants.{Specify, Activate, Merge, Reject, Order, Constrain, Relate}
 use Rattle.model_core.specs.declared.model.Model.{Model}
 use Rattle.model_core.specs.declared.refusal.Refusal.{Refusal}
-use Rattle.model_core.specs.declared.refusal.Refusal.TheVariants.{Unknown, Decided, NotInDomain, NotActive, NotSamePredicate, NotRejectable, SameToken, ActiveFull}
+use Rattle.model_core.specs.declared.refusal.Refusal.TheVariants.{Unknown, WrongType, Decided, NotInDomain, NotActive, NotSamePredicate, NotRejectable, SameToken, ActiveFull}
 use Rattle.model_core.specs.declared.rule.Slot.{Slot}
 use Rattle.model_core.specs.declared.variable.Base.TheVariants.{Given}
+use Rattle.model_core.specs.Arguments.{IsOfType, IsInType, Takes}
 use Rattle.model_core.specs.Decided.{IsTaken, IsActive, IsDecided}
 use Rattle.model_core.specs.State.{State, Gives}
 use Rattle.model_core.specs.Tokens.{HasToken, IsRejectable}
 use Rattle.model_core.specs.Variables.{HasBase}
+use Rattle.plan_defs.specs.Claims.{argument_of}
 use Rattle.plan_defs.specs.Closure.{IsLeast}
-use Rattle.plan_defs.specs.Terms.{Counts}
+use Rattle.plan_defs.specs.Terms.{Counts, TokenCounts, ArgumentCounts}
 
 -- how many reasons are looked for before this one
 abbrev pub rank_of : Refusal → ℕ
 rank_of Unknown = 0
-rank_of Decided = 1
-rank_of NotInDomain = 2
-rank_of NotActive = 3
-rank_of NotSamePredicate = 4
-rank_of NotRejectable = 5
-rank_of SameToken = 6
-rank_of ActiveFull = 7
+rank_of WrongType = 1
+rank_of Decided = 2
+rank_of NotInDomain = 3
+rank_of NotActive = 4
+rank_of NotSamePredicate = 5
+rank_of NotRejectable = 6
+rank_of SameToken = 7
+rank_of ActiveFull = 8
+
+-- the state has the argument, if it is a variable
+abbrev pub IsArgumentKnown : State → ConArg → Type 0
+IsArgumentKnown state (Var name) = (domain : Domain) × Gives state name domain
+IsArgumentKnown state (Value value) = ⊤
 
 -- the state has what the decision names
 abbrev pub IsKnown : State → Decision → Type 0
@@ -35,26 +45,34 @@ IsKnown state (Activate token) = Contains state.tokens token
 IsKnown state (Merge token target) = Contains state.tokens token × Contains state.tokens target
 IsKnown state (Reject token) = Contains state.tokens token
 IsKnown state (Order one other) = Contains state.tokens one × Contains state.tokens other
+IsKnown state (Constrain kind arguments) = All (IsArgumentKnown state) arguments
+IsKnown state (Relate relation one other) = Contains state.tokens one × Contains state.tokens other
 
--- what the decision is about is decided already
+-- what the decision is about is decided already; a constraint or a relation stands once
 abbrev pub IsAlreadyDecided : Model → List Decision → Decision → Type 0
 IsAlreadyDecided model decisions (Specify name value) = (other : ℤ) × Contains decisions (Specify name other)
 IsAlreadyDecided model decisions (Activate token) = IsDecided model decisions token
 IsAlreadyDecided model decisions (Merge token target) = IsDecided model decisions token
 IsAlreadyDecided model decisions (Reject token) = IsDecided model decisions token
 IsAlreadyDecided model decisions (Order one other) = Contains decisions (Order one other)
+IsAlreadyDecided model decisions (Constrain kind arguments) = Contains decisions (Constrain kind arguments)
+IsAlreadyDecided model decisions (Relate relation one other) = Contains decisions (Relate relation one other)
 
 -- the value is one that the variable is declared with
 abbrev pub IsDeclared : Model → VarName → ℤ → Type 0
 IsDeclared model name value = (base : Domain) × HasBase model name (Given base) × Has base value
 
--- a token would have to be taken or active that isn't: the rejectable that owns a variable, the target of a merge, and
--- either one of an order
+-- a token would have to be taken or active that isn't: the rejectable that owns a variable, or that a relation names, the target
+-- of a merge, and either one of an order
 abbrev pub NeedsActive : Model → List Decision → Decision → Type 0
 NeedsActive model decisions (Specify name value) = Counts model (IsTaken decisions) name → ⊥
 NeedsActive model decisions (Merge token target) = IsActive model decisions target → ⊥
 NeedsActive model decisions (Order one other) =
     (IsActive model decisions one → ⊥) ⊎ (IsActive model decisions other → ⊥)
+NeedsActive model decisions (Constrain kind arguments) =
+    All (ArgumentCounts model (IsTaken decisions)) (map argument_of arguments) → ⊥
+NeedsActive model decisions (Relate relation one other) =
+    TokenCounts model (IsTaken decisions) one × TokenCounts model (IsTaken decisions) other → ⊥
 NeedsActive model decisions decision = ⊥
 
 -- both tokens are of one predicate
@@ -75,12 +93,15 @@ pub record AreActive (model : Model) (decisions : List Decision) (number : ℕ) 
 -- the reason speaks against the decision
 abbrev pub Hinders : Model → List Decision → State → Refusal → Decision → Type 0
 Hinders model decisions state Unknown decision = IsKnown state decision → ⊥
+Hinders model decisions state WrongType (Constrain kind arguments) = Takes (IsOfType model) kind arguments → ⊥
 Hinders model decisions state Decided decision = IsAlreadyDecided model decisions decision
 Hinders model decisions state NotInDomain (Specify name value) = IsDeclared model name value → ⊥
+Hinders model decisions state NotInDomain (Constrain kind arguments) = Takes (IsInType model) kind arguments → ⊥
 Hinders model decisions state NotActive decision = NeedsActive model decisions decision
 Hinders model decisions state NotSamePredicate (Merge token target) = HaveSamePredicate model token target → ⊥
 Hinders model decisions state NotRejectable (Reject token) = IsRejectable model token → ⊥
 Hinders model decisions state SameToken (Order one other) = one ≡ other
+Hinders model decisions state SameToken (Relate relation one other) = one ≡ other
 Hinders model decisions state ActiveFull (Activate token) = AreActive model decisions 512
 Hinders model decisions state reason decision = ⊥
 

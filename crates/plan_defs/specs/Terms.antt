@@ -49,3 +49,7 @@ Counts model Taken name = (token : TokenName) → BelongsTo name token → IsRej
 abbrev pub ArgumentCounts : Model → (TokenName → Type 0) → Argument → Type 0
 ArgumentCounts model Taken (Value value) = ⊤
 ArgumentCounts model Taken (Variable name) = Counts model Taken name
+
+-- what is said of the token counts: it is no rejectable root that isn't taken
+abbrev pub TokenCounts : Model → (TokenName → Type 0) → TokenName → Type 0
+TokenCounts model Taken token = IsRejectable model token → Taken token
