@@ -1,23 +1,31 @@
 -- Which plans agree with which decisions.
-use Rattle.std.proofs.Common.{◌≡◌, List, [], ◌∷◌, Some, ℤ, pos, Bool, false, inl, inr, refl, sym, ap, subst, arith}
+use Rattle.std.proofs.Common.{◌≡◌, List, [], ◌∷◌, Some, ℤ, pos, Bool, true, false, inl, inr, refl, sym, ap, subst, arith}
 use Rattle.std.specs.Prelude.{Contains, slice_get}
+use Rattle.std.specs.List.{AllZip}
 use Rattle.std.proofs.lemmas.Int.{ints}
-use Rattle.eu_name.specs.declared.name.Part.TheVariants.{Param}
+use Rattle.domain_core.specs.Constraints.{HoldsOf}
+use Rattle.domain_core.specs.declared.kind.Kind.TheVariants.{Leq}
+use Rattle.eu_name.specs.declared.name.Part.TheVariants.{Start, End, Param}
 use Rattle.eu_name.specs.declared.name.TokenName.{TokenName}
 use Rattle.eu_name.specs.declared.name.VarName.TheVariants as variables
 use Rattle.model_core.specs.declared.class.ObjectKind.TheVariants as kind
+use Rattle.model_core.specs.declared.decision.ConArg.TheVariants.{Value}
 use Rattle.model_core.specs.declared.decision.Decision.{Decision}
 use Rattle.model_core.specs.declared.decision.Decision.TheVariants.{Activate, Merge, Reject, Order}
+use Rattle.model_core.specs.declared.item.Rel.TheVariants as rel
 use Rattle.model_core.specs.declared.model.Model.{Model}
 use Rattle.plan_defs.specs.declared.plan.Line.{Line}
 use Rattle.plan_defs.specs.declared.plan.Line.TheVariants as lines
 use Rattle.plan_defs.specs.declared.plan.Plan.{Plan}
 use Rattle.plan_defs.specs.Broken.{IsTrueIn, AgreesWith}
-use Rattle.plan_defs.specs.Plans.{GivesValue}
+use Rattle.plan_defs.specs.Claims.{argument_of, at_most, part_of}
+use Rattle.plan_defs.specs.Plans.{HasValues, GivesValue}
+use Rattle.plan_defs.specs.Valid.{HasArgumentValue, IsClaimTrue}
 use Rattle.eu_name.proofs.Ordered.{contains_head, contains_later, contains_cases, contains_none}
 use Rattle.law_examples.specs.Cases.{two_facts, battery, quantity_is}
 use Rattle.law_examples.specs.Globals.{free_x}
 use Rattle.law_examples.specs.Plans.{values_alone, first_fact, fact_from, facts_with, using_fact, taking_out}
+use Rattle.law_examples.specs.Posted.{the_x, leq, relate_them}
 use Rattle.law_examples.specs.Refused.{two_goals}
 use Rattle.law_examples.specs.Swaps.{g, gg, values, old}
 use Rattle.law_examples.specs.Worlds.{x_is}
@@ -127,6 +135,71 @@ overlap_differs agrees = omega (arith, first_is_early 4 (two_facts kind.Plain) (
 
 pub order_differs : AgreesWith (two_facts kind.Plain) (facts_with 5) (Order gg g ∷ []) → ⊥
 order_differs agrees = second_is_late 5 (two_facts kind.Plain) (agrees (Order gg g) (contains_head (Order gg g) []))
+
+-- ---- constraints
+
+pub constraint_agrees : AgreesWith free_x (values_alone (pos 0 ∷ [])) (leq the_x (Value (pos 1)) ∷ [])
+constraint_agrees =
+    with_one free_x (values_alone (pos 0 ∷ [])) (leq the_x (Value (pos 1))) (record { values = pos 0 ∷ pos 1 ∷ []; have = (refl, (refl, tt)); holds = omega (arith, ints) })
+
+pub constraint_differs : AgreesWith free_x (values_alone (pos 0 ∷ [])) (leq (Value (pos 1)) the_x ∷ []) → ⊥
+constraint_differs agrees =
+    let is = agrees (leq (Value (pos 1)) the_x) (contains_head (leq (Value (pos 1)) the_x) []) in
+    not_less is.values is.have is.holds
+  where
+    not_less : (found : List ℤ) → AllZip (HasArgumentValue (values_alone (pos 0 ∷ []))) (argument_of (Value (pos 1)) ∷ argument_of the_x ∷ []) found → HoldsOf Leq found → ⊥
+    not_less [] have holds = have
+    not_less (v ∷ []) have holds = have.1
+    not_less (v ∷ w ∷ more ∷ rest) have holds = have.1.1
+    not_less (v ∷ w ∷ []) have holds = let is_zero = same_some (pos 0) w have.1.0 in omega (arith, ints, have.0, is_zero, holds)
+
+-- x has no value in a plan without globals
+pub none_differs : AgreesWith free_x (values_alone []) (leq the_x (Value (pos 1)) ∷ []) → ⊥
+none_differs agrees =
+    let is = agrees (leq the_x (Value (pos 1))) (contains_head (leq the_x (Value (pos 1))) []) in
+    no_value is.values is.have
+  where
+    no_value : (found : List ℤ) → AllZip (HasArgumentValue (values_alone [])) (argument_of the_x ∷ argument_of (Value (pos 1)) ∷ []) found → ⊥
+    no_value [] have = have
+    no_value (v ∷ found) have = let none = have.0 in cc
+
+-- ---- relations
+
+pub relation_agrees : AgreesWith (two_facts kind.Plain) (facts_with 5) (relate_them rel.Before ∷ [])
+relation_agrees =
+    with_one (two_facts kind.Plain) (facts_with 5) (relate_them rel.Before) (record {
+      one_has = inl (_, (true, contains_head first_fact (fact_from 5 ∷ [])));
+      other_has = inl (_, (true, contains_later first_fact (fact_from 5) (fact_from 5 ∷ []) (contains_head (fact_from 5) [])));
+      holds = λ claim says. subst (IsClaimTrue (two_facts kind.Plain) (facts_with 5)) (only_member (at_most (part_of g End) (part_of gg Start)) claim says)
+          (first_ends 5 (two_facts kind.Plain) (omega arith));
+    })
+
+pub relation_differs : AgreesWith (two_facts kind.Plain) (facts_with 4) (relate_them rel.Before ∷ []) → ⊥
+relation_differs agrees =
+    let is = agrees (relate_them rel.Before) (contains_head (relate_them rel.Before) []) in
+    let ends = is.holds (at_most (part_of g End) (part_of gg Start)) (contains_head (at_most (part_of g End) (part_of gg Start)) []) in
+    omega (arith, first_is_early 4 (two_facts kind.Plain) ends)
+
+pub any_agrees : AgreesWith two_goals old (relate_them rel.Any ∷ [])
+any_agrees =
+    with_one two_goals old (relate_them rel.Any) (record {
+      one_has = inr (gg, contains_head merge (token ∷ []), (values, (false, token_stands)));
+      other_has = inl (values, (false, token_stands));
+      holds = λ claim says. absurd (contains_none claim says);
+    })
+
+pub any_differs : AgreesWith battery (taking_out 5) (relate_them rel.Any ∷ []) → ⊥
+any_differs agrees = has_none (agrees (relate_them rel.Any) (contains_head (relate_them rel.Any) [])).other_has
+  where
+    has_none : HasValues (taking_out 5) gg → ⊥
+    has_none (inl (found, (fact, own))) = elim (contains_cases (using_fact 5) (lines.Token gg fact found) (rejection ∷ []) own) [
+      | inl same ↦ (let tokens : g ≡ gg = cc in omega (arith, ap (λ (t : TokenName). t.root) tokens))
+      | inr later ↦ (let same = only_member rejection (lines.Token gg fact found) later in cc)
+    ]
+    has_none (inr (target, merged, its)) = elim (contains_cases (using_fact 5) (lines.Merged gg target) (rejection ∷ []) merged) [
+      | inl same ↦ cc
+      | inr later ↦ (let same = only_member rejection (lines.Merged gg target) later in cc)
+    ]
 
 -- ---- lists of two
 

@@ -34,7 +34,7 @@ use Rattle.model_core.specs.declared.variable.Base.{Base}
 use Rattle.model_core.specs.Decided.{IsActivated, IsTaken}
 use Rattle.model_core.specs.Tokens.{HasToken, HasRule, IsRejectable, root_token}
 use Rattle.model_core.specs.Variables.{HasPartBase}
-use Rattle.plan_defs.specs.Claims.{Claim, IsOfMerge, HasPart, part_of, equal, at_most}
+use Rattle.plan_defs.specs.Claims.{Claim, IsOfMerge, HasPart, part_of, equal, at_most, Posts}
 use Rattle.plan_defs.specs.Closure.{IsClosed, IsRespected}
 use Rattle.plan_defs.specs.Consistency.{IsClaimConsistent}
 use Rattle.plan_defs.specs.Terms.{Argument, Value, Variable, ArgumentCounts}
@@ -129,7 +129,7 @@ module _ (items : List Item) (kinds : List RootKind) (moments : List Moment) (le
       let slot = slot_same items kind.Plain pred.Plain [] [] kinds (0 + is.place) has.slot (subst (λ t. HasToken still t has.slot) is.named has.has_token) in
       absurd (nothing_listed items kind.Plain pred.Plain [] kinds block.rule has.rule (subst (λ (s : Slot). HasRule still s.pred block.rule has.rule) slot has.has_rule))
 
-  still_closed : (decisions : List Decision) → Grants items kind.Plain pred.Plain [] [] kinds [] moments lengths are (no_rule items kind.Plain pred.Plain [] kinds) decisions → IsClosed still decisions rests
+  pub still_closed : (decisions : List Decision) → Grants items kind.Plain pred.Plain [] [] kinds [] moments lengths are (no_rule items kind.Plain pred.Plain [] kinds) decisions → IsClosed still decisions rests
   still_closed decisions granted =
       closed_with items kind.Plain pred.Plain [] [] kinds [] moments lengths are (no_rule items kind.Plain pred.Plain [] kinds) decisions granted
       (ordered_none IsBlockBefore) (all_members (HasItsBlock items kind.Plain pred.Plain [] [] kinds moments) [] (λ block c. absurd (contains_none block c))) (no_blocks decisions)
@@ -137,7 +137,7 @@ module _ (items : List Item) (kinds : List RootKind) (moments : List Moment) (le
       (fit_no_reusables items kind.Plain pred.Plain [] [] kinds decisions rests (λ capacity e. absurd (cc)))
       (fit_no_reservoirs items kind.Plain pred.Plain [] [] kinds decisions rests (λ initial low high e. absurd (cc)))
 
-orders : (moments : List Moment) → AreInOrder (scene_state [] moments)
+pub orders : (moments : List Moment) → AreInOrder (scene_state [] moments)
 orders moments = in_order [] moments (ordered_none IsBlockBefore)
 
 -- ---- merges
@@ -158,6 +158,7 @@ merged_closed =
       said = λ claim p. absurd (contains_none p.item p.stands);
       merged = alike;
       ordered = λ claim p. let same = only_member (Merge (root_token 0) (root_token 1)) (Order p.one p.other) p.ordered in absurd (cc);
+      posted = λ claim p. absurd (subst (λ d. Posts d claim) (sym (only_member (Merge (root_token 0) (root_token 1)) p.decision p.stands)) p.posts);
     })
   where
     at_part : (part : Part) → HasPart goal_and_fact (root_token 0) part → IsClaimConsistent goal_and_fact (scene_state [] twins) (equal (part_of (root_token 0) part) (part_of (root_token 1) part))
@@ -232,7 +233,7 @@ module _ (one other : Moment) where
   follows_says p =
       at_most_says facts follows (orders (one ∷ other ∷ [])) (part_of (root_token 0) End) (part_of (root_token 1) Start) (one.start + one.duration) other.start first_end second_start
       (p.consistent.claims (at_most (part_of (root_token 0) End) (part_of (root_token 1) Start))
-      (inr (inr (inr (inr (record { one = root_token 0; other = root_token 1; ordered = contains_head (Order (root_token 0) (root_token 1)) []; says = refl }))))))
+      (inr (inr (inr (inr (inl (record { one = root_token 0; other = root_token 1; ordered = contains_head (Order (root_token 0) (root_token 1)) []; says = refl })))))))
 
   follows_closed : IsMoment one → IsMoment other → one.start + one.duration ≤ other.start → IsClosed facts ordered follows
   follows_closed ok ok' less =
@@ -247,6 +248,7 @@ module _ (one other : Moment) where
             let says : claim ≡ at_most (part_of (root_token 0) End) (part_of (root_token 1) Start) = p.says ∙ sym (λ i. at_most (part_of (first i) End) (part_of (second i) Start)) in
             subst (IsClaimConsistent facts follows) (sym says)
             (at_most_holds facts follows (orders (one ∷ other ∷ [])) (part_of (root_token 0) End) (part_of (root_token 1) Start) (one.start + one.duration) other.start first_end second_start less);
+        posted = λ claim p. absurd (subst (λ d. Posts d claim) (sym (only_member (Order (root_token 0) (root_token 1)) p.decision p.stands)) p.posts);
       })
 
 pub ordered_closed : IsClosed facts ordered (scene_state [] (moment 0 5 0 ∷ moment 5 3 0 ∷ []))

@@ -14,7 +14,7 @@ use Rattle.model_core.specs.declared.class.ObjectKind.{ObjectKind}
 use Rattle.model_core.specs.declared.class.Pred.{Pred}
 use Rattle.model_core.specs.declared.class.PredKind.{PredKind}
 use Rattle.model_core.specs.declared.decision.Decision.{Decision}
-use Rattle.model_core.specs.declared.decision.Decision.TheVariants.{Specify, Activate, Merge, Reject, Order}
+use Rattle.model_core.specs.declared.decision.Decision.TheVariants.{Specify, Activate, Merge, Reject, Order, Constrain, Relate}
 use Rattle.model_core.specs.declared.item.Item.{Item}
 use Rattle.domain_core.specs.declared.kind.Kind.TheVariants.{AddEq}
 use Rattle.model_core.specs.declared.model.Model.{Model}
@@ -35,7 +35,7 @@ use Rattle.model_core.specs.State.{State, VarDomain, Gives, IsAbout, IsState}
 use Rattle.model_core.specs.Tokens.{HasToken, HasRule, root_token, slot_of}
 use Rattle.model_core.specs.Variables.{HasBase, HasPartBase, IsInBase}
 use Rattle.model_core.specs.Decided.{IsTaken}
-use Rattle.plan_defs.specs.Claims.{Claim, IsClaim, IsOfProblem, IsOfMerge, IsOfOrder, lasts}
+use Rattle.plan_defs.specs.Claims.{Claim, IsClaim, IsOfProblem, IsOfMerge, IsOfOrder, IsOfPosting, Posts, lasts}
 use Rattle.plan_defs.specs.Closure.{IsClosed, AreInBase, IsRespected}
 use Rattle.plan_defs.specs.Consistency.{IsClaimConsistent}
 use Rattle.plan_defs.specs.Resources.{FitReusables, FitReservoirs}
@@ -270,12 +270,13 @@ module _ (items : List Item) (object_kind : ObjectKind) (pred_kind : PredKind) (
       pub supported : (decisions : List Decision) (token : TokenName) → IsSupportedToken model (situation_of decisions state) token → Contains (tokens_of 0 moments) token
       supported decisions token p = supported_at decisions token.root token.steps p
 
-      -- what else the decisions and the problem ask for: the values that are specified, and what constraints, merges and orders say
+      -- what else the decisions and the problem ask for: the values that are specified, and what constraints, merges, orders and postings say
       pub record Grants (decisions : List Decision) : Type 0 where
         pub respected : (decision : Decision) → Contains decisions decision → IsRespected decision state
         pub said : (claim : Claim) → IsOfProblem model (IsTaken decisions) claim → IsClaimConsistent model state claim
         pub merged : (claim : Claim) → IsOfMerge model decisions claim → IsClaimConsistent model state claim
         pub ordered : (claim : Claim) → IsOfOrder decisions claim → IsClaimConsistent model state claim
+        pub posted : (claim : Claim) → IsOfPosting model decisions claim → IsClaimConsistent model state claim
 
       claims : (decisions : List Decision) → Grants decisions → All (HasItsBlock moments) blocks → (claim : Claim) → IsClaim model decisions state claim → IsClaimConsistent model state claim
       claims decisions granted blocks_ok claim (inl p) = granted.said claim p
@@ -288,7 +289,8 @@ module _ (items : List Item) (object_kind : ObjectKind) (pred_kind : PredKind) (
           let is = token_of 0 moments p.token p.there in
           subst (IsClaimConsistent model state) (sym (p.says ∙ ap lasts (is.named ∙ ap root_token (no_shift is.place)))) (lasts_at is.place is.moment is.at)
       claims decisions granted blocks_ok claim (inr (inr (inr (inl p)))) = granted.merged claim p
-      claims decisions granted blocks_ok claim (inr (inr (inr (inr p)))) = granted.ordered claim p
+      claims decisions granted blocks_ok claim (inr (inr (inr (inr (inl p))))) = granted.ordered claim p
+      claims decisions granted blocks_ok claim (inr (inr (inr (inr (inr p))))) = granted.posted claim p
 
       -- so the state is closed where timelines and resources fit, and no block is missing
       pub closed_with : (decisions : List Decision) → Grants decisions → AllPairs IsBlockBefore blocks → All (HasItsBlock moments) blocks
@@ -314,6 +316,17 @@ module _ (items : List Item) (object_kind : ObjectKind) (pred_kind : PredKind) (
       respected_of (Specify name value) plain = absurd plain
       respected_of (Merge token target) plain = tt
       respected_of (Order one other) plain = tt
+      respected_of (Constrain kind arguments) plain = tt
+      respected_of (Relate relation one other) plain = tt
+
+      posts_nothing : (decision : Decision) (claim : Claim) → IsPlain decision → Posts decision claim → ⊥
+      posts_nothing (Activate token) claim plain posts = posts
+      posts_nothing (Reject token) claim plain posts = posts
+      posts_nothing (Specify name value) claim plain posts = plain
+      posts_nothing (Merge token target) claim plain posts = plain
+      posts_nothing (Order one other) claim plain posts = plain
+      posts_nothing (Constrain kind arguments) claim plain posts = plain
+      posts_nothing (Relate relation one other) claim plain posts = plain
 
       -- plain decisions ask for nothing else
       pub plain_grants : (decisions : List Decision) → ((decision : Decision) → Contains decisions decision → IsPlain decision)
@@ -323,6 +336,7 @@ module _ (items : List Item) (object_kind : ObjectKind) (pred_kind : PredKind) (
         said = said;
         merged = λ claim p. absurd (quiet (Merge p.token p.target) p.merged);
         ordered = λ claim p. absurd (quiet (Order p.one p.other) p.ordered);
+        posted = λ claim p. absurd (posts_nothing p.decision claim (quiet p.decision p.stands) p.posts);
       }
 
 -- where the problem has no constraints either nothing else is asked for

@@ -38,7 +38,7 @@ use Rattle.law_examples.specs.Worlds.{between, x_is}
 use Rattle.law_examples.proofs.Lawful.{halved_lawful}
 use Rattle.law_examples.proofs.Lists.{all_members, only_member, same_some}
 use Rattle.law_examples.proofs.Tuples.{three_consistent}
-use Rattle.law_examples.proofs.Variables.{IsSpecify, by_name, closed, no_object, gives_x, is_x, no_decision}
+use Rattle.law_examples.proofs.Variables.{IsGranted, by_name, closed, no_object, gives_x, is_x, no_decision}
 
 -- ---- the numbers from one on
 
@@ -148,7 +148,7 @@ module _ (number low high : ℕ) (sum : low + high ≡ number) (order : low ≤ 
   }
 
   -- and the state is closed
-  sum_closed : number ≤ 10 → (decisions : List Decision) → ((decision : Decision) → Contains decisions decision → IsSpecify decision × IsRespected decision (from_to low high))
+  sum_closed : number ≤ 10 → (decisions : List Decision) → ((decision : Decision) → Contains decisions decision → IsGranted (halved number) (from_to low high) decision)
       → IsClosed (halved number) decisions (from_to low high)
   sum_closed few decisions granted =
       closed [] [] (declared_to number ∷ []) (twice_is number ∷ []) decisions (from_to low high).entries (no_object (declared_to number ∷ []) (twice_is number ∷ []))
@@ -203,7 +203,7 @@ least_of number low high decisions is_closed within = record { closed = is_close
 
 whole_least : (number : ℕ) → number ≤ 10 → IsLeast (halved number) [] (from_to 0 number)
 whole_least number few =
-    least_of number 0 number [] (sum_closed number 0 number (omega arith) (omega arith) few [] (no_decision (from_to 0 number)))
+    least_of number 0 number [] (sum_closed number 0 number (omega arith) (omega arith) few [] (no_decision (halved number) (from_to 0 number)))
     (λ other p domain gives. base_within number [] other p domain gives)
 
 -- ---- a value that is decided
@@ -264,8 +264,8 @@ half_least number value few same =
     respected : IsRespected (x_is value) (from_to value value)
     respected domain gives = subst (λ d. IsSingle d (pos value)) (is_x (between value value) (Global 0) domain gives).1 (single_of value)
 
-    granted : (decision : Decision) → Contains (x_is value ∷ []) decision → IsSpecify decision × IsRespected decision (from_to value value)
-    granted decision c = subst (λ d. IsSpecify d × IsRespected d (from_to value value)) (only_member (x_is value) decision c) (tt, respected)
+    granted : (decision : Decision) → Contains (x_is value ∷ []) decision → IsGranted (halved number) (from_to value value) decision
+    granted decision c = subst (IsGranted (halved number) (from_to value value)) (only_member (x_is value) decision c) respected
 
 -- ---- flaws
 

@@ -40,6 +40,7 @@ use Rattle.eu_name.proofs.Ordered.{contains_cases, contains_none, ordered_none, 
 use Rattle.law_examples.specs.Cases.{lone_goal, ruled, localised, two_facts, tool, battery, goal_and_fact, limited, at_most_one}
 use Rattle.law_examples.specs.Globals.{declared_x, problem_with, problem_of, free_x, low_x, at_most_1}
 use Rattle.law_examples.specs.Plans.{localised_rejectable}
+use Rattle.law_examples.specs.Posted.{both_truths, declared_b, typed}
 use Rattle.law_examples.specs.Refused.{alone, two_goals, mixed, facts_and_goal, many_roots}
 use Rattle.law_examples.specs.Scenes.{the_object, both_objects, object_called, predicate_called, predicate_of, label_of, root_of, roots_from, scene_with, guarded, with_local}
 use Rattle.law_examples.specs.Searched.{declared_to, twice_is, halved}
@@ -221,6 +222,22 @@ free_two_lawful = x_and_y_lawful [] (omega arith) (none (IsLawfulItem free_two O
 
 pub low_two_lawful : IsLawful low_two
 low_two_lawful = x_and_y_lawful (at_most_1 ∷ []) (omega arith) (one (IsLawfulItem low_two OfProblem) at_most_1 (x_item (declared_y ∷ [])))
+
+pub typed_lawful : IsLawful typed
+typed_lawful =
+    world_lawful [] [] (declared_x ∷ declared_b ∷ []) [] (omega arith) (omega arith) (omega arith) (omega arith) (no_class typed) (none (IsLawfulObject typed))
+    (two (IsLawfulVariable typed) declared_x declared_b (int_variable typed (codes "x") 2 (omega arith)) (record {
+      kind = tt;
+      base = both_domain;
+      inside = record { values = truth; range = λ is. absurd is };
+    }))
+    (two Named declared_x declared_b (plain_name (codes "x") refl) (plain_name (codes "b") refl)) (none (IsLawfulItem typed OfProblem)) refl refl
+  where
+    truth : (value : ℤ) → Has both_truths value → (value ≡ pos 0) ⊎ (value ≡ pos 1)
+    truth value c = elim (contains_cases (pos 0) value (pos 1 ∷ []) c) [
+      | inl same ↦ inl (sym same)
+      | inr later ↦ inr (sym (only_member (pos 1) value later))
+    ]
 
 pub void_lawful : IsLawful no_choice
 void_lawful =

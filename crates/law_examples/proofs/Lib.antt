@@ -24,3 +24,6 @@ pub mod Agreed
 pub mod Halving
 pub mod Left
 pub mod Below
+pub mod Posted
+pub mod Narrowing
+pub mod Related

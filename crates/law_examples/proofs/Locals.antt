@@ -26,7 +26,7 @@ use Rattle.model_core.specs.Entries.{Entries}
 use Rattle.model_core.specs.State.{State, VarDomain, Gives, IsAbout, IsBlockOf}
 use Rattle.model_core.specs.Tokens.{HasToken, HasRule, root_token}
 use Rattle.model_core.specs.Variables.{HasBase, IsInBase}
-use Rattle.plan_defs.specs.Claims.{Claim, IsClaim, lasts}
+use Rattle.plan_defs.specs.Claims.{Claim, IsClaim, lasts, Posts}
 use Rattle.plan_defs.specs.Closure.{IsClosed, AreInBase, IsRespected}
 use Rattle.plan_defs.specs.Consistency.{IsClaimConsistent}
 use Rattle.plan_defs.specs.Situations.{situation_of}
@@ -275,7 +275,8 @@ local_claims claim (inr (inr (inl p))) =
     subst (IsClaimConsistent localised local_is) (sym (p.says ∙ ap lasts (only_root p.token p.there)))
     (record { domains = old.domains; have = zip_more (lasts (root_token 0)).arguments old.domains old.have; agree = old.agree })
 local_claims claim (inr (inr (inr (inl p)))) = let same = only_member activate_it (Merge p.token p.target) p.merged in absurd (cc)
-local_claims claim (inr (inr (inr (inr p)))) = let same = only_member activate_it (Order p.one p.other) p.ordered in absurd (cc)
+local_claims claim (inr (inr (inr (inr (inl p))))) = let same = only_member activate_it (Order p.one p.other) p.ordered in absurd (cc)
+local_claims claim (inr (inr (inr (inr (inr p))))) = absurd (subst (λ d. Posts d claim) (sym (only_member activate_it p.decision p.stands)) p.posts)
 
 pub local_closed : IsClosed localised activated local_is
 local_closed = record {

@@ -59,7 +59,7 @@ given_closed =
       subst (λ (e : VarDomain). HasBase one_choice e.name (Given the_object)) same (declared_c (Given the_object), refl, refl),
       subst (λ (e : VarDomain). IsWithin e.domain the_object) same (IsWithin-refl the_object),
     ))
-    (no_decision (with_x the_object)) (no_item one_choice [] (with_x the_object) refl)
+    (no_decision one_choice (with_x the_object)) (no_item one_choice [] (with_x the_object) refl)
 
 -- ---- a field
 
@@ -100,7 +100,7 @@ module _ (one other : Domain) where
   fielded_closed : IsDomain one → IsDomain other → IsWithin one both_objects → IsWithin other (up_to 9)
       → ((v : ℤ) → IsTested one v → IsSupported Values holds [] v (other ∷ [])) → ((v : ℤ) → IsTested other v → IsSupported Values holds (one ∷ []) v []) → IsClosed fielded [] (with_two one other)
   fielded_closed ok ok' within within' first second =
-      two_closed _ _ (declared_c (Given both_objects)) declared_v (field_is ∷ []) [] one other both_objects (up_to 9) fielded_plain refl refl ok ok' within within' (no_decision (with_two one other))
+      two_closed _ _ (declared_c (Given both_objects)) declared_v (field_is ∷ []) [] one other both_objects (up_to 9) fielded_plain refl refl ok ok' within within' (no_decision fielded (with_two one other))
       (λ claim p.
       let is = only_claim fielded (IsTaken []) (Field 0) (term.Global 0) (term.Global 1) c_argument v_argument refl (λ x e. e) (λ x e. e) claim p in
       subst (IsClaimConsistent fielded (with_two one other)) (sym is.0)

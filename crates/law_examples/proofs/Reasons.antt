@@ -26,7 +26,7 @@ use Rattle.model_core.specs.State.{Gives}
 use Rattle.model_core.specs.Tokens.{IsRootOfKind, root_token, slot_of}
 use Rattle.model_core.specs.Variables.{HasPartBase}
 use Rattle.plan_defs.specs.Refusals.{rank_of, Hinders, IsDeclared, HaveSamePredicate, AreActive, IsFirstRefusal, IsRefused}
-use Rattle.model_core.specs.declared.refusal.Refusal.TheVariants.{Unknown, Decided, NotInDomain, NotActive, NotSamePredicate, NotRejectable, SameToken, ActiveFull}
+use Rattle.model_core.specs.declared.refusal.Refusal.TheVariants.{Unknown, WrongType, Decided, NotInDomain, NotActive, NotSamePredicate, NotRejectable, SameToken, ActiveFull}
 use Rattle.model_core.specs.declared.refusal.Refusal.{Refusal}
 use Rattle.eu_name.proofs.Ordered.{contains_head, contains_none}
 use Rattle.law_examples.specs.Cases.{moment, two_facts, goal_and_fact, limited, at_most_one, activated, activate_it, quantity_is}
@@ -70,7 +70,7 @@ no_goal e = cc
 pub no_rejectable : Rejectable ≡ Fact → ⊥
 no_rejectable e = cc
 
-untaken : (token : TokenName) → IsTaken [] token → ⊥
+pub untaken : (token : TokenName) → IsTaken [] token → ⊥
 untaken token (inl activation) = contains_none (Activate token) activation
 untaken token (inr merge) = contains_none (Merge token merge.0) merge.1
 
@@ -85,7 +85,7 @@ second_there = (1, omega arith, refl)
 
 -- ---- variables
 
-no_third : (one other : Domain) → (domain : Domain) × Gives (with_two one other) (Global 2) domain → ⊥
+pub no_third : (one other : Domain) → (domain : Domain) × Gives (with_two one other) (Global 2) domain → ⊥
 no_third one other (domain, gives) = elim (one_of_two one other (Global 2) domain gives) [
   | inl is ↦ (let e = is.0 in cc)
   | inr is ↦ (let e = is.0 in cc)
@@ -98,7 +98,7 @@ x_base_is value (base, has_base, has) =
     let same : up_to 2 ≡ base = cc in
     (subst (λ d. Has d value) (sym same) has).1
 
-quantity_given : Gives one_token (Token (root_token 0) (Param 0)) (Range (pos 1) (pos 1))
+pub quantity_given : Gives one_token (Token (root_token 0) (Param 0)) (Range (pos 1) (pos 1))
 quantity_given = entry_there 0 (moment 0 1 1 ∷ []) 0 (moment 0 1 1) (Param 0) (Range (pos 1) (pos 1)) refl refl
 
 quantity_base : (value : ℤ) → Has (Range (pos 0) (pos 1000000)) value → IsDeclared (limited Rejectable) (Token (root_token 0) (Param 0)) value
@@ -130,6 +130,7 @@ third_unknown_first = record { hinders = no_third (up_to 2) (up_to 2); first = f
   where
     first : (earlier : Refusal) → rank_of earlier < 0 → Hinders free_two [] (with_two (up_to 2) (up_to 2)) earlier (Specify (Global 2) (pos 3)) → ⊥
     first Unknown less h = omega (arith, less)
+    first WrongType less h = omega (arith, less)
     first Decided less h = omega (arith, less)
     first NotInDomain less h = omega (arith, less)
     first NotActive less h = omega (arith, less)
@@ -144,8 +145,9 @@ third_unknown = record { state = (with_two (up_to 2) (up_to 2)); least = free_le
 x_decided_first : IsFirstRefusal free_two (x_is 0 ∷ []) (with_two (up_to 0) (up_to 2)) (x_is 3) Decided
 x_decided_first = record { hinders = (pos 0, contains_head (x_is 0) []); first = first }
   where
-    first : (earlier : Refusal) → rank_of earlier < 1 → Hinders free_two (x_is 0 ∷ []) (with_two (up_to 0) (up_to 2)) earlier (x_is 3) → ⊥
+    first : (earlier : Refusal) → rank_of earlier < 2 → Hinders free_two (x_is 0 ∷ []) (with_two (up_to 0) (up_to 2)) earlier (x_is 3) → ⊥
     first Unknown less h = h (up_to 0, gives_first (up_to 0) (up_to 2))
+    first WrongType less h = h
     first Decided less h = omega (arith, less)
     first NotInDomain less h = omega (arith, less)
     first NotActive less h = omega (arith, less)
@@ -160,8 +162,9 @@ x_decided = record { state = (with_two (up_to 0) (up_to 2)); least = zero_least;
 x_outside_first : IsFirstRefusal free_two [] (with_two (up_to 2) (up_to 2)) (x_is 3) NotInDomain
 x_outside_first = record { hinders = λ declared. let few = x_base_is (pos 3) declared in omega (arith, ints, few); first = first }
   where
-    first : (earlier : Refusal) → rank_of earlier < 2 → Hinders free_two [] (with_two (up_to 2) (up_to 2)) earlier (x_is 3) → ⊥
+    first : (earlier : Refusal) → rank_of earlier < 3 → Hinders free_two [] (with_two (up_to 2) (up_to 2)) earlier (x_is 3) → ⊥
     first Unknown less h = h (up_to 2, gives_first (up_to 2) (up_to 2))
+    first WrongType less h = h
     first Decided less h = contains_none (Specify (Global 0) h.0) h.1
     first NotInDomain less h = omega (arith, less)
     first NotActive less h = omega (arith, less)
@@ -176,8 +179,9 @@ x_outside = record { state = (with_two (up_to 2) (up_to 2)); least = free_least;
 pub fact_decided : IsFirstRefusal (alone Fact) [] one_token activate_it Decided
 fact_decided = record { hinders = inl (is_kind [] (Fact ∷ []) 0 Fact refl); first = first }
   where
-    first : (earlier : Refusal) → rank_of earlier < 1 → Hinders (alone Fact) [] one_token earlier activate_it → ⊥
+    first : (earlier : Refusal) → rank_of earlier < 2 → Hinders (alone Fact) [] one_token earlier activate_it → ⊥
     first Unknown less h = h one_there
+    first WrongType less h = h
     first Decided less h = omega (arith, less)
     first NotInDomain less h = omega (arith, less)
     first NotActive less h = omega (arith, less)
@@ -189,8 +193,9 @@ fact_decided = record { hinders = inl (is_kind [] (Fact ∷ []) 0 Fact refl); fi
 pub rejected_fact_decided : IsFirstRefusal (alone Fact) [] one_token reject_it Decided
 rejected_fact_decided = record { hinders = inl (is_kind [] (Fact ∷ []) 0 Fact refl); first = first }
   where
-    first : (earlier : Refusal) → rank_of earlier < 1 → Hinders (alone Fact) [] one_token earlier reject_it → ⊥
+    first : (earlier : Refusal) → rank_of earlier < 2 → Hinders (alone Fact) [] one_token earlier reject_it → ⊥
     first Unknown less h = h one_there
+    first WrongType less h = h
     first Decided less h = omega (arith, less)
     first NotInDomain less h = omega (arith, less)
     first NotActive less h = omega (arith, less)
@@ -219,6 +224,7 @@ none_active p = at p.tokens p.active p.enough
 
 pub goal_free : IsUnhindered (alone Goal) [] one_token activate_it
 goal_free Unknown h = h one_there
+goal_free WrongType h = h
 goal_free Decided h = undecided [] (Goal ∷ []) 0 Goal refl no_goal h
 goal_free NotInDomain h = h
 goal_free NotActive h = h
@@ -230,8 +236,9 @@ goal_free ActiveFull h = none_active h
 pub quantity_outside : IsFirstRefusal (limited Rejectable) [] one_token (quantity_is 1000001) NotInDomain
 quantity_outside = record { hinders = λ declared. let few = quantity_within (pos 1000001) declared in omega (arith, ints, few); first = first }
   where
-    first : (earlier : Refusal) → rank_of earlier < 2 → Hinders (limited Rejectable) [] one_token earlier (quantity_is 1000001) → ⊥
+    first : (earlier : Refusal) → rank_of earlier < 3 → Hinders (limited Rejectable) [] one_token earlier (quantity_is 1000001) → ⊥
     first Unknown less h = h (Range (pos 1) (pos 1), quantity_given)
+    first WrongType less h = h
     first Decided less h = contains_none (Specify (Token (root_token 0) (Param 0)) h.0) h.1
     first NotInDomain less h = omega (arith, less)
     first NotActive less h = omega (arith, less)
@@ -243,8 +250,9 @@ quantity_outside = record { hinders = λ declared. let few = quantity_within (po
 pub quantity_untaken : IsFirstRefusal (limited Rejectable) [] one_token (quantity_is 1) NotActive
 quantity_untaken = record { hinders = λ counts. untaken (root_token 0) (counts (root_token 0) refl (refl, (root_of 0 Rejectable, refl, refl))); first = first }
   where
-    first : (earlier : Refusal) → rank_of earlier < 3 → Hinders (limited Rejectable) [] one_token earlier (quantity_is 1) → ⊥
+    first : (earlier : Refusal) → rank_of earlier < 4 → Hinders (limited Rejectable) [] one_token earlier (quantity_is 1) → ⊥
     first Unknown less h = h (Range (pos 1) (pos 1), quantity_given)
+    first WrongType less h = h
     first Decided less h = contains_none (Specify (Token (root_token 0) (Param 0)) h.0) h.1
     first NotInDomain less h = h (quantity_base (pos 1) (omega (arith, ints), omega (arith, ints)))
     first NotActive less h = omega (arith, less)
@@ -255,6 +263,7 @@ quantity_untaken = record { hinders = λ counts. untaken (root_token 0) (counts 
 
 pub quantity_taken : IsUnhindered (limited Rejectable) activated one_token (quantity_is 1)
 quantity_taken Unknown h = h (Range (pos 1) (pos 1), quantity_given)
+quantity_taken WrongType h = h
 quantity_taken Decided h = let same = only_member activate_it (Specify (Token (root_token 0) (Param 0)) h.0) h.1 in cc
 quantity_taken NotInDomain h = h (quantity_base (pos 1) (omega (arith, ints), omega (arith, ints)))
 quantity_taken NotActive h = h (λ token belongs rejectable. inl (subst (λ t. Contains activated (Activate t)) belongs (contains_head activate_it [])))
@@ -266,8 +275,9 @@ quantity_taken ActiveFull h = h
 pub target_inactive : IsFirstRefusal two_goals [] two_tokens merge_them NotActive
 target_inactive = record { hinders = inactive [] (Goal ∷ Goal ∷ []) 1 Goal refl no_goal; first = first }
   where
-    first : (earlier : Refusal) → rank_of earlier < 3 → Hinders two_goals [] two_tokens earlier merge_them → ⊥
+    first : (earlier : Refusal) → rank_of earlier < 4 → Hinders two_goals [] two_tokens earlier merge_them → ⊥
     first Unknown less h = h (first_there, second_there)
+    first WrongType less h = h
     first Decided less h = undecided [] (Goal ∷ Goal ∷ []) 0 Goal refl no_goal h
     first NotInDomain less h = h
     first NotActive less h = omega (arith, less)
@@ -287,6 +297,7 @@ same_predicate = record {
 
 pub merge_free : IsUnhindered goal_and_fact [] two_tokens merge_them
 merge_free Unknown h = h (first_there, second_there)
+merge_free WrongType h = h
 merge_free Decided h = undecided [] (Goal ∷ Fact ∷ []) 0 Goal refl no_goal h
 merge_free NotInDomain h = h
 merge_free NotActive h = h (inl (is_kind [] (Goal ∷ Fact ∷ []) 1 Fact refl))
@@ -298,8 +309,9 @@ merge_free ActiveFull h = h
 pub goal_inactive : IsFirstRefusal goal_and_fact [] two_tokens order_them NotActive
 goal_inactive = record { hinders = inl (inactive [] (Goal ∷ Fact ∷ []) 0 Goal refl no_goal); first = first }
   where
-    first : (earlier : Refusal) → rank_of earlier < 3 → Hinders goal_and_fact [] two_tokens earlier order_them → ⊥
+    first : (earlier : Refusal) → rank_of earlier < 4 → Hinders goal_and_fact [] two_tokens earlier order_them → ⊥
     first Unknown less h = h (first_there, second_there)
+    first WrongType less h = h
     first Decided less h = contains_none order_them h
     first NotInDomain less h = h
     first NotActive less h = omega (arith, less)
@@ -311,8 +323,9 @@ goal_inactive = record { hinders = inl (inactive [] (Goal ∷ Fact ∷ []) 0 Goa
 pub goal_before_itself : IsFirstRefusal (alone Goal) [] one_token order_it NotActive
 goal_before_itself = record { hinders = inl (inactive [] (Goal ∷ []) 0 Goal refl no_goal); first = first }
   where
-    first : (earlier : Refusal) → rank_of earlier < 3 → Hinders (alone Goal) [] one_token earlier order_it → ⊥
+    first : (earlier : Refusal) → rank_of earlier < 4 → Hinders (alone Goal) [] one_token earlier order_it → ⊥
     first Unknown less h = h (one_there, one_there)
+    first WrongType less h = h
     first Decided less h = contains_none order_it h
     first NotInDomain less h = h
     first NotActive less h = omega (arith, less)
@@ -323,6 +336,7 @@ goal_before_itself = record { hinders = inl (inactive [] (Goal ∷ []) 0 Goal re
 
 pub order_free : IsUnhindered (two_facts kind.Plain) [] two_tokens order_them
 order_free Unknown h = h (first_there, second_there)
+order_free WrongType h = h
 order_free Decided h = contains_none order_them h
 order_free NotInDomain h = h
 order_free NotActive h = elim h [ inl none ↦ none (inl (is_kind [] (Fact ∷ Fact ∷ []) 0 Fact refl)) | inr none ↦ none (inl (is_kind [] (Fact ∷ Fact ∷ []) 1 Fact refl)) ]
@@ -334,8 +348,9 @@ order_free ActiveFull h = h
 pub order_of_one : IsFirstRefusal (two_facts kind.Plain) [] two_tokens order_it SameToken
 order_of_one = record { hinders = refl; first = first }
   where
-    first : (earlier : Refusal) → rank_of earlier < 6 → Hinders (two_facts kind.Plain) [] two_tokens earlier order_it → ⊥
+    first : (earlier : Refusal) → rank_of earlier < 7 → Hinders (two_facts kind.Plain) [] two_tokens earlier order_it → ⊥
     first Unknown less h = h (first_there, first_there)
+    first WrongType less h = h
     first Decided less h = contains_none order_it h
     first NotInDomain less h = h
     first NotActive less h = elim h [ inl none ↦ none (inl (is_kind [] (Fact ∷ Fact ∷ []) 0 Fact refl)) | inr none ↦ none (inl (is_kind [] (Fact ∷ Fact ∷ []) 0 Fact refl)) ]
@@ -361,8 +376,9 @@ mixed_undecided (inr (inr rejection)) = contains_none (Reject (root_token 0)) re
 pub mixed_differ : IsFirstRefusal mixed [] two_tokens merge_them NotSamePredicate
 mixed_differ = record { hinders = differ; first = first }
   where
-    first : (earlier : Refusal) → rank_of earlier < 4 → Hinders mixed [] two_tokens earlier merge_them → ⊥
+    first : (earlier : Refusal) → rank_of earlier < 5 → Hinders mixed [] two_tokens earlier merge_them → ⊥
     first Unknown less h = h (first_there, second_there)
+    first WrongType less h = h
     first Decided less h = mixed_undecided h
     first NotInDomain less h = h
     first NotActive less h = h (inl (refl, (_, refl, refl)))
@@ -374,8 +390,9 @@ mixed_differ = record { hinders = differ; first = first }
 pub goal_not_rejectable : IsFirstRefusal (alone Goal) [] one_token reject_it NotRejectable
 goal_not_rejectable = record { hinders = λ is. let e = kind_is [] (Goal ∷ []) 0 Goal Rejectable refl is in cc; first = first }
   where
-    first : (earlier : Refusal) → rank_of earlier < 5 → Hinders (alone Goal) [] one_token earlier reject_it → ⊥
+    first : (earlier : Refusal) → rank_of earlier < 6 → Hinders (alone Goal) [] one_token earlier reject_it → ⊥
     first Unknown less h = h one_there
+    first WrongType less h = h
     first Decided less h = undecided [] (Goal ∷ []) 0 Goal refl no_goal h
     first NotInDomain less h = h
     first NotActive less h = h
@@ -386,6 +403,7 @@ goal_not_rejectable = record { hinders = λ is. let e = kind_is [] (Goal ∷ [])
 
 pub rejectable_free : IsUnhindered (alone Rejectable) [] one_token reject_it
 rejectable_free Unknown h = h one_there
+rejectable_free WrongType h = h
 rejectable_free Decided h = undecided [] (Rejectable ∷ []) 0 Rejectable refl no_rejectable h
 rejectable_free NotInDomain h = h
 rejectable_free NotActive h = h
@@ -435,8 +453,9 @@ many_active number = record {
 }
 
 module _ (number : ℕ) where
-  first_many : (earlier : Refusal) → rank_of earlier < 7 → Hinders (many_roots number) [] (many_tokens number) earlier (Activate (root_token number)) → ⊥
+  first_many : (earlier : Refusal) → rank_of earlier < 8 → Hinders (many_roots number) [] (many_tokens number) earlier (Activate (root_token number)) → ⊥
   first_many Unknown less h = h (subst (λ n. Contains (tokens_of 0 (many_moments number)) (root_token n)) (let same : 0 + number ≡ number = omega arith in same) (token_there 0 (many_moments number) number (moment 0 1 1) (many_moment number)))
+  first_many WrongType less h = h
   first_many Decided less h = undecided [] (facts_and_goal number) number Goal (many_goal number) no_goal h
   first_many NotInDomain less h = h
   first_many NotActive less h = h

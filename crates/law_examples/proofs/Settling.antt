@@ -23,11 +23,11 @@ use Rattle.model_core.specs.State.{State, Gives, IsBelow, GivesWithin}
 use Rattle.model_core.specs.Tokens.{root_token}
 use Rattle.model_core.specs.Variables.{HasBase, IsInBase}
 use Rattle.plan_defs.specs.Claims.{Claim, IsOfProblem, at_most}
-use Rattle.plan_defs.specs.Closure.{IsClosed, IsLeast, IsCollapsed, IsRespected}
+use Rattle.plan_defs.specs.Closure.{IsClosed, IsLeast, IsCollapsed}
 use Rattle.plan_defs.specs.Consistency.{IsClaimConsistent, HasField}
 use Rattle.plan_defs.specs.History.{IsHistory, TakesOut}
 use Rattle.plan_defs.specs.Refusals.{Hinders, IsAdmissible}
-use Rattle.model_core.specs.declared.refusal.Refusal.TheVariants.{Unknown, Decided, NotInDomain, NotActive, NotSamePredicate, NotRejectable, SameToken, ActiveFull}
+use Rattle.model_core.specs.declared.refusal.Refusal.TheVariants.{Unknown, WrongType, Decided, NotInDomain, NotActive, NotSamePredicate, NotRejectable, SameToken, ActiveFull}
 use Rattle.model_core.specs.declared.refusal.Refusal.{Refusal}
 use Rattle.plan_defs.specs.Settling.{Settles, IsConflict}
 use Rattle.plan_defs.specs.Terms.{Argument, Value, Variable, ArgumentCounts, BelongsTo}
@@ -40,25 +40,25 @@ use Rattle.law_examples.proofs.Lists.{all_members, only_member, same_some}
 use Rattle.law_examples.proofs.TwoVariables.{gives_first, one_of_two, two_closed, two_ordered}
 use Rattle.law_examples.proofs.Tuples.{two_consistent}
 use Rattle.law_examples.proofs.Pairs.{is_about, agreeing, only_claim}
-use Rattle.law_examples.proofs.Variables.{IsSpecify, no_decision, no_item, no_object, up_to_domain}
+use Rattle.law_examples.proofs.Variables.{IsGranted, no_decision, no_item, no_object, up_to_domain}
 
 -- ---- least states of x and y
 
-abbrev two_of : List Item → Model
+abbrev pub two_of : List Item → Model
 two_of items = problem_of (declared_x ∷ declared_y ∷ []) items
 
-range_within : (domain : Domain) (low high lo hi : ℤ) → IsWithin domain (Range low high) → ((v : ℤ) → Has domain v → Has (Range lo hi) v) → IsWithin domain (Range lo hi)
+pub range_within : (domain : Domain) (low high lo hi : ℤ) → IsWithin domain (Range low high) → ((v : ℤ) → Has domain v → Has (Range lo hi) v) → IsWithin domain (Range lo hi)
 range_within (Range a b) low high lo hi within values = record { kind = tt; values = values }
 range_within (Set members) low high lo hi within values = absurd within.kind
 
 module _ (items : List Item) (decisions : List Decision) (other : State) (p : IsClosed (two_of items) decisions other) where
-  x_within : (domain : Domain) → Gives other (Global 0) domain → IsWithin domain (up_to 2)
+  pub x_within : (domain : Domain) → Gives other (Global 0) domain → IsWithin domain (up_to 2)
   x_within domain gives =
       let found = p.consistent.in_base (Global 0) domain gives in
       let variable : declared_x ≡ found.1.0 = same_some declared_x found.1.0 found.1.1 in
       subst (IsInBase domain) (found.1.2 ∙ ap (λ (v : VarDecl). v.base) (sym variable)) found.2
 
-  y_within : (domain : Domain) → Gives other (Global 1) domain → IsWithin domain (up_to 2)
+  pub y_within : (domain : Domain) → Gives other (Global 1) domain → IsWithin domain (up_to 2)
   y_within domain gives =
       let found = p.consistent.in_base (Global 1) domain gives in
       let variable : declared_y ≡ found.1.0 = same_some declared_y found.1.0 found.1.1 in
@@ -69,7 +69,7 @@ module _ (items : List Item) (decisions : List Decision) (number : ℕ) (few : n
   abbrev reached : State
   reached = with_two (up_to number) (up_to 2)
 
-  reached_closed : ((decision : Decision) → Contains decisions decision → IsSpecify decision × IsRespected decision reached)
+  reached_closed : ((decision : Decision) → Contains decisions decision → IsGranted (two_of items) reached decision)
       → ((claim : Claim) → IsOfProblem (two_of items) (IsTaken decisions) claim → IsClaimConsistent (two_of items) reached claim) → IsClosed (two_of items) decisions reached
   reached_closed granted consistent =
       two_closed [] [] declared_x declared_y items decisions (up_to number) (up_to 2) (up_to 2) (up_to 2) (no_object (declared_x ∷ declared_y ∷ []) items) refl refl
@@ -97,7 +97,7 @@ module _ (items : List Item) (decisions : List Decision) (number : ℕ) (few : n
 
 pub free_least : IsLeast free_two [] (with_two (up_to 2) (up_to 2))
 free_least =
-    reached_least [] [] 2 (omega arith) (reached_closed [] [] 2 (omega arith) (no_decision (with_two (up_to 2) (up_to 2))) (no_item free_two [] (with_two (up_to 2) (up_to 2)) refl))
+    reached_least [] [] 2 (omega arith) (reached_closed [] [] 2 (omega arith) (no_decision free_two (with_two (up_to 2) (up_to 2))) (no_item free_two [] (with_two (up_to 2) (up_to 2)) refl))
     (λ other p domain gives. (x_within [] [] other p domain gives).values)
 
 pub zero_least : IsLeast free_two (x_is 0 ∷ []) (with_two (up_to 0) (up_to 2))
@@ -112,8 +112,8 @@ zero_least =
       | inr is ↦ (let none = is.0 in absurd (cc))
     ]
 
-    granted : (decision : Decision) → Contains (x_is 0 ∷ []) decision → IsSpecify decision × IsRespected decision (with_two (up_to 0) (up_to 2))
-    granted decision c = subst (λ d. IsSpecify d × IsRespected d (with_two (up_to 0) (up_to 2))) (only_member (x_is 0) decision c) (tt, is_zero)
+    granted : (decision : Decision) → Contains (x_is 0 ∷ []) decision → IsGranted free_two (with_two (up_to 0) (up_to 2)) decision
+    granted decision c = subst (IsGranted free_two (with_two (up_to 0) (up_to 2))) (only_member (x_is 0) decision c) is_zero
 
 -- ---- admissible decisions
 
@@ -126,6 +126,7 @@ module _ (items : List Item) (decisions : List Decision) (state : State) (least 
         | inl e ↦ h (subst (λ n. (domain : Domain) × Gives state n domain) (sym e) ((least.closed.consistent.is_state.variables (Global 0)).0 (omega arith)))
         | inr e ↦ h (subst (λ n. (domain : Domain) × Gives state n domain) (sym e) ((least.closed.consistent.is_state.variables (Global 1)).0 (omega arith)))
       ]
+      free WrongType h = h
       free Decided h = unset h.0 h.1
       free NotInDomain h = elim is [
         | inl e ↦ h (up_to 2, subst (λ n. HasBase (two_of items) n (Given (up_to 2))) (sym e) (declared_x, refl, refl), (omega (arith, ints), omega (arith, ints, few)))
@@ -260,7 +261,7 @@ two_collapses decisions c state p =
 low_least : IsLeast low_two [] (with_two (up_to 1) (up_to 2))
 low_least =
     reached_least (at_most_1 ∷ []) [] 1 (omega arith)
-    (reached_closed (at_most_1 ∷ []) [] 1 (omega arith) (no_decision (with_two (up_to 1) (up_to 2))) consistent)
+    (reached_closed (at_most_1 ∷ []) [] 1 (omega arith) (no_decision low_two (with_two (up_to 1) (up_to 2))) consistent)
     (λ other p domain gives v has. let values = (x_within (at_most_1 ∷ []) [] other p domain gives).values v has in let low = x_is_low [] other p domain gives v has in (values.0, omega (arith, ints, low)))
   where
     below_1 : (v : ℤ) → IsTested (up_to 1) v → v ≤ℤ pos 1

@@ -12,7 +12,7 @@ use Rattle.eu_name.specs.declared.name.VarName.TheVariants as variables
 use Rattle.model_core.specs.declared.class.Object as classes
 use Rattle.model_core.specs.declared.class.ObjectKind.TheVariants as kind
 use Rattle.model_core.specs.declared.class.PredKind.TheVariants as pred
-use Rattle.model_core.specs.declared.decision.Decision.TheVariants.{Specify, Activate, Merge, Reject, Order}
+use Rattle.model_core.specs.declared.decision.Decision.TheVariants.{Specify, Activate, Merge, Reject, Order, Constrain, Relate}
 use Rattle.model_core.specs.declared.model.Root.{Root}
 use Rattle.model_core.specs.declared.model.RootKind.{RootKind}
 use Rattle.model_core.specs.declared.model.RootKind.TheVariants.{Goal, Rejectable, Fact}
@@ -113,6 +113,8 @@ only_activation (Activate token) about admissible = ap Activate about
 only_activation (Merge token target) about admissible = absurd (admissible.free NotActive (inactive target))
 only_activation (Reject token) about admissible = absurd (admissible.free NotRejectable (no_rejectable token))
 only_activation (Order one other) about admissible = absurd about
+only_activation (Constrain kind arguments) about admissible = absurd about
+only_activation (Relate relation one other) about admissible = absurd about
 
 -- ---- the lines of the old plan
 

@@ -20,12 +20,12 @@ use Rattle.model_core.specs.Kinds.{IsObject}
 use Rattle.model_core.specs.State.{VarDomain, Gives, AreInOrder}
 use Rattle.model_core.specs.Variables.{HasBase}
 use Rattle.plan_defs.specs.Claims.{Claim, IsOfProblem}
-use Rattle.plan_defs.specs.Closure.{IsClosed, AreInBase, IsRespected}
+use Rattle.plan_defs.specs.Closure.{IsClosed, AreInBase}
 use Rattle.plan_defs.specs.Consistency.{IsClaimConsistent}
 use Rattle.eu_name.proofs.Ordered.{contains_cases, ordered_none, ordered_one, ordered_link}
 use Rattle.law_examples.specs.Globals.{problem_with, with_two}
 use Rattle.law_examples.proofs.Lists.{all_members, only_member}
-use Rattle.law_examples.proofs.Variables.{IsSpecify, by_name, closed}
+use Rattle.law_examples.proofs.Variables.{IsGranted, by_name, closed}
 
 pub gives_first : (one other : Domain) → Gives (with_two one other) (Global 0) one
 gives_first one other = (0, omega arith, refl)
@@ -59,9 +59,9 @@ module _ (classes : List Class) (objects : List Object) (v w : VarDecl) (items :
   abbrev model : Model
   model = problem_with classes objects (v ∷ w ∷ []) items
 
-  -- it is closed where both are in their bases, specified as decided, and the constraints consistent
+  -- it is closed where both are in their bases, the decisions granted, and the constraints consistent
   pub two_closed : IsDomain one → IsDomain other → IsWithin one base → IsWithin other other_base
-      → ((decision : Decision) → Contains decisions decision → IsSpecify decision × IsRespected decision (with_two one other))
+      → ((decision : Decision) → Contains decisions decision → IsGranted model (with_two one other) decision)
       → ((claim : Claim) → IsOfProblem model (IsTaken decisions) claim → IsClaimConsistent model (with_two one other) claim) → IsClosed model decisions (with_two one other)
   two_closed ok ok' within within' granted consistent =
       closed classes objects (v ∷ w ∷ []) items decisions (with_two one other).entries plain (entries_ordered one other) there named domains in_base granted consistent

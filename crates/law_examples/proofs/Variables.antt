@@ -1,6 +1,6 @@
 -- States of one variable.
 use Rattle.std.proofs.Common.{◌≡◌, ℕ, ◌<◌, List, [], ◌∷◌, ◌++◌, length, ℤ, pos, ◌≤ℤ◌, inl, inr, refl, sym, ap, ◌∙◌, subst, arith}
-use Rattle.std.specs.Prelude.{Contains, All, AllPairs, ⊤, ◌↔◌}
+use Rattle.std.specs.Prelude.{Contains, All, AllPairs, ◌↔◌}
 use Rattle.std.specs.List.{AllZip}
 use Rattle.std.proofs.lemmas.Int.{ints}
 use Rattle.domain_core.specs.Domain.{Domain, Range, IsDomain, IsWithin, IsTested, IsSingle}
@@ -11,7 +11,7 @@ use Rattle.model_core.specs.declared.class.Class.{Class}
 use Rattle.model_core.specs.declared.class.Object.{Object}
 use Rattle.model_core.specs.declared.class.ObjectKind.TheVariants as kind
 use Rattle.model_core.specs.declared.decision.Decision.{Decision}
-use Rattle.model_core.specs.declared.decision.Decision.TheVariants.{Specify, Merge, Order}
+use Rattle.model_core.specs.declared.decision.Decision.TheVariants.{Specify, Activate, Merge, Reject, Order, Constrain, Relate}
 use Rattle.model_core.specs.declared.item.Item.{Item}
 use Rattle.domain_core.specs.declared.kind.Kind.TheVariants.{Leq}
 use Rattle.model_core.specs.declared.item.Term.TheVariants as term
@@ -25,7 +25,7 @@ use Rattle.model_core.specs.Decided.{IsTaken}
 use Rattle.model_core.specs.Kinds.{IsObject}
 use Rattle.model_core.specs.State.{State, VarDomain, Gives, IsAbout}
 use Rattle.model_core.specs.Variables.{HasBase, IsInBase}
-use Rattle.plan_defs.specs.Claims.{Claim, IsClaim, IsOfProblem, ItemSays}
+use Rattle.plan_defs.specs.Claims.{Claim, IsClaim, IsOfProblem, ItemSays, Posts, posted_claim}
 use Rattle.plan_defs.specs.Closure.{IsClosed, AreInBase, IsRespected}
 use Rattle.plan_defs.specs.Consistency.{IsClaimConsistent, HasField}
 use Rattle.plan_defs.specs.Terms.{Value, Variable, Argument, Means, InProblem, HasDomain, ArgumentCounts}
@@ -34,10 +34,11 @@ use Rattle.law_examples.specs.Globals.{declared_x, problem_of, problem_with, fre
 use Rattle.law_examples.proofs.Lists.{all_members, only_member, same_some}
 use Rattle.law_examples.proofs.Tuples.{two_consistent}
 
--- the decision specifies a variable
-abbrev pub IsSpecify : Decision → Type 0
-IsSpecify (Specify name value) = ⊤
-IsSpecify decision = ⊥
+-- the state, which has no tokens, grants the decision: a specified variable has its value alone, and a posted constraint is consistent
+abbrev pub IsGranted : Model → State → Decision → Type 0
+IsGranted model state (Specify name value) = IsRespected (Specify name value) state
+IsGranted model state (Constrain kind arguments) = IsClaimConsistent model state (posted_claim kind arguments)
+IsGranted model state decision = ⊥
 
 abbrev pub by_name : VarDomain → VarDomain → Type 0
 by_name one later = IsVarBefore one.name later.name
@@ -51,12 +52,12 @@ module _ (classes : List Class) (objects : List Object) (globals : List VarDecl)
   abbrev state : State
   state = record { tokens = []; blocks = []; entries = entries }
 
-  -- a state of their variables is closed where these are in their bases, specified as decided, and the constraints consistent
+  -- a state of their variables is closed where these are in their bases, the decisions granted, and the constraints consistent
   pub closed : ((value : ℤ) (object : Object) → IsObject model value object → object.kind ≡ kind.Plain) → AllPairs by_name entries
       → ((number : ℕ) → number < length globals → (domain : Domain) × Gives state (Global number) domain)
       → ((name : VarName) (domain : Domain) → Gives state name domain → (number : ℕ) × (name ≡ Global number) × (number < length globals))
       → All (λ (entry : VarDomain). IsDomain entry.domain) entries
-      → AreInBase model state → ((decision : Decision) → Contains decisions decision → IsSpecify decision × IsRespected decision state)
+      → AreInBase model state → ((decision : Decision) → Contains decisions decision → IsGranted model state decision)
       → ((claim : Claim) → IsOfProblem model (IsTaken decisions) claim → IsClaimConsistent model state claim) → IsClosed model decisions state
   closed plain ordered there named domains in_base granted consistent = record {
     consistent = record {
@@ -70,7 +71,7 @@ module _ (classes : List Class) (objects : List Object) (globals : List VarDecl)
       tokens = λ token p. let none = p.is_root in absurd (cc);
       blocks = λ block entries p. let none = p.supported.is_root in absurd (cc);
       in_base = in_base;
-      respected = λ decision c. (granted decision c).1;
+      respected = λ decision c. respected decision (granted decision c);
       claims = claims;
       timelines = λ one other share late. let is_plain = plain share.timeline share.is_timeline.0 share.is_timeline.1 in let is_timeline = share.is_timeline.2 in absurd (cc);
     };
@@ -83,12 +84,31 @@ module _ (classes : List Class) (objects : List Object) (globals : List VarDecl)
       variables (Token token part) = (λ about. absurd (contains_none token about.0), λ found. let at = named (Token token part) found.0 found.1 in let e = at.1 in absurd (cc))
       variables (Local token rule number) = (λ about. absurd (contains_none about.block about.is_open), λ found. let at = named (Local token rule number) found.0 found.1 in let e = at.1 in absurd (cc))
 
+      respected : (decision : Decision) → IsGranted model state decision → IsRespected decision state
+      respected (Specify name value) is = is
+      respected (Constrain kind arguments) is = tt
+      respected (Activate token) is = absurd is
+      respected (Merge token target) is = absurd is
+      respected (Reject token) is = absurd is
+      respected (Order one other) is = absurd is
+      respected (Relate relation one other) is = absurd is
+
+      posted : (decision : Decision) (claim : Claim) → IsGranted model state decision → Posts decision claim → IsClaimConsistent model state claim
+      posted (Specify name value) claim is posts = absurd posts
+      posted (Constrain kind arguments) claim is posts = subst (IsClaimConsistent model state) (sym posts) is
+      posted (Activate token) claim is posts = absurd is
+      posted (Merge token target) claim is posts = absurd is
+      posted (Reject token) claim is posts = absurd is
+      posted (Order one other) claim is posts = absurd is
+      posted (Relate relation one other) claim is posts = absurd is
+
       claims : (claim : Claim) → IsClaim model decisions state claim → IsClaimConsistent model state claim
       claims claim (inl p) = consistent claim p
       claims claim (inr (inl p)) = absurd (contains_none p.block p.is_open)
       claims claim (inr (inr (inl p))) = absurd (contains_none p.token p.there)
-      claims claim (inr (inr (inr (inl p)))) = absurd (granted (Merge p.token p.target) p.merged).0
-      claims claim (inr (inr (inr (inr p)))) = absurd (granted (Order p.one p.other) p.ordered).0
+      claims claim (inr (inr (inr (inl p)))) = absurd (granted (Merge p.token p.target) p.merged)
+      claims claim (inr (inr (inr (inr (inl p))))) = absurd (granted (Order p.one p.other) p.ordered)
+      claims claim (inr (inr (inr (inr (inr p))))) = posted p.decision claim (granted p.decision p.stands) p.posts
 
 pub no_object : (globals : List VarDecl) (items : List Item) (value : ℤ) (object : Object) → IsObject (problem_of globals items) value object → object.kind ≡ kind.Plain
 no_object globals items value object is = let none = is.2 in absurd (cc)
@@ -111,7 +131,7 @@ up_to_domain number few = ((omega (arith, ints), omega (arith, ints)), (omega (a
 
 -- a state of x within its base is closed where the decisions are granted and the constraints consistent
 x_closed : (items : List Item) (decisions : List Decision) (number : ℕ) → number < 3
-    → ((decision : Decision) → Contains decisions decision → IsSpecify decision × IsRespected decision (with_x (up_to number)))
+    → ((decision : Decision) → Contains decisions decision → IsGranted (problem_of (declared_x ∷ []) items) (with_x (up_to number)) decision)
     → ((claim : Claim) → IsOfProblem (problem_of (declared_x ∷ []) items) (IsTaken decisions) claim → IsClaimConsistent (problem_of (declared_x ∷ []) items) (with_x (up_to number)) claim)
     → IsClosed (problem_of (declared_x ∷ []) items) decisions (with_x (up_to number))
 x_closed items decisions number few granted consistent =
@@ -126,8 +146,8 @@ x_closed items decisions number few granted consistent =
     ))
     granted consistent
 
-pub no_decision : (state : State) (decision : Decision) → Contains [] decision → IsSpecify decision × IsRespected decision state
-no_decision state decision c = absurd (contains_none decision c)
+pub no_decision : (model : Model) (state : State) (decision : Decision) → Contains [] decision → IsGranted model state decision
+no_decision model state decision c = absurd (contains_none decision c)
 
 pub no_item : (model : Model) (decisions : List Decision) (state : State) → model.problem.items ≡ [] → (claim : Claim) → IsOfProblem model (IsTaken decisions) claim → IsClaimConsistent model state claim
 no_item model decisions state none claim p = absurd (contains_none p.item (subst (λ list. Contains list p.item) none p.stands))
@@ -138,13 +158,13 @@ pub empty_closed : IsClosed (problem_of [] []) [] empty_state
 empty_closed =
     closed [] [] [] [] [] [] (no_object [] []) (ordered_none by_name) (λ number within. absurd (omega (arith, within))) (λ name domain gives. absurd (contains_none (record { name = name; domain = domain }) gives))
     (all_members _ [] (λ entry c. absurd (contains_none entry c))) (λ name domain gives. absurd (contains_none (record { name = name; domain = domain }) gives))
-    (no_decision empty_state) (no_item (problem_of [] []) [] empty_state refl)
+    (no_decision (problem_of [] []) empty_state) (no_item (problem_of [] []) [] empty_state refl)
 
 pub x_is_missing : IsClosed free_x [] empty_state → ⊥
 x_is_missing p = let found = (p.consistent.is_state.variables (Global 0)).0 (omega arith) in contains_none (record { name = Global 0; domain = found.0 }) found.1
 
 pub whole_closed : IsClosed free_x [] (with_x (up_to 2))
-whole_closed = x_closed [] [] 2 (omega arith) (no_decision (with_x (up_to 2))) (no_item free_x [] (with_x (up_to 2)) refl)
+whole_closed = x_closed [] [] 2 (omega arith) (no_decision free_x (with_x (up_to 2))) (no_item free_x [] (with_x (up_to 2)) refl)
 
 pub x_is_outside : IsClosed free_x [] (with_x (up_to 3)) → ⊥
 x_is_outside p =
@@ -158,8 +178,8 @@ x_is_outside p =
 pub granted_closed : IsClosed free_x (Specify (Global 0) (pos 0) ∷ []) (with_x (up_to 0))
 granted_closed =
     x_closed [] (Specify (Global 0) (pos 0) ∷ []) 0 (omega arith)
-    (λ decision c. subst (λ d. IsSpecify d × IsRespected d (with_x (up_to 0))) (only_member (Specify (Global 0) (pos 0)) decision c)
-    (tt, λ domain gives. subst (λ d. IsSingle d (pos 0)) (is_x (up_to 0) (Global 0) domain gives).1 (record { has = (omega (arith, ints), omega (arith, ints)); only = λ v has. omega (arith, ints, has.0, has.1) })))
+    (λ decision c. subst (IsGranted free_x (with_x (up_to 0))) (only_member (Specify (Global 0) (pos 0)) decision c)
+    (λ domain gives. subst (λ d. IsSingle d (pos 0)) (is_x (up_to 0) (Global 0) domain gives).1 (record { has = (omega (arith, ints), omega (arith, ints)); only = λ v has. omega (arith, ints, has.0, has.1) })))
     (no_item free_x (Specify (Global 0) (pos 0) ∷ []) (with_x (up_to 0)) refl)
 
 pub x_is_not_granted : IsClosed free_x (Specify (Global 0) (pos 0) ∷ []) (with_x (up_to 2)) → ⊥
@@ -205,7 +225,7 @@ low_consistent = record {
 
 pub low_closed : IsClosed low_x [] (with_x (up_to 1))
 low_closed =
-    x_closed (at_most_1 ∷ []) [] 1 (omega arith) (no_decision (with_x (up_to 1)))
+    x_closed (at_most_1 ∷ []) [] 1 (omega arith) (no_decision low_x (with_x (up_to 1)))
     (λ claim p. subst (IsClaimConsistent low_x (with_x (up_to 1))) (sym (claim_same [] claim p)) low_consistent)
 
 -- 2 isn't at most any number from 1 to 1

@@ -8,3 +8,4 @@ pub mod Swaps
 pub mod Plans
 pub mod Searched
 pub mod Flaws
+pub mod Posted

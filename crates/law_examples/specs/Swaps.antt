@@ -2,7 +2,7 @@
 use Rattle.std.specs.Prelude.{◌≡◌, ℤ, pos, List, [], ◌∷◌, false}
 use Rattle.eu_name.specs.declared.name.TokenName.{TokenName}
 use Rattle.model_core.specs.declared.decision.Decision.{Decision}
-use Rattle.model_core.specs.declared.decision.Decision.TheVariants.{Specify, Activate, Merge, Reject, Order}
+use Rattle.model_core.specs.declared.decision.Decision.TheVariants.{Specify, Activate, Merge, Reject, Order, Constrain, Relate}
 use Rattle.model_core.specs.Tokens.{root_token}
 use Rattle.plan_defs.specs.declared.plan.Line.TheVariants as lines
 use Rattle.plan_defs.specs.declared.plan.Plan.{Plan}
@@ -35,6 +35,8 @@ IsAboutToken token (Activate other) = other ≡ token
 IsAboutToken token (Merge other target) = other ≡ token
 IsAboutToken token (Reject other) = other ≡ token
 IsAboutToken token (Order one other) = ⊥
+IsAboutToken token (Constrain kind arguments) = ⊥
+IsAboutToken token (Relate relation one other) = ⊥
 
 -- as long as nothing is decided, this is all that can be decided of the token
 abbrev pub IsOnlyChoice : TokenName → Decision → Type 0

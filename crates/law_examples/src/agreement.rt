@@ -2,11 +2,14 @@
 
 ghost use Rattle.std.specs.Prelude.{[], ◌∷◌, pos};
 ghost use Rattle.model_core.specs.declared.class.ObjectKind.TheVariants.{Plain};
+ghost use Rattle.model_core.specs.declared.decision.ConArg.TheVariants.{Value};
 ghost use Rattle.model_core.specs.declared.decision.Decision.TheVariants.{Activate, Merge, Reject, Order};
+ghost use Rattle.model_core.specs.declared.item.Rel.TheVariants as rel;
 ghost use Rattle.plan_defs.specs.Broken.{AgreesWith};
 ghost use Rattle.law_examples.specs.Cases.{two_facts, battery, quantity_is};
 ghost use Rattle.law_examples.specs.Globals.{free_x};
 ghost use Rattle.law_examples.specs.Plans.{values_alone, facts_with, taking_out};
+ghost use Rattle.law_examples.specs.Posted.{the_x, leq, relate_them};
 ghost use Rattle.law_examples.specs.Refused.{two_goals};
 ghost use Rattle.law_examples.specs.Swaps.{g, gg, old};
 ghost use Rattle.law_examples.specs.Worlds.{x_is};
@@ -35,6 +38,15 @@ pub fn plans_agree_with_what_they_say()
     ensures ordered { AgreesWith (two_facts Plain) (facts_with 5) (Order g gg ∷ []) }
     ensures overlapping { AgreesWith (two_facts Plain) (facts_with 4) (Order g gg ∷ []) → ⊥ }
     ensures turned { AgreesWith (two_facts Plain) (facts_with 5) (Order gg g ∷ []) → ⊥ }
+    // A constraint holds of the values of its variables, each of which has one.
+    ensures constrained { AgreesWith free_x (values_alone (pos 0 ∷ [])) (leq the_x (Value (pos 1)) ∷ []) }
+    ensures other_constraint { AgreesWith free_x (values_alone (pos 0 ∷ [])) (leq (Value (pos 1)) the_x ∷ []) → ⊥ }
+    ensures without_value { AgreesWith free_x (values_alone []) (leq the_x (Value (pos 1)) ∷ []) → ⊥ }
+    // A relation holds between two tokens that have values, their own or those of a target, even if it says nothing of them.
+    ensures related { AgreesWith (two_facts Plain) (facts_with 5) (relate_them rel.Before ∷ []) }
+    ensures unrelated { AgreesWith (two_facts Plain) (facts_with 4) (relate_them rel.Before ∷ []) → ⊥ }
+    ensures any { AgreesWith two_goals old (relate_them rel.Any ∷ []) }
+    ensures any_of_rejected { AgreesWith battery (taking_out 5) (relate_them rel.Any ∷ []) → ⊥ }
     // One decision that isn't true is enough.
     ensures both { AgreesWith two_goals old (Merge g gg ∷ Activate gg ∷ []) }
     ensures only_one { AgreesWith two_goals old (Merge g gg ∷ Activate g ∷ []) → ⊥ }

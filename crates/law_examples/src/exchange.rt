@@ -3,12 +3,15 @@
 ghost use Rattle.std.specs.Prelude.{◌≡◌, [], ◌∷◌, pos};
 ghost use Rattle.eu_name.specs.declared.name.Part.TheVariants.{Start};
 ghost use Rattle.eu_name.specs.declared.name.VarName.TheVariants as variables;
-ghost use Rattle.model_core.specs.declared.decision.Decision.TheVariants.{Specify, Activate, Merge};
+ghost use Rattle.model_core.specs.declared.decision.ConArg.TheVariants.{Var, Value};
+ghost use Rattle.model_core.specs.declared.decision.Decision.TheVariants.{Specify, Activate, Merge, Relate};
+ghost use Rattle.model_core.specs.declared.item.Rel.TheVariants.{Before};
 ghost use Rattle.model_core.specs.Tokens.{slot_token};
 ghost use Rattle.plan_defs.specs.declared.plan.Line.TheVariants as lines;
 ghost use Rattle.plan_defs.specs.Broken.{AgreesWith};
 ghost use Rattle.plan_defs.specs.Plans.{IsPlanOf};
 ghost use Rattle.plan_defs.specs.Valid.{IsValid};
+ghost use Rattle.law_examples.specs.Posted.{leq};
 ghost use Rattle.law_examples.specs.Refused.{two_goals};
 ghost use Rattle.law_search.specs.SwapLaws.{MayChangePlaces, count_of_tokens};
 ghost use Rattle.law_search.specs.Swapping.{IsSwap};
@@ -48,10 +51,14 @@ pub fn locals_and_slots_stand_under_a_token()
     ensures slot_part { NamesUnder g (Specify (variables.Token (slot_token g 0 0) Start) (pos 0)) }
     ensures slot { NamesUnder g (Merge (slot_token g 0 0) gg) }
     ensures target { NamesUnder g (Merge gg (slot_token g 0 0)) }
+    ensures argument { NamesUnder g (leq (Value (pos 0)) (Var (variables.Local g 0 0))) }
+    ensures related_slot { NamesUnder g (Relate Before gg (slot_token g 0 0)) }
     // It may name `g`, a part of `g`, or a slot of `gg`.
     ensures itself { NamesUnder g (Activate g) → ⊥ }
     ensures part { NamesUnder g (Specify (variables.Token g Start) (pos 0)) → ⊥ }
     ensures other_slot { NamesUnder g (Activate (slot_token gg 0 0)) → ⊥ }
+    ensures part_as_argument { NamesUnder g (leq (Value (pos 0)) (Var (variables.Token g Start))) → ⊥ }
+    ensures related { NamesUnder g (Relate Before g gg) → ⊥ }
     // Lines go by their own names, and not by those of targets.
     ensures local_line { IsLineUnder g (lines.Local (variables.Local g 0 0) (pos 0)) }
     ensures slot_line { IsLineUnder g (lines.Merged (slot_token g 0 0) gg) }

@@ -4,10 +4,11 @@
 ghost use Rattle.std.specs.Prelude.{[], ◌∷◌, pos};
 ghost use Rattle.eu_name.specs.declared.name.VarName.TheVariants.{Global};
 ghost use Rattle.model_core.specs.declared.decision.Decision.TheVariants.{Specify};
-ghost use Rattle.plan_defs.specs.Closure.{IsClosed, IsCollapsed};
+ghost use Rattle.plan_defs.specs.Closure.{IsClosed, IsCollapsed, IsLeast};
 ghost use Rattle.law_examples.specs.Globals.{problem_of, free_x, low_x, empty_state, with_x, with_two, up_to};
+ghost use Rattle.law_examples.specs.Posted.{the_x, the_y, leq};
 ghost use Rattle.law_examples.specs.Scenes.{the_object, both_objects};
-ghost use Rattle.law_examples.specs.Worlds.{no_choice, one_choice, fielded, between};
+ghost use Rattle.law_examples.specs.Worlds.{no_choice, one_choice, fielded, free_two, between, x_is};
 
 /// A state has each variable of the problem.
 pub fn a_state_has_all_variables()
@@ -31,6 +32,13 @@ pub fn decisions_are_granted()
 pub fn claims_are_consistent()
     ensures consistent { IsClosed low_x [] (with_x (up_to 1)) }
     ensures inconsistent { IsClosed low_x [] (with_x (up_to 2)) → ⊥ }
+{}
+
+/// So is what a decision posts: where x is 1, and is to be at most y, y can't be 0.
+pub fn posted_constraints_narrow()
+    ensures narrowed { IsLeast free_two (x_is 1 ∷ leq the_x the_y ∷ []) (with_two (between 1 1) (between 1 2)) }
+    ensures wide { IsClosed free_two (x_is 1 ∷ leq the_x the_y ∷ []) (with_two (between 1 1) (up_to 2)) → ⊥ }
+    ensures unposted { IsClosed free_two (x_is 1 ∷ []) (with_two (between 1 1) (up_to 2)) }
 {}
 
 /// Where a variable may be nothing from the start no state is closed.

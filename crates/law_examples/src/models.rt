@@ -8,6 +8,7 @@ ghost use Rattle.law_examples.specs.Cases.{lone_goal, ruled, localised, two_fact
 ghost use Rattle.law_examples.specs.Cases.{limited};
 ghost use Rattle.law_examples.specs.Globals.{problem_of, free_x, low_x};
 ghost use Rattle.law_examples.specs.Plans.{localised_rejectable};
+ghost use Rattle.law_examples.specs.Posted.{typed};
 ghost use Rattle.law_examples.specs.Refused.{alone, two_goals, mixed, many_roots};
 ghost use Rattle.law_examples.specs.Searched.{halved};
 ghost use Rattle.law_examples.specs.Worlds.{no_choice, one_choice, fielded, free_two, low_two};
@@ -19,6 +20,7 @@ pub fn problems_of_variables_are_lawful()
     ensures low { IsLawful low_x }
     ensures free_two { IsLawful free_two }
     ensures low_two { IsLawful low_two }
+    ensures typed { IsLawful typed }
     ensures void { IsLawful no_choice }
     ensures given { IsLawful one_choice }
     ensures field { IsLawful fielded }

@@ -1,13 +1,17 @@
 //! Tokens of one predicate on two objects of one kind.
 
-ghost use Rattle.std.specs.Prelude.{[], ◌∷◌};
+ghost use Rattle.std.specs.Prelude.{[], ◌∷◌, pos};
 ghost use Rattle.model_core.specs.declared.class.ObjectKind.TheVariants.{Plain, Timeline};
+ghost use Rattle.model_core.specs.declared.decision.ConArg.TheVariants.{Value};
+ghost use Rattle.model_core.specs.declared.item.Rel.TheVariants.{Before};
 ghost use Rattle.model_core.specs.declared.model.RootKind.TheVariants.{Fact, Rejectable};
 ghost use Rattle.plan_defs.specs.Closure.{IsClosed};
 ghost use Rattle.law_examples.specs.Cases.{short, early, late, using, lone_goal, ruled, two_facts, tool};
-ghost use Rattle.law_examples.specs.Cases.{battery, drained, activated, rejected};
+ghost use Rattle.law_examples.specs.Cases.{battery, drained, activated, rejected, activate_it};
 ghost use Rattle.law_examples.specs.Cases.{moment, either, limited, localised, goal_and_fact, merged, ordered};
 ghost use Rattle.law_examples.specs.Globals.{empty_state, up_to};
+ghost use Rattle.law_examples.specs.Posted.{the_quantity, leq, relate_them};
+ghost use Rattle.law_examples.specs.Refused.{alone, two_goals};
 ghost use Rattle.law_examples.specs.Scenes.{exactly, scene_state, top_block, then_block, otherwise_block, local_state};
 
 /// A state has each token that is asked for: here a goal.
@@ -52,6 +56,13 @@ pub fn rejectables_count_once_taken()
     ensures fact { IsClosed (limited Fact) [] (scene_state [] (moment 0 1 2 ∷ [])) → ⊥ }
 {}
 
+/// So it is with a posted constraint.
+pub fn posted_constraints_count_once_taken()
+    ensures untaken { IsClosed (alone Rejectable) (leq the_quantity (Value (pos 1)) ∷ []) (scene_state [] (moment 0 1 2 ∷ [])) }
+    ensures taken { IsClosed (alone Rejectable) (activate_it ∷ leq the_quantity (Value (pos 1)) ∷ []) (scene_state [] (moment 0 1 2 ∷ [])) → ⊥ }
+    ensures kept { IsClosed (alone Rejectable) (activate_it ∷ leq the_quantity (Value (pos 1)) ∷ []) (scene_state [] (moment 0 1 1 ∷ [])) }
+{}
+
 /// A merged token has the times of its target, and its parameters too.
 pub fn merged_tokens_are_alike()
     ensures alike { IsClosed goal_and_fact merged (scene_state [] (moment 0 5 2 ∷ moment 0 5 2 ∷ [])) }
@@ -67,6 +78,13 @@ pub fn ordered_tokens_follow()
     ensures overlapping { IsClosed (two_facts Plain) ordered (scene_state [] (moment 0 5 0 ∷ moment 4 3 0 ∷ [])) → ⊥ }
     ensures after { IsClosed (two_facts Plain) ordered (scene_state [] (moment 5 3 0 ∷ moment 0 5 0 ∷ [])) → ⊥ }
     ensures unordered { IsClosed (two_facts Plain) [] (scene_state [] (moment 5 3 0 ∷ moment 0 5 0 ∷ [])) }
+{}
+
+/// A posted relation holds between its tokens, which needn't be active.
+pub fn posted_relations_hold()
+    ensures before { IsClosed two_goals (relate_them Before ∷ []) (scene_state [] (moment 0 5 0 ∷ moment 5 3 0 ∷ [])) }
+    ensures overlapping { IsClosed two_goals (relate_them Before ∷ []) (scene_state [] (moment 0 5 0 ∷ moment 4 3 0 ∷ [])) → ⊥ }
+    ensures unrelated { IsClosed two_goals [] (scene_state [] (moment 0 5 0 ∷ moment 4 3 0 ∷ [])) }
 {}
 
 /// Tokens on one timeline don't overlap: what lasts from 0 to 5 can't end before 4, so the other token would have

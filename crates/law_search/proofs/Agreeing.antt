@@ -1,16 +1,19 @@
 -- Which tokens may change places, and what the plan agrees with in which they have.
 use Rattle.std.proofs.Common.{◌≡◌, ℕ, zero, suc, ◌≤◌, inl, inr, ℤ, Bool, true, false, List, [], ◌∷◌, ◌++◌, length, Some, refl, sym, ap, ◌∙◌, subst, append_assoc, arith}
-use Rattle.std.specs.Prelude.{AllPairs, Contains, slice_get}
+use Rattle.std.specs.Prelude.{All, AllPairs, Contains, slice_get}
+use Rattle.std.specs.List.{AllZip}
 use Rattle.std.proofs.lemmas.List.{append-nil, length-append, length-map}
-use Rattle.std.proofs.lemmas.List.Elements.{All-contains, Contains-push_cases}
+use Rattle.std.proofs.lemmas.List.Elements.{All-head, All-tail, All-map, All-weaker, All-contains, Contains-push_cases}
 use Rattle.std.proofs.lemmas.List.Sorted.{length_permutation}
 use Rattle.eu_name.specs.declared.name.Part.TheVariants.{Start, End}
 use Rattle.eu_name.specs.declared.name.Step.{Step}
 use Rattle.eu_name.specs.declared.name.TokenName.{TokenName}
 use Rattle.eu_name.specs.declared.name.VarName.{VarName}
 use Rattle.eu_name.specs.declared.name.VarName.TheVariants as names
+use Rattle.model_core.specs.declared.decision.ConArg.{ConArg}
+use Rattle.model_core.specs.declared.decision.ConArg.TheVariants.{Var, Value}
 use Rattle.model_core.specs.declared.decision.Decision.{Decision}
-use Rattle.model_core.specs.declared.decision.Decision.TheVariants.{Specify, Activate, Merge, Reject, Order}
+use Rattle.model_core.specs.declared.decision.Decision.TheVariants.{Specify, Activate, Merge, Reject, Order, Constrain, Relate}
 use Rattle.model_core.specs.declared.model.Model.{Model}
 use Rattle.model_core.specs.Decided.{IsActivated, IsActive}
 use Rattle.model_core.specs.declared.model.RootKind.{RootKind}
@@ -23,17 +26,20 @@ use Rattle.plan_defs.specs.declared.plan.Line.TheVariants as lines
 use Rattle.plan_defs.specs.declared.plan.Place.TheVariants as places
 use Rattle.plan_defs.specs.declared.plan.Plan.{Plan}
 use Rattle.plan_defs.specs.Broken.{AgreesWith, IsTrueIn}
-use Rattle.plan_defs.specs.Plans.{IsLineBefore, IsPlanOf, IsLineOf, IsLocalValue, IsActivatedIn, IsTakenIn, GivesValue}
+use Rattle.plan_defs.specs.Claims.{Claim, argument_of, posted_claim}
+use Rattle.plan_defs.specs.Plans.{IsLineBefore, IsPlanOf, IsLineOf, IsLocalValue, TakesPlaceWith, HasValues, IsActivatedIn, IsTakenIn, GivesValue}
 use Rattle.plan_defs.specs.Support.{front_token}
-use Rattle.plan_defs.specs.Valid.{IsValid, IsAsked, IsAskedToken, SuitsMerge, EndsBy, Becomes}
+use Rattle.plan_defs.specs.Terms.{Argument}
+use Rattle.plan_defs.specs.Valid.{IsValid, HasArgumentValue, IsClaimTrue, IsAsked, IsAskedToken, SuitsMerge, EndsBy, Becomes}
 use Rattle.plan_defs.proofs.Closing.{last_step}
+use Rattle.plan_defs.proofs.Counting.{relates_all}
 use Rattle.eu_name.proofs.Members.{get_from_contains, contains_from_get}
 use Rattle.plan_defs.proofs.Members.{all_from_get}
 use Rattle.plan_defs.proofs.Saying.{own_or_merged, own_or_rejected, merged_or_rejected, fact_or_not}
 use Rattle.law_search.specs.Swapping.{IsSwap, token_under, swapped_token, swapped_name, swapped_line}
-use Rattle.law_search.specs.SwapLaws.{StandsUnderActive, IsGrounded, MayChangePlaces, IsLineAbout, StandApart, SwapsWell}
+use Rattle.law_search.specs.SwapLaws.{StandsUnderActive, IsOfActive, IsArgumentOfActive, IsGrounded, MayChangePlaces, IsLineAbout, StandApart, SwapsWell}
 use Rattle.law_search.proofs.Renaming.{stands}
-use Rattle.law_search.proofs.Having.{HaveSwapped, KeepsValues, moved, came, values_moved, values_kept, activated_moved, new_takes}
+use Rattle.law_search.proofs.Having.{HaveSwapped, KeepsValues, moved, came, values_moved, values_kept, activated_moved, new_takes, new_merged}
 use Rattle.law_search.proofs.Claims.{at_most_moved}
 use Rattle.law_search.proofs.Declaring.{slot_moved}
 use Rattle.law_search.proofs.Keeping.{globals_kept, roots_kept, tokens_kept, merges_kept, open_kept, asked_kept, items_kept, timelines_kept}
@@ -261,12 +267,55 @@ module _ (model : Model) (decisions : List Decision) (plan : Plan) (one other : 
     activated_keeps_name : (token : TokenName) → StandsUnderActive decisions token → IsActivated decisions token → swapped_token one other token ≡ token
     activated_keeps_name token under activated = active_keeps_name token under (inr activated)
 
+    -- ---- values
+
+    gives_still : (name : VarName) → IsOfActive decisions name → (value : ℤ) → GivesValue plan name value → GivesValue new name value
+    gives_still (names.Global number) of value gives = values_moved model plan new one other has (names.Global number) value gives
+    gives_still (names.Token token part) of value gives = values_kept model plan new one other has token (keeps token of) part value gives
+    gives_still (names.Local token rule number) of value gives =
+        subst (λ (t : TokenName). GivesValue new (names.Local t rule number) value) (activated_keeps_name token of.1 of.0)
+        (values_moved model plan new one other has (names.Local token rule number) value gives)
+
+    -- the argument still has in the new plan what it had
+    abbrev HasStill : Argument → Type 0
+    HasStill argument = (value : ℤ) → HasArgumentValue plan argument value → HasArgumentValue new argument value
+
+    keeps_value : (argument : ConArg) → IsArgumentOfActive decisions argument → HasStill (argument_of argument)
+    keeps_value (Var name) of = gives_still name of
+    keeps_value (Value given) of = λ value is. is
+
+    values_still : (arguments : List Argument) (values : List ℤ) → All HasStill arguments → AllZip (HasArgumentValue plan) arguments values
+        → AllZip (HasArgumentValue new) arguments values
+    values_still [] [] keep have = have
+    values_still [] (value ∷ values) keep have = absurd have
+    values_still (argument ∷ arguments) [] keep have = absurd have
+    values_still (argument ∷ arguments) (value ∷ values) keep have =
+        (All-head HasStill argument arguments keep value have.0, values_still arguments values (All-tail HasStill argument arguments keep) have.1)
+
+    claim_still : (claim : Claim) → All HasStill claim.arguments → IsClaimTrue model plan claim → IsClaimTrue model new claim
+    claim_still claim keep is = record { values = is.values; have = values_still claim.arguments is.values keep is.have; holds = is.holds }
+
+    -- a token that has values has some in the new plan too
+    has_values_still : (token : TokenName) → KeepsValues one other token → HasValues plan token → HasValues new token
+    has_values_still token (inl stays) have = subst (λ (t : TokenName). HasValues new t) stays (has_values_moved have)
+      where
+        takes_moved : (t : TokenName) (values : List ℤ) → TakesPlaceWith plan t values → TakesPlaceWith new (swapped_token one other t) values
+        takes_moved t values its = (its.0, moved model plan new one other has (lines.Token t its.0 values) its.1)
+
+        has_values_moved : HasValues plan token → HasValues new (swapped_token one other token)
+        has_values_moved (inl own) = inl (own.0, takes_moved token own.0 own.1)
+        has_values_moved (inr its) =
+            inr (swapped_token one other its.0, moved model plan new one other has (lines.Merged token its.0) its.1, (its.2.0, takes_moved its.0 its.2.0 its.2.1))
+    has_values_still token (inr (inl is)) have =
+        subst (λ (t : TokenName). HasValues new t) (sym is) (inl (has.values, (false, new_takes model plan new one other has)))
+    has_values_still token (inr (inr is)) have =
+        subst (λ (t : TokenName). HasValues new t) (sym is)
+        (inr (one, new_merged model plan new one other has, (has.values, (false, new_takes model plan new one other has))))
+
+    -- ---- decisions
+
     true_still : (decision : Decision) → Contains decisions decision → IsGrounded model decisions decision → IsTrueIn model plan decision → IsTrueIn model new decision
-    true_still (Specify (names.Global number) value) there grounded is = values_moved model plan new one other has (names.Global number) value is
-    true_still (Specify (names.Token token part) value) there grounded is = values_kept model plan new one other has token (keeps token grounded) part value is
-    true_still (Specify (names.Local token rule number) value) there grounded is =
-        subst (λ (t : TokenName). GivesValue new (names.Local t rule number) value) (activated_keeps_name token grounded.1 grounded.0)
-        (values_moved model plan new one other has (names.Local token rule number) value is)
+    true_still (Specify name value) there grounded is = gives_still name grounded value is
     true_still (Activate token) there grounded is =
         subst (λ (t : TokenName). IsActivatedIn new t) (activated_keeps_name token grounded there) (activated_moved model plan new one other has token is)
     true_still (Merge token target) there grounded is =
@@ -285,6 +334,16 @@ module _ (model : Model) (decisions : List Decision) (plan : Plan) (one other : 
         subst (λ (t : TokenName). EndsBy model new t b) (active_keeps_name a grounded.0.0 grounded.0.1)
         (subst (λ (t : TokenName). EndsBy model new (swapped_token one other a) t) (active_keeps_name b grounded.1.0 grounded.1.1)
         (at_most_moved model plan new one other has a b End Start is))
+    true_still (Constrain kind arguments) there grounded is =
+        claim_still (posted_claim kind arguments)
+        (All-map HasStill argument_of arguments (All-weaker (IsArgumentOfActive decisions) (λ argument. HasStill (argument_of argument)) keeps_value arguments grounded)) is
+    true_still (Relate relation a b) there grounded is = record {
+      one_has = has_values_still a (keeps a grounded.0) is.one_has;
+      other_has = has_values_still b (keeps b grounded.1) is.other_has;
+      holds = λ claim says. claim_still claim
+          (relates_all HasStill a b (λ part. gives_still (names.Token a part) grounded.0) (λ part. gives_still (names.Token b part) grounded.1) relation claim says)
+          (is.holds claim says);
+    }
 
     pub agrees_still : AgreesWith model new (decisions ++ Activate one ∷ [])
     agrees_still decision there = elim (Contains-push_cases decisions (Activate one) decision there) [

@@ -1,17 +1,17 @@
 -- Settled lists name what is there by them, and so do their least states.
-use Rattle.std.proofs.Common.{◌≡◌, ℕ, ◌⊎◌, inl, inr, ⊎_elim, List, [], ◌∷◌, ◌++◌, Option, Some, None, refl, sym, ap, ◌∙◌, subst}
+use Rattle.std.proofs.Common.{◌≡◌, ℕ, inl, inr, ⊎_elim, List, [], ◌∷◌, ◌++◌, Option, Some, None, refl, sym, ap, ◌∙◌, subst}
 use Rattle.std.specs.Prelude.{Contains, slice_get}
 use Rattle.std.proofs.lemmas.List.{append-nil}
-use Rattle.std.proofs.lemmas.List.Elements.{All-contains, Contains-push_cases, Contains-append_left}
+use Rattle.std.proofs.lemmas.List.Elements.{All-contains, All-weaker, Contains-push_cases, Contains-append_left}
 use Rattle.domain_core.specs.Domain.{Domain}
 use Rattle.eu_name.specs.declared.name.Step.{Step}
 use Rattle.eu_name.specs.declared.name.TokenName.{TokenName}
 use Rattle.eu_name.specs.declared.name.VarName.{VarName}
 use Rattle.eu_name.specs.declared.name.VarName.TheVariants as names
-use Rattle.eu_name.specs.NameOrder.{IsTokenBefore}
-use Rattle.eu_name.proofs.Orders.{token_order}
+use Rattle.model_core.specs.declared.decision.ConArg.{ConArg}
+use Rattle.model_core.specs.declared.decision.ConArg.TheVariants.{Var, Value}
 use Rattle.model_core.specs.declared.decision.Decision.{Decision}
-use Rattle.model_core.specs.declared.decision.Decision.TheVariants.{Specify, Activate, Merge, Reject, Order}
+use Rattle.model_core.specs.declared.decision.Decision.TheVariants.{Specify, Activate, Merge, Reject, Order, Constrain, Relate}
 use Rattle.model_core.specs.declared.model.Model.{Model}
 use Rattle.model_core.specs.declared.model.Root.{Root}
 use Rattle.model_core.specs.declared.model.RootKind.{RootKind}
@@ -20,26 +20,18 @@ use Rattle.model_core.specs.Decided.{IsActivated, IsActive}
 use Rattle.model_core.specs.State.{State, Gives, IsBlockOf}
 use Rattle.model_core.specs.Tokens.{IsFact}
 use Rattle.plan_defs.specs.Closure.{IsLeast}
-use Rattle.plan_defs.specs.Refusals.{IsAdmissible}
+use Rattle.plan_defs.specs.Refusals.{IsArgumentKnown, IsKnown, NeedsActive, IsAdmissible}
 use Rattle.model_core.specs.declared.refusal.Refusal.TheVariants.{Unknown, NotActive}
 use Rattle.plan_defs.specs.Settling.{SettlesAfter, IsSettled}
 use Rattle.plan_defs.specs.Support.{front_token}
+use Rattle.plan_defs.proofs.Counting.{not_impossible}
+use Rattle.plan_defs.proofs.Knowing.{IsOrNot, same_token, known_or_not}
 use Rattle.eu_name.proofs.Ordered.{contains_head, contains_later, contains_cases, contains_none}
-use Rattle.law_search.specs.SwapLaws.{StandsUnderActive, IsOfActive, IsGrounded}
+use Rattle.law_search.specs.SwapLaws.{StandsUnderActive, IsOfActive, IsArgumentOfActive, IsGrounded}
 use Rattle.law_search.proofs.Pruning.{token_kept, given_kept}
 use Rattle.law_search.proofs.Leasts.{low_closed}
 
 -- ---- whether a token is activated, and active
-
-abbrev pub IsOrNot : Type 0 → Type 0
-IsOrNot P = P ⊎ (P → ⊥)
-
-same_token : (a b : TokenName) → IsOrNot (a ≡ b)
-same_token a b = elim (token_order.total a b) [
-  | inl before ↦ inr (λ same. token_order.irreflexive b (subst (λ (t : TokenName). IsTokenBefore t b) same before))
-  | inr (inl same) ↦ inl same
-  | inr (inr behind) ↦ inr (λ same. token_order.irreflexive b (subst (λ (t : TokenName). IsTokenBefore b t) same behind))
-]
 
 activates : (token : TokenName) (decision : Decision) → IsOrNot (decision ≡ Activate token)
 activates token (Specify name value) = inr (λ same. cc)
@@ -53,6 +45,8 @@ activates token (Activate other) = elim (same_token other token) [
 activates token (Merge other target) = inr (λ same. cc)
 activates token (Reject other) = inr (λ same. cc)
 activates token (Order one other) = inr (λ same. cc)
+activates token (Constrain kind arguments) = inr (λ same. cc)
+activates token (Relate relation one other) = inr (λ same. cc)
 
 activated_or_not : (decisions : List Decision) (token : TokenName) → IsOrNot (IsActivated decisions token)
 activated_or_not [] token = inr (λ there. contains_none (Activate token) there)
@@ -100,15 +94,6 @@ active_or_not model decisions token = elim (fact_or_not model token) [
   ]
 ]
 
--- what isn't impossible is so, where it can be told
-not_impossible : {P : Type 0} → IsOrNot P → ((P → ⊥) → ⊥) → P
-not_impossible (inl is) possible = is
-not_impossible (inr not) possible = absurd (possible not)
-
-stands_if_possible : (decisions : List Decision) (token : TokenName) → ((StandsUnderActive decisions token → ⊥) → ⊥) → StandsUnderActive decisions token
-stands_if_possible decisions token possible front step back are =
-    not_impossible (activated_or_not decisions (front_token token front)) (λ not. possible (λ stands. not (stands front step back are)))
-
 active_if_possible : (model : Model) (decisions : List Decision) (token : TokenName) → ((IsActive model decisions token → ⊥) → ⊥) → IsActive model decisions token
 active_if_possible model decisions token possible = not_impossible (active_or_not model decisions token) possible
 
@@ -155,6 +140,10 @@ of_active_longer kept decision (names.Global number) is = tt
 of_active_longer kept decision (names.Token token part) is = stands_longer kept decision token is
 of_active_longer kept decision (names.Local token rule number) is = (Contains-append_left kept (decision ∷ []) _ is.0, stands_longer kept decision token is.1)
 
+argument_longer : (kept : List Decision) (decision : Decision) (argument : ConArg) → IsArgumentOfActive kept argument → IsArgumentOfActive (kept ++ decision ∷ []) argument
+argument_longer kept decision (Var name) is = of_active_longer kept decision name is
+argument_longer kept decision (Value value) is = tt
+
 grounded_longer : (model : Model) (kept : List Decision) (last decision : Decision) → IsGrounded model kept decision → IsGrounded model (kept ++ last ∷ []) decision
 grounded_longer model kept last (Specify name value) is = of_active_longer kept last name is
 grounded_longer model kept last (Activate token) is = stands_longer kept last token is
@@ -163,42 +152,37 @@ grounded_longer model kept last (Merge token target) is =
 grounded_longer model kept last (Reject token) is = stands_longer kept last token is
 grounded_longer model kept last (Order one other) is =
     ((stands_longer kept last one is.0.0, active_longer model kept last one is.0.1), (stands_longer kept last other is.1.0, active_longer model kept last other is.1.1))
+grounded_longer model kept last (Constrain kind arguments) is =
+    All-weaker (IsArgumentOfActive kept) (IsArgumentOfActive (kept ++ last ∷ [])) (argument_longer kept last) arguments is
+grounded_longer model kept last (Relate relation one other) is = (stands_longer kept last one is.0, stands_longer kept last other is.1)
 
 module _ (model : Model) (kept : List Decision) (grounded : (decision : Decision) → Contains kept decision → IsGrounded model kept decision) where
-  token_stands : (state : State) → IsLeast model kept state → (token : TokenName) → ((Contains state.tokens token → ⊥) → ⊥) → StandsUnderActive kept token
-  token_stands state least token known =
-      stands_if_possible kept token (λ not. known (λ there. not (tokens_stand model kept state grounded least token there)))
+  module _ (state : State) (least : IsLeast model kept state) where
+    token_stands : (token : TokenName) → Contains state.tokens token → StandsUnderActive kept token
+    token_stands = tokens_stand model kept state grounded least
 
-  variable_stands : (state : State) → IsLeast model kept state → (name : VarName) → ((((domain : Domain) × Gives state name domain) → ⊥) → ⊥) → IsOfActive kept name
-  variable_stands state least (names.Global number) known = tt
-  variable_stands state least (names.Token token part) known =
-      stands_if_possible kept token (λ not. known (λ given. not (variables_stand model kept state grounded least (names.Token token part) given.0 given.1)))
-  variable_stands state least (names.Local token rule number) known = (
-    not_impossible (activated_or_not kept token) (λ not. known (λ given. not (variables_stand model kept state grounded least (names.Local token rule number) given.0 given.1).0)),
-    stands_if_possible kept token (λ not. known (λ given. not (variables_stand model kept state grounded least (names.Local token rule number) given.0 given.1).1)),
-  )
+    argument_stands : (argument : ConArg) → IsArgumentKnown state argument → IsArgumentOfActive kept argument
+    argument_stands (Var name) known = variables_stand model kept state grounded least name known.0 known.1
+    argument_stands (Value value) known = tt
+
+    -- what is known stands there by the list
+    known_grounded : (decision : Decision) → IsKnown state decision → (NeedsActive model kept decision → ⊥) → IsGrounded model kept decision
+    known_grounded (Specify name value) known free = variables_stand model kept state grounded least name known.0 known.1
+    known_grounded (Activate token) known free = token_stands token known
+    known_grounded (Merge token target) known free =
+        (token_stands token known.0, (token_stands target known.1, active_if_possible model kept target free))
+    known_grounded (Reject token) known free = token_stands token known
+    known_grounded (Order one other) known free = (
+      (token_stands one known.0, active_if_possible model kept one (λ not. free (inl not))),
+      (token_stands other known.1, active_if_possible model kept other (λ not. free (inr not))),
+    )
+    known_grounded (Constrain kind arguments) known free =
+        All-weaker (IsArgumentKnown state) (IsArgumentOfActive kept) argument_stands arguments known
+    known_grounded (Relate relation one other) known free = (token_stands one known.0, token_stands other known.1)
 
   next_grounded : (decision : Decision) → IsAdmissible model kept decision → IsGrounded model kept decision
-  next_grounded (Specify name value) is = variable_stands is.state is.least name (is.free Unknown)
-  next_grounded (Activate token) is = token_stands is.state is.least token (is.free Unknown)
-  next_grounded (Merge token target) is = (
-    token_stands is.state is.least token (λ not. is.free Unknown (λ known. not known.0)),
-    (
-      token_stands is.state is.least target (λ not. is.free Unknown (λ known. not known.1)),
-      active_if_possible model kept target (is.free NotActive),
-    ),
-  )
-  next_grounded (Reject token) is = token_stands is.state is.least token (is.free Unknown)
-  next_grounded (Order one other) is = (
-    (
-      token_stands is.state is.least one (λ not. is.free Unknown (λ known. not known.0)),
-      active_if_possible model kept one (λ not. is.free NotActive (inl not)),
-    ),
-    (
-      token_stands is.state is.least other (λ not. is.free Unknown (λ known. not known.1)),
-      active_if_possible model kept other (λ not. is.free NotActive (inr not)),
-    ),
-  )
+  next_grounded decision is =
+      known_grounded is.state is.least decision (not_impossible (known_or_not is.state decision) (is.free Unknown)) (is.free NotActive)
 
   longer_grounded : (last : Decision) → IsAdmissible model kept last → (decision : Decision) → Contains (kept ++ last ∷ []) decision → IsGrounded model (kept ++ last ∷ []) decision
   longer_grounded last is decision there = elim (Contains-push_cases kept last decision there) [

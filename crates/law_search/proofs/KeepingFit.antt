@@ -1,16 +1,20 @@
 -- A state without what stands under a token that isn't activated fits as the whole one does.
 use Rattle.std.proofs.Common.{◌≡◌, ℕ, inl, inr, ℤ, pos, ◌+ℤ◌, ◌≤ℤ◌, Bool, true, false, List, [], ◌∷◌, refl, sym, ap, ◌∙◌, subst, cond, arith}
-use Rattle.std.specs.Prelude.{Contains, filter}
+use Rattle.std.specs.Prelude.{All, Contains, map, filter}
 use Rattle.std.specs.List.{AllZip}
 use Rattle.std.proofs.lemmas.Int.{ints}
 use Rattle.std.proofs.lemmas.List.{append-nil}
+use Rattle.std.proofs.lemmas.List.Elements.{All-head, All-tail}
 use Rattle.domain_core.specs.Domain.{Domain}
 use Rattle.domain_core.proofs.Words.{IsWithin-refl}
 use Rattle.eu_name.specs.declared.name.Part.TheVariants.{Start, End, Object}
 use Rattle.eu_name.specs.declared.name.TokenName.{TokenName}
+use Rattle.eu_name.specs.declared.name.VarName.{VarName}
 use Rattle.eu_name.specs.declared.name.VarName.TheVariants as names
+use Rattle.model_core.specs.declared.decision.ConArg.{ConArg}
+use Rattle.model_core.specs.declared.decision.ConArg.TheVariants as given
 use Rattle.model_core.specs.declared.decision.Decision.{Decision}
-use Rattle.model_core.specs.declared.decision.Decision.TheVariants.{Specify, Activate, Merge, Reject, Order}
+use Rattle.model_core.specs.declared.decision.Decision.TheVariants.{Specify, Activate, Merge, Reject, Order, Constrain, Relate}
 use Rattle.model_core.specs.declared.item.Term.{Term}
 use Rattle.model_core.specs.declared.model.Model.{Model}
 use Rattle.model_core.specs.declared.rule.Guard.{Guard}
@@ -19,7 +23,7 @@ use Rattle.model_core.specs.Blocks.{TokenBlock}
 use Rattle.model_core.specs.Decided.{IsActivated, IsActive}
 use Rattle.model_core.specs.Entries.{Entries}
 use Rattle.model_core.specs.State.{State, Gives}
-use Rattle.plan_defs.specs.Claims.{Claim, IsClaim, at_most, part_of}
+use Rattle.plan_defs.specs.Claims.{Claim, IsClaim, Posts, argument_of, at_most, part_of}
 use Rattle.plan_defs.specs.Closure.{IsPropagatedState, IsRespected}
 use Rattle.plan_defs.specs.Situations.{situation_of}
 use Rattle.plan_defs.specs.Sums.{sum_of}
@@ -27,9 +31,9 @@ use Rattle.plan_defs.specs.Support.{MayBe, Opens, IsOpen, IsSupportedToken, fron
 use Rattle.plan_defs.specs.Terms.{InProblem, InRule, Argument, Value, Variable, HasDomain}
 use Rattle.plan_defs.specs.Timelines.{ShareTimeline, IsOn}
 use Rattle.plan_defs.proofs.Lower.{Further, HasBlock-map, supported_further, block_further}
-use Rattle.law_search.specs.SwapLaws.{StandsUnderActive, IsGrounded}
-use Rattle.law_search.proofs.Tops.{IsUnderTop, IsInTop, root_clear}
-use Rattle.law_search.proofs.Pruning.{pruned, token_kept, token_stays, block_kept, block_stays, given_kept, given_stays, pruned_state, IsClearArgument, IsClearClaim, item_clear, means_clear, consistent_stays}
+use Rattle.law_search.specs.SwapLaws.{StandsUnderActive, IsOfActive, IsArgumentOfActive, IsGrounded}
+use Rattle.law_search.proofs.Tops.{IsUnderTop, IsInTop, IsClear, root_clear}
+use Rattle.law_search.proofs.Pruning.{pruned, token_kept, token_stays, block_kept, block_stays, given_kept, given_stays, pruned_state, IsClearArgument, AllClear, IsClearClaim, relates_clear, item_clear, means_clear, consistent_stays}
 
 -- ---- numbers for the tokens that stay
 
@@ -159,6 +163,33 @@ module _ (model : Model) (decisions : List Decision) (state : State) (top : Toke
 
   -- ---- claims
 
+  named_clear : (name : VarName) → IsOfActive decisions name → IsClear top name
+  named_clear (names.Global number) of = tt
+  named_clear (names.Token token part) of = active_clear token of
+  named_clear (names.Local token rule number) of = activated_out token of.0
+
+  arguments_clear : (arguments : List ConArg) → All (IsArgumentOfActive decisions) arguments → AllClear top (map argument_of arguments)
+  arguments_clear [] of = tt
+  arguments_clear (argument ∷ arguments) of = (
+    one_clear argument (All-head (IsArgumentOfActive decisions) argument arguments of),
+    arguments_clear arguments (All-tail (IsArgumentOfActive decisions) argument arguments of),
+  )
+    where
+      one_clear : (argument : ConArg) → IsArgumentOfActive decisions argument → IsClearArgument top (argument_of argument)
+      one_clear (given.Var name) of = named_clear name of
+      one_clear (given.Value value) of = tt
+
+  -- what is posted keeps clear of the top
+  posting_clear : (decision : Decision) (claim : Claim) → IsGrounded model decisions decision → Posts decision claim → IsClearClaim top claim
+  posting_clear (Specify name value) claim ground posts = absurd posts
+  posting_clear (Activate token) claim ground posts = absurd posts
+  posting_clear (Merge token target) claim ground posts = absurd posts
+  posting_clear (Reject token) claim ground posts = absurd posts
+  posting_clear (Order one other) claim ground posts = absurd posts
+  posting_clear (Constrain kind arguments) claim ground posts = subst (IsClearClaim top) (sym posts) (arguments_clear arguments ground)
+  posting_clear (Relate relation one other) claim ground posts =
+      relates_clear top one other (λ part. active_clear one ground.0) (λ part. active_clear other ground.1) relation claim posts
+
   claim_clear : (claim : Claim) → IsClaim model decisions low claim → IsClearClaim top claim
   claim_clear claim (inl p) = item_clear top model _ InProblem p.item claim tt p.says
   claim_clear claim (inr (inl p)) = item_clear top model _ (InRule p.block.token p.block.rule) p.item claim (block_kept top state p.block p.is_open).1 p.says
@@ -168,9 +199,10 @@ module _ (model : Model) (decisions : List Decision) (state : State) (top : Toke
   claim_clear claim (inr (inr (inr (inl p)))) =
       let ground = grounded (Merge p.token p.target) p.merged in
       subst (IsClearClaim top) (sym p.says) (active_clear p.token ground.0, (active_clear p.target ground.1.0, tt))
-  claim_clear claim (inr (inr (inr (inr p)))) =
+  claim_clear claim (inr (inr (inr (inr (inl p))))) =
       let ground = grounded (Order p.one p.other) p.ordered in
       subst (IsClearClaim top) (sym p.says) (active_clear p.one ground.0.0, (active_clear p.other ground.1.0, tt))
+  claim_clear claim (inr (inr (inr (inr (inr p))))) = posting_clear p.decision claim (grounded p.decision p.stands) p.posts
 
   claim_more : (claim : Claim) → IsClaim model decisions low claim → IsClaim model decisions state claim
   claim_more claim (inl p) = inl p
@@ -230,3 +262,5 @@ module _ (model : Model) (decisions : List Decision) (state : State) (top : Toke
       respected_still (Merge token target) respected = tt
       respected_still (Reject token) respected = tt
       respected_still (Order one other) respected = tt
+      respected_still (Constrain kind arguments) respected = tt
+      respected_still (Relate relation one other) respected = tt

@@ -18,7 +18,7 @@ use Rattle.model_core.specs.State.{State, Gives, IsBlockOf}
 use Rattle.model_core.specs.Tokens.{IsFact, IsRejectable}
 use Rattle.model_core.specs.Variables.{HasBase, IsInBase}
 use Rattle.plan_defs.specs.Refusals.{Hinders, IsDeclared, IsAdmissible, AreActive}
-use Rattle.model_core.specs.declared.refusal.Refusal.TheVariants.{Unknown, Decided, NotInDomain, NotActive, NotSamePredicate, NotRejectable, SameToken, ActiveFull}
+use Rattle.model_core.specs.declared.refusal.Refusal.TheVariants.{Unknown, WrongType, Decided, NotInDomain, NotActive, NotSamePredicate, NotRejectable, SameToken, ActiveFull}
 use Rattle.model_core.specs.declared.refusal.Refusal.{Refusal}
 use Rattle.plan_defs.specs.Terms.{BelongsTo, Counts}
 use Rattle.plan_defs.specs.Timelines.{IsOn}
@@ -111,6 +111,7 @@ module _ (model : Model) (decisions : List Decision) (state : State) (bound : �
       where
         free : (reason : Refusal) → Hinders model decisions state reason (Specify name value) → ⊥
         free Unknown hinders = hinders (values.domain, values.gives)
+        free WrongType hinders = hinders
         free Decided hinders = left.several hinders.0 (is.least.closed.consistent.respected (Specify name hinders.0) hinders.1 left.domain left.gives)
         free NotInDomain hinders = hinders (declared value has)
         free NotActive hinders = counted hinders
@@ -133,6 +134,7 @@ module _ (model : Model) (decisions : List Decision) (state : State) (bound : �
       where
         free : (reason : Refusal) → Hinders model decisions state reason (Merge token target) → ⊥
         free Unknown hinders = hinders (there, ((tokens.are_targets.are target).0 is_target).0)
+        free WrongType hinders = hinders
         free Decided hinders = undecided hinders
         free NotInDomain hinders = hinders
         free NotActive hinders = hinders ((tokens.are_targets.are target).0 is_target).1.0
@@ -146,6 +148,7 @@ module _ (model : Model) (decisions : List Decision) (state : State) (bound : �
       where
         free : (reason : Refusal) → Hinders model decisions state reason (Activate token) → ⊥
         free Unknown hinders = hinders there
+        free WrongType hinders = hinders
         free Decided hinders = undecided hinders
         free NotInDomain hinders = hinders
         free NotActive hinders = hinders
@@ -164,6 +167,7 @@ module _ (model : Model) (decisions : List Decision) (state : State) (bound : �
       where
         free : (reason : Refusal) → Hinders model decisions state reason (Reject token) → ⊥
         free Unknown hinders = hinders there
+        free WrongType hinders = hinders
         free Decided hinders = undecided hinders
         free NotInDomain hinders = hinders
         free NotActive hinders = hinders
@@ -208,6 +212,7 @@ module _ (model : Model) (decisions : List Decision) (state : State) (bound : �
       where
         free : (reason : Refusal) → Hinders model decisions state reason (Order one other) → ⊥
         free Unknown hinders = hinders (on_there one unordered.share.timeline unordered.share.one_on, on_there other unordered.share.timeline unordered.share.other_on)
+        free WrongType hinders = hinders
         free Decided hinders = unordered.no_order.not_before hinders
         free NotInDomain hinders = hinders
         free NotActive hinders = ⊎_elim (λ not. not unordered.share.one_active) (λ not. not unordered.share.other_active) hinders
@@ -221,6 +226,7 @@ module _ (model : Model) (decisions : List Decision) (state : State) (bound : �
       where
         free : (reason : Refusal) → Hinders model decisions state reason (Order other one) → ⊥
         free Unknown hinders = hinders (on_there other unordered.share.timeline unordered.share.other_on, on_there one unordered.share.timeline unordered.share.one_on)
+        free WrongType hinders = hinders
         free Decided hinders = unordered.no_order.not_after hinders
         free NotInDomain hinders = hinders
         free NotActive hinders = ⊎_elim (λ not. not unordered.share.other_active) (λ not. not unordered.share.one_active) hinders

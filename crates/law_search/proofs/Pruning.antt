@@ -182,7 +182,7 @@ module _ (top : TokenName) where
     ba : (p q : Part) → AllClear (part_of b p ∷ part_of a q ∷ [])
     ba p q = (other p, (one q, tt))
 
-    relates_clear : (relation : Rel) (claim : Claim) → Contains (relates relation a b) claim → IsClearClaim claim
+    pub relates_clear : (relation : Rel) (claim : Claim) → Contains (relates relation a b) claim → IsClearClaim claim
     relates_clear rel.Any claim there = absurd (contains_none claim there)
     relates_clear rel.Before claim there = one_clear claim _ (ab End Start) there
     relates_clear rel.After claim there = one_clear claim _ (ba End Start) there

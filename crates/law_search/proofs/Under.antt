@@ -2,6 +2,7 @@
 use Rattle.std.proofs.Common.{◌≡◌, ◌≢◌, inl, inr, ℕ, ℤ, false, List, [], ◌∷◌, slice_index_or, refl, ap, ◌∙◌, subst}
 use Rattle.std.specs.Prelude.{AllPairs, Contains}
 use Rattle.std.proofs.lemmas.List.{append-nil}
+use Rattle.std.proofs.lemmas.List.Elements.{All-contains}
 use Rattle.eu_name.specs.declared.name.Step.{Step}
 use Rattle.eu_name.specs.declared.name.TokenName.{TokenName}
 use Rattle.eu_name.specs.declared.name.VarName.{VarName}
@@ -9,8 +10,9 @@ use Rattle.eu_name.specs.declared.name.VarName.TheVariants as names
 use Rattle.eu_name.specs.NameOrder.{IsVarBefore}
 use Rattle.eu_name.proofs.Members.{get_from_contains}
 use Rattle.eu_name.proofs.Orders.{var_order}
+use Rattle.model_core.specs.declared.decision.ConArg.TheVariants.{Var}
 use Rattle.model_core.specs.declared.decision.Decision.{Decision}
-use Rattle.model_core.specs.declared.decision.Decision.TheVariants.{Specify, Activate, Merge, Reject, Order}
+use Rattle.model_core.specs.declared.decision.Decision.TheVariants.{Specify, Activate, Merge, Reject, Order, Constrain, Relate}
 use Rattle.model_core.specs.declared.model.Model.{Model}
 use Rattle.model_core.specs.Decided.{IsActivated, IsActive}
 use Rattle.model_core.specs.State.{State}
@@ -29,7 +31,7 @@ use Rattle.plan_defs.specs.Valid.{IsValid, IsAsked}
 use Rattle.plan_defs.proofs.Saying.{own_or_merged}
 use Rattle.law_search.specs.Swapping.{token_under, swapped_token, swapped_name}
 use Rattle.law_search.specs.Under.{IsUnder, IsVariableUnder, IsLineUnder, NamesUnder}
-use Rattle.law_search.specs.SwapLaws.{StandsUnderActive, IsGrounded, MayChangePlaces, IsLineAbout, StandApart, HaveSameValues}
+use Rattle.law_search.specs.SwapLaws.{StandsUnderActive, IsOfActive, IsArgumentOfActive, IsGrounded, MayChangePlaces, IsLineAbout, StandApart, HaveSameValues}
 use Rattle.law_search.proofs.Renaming.{stands}
 use Rattle.law_search.proofs.Having.{HaveSwapped, KeepsValues, flipped, name_twice, values_moved, values_kept}
 use Rattle.law_search.proofs.Agreeing.{stand_apart}
@@ -93,17 +95,24 @@ module _ (model : Model) (decisions : List Decision) (plan : Plan) (one other : 
       (active other.steps under.step under.steps (ap (λ (t : TokenName). t.steps) under.is))
       (λ i. record { root = ap (λ (t : TokenName). t.root) under.is i; steps = other.steps })
 
+  no_variable_under : (name : VarName) → IsOfActive decisions name → IsVariableUnder other name → ⊥
+  no_variable_under (names.Global number) of under = absurd under
+  no_variable_under (names.Token token part) of under = not_under token of under
+  no_variable_under (names.Local token rule number) of (inl own) = not_activated token of.0 own
+  no_variable_under (names.Local token rule number) of (inr under) = not_under token of.1 under
+
   none_named : (decision : Decision) → IsGrounded model decisions decision → NamesUnder other decision → ⊥
-  none_named (Specify (names.Global number) value) grounded under = absurd under
-  none_named (Specify (names.Token token part) value) grounded under = not_under token grounded under
-  none_named (Specify (names.Local token rule number) value) grounded (inl own) = not_activated token grounded.0 own
-  none_named (Specify (names.Local token rule number) value) grounded (inr under) = not_under token grounded.1 under
+  none_named (Specify name value) grounded under = no_variable_under name grounded under
   none_named (Activate token) grounded under = not_under token grounded under
   none_named (Merge token target) grounded (inl under) = not_under token grounded.0 under
   none_named (Merge token target) grounded (inr under) = not_under target grounded.1.0 under
   none_named (Reject token) grounded under = not_under token grounded under
   none_named (Order a b) grounded (inl under) = not_under a grounded.0.0 under
   none_named (Order a b) grounded (inr under) = not_under b grounded.1.0 under
+  none_named (Constrain kind arguments) grounded under =
+      no_variable_under under.0 (All-contains (IsArgumentOfActive decisions) arguments (Var under.0) grounded under.1) under.2
+  none_named (Relate relation a b) grounded (inl under) = not_under a grounded.0 under
+  none_named (Relate relation a b) grounded (inr under) = not_under b grounded.1 under
 
   pub no_decision : (decision : Decision) → Contains decisions decision → NamesUnder other decision → ⊥
   no_decision decision there under = none_named decision (may.grounded decision there) under

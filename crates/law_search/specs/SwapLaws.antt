@@ -1,12 +1,14 @@
 -- Which tokens of a plan may change places, and what is proved of it.
-use Rattle.std.specs.Prelude.{◌≡◌, ◌≢◌, ◌↔◌, ℕ, ℤ, false, ⊤, List, [], ◌∷◌, ◌++◌, AllPairs, Contains}
+use Rattle.std.specs.Prelude.{◌≡◌, ◌≢◌, ◌↔◌, ℕ, ℤ, false, ⊤, List, [], ◌∷◌, ◌++◌, All, AllPairs, Contains}
 use Rattle.std.specs.List.{sum_by}
 use Rattle.eu_name.specs.declared.name.Step.{Step}
 use Rattle.eu_name.specs.declared.name.TokenName.{TokenName}
 use Rattle.eu_name.specs.declared.name.VarName.{VarName}
 use Rattle.eu_name.specs.declared.name.VarName.TheVariants as variables
+use Rattle.model_core.specs.declared.decision.ConArg.{ConArg}
+use Rattle.model_core.specs.declared.decision.ConArg.TheVariants.{Var, Value}
 use Rattle.model_core.specs.declared.decision.Decision.{Decision}
-use Rattle.model_core.specs.declared.decision.Decision.TheVariants.{Specify, Activate, Merge, Reject, Order}
+use Rattle.model_core.specs.declared.decision.Decision.TheVariants.{Specify, Activate, Merge, Reject, Order, Constrain, Relate}
 use Rattle.model_core.specs.declared.model.Model.{Model}
 use Rattle.model_core.specs.Decided.{IsActivated, IsActive, IsDecided}
 use Rattle.model_core.specs.State.{State}
@@ -39,6 +41,11 @@ IsOfActive decisions (variables.Token token part) = StandsUnderActive decisions 
 IsOfActive decisions (variables.Local token rule number) =
     IsActivated decisions token × StandsUnderActive decisions token
 
+-- so it is with an argument that is a variable
+abbrev pub IsArgumentOfActive : List Decision → ConArg → Type 0
+IsArgumentOfActive decisions (Var name) = IsOfActive decisions name
+IsArgumentOfActive decisions (Value value) = ⊤
+
 -- what the decision names is there by the decisions, and active where it has to be
 abbrev pub IsGrounded : Model → List Decision → Decision → Type 0
 IsGrounded model decisions (Specify name value) = IsOfActive decisions name
@@ -49,6 +56,8 @@ IsGrounded model decisions (Reject token) = StandsUnderActive decisions token
 IsGrounded model decisions (Order one other) =
     (StandsUnderActive decisions one × IsActive model decisions one)
     × (StandsUnderActive decisions other × IsActive model decisions other)
+IsGrounded model decisions (Constrain kind arguments) = All (IsArgumentOfActive decisions) arguments
+IsGrounded model decisions (Relate relation one other) = StandsUnderActive decisions one × StandsUnderActive decisions other
 
 -- The decisions leave open what becomes of the one token, and don't make the other one active. A valid plan that agrees with
 -- them says that the one is the other.

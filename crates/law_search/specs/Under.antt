@@ -1,11 +1,12 @@
 -- What stands under a token, and which lines and decisions name it.
-use Rattle.std.specs.Prelude.{◌≡◌, ◌⊎◌, List, ◌∷◌}
+use Rattle.std.specs.Prelude.{◌≡◌, ◌⊎◌, List, ◌∷◌, Contains}
 use Rattle.eu_name.specs.declared.name.Step.{Step}
 use Rattle.eu_name.specs.declared.name.TokenName.{TokenName}
 use Rattle.eu_name.specs.declared.name.VarName.{VarName}
 use Rattle.eu_name.specs.declared.name.VarName.TheVariants as variables
+use Rattle.model_core.specs.declared.decision.ConArg.TheVariants.{Var}
 use Rattle.model_core.specs.declared.decision.Decision.{Decision}
-use Rattle.model_core.specs.declared.decision.Decision.TheVariants.{Specify, Activate, Merge, Reject, Order}
+use Rattle.model_core.specs.declared.decision.Decision.TheVariants.{Specify, Activate, Merge, Reject, Order, Constrain, Relate}
 use Rattle.plan_defs.specs.declared.plan.Line.{Line}
 use Rattle.plan_defs.specs.declared.plan.Line.TheVariants as lines
 use Rattle.law_search.specs.Swapping.{token_under}
@@ -36,3 +37,5 @@ NamesUnder top (Activate token) = IsUnder top token
 NamesUnder top (Merge token target) = IsUnder top token ⊎ IsUnder top target
 NamesUnder top (Reject token) = IsUnder top token
 NamesUnder top (Order one other) = IsUnder top one ⊎ IsUnder top other
+NamesUnder top (Constrain kind arguments) = (name : VarName) × Contains arguments (Var name) × IsVariableUnder top name
+NamesUnder top (Relate relation one other) = IsUnder top one ⊎ IsUnder top other

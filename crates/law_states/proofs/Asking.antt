@@ -2,7 +2,6 @@
 use Rattle.std.proofs.Common.{◌≡◌, ℕ, ℤ, false, List, [], ◌∷◌, length, Some, ◌⊎◌, inl, inr, refl, sym, ap, subst, arith}
 use Rattle.std.specs.Prelude.{Contains, slice_get, ⊤}
 use Rattle.std.proofs.lemmas.List.{length-append}
-use Rattle.std.proofs.lemmas.List.Elements.{All-contains}
 use Rattle.std.proofs.lemmas.Slice.Zip.{AllZip-long}
 use Rattle.eu_name.specs.declared.name.Part.{Part}
 use Rattle.eu_name.specs.declared.name.Step.{Step}
@@ -13,8 +12,6 @@ use Rattle.model_core.specs.declared.decision.Decision.{Decision}
 use Rattle.model_core.specs.declared.decision.Decision.TheVariants.{Activate}
 use Rattle.model_core.specs.declared.item.Item.{Item}
 use Rattle.model_core.specs.declared.item.Item.TheVariants.{Constraint, Relation}
-use Rattle.model_core.specs.declared.item.Rel.{Rel}
-use Rattle.model_core.specs.declared.item.Rel.TheVariants as rel
 use Rattle.model_core.specs.declared.model.Model.{Model}
 use Rattle.model_core.specs.Blocks.{TokenBlock, direct, OfItem, OfLocal}
 use Rattle.model_core.specs.Decided.{IsTaken, IsActivated, IsRejected}
@@ -29,70 +26,26 @@ use Rattle.plan_defs.specs.declared.plan.Line.TheVariants as lines
 use Rattle.plan_defs.specs.declared.plan.Place.{Place}
 use Rattle.plan_defs.specs.declared.plan.Place.TheVariants as places
 use Rattle.plan_defs.specs.declared.plan.Plan.{Plan}
-use Rattle.plan_defs.specs.Claims.{Claim, ItemSays, relates, part_of}
+use Rattle.plan_defs.specs.Claims.{Claim, ItemSays, part_of}
 use Rattle.plan_defs.specs.Consistency.{IsClaimConsistent}
 use Rattle.plan_defs.specs.Plans.{IsTakenIn, plan_situation}
 use Rattle.plan_defs.specs.Situations.{situation_of}
 use Rattle.plan_defs.specs.Support.{IsOpen, AsksFor, IsSupportedBlock, front_token}
-use Rattle.plan_defs.specs.Terms.{InRule, Means, ArgumentCounts}
+use Rattle.plan_defs.specs.Terms.{InRule, Means}
 use Rattle.plan_defs.specs.Valid.{HasDeclaredValue, IsOpenIn, AsksForLocal, IsAskedToken, IsAsked, IsClaimTrue, KeepsOpen, KeepsAsked, KeepsItems}
 use Rattle.plan_defs.proofs.Lower.{HasBlock-map, Follows-map, says_further}
-use Rattle.eu_name.proofs.Ordered.{contains_cases, contains_none}
 use Rattle.plan_defs.specs.StatePlans.{GivesOnly, IsLineIn}
 use Rattle.plan_defs.proofs.Stating.{takes_not_rejected}
 use Rattle.model_core.proofs.Few.{few_rule}
 use Rattle.law_states.specs.Soundness.{IsFlawlessPlan}
-use Rattle.law_states.proofs.Agreeing.{surely_rejectable}
+use Rattle.law_states.proofs.Agreeing.{surely_rejectable, all_kept}
 use Rattle.law_states.proofs.Deciding.{Becoming, IsAFact, IsActivatedOne, IsMergedOne, IsRejectedOne}
 use Rattle.law_states.proofs.Having.{is_state, becomes_of, AreKept, claim_true}
-use Rattle.law_states.proofs.Keeping.{said, declared_value, part_kept, taken_down, all_kept, some_arguments, keeps_problem}
+use Rattle.law_states.proofs.Keeping.{said, declared_value, part_kept, taken_down, some_arguments, keeps_problem}
+use Rattle.law_states.proofs.Relating.{of_two}
 use Rattle.law_states.proofs.OpenAlike.{taken_up, open_down, open_up}
 use Rattle.law_states.proofs.Seeing.{supported_slot}
 use Rattle.law_states.proofs.Ways.{block_once, item_stands}
-
--- ---- what relations say
-
--- it is of one part each of these two tokens
-pub record IsOfTwo (a b : TokenName) (claim : Claim) : Type 0 where
-  pub one : Part
-  pub other : Part
-  pub are : (claim.arguments ≡ part_of a one ∷ part_of b other ∷ []) ⊎ (claim.arguments ≡ part_of b other ∷ part_of a one ∷ [])
-
-one_claim : (a b : TokenName) (first claim : Claim) → IsOfTwo a b first → Contains (first ∷ []) claim → IsOfTwo a b claim
-one_claim a b first claim is there = elim (contains_cases first claim [] there) [
-  | inl same ↦ subst (λ c. IsOfTwo a b c) same is
-  | inr none ↦ absurd (contains_none claim none)
-]
-
-two_claims : (a b : TokenName) (first second claim : Claim) → IsOfTwo a b first → IsOfTwo a b second → Contains (first ∷ second ∷ []) claim → IsOfTwo a b claim
-two_claims a b first second claim is is' there = elim (contains_cases first claim (second ∷ []) there) [
-  | inl same ↦ subst (λ c. IsOfTwo a b c) same is
-  | inr later ↦ one_claim a b second claim is' later
-]
-
-forth : (a b : TokenName) (p q : Part) (claim : Claim) → claim.arguments ≡ part_of a p ∷ part_of b q ∷ [] → IsOfTwo a b claim
-forth a b p q claim same = record { one = p; other = q; are = inl same }
-
-back : (a b : TokenName) (p q : Part) (claim : Claim) → claim.arguments ≡ part_of b q ∷ part_of a p ∷ [] → IsOfTwo a b claim
-back a b p q claim same = record { one = p; other = q; are = inr same }
-
-pub of_two : (relation : Rel) (a b : TokenName) (claim : Claim) → Contains (relates relation a b) claim → IsOfTwo a b claim
-of_two rel.Any a b claim there = absurd (contains_none claim there)
-of_two rel.Before a b claim there = one_claim a b _ claim (forth a b _ _ _ refl) there
-of_two rel.After a b claim there = one_claim a b _ claim (back a b _ _ _ refl) there
-of_two rel.Meets a b claim there = one_claim a b _ claim (forth a b _ _ _ refl) there
-of_two rel.MetBy a b claim there = one_claim a b _ claim (back a b _ _ _ refl) there
-of_two rel.Equals a b claim there = two_claims a b _ _ claim (forth a b _ _ _ refl) (forth a b _ _ _ refl) there
-of_two rel.Contains a b claim there = two_claims a b _ _ claim (forth a b _ _ _ refl) (back a b _ _ _ refl) there
-of_two rel.ContainedBy a b claim there = two_claims a b _ _ claim (back a b _ _ _ refl) (forth a b _ _ _ refl) there
-of_two rel.Starts a b claim there = one_claim a b _ claim (forth a b _ _ _ refl) there
-of_two rel.Ends a b claim there = one_claim a b _ claim (forth a b _ _ _ refl) there
-of_two rel.Parallels a b claim there = two_claims a b _ _ claim (forth a b _ _ _ refl) (forth a b _ _ _ refl) there
-of_two rel.ParalleledBy a b claim there = two_claims a b _ _ claim (back a b _ _ _ refl) (back a b _ _ _ refl) there
-of_two rel.StartsDuring a b claim there = two_claims a b _ _ claim (back a b _ _ _ refl) (forth a b _ _ _ refl) there
-of_two rel.ContainsStart a b claim there = two_claims a b _ _ claim (forth a b _ _ _ refl) (back a b _ _ _ refl) there
-of_two rel.EndsDuring a b claim there = two_claims a b _ _ claim (back a b _ _ _ refl) (forth a b _ _ _ refl) there
-of_two rel.ContainsEnd a b claim there = two_claims a b _ _ claim (forth a b _ _ _ refl) (back a b _ _ _ refl) there
 
 module _ (model : Model) (decisions : List Decision) (state : State) (plan : Plan) (is : IsFlawlessPlan model decisions state plan) where
   -- ---- what is open in the plan is in the state
@@ -267,7 +220,7 @@ module _ (model : Model) (decisions : List Decision) (state : State) (plan : Pla
         let some = some_arguments model (OfRule open_block.has_block.slot.pred open_block.has_block.rule) kind terms claim.arguments
         (sym (AllZip-long (Means (InRule token rule)) terms claim.arguments down.means)) lawful.0 lawful.1 in
         claim_true model decisions state plan is claim some.0 some.1.0 some.1.1
-        (all_kept model decisions state plan is claim.arguments (λ argument inside. All-contains (ArgumentCounts model (IsTaken decisions)) claim.arguments argument down.counts inside))
+        (all_kept model decisions state plan is claim.arguments down.counts)
         (has claim down)
     true_by (Relation relation slot) lawful has claim says =
         let two = of_two relation token (slot_token token rule slot) claim says in

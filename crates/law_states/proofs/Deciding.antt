@@ -5,7 +5,7 @@ use Rattle.eu_name.specs.declared.name.Step.{Step}
 use Rattle.eu_name.specs.declared.name.TokenName.{TokenName}
 use Rattle.eu_name.proofs.Members.{get_same}
 use Rattle.model_core.specs.declared.decision.Decision.{Decision}
-use Rattle.model_core.specs.declared.decision.Decision.TheVariants.{Specify, Activate, Merge, Reject, Order}
+use Rattle.model_core.specs.declared.decision.Decision.TheVariants.{Specify, Activate, Merge, Reject, Order, Constrain, Relate}
 use Rattle.model_core.specs.declared.model.Model.{Model}
 use Rattle.model_core.specs.declared.model.Root.{Root}
 use Rattle.model_core.specs.declared.model.RootKind.{RootKind}
@@ -23,6 +23,8 @@ decides_or_not (Activate other) token = same_token other token
 decides_or_not (Merge other target) token = same_token other token
 decides_or_not (Reject other) token = same_token other token
 decides_or_not (Order one other) token = inr (λ is. is)
+decides_or_not (Constrain kind arguments) token = inr (λ is. is)
+decides_or_not (Relate relation one other) token = inr (λ is. is)
 
 -- a decision of the list about the token
 pub record IsDecidedBy (decisions : List Decision) (token : TokenName) : Type 0 where
@@ -85,6 +87,8 @@ becomes model decisions token (Activate other) there is = IsActivatedOne (subst 
 becomes model decisions token (Merge other target) there is = IsMergedOne target (subst (λ t. Contains decisions (Merge t target)) is there)
 becomes model decisions token (Reject other) there is = IsRejectedOne (subst (λ t. Contains decisions (Reject t)) is there)
 becomes model decisions token (Order one other) there is = absurd is
+becomes model decisions token (Constrain kind arguments) there is = absurd is
+becomes model decisions token (Relate relation one other) there is = absurd is
 
 decided_none : (model : Model) (decisions : List Decision) (token : TokenName) → (IsFact model token → ⊥)
     → ((decision : Decision) → Contains decisions decision → Decides decision token → ⊥) → IsDecided model decisions token → ⊥

@@ -1,28 +1,33 @@
 -- The least state of a settled list is above every propagated state, and has nothing that isn't supported.
 use Rattle.std.proofs.Common.{inl, inr, ⊎_elim, List, [], ◌∷◌, ◌++◌, refl, sym, subst}
 use Rattle.std.specs.Prelude.{Contains}
-use Rattle.std.proofs.lemmas.List.Elements.{Contains-append_left, Contains-push_cases}
+use Rattle.std.proofs.lemmas.List.Elements.{All-weaker, Contains-append_left, Contains-push_cases}
 use Rattle.eu_name.specs.declared.name.TokenName.{TokenName}
+use Rattle.eu_name.specs.declared.name.VarName.{VarName}
+use Rattle.eu_name.specs.declared.name.VarName.TheVariants as names
+use Rattle.model_core.specs.declared.decision.ConArg.{ConArg}
+use Rattle.model_core.specs.declared.decision.ConArg.TheVariants.{Var, Value}
 use Rattle.model_core.specs.declared.decision.Decision.{Decision}
-use Rattle.model_core.specs.declared.decision.Decision.TheVariants.{Specify, Activate, Merge, Reject, Order}
+use Rattle.model_core.specs.declared.decision.Decision.TheVariants.{Specify, Activate, Merge, Reject, Order, Constrain, Relate}
 use Rattle.model_core.specs.declared.model.Model.{Model}
-use Rattle.model_core.specs.Blocks.{TokenBlock}
+use Rattle.model_core.specs.Blocks.{TokenBlock, OfLocal, direct}
 use Rattle.model_core.specs.Decided.{IsActive, IsTaken, IsRejected}
 use Rattle.model_core.specs.Entries.{Entries}
 use Rattle.model_core.specs.Lawful.{IsLawful}
-use Rattle.model_core.specs.State.{State, IsBelow}
+use Rattle.model_core.specs.State.{State, IsAbout, IsState, IsBelow}
 use Rattle.plan_defs.specs.declared.plan.Plan.{Plan}
 use Rattle.plan_defs.specs.Broken.{AgreesWith}
 use Rattle.plan_defs.specs.Closure.{IsPropagatedState, IsClosed, IsLeast}
-use Rattle.plan_defs.specs.Refusals.{IsKnown, IsAdmissible}
+use Rattle.plan_defs.specs.Refusals.{IsArgumentKnown, IsKnown, IsAdmissible}
 use Rattle.model_core.specs.declared.refusal.Refusal.TheVariants.{Unknown}
 use Rattle.plan_defs.specs.Settling.{SettlesAfter, IsSettled}
-use Rattle.plan_defs.specs.Situations.{situation_of}
+use Rattle.plan_defs.specs.Situations.{Situation, situation_of}
 use Rattle.plan_defs.specs.Support.{IsSupportedToken, IsSupportedBlock}
 use Rattle.plan_defs.specs.Valid.{IsValid}
-use Rattle.plan_defs.proofs.Lower.{Further, supported_further, front_propagated}
+use Rattle.plan_defs.proofs.Lower.{Further, supported_further, block_further, front_propagated}
 use Rattle.plan_defs.proofs.Knowing.{known_or_not}
 use Rattle.eu_name.proofs.Ordered.{contains_none}
+use Rattle.model_core.proofs.Blocks.{block_once}
 use Rattle.plan_defs.proofs.Settling.{IsSettled-push}
 use Rattle.plan_defs.proofs.States.{IsBelow-trans}
 use Rattle.plan_defs.proofs.Reservoirs.{reservoirs_above}
@@ -34,23 +39,43 @@ use Rattle.law_states.specs.Soundness.{IsWellFounded, IsFlawlessPlan}
 use Rattle.law_states.proofs.Agreeing.{agrees}
 use Rattle.law_states.proofs.Clauses.{is_valid}
 use Rattle.law_states.proofs.Joining.{upper}
-use Rattle.law_states.proofs.Pruning.{AreNamed, root_supported, founded}
+use Rattle.law_states.proofs.Known.{known_below}
+use Rattle.law_states.proofs.Pruning.{IsSupportedVariable, IsSupportedArgument, AreNamedSupported, root_supported, founded}
 
 -- ---- what a decision names
 
-known_below : (high low : State) → IsBelow high low → (decision : Decision) → IsKnown high decision → IsKnown low decision
-known_below high low below (Specify name value) known = let found = below.variables name known.0 known.1 in (found.0, found.1)
-known_below high low below (Activate token) known = below.tokens token known
-known_below high low below (Merge token target) known = (below.tokens token known.0, below.tokens target known.1)
-known_below high low below (Reject token) known = below.tokens token known
-known_below high low below (Order one other) known = (below.tokens one known.0, below.tokens other known.1)
+-- what the state knows is supported where all that is in the state is
+module _ (model : Model) (situation : Situation) (state : State) (is_state : IsState model state)
+    (tokens : (token : TokenName) → Contains state.tokens token → IsSupportedToken model situation token)
+    (blocks : (block : TokenBlock) → Contains state.blocks block → (entries : Entries) × IsSupportedBlock model situation block entries) where
+  variable_supported : (name : VarName) → IsAbout model state name → IsSupportedVariable model situation name
+  variable_supported (names.Global number) about = tt
+  variable_supported (names.Token token part) about = tokens token about.0
+  variable_supported (names.Local token rule number) about =
+      let supported = blocks about.block about.is_open in
+      let same = block_once model _ _ about.block about.entries supported.0 about.is_block supported.1.is_open.has_block in
+      record {
+        block = about.block;
+        of_token = about.of_token;
+        of_rule = about.of_rule;
+        entries = supported.0;
+        supported = supported.1;
+        stands = subst (λ (e : Entries). Contains (direct e) (OfLocal number)) same about.stands;
+      }
 
-named_if_known : (P : TokenName → Type 0) (state : State) → ((token : TokenName) → Contains state.tokens token → P token) → (decision : Decision) → IsKnown state decision → AreNamed P decision
-named_if_known P state each (Specify name value) known = tt
-named_if_known P state each (Activate token) known = each token known
-named_if_known P state each (Merge token target) known = (each token known.0, each target known.1)
-named_if_known P state each (Reject token) known = each token known
-named_if_known P state each (Order one other) known = (each one known.0, each other known.1)
+  argument_supported : (argument : ConArg) → IsArgumentKnown state argument → IsSupportedArgument model situation argument
+  argument_supported (Var name) known = variable_supported name ((is_state.variables name).1 known)
+  argument_supported (Value value) known = tt
+
+  named_supported : (decision : Decision) → IsKnown state decision → AreNamedSupported model situation decision
+  named_supported (Specify name value) known = tt
+  named_supported (Activate token) known = tokens token known
+  named_supported (Merge token target) known = (tokens token known.0, tokens target known.1)
+  named_supported (Reject token) known = tokens token known
+  named_supported (Order one other) known = (tokens one known.0, tokens other known.1)
+  named_supported (Constrain kind arguments) known =
+      All-weaker (IsArgumentKnown state) (IsSupportedArgument model situation) argument_supported arguments known
+  named_supported (Relate relation one other) known = (tokens one known.0, tokens other known.1)
 
 -- ---- least states
 
@@ -70,7 +95,7 @@ module _ (model : Model) (lawful : IsLawful model) where
 
   module _ (decisions : List Decision) (state : State) (settled : IsSettled model decisions) (least : IsLeast model decisions state)
       (there : (other : State) → IsPropagatedState model decisions other → (decision : Decision) → Contains decisions decision → IsKnown other decision)
-      (named : (decision : Decision) → Contains decisions decision → AreNamed (IsSupportedToken model (situation_of decisions state)) decision) where
+      (named : (decision : Decision) → Contains decisions decision → AreNamedSupported model (situation_of decisions state) decision) where
     active_there : (other : State) → IsPropagatedState model decisions other → (token : TokenName) → IsActive model decisions token → Contains other.tokens token
     active_there other fit token (inl fact) = fit.tokens token (root_supported model decisions other token fact.1.0 fact.0 fact.1.1)
     active_there other fit token (inr activated) = there other fit (Activate token) activated
@@ -132,11 +157,16 @@ module _ (model : Model) (lawful : IsLawful model) where
 
     next_founded : AreTopFounded longer
     next_founded state least =
+        let below = next_below state least.closed.consistent in
+        let rises = further state below in
         top_founded longer state (IsSettled-push model kept next settled admissible) least
         (λ other fit decision there. known_below admissible.state other (next_below other fit) decision (known_before decision there))
-        (λ decision there. named_if_known (IsSupportedToken model (situation_of longer state)) admissible.state
-        (λ token is. supported_further model (situation_of kept admissible.state) (situation_of longer state)
-        (further state (next_below state least.closed.consistent)) token (before.tokens token is)) decision (known_before decision there))
+        (λ decision there. named_supported model (situation_of longer state) admissible.state admissible.least.closed.consistent.is_state
+        (λ token is. supported_further model (situation_of kept admissible.state) (situation_of longer state) rises token (before.tokens token is))
+        (λ block is.
+        let old = before.blocks block is in
+        (old.0, block_further model (situation_of kept admissible.state) (situation_of longer state) rises block old.0 old.1))
+        decision (known_before decision there))
 
   settled_after : (kept decisions settled : List Decision) → IsSettled model kept → AreTopFounded kept → SettlesAfter model kept decisions settled → AreTopFounded settled
   settled_after kept [] settled is all same = subst AreTopFounded (sym same) all

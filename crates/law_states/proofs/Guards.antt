@@ -6,7 +6,6 @@ use Rattle.std.proofs.lemmas.Bool.{cases_eq}
 use Rattle.std.proofs.lemmas.Int.{ints}
 use borrow.Author.Differences.{up, down}
 use Rattle.domain_core.specs.Domain.{Domain, Range, Set, Has}
-use Rattle.eu_name.specs.declared.name.Step.{Step}
 use Rattle.eu_name.specs.declared.name.TokenName.{TokenName}
 use Rattle.eu_name.specs.declared.name.VarName.{VarName}
 use Rattle.eu_name.specs.declared.name.VarName.TheVariants as names
@@ -14,9 +13,6 @@ use Rattle.model_core.specs.declared.class.Pred.{Pred}
 use Rattle.model_core.specs.declared.item.Term.{Term}
 use Rattle.model_core.specs.declared.item.Term.TheVariants.{Lit, Here, Slot, Local, Global, Root}
 use Rattle.model_core.specs.declared.model.Model.{Model}
-use Rattle.model_core.specs.declared.model.Root as the_root
-use Rattle.model_core.specs.declared.model.RootKind.{RootKind}
-use Rattle.model_core.specs.declared.model.RootKind.TheVariants.{Goal, Rejectable, Fact}
 use Rattle.model_core.specs.declared.rule.Guard.{Guard}
 use Rattle.model_core.specs.declared.rule.Guard.TheVariants.{Equal, Differ}
 use Rattle.model_core.specs.declared.rule.Rule.{Rule}
@@ -34,6 +30,7 @@ use Rattle.plan_defs.specs.Situations.{Situation}
 use Rattle.plan_defs.specs.Support.{MayBe, Opens, IsOpen, Selects, one_side, other_side}
 use Rattle.plan_defs.specs.Terms.{InRule, Argument, Value, Variable, Means, HasDomain, BelongsTo, Counts, ArgumentCounts}
 use Rattle.eu_name.proofs.Ordered.{contains_head, contains_later, contains_cases, contains_none}
+use Rattle.plan_defs.proofs.Counting.{rejectable_or_not}
 use Rattle.plan_defs.proofs.Meanings.{means_once}
 use Rattle.plan_defs.proofs.Knowing.{IsOrNot}
 use Rattle.law_states.proofs.Lists.{Lists, one_list, each_list, same_list, below_list}
@@ -63,33 +60,6 @@ selects_or_not (Equal one other) Then v w = same_number v w
 selects_or_not (Equal one other) Otherwise v w = ⊎_elim (λ same. inr (λ differ. differ same)) (λ differ. inl differ) (same_number v w)
 selects_or_not (Differ one other) Then v w = ⊎_elim (λ same. inr (λ differ. differ same)) (λ differ. inl differ) (same_number v w)
 selects_or_not (Differ one other) Otherwise v w = same_number v w
-
-rejectable_or_not : (model : Model) (token : TokenName) → IsOrNot (IsRejectable model token)
-rejectable_or_not model token = by_steps token.steps refl
-  where
-    by_root : token.steps ≡ [] → (found : Option the_root.Root) → slice_get model.problem.roots token.root ≡ found → IsOrNot (IsRejectable model token)
-    by_root none None e = inr (λ is. no_root is.1.0 (sym e ∙ is.1.1))
-      where
-        no_root : (root : the_root.Root) → None ≡ Some root → ⊥
-        no_root root same = cc
-    by_root none (Some root) e = by_kind root.kind refl
-      where
-        same_root : (a b : the_root.Root) → Some a ≡ Some b → a ≡ b
-        same_root a b same = cc
-
-        by_kind : (kind : RootKind) → root.kind ≡ kind → IsOrNot (IsRejectable model token)
-        by_kind Rejectable is = inl (none, (root, e, is))
-        by_kind Goal is = inr (λ other.
-            let kinds : Goal ≡ Rejectable = sym is ∙ ap (λ (r : the_root.Root). r.kind) (same_root root other.1.0 (sym e ∙ other.1.1)) ∙ other.1.2 in absurd (cc))
-        by_kind Fact is = inr (λ other.
-            let kinds : Fact ≡ Rejectable = sym is ∙ ap (λ (r : the_root.Root). r.kind) (same_root root other.1.0 (sym e ∙ other.1.1)) ∙ other.1.2 in absurd (cc))
-
-    by_steps : (steps : List Step) → token.steps ≡ steps → IsOrNot (IsRejectable model token)
-    by_steps [] none = by_root none (slice_get model.problem.roots token.root) refl
-    by_steps (step ∷ steps) some = inr (λ is. no_step step steps (sym some ∙ is.0))
-      where
-        no_step : (step : Step) (steps : List Step) → step ∷ steps ≡ [] → ⊥
-        no_step step steps same = cc
 
 -- ---- values
 

@@ -9,7 +9,7 @@ use Rattle.eu_name.specs.declared.name.VarName.TheVariants as names
 use Rattle.eu_name.specs.NameOrder.{IsTokenBefore}
 use Rattle.eu_name.proofs.Orders.{token_order}
 use Rattle.model_core.specs.declared.decision.Decision.{Decision}
-use Rattle.model_core.specs.declared.decision.Decision.TheVariants.{Specify, Activate, Merge, Reject, Order}
+use Rattle.model_core.specs.declared.decision.Decision.TheVariants.{Specify, Activate, Merge, Reject, Order, Constrain, Relate}
 use Rattle.model_core.specs.declared.model.Model.{Model}
 use Rattle.model_core.specs.declared.rule.Slot.{Slot}
 use Rattle.model_core.specs.declared.variable.Base.{Base}
@@ -202,6 +202,8 @@ module _ (model : Model) (decisions : List Decision) (lawful : IsLawful model) (
       respected (Merge token target) is its = tt
       respected (Reject token) is its = tt
       respected (Order before after) is its = tt
+      respected (Constrain kind arguments) is its = tt
+      respected (Relate relation before after) is its = tt
 
       consistent : IsPropagatedState model decisions joined
       consistent =

@@ -4,7 +4,6 @@ use Rattle.std.specs.Prelude.{Contains, slice_get}
 use Rattle.std.proofs.lemmas.Bool.{cases_eq}
 use Rattle.std.proofs.lemmas.Int.{ints, by_lt_z}
 use Rattle.std.proofs.lemmas.List.{length-append}
-use Rattle.std.proofs.lemmas.List.Elements.{All-contains}
 use Rattle.std.proofs.lemmas.Option.{slice_get_within, get_or_from_slice_get}
 use Rattle.std.proofs.lemmas.Slice.Zip.{AllZip-long}
 use Rattle.domain_core.specs.Domain.{Domain, Has}
@@ -18,7 +17,7 @@ use Rattle.eu_name.specs.NameOrder.{IsTokenBefore, ByToken, place_of}
 use Rattle.eu_name.proofs.Members.{get_all, get_same, contains_from_get}
 use Rattle.eu_name.proofs.Orders.{token_order}
 use Rattle.model_core.specs.declared.decision.Decision.{Decision}
-use Rattle.model_core.specs.declared.decision.Decision.TheVariants.{Specify, Activate, Merge, Reject, Order}
+use Rattle.model_core.specs.declared.decision.Decision.TheVariants.{Specify, Activate, Merge, Reject, Order, Constrain, Relate}
 use Rattle.model_core.specs.declared.item.Item.{Item}
 use Rattle.model_core.specs.declared.item.Item.TheVariants.{Constraint, Relation}
 use Rattle.domain_core.specs.declared.kind.Kind.{Kind}
@@ -48,7 +47,7 @@ use Rattle.plan_defs.specs.Claims.{lasts, part_of}
 use Rattle.plan_defs.specs.Plans.{IsTakenIn, HasPartValue, IsLineBefore}
 use Rattle.plan_defs.specs.Refusals.{IsDeclared, HaveSamePredicate}
 use Rattle.model_core.specs.declared.refusal.Refusal.TheVariants.{NotSamePredicate}
-use Rattle.plan_defs.specs.Terms.{Argument, Value, Variable, InProblem, Means, ArgumentCounts}
+use Rattle.plan_defs.specs.Terms.{Argument, InProblem, Means}
 use Rattle.plan_defs.specs.Valid.{HasDeclaredValue, HasDeclaredParts, IsLineAt, TakesPlaceAt, Becomes, IsLineOfSort, SuitsToken, SuitsMerge, SuitsIfToken, SuitsIfMerged, IsTrueItem, EndsBy, TakeTurns, KeepsGlobals, KeepsRoots, KeepsTokens, KeepsMerges, KeepsTimelines}
 use Rattle.plan_defs.proofs.Lower.{says_further}
 use Rattle.eu_name.proofs.Ordered.{contains_head, contains_later, contains_cases, contains_none}
@@ -58,9 +57,9 @@ use Rattle.plan_defs.proofs.Knowing.{same_token}
 use Rattle.plan_defs.proofs.Admitting.{admitted}
 use Rattle.plan_defs.proofs.Stating.{takes_not_rejected, merged_not_rejected}
 use Rattle.law_states.specs.Soundness.{IsFlawlessPlan}
-use Rattle.law_states.proofs.Agreeing.{agrees, surely_rejectable, taken_not_rejected}
+use Rattle.law_states.proofs.Agreeing.{agrees, surely_rejectable, all_kept}
 use Rattle.law_states.proofs.Deciding.{Becoming, IsAFact, IsActivatedOne, IsMergedOne, IsRejectedOne, no_steps}
-use Rattle.law_states.proofs.Having.{IsKept, IsKeptArgument, is_state, token_has, domain_of, value_of, becomes_of, takes_line, active_line, target_active, active_not_merged, gives_value, AreKept, claim_true}
+use Rattle.law_states.proofs.Having.{IsKept, is_state, token_has, domain_of, value_of, becomes_of, takes_line, active_line, target_active, active_not_merged, gives_value, claim_true}
 use Rattle.plan_defs.specs.Unordered.{MayOverrun}
 
 -- ---- what is on lists can be found out
@@ -80,6 +79,8 @@ ordered_or_not (first ∷ decisions) one other = elim (is_order first) [
     is_order (Activate token) = inr (λ e. cc)
     is_order (Merge token target) = inr (λ e. cc)
     is_order (Reject token) = inr (λ e. cc)
+    is_order (Constrain kind arguments) = inr (λ e. cc)
+    is_order (Relate relation a b) = inr (λ e. cc)
     is_order (Order a b) = elim (same_token a one) [
       | inr not ↦ inr (λ e. let first_same : a ≡ one = cc in not first_same)
       | inl same_a ↦ elim (same_token b other) [
@@ -285,24 +286,12 @@ module _ (model : Model) (decisions : List Decision) (state : State) (plan : Pla
   taken_down token (inl activated) = inl ((is.is_plan.lines (lines.Token token false activated.0)).0 activated.1).takes_place
   taken_down token (inr merged) = inr (merged.0, ((is.is_plan.lines (lines.Merged token merged.0)).0 merged.1).1)
 
-  pub counted_kept : (argument : Argument) → ArgumentCounts model (IsTaken decisions) argument → IsKeptArgument model decisions state plan is argument
-  counted_kept (Value value) counts = tt
-  counted_kept (Variable name) counts = λ rejected.
-      surely_rejectable model decisions state plan is rejected.0 rejected.2 (λ rejectable.
-      taken_not_rejected model decisions state plan is rejected.0 (counts rejected.0 rejected.1 rejectable) rejected.2)
-
-  pub all_kept : (arguments : List Argument) → ((argument : Argument) → Contains arguments argument → ArgumentCounts model (IsTaken decisions) argument)
-      → AreKept model decisions state plan is arguments
-  all_kept [] counts = tt
-  all_kept (argument ∷ arguments) counts =
-      (counted_kept argument (counts argument (contains_head argument arguments)), all_kept arguments (λ other there. counts other (contains_later argument other arguments there)))
-
   true_item : (item : Item) → Contains model.problem.items item → IsLawfulItem model OfProblem item → IsTrueItem model plan item
   true_item (Constraint kind terms) there lawful = λ claim says.
       let down = says_further model (IsTakenIn plan) (IsTaken decisions) taken_down InProblem (Constraint kind terms) claim says in
       let some = some_arguments model OfProblem kind terms claim.arguments (sym (AllZip-long (Means InProblem) terms claim.arguments down.means)) lawful.0 lawful.1 in
       claim_true model decisions state plan is claim some.0 some.1.0 some.1.1
-      (all_kept claim.arguments (λ argument inside. All-contains (ArgumentCounts model (IsTaken decisions)) claim.arguments argument down.counts inside))
+      (all_kept model decisions state plan is claim.arguments down.counts)
       (is.settled.consistent.claims claim (inl (record { item = Constraint kind terms; stands = there; says = down })))
   true_item (Relation relation slot) there lawful = λ claim says. absurd says
 

@@ -1,27 +1,29 @@
 -- Decisions left out of a settled list: what is admissible after fewer of them is admissible after more, and so what is left of fewer
 -- leaves something where what is left of more does.
 use Rattle.std.proofs.Common.{◌≡◌, ◌⊎◌, List, [], ◌∷◌, ◌++◌, inl, inr, ⊎_elim, refl, sym, subst, arith}
-use Rattle.std.specs.Prelude.{Contains}
+use Rattle.std.specs.Prelude.{map, Contains}
 use Rattle.std.proofs.lemmas.List.{append_assoc, length-append}
 use Rattle.std.proofs.lemmas.List.Elements.{All-weaker, Contains-append_left, Contains-append_right, Contains-append_cases}
 use Rattle.eu_name.specs.declared.name.TokenName.{TokenName}
 use Rattle.model_core.specs.declared.decision.Decision.{Decision}
-use Rattle.model_core.specs.declared.decision.Decision.TheVariants.{Specify, Activate, Merge, Reject, Order}
+use Rattle.model_core.specs.declared.decision.Decision.TheVariants.{Specify, Activate, Merge, Reject, Order, Constrain, Relate}
 use Rattle.model_core.specs.declared.model.Model.{Model}
 use Rattle.model_core.specs.Decided.{IsTaken, IsActive, IsDecided}
 use Rattle.model_core.specs.State.{State, IsBelow}
+use Rattle.plan_defs.specs.Claims.{argument_of}
 use Rattle.plan_defs.specs.Closure.{IsPropagatedState, IsClosed, IsLeast}
 use Rattle.plan_defs.specs.Refusals.{IsKnown, IsAlreadyDecided, NeedsActive, AreActive, Hinders, IsAdmissible}
-use Rattle.model_core.specs.declared.refusal.Refusal.TheVariants.{Unknown, Decided, NotInDomain, NotActive, NotSamePredicate, NotRejectable, SameToken, ActiveFull}
+use Rattle.model_core.specs.declared.refusal.Refusal.TheVariants.{Unknown, WrongType, Decided, NotInDomain, NotActive, NotSamePredicate, NotRejectable, SameToken, ActiveFull}
 use Rattle.model_core.specs.declared.refusal.Refusal.{Refusal}
 use Rattle.plan_defs.specs.Settling.{SettlesAfter, IsSettled}
 use Rattle.plan_defs.specs.Situations.{situation_of}
 use Rattle.plan_defs.specs.Support.{IsSupportedToken}
-use Rattle.plan_defs.specs.Terms.{Variable}
+use Rattle.plan_defs.specs.Terms.{Variable, TokenCounts, ArgumentCounts}
 use Rattle.plan_defs.proofs.Knowing.{known_or_not}
 use Rattle.plan_defs.proofs.Lower.{counts_further, supported_further, further_below}
 use Rattle.eu_name.proofs.Ordered.{contains_head, contains_cases, contains_none}
 use Rattle.plan_defs.proofs.Settling.{settled_few, IsSettled-push}
+use Rattle.law_states.proofs.Known.{known_below}
 use Rattle.law_states.proofs.Thinning.{IsPartOf, KeepsTokens, taken_more, active_more, decided_more, further_kept, fewer_propagated, closed_same, closed_undecided}
 
 -- ---- members
@@ -152,6 +154,8 @@ module _ (model : Model) (above : LeastAreAbove model) (founded : LeastAreFounde
     already (Merge token target) p = decided_more more before thinned.whole model token p
     already (Reject token) p = decided_more more before thinned.whole model token p
     already (Order one other) p = thinned.whole _ p
+    already (Constrain kind arguments) p = thinned.whole _ p
+    already (Relate relation one other) p = thinned.whole _ p
 
     undecided : IsAlreadyDecided model more decision → ⊥
     undecided p = admissible.free Decided (already decision p)
@@ -162,13 +166,6 @@ module _ (model : Model) (above : LeastAreAbove model) (founded : LeastAreFounde
       lower : IsBelow admits.state state
       lower = above fewer admits.state state thinned.settled_fewer admits.least (fewer_propagated fewer more thinned.part state model least.closed.consistent)
 
-      known : (each : Decision) → IsKnown admits.state each → IsKnown state each
-      known (Specify name value) p = let found = lower.variables name p.0 p.1 in (found.0, found.1)
-      known (Activate token) p = lower.tokens token p
-      known (Merge token target) p = (lower.tokens token p.0, lower.tokens target p.1)
-      known (Reject token) p = lower.tokens token p
-      known (Order one other) p = (lower.tokens one p.0, lower.tokens other p.1)
-
       needs : (each : Decision) → NeedsActive model more each → NeedsActive model fewer each
       needs (Specify name value) p = λ counts. p (counts_further model (IsTaken fewer) (IsTaken more) (taken_more fewer more thinned.part) (Variable name) counts)
       needs (Activate token) p = p
@@ -176,6 +173,13 @@ module _ (model : Model) (above : LeastAreAbove model) (founded : LeastAreFounde
       needs (Reject token) p = p
       needs (Order one other) (inl p) = inl (λ active. p (active_more fewer more thinned.part model one active))
       needs (Order one other) (inr p) = inr (λ active. p (active_more fewer more thinned.part model other active))
+      needs (Constrain kind arguments) p = λ counting.
+          p (All-weaker (ArgumentCounts model (IsTaken fewer)) (ArgumentCounts model (IsTaken more))
+          (counts_further model (IsTaken fewer) (IsTaken more) (taken_more fewer more thinned.part)) (map argument_of arguments) counting)
+      needs (Relate relation one other) p = λ counting. p (token_needs one counting.0, token_needs other counting.1)
+        where
+          token_needs : (token : TokenName) → TokenCounts model (IsTaken fewer) token → TokenCounts model (IsTaken more) token
+          token_needs token counts = λ rejectable. taken_more fewer more thinned.part token (counts rejectable)
 
       full : AreActive model more 512 → AreActive model before 512
       full p = record {
@@ -186,34 +190,51 @@ module _ (model : Model) (above : LeastAreAbove model) (founded : LeastAreFounde
       }
 
       hinders : (reason : Refusal) (each : Decision) → each ≡ decision → Hinders model more state reason each → ⊥
-      hinders Unknown each is p = admits.free Unknown (λ there. p (subst (IsKnown state) (sym is) (known decision there)))
+      hinders Unknown each is p = admits.free Unknown (λ there. p (subst (IsKnown state) (sym is) (known_below admits.state state lower decision there)))
+      hinders WrongType (Specify name value) is p = p
+      hinders WrongType (Activate token) is p = p
+      hinders WrongType (Merge token target) is p = p
+      hinders WrongType (Reject token) is p = p
+      hinders WrongType (Order one other) is p = p
+      hinders WrongType (Constrain kind arguments) is p = admits.free WrongType (subst (Hinders model fewer admits.state WrongType) is p)
+      hinders WrongType (Relate relation one other) is p = p
       hinders Decided each is p = undecided (subst (IsAlreadyDecided model more) is p)
       hinders NotInDomain (Specify name value) is p = admits.free NotInDomain (subst (Hinders model fewer admits.state NotInDomain) is p)
       hinders NotInDomain (Activate token) is p = p
       hinders NotInDomain (Merge token target) is p = p
       hinders NotInDomain (Reject token) is p = p
       hinders NotInDomain (Order one other) is p = p
+      hinders NotInDomain (Constrain kind arguments) is p = admits.free NotInDomain (subst (Hinders model fewer admits.state NotInDomain) is p)
+      hinders NotInDomain (Relate relation one other) is p = p
       hinders NotActive each is p = admits.free NotActive (subst (NeedsActive model fewer) is (needs each p))
       hinders NotSamePredicate (Specify name value) is p = p
       hinders NotSamePredicate (Activate token) is p = p
       hinders NotSamePredicate (Merge token target) is p = admits.free NotSamePredicate (subst (Hinders model fewer admits.state NotSamePredicate) is p)
       hinders NotSamePredicate (Reject token) is p = p
       hinders NotSamePredicate (Order one other) is p = p
+      hinders NotSamePredicate (Constrain kind arguments) is p = p
+      hinders NotSamePredicate (Relate relation one other) is p = p
       hinders NotRejectable (Specify name value) is p = p
       hinders NotRejectable (Activate token) is p = p
       hinders NotRejectable (Merge token target) is p = p
       hinders NotRejectable (Reject token) is p = admits.free NotRejectable (subst (Hinders model fewer admits.state NotRejectable) is p)
       hinders NotRejectable (Order one other) is p = p
+      hinders NotRejectable (Constrain kind arguments) is p = p
+      hinders NotRejectable (Relate relation one other) is p = p
       hinders SameToken (Specify name value) is p = p
       hinders SameToken (Activate token) is p = p
       hinders SameToken (Merge token target) is p = p
       hinders SameToken (Reject token) is p = p
       hinders SameToken (Order one other) is p = admits.free SameToken (subst (Hinders model fewer admits.state SameToken) is p)
+      hinders SameToken (Constrain kind arguments) is p = p
+      hinders SameToken (Relate relation one other) is p = admits.free SameToken (subst (Hinders model fewer admits.state SameToken) is p)
       hinders ActiveFull (Specify name value) is p = p
       hinders ActiveFull (Activate token) is p = admissible.free ActiveFull (subst (Hinders model before admissible.state ActiveFull) is (full p))
       hinders ActiveFull (Merge token target) is p = p
       hinders ActiveFull (Reject token) is p = p
       hinders ActiveFull (Order one other) is p = p
+      hinders ActiveFull (Constrain kind arguments) is p = p
+      hinders ActiveFull (Relate relation one other) is p = p
 
       admits_more : IsAdmissible model more decision
       admits_more = record { state = state; least = least; free = λ reason p. hinders reason decision refl p }
@@ -302,6 +323,16 @@ module _ (model : Model) (above : LeastAreAbove model) (founded : LeastAreFounde
           (λ token target same. let apart : ⊥ = cc in apart)
           (λ token same. let apart : ⊥ = cc in apart))
       tokens_more (Order one other) is keeps =
+          inl (keeps_more keeps
+          (λ token same. let apart : ⊥ = cc in apart)
+          (λ token target same. let apart : ⊥ = cc in apart)
+          (λ token same. let apart : ⊥ = cc in apart))
+      tokens_more (Constrain kind arguments) is keeps =
+          inl (keeps_more keeps
+          (λ token same. let apart : ⊥ = cc in apart)
+          (λ token target same. let apart : ⊥ = cc in apart)
+          (λ token same. let apart : ⊥ = cc in apart))
+      tokens_more (Relate relation one other) is keeps =
           inl (keeps_more keeps
           (λ token same. let apart : ⊥ = cc in apart)
           (λ token target same. let apart : ⊥ = cc in apart)

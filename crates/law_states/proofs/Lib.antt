@@ -12,6 +12,7 @@ pub mod Valuing
 mod Deciding
 mod Pinning
 mod Having
+mod Relating
 pub mod Agreeing
 mod Keeping
 pub mod Ways
@@ -25,6 +26,7 @@ pub mod Clauses
 mod OwnFlawless
 pub mod Seeing
 mod Uniting
+mod Known
 pub mod Founding
 pub mod Hulls
 pub mod Joining

@@ -36,7 +36,8 @@ use Rattle.plan_defs.proofs.Determining.{value_once}
 use Rattle.plan_defs.proofs.Stating.{merged_not_rejected}
 use Rattle.law_states.specs.Soundness.{IsFlawlessPlan}
 use Rattle.law_states.proofs.Having.{is_state, value_of, takes_line, gives_value, merged_value}
-use Rattle.law_states.proofs.Keeping.{part_kept, part_has, taken_down, counted_kept, same_predicate}
+use Rattle.law_states.proofs.Agreeing.{counted_kept}
+use Rattle.law_states.proofs.Keeping.{part_kept, part_has, taken_down, same_predicate}
 
 -- both predicates have the part
 alike_part : (model : Model) (one other : Slot) (part : Part) (base : Base) → one.pred ≡ other.pred → HasPartBase model other part base → (b : Base) × HasPartBase model one part b

@@ -1,8 +1,8 @@
 -- A closed state without what isn't supported in it is closed too.
 use Rattle.std.proofs.Common.{◌≡◌, ℕ, inl, inr, List, [], ◌∷◌, ◌++◌, refl, sym, ◌∙◌, subst}
-use Rattle.std.specs.Prelude.{Contains}
+use Rattle.std.specs.Prelude.{All, Contains, map}
 use Rattle.std.specs.List.{AllZip}
-use Rattle.std.proofs.lemmas.List.Elements.{All-contains}
+use Rattle.std.proofs.lemmas.List.Elements.{All-contains, All-head, All-tail}
 use Rattle.domain_core.specs.Domain.{Domain}
 use Rattle.domain_core.proofs.Words.{IsWithin-refl}
 use Rattle.eu_name.specs.declared.name.Part.{Part}
@@ -14,8 +14,10 @@ use Rattle.eu_name.specs.declared.name.VarName.TheVariants as names
 use Rattle.eu_name.specs.NameOrder.{IsTokenBefore}
 use Rattle.eu_name.proofs.Members.{get_from_contains}
 use Rattle.eu_name.proofs.Orders.{token_order}
+use Rattle.model_core.specs.declared.decision.ConArg.{ConArg}
+use Rattle.model_core.specs.declared.decision.ConArg.TheVariants as given
 use Rattle.model_core.specs.declared.decision.Decision.{Decision}
-use Rattle.model_core.specs.declared.decision.Decision.TheVariants.{Specify, Activate, Merge, Reject, Order}
+use Rattle.model_core.specs.declared.decision.Decision.TheVariants.{Specify, Activate, Merge, Reject, Order, Constrain, Relate}
 use Rattle.model_core.specs.declared.item.Item.{Item}
 use Rattle.model_core.specs.declared.item.Item.TheVariants.{Constraint, Relation}
 use Rattle.model_core.specs.declared.item.Term.{Term}
@@ -30,10 +32,10 @@ use Rattle.model_core.specs.Lawful.{IsLawful, IsToken}
 use Rattle.model_core.specs.Standing.{IsTermSeen, IsItemSeen, IsSeen}
 use Rattle.model_core.specs.State.{State, Gives, StandsOpen, IsAbout, IsBlockOf, IsBelow}
 use Rattle.model_core.specs.Tokens.{HasToken, IsRoot, root_token, slot_token}
-use Rattle.plan_defs.specs.Claims.{Claim, IsClaim, ItemSays, part_of, at_most}
+use Rattle.plan_defs.specs.Claims.{Claim, IsClaim, ItemSays, Posts, argument_of, part_of, at_most}
 use Rattle.plan_defs.specs.Closure.{IsPropagatedState, IsClosed, IsRespected}
 use Rattle.plan_defs.specs.Consistency.{IsClaimConsistent}
-use Rattle.plan_defs.specs.Situations.{situation_of}
+use Rattle.plan_defs.specs.Situations.{Situation, situation_of}
 use Rattle.plan_defs.specs.Support.{IsSupportedToken, IsSupportedBlock}
 use Rattle.plan_defs.specs.Terms.{InProblem, InRule, Argument, Value, Variable, Means, HasDomain}
 use Rattle.plan_defs.proofs.Lower.{Follows-map, HasBlock-map, asks_as_much, turn_below}
@@ -43,20 +45,45 @@ use Rattle.plan_defs.proofs.Reservoirs.{reservoirs_above}
 use Rattle.plan_defs.proofs.Resources.{reusables_above}
 use Rattle.model_core.proofs.Blocks.{block_once}
 use Rattle.model_core.proofs.Lawful.{rule_lawful}
-use Rattle.law_states.proofs.Asking.{IsOfTwo, of_two}
+use Rattle.law_states.proofs.Relating.{IsOfTwo, of_two}
 use Rattle.law_states.proofs.Seeing.{outer_open, supported_slot}
 use Rattle.law_states.proofs.Listing.{Chosen, chosen}
 use Rattle.law_states.proofs.Making.{Made, MayBeState, made, about_more}
 use Rattle.law_states.proofs.Paths.{block_order}
 use Rattle.law_states.proofs.TellingSupport.{supported_or_not, supported_block_or_not}
 
--- it is so of the tokens that the decision names
-abbrev pub AreNamed : (TokenName → Type 0) → Decision → Type 0
-AreNamed P (Specify name value) = Unit {0}
-AreNamed P (Activate token) = P token
-AreNamed P (Merge token target) = P token × P target
-AreNamed P (Reject token) = P token
-AreNamed P (Order one other) = P one × P other
+-- ---- what decisions name
+
+module _ (model : Model) (situation : Situation) where
+  -- the local stands in a supported block of the token and the rule
+  pub record StandsSupported (token : TokenName) (rule number : ℕ) : Type 0 where
+    pub block : TokenBlock
+    pub of_token : block.token ≡ token
+    pub of_rule : block.rule ≡ rule
+    pub entries : Entries
+    pub supported : IsSupportedBlock model situation block entries
+    pub stands : Contains (direct entries) (OfLocal number)
+
+  -- the variable is one of the problem or of a supported token, or it stands in a supported block
+  abbrev pub IsSupportedVariable : VarName → Type 0
+  IsSupportedVariable (names.Global number) = Unit {0}
+  IsSupportedVariable (names.Token token part) = IsSupportedToken model situation token
+  IsSupportedVariable (names.Local token rule number) = StandsSupported token rule number
+
+  -- if the argument is a variable, it is a supported one
+  abbrev pub IsSupportedArgument : ConArg → Type 0
+  IsSupportedArgument (given.Var name) = IsSupportedVariable name
+  IsSupportedArgument (given.Value value) = Unit {0}
+
+  -- the tokens that the decision names, and the variables of a constraint that it posts, are supported
+  abbrev pub AreNamedSupported : Decision → Type 0
+  AreNamedSupported (Specify name value) = Unit {0}
+  AreNamedSupported (Activate token) = IsSupportedToken model situation token
+  AreNamedSupported (Merge token target) = IsSupportedToken model situation token × IsSupportedToken model situation target
+  AreNamedSupported (Reject token) = IsSupportedToken model situation token
+  AreNamedSupported (Order one other) = IsSupportedToken model situation one × IsSupportedToken model situation other
+  AreNamedSupported (Constrain kind arguments) = All IsSupportedArgument arguments
+  AreNamedSupported (Relate relation one other) = IsSupportedToken model situation one × IsSupportedToken model situation other
 
 -- a root is supported in any situation
 pub root_supported : (model : Model) (decisions : List Decision) (state : State) (token : TokenName) (root : the_root.Root) → token.steps ≡ [] → IsRoot model token.root root
@@ -72,7 +99,7 @@ root_supported model decisions state token root none is = record {
     no_split (first ∷ front) step back are = cc
 
 module _ (model : Model) (decisions : List Decision) (state : State) (lawful : IsLawful model) (fit : IsPropagatedState model decisions state)
-    (named : (decision : Decision) → Contains decisions decision → AreNamed (IsSupportedToken model (situation_of decisions state)) decision) where
+    (named : (decision : Decision) → Contains decisions decision → AreNamedSupported model (situation_of decisions state) decision) where
   abbrev Supported : TokenName → Type 0
   Supported token = IsSupportedToken model (situation_of decisions state) token
 
@@ -258,6 +285,41 @@ module _ (model : Model) (decisions : List Decision) (state : State) (lawful : I
       problem_item_stays (Constraint kind terms) claim says = problem_terms_stay terms claim.arguments says.means
       problem_item_stays (Relation relation slot) claim says = absurd says
 
+      -- what is posted
+
+      variable_stays : (name : VarName) → IsSupportedVariable model (situation_of decisions state) name → Stays name
+      variable_stays (names.Global number) is = tt
+      variable_stays (names.Token token part) is = is
+      variable_stays (names.Local token rule number) is = record {
+        block = is.block;
+        is_open = (opened.are is.block).1 (fit.blocks is.block is.entries is.supported, (is.entries, is.supported));
+        of_token = is.of_token;
+        of_rule = is.of_rule;
+        entries = is.entries;
+        is_block = HasBlock-map model _ (λ guard side. Unit {0}) (λ guard side opens. tt) is.block is.entries is.supported.is_open.has_block;
+        stands = is.stands;
+      }
+
+      argument_stays : (argument : ConArg) → IsSupportedArgument model (situation_of decisions state) argument → StaysArgument (argument_of argument)
+      argument_stays (given.Var name) is = variable_stays name is
+      argument_stays (given.Value value) is = tt
+
+      arguments_stay : (arguments : List ConArg) → All (IsSupportedArgument model (situation_of decisions state)) arguments → AllStay (map argument_of arguments)
+      arguments_stay [] are = tt
+      arguments_stay (argument ∷ arguments) are = (
+        λ domain has. argument_stays argument (All-head (IsSupportedArgument model (situation_of decisions state)) argument arguments are),
+        arguments_stay arguments (All-tail (IsSupportedArgument model (situation_of decisions state)) argument arguments are),
+      )
+
+      posted_stays : (decision : Decision) (claim : Claim) → AreNamedSupported model (situation_of decisions state) decision → Posts decision claim → AllStay claim.arguments
+      posted_stays (Specify name value) claim are posts = absurd posts
+      posted_stays (Activate token) claim are posts = absurd posts
+      posted_stays (Merge token target) claim are posts = absurd posts
+      posted_stays (Reject token) claim are posts = absurd posts
+      posted_stays (Order one other) claim are posts = absurd posts
+      posted_stays (Constrain kind arguments) claim are posts = subst (λ (c : Claim). AllStay c.arguments) (sym posts) (arguments_stay arguments are)
+      posted_stays (Relate relation one other) claim are posts = two_stay one other claim (of_two relation one other claim posts) are.0 are.1
+
       claim_stays : (claim : Claim) → IsClaim model decisions pruned claim → AllStay claim.arguments
       claim_stays claim (inl p) = problem_item_stays p.item claim p.says
       claim_stays claim (inr (inl p)) =
@@ -271,9 +333,10 @@ module _ (model : Model) (decisions : List Decision) (state : State) (lawful : I
       claim_stays claim (inr (inr (inr (inl p)))) =
           let both = named (Merge p.token p.target) p.merged in
           subst (λ (c : Claim). AllStay c.arguments) (sym p.says) (parts_stay p.token p.target p.part p.part both.0 both.1)
-      claim_stays claim (inr (inr (inr (inr p)))) =
+      claim_stays claim (inr (inr (inr (inr (inl p))))) =
           let both = named (Order p.one p.other) p.ordered in
           subst (λ (c : Claim). AllStay c.arguments) (sym p.says) (parts_stay p.one p.other End Start both.0 both.1)
+      claim_stays claim (inr (inr (inr (inr (inr p))))) = posted_stays p.decision claim (named p.decision p.stands) p.posts
 
       -- ---- it is closed
 
@@ -283,6 +346,8 @@ module _ (model : Model) (decisions : List Decision) (state : State) (lawful : I
       respected (Merge token target) is = tt
       respected (Reject token) is = tt
       respected (Order before after) is = tt
+      respected (Constrain kind arguments) is = tt
+      respected (Relate relation before after) is = tt
 
       on_supported : (token : TokenName) (domain : Domain) → Gives pruned (names.Token token Object) domain → Supported token
       on_supported token domain gives = ((some.are token).0 ((whole.is_state.variables (names.Token token Object)).1 (domain, gives)).0).1

@@ -1,21 +1,22 @@
 -- Whether a token or a block is supported in a propagated state can be told.
-use Rattle.std.proofs.Common.{◌≡◌, ℕ, inl, inr, ⊎_elim, List, [], ◌∷◌, ◌++◌, refl, sym, ap, ◌∙◌, subst}
+use Rattle.std.proofs.Common.{◌≡◌, ℕ, inl, inr, List, [], ◌∷◌, ◌++◌, refl, sym, ap, ◌∙◌, subst}
 use Rattle.std.specs.Prelude.{Contains}
 use Rattle.std.proofs.lemmas.Bool.{cases_eq}
 use Rattle.std.proofs.lemmas.List.{append-nil, append_assoc}
 use Rattle.eu_name.specs.declared.name.Step.{Step}
 use Rattle.eu_name.specs.declared.name.TokenName.{TokenName}
 use Rattle.model_core.specs.declared.decision.Decision.{Decision}
-use Rattle.model_core.specs.declared.decision.Decision.TheVariants.{Specify, Activate, Merge, Reject, Order}
+use Rattle.model_core.specs.declared.decision.Decision.TheVariants.{Specify, Activate, Merge, Reject, Order, Constrain, Relate}
 use Rattle.model_core.specs.declared.model.Model.{Model}
 use Rattle.model_core.specs.Blocks.{TokenBlock, Direct, OfSlot, OfLocal, OfItem, OfBranch, direct}
-use Rattle.model_core.specs.Decided.{IsActivated, IsMerged, IsTaken}
+use Rattle.model_core.specs.Decided.{IsActivated}
 use Rattle.model_core.specs.Entries.{Entries}
 use Rattle.model_core.specs.Lawful.{IsToken}
 use Rattle.model_core.specs.State.{State}
 use Rattle.plan_defs.specs.Closure.{IsPropagatedState}
 use Rattle.plan_defs.specs.Situations.{situation_of}
 use Rattle.plan_defs.specs.Support.{IsOpen, AsksFor, IsSupportedToken, IsSupportedBlock, front_token}
+use Rattle.plan_defs.proofs.Counting.{taken_or_not}
 use Rattle.plan_defs.proofs.Knowing.{IsOrNot, given_or_not, same_token}
 use Rattle.plan_defs.proofs.States.{gives_same}
 use Rattle.model_core.proofs.Blocks.{block_once}
@@ -35,17 +36,8 @@ activates token (Activate other) = same_token other token
 activates token (Merge other target) = inr (λ is. is)
 activates token (Reject other) = inr (λ is. is)
 activates token (Order one other) = inr (λ is. is)
-
-abbrev Merges : TokenName → Decision → Type 0
-Merges token (Merge other target) = other ≡ token
-Merges token decision = ⊥
-
-merges : (token : TokenName) (decision : Decision) → IsOrNot (Merges token decision)
-merges token (Specify name value) = inr (λ is. is)
-merges token (Activate other) = inr (λ is. is)
-merges token (Merge other target) = same_token other token
-merges token (Reject other) = inr (λ is. is)
-merges token (Order one other) = inr (λ is. is)
+activates token (Constrain kind arguments) = inr (λ is. is)
+activates token (Relate relation one other) = inr (λ is. is)
 
 module _ (decisions : List Decision) where
   activated_by : (token : TokenName) (decision : Decision) → Contains decisions decision → Activates token decision → IsActivated decisions token
@@ -54,33 +46,13 @@ module _ (decisions : List Decision) where
   activated_by token (Merge other target) there is = absurd is
   activated_by token (Reject other) there is = absurd is
   activated_by token (Order one other) there is = absurd is
-
-  merged_by : (token : TokenName) (decision : Decision) → Contains decisions decision → Merges token decision → IsMerged decisions token
-  merged_by token (Specify name value) there is = absurd is
-  merged_by token (Activate other) there is = absurd is
-  merged_by token (Merge other target) there is = (target, subst (λ (t : TokenName). Contains decisions (Merge t target)) is there)
-  merged_by token (Reject other) there is = absurd is
-  merged_by token (Order one other) there is = absurd is
+  activated_by token (Constrain kind arguments) there is = absurd is
+  activated_by token (Relate relation one other) there is = absurd is
 
   activated_or_not : (token : TokenName) → IsOrNot (IsActivated decisions token)
   activated_or_not token = elim (any_or_not (Activates token) (activates token) decisions) [
     | inl found ↦ inl (activated_by token found.0 found.1.0 found.1.1)
     | inr none ↦ inr (λ activated. none (Activate token, (activated, refl)))
-  ]
-
-  merged_or_not : (token : TokenName) → IsOrNot (IsMerged decisions token)
-  merged_or_not token = elim (any_or_not (Merges token) (merges token) decisions) [
-    | inl found ↦ inl (merged_by token found.0 found.1.0 found.1.1)
-    | inr none ↦ inr (λ merged. none (Merge token merged.0, (merged.1, refl)))
-  ]
-
-  taken_or_not : (token : TokenName) → IsOrNot (IsTaken decisions token)
-  taken_or_not token = elim (activated_or_not token) [
-    | inl activated ↦ inl (inl activated)
-    | inr not ↦ elim (merged_or_not token) [
-      | inl merged ↦ inl (inr merged)
-      | inr none ↦ inr (λ taken. ⊎_elim not none taken)
-    ]
   ]
 
 -- ---- slots

@@ -3,6 +3,7 @@
 use Rattle.std.proofs.Common.{ℤ, List, [], ◌∷◌, inl, inr}
 use Rattle.std.specs.Prelude.{Contains}
 use Rattle.std.specs.List.{AllZip}
+use Rattle.std.proofs.lemmas.List.Elements.{All-weaker}
 use Rattle.domain_core.proofs.Words.{IsWithin-refl}
 use Rattle.eu_name.specs.declared.name.TokenName.{TokenName}
 use Rattle.model_core.specs.declared.class.PredKind.{PredKind}
@@ -20,9 +21,9 @@ use Rattle.plan_defs.specs.Resources.{IsActor, IsShare, SurelyChanges, MayChange
 use Rattle.plan_defs.specs.Resources.{FitReusables, FitReservoirs, IsTokenComplete, IsCertain, IsOfRejected}
 use Rattle.plan_defs.specs.Situations.{situation_of}
 use Rattle.plan_defs.specs.Support.{IsSupportedToken, one_side, other_side}
-use Rattle.plan_defs.specs.Terms.{InProblem, InRule}
+use Rattle.plan_defs.specs.Terms.{InProblem, InRule, ArgumentCounts}
 use Rattle.plan_defs.specs.Timelines.{ShareTimeline}
-use Rattle.plan_defs.proofs.Lower.{Further, says_further, supported_further, block_further, opens_further}
+use Rattle.plan_defs.proofs.Lower.{Further, counts_further, says_further, supported_further, block_further, opens_further}
 
 -- the one list has no decision that the other hasn't
 abbrev pub IsPartOf : List Decision → List Decision → Type 0
@@ -102,8 +103,15 @@ module _ (fewer more : List Decision) (part : IsPartOf fewer more) where
         has_part = p.has_part;
         says = p.says;
       }))))
-      claim_more claim (inr (inr (inr (inr p)))) =
-          inr (inr (inr (inr (record { one = p.one; other = p.other; ordered = part _ p.ordered; says = p.says }))))
+      claim_more claim (inr (inr (inr (inr (inl p))))) =
+          inr (inr (inr (inr (inl (record { one = p.one; other = p.other; ordered = part _ p.ordered; says = p.says })))))
+      claim_more claim (inr (inr (inr (inr (inr p))))) = inr (inr (inr (inr (inr (record {
+        decision = p.decision;
+        stands = part p.decision p.stands;
+        posts = p.posts;
+        counts = All-weaker (ArgumentCounts model (IsTaken fewer)) (ArgumentCounts model (IsTaken more))
+            (counts_further model (IsTaken fewer) (IsTaken more) taken_more) claim.arguments p.counts;
+      })))))
 
       shares_more : (one other : TokenName) → ShareTimeline model fewer state one other → ShareTimeline model more state one other
       shares_more one other p = record {

@@ -5,7 +5,7 @@ use Rattle.std.proofs.lemmas.List.Elements.{Contains-push_cases}
 use Rattle.eu_name.specs.declared.name.TokenName.{TokenName}
 use Rattle.eu_name.proofs.Ordered.{contains_none}
 use Rattle.model_core.specs.declared.decision.Decision.{Decision}
-use Rattle.model_core.specs.declared.decision.Decision.TheVariants.{Specify, Activate, Merge, Reject, Order}
+use Rattle.model_core.specs.declared.decision.Decision.TheVariants.{Activate, Merge, Reject}
 use Rattle.model_core.specs.declared.model.Model.{Model}
 use Rattle.model_core.specs.declared.refusal.Refusal.TheVariants.{Unknown}
 use Rattle.model_core.specs.Decided.{IsActive, IsTaken, IsRejected}
@@ -25,17 +25,11 @@ use Rattle.law_states.specs.LeastStates.{HasUpper}
 use Rattle.law_states.specs.Undeniable.{Undeniable, ListsCollapseOrHaveLeast}
 use Rattle.law_states.proofs.Founding.{least_above, well_founded}
 use Rattle.law_states.proofs.Joining.{upper}
+use Rattle.law_states.proofs.Known.{known_below}
 use Rattle.law_states.proofs.Pruning.{root_supported}
 use Rattle.law_states.proofs.Weighing.{weight_of, same_or_lighter}
 
 -- ---- what a settled list names is in each propagated state
-
-known_below : (high low : State) → IsBelow high low → (decision : Decision) → IsKnown high decision → IsKnown low decision
-known_below high low below (Specify name value) known = let found = below.variables name known.0 known.1 in (found.0, found.1)
-known_below high low below (Activate token) known = below.tokens token known
-known_below high low below (Merge token target) known = (below.tokens token known.0, below.tokens target known.1)
-known_below high low below (Reject token) known = below.tokens token known
-known_below high low below (Order one other) known = (below.tokens one known.0, below.tokens other known.1)
 
 module _ (model : Model) (lawful : IsLawful model) where
   abbrev KnowAll : List Decision → Type 0

@@ -1,4 +1,4 @@
-use Rattle.law_examples.proofs.Agreed.{nothing_agrees, x_agrees, x_differs, quantity_agrees, quantity_differs, activation_agrees, fact_differs, merge_agrees, merge_differs, rejection_agrees, rejection_differs, order_agrees, overlap_differs, order_differs, both_agree, one_differs}
+use Rattle.law_examples.proofs.Agreed.{nothing_agrees, x_agrees, x_differs, quantity_agrees, quantity_differs, activation_agrees, fact_differs, merge_agrees, merge_differs, rejection_agrees, rejection_differs, order_agrees, overlap_differs, order_differs, constraint_agrees, constraint_differs, none_differs, relation_agrees, relation_differs, any_agrees, any_differs, both_agree, one_differs}
 use Rattle.law_examples.proofs.Swaps.{not_activated}
 use Rattle.law_examples.proofs.agreement.plans_agree_with_what_they_say.Goals as goal
 
@@ -19,6 +19,13 @@ returns c = record {
   ordered = order_agrees;
   overlapping = overlap_differs;
   turned = order_differs;
+  constrained = constraint_agrees;
+  other_constraint = constraint_differs;
+  without_value = none_differs;
+  related = relation_agrees;
+  unrelated = relation_differs;
+  any = any_agrees;
+  any_of_rejected = any_differs;
   both = both_agree;
   only_one = one_differs;
 }

@@ -1,4 +1,4 @@
-use Rattle.law_examples.proofs.Lawful.{empty_lawful, free_lawful, low_lawful, free_two_lawful, low_two_lawful, void_lawful, given_lawful, field_lawful, halved_lawful}
+use Rattle.law_examples.proofs.Lawful.{empty_lawful, free_lawful, low_lawful, free_two_lawful, low_two_lawful, typed_lawful, void_lawful, given_lawful, field_lawful, halved_lawful}
 use Rattle.std.proofs.Common.{arith}
 use Rattle.law_examples.proofs.models.problems_of_variables_are_lawful.Goals as goal
 
@@ -31,3 +31,6 @@ returns-clause-odd c = halved_lawful 3 (omega arith)
 
 pub returns-clause-even : goal.returns-clause-even
 returns-clause-even c = halved_lawful 6 (omega arith)
+
+pub returns-clause-typed : goal.returns-clause-typed
+returns-clause-typed c = typed_lawful

@@ -1,4 +1,5 @@
 use Rattle.law_examples.proofs.Reasons.{goal_before_itself, quantity_untaken, quantity_taken, target_inactive, merge_free, goal_inactive, order_free}
+use Rattle.law_examples.proofs.Posted.{low_untaken, low_taken, relation_untaken, relation_free}
 use Rattle.law_examples.proofs.refusals.tokens_are_active_first.Goals as goal
 
 pub returns-clause-untaken : goal.returns-clause-untaken
@@ -21,3 +22,15 @@ returns-clause-ordered_facts c = order_free
 
 pub returns-clause-ordered_before_itself : goal.returns-clause-ordered_before_itself
 returns-clause-ordered_before_itself c = goal_before_itself
+
+pub returns-clause-constrained_untaken : goal.returns-clause-constrained_untaken
+returns-clause-constrained_untaken c = low_untaken
+
+pub returns-clause-constrained_taken : goal.returns-clause-constrained_taken
+returns-clause-constrained_taken c = low_taken
+
+pub returns-clause-related_untaken : goal.returns-clause-related_untaken
+returns-clause-related_untaken c = relation_untaken
+
+pub returns-clause-related_goals : goal.returns-clause-related_goals
+returns-clause-related_goals c = relation_free
