@@ -105,7 +105,7 @@ module _ (model : Model) (decisions : List Decision) (token : TokenName) (old : 
           third.net.constraints (says longer under.states) due
           (λ part number at. after.parts token part number (inl refl)
           (subst (λ (s : Stored). slice_get (content_now s).names number ≡ Some (Token token part)) (sym only) at))
-          there tt rules (λ one target part is_it has. absurd (cc)) (λ one other is_it. cc))
+          there tt rules (λ one target part is_it has. absurd (cc)) (λ one other is_it. cc) (λ claim posts. posts))
 
 -- where opening its rules fails, so does taking the decision up
 pub activation_fails : (model : Model) (token : TokenName) (old : Stored) → IsSnapshot (snapshot_of old) → (place : ℕ) → IsNamedAt (tokens_now old.past) place token

@@ -15,7 +15,7 @@ use Rattle.model_core.specs.Lawful.{IsLawful}
 use Rattle.model_core.specs.State.{IsBlockOf}
 use Rattle.model_core.specs.Tokens.{IsRejectable}
 use Rattle.constraint_net.specs.declared.constraint.Constraint as posts
-use Rattle.plan_defs.specs.Claims.{Claim, IsClaim, HasPart, equal, part_of}
+use Rattle.plan_defs.specs.Claims.{Claim, IsClaim, HasPart, Posts, equal, part_of}
 use Rattle.plan_defs.specs.Closure.{IsRespected}
 use Rattle.plan_defs.specs.Laws.{HaveToTurn}
 use Rattle.plan_defs.specs.Refusals.{IsKnown}
@@ -93,7 +93,7 @@ module _ (model : Model) (lawful : IsLawful model) (decisions : List Decision) (
       (rules : (one : TokenName) (rule : ℕ) (entries : Entries) → decision ≡ Activate one → IsBlock model (block_at one rule []) entries → Contains content.blocks (block_at one rule []))
       (merges : (one target : TokenName) (part : Part) → decision ≡ Merge one target → HasPart model one part
       → IsPostedIn content.names stored.net.constraints (equal (part_of one part) (part_of target part)))
-      (orders : (one other : TokenName) → decision ≡ Order one other → ⊥) where
+      (orders : (one other : TokenName) → decision ≡ Order one other → ⊥) (no_posting : (claim : Claim) → Posts decision claim → ⊥) where
     more : IsStoreUnderway model decisions longer (with_constraints stored constraints) unfolded due
     more = due_longer model decisions longer (with_constraints stored constraints) unfolded due begun
 
@@ -127,6 +127,7 @@ module _ (model : Model) (lawful : IsLawful model) (decisions : List Decision) (
       of_blocks = blocks_begun model decisions decision token only constraints content unfolded due more.complete others said;
       of_merge = λ one target part is has. posted_on content (SaysOfRejectable model token content unfolded longer) stored.net.constraints constraints says _ (merges one target part is has);
       of_order = λ one other is. absurd (orders one other is);
+      of_posting = λ claim posts. absurd (no_posting claim posts);
       in_turn = λ token' one other is which turn. turned one other (is_it one other token' is which) turn;
     }
 

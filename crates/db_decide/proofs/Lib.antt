@@ -5,6 +5,7 @@ pub mod Claiming
 pub mod Specifying
 pub mod Rejecting
 pub mod Ordering
+pub mod Posting
 pub mod Saying
 pub mod Sharing
 pub mod Ruling

@@ -11,7 +11,7 @@ use Rattle.model_core.specs.declared.decision.Decision.TheVariants.{Reject, Orde
 use Rattle.model_core.specs.declared.model.Model.{Model}
 use Rattle.model_core.specs.Decided.{IsTaken, IsRejected, IsDecided}
 use Rattle.constraint_net.specs.declared.constraint.Constraint.{Constraint}
-use Rattle.plan_defs.specs.Claims.{at_most, part_of}
+use Rattle.plan_defs.specs.Claims.{Claim, Posts, at_most, part_of}
 use Rattle.plan_defs.specs.Closure.{IsRespected}
 use Rattle.plan_defs.specs.Refusals.{IsKnown, IsAlreadyDecided}
 use Rattle.eu_name.proofs.Ordered.{contains_none}
@@ -72,8 +72,9 @@ module _ (model : Model) (decisions : List Decision) (decision : Decision) where
   pub quiet_taken_up : ((token : TokenName) → TakesToken decision token → ⊥) → (posted : List Constraint) (content : Content) (unfolded : ℕ) (due : List ℕ)
       → IsKnown (shown content) decision → IsRespected decision (shown content)
       → ((one other : TokenName) → decision ≡ Order one other → IsPostedIn content.names posted (at_most (part_of one End) (part_of other Start)))
+      → ((claim : Claim) → Posts decision claim → IsPostedIn content.names posted claim)
       → IsTakenUp model decisions decision posted content unfolded due
-  quiet_taken_up quiet posted content unfolded due known granted ordered = record {
+  quiet_taken_up quiet posted content unfolded due known granted ordered given = record {
     known = known;
     granted = granted;
     rules = λ token rule entries is has. absurd (quiet token (inl is));
@@ -82,6 +83,7 @@ module _ (model : Model) (decisions : List Decision) (decision : Decision) where
     of_blocks = λ claim begins p. absurd (quiet begins.2.0 begins.2.3);
     of_merge = λ token target part is has. absurd (quiet token (inr (target, is)));
     of_order = ordered;
+    of_posting = given;
     in_turn = λ token one other is which turn. absurd (quiet token (inl is));
   }
 

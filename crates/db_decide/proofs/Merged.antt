@@ -111,7 +111,7 @@ module _ (model : Model) (decisions : List Decision) (token target : TokenName) 
         → IsStoreUnderway model longer longer (with_constraints one three) (length old.blocks) due
     merged lawful says due parts =
         followed_up model lawful decisions (Merge token target) token (λ other takes. decides_only token target other (inl takes)) (with_constraints one two) (length old.blocks) sharing
-        others three says due parts (subst (λ (c : Content). IsKnown (shown c) (Merge token target)) (sym same) may.known) tt (λ t rule entries is has. absurd (cc)) posted (λ first second is. cc)
+        others three says due parts (subst (λ (c : Content). IsKnown (shown c) (Merge token target)) (sym same) may.known) tt (λ t rule entries is has. absurd (cc)) posted (λ first second is. cc) (λ claim posts. posts)
 
   pub merged_up : IsLawful model → (first second third : Stored) → first ≡ record old { past = with_state (tokens_now old.past) place (Merged into) ∷ old.past } → OnlyPosts first second
       → PostsClaims (content_now first).names (ClaimsToBeSame model (name_at (content_now first).tokens place) (name_at (content_now first).tokens into)) first.net.constraints second.net.constraints

@@ -1,17 +1,20 @@
 -- The numbers of the parts of a token, and what is due.
 use Rattle.std.proofs.Common.{◌≡◌, ℕ, ℤ, zero, suc, ◌+◌, ◌<◌, List, [], ◌∷◌, ◌++◌, length, take, get_or, Some, None, Err, inl, inr, refl, sym, ◌∙◌, subst, arith}
-use Rattle.std.specs.Prelude.{◌≢◌, AllPairs, Contains, Option, MatchOption, slice_get}
+use Rattle.std.specs.Prelude.{◌≢◌, All, AllPairs, Contains, Option, MatchOption, slice_get}
 use Rattle.std.proofs.lemmas.Bool.{cases_lt}
 use Rattle.std.proofs.lemmas.List.{take_more}
-use Rattle.std.proofs.lemmas.List.Elements.{All-contains, Contains-append_left, Contains-append_right, Contains-push, Contains-push_cases}
+use Rattle.std.proofs.lemmas.List.Elements.{All-contains, All-weaker, Contains-append_left, Contains-append_right, Contains-push, Contains-push_cases}
 use Rattle.eu_name.specs.declared.name.Part.{Part}
 use Rattle.eu_name.specs.declared.name.Part.TheVariants.{Start, End}
 use Rattle.eu_name.specs.declared.name.TokenName.{TokenName}
 use Rattle.eu_name.specs.declared.name.VarName.{VarName}
 use Rattle.eu_name.specs.declared.name.VarName.TheVariants as name
 use Rattle.domain_core.specs.Domain.{Range}
+use Rattle.domain_core.specs.declared.kind.Kind.{Kind}
+use Rattle.model_core.specs.declared.decision.ConArg.{ConArg}
+use Rattle.model_core.specs.declared.decision.ConArg.TheVariants as given
 use Rattle.model_core.specs.declared.decision.Decision.{Decision}
-use Rattle.model_core.specs.declared.decision.Decision.TheVariants.{Specify, Activate, Merge}
+use Rattle.model_core.specs.declared.decision.Decision.TheVariants.{Specify, Activate, Merge, Constrain}
 use Rattle.model_core.specs.declared.model.Model.{Model}
 use Rattle.model_core.specs.declared.rule.Slot.{Slot}
 use Rattle.model_core.specs.declared.variable.Base.{Base}
@@ -19,7 +22,7 @@ use Rattle.model_core.specs.declared.variable.Base.TheVariants.{Given}
 use Rattle.model_core.specs.Tokens.{HasToken}
 use Rattle.token_store.specs.Orders.{name_at}
 use Rattle.token_store.specs.Tokens.{tokens_now, token_names, token_preds, IsNamedAt}
-use Rattle.plan_defs.specs.Refusals.{IsKnown}
+use Rattle.plan_defs.specs.Refusals.{IsKnown, IsArgumentKnown}
 use Rattle.eu_name.proofs.Members.{get_below, contains_from_get, get_all}
 use Rattle.eu_name.proofs.Ordered.{contains_head, contains_later}
 use Rattle.constraint_net.specs.declared.NetFault.{NetFault}
@@ -36,6 +39,7 @@ use Rattle.db_store.specs.Stores.{Stored, snapshot_of, IsSnapshot}
 use Rattle.db_store.proofs.Lists.{unmapped}
 use Rattle.db_store.proofs.Naming.{same_place, length_names}
 use Rattle.db_posting.specs.Origins.{content_now}
+use Rattle.db_posting.specs.Postable.{IsArgumentThere}
 use Rattle.db_posting.specs.Terms.{HasTimes}
 use Rattle.db_opening.specs.Parts.{ArePartsOf}
 use Rattle.db_posting.specs.Underway.{IsStoreUnderway}
@@ -120,6 +124,16 @@ pub variable_known : (content : Content) (one : VarName) (value : ℤ) → IsKno
 variable_known content one value known =
     let at = stands_from content.names content.domains one known.0 known.1 in
     contains_from_get content.names at.number one at.named
+
+argument_known : (content : Content) (argument : ConArg) → IsArgumentKnown (shown content) argument → IsArgumentThere content argument
+argument_known content (given.Var name) known =
+    let at = stands_from content.names content.domains name known.0 known.1 in
+    contains_from_get content.names at.number name at.named
+argument_known content (given.Value value) known = tt
+
+pub arguments_known : (content : Content) (kind : Kind) (arguments : List ConArg) → IsKnown (shown content) (Constrain kind arguments) → All (IsArgumentThere content) arguments
+arguments_known content kind arguments known =
+    All-weaker (IsArgumentKnown (shown content)) (IsArgumentThere content) (argument_known content) arguments known
 
 all_below : (count : ℕ) → (due : List ℕ) × ((number : ℕ) → number < count → Contains due number)
 all_below zero = ([], λ number below. absurd (omega (arith, below)))

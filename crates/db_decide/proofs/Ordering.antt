@@ -52,12 +52,12 @@ module _ (model : Model) (decisions : List Decision) (first second : TokenName) 
       λ i. at_most (part_of (sym from i) End) (part_of (sym to i) Start)
 
   claimed : (claim : Claim) → Said claim → IsClaim model longer (shown content) claim
-  claimed claim said = inr (inr (inr (inr (record {
+  claimed claim said = inr (inr (inr (inr (inl (record {
     one = first;
     other = second;
     ordered = Contains-push decisions (Order first second);
     says = said ∙ named;
-  }))))
+  })))))
 
   module _ (constraints : List Constraint) (posts : PostsClaims content.names Said old.net.constraints constraints) where
     posted : (before behind : TokenName) → Order first second ≡ Order before behind → IsPostedIn content.names constraints (at_most (part_of before End) (part_of behind Start))
@@ -74,7 +74,8 @@ module _ (model : Model) (decisions : List Decision) (first second : TokenName) 
         let claims = claims_underway model decisions longer Said old constraints posts claimed (length old.blocks) [] start in
         taken_underway model decisions (Order first second) (with_constraints old constraints) (length old.blocks) due
         (due_longer model decisions longer (with_constraints old constraints) (length old.blocks) due claims)
-        (quiet_taken_up model decisions (Order first second) (takes_none first second) constraints content (length old.blocks) due may.known tt posted)
+        (quiet_taken_up model decisions (Order first second) (takes_none first second) constraints content (length old.blocks) due may.known tt posted
+        (λ claim posts. absurd posts))
 
   pub ordered : (new : Stored) → OnlyPosts old new → PostsClaims content.names Said old.net.constraints new.net.constraints
       → IsStoreUnderway model longer longer new (length old.blocks) due

@@ -9,7 +9,7 @@ use Rattle.eu_name.proofs.Members.{get_below, contains_from_get}
 use Rattle.db_store.specs.Stores.{Stored}
 use Rattle.db_store.proofs.Naming.{length_names}
 use Rattle.db_posting.specs.Origins.{content_now}
-use Rattle.db_posting.specs.Terms.{IsPartThere, HasPartAt}
+use Rattle.db_posting.specs.Terms.{IsPartThere, HasTimes, HasPartAt, HasTimesAt}
 use Rattle.db_opening.proofs.Opening.{named_at}
 
 module _ (past : TokenPast) (place : ℕ) (token : TokenName) (named : IsNamedAt (tokens_now past) place token) where
@@ -27,3 +27,8 @@ pub part_at : (stored : Stored) (place : ℕ) (token : TokenName) → IsNamedAt 
     → HasPartAt stored (record { token = place; part = part })
 part_at stored place token named part there =
     (place_below stored.past place token named, subst (λ (t : TokenName). IsPartThere (content_now stored) t part) (name_is stored.past place token named) there)
+
+-- and so it is with its start and its end
+pub times_at : (stored : Stored) (place : ℕ) (token : TokenName) → IsNamedAt (tokens_now stored.past) place token → HasTimes (content_now stored) token → HasTimesAt stored place
+times_at stored place token named there =
+    (place_below stored.past place token named, subst (HasTimes (content_now stored)) (name_is stored.past place token named) there)

@@ -36,5 +36,5 @@ module _ (model : Model) (decisions : List Decision) (token : TokenName) (old : 
       let known = subst (λ (content : Content). Contains content.tokens token) (sym (content_stated model old sound place Rejected)) may.known in
       let taken = taken_underway model decisions (Reject token) (stated model old sound place Rejected) (length old.blocks) due more
       (quiet_taken_up model decisions (Reject token) (takes_none token) old.net.constraints (content_now (stated model old sound place Rejected)) (length old.blocks) due
-      known tt (λ one other is. absurd (cc))) in
+      known tt (λ one other is. absurd (cc)) (λ claim posts. absurd posts)) in
       subst (λ (stored : Stored). IsStoreUnderway model (decisions ++ Reject token ∷ []) (decisions ++ Reject token ∷ []) stored (length old.blocks) due) (sym is) taken

@@ -135,7 +135,7 @@ module _ (model : Model) (decisions : List Decision) (name : VarName) (value : �
         let below = (fallen_below content net.domains left.within).variables name may.known.0 may.known.1 in
         taken_underway model decisions (Specify name value) fallen (length old.blocks) due followed
         (quiet_taken_up model decisions (Specify name value) (takes_none name value) net.constraints (with_domains content net.domains) (length old.blocks) due
-        (below.0, below.1) left.granted (λ one other is. absurd (cc)))
+        (below.0, below.1) left.granted (λ one other is. absurd (cc)) (λ claim posts. absurd posts))
 
   pub specified : (new : Stored) (change : Change) → LimitsAt old.net.domains number (Range value value) change new.net.domains → GoesDown old.net new.net
       → (change ≡ Empty → ⊥) → ChangesNet old new → (due : List ℕ) → IsDueAfter (Specify name value) new due → IsStoreUnderway model longer longer new (length old.blocks) due

@@ -7,9 +7,11 @@
 mod about;
 mod activate;
 mod begun;
+mod constrain;
 mod merge;
 mod order;
 mod reject;
+mod relate;
 mod specify;
 mod taking;
 

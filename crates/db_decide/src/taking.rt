@@ -20,9 +20,11 @@ ghost use Rattle.db_posting.specs.Wanted.{ArePreds};
 ghost use Rattle.db_decide.specs.TakingUp.{MayFollow, TakesUp};
 
 use super::activate::activate;
+use super::constrain::constrain;
 use super::merge::merge;
 use super::order::order;
 use super::reject::reject;
+use super::relate::relate;
 use super::specify::specify;
 use constraint_net::NetFault;
 use db_opening::parts_of;
@@ -52,6 +54,10 @@ fn take_decision(
         Decision::Merge(token, target) => merge(alloc, store, model, token, target),
         Decision::Reject(token) => reject(store, token),
         Decision::Order(first, second) => order(store, first, second),
+        Decision::Constrain(kind, arguments) => {
+            constrain(alloc, store, *kind, arguments.as_slice())
+        }
+        Decision::Relate(relation, first, second) => relate(store, *relation, first, second),
     }
 }
 

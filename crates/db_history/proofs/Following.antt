@@ -1,22 +1,30 @@
 -- A decision that is admissible after the decisions of a store at rest may follow there.
 use Rattle.std.proofs.Common.{◌≡◌, ℕ, List, [], ◌∷◌, ◌++◌, ◌⊎◌, inl, inr, ◌∙◌, ap, subst, arith}
-use Rattle.std.specs.Prelude.{Contains}
+use Rattle.std.specs.Prelude.{All, Contains}
 use Rattle.std.proofs.lemmas.Bool.{cases_lt}
-use Rattle.std.proofs.lemmas.List.Elements.{All-contains}
+use Rattle.std.proofs.lemmas.List.Elements.{All-contains, All-weaker}
+use Rattle.domain_core.specs.declared.kind.Kind.{Kind}
 use Rattle.eu_name.specs.declared.name.TokenName.{TokenName}
+use Rattle.model_core.specs.declared.decision.ConArg.{ConArg}
+use Rattle.model_core.specs.declared.decision.ConArg.TheVariants.{Var, Value}
 use Rattle.model_core.specs.declared.decision.Decision.{Decision}
-use Rattle.model_core.specs.declared.decision.Decision.TheVariants.{Specify, Activate, Merge, Reject, Order}
+use Rattle.model_core.specs.declared.decision.Decision.TheVariants.{Specify, Activate, Merge, Reject, Order, Constrain, Relate}
 use Rattle.model_core.specs.declared.model.Model.{Model}
 use Rattle.model_core.specs.declared.rule.Slot.{Slot}
+use Rattle.model_core.specs.Arguments.{IsInType, Takes}
+use Rattle.model_core.specs.Lawful.{IsLawful}
 use Rattle.model_core.specs.State.{State}
 use Rattle.model_core.specs.Tokens.{HasToken}
 use Rattle.model_core.proofs.Leading.{token_once}
-use Rattle.plan_defs.specs.Refusals.{Hinders, IsKnown, HaveSamePredicate, IsAdmissible}
-use Rattle.model_core.specs.declared.refusal.Refusal.TheVariants.{Unknown, Decided, NotSamePredicate}
+use Rattle.plan_defs.specs.Refusals.{Hinders, IsArgumentKnown, IsKnown, HaveSamePredicate, IsAdmissible}
+use Rattle.model_core.specs.declared.refusal.Refusal.TheVariants.{Unknown, Decided, NotInDomain, NotActive, NotSamePredicate}
 use Rattle.model_core.specs.declared.refusal.Refusal.{Refusal}
+use Rattle.plan_defs.proofs.Counting.{postings_count}
 use Rattle.plan_defs.proofs.Knowing.{known_or_not}
 use Rattle.plan_defs.proofs.Settling.{least_same}
 use Rattle.model_core.specs.Content.{shown, AreAlike}
+use Rattle.db_posting.specs.Postable.{CanPostArguments}
+use Rattle.db_posting.proofs.Suiting.{arguments_can_be_posted}
 use Rattle.db_store.specs.Stores.{Stored, snapshot_of, IsSnapshot, named_content}
 use Rattle.db_store.proofs.Naming.{names_are_once}
 use Rattle.db_refusals.specs.InOrder.{state_of}
@@ -37,16 +45,23 @@ number_same_or_not one other = elim (cases_lt one other) [
 
 -- ---- alike states
 
+argument_alike : (one other : State) → AreAlike one other → (argument : ConArg) → IsArgumentKnown other argument → IsArgumentKnown one argument
+argument_alike one other alike (Var name) known = (known.0, (alike.gives name known.0).1 known.1)
+argument_alike one other alike (Value value) known = tt
+
 pub known_alike : (one other : State) → AreAlike one other → (decision : Decision) → IsKnown other decision → IsKnown one decision
 known_alike one other alike (Specify name value) known = (known.0, (alike.gives name known.0).1 known.1)
 known_alike one other alike (Activate token) known = (alike.tokens token).1 known
 known_alike one other alike (Merge token target) known = ((alike.tokens token).1 known.0, (alike.tokens target).1 known.1)
 known_alike one other alike (Reject token) known = (alike.tokens token).1 known
 known_alike one other alike (Order before after) known = ((alike.tokens before).1 known.0, (alike.tokens after).1 known.1)
+known_alike one other alike (Constrain kind arguments) known =
+    All-weaker (IsArgumentKnown other) (IsArgumentKnown one) (argument_alike one other alike) arguments known
+known_alike one other alike (Relate relation first second) known = ((alike.tokens first).1 known.0, (alike.tokens second).1 known.1)
 
 module _ (model : Model) (decisions : List Decision) (stored : Stored) (decision : Decision) (is : IsSnapshot (snapshot_of stored))
     (least : IsLeastOf model decisions (snapshot_of stored)) (admissible : IsAdmissible model decisions decision)
-    (once : AreDecidedOnce model (decisions ++ decision ∷ [])) where
+    (once : AreDecidedOnce model (decisions ++ decision ∷ [])) (lawful : IsLawful model) where
   abbrev seen : State
   seen = state_of (named_content (snapshot_of stored))
 
@@ -76,6 +91,11 @@ module _ (model : Model) (decisions : List Decision) (stored : Stored) (decision
             ∙ (have.same ∙ ap (λ (slot : Slot). slot.pred) (token_once model target have.other_slot two.0 have.has_other two.1)))))
       ]
 
+  postable : (kind : Kind) (arguments : List ConArg) → decision ≡ Constrain kind arguments → CanPostArguments kind arguments
+  postable kind arguments same =
+      arguments_can_be_posted model kind arguments lawful
+      (subst (λ (d : Decision). Hinders model decisions seen NotInDomain d → ⊥) same (free NotInDomain))
+
   pub can_follow : CanFollow model decisions stored decision
   can_follow = record {
     rest = least.rest;
@@ -85,5 +105,7 @@ module _ (model : Model) (decisions : List Decision) (stored : Stored) (decision
         let there = subst (IsKnown seen) same known_seen in
         same_predicate token target there.0 there.1
         (subst (λ (d : Decision). Hinders model decisions seen NotSamePredicate d → ⊥) same (free NotSamePredicate));
+    postable = postable;
+    counts = λ claim posts. postings_count model decisions decision claim (free NotActive) posts;
     once = once;
   }

@@ -35,7 +35,14 @@ known_all : (due : List ℕ) (stored : Stored) → AreKnownDue due stored due
 known_all due stored = all_of (λ number. Contains due number ⊎ Contains stored.net.changed number) due (λ number there. inl there)
 
 pub may_follow : (model : Model) (decisions : List Decision) (stored : Stored) (decision : Decision) → CanFollow model decisions stored decision → MayFollow model decisions stored decision
-may_follow model decisions stored decision follows = record { rest = follows.rest; known = follows.known; undecided = follows.undecided; alike = follows.alike }
+may_follow model decisions stored decision follows = record {
+  rest = follows.rest;
+  known = follows.known;
+  undecided = follows.undecided;
+  alike = follows.alike;
+  postable = follows.postable;
+  counts = follows.counts;
+}
 
 -- taking the decision up can fail
 pub taking_fails : {X : Type 0} (model : Model) (decision : Decision) (old new : Stored) (result : Result X NetFault)

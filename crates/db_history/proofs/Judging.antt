@@ -1,11 +1,11 @@
 -- What speaks against a decision in a store that has the least state.
 use Rattle.std.proofs.Common.{List, Some, None, Err, subst}
 use Rattle.model_core.specs.declared.decision.Decision.{Decision}
-use Rattle.model_core.specs.declared.decision.Decision.TheVariants.{Specify, Activate, Merge, Reject, Order}
+use Rattle.model_core.specs.declared.decision.Decision.TheVariants.{Specify, Activate, Merge, Reject, Order, Constrain, Relate}
 use Rattle.model_core.specs.declared.model.Model.{Model}
 use Rattle.model_core.specs.State.{State}
 use Rattle.plan_defs.specs.Refusals.{Hinders, IsRefused, IsAdmissible}
-use Rattle.model_core.specs.declared.refusal.Refusal.TheVariants.{Unknown, Decided, NotInDomain, NotActive, NotSamePredicate, NotRejectable, SameToken, ActiveFull}
+use Rattle.model_core.specs.declared.refusal.Refusal.TheVariants.{Unknown, WrongType, Decided, NotInDomain, NotActive, NotSamePredicate, NotRejectable, SameToken, ActiveFull}
 use Rattle.model_core.specs.declared.refusal.Refusal.{Refusal}
 use Rattle.plan_defs.proofs.Settling.{least_same, least_not_collapsed}
 use Rattle.model_core.specs.Content.{shown, AreAlike}
@@ -33,10 +33,13 @@ hinders_there : (model : Model) (decisions : List Decision) (one other : State) 
 hinders_there model decisions one other alike Unknown decision unknown = λ known. unknown (known_alike one other alike decision known)
 hinders_there model decisions one other alike Decided decision hinders = hinders
 hinders_there model decisions one other alike NotActive decision hinders = hinders
+hinders_there model decisions one other alike WrongType (Constrain kind arguments) hinders = hinders
 hinders_there model decisions one other alike NotInDomain (Specify name value) hinders = hinders
+hinders_there model decisions one other alike NotInDomain (Constrain kind arguments) hinders = hinders
 hinders_there model decisions one other alike NotSamePredicate (Merge token target) hinders = hinders
 hinders_there model decisions one other alike NotRejectable (Reject token) hinders = hinders
 hinders_there model decisions one other alike SameToken (Order first second) hinders = hinders
+hinders_there model decisions one other alike SameToken (Relate relation first second) hinders = hinders
 hinders_there model decisions one other alike ActiveFull (Activate token) hinders = hinders
 hinders_there model decisions one other alike reason decision hinders = hinders
 

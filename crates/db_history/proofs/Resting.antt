@@ -5,6 +5,7 @@ use Rattle.std.specs.declared.alloc.AllocError.{AllocError}
 use Rattle.std.proofs.lemmas.List.{length_push}
 use Rattle.model_core.specs.declared.decision.Decision.{Decision}
 use Rattle.model_core.specs.declared.model.Model.{Model}
+use Rattle.model_core.specs.Lawful.{IsLawful}
 use Rattle.plan_defs.specs.Closure.{IsLeast, IsCollapsed}
 use Rattle.eu_name.proofs.Members.{get_same}
 use Rattle.db_refine.specs.Growth.{LeaveNothing}
@@ -58,11 +59,12 @@ module _ (model : Model) (decisions : List Decision) where
       pub ends_with : but_last decisions ++ decision ∷ [] ≡ decisions
       ends_with = ap (λ last. but_last decisions ++ last ∷ []) last_is ∙ sym ends.1
 
-      module _ (old : Stored) (is : IsSnapshot (snapshot_of old)) (least : IsLeastOf model (but_last decisions) (snapshot_of old)) (settled : IsSettled model decisions) where
+      module _ (old : Stored) (is : IsSnapshot (snapshot_of old)) (least : IsLeastOf model (but_last decisions) (snapshot_of old)) (settled : IsSettled model decisions)
+          (lawful : IsLawful model) where
         -- so it may follow where those before it have their least state
         pub follows : CanFollow model (but_last decisions) old decision
         follows = subst (CanFollow model (but_last decisions) old) (sym last_is) (can_follow model (but_last decisions) old ends.0 is least ends.2
-            (subst (AreDecidedOnce model) ends.1 (settled_once model decisions settled)))
+            (subst (AreDecidedOnce model) ends.1 (settled_once model decisions settled)) lawful)
 
         pub rests_for_all : (new : Stored) → AdvancesBy model decision old (Ok tt) new → IsRestOf model decisions (snapshot_of new) × HaveTables model new.net.tables × IsIdle new.net
         rests_for_all new advances =

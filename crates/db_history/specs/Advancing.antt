@@ -1,16 +1,22 @@
 -- Going on from a store at rest by one decision.
-use Rattle.std.specs.Prelude.{◌≡◌, ⊤, ◌-◌, Bool, true, false, List, [], ◌∷◌, ◌++◌, length, take, Result, Ok, Err}
+use Rattle.std.specs.Prelude.{◌≡◌, ⊤, ◌-◌, Bool, true, false, List, [], ◌∷◌, ◌++◌, length, take, All, Result, Ok, Err}
+use Rattle.domain_core.specs.declared.kind.Kind.{Kind}
 use Rattle.eu_name.specs.declared.name.TokenName.{TokenName}
+use Rattle.model_core.specs.declared.decision.ConArg.{ConArg}
 use Rattle.model_core.specs.declared.decision.Decision.{Decision}
-use Rattle.model_core.specs.declared.decision.Decision.TheVariants.{Merge}
+use Rattle.model_core.specs.declared.decision.Decision.TheVariants.{Merge, Constrain}
 use Rattle.model_core.specs.declared.model.Model.{Model}
+use Rattle.model_core.specs.Decided.{IsTaken}
 use Rattle.constraint_net.specs.Networks.{IsIdle}
 use Rattle.constraint_net.specs.declared.NetFault.{NetFault}
 use Rattle.constraint_net.specs.declared.NetFault.TheVariants.{Collapsed, Memory}
+use Rattle.plan_defs.specs.Claims.{Claim, Posts}
 use Rattle.plan_defs.specs.Closure.{IsLeast, IsCollapsed}
 use Rattle.plan_defs.specs.Refusals.{IsKnown, IsAlreadyDecided, HaveSamePredicate, IsAdmissible}
+use Rattle.plan_defs.specs.Terms.{ArgumentCounts}
 use Rattle.model_core.specs.Content.{shown}
 use Rattle.db_refine.specs.Growth.{LeaveNothing}
+use Rattle.db_posting.specs.Postable.{CanPostArguments}
 use Rattle.db_posting.specs.Underway.{IsAtRest}
 use Rattle.db_store.specs.Stores.{Stored, Snapshot, snapshot_of, named_content}
 use Rattle.db_posting.specs.Tables.{HaveTables}
@@ -28,12 +34,14 @@ pub record IsLeastOf (model : Model) (decisions : List Decision) (snapshot : Sna
   pub tables : HaveTables model snapshot.tables
 
 -- the store is at rest after the decisions, and the further one may follow: what it names is there, nothing is decided of that
--- yet, tokens that it merges are of one predicate, and no token is decided twice even so
+-- yet, tokens that it merges are of one predicate, what it posts can be posted and counts, and no token is decided twice even so
 pub record CanFollow (model : Model) (decisions : List Decision) (stored : Stored) (decision : Decision) : Type 0 where
   pub rest : IsRestOf model decisions (snapshot_of stored)
   pub known : IsKnown (shown (named_content (snapshot_of stored))) decision
   pub undecided : IsAlreadyDecided model decisions decision → ⊥
   pub alike : (token target : TokenName) → decision ≡ Merge token target → HaveSamePredicate model token target
+  pub postable : (kind : Kind) (arguments : List ConArg) → decision ≡ Constrain kind arguments → CanPostArguments kind arguments
+  pub counts : (claim : Claim) → Posts decision claim → All (ArgumentCounts model (IsTaken decisions)) claim.arguments
   pub once : AreDecidedOnce model (decisions ++ decision ∷ [])
 
 -- what going on by the decision answers and leaves: the store at rest for the longer list, in which nothing waits, or that it

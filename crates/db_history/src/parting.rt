@@ -1,6 +1,6 @@
 //! Bringing back the list before the standing one.
 
-ghost use Rattle.std.specs.Prelude.{◌≡◌, ◌≤◌, ◌<◌, ◌∷◌, false, List, IsTrue, length, take, IfOk, OnOk, OnErr};
+ghost use Rattle.std.specs.Prelude.{◌≡◌, ◌≤◌, ◌<◌, ◌∷◌, false, List, length, take, IfOk, OnOk, OnErr};
 ghost use Rattle.model_core.specs.declared.decision.Decision.{Decision as Taken};
 ghost use Rattle.model_core.specs.declared.model.Model.{Model as Problem};
 ghost use Rattle.model_core.specs.History.{standing};
@@ -11,9 +11,8 @@ ghost use Rattle.db_history.specs.Standing.{KeepsList};
 ghost use Rattle.db_history.specs.Kept.{KeepsHistory, KeepsUnless, LeaveState};
 
 use super::forward::{fits, go_on_from};
-use super::subject::is_same_variable;
 use crate::Standing;
-use db_refusals::is_same_token;
+use db_refusals::is_same_decision;
 use decision_log::Log;
 use model_core::decision::Decision;
 use model_core::model::Model;
@@ -110,26 +109,6 @@ fn parting_of(one: &[Decision], other: &[Decision]) -> usize
         place += 1;
     }
     place
-}
-
-// Whether the two are the same decision.
-fn is_same_decision(one: &Decision, other: &Decision) -> bool
-    ensures { IsTrue result → one.now ≡ other.now }
-{
-    match (one, other) {
-        (Decision::Specify(name, value), Decision::Specify(same, equal)) => {
-            value == equal && is_same_variable(name, same)
-        }
-        (Decision::Activate(token), Decision::Activate(same)) => is_same_token(token, same),
-        (Decision::Merge(token, target), Decision::Merge(same, equal)) => {
-            is_same_token(token, same) && is_same_token(target, equal)
-        }
-        (Decision::Reject(token), Decision::Reject(same)) => is_same_token(token, same),
-        (Decision::Order(first, second), Decision::Order(same, equal)) => {
-            is_same_token(first, same) && is_same_token(second, equal)
-        }
-        _ => false,
-    }
 }
 
 // Takes the last step of the log off.

@@ -5,9 +5,12 @@ ghost use Rattle.model_core.specs.declared.decision.Decision.{Decision as Taken}
 ghost use Rattle.db_history.specs.Subjects.{IsOfSubject};
 
 use db_refusals::is_same_token;
+use domain_core::kind::Kind;
 use eu_name::laws::names_are_told_apart;
 use eu_name::name::{TokenName, VarName};
-use model_core::decision::Decision;
+use eu_name::sequence::Sequence;
+use model_core::decision::{ConArg, Decision, decisions_are_told_apart};
+use model_core::item::Rel;
 
 /// What a decision is on, of which a list has one at most.
 #[derive(Drop)]
@@ -18,6 +21,10 @@ pub enum Subject {
     Token(TokenName),
     /// That the first token comes before the second.
     Order(TokenName, TokenName),
+    /// That the constraint holds of these arguments.
+    Constraint(Kind, Sequence<ConArg>),
+    /// That the relation holds between the first token and the second.
+    Relation(Rel, TokenName, TokenName),
 }
 
 /// The place of the first decision on the subject, if there is one.
@@ -42,6 +49,8 @@ fn is_on(subject: &Subject, decision: &Decision) -> bool
         Subject::Var(name) => specifies(decision, name),
         Subject::Token(token) => decides(decision, token),
         Subject::Order(one, other) => is_order(decision, one, other),
+        Subject::Constraint(kind, arguments) => is_constraint(decision, *kind, arguments),
+        Subject::Relation(relation, one, other) => is_relation(decision, *relation, one, other),
     }
 }
 
@@ -78,10 +87,26 @@ fn is_order(decision: &Decision, one: &TokenName, other: &TokenName) -> bool
     }
 }
 
-/// Whether the two variables are the same.
-pub fn is_same_variable(one: &VarName, other: &VarName) -> bool
-    ensures { IsTrue result ↔ (one.now ≡ other.now) }
+// Whether the decision posts the constraint with these arguments.
+fn is_constraint(decision: &Decision, kind: Kind, arguments: &Sequence<ConArg>) -> bool
+    ensures { IsTrue result ↔ IsOfSubject (Subject.Constraint kind arguments.now) decision.now }
 {
-    names_are_told_apart();
-    one == other
+    decisions_are_told_apart();
+    match decision {
+        Decision::Constrain(other, given) => *other == kind && given == arguments,
+        _ => false,
+    }
+}
+
+// Whether the decision posts the relation of these tokens.
+fn is_relation(decision: &Decision, relation: Rel, one: &TokenName, other: &TokenName) -> bool
+    ensures { IsTrue result ↔ IsOfSubject (Subject.Relation relation one.now other.now) decision.now }
+{
+    decisions_are_told_apart();
+    match decision {
+        Decision::Relate(related, first, second) => {
+            *related == relation && is_same_token(first, one) && is_same_token(second, other)
+        }
+        _ => false,
+    }
 }

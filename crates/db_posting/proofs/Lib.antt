@@ -5,6 +5,8 @@ pub mod Storing
 pub mod Comparing
 pub mod Saying
 pub mod Allowing
+pub mod Suiting
+pub mod Offering
 pub mod Present
 pub mod Taking
 pub mod Filling

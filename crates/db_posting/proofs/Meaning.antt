@@ -24,7 +24,7 @@ use Rattle.model_core.specs.Content.{Content}
 use Rattle.db_posting.specs.Terms.{CanStand, IsTermArgument}
 use Rattle.db_posting.specs.Postable.{CanPostTerms, AreTermsAllowed, HasFactorTerm}
 
-zip_push : {X Y : Type 0} (R : X → Y → Type 0) (xs : List X) (ys : List Y) (x : X) (y : Y) → AllZip R xs ys → R x y → AllZip R (xs ++ x ∷ []) (ys ++ y ∷ [])
+pub zip_push : {X Y : Type 0} (R : X → Y → Type 0) (xs : List X) (ys : List Y) (x : X) (y : Y) → AllZip R xs ys → R x y → AllZip R (xs ++ x ∷ []) (ys ++ y ∷ [])
 zip_push R [] [] x y all last = (last, tt)
 zip_push R [] (other ∷ ys) x y all last = absurd all
 zip_push R (first ∷ xs) [] x y all last = absurd all

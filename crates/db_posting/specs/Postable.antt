@@ -1,5 +1,5 @@
--- What can be posted of an item.
-use Rattle.std.specs.Prelude.{◌≡◌, ◌≢◌, ◌<◌, ◌^◌, pos, ⊤, List, [], ◌∷◌, length, All}
+-- What can be posted of an item, and of a decision.
+use Rattle.std.specs.Prelude.{◌≡◌, ◌≢◌, ◌<◌, ◌^◌, pos, ⊤, List, [], ◌∷◌, length, All, Contains}
 use Rattle.model_core.specs.declared.item.Item.{Item}
 use Rattle.model_core.specs.declared.item.Item.TheVariants.{Constraint, Relation}
 use Rattle.domain_core.specs.declared.kind.Kind.{Kind}
@@ -7,6 +7,9 @@ use Rattle.domain_core.specs.declared.kind.Kind.TheVariants.{MulEq, AllDiff, Fie
 use Rattle.model_core.specs.declared.item.Term.{Term}
 use Rattle.model_core.specs.declared.item.Term.TheVariants.{Lit}
 use Rattle.domain_core.specs.Constraints.{arity_of}
+use Rattle.domain_core.specs.Domain.{IsValue}
+use Rattle.model_core.specs.declared.decision.ConArg.{ConArg}
+use Rattle.model_core.specs.declared.decision.ConArg.TheVariants as given
 use Rattle.model_core.specs.Tokens.{slot_token}
 use Rattle.narrow_core.specs.declared.field.Field as tables
 use Rattle.plan_defs.specs.Terms.{Context, InProblem, InRule}
@@ -44,3 +47,31 @@ IsItemNamed content context (Constraint kind terms) = All (IsTermThere content c
 IsItemNamed content (InRule token rule) (Relation rel slot) =
     HasTimes content token × HasTimes content (slot_token token rule slot)
 IsItemNamed content InProblem (Relation rel slot) = ⊥
+
+-- the argument is a variable, or a value that one may have
+abbrev pub CanBeGiven : ConArg → Type 0
+CanBeGiven (given.Var name) = ⊤
+CanBeGiven (given.Value value) = IsValue value
+
+-- the second of three arguments is a value other than 0
+abbrev pub HasFactorArgument : List ConArg → Type 0
+HasFactorArgument (x ∷ given.Value factor ∷ z ∷ []) = factor ≢ pos 0
+HasFactorArgument arguments = ⊥
+
+-- what some kinds ask beside the count of their arguments: a product has a factor; no decision posts a field, or that all differ
+abbrev pub AreArgumentsAllowed : Kind → List ConArg → Type 0
+AreArgumentsAllowed MulEq arguments = HasFactorArgument arguments
+AreArgumentsAllowed (Field number) arguments = ⊥
+AreArgumentsAllowed AllDiff arguments = ⊥
+AreArgumentsAllowed kind arguments = ⊤
+
+-- a constraint of this kind can be posted on these arguments, where their variables are there
+pub record CanPostArguments (kind : Kind) (arguments : List ConArg) : Type 0 where
+  pub values : All CanBeGiven arguments
+  pub count : length arguments ≡ arity_of kind
+  pub allowed : AreArgumentsAllowed kind arguments
+
+-- the argument is there, if it is a variable
+abbrev pub IsArgumentThere : Content → ConArg → Type 0
+IsArgumentThere content (given.Var name) = Contains content.names name
+IsArgumentThere content (given.Value value) = ⊤

@@ -1,12 +1,15 @@
 -- What is proved of items that are posted.
 use Rattle.std.specs.Prelude.{◌↔◌, ℕ, ⊤, List, Contains}
+use Rattle.domain_core.specs.declared.kind.Kind.{Kind}
 use Rattle.eu_name.specs.declared.name.TokenName.{TokenName}
+use Rattle.model_core.specs.declared.decision.ConArg.{ConArg}
 use Rattle.model_core.specs.declared.decision.Decision.{Decision}
 use Rattle.eu_name.specs.declared.name.VarName.{VarName}
 use Rattle.model_core.specs.declared.item.Item.{Item}
 use Rattle.model_core.specs.declared.item.Term.{Term}
 use Rattle.model_core.specs.declared.model.Model.{Model}
 use Rattle.model_core.specs.declared.variable.ValueKind.{ValueKind}
+use Rattle.model_core.specs.Arguments.{IsInType, Takes}
 use Rattle.model_core.specs.Decided.{IsTaken}
 use Rattle.model_core.specs.Kinds.{Scope, OfProblem, OfRule, IsOfKind}
 use Rattle.model_core.specs.Lawful.{IsLawful, IsLawfulItem}
@@ -21,7 +24,7 @@ use Rattle.db_store.specs.Stores.{Stored}
 use Rattle.db_store.specs.declared.key.VarKey.{VarKey}
 use Rattle.db_posting.specs.Counting.{ItemCounts, AreRootsThere}
 use Rattle.db_posting.specs.Origins.{content_now}
-use Rattle.db_posting.specs.Postable.{CanPostItem, IsItemNamed}
+use Rattle.db_posting.specs.Postable.{CanPostItem, CanPostArguments, IsItemNamed}
 use Rattle.db_posting.specs.Posted.{Asserts}
 use Rattle.db_posting.specs.Tables.{HaveTables}
 use Rattle.db_posting.specs.Terms.{CanStand}
@@ -51,6 +54,12 @@ LawfulItemsCanBePosted =
     (model : Model) (tables : List Field) (context : Context) (scope : Scope) (item : Item)
     → IsLawful model → HaveTables model tables → IsInScope model context scope → IsLawfulItem model scope item
     → CanPostItem tables context item
+
+-- a constraint that has arguments as it takes them can be posted, even if they only can't be said to be none such
+abbrev pub ArgumentsCanBePosted : Type 0
+ArgumentsCanBePosted =
+    (model : Model) (kind : Kind) (arguments : List ConArg)
+    → IsLawful model → ((Takes (IsInType model) kind arguments → ⊥) → ⊥) → CanPostArguments kind arguments
 
 -- the variables of an item are there where all that it is about is
 abbrev pub WhatIsThereIsNamed : Type 0

@@ -1,7 +1,7 @@
 //! Laws of what is posted.
 
 ghost use Rattle.db_posting.specs.PostingLaws.{WhatCountsIsSaid, LawfulTermsCanStand, LawfulItemsCanBePosted};
-ghost use Rattle.db_posting.specs.PostingLaws.{WhatIsThereIsNamed, ItemsOfProblemAreNamed};
+ghost use Rattle.db_posting.specs.PostingLaws.{ArgumentsCanBePosted, WhatIsThereIsNamed, ItemsOfProblemAreNamed};
 ghost use Rattle.db_posting.specs.PostingLaws.{KeysAreNamed, NamedTermsAreThere};
 
 /// A law: an item says what it asserts exactly where all that it is about counts.
@@ -13,6 +13,11 @@ pub fn what_counts_is_said()
 pub fn lawful_items_can_be_posted()
     ensures terms { LawfulTermsCanStand }
     ensures items { LawfulItemsCanBePosted }
+{}
+
+/// A law: what a decision may post can be posted.
+pub fn arguments_can_be_posted()
+    ensures { ArgumentsCanBePosted }
 {}
 
 /// A law: the variables of an item are there where what it is about is.

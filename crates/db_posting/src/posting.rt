@@ -1,4 +1,4 @@
-//! Items and tokens as constraints.
+//! Items, tokens and what decisions post as constraints.
 
 ghost use Rattle.std.specs.Prelude.{◌≡◌, List, length, All, Contains, IsTrue, OnOk};
 ghost use Rattle.eu_name.specs.declared.name.Part.TheVariants as parts;
@@ -7,23 +7,25 @@ ghost use Rattle.model_core.specs.declared.item.Item.TheVariants.{Relation};
 ghost use Rattle.model_core.specs.Tokens.{slot_token};
 ghost use Rattle.token_store.specs.Orders.{name_at};
 ghost use Rattle.token_store.specs.Tokens.{tokens_now};
-ghost use Rattle.plan_defs.specs.Claims.{at_most, equal, lasts, relates};
+ghost use Rattle.plan_defs.specs.Claims.{at_most, equal, lasts, posted_claim, relates};
 ghost use Rattle.db_refine.specs.Claims.{IsPostedIn};
 ghost use Rattle.db_refine.specs.Coming.{IsTermThere};
 ghost use Rattle.db_store.specs.StoreMarks.{KeepStoreMarks};
 ghost use Rattle.db_store.specs.Stores.{Stored};
 ghost use Rattle.db_posting.specs.Origins.{content_now, origin_context, IsOriginBelow, argument_named};
 ghost use Rattle.db_posting.specs.Terms.{HasTimes, HasPartAt, HasTimesAt};
-ghost use Rattle.db_posting.specs.Postable.{CanPostTerms, CanPostItem, IsItemNamed};
+ghost use Rattle.db_posting.specs.Postable.{CanPostTerms, CanPostItem, CanPostArguments, IsItemNamed, IsArgumentThere};
 ghost use Rattle.db_posting.specs.Posted.{PostsClaims, OnlyPosts, AssertsOf, Asserts};
 ghost use Rattle.db_posting.specs.Posted.{moment_of, compares, comparisons_claim};
 
 use super::arguments::{arguments_of, part_argument, slot_place};
+use super::named::named_arguments;
 use super::origin::{Origin, PartAt};
 use super::relations::{Comparison, Moment, comparisons};
 use db_store::Store;
 use domain_core::kind::Kind;
 use eu_name::name::Part;
+use model_core::decision::ConArg;
 use model_core::item::{Item, Rel, Term};
 use std::alloc::{AllocError, Global};
 
@@ -47,6 +49,25 @@ pub fn post_constraint(
 {
     store.is_sound();
     let args = arguments_of(alloc, store, origin, terms)?;
+    store.post(kind, args.as_slice())
+}
+
+/// Asks from now on that the constraint holds of the variables of these names, and of the values.
+pub fn post_arguments(
+    alloc: Global,
+    store: &mut Store,
+    kind: Kind,
+    arguments: &[ConArg],
+) -> Result<(), AllocError>
+    requires postable { CanPostArguments kind arguments.now }
+    requires there { All (IsArgumentThere (content_now store.old)) arguments.now }
+    ensures posted { OnOk result (PostsClaims (content_now store.old).names (λ claim. claim ≡ posted_claim kind arguments.now)
+        store.old.net.constraints store.new.net.constraints) }
+    ensures only { OnlyPosts store.old store.new }
+    ensures marks { KeepStoreMarks store.old store.new }
+{
+    store.is_sound();
+    let args = named_arguments(alloc, store, arguments)?;
     store.post(kind, args.as_slice())
 }
 
@@ -214,8 +235,26 @@ fn post_comparisons(
     Ok(())
 }
 
-/// Asks from now on that the relation holds between the token at the place and that of a slot of its rule.
-pub fn post_relation(
+/// Asks from now on that the relation holds between the tokens at the two places.
+pub fn post_relation_between(
+    store: &mut Store,
+    one: u32,
+    other: u32,
+    rel: Rel,
+) -> Result<(), AllocError>
+    requires one { HasTimesAt store.old one }
+    requires other { HasTimesAt store.old other }
+    ensures posted { OnOk result (let content = content_now store.old in
+        PostsClaims content.names (Contains (relates rel (name_at content.tokens one) (name_at content.tokens other)))
+        store.old.net.constraints store.new.net.constraints) }
+    ensures only { OnlyPosts store.old store.new }
+    ensures marks { KeepStoreMarks store.old store.new }
+{
+    post_comparisons(store, one, other, comparisons(rel))
+}
+
+// Asks from now on that the relation holds between the token at the place and that of a slot of its rule.
+fn post_relation(
     store: &mut Store,
     token: u32,
     rule: u16,
@@ -233,7 +272,7 @@ pub fn post_relation(
 {
     store.is_sound();
     let other = slot_place(store.tokens(), token, rule, slot)?;
-    post_comparisons(store, token, other, comparisons(rel))
+    post_relation_between(store, token, other, rel)
 }
 
 /// Asks from now on that the item holds where it stands, whether or not what it is about counts.

@@ -2,12 +2,12 @@
 use Rattle.std.proofs.Common.{List, ◌⊎◌, inl, inr}
 use Rattle.model_core.specs.declared.decision.Decision.{Decision}
 use Rattle.model_core.specs.declared.model.Model.{Model}
-use Rattle.model_core.specs.State.{State, IsBelow}
-use Rattle.plan_defs.specs.Closure.{IsPropagatedState, IsLeast, IsCollapsed, AreInPlace}
+use Rattle.model_core.specs.State.{State}
+use Rattle.plan_defs.specs.Closure.{IsLeast, IsCollapsed}
 use Rattle.plan_defs.specs.Resources.{FitReusables, FitReservoirs}
 use Rattle.db_refine.specs.GrowthLaws.{IsTop}
-use Rattle.plan_defs.proofs.Reservoirs.{complete_below, reservoirs_above}
-use Rattle.plan_defs.proofs.Resources.{reusables_above, level_above}
+use Rattle.plan_defs.proofs.Reservoirs.{reservoirs_above}
+use Rattle.plan_defs.proofs.Resources.{reusables_above}
 
 module _ (model : Model) (decisions : List Decision) (state : State) (is : IsTop model decisions state) where
   pub fits_least : FitReusables model decisions state → FitReservoirs model decisions state → IsLeast model decisions state

@@ -90,7 +90,8 @@ module _ (model : Model) (decisions : List Decision) (tables : List Field) (post
       (record { block = p.block; entries = p.entries; item = p.item; is_open = unfolded p.block p.is_open; has_block = p.has_block; stands = p.stands; says = p.says })
   claimed claim (inr (inr (inl p))) = misses.of_tokens claim p
   claimed claim (inr (inr (inr (inl p)))) = misses.of_merges claim p
-  claimed claim (inr (inr (inr (inr p)))) = misses.of_orders claim p
+  claimed claim (inr (inr (inr (inr (inl p))))) = misses.of_orders claim p
+  claimed claim (inr (inr (inr (inr (inr p))))) = misses.of_postings p.decision p.stands claim p.posts
 
   grown : HasGrown model decisions content
   grown = record {

@@ -17,7 +17,7 @@ use Rattle.model_core.specs.Decided.{IsTaken}
 use Rattle.model_core.specs.Entries.{Entries}
 use Rattle.model_core.specs.Tokens.{slot_token}
 use Rattle.constraint_net.specs.declared.constraint.Constraint.{Constraint}
-use Rattle.plan_defs.specs.Claims.{Claim, IsOfProblem, IsOfBlock, IsOfMerge, IsOfOrder}
+use Rattle.plan_defs.specs.Claims.{Claim, Posts, IsOfProblem, IsOfBlock, IsOfMerge, IsOfOrder}
 use Rattle.plan_defs.specs.Closure.{IsRespected}
 use Rattle.plan_defs.specs.Laws.{HaveToTurn}
 use Rattle.plan_defs.specs.Refusals.{IsKnown}
@@ -72,6 +72,7 @@ module _ (model : Model) (decisions : List Decision) (posted : List Constraint) 
     of_tokens = misses.of_tokens;
     of_merges = misses.of_merges;
     of_orders = misses.of_orders;
+    of_postings = misses.of_postings;
     in_turn = misses.in_turn;
   }
 
@@ -102,6 +103,7 @@ module _ (model : Model) (decisions : List Decision) (posted : List Constraint) 
     of_tokens = misses.of_tokens;
     of_merges = misses.of_merges;
     of_orders = misses.of_orders;
+    of_postings = misses.of_postings;
     in_turn = in_turn;
   }
 
@@ -183,6 +185,12 @@ module _ (model : Model) (decisions : List Decision) (decision : Decision) (post
     | inr is ↦ subst (IsPostedIn content.names posted) (sym p.says) (taken.of_order p.one p.other is)
   ]
 
+  given_posted : (other : Decision) → Contains (decisions ++ decision ∷ []) other → (claim : Claim) → Posts other claim → IsPostedIn content.names posted claim
+  given_posted other there claim posts = elim (Contains-push_cases decisions decision other there) [
+    | inl before ↦ misses.of_postings other before claim posts
+    | inr is ↦ taken.of_posting claim (subst (λ (d : Decision). Posts d claim) (sym is) posts)
+  ]
+
   problem_posted : (claim : Claim) → IsOfProblem model (IsTaken (decisions ++ decision ∷ [])) claim → IsPostedIn content.names posted claim
   problem_posted claim p = elim (says_cases model decisions decision InProblem p.item claim p.says) [
     | inl before ↦ misses.of_problem claim (record { item = p.item; stands = p.stands; says = before })
@@ -235,5 +243,6 @@ module _ (model : Model) (decisions : List Decision) (decision : Decision) (post
     of_tokens = misses.of_tokens;
     of_merges = merged_posted;
     of_orders = ordered_posted;
+    of_postings = given_posted;
     in_turn = turns_followed;
   }

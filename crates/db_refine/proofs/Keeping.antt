@@ -2,14 +2,16 @@
 use Rattle.std.proofs.Common.{◌≡◌, ℕ, suc, zero, ◌≤◌, List, [], ◌∷◌, ◌++◌, length, Some, ◌⊎◌, inl, inr, refl, sym, ap, subst, arith}
 use Rattle.std.specs.Prelude.{Contains, slice_get}
 use Rattle.std.proofs.lemmas.List.{length-append}
-use Rattle.std.proofs.lemmas.List.Elements.{All-contains, Contains-append_left}
+use Rattle.std.proofs.lemmas.List.Elements.{All-contains, All-weaker, Contains-append_left}
 use Rattle.domain_core.specs.Domain.{Domain, Range}
 use Rattle.eu_name.specs.declared.name.Part.TheVariants.{Start, End, Object}
 use Rattle.eu_name.specs.declared.name.TokenName.{TokenName}
 use Rattle.eu_name.specs.declared.name.VarName.{VarName}
 use Rattle.eu_name.specs.declared.name.VarName.TheVariants.{Token}
+use Rattle.model_core.specs.declared.decision.ConArg.{ConArg}
+use Rattle.model_core.specs.declared.decision.ConArg.TheVariants as given
 use Rattle.model_core.specs.declared.decision.Decision.{Decision}
-use Rattle.model_core.specs.declared.decision.Decision.TheVariants.{Specify, Activate, Merge, Reject, Order}
+use Rattle.model_core.specs.declared.decision.Decision.TheVariants.{Specify, Activate, Merge, Reject, Order, Constrain, Relate}
 use Rattle.model_core.specs.declared.item.Term.{Term}
 use Rattle.model_core.specs.declared.model.Model.{Model}
 use Rattle.model_core.specs.declared.model.Root.{Root}
@@ -29,7 +31,7 @@ use Rattle.constraint_net.specs.declared.constraint.Constraint.{Constraint}
 use Rattle.plan_defs.specs.Claims.{Claim, IsOfProblem, IsOfToken, lasts}
 use Rattle.plan_defs.specs.Closure.{IsRespected}
 use Rattle.plan_defs.specs.Laws.{HaveToTurn}
-use Rattle.plan_defs.specs.Refusals.{IsKnown}
+use Rattle.plan_defs.specs.Refusals.{IsKnown, IsArgumentKnown}
 use Rattle.plan_defs.specs.Resources.{OpensIn}
 use Rattle.plan_defs.specs.Situations.{situation_of}
 use Rattle.plan_defs.specs.Support.{MayBe, one_side, other_side}
@@ -71,6 +73,7 @@ first_misses model posted content due no_blocks roots of_problem of_tokens in_tu
   of_tokens = of_tokens;
   of_merges = λ claim p. absurd (contains_none _ p.merged);
   of_orders = λ claim p. absurd (contains_none _ p.ordered);
+  of_postings = λ decision there claim posts. absurd (contains_none decision there);
   in_turn = in_turn;
 }
 
@@ -93,6 +96,7 @@ posting_misses model decisions posted later content unfolded due misses =
       of_tokens = λ claim p. kept claim (misses.of_tokens claim p);
       of_merges = λ claim p. kept claim (misses.of_merges claim p);
       of_orders = λ claim p. kept claim (misses.of_orders claim p);
+      of_postings = λ decision there claim posts. kept claim (misses.of_postings decision there claim posts);
       in_turn = λ one other turn. turn_followed_kept content content due due (λ name is. is) posted (posted ++ later) kept one other (misses.in_turn one other turn);
     }
 
@@ -120,12 +124,18 @@ module _ (model : Model) (decisions : List Decision) (posted more : List Constra
 
   -- ---- decisions
 
+  argument_known : (argument : ConArg) → IsArgumentKnown (shown old) argument → IsArgumentKnown (shown new) argument
+  argument_known (given.Var name) (domain, gives) = (domain, gives_kept model added old new is come name domain gives)
+  argument_known (given.Value value) known = known
+
   still_known : (decision : Decision) → IsKnown (shown old) decision → IsKnown (shown new) decision
   still_known (Specify name value) (domain, gives) = (domain, gives_kept model added old new is come name domain gives)
   still_known (Activate token) there = enlarges.tokens token there
   still_known (Merge token target) (there, target_there) = (enlarges.tokens token there, enlarges.tokens target target_there)
   still_known (Reject token) there = enlarges.tokens token there
   still_known (Order one other) (one_there, other_there) = (enlarges.tokens one one_there, enlarges.tokens other other_there)
+  still_known (Constrain kind arguments) known = All-weaker (IsArgumentKnown (shown old)) (IsArgumentKnown (shown new)) argument_known arguments known
+  still_known (Relate relation one other) (one_there, other_there) = (enlarges.tokens one one_there, enlarges.tokens other other_there)
 
   still_granted : (decision : Decision) → IsKnown (shown old) decision → IsRespected decision (shown old) → IsRespected decision (shown new)
   still_granted (Specify name value) (given, there) granted = λ domain gives. granted domain (gave name domain (is_named old.names old.domains name given there) gives)
@@ -133,6 +143,8 @@ module _ (model : Model) (decisions : List Decision) (posted more : List Constra
   still_granted (Merge token target) known granted = tt
   still_granted (Reject token) known granted = tt
   still_granted (Order one other) known granted = tt
+  still_granted (Constrain kind arguments) known granted = tt
+  still_granted (Relate relation one other) known granted = tt
 
   -- ---- guards
 
@@ -239,6 +251,7 @@ module _ (model : Model) (decisions : List Decision) (posted more : List Constra
     of_tokens = of_tokens;
     of_merges = λ claim p. kept claim (misses.of_merges claim p);
     of_orders = λ claim p. kept claim (misses.of_orders claim p);
+    of_postings = λ decision there claim posts. kept claim (misses.of_postings decision there claim posts);
     in_turn = λ one other turn.
         turn_followed_kept old new due due (due_kept model added old new is come due) posted more kept one other (misses.in_turn one other (turn_old one other turn));
   }

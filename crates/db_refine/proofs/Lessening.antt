@@ -1,6 +1,7 @@
 -- Nothing is missed where domains get smaller and each variable whose domain does is due.
 use Rattle.std.proofs.Common.{◌≡◌, ℕ, List, Some, ◌⊎◌, inl, inr, refl, sym, ◌∙◌, subst, arith}
 use Rattle.std.specs.Prelude.{All, slice_get}
+use Rattle.std.proofs.lemmas.List.Elements.{All-weaker}
 use Rattle.std.proofs.lemmas.Option.{get_or_from_slice_get}
 use Rattle.domain_core.specs.Domain.{Domain, Has, IsDomain, IsSingle, IsWithin, least}
 use Rattle.domain_core.proofs.Words.{has_least}
@@ -8,8 +9,10 @@ use Rattle.eu_name.specs.declared.name.Part.TheVariants.{Start, End, Object}
 use Rattle.eu_name.specs.declared.name.TokenName.{TokenName}
 use Rattle.eu_name.specs.declared.name.VarName.{VarName}
 use Rattle.eu_name.specs.declared.name.VarName.TheVariants.{Token}
+use Rattle.model_core.specs.declared.decision.ConArg.{ConArg}
+use Rattle.model_core.specs.declared.decision.ConArg.TheVariants as given
 use Rattle.model_core.specs.declared.decision.Decision.{Decision}
-use Rattle.model_core.specs.declared.decision.Decision.TheVariants.{Specify, Activate, Merge, Reject, Order}
+use Rattle.model_core.specs.declared.decision.Decision.TheVariants.{Specify, Activate, Merge, Reject, Order, Constrain, Relate}
 use Rattle.model_core.specs.declared.item.Term.{Term}
 use Rattle.model_core.specs.declared.model.Model.{Model}
 use Rattle.model_core.specs.declared.rule.Guard.{Guard}
@@ -22,7 +25,7 @@ use Rattle.constraint_net.specs.Calls.{Notes}
 use Rattle.constraint_net.specs.declared.constraint.Constraint.{Constraint}
 use Rattle.plan_defs.specs.Closure.{IsRespected}
 use Rattle.plan_defs.specs.Laws.{HaveToTurn}
-use Rattle.plan_defs.specs.Refusals.{IsKnown}
+use Rattle.plan_defs.specs.Refusals.{IsKnown, IsArgumentKnown}
 use Rattle.plan_defs.specs.Resources.{OpensIn}
 use Rattle.plan_defs.specs.Situations.{situation_of}
 use Rattle.plan_defs.specs.Support.{MayBe, one_side, other_side}
@@ -69,12 +72,18 @@ module _ (model : Model) (decisions : List Decision) (posted : List Constraint) 
 
   -- ---- decisions
 
+  argument_known : (argument : ConArg) → IsArgumentKnown (shown content) argument → IsArgumentKnown (shown fallen) argument
+  argument_known (given.Var name) (domain, gives) = let less = (fallen_below content domains within).variables name domain gives in (less.0, less.1)
+  argument_known (given.Value value) known = known
+
   known_less : (decision : Decision) → IsKnown (shown content) decision → IsKnown (shown fallen) decision
   known_less (Specify name value) (domain, gives) = let less = (fallen_below content domains within).variables name domain gives in (less.0, less.1)
   known_less (Activate token) known = known
   known_less (Merge token target) known = known
   known_less (Reject token) known = known
   known_less (Order one other) known = known
+  known_less (Constrain kind arguments) known = All-weaker (IsArgumentKnown (shown content)) (IsArgumentKnown (shown fallen)) argument_known arguments known
+  known_less (Relate relation one other) known = known
 
   granted_less : (decision : Decision) → IsRespected decision (shown content) → IsRespected decision (shown fallen)
   granted_less (Specify name value) granted = λ domain gives.
@@ -85,6 +94,8 @@ module _ (model : Model) (decisions : List Decision) (posted : List Constraint) 
   granted_less (Merge token target) granted = tt
   granted_less (Reject token) granted = tt
   granted_less (Order one other) granted = tt
+  granted_less (Constrain kind arguments) granted = tt
+  granted_less (Relate relation one other) granted = tt
 
   -- ---- guards
 
@@ -166,5 +177,6 @@ module _ (model : Model) (decisions : List Decision) (posted : List Constraint) 
     of_tokens = λ claim p. misses.of_tokens claim (record { token = p.token; there = p.there; says = p.says });
     of_merges = misses.of_merges;
     of_orders = misses.of_orders;
+    of_postings = misses.of_postings;
     in_turn = turns_less;
   }

@@ -5,7 +5,7 @@ use Rattle.std.proofs.lemmas.List.Elements.{All-contains}
 use Rattle.domain_core.specs.Domain.{Domain}
 use Rattle.eu_name.specs.declared.name.VarName.{VarName}
 use Rattle.model_core.specs.declared.decision.Decision.{Decision}
-use Rattle.model_core.specs.declared.decision.Decision.TheVariants.{Specify, Activate, Merge, Reject, Order}
+use Rattle.model_core.specs.declared.decision.Decision.TheVariants.{Specify, Activate, Merge, Reject, Order, Constrain, Relate}
 use Rattle.model_core.specs.declared.model.Model.{Model}
 use Rattle.model_core.specs.State.{State, Gives}
 use Rattle.narrow_core.specs.declared.field.Field.{Field}
@@ -33,6 +33,8 @@ granted_alike one other alike (Activate token) granted = tt
 granted_alike one other alike (Merge token target) granted = tt
 granted_alike one other alike (Reject token) granted = tt
 granted_alike one other alike (Order first second) granted = tt
+granted_alike one other alike (Constrain kind arguments) granted = tt
+granted_alike one other alike (Relate relation first second) granted = tt
 
 module _ (model : Model) (decisions : List Decision) (tables : List Field) (posted : List Constraint) (content : Content)
     (whole : IsWhole model decisions tables posted content) where

@@ -22,7 +22,7 @@ use Rattle.model_core.specs.State.{VarDomain}
 use Rattle.model_core.specs.Tokens.{HasToken, IsRejectable, slot_token}
 use Rattle.model_core.specs.Variables.{HasBase, HasPartBase}
 use Rattle.constraint_net.specs.declared.constraint.Constraint as posts
-use Rattle.plan_defs.specs.Claims.{Claim, HasPart, IsOfProblem, IsOfBlock, at_most, equal, part_of}
+use Rattle.plan_defs.specs.Claims.{Claim, HasPart, Posts, IsOfProblem, IsOfBlock, at_most, equal, part_of}
 use Rattle.plan_defs.specs.Closure.{IsRespected}
 use Rattle.plan_defs.specs.Laws.{HaveToTurn}
 use Rattle.plan_defs.specs.Refusals.{IsKnown}
@@ -120,6 +120,7 @@ pub record IsTakenUp (model : Model) (decisions : List Decision) (decision : Dec
       → IsPostedIn content.names posted (equal (part_of token part) (part_of target part))
   pub of_order : (one other : TokenName) → decision ≡ Order one other
       → IsPostedIn content.names posted (at_most (part_of one End) (part_of other Start))
+  pub of_posting : (claim : Claim) → Posts decision claim → IsPostedIn content.names posted claim
   pub in_turn : (token one other : TokenName) → decision ≡ Activate token → (one ≡ token) ⊎ (other ≡ token)
       → HaveToTurn model (decisions ++ decision ∷ []) (shown content) one other
       → IsTurnFollowed posted content due one other

@@ -17,7 +17,7 @@ use Rattle.model_core.specs.Numbers.{turned}
 use Rattle.model_core.specs.Tokens.{IsRoot, root_token, slot_token}
 use Rattle.narrow_core.specs.declared.field.Field.{Field}
 use Rattle.constraint_net.specs.declared.constraint.Constraint.{Constraint}
-use Rattle.plan_defs.specs.Claims.{Claim, IsOfProblem, IsOfBlock, IsOfToken, IsOfMerge, IsOfOrder}
+use Rattle.plan_defs.specs.Claims.{Claim, Posts, IsOfProblem, IsOfBlock, IsOfToken, IsOfMerge, IsOfOrder}
 use Rattle.plan_defs.specs.Closure.{IsRespected, AreInBase}
 use Rattle.plan_defs.specs.Laws.{HaveToTurn}
 use Rattle.plan_defs.specs.Refusals.{IsKnown}
@@ -111,5 +111,8 @@ pub record MissesNothing (model : Model) (decisions : List Decision) (posted : L
   pub of_tokens : (claim : Claim) → IsOfToken (shown content) claim → IsPostedIn content.names posted claim
   pub of_merges : (claim : Claim) → IsOfMerge model decisions claim → IsPostedIn content.names posted claim
   pub of_orders : (claim : Claim) → IsOfOrder decisions claim → IsPostedIn content.names posted claim
+  -- whether or not it counts: a decision that may follow posts only what counts
+  pub of_postings : (decision : Decision) → Contains decisions decision
+      → (claim : Claim) → Posts decision claim → IsPostedIn content.names posted claim
   pub in_turn : (one other : TokenName)
       → HaveToTurn model decisions (shown content) one other → IsTurnFollowed posted content due one other

@@ -5,3 +5,4 @@ pub mod Told
 pub mod Full
 pub mod Undecided
 pub mod Resting
+pub mod Typing

@@ -22,4 +22,5 @@ rest_told model decisions tables snapshot once rest =
         | inr merged ↦ (misses.known (Merge token merged.0) merged.1).0
       ];
       facts = λ token fact. active_there model decisions snapshot.posted (named_content snapshot) (length snapshot.blocks) [] misses token (inl fact);
+      bases = λ name domain gives. let has = rest.underway.justified.in_base name domain gives in (has.0, has.1);
     }

@@ -1,25 +1,35 @@
 -- What the states of tokens say of decisions.
-use Rattle.std.proofs.Common.{◌≡◌, ℕ, List, Bool, true, false, inl, inr, refl, sym, subst}
-use Rattle.std.specs.Prelude.{Contains, ◌↔◌, IsTrue}
+use Rattle.std.proofs.Common.{◌≡◌, ℕ, ◌<◌, ◌≤◌, List, [], ◌∷◌, length, Bool, true, false, Some, inl, inr, ⊎_elim, refl, sym, subst, arith}
+use Rattle.std.specs.Prelude.{All, Contains, ◌↔◌, IsTrue, MatchBool, map, slice_get}
+use Rattle.std.proofs.lemmas.List.Elements.{All-head, All-map, All-tail, All-weaker}
+use Rattle.domain_core.specs.Domain.{Domain}
 use Rattle.eu_name.specs.declared.name.Part.{Part}
 use Rattle.eu_name.specs.declared.name.TokenName.{TokenName}
+use Rattle.eu_name.specs.declared.name.VarName.{VarName}
 use Rattle.eu_name.specs.declared.name.VarName.TheVariants.{Token, Local}
+use Rattle.model_core.specs.declared.decision.ConArg.{ConArg}
+use Rattle.model_core.specs.declared.decision.ConArg.TheVariants.{Var, Value}
 use Rattle.model_core.specs.declared.decision.Decision.{Decision}
 use Rattle.model_core.specs.declared.model.Model.{Model}
 use Rattle.model_core.specs.declared.view.TokenState.{TokenState}
 use Rattle.model_core.specs.declared.view.TokenState.TheVariants.{Inactive, Active, Fact, Merged, Rejected}
 use Rattle.model_core.specs.Decided.{IsTaken, IsActive, IsDecided}
-use Rattle.model_core.specs.State.{State}
+use Rattle.model_core.specs.State.{State, Gives}
 use Rattle.model_core.specs.Tokens.{IsFact, IsRejectable}
 use Rattle.model_core.specs.TokenStates.{HasTokenState}
-use Rattle.plan_defs.specs.Terms.{Counts}
-use Rattle.eu_name.proofs.Members.{contains_from_get}
+use Rattle.plan_defs.specs.Claims.{argument_of}
+use Rattle.plan_defs.specs.Refusals.{IsArgumentKnown}
+use Rattle.plan_defs.specs.Terms.{Argument, Counts}
+use Rattle.plan_defs.proofs.Members.{all_from_get}
+use Rattle.eu_name.proofs.Members.{contains_from_get, get_below}
+use Rattle.eu_name.proofs.Ordered.{contains_cases, contains_none}
 use Rattle.model_core.specs.Content.{shown}
 use Rattle.db_posting.specs.Counting.{IsTakenState}
 use Rattle.db_store.specs.Stores.{Snapshot, named_content}
 use Rattle.plan_defs.specs.Unordered.{AreDecidedOnce, TakesPlace}
 use Rattle.token_store.specs.Tokens.{TokenList, token_names}
 use Rattle.db_refusals.specs.Judging.{IsKeptAs, AreTold}
+use Rattle.db_refusals.specs.Typing.{HasArgument}
 
 module _ (model : Model) (decisions : List Decision) (state : State) (token : TokenName) where
   -- what is kept as inactive isn't decided, and all else is
@@ -116,6 +126,56 @@ part_counts model Taken owner part answer told = owner_counts model Taken owner 
 pub local_counts : (model : Model) (Taken : TokenName → Type 0) (owner : TokenName) (rule number : ℕ) (answer : Bool) → (IsTrue answer ↔ (IsRejectable model owner → Taken owner))
     → (IsTrue answer ↔ Counts model Taken (Local owner rule number))
 local_counts model Taken owner rule number answer told = owner_counts model Taken owner answer told
+
+-- an argument counts if it is a value, or a variable that does
+module _ (P : Argument → Type 0) where
+  each_of : (arguments : List ConArg) (argument : ConArg) → Contains arguments argument → All P (map argument_of arguments) → P (argument_of argument)
+  each_of [] argument there all = absurd (contains_none argument there)
+  each_of (first ∷ arguments) argument there all = ⊎_elim
+      (λ (same : first ≡ argument). subst (λ (a : ConArg). P (argument_of a)) same (All-head P (argument_of first) (map argument_of arguments) all))
+      (λ (later : Contains arguments argument). each_of arguments argument later (All-tail P (argument_of first) (map argument_of arguments) all))
+      (contains_cases first argument arguments there)
+
+  -- all of them do
+  pub all_counted : (arguments : List ConArg) (index : ℕ) → length arguments ≤ index
+      → ((place : ℕ) (argument : ConArg) → place < index → slice_get arguments place ≡ Some argument → P (argument_of argument)) → (IsTrue true ↔ All P (map argument_of arguments))
+  all_counted arguments index past before = (
+    λ yes. All-map P argument_of arguments (all_from_get (λ (a : ConArg). P (argument_of a)) arguments (λ place argument at.
+        let below = get_below arguments place argument at in before place argument (omega (arith, below, past)) at)),
+    λ all. refl,
+  )
+
+  -- or one doesn't
+  pub one_uncounted : (arguments : List ConArg) (place : ℕ) (argument : ConArg) → slice_get arguments place ≡ Some argument → (P (argument_of argument) → ⊥)
+      → (IsTrue false ↔ All P (map argument_of arguments))
+  one_uncounted arguments place argument at not = (
+    λ (e : IsTrue false). absurd (cc),
+    λ all. absurd (not (each_of arguments argument (contains_from_get arguments place argument at) all)),
+  )
+
+-- the model has the variables that are there
+pub arguments_had : (model : Model) (decisions : List Decision) (snapshot : Snapshot) → AreTold model decisions snapshot → (arguments : List ConArg)
+    → All (IsArgumentKnown (shown (named_content snapshot))) arguments → All (HasArgument model) arguments
+arguments_had model decisions snapshot told arguments known =
+    All-weaker (IsArgumentKnown (shown (named_content snapshot))) (HasArgument model) had arguments known
+  where
+    had : (argument : ConArg) → IsArgumentKnown (shown (named_content snapshot)) argument → HasArgument model argument
+    had (Var name) known = told.bases name known.0 known.1
+    had (Value value) known = tt
+
+-- a variable is there or isn't
+pub variable_told : (state : State) (name : VarName) (answer : Bool) → MatchBool answer ((domain : Domain) × Gives state name domain) ((domain : Domain) → Gives state name domain → ⊥)
+    → (IsTrue answer ↔ IsArgumentKnown state (Var name))
+variable_told state name true gives = (λ yes. gives, λ known. refl)
+variable_told state name false none = (λ (e : IsTrue false). absurd (cc), λ known. absurd (none known.0 known.1))
+
+-- two things are so where the one is and the other is told
+module _ (P Q : Type 0) (answer : Bool) where
+  pub both_told : P → (IsTrue answer ↔ Q) → (IsTrue answer ↔ (P × Q))
+  both_told first told = (λ yes. (first, told.0 yes), λ both. told.1 both.1)
+
+  pub first_not : answer ≡ false → (IsTrue answer ↔ P) → (IsTrue answer ↔ (P × Q))
+  first_not not told = (λ yes. absurd (let is : answer ≡ true = yes in cc), λ both. told.1 both.0)
 
 -- an answer that says exactly whether it is so
 pub isnt : {P : Type 0} → (IsTrue false ↔ P) → P → ⊥

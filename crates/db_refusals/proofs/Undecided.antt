@@ -9,7 +9,7 @@ use Rattle.model_core.specs.Content.{shown}
 use Rattle.db_store.specs.Stores.{Snapshot, named_content}
 use Rattle.token_store.specs.Tokens.{token_names}
 use Rattle.model_core.specs.declared.refusal.Refusal.{Refusal}
-use Rattle.model_core.specs.declared.refusal.Refusal.TheVariants.{Unknown, Decided, NotInDomain, NotActive, NotSamePredicate, NotRejectable, SameToken, ActiveFull}
+use Rattle.model_core.specs.declared.refusal.Refusal.TheVariants.{Unknown, WrongType, Decided, NotInDomain, NotActive, NotSamePredicate, NotRejectable, SameToken, ActiveFull}
 use Rattle.db_refusals.specs.Judging.{FindsUndecided}
 use Rattle.db_refusals.specs.Reasons.{IsFirstReason}
 use Rattle.db_refusals.proofs.First.{unknown_first, decided_first}
@@ -18,7 +18,8 @@ module _ (model : Model) (decisions : List Decision) (snapshot : Snapshot) (toke
   pub activate_refused : (reason : Refusal) → FindsUndecided model decisions snapshot.tokens token (Some reason)
       → IsFirstReason model decisions (shown (named_content snapshot)) (Activate token) (Some reason)
   activate_refused Unknown finds = unknown_first model decisions (shown (named_content snapshot)) (Activate token) finds
-  activate_refused Decided finds = decided_first model decisions (shown (named_content snapshot)) (Activate token) finds.0 finds.1
+  activate_refused WrongType finds = absurd finds
+  activate_refused Decided finds = decided_first model decisions (shown (named_content snapshot)) (Activate token) finds.0 (λ h. h) finds.1
   activate_refused NotInDomain finds = absurd finds
   activate_refused NotActive finds = absurd finds
   activate_refused NotSamePredicate finds = absurd finds
@@ -29,7 +30,8 @@ module _ (model : Model) (decisions : List Decision) (snapshot : Snapshot) (toke
   pub reject_refused : (reason : Refusal) → FindsUndecided model decisions snapshot.tokens token (Some reason)
       → IsFirstReason model decisions (shown (named_content snapshot)) (Reject token) (Some reason)
   reject_refused Unknown finds = unknown_first model decisions (shown (named_content snapshot)) (Reject token) finds
-  reject_refused Decided finds = decided_first model decisions (shown (named_content snapshot)) (Reject token) finds.0 finds.1
+  reject_refused WrongType finds = absurd finds
+  reject_refused Decided finds = decided_first model decisions (shown (named_content snapshot)) (Reject token) finds.0 (λ h. h) finds.1
   reject_refused NotInDomain finds = absurd finds
   reject_refused NotActive finds = absurd finds
   reject_refused NotSamePredicate finds = absurd finds
@@ -40,7 +42,8 @@ module _ (model : Model) (decisions : List Decision) (snapshot : Snapshot) (toke
   pub merge_refused : (target : TokenName) → Contains (token_names snapshot.tokens) target → (reason : Refusal) → FindsUndecided model decisions snapshot.tokens token (Some reason)
       → IsFirstReason model decisions (shown (named_content snapshot)) (Merge token target) (Some reason)
   merge_refused target there Unknown finds = unknown_first model decisions (shown (named_content snapshot)) (Merge token target) (λ known. finds known.0)
-  merge_refused target there Decided finds = decided_first model decisions (shown (named_content snapshot)) (Merge token target) (finds.0, there) finds.1
+  merge_refused target there WrongType finds = absurd finds
+  merge_refused target there Decided finds = decided_first model decisions (shown (named_content snapshot)) (Merge token target) (finds.0, there) (λ h. h) finds.1
   merge_refused target there NotInDomain finds = absurd finds
   merge_refused target there NotActive finds = absurd finds
   merge_refused target there NotSamePredicate finds = absurd finds

@@ -3,3 +3,4 @@ pub mod Seeing
 pub mod ViewLaws
 pub mod Reasons
 pub mod Judging
+pub mod Typing

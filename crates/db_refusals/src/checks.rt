@@ -5,7 +5,7 @@ ghost use Rattle.model_core.specs.declared.decision.Decision.TheVariants.{Specif
 
 use eu_name::laws::names_are_told_apart;
 use eu_name::name::{TokenName, VarName};
-use model_core::decision::Decision;
+use model_core::decision::{Decision, decisions_are_told_apart};
 
 /// Whether one of the decisions specifies the variable.
 pub fn is_specified(decisions: &[Decision], name: &VarName) -> bool
@@ -40,4 +40,21 @@ pub fn is_same_token(one: &TokenName, other: &TokenName) -> bool
 {
     names_are_told_apart();
     one == other
+}
+
+/// Whether the two are one decision.
+pub fn is_same_decision(one: &Decision, other: &Decision) -> bool
+    ensures { IsTrue result ↔ (one.now ≡ other.now) }
+{
+    decisions_are_told_apart();
+    one == other
+}
+
+/// Whether the decision stands already.
+pub fn stands(decisions: &[Decision], decision: &Decision) -> bool
+    ensures { IsTrue result ↔ Contains decisions.now decision.now }
+{
+    decisions
+        .iter()
+        .any(|other| is_same_decision(other, decision))
 }

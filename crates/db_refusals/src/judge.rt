@@ -1,11 +1,13 @@
 //! The first reason against a decision.
 
-ghost use Rattle.std.specs.Prelude.{List, MatchBool};
+ghost use Rattle.std.specs.Prelude.{◌≡◌, ◌↔◌, List, All, IsTrue, MatchBool};
 ghost use Rattle.domain_core.specs.Domain.{Domain};
 ghost use Rattle.model_core.specs.State.{Gives};
 ghost use Rattle.model_core.specs.declared.model.Model.{Model as Problem};
 ghost use Rattle.model_core.specs.declared.decision.Decision.{Decision as Decided};
-ghost use Rattle.model_core.specs.declared.decision.Decision.TheVariants.{Specify, Activate, Merge, Reject, Order};
+ghost use Rattle.model_core.specs.declared.item.Rel.{Rel as Related};
+ghost use Rattle.model_core.specs.declared.decision.Decision.TheVariants.{Specify, Activate, Merge, Reject, Order, Constrain, Relate};
+ghost use Rattle.plan_defs.specs.Refusals.{IsArgumentKnown};
 ghost use Rattle.plan_defs.specs.Settling.{IsSettled};
 ghost use Rattle.model_core.specs.Content.{shown};
 ghost use Rattle.db_posting.specs.Underway.{IsAtRest};
@@ -13,13 +15,17 @@ ghost use Rattle.db_store.specs.Stores.{snapshot_of, named_content};
 ghost use Rattle.db_refusals.specs.Judging.{AreTold};
 ghost use Rattle.db_refusals.specs.Reasons.{IsFirstReason};
 
-use super::checks::{is_same_token, is_specified};
-use super::tokens::{is_full, state_of, undecided, variable_counts};
+use super::arguments::{Reading, takes};
+use super::checks::{is_same_token, is_specified, stands};
+use super::tokens::{
+    arguments_count, has_tokens, is_full, state_of, tokens_count, undecided, variable_counts,
+};
 use crate::are_ordered;
 use db_posting::is_rejectable;
 use db_store::Store;
+use domain_core::kind::Kind;
 use eu_name::name::{TokenName, VarName};
-use model_core::decision::Decision;
+use model_core::decision::{ConArg, Decision};
 use model_core::model::Model;
 use model_core::refusal::Refusal;
 use plan_values::{have_same_predicate, is_declared};
@@ -37,6 +43,25 @@ fn has_variable(store: &Store, name: &VarName) -> bool
         Some(_number) => true,
         None => false,
     }
+}
+
+// Whether the argument is there, if it is a variable.
+fn has_argument(store: &Store, argument: &ConArg) -> bool
+    ensures { IsTrue result ↔ IsArgumentKnown (shown (named_content (snapshot_of store.now))) argument.now }
+{
+    match argument {
+        ConArg::Var(name) => has_variable(store, name),
+        ConArg::Value(_) => true,
+    }
+}
+
+// Whether all the arguments are there.
+fn has_arguments(store: &Store, arguments: &[ConArg]) -> bool
+    ensures { IsTrue result ↔ All (IsArgumentKnown (shown (named_content (snapshot_of store.now)))) arguments.now }
+{
+    arguments
+        .iter()
+        .all(|argument| has_argument(store, argument))
 }
 
 // The first reason against giving the variable the value.
@@ -155,6 +180,67 @@ fn against_order(
     None
 }
 
+// The first reason against letting the constraint hold of the arguments.
+fn against_constrain(
+    model: &Model,
+    store: &Store,
+    decisions: &[Decision],
+    decision: &Decision,
+    kind: Kind,
+    arguments: &[ConArg],
+) -> Option<Refusal>
+    requires told { AreTold model.now decisions.now (snapshot_of store.now) }
+    requires is { decision.now ≡ Constrain kind arguments.now }
+    ensures { let state = shown (named_content (snapshot_of store.now)) in
+        IsFirstReason model.now decisions.now state decision.now result }
+{
+    if !has_arguments(store, arguments) {
+        return Some(Refusal::Unknown);
+    }
+    if !takes(model, Reading::Types, kind, arguments) {
+        return Some(Refusal::WrongType);
+    }
+    if stands(decisions, decision) {
+        return Some(Refusal::Decided);
+    }
+    if !takes(model, Reading::Values, kind, arguments) {
+        return Some(Refusal::NotInDomain);
+    }
+    if !arguments_count(model, store.tokens(), arguments) {
+        return Some(Refusal::NotActive);
+    }
+    None
+}
+
+// The first reason against letting a relation hold between the two tokens.
+fn against_relate(
+    model: &Model,
+    store: &Store,
+    decisions: &[Decision],
+    decision: &Decision,
+    one: &TokenName,
+    other: &TokenName,
+) -> Option<Refusal>
+    requires told { AreTold model.now decisions.now (snapshot_of store.now) }
+    requires is { (relation : Related) × (decision.now ≡ Relate relation one.now other.now) }
+    ensures { let state = shown (named_content (snapshot_of store.now)) in
+        IsFirstReason model.now decisions.now state decision.now result }
+{
+    if !has_tokens(store.tokens(), one, other) {
+        return Some(Refusal::Unknown);
+    }
+    if stands(decisions, decision) {
+        return Some(Refusal::Decided);
+    }
+    if !tokens_count(model, store.tokens(), one, other) {
+        return Some(Refusal::NotActive);
+    }
+    if is_same_token(one, other) {
+        return Some(Refusal::SameToken);
+    }
+    None
+}
+
 /// The first reason against the decision, where the store is at rest for a settled list of decisions.
 pub fn first_reason(
     model: &Model,
@@ -174,5 +260,18 @@ pub fn first_reason(
         Decision::Merge(token, target) => against_merge(model, store, token, target),
         Decision::Reject(token) => against_reject(model, store, token),
         Decision::Order(one, other) => against_order(store, decisions, one, other),
+        Decision::Constrain(kind, arguments) => {
+            against_constrain(
+                model,
+                store,
+                decisions,
+                decision,
+                *kind,
+                arguments.as_slice(),
+            )
+        }
+        Decision::Relate(_, one, other) => {
+            against_relate(model, store, decisions, decision, one, other)
+        }
     }
 }

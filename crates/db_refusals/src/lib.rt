@@ -4,13 +4,14 @@
 //! Changes no store, and knows nothing of how one comes to rest. How tests find what they look for may change.
 #![tactic(auto)]
 
+mod arguments;
 mod checks;
 mod judge;
 mod laws;
 mod tokens;
 mod view;
 
-pub use checks::is_same_token;
+pub use checks::{is_same_decision, is_same_token};
 pub use judge::first_reason;
 pub use laws::contents_are_seen_as_states;
 pub use tokens::state_of;

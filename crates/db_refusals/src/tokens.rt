@@ -1,13 +1,13 @@
 //! What the tokens of a store tell of decisions.
 
-ghost use Rattle.std.specs.Prelude.{◌≡◌, ◌≢◌, ◌↔◌, ◌≤◌, List, AllPairs, Some, slice_get, IsTrue};
+ghost use Rattle.std.specs.Prelude.{◌≡◌, ◌≢◌, ◌↔◌, ◌≤◌, List, All, AllPairs, Contains, Some, map, slice_get, IsTrue};
 ghost use Rattle.model_core.specs.declared.decision.Decision.{Decision};
 ghost use Rattle.model_core.specs.declared.model.Model.{Model as Problem};
 ghost use Rattle.model_core.specs.declared.view.TokenState.{TokenState as Kept};
 ghost use Rattle.model_core.specs.Decided.{IsTaken};
-ghost use Rattle.model_core.specs.Tokens.{IsRejectable};
 ghost use Rattle.plan_defs.specs.Refusals.{AreActive};
-ghost use Rattle.plan_defs.specs.Terms.{Counts};
+ghost use Rattle.plan_defs.specs.Claims.{argument_of};
+ghost use Rattle.plan_defs.specs.Terms.{ArgumentCounts, Counts, TokenCounts};
 ghost use Rattle.db_posting.specs.Counting.{IsTakenState};
 ghost use Rattle.db_store.specs.Stores.{Snapshot};
 ghost use Rattle.token_store.specs.Tokens.{tokens_now, token_names, token_states};
@@ -15,6 +15,7 @@ ghost use Rattle.db_refusals.specs.Judging.{FindsState, AreTold, FindsUndecided,
 
 use db_posting::is_rejectable;
 use eu_name::name::{TokenName, VarName};
+use model_core::decision::ConArg;
 use model_core::model::Model;
 use model_core::refusal::Refusal;
 use model_core::view::TokenState;
@@ -31,6 +32,24 @@ pub fn state_of(tokens: &Tokens, token: &TokenName) -> Option<TokenState>
         Some(place) => tokens.state(place),
         None => None,
     }
+}
+
+// Whether the token is there.
+fn has_token(tokens: &Tokens, token: &TokenName) -> bool
+    ensures { IsTrue result ↔ Contains (token_names (tokens_now tokens.now)) token.now }
+{
+    match tokens.find(token) {
+        Some(_place) => true,
+        None => false,
+    }
+}
+
+/// Whether both tokens are there.
+pub fn has_tokens(tokens: &Tokens, one: &TokenName, other: &TokenName) -> bool
+    ensures { IsTrue result ↔ (Contains (token_names (tokens_now tokens.now)) one.now
+        × Contains (token_names (tokens_now tokens.now)) other.now) }
+{
+    has_token(tokens, one) && has_token(tokens, other)
 }
 
 // Whether a token in this state takes place, by itself or as another one, since it was decided so.
@@ -99,7 +118,7 @@ pub fn is_full(tokens: &Tokens) -> bool
 fn token_counts(model: &Model, tokens: &Tokens, token: &TokenName) -> bool
     ensures { (decisions : List Decision) (snapshot : Snapshot)
         → snapshot.tokens ≡ tokens_now tokens.now → AreTold model.now decisions snapshot
-        → (IsTrue result ↔ (IsRejectable model.now token.now → IsTaken decisions token.now)) }
+        → (IsTrue result ↔ TokenCounts model.now (IsTaken decisions) token.now) }
 {
     if !is_rejectable(model, token) {
         return true;
@@ -108,6 +127,15 @@ fn token_counts(model: &Model, tokens: &Tokens, token: &TokenName) -> bool
         Some(state) => is_taken(state),
         None => false,
     }
+}
+
+/// Whether what is said of both tokens counts.
+pub fn tokens_count(model: &Model, tokens: &Tokens, one: &TokenName, other: &TokenName) -> bool
+    ensures { (decisions : List Decision) (snapshot : Snapshot)
+        → snapshot.tokens ≡ tokens_now tokens.now → AreTold model.now decisions snapshot
+        → (IsTrue result ↔ (TokenCounts model.now (IsTaken decisions) one.now × TokenCounts model.now (IsTaken decisions) other.now)) }
+{
+    token_counts(model, tokens, one) && token_counts(model, tokens, other)
 }
 
 /// Whether what is said of the variable counts.
@@ -121,4 +149,30 @@ pub fn variable_counts(model: &Model, tokens: &Tokens, name: &VarName) -> bool
         VarName::Token(token, _) => token_counts(model, tokens, token),
         VarName::Local { token, .. } => token_counts(model, tokens, token),
     }
+}
+
+// Whether what is said of the argument counts.
+fn argument_counts(model: &Model, tokens: &Tokens, argument: &ConArg) -> bool
+    ensures { (decisions : List Decision) (snapshot : Snapshot)
+        → snapshot.tokens ≡ tokens_now tokens.now → AreTold model.now decisions snapshot
+        → (IsTrue result ↔ ArgumentCounts model.now (IsTaken decisions) (argument_of argument.now)) }
+{
+    match argument {
+        ConArg::Var(name) => variable_counts(model, tokens, name),
+        ConArg::Value(_) => true,
+    }
+}
+
+/// Whether what is said of each of the arguments counts.
+pub fn arguments_count(model: &Model, tokens: &Tokens, arguments: &[ConArg]) -> bool
+    ensures { (decisions : List Decision) (snapshot : Snapshot)
+        → snapshot.tokens ≡ tokens_now tokens.now → AreTold model.now decisions snapshot
+        → (IsTrue result ↔ All (ArgumentCounts model.now (IsTaken decisions)) (map argument_of arguments.now)) }
+{
+    for argument in arguments {
+        if !argument_counts(model, tokens, argument) {
+            return false;
+        }
+    }
+    true
 }

@@ -7,7 +7,7 @@ use Rattle.model_core.specs.declared.class.Pred.{Pred}
 use Rattle.model_core.specs.declared.class.PredKind.{PredKind}
 use Rattle.model_core.specs.declared.class.PredKind.TheVariants.{Uses, Produce, Consume}
 use Rattle.model_core.specs.declared.decision.Decision.{Decision}
-use Rattle.model_core.specs.declared.decision.Decision.TheVariants.{Activate, Specify, Order}
+use Rattle.model_core.specs.declared.decision.Decision.TheVariants.{Activate, Specify, Order, Constrain, Relate}
 use Rattle.model_core.specs.declared.model.Model.{Model}
 use Rattle.model_core.specs.declared.view.TokenState.{TokenState}
 use Rattle.token_store.specs.Tokens.{TokenList, tokens_now, token_names, token_preds, token_states}
@@ -68,6 +68,8 @@ pub record AreActorsAsBefore (resources : Resources) (model : Model) (stored : S
 abbrev pub DecidesNoToken : Decision → Type 0
 DecidesNoToken (Specify name value) = ⊤
 DecidesNoToken (Order first second) = ⊤
+DecidesNoToken (Constrain kind arguments) = ⊤
+DecidesNoToken (Relate relation first second) = ⊤
 DecidesNoToken decision = ⊥
 
 -- no token was decided, as many blocks are open as were at the mark, and all that change levels are as they were

@@ -143,6 +143,8 @@ fn decides_no_token(decision: &Decision) -> bool
     match decision {
         Decision::Specify(_, _) => true,
         Decision::Order(_, _) => true,
+        Decision::Constrain(_, _) => true,
+        Decision::Relate(_, _, _) => true,
         Decision::Activate(_) => false,
         Decision::Merge(_, _) => false,
         Decision::Reject(_) => false,

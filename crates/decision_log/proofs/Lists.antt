@@ -1,18 +1,16 @@
 -- The lists that stood, by the last step.
-use Rattle.std.proofs.Common.{◌≡◌, ℕ, suc, slice_get, Result, Err, IfOk, MatchResult, Vec, Global, Option, Some, None, option_to_list, Ok, reverse, append-nil, ◌+◌, ◌-◌, ◌<◌, ◌≤◌, take, List, [], ◌∷◌, ◌++◌, length, refl, sym, ap, ◌∙◌, subst, length-append, arith}
+use Rattle.std.proofs.Common.{◌≡◌, ℕ, suc, slice_get, Result, Err, IfOk, MatchResult, Vec, Global, Option, Some, None, option_to_list, Ok, reverse, ◌+◌, ◌-◌, ◌<◌, ◌≤◌, take, List, [], ◌∷◌, ◌++◌, length, refl, sym, ap, ◌∙◌, subst, length-append, arith}
 use Rattle.std.proofs.lemmas.List.{reverse-append}
 use Rattle.std.proofs.Math.Seq.{take-append_seam}
 use Rattle.model_core.specs.declared.decision.Decision.{Decision}
 use Rattle.model_core.specs.History.{History, standing, accepted}
 use Rattle.decision_log.specs.declared.steps.Step.{Step}
-use Rattle.decision_log.specs.declared.steps.Step.TheVariants.{Push, Take}
-use Rattle.decision_log.specs.declared.steps.TakenOut.{TakenOut}
-use Rattle.decision_log.specs.Kept.{put_back, HavePlaces, list_before, lists_of, CanLeadTo, AreLogSteps}
+use Rattle.decision_log.specs.declared.steps.Step.TheVariants.{Push}
+use Rattle.decision_log.specs.Kept.{list_before, lists_of, CanLeadTo, AreLogSteps}
 use Rattle.decision_log.specs.Undoing.{Undoes, Pops, IsFormer, CopiesFormer}
 use Rattle.decision_log.specs.declared.LogFault.{LogFault}
 use Rattle.decision_log.specs.declared.LogFault.TheVariants.{Memory}
 use Rattle.std.specs.declared.alloc.AllocError.{AllocError}
-use Rattle.decision_log.proofs.Places.{length-put_back}
 
 pub standing-lists_of : (decisions : List Decision) (steps : List Step) → standing (lists_of decisions steps) ≡ decisions
 standing-lists_of decisions [] = refl

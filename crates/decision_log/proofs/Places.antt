@@ -1,11 +1,10 @@
 -- Putting decisions back at their places.
-use Rattle.std.proofs.Common.{◌≡◌, ℕ, zero, suc, ◌+◌, ◌-◌, ◌<◌, ◌≤◌, Bool, true, false, not, take, drop, List, [], ◌∷◌, ◌++◌, length, count_by, insert, remove, refl, sym, ap, ◌∙◌, subst, append_assoc, slice_index_or, length-append, add-one, arith}
+use Rattle.std.proofs.Common.{◌≡◌, ℕ, zero, suc, ◌+◌, ◌<◌, ◌≤◌, take, drop, List, [], ◌∷◌, ◌++◌, length, insert, remove, refl, sym, ap, ◌∙◌, subst, slice_index_or, arith}
 use Rattle.std.proofs.Math.Seq.{take-append_seam, drop-append_seam, drop-append-add}
 use Rattle.std.proofs.lemmas.List.Edits.{length-insert}
 use Rattle.model_core.specs.declared.decision.Decision.{Decision}
 use Rattle.decision_log.specs.declared.steps.TakenOut.{TakenOut}
 use Rattle.decision_log.specs.Kept.{put_back, AreBelow, HavePlaces}
-use Rattle.decision_log.specs.Taking.{kept_of}
 
 -- the last of them is put back first
 pub put_back-last : (more : List TakenOut) (last : TakenOut) (decisions : List Decision)

@@ -1,5 +1,5 @@
 -- Taking decisions out from the last place on.
-use Rattle.std.proofs.Common.{◌≡◌, ℕ, cond, zero, suc, ◌+◌, ◌-◌, ◌<◌, ◌≤◌, Bool, true, false, not, take, drop, List, [], ◌∷◌, ◌++◌, length, count_by, insert, remove, refl, sym, ap, ◌∙◌, subst, append_assoc, append-nil, length-append, slice_index_or, arith}
+use Rattle.std.proofs.Common.{◌≡◌, ℕ, cond, ◌+◌, ◌<◌, ◌≤◌, Bool, true, false, not, take, drop, List, [], ◌∷◌, ◌++◌, length, count_by, insert, remove, refl, sym, ap, ◌∙◌, subst, append_assoc, append-nil, length-append, slice_index_or, arith}
 use Rattle.std.proofs.lemmas.List.{length-take, drop_all, take_all}
 use Rattle.std.proofs.lemmas.List.Sums.{sum_by-cons, sum_by-take-drop}
 use Rattle.model_core.specs.declared.decision.Decision.{Decision}

@@ -10,7 +10,7 @@ use Rattle.decision_log.specs.declared.steps.TakenOut.{TakenOut}
 use Rattle.decision_log.specs.Kept.{put_back, AreBelow, HavePlaces, list_before, lists_of, CanLeadTo, AreLogSteps}
 use Rattle.decision_log.specs.Taking.{kept_of, LedByStep, TakesFirst, TellsStep}
 use Rattle.decision_log.specs.declared.log.LogStep.TheVariants as seen
-use Rattle.decision_log.proofs.Places.{IsCut, cut_at, AreFrom, places_left, put_back-last}
+use Rattle.decision_log.proofs.Places.{IsCut, AreFrom, places_left, put_back-last}
 use Rattle.decision_log.proofs.Lists.{lists_on, length-lists_of}
 
 -- a step of the log with the lists that it leads between

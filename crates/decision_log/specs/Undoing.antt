@@ -1,5 +1,5 @@
 -- What undo brings back.
-use Rattle.std.specs.Prelude.{◌≡◌, ◌<◌, List, ◌∷◌, length, Option, Some, None, Result, Ok, Err}
+use Rattle.std.specs.Prelude.{◌≡◌, List, ◌∷◌, length, Option, Some, None, Result, Ok, Err}
 use Rattle.model_core.specs.declared.decision.Decision.{Decision}
 use Rattle.model_core.specs.History.{History, standing, accepted}
 use Rattle.decision_log.specs.declared.LogFault.{LogFault}

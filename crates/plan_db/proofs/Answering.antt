@@ -42,6 +42,7 @@ pub refused_as : (model : Model) (history : History) (decision : Decision) (obje
     → Applies (taken_in model history) decision (Err (fault_of objection)) (taken_in model history)
 refused_as model history decision Collapsed collapsed = (refl, collapsed)
 refused_as model history decision (Refused reasons.Unknown) refused = (refl, refused)
+refused_as model history decision (Refused reasons.WrongType) refused = (refl, refused)
 refused_as model history decision (Refused reasons.Decided) refused = (refl, refused)
 refused_as model history decision (Refused reasons.NotInDomain) refused = (refl, refused)
 refused_as model history decision (Refused reasons.NotActive) refused = (refl, refused)
@@ -54,6 +55,7 @@ refused_as model history decision (Refused reasons.ActiveFull) refused = (refl, 
 pub never_memory : (objection : Objection) → fault_of objection ≡ fault.Memory → ⊥
 never_memory Collapsed same = let here : fault.InInconsistent ≡ fault.Memory = same in cc
 never_memory (Refused reasons.Unknown) same = let here : fault.Unknown ≡ fault.Memory = same in cc
+never_memory (Refused reasons.WrongType) same = let here : fault.WrongType ≡ fault.Memory = same in cc
 never_memory (Refused reasons.Decided) same = let here : fault.Decided ≡ fault.Memory = same in cc
 never_memory (Refused reasons.NotInDomain) same = let here : fault.NotInDomain ≡ fault.Memory = same in cc
 never_memory (Refused reasons.NotActive) same = let here : fault.NotActive ≡ fault.Memory = same in cc
@@ -211,6 +213,7 @@ all_kept (Err fault.NoSuchDecision) stood = refl
 all_kept (Err fault.Nothing) stood = refl
 all_kept (Err fault.InInconsistent) stood = refl
 all_kept (Err fault.Unknown) stood = refl
+all_kept (Err fault.WrongType) stood = refl
 all_kept (Err fault.Decided) stood = refl
 all_kept (Err fault.NotInDomain) stood = refl
 all_kept (Err fault.NotActive) stood = refl
@@ -246,6 +249,7 @@ module _ (model : Model) (old new : History) (before after : Bool) (ready : befo
   answers_apply decision (Err fault.Nothing) kept same applies = absurd applies
   answers_apply decision (Err fault.InInconsistent) kept same applies = (stays_same applies.0 kept same, applies)
   answers_apply decision (Err fault.Unknown) kept same applies = (stays_same applies.0 kept same, applies)
+  answers_apply decision (Err fault.WrongType) kept same applies = (stays_same applies.0 kept same, applies)
   answers_apply decision (Err fault.Decided) kept same applies = (stays_same applies.0 kept same, applies)
   answers_apply decision (Err fault.NotInDomain) kept same applies = (stays_same applies.0 kept same, applies)
   answers_apply decision (Err fault.NotActive) kept same applies = (stays_same applies.0 kept same, applies)

@@ -9,7 +9,7 @@ use Rattle.model_core.specs.Lawful.{IsLawful}
 use Rattle.model_core.specs.State.{State, Gives}
 use Rattle.plan_defs.specs.Closure.{IsLeast, IsCollapsed}
 use Rattle.plan_defs.specs.Refusals.{IsRefused, IsAdmissible}
-use Rattle.model_core.specs.declared.refusal.Refusal.TheVariants.{Unknown, Decided, NotInDomain, NotActive, NotSamePredicate, NotRejectable, SameToken, ActiveFull}
+use Rattle.model_core.specs.declared.refusal.Refusal.TheVariants.{Unknown, WrongType, Decided, NotInDomain, NotActive, NotSamePredicate, NotRejectable, SameToken, ActiveFull}
 use Rattle.model_core.specs.declared.refusal.Refusal.{Refusal}
 use Rattle.plan_defs.specs.Settling.{Settles}
 use Rattle.plan_defs.specs.History.{IsHistory}
@@ -67,6 +67,7 @@ Applies old decision (Ok outcome) new =
     × OutcomeIs new outcome
 Applies old decision (Err fault.InInconsistent) new = (new ≡ old) × HasCollapsed old
 Applies old decision (Err fault.Unknown) new = (new ≡ old) × RefusesFor old decision Unknown
+Applies old decision (Err fault.WrongType) new = (new ≡ old) × RefusesFor old decision WrongType
 Applies old decision (Err fault.Decided) new = (new ≡ old) × RefusesFor old decision Decided
 Applies old decision (Err fault.NotInDomain) new = (new ≡ old) × RefusesFor old decision NotInDomain
 Applies old decision (Err fault.NotActive) new = (new ≡ old) × RefusesFor old decision NotActive

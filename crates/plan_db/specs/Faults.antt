@@ -9,6 +9,7 @@ use Rattle.plan_db.specs.declared.fault.DbFault.TheVariants as fault
 -- the fault of a decision that is refused for this reason
 abbrev pub fault_for : Refusal → DbFault
 fault_for reason.Unknown = fault.Unknown
+fault_for reason.WrongType = fault.WrongType
 fault_for reason.Decided = fault.Decided
 fault_for reason.NotInDomain = fault.NotInDomain
 fault_for reason.NotActive = fault.NotActive

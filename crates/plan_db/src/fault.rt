@@ -25,9 +25,11 @@ pub enum DbFault {
     InInconsistent,
     #[error("there is no such variable or token")]
     Unknown,
+    #[error("the constraint doesn't take these arguments")]
+    WrongType,
     #[error("it is decided already")]
     Decided,
-    #[error("the variable was never allowed to have this value")]
+    #[error("the variable was never allowed to have this value, or it is no value of its kind")]
     NotInDomain,
     #[error("a token isn't active")]
     NotActive,
@@ -89,6 +91,7 @@ fn fault_for(reason: Refusal) -> DbFault
 {
     match reason {
         Refusal::Unknown => DbFault::Unknown,
+        Refusal::WrongType => DbFault::WrongType,
         Refusal::Decided => DbFault::Decided,
         Refusal::NotInDomain => DbFault::NotInDomain,
         Refusal::NotActive => DbFault::NotActive,

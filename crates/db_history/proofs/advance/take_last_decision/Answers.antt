@@ -16,14 +16,14 @@ advance-requires-clause-follows c =
     let decisions = c.args.decisions.now in
     let decision = c.index-decisions-decisions.result in
     let at = read_item decisions (length decisions - 1) decision (last_within c.args.model.now decisions c.requires.admissible) c.index-decisions-decisions.is in
-    (but_last decisions, follows c.args.model.now decisions c.requires.admissible decision at c.args.store.now c.is_sound.ensures c.requires.least c.requires.settled)
+    (but_last decisions, follows c.args.model.now decisions c.requires.admissible decision at c.args.store.now c.is_sound.ensures c.requires.least c.requires.settled c.requires.lawful)
 
 pub resources_fit_since-requires-clause-rest : goal.resources_fit_since-requires-clause-rest
 resources_fit_since-requires-clause-rest c =
     let decisions = c.args.decisions.now in
     let decision = c.index-decisions-decisions.result in
     let at = read_item decisions (length decisions - 1) decision (last_within c.args.model.now decisions c.requires.admissible) c.index-decisions-decisions.is in
-    (rests_for_all c.args.model.now decisions c.requires.admissible decision at c.args.store.now c.is_sound.ensures c.requires.least c.requires.settled c.advance.new.store c.in-Ok.ensures.advances).0
+    (rests_for_all c.args.model.now decisions c.requires.admissible decision at c.args.store.now c.is_sound.ensures c.requires.least c.requires.settled c.requires.lawful c.advance.new.store c.in-Ok.ensures.advances).0
 
 pub resources_fit_since-requires-clause-fitted : goal.resources_fit_since-requires-clause-fitted
 resources_fit_since-requires-clause-fitted c =
@@ -47,7 +47,7 @@ returns-in-Ok-clause-taken c =
     let decisions = c.args.decisions.now in
     let decision = c.index-decisions-decisions.result in
     let at = read_item decisions (length decisions - 1) decision (last_within model decisions c.requires.admissible) c.index-decisions-decisions.is in
-    let rest = rests_for_all model decisions c.requires.admissible decision at c.args.store.now c.is_sound.ensures c.requires.least c.requires.settled c.advance.new.store c.in-Ok.ensures.advances in
+    let rest = rests_for_all model decisions c.requires.admissible decision at c.args.store.now c.is_sound.ensures c.requires.least c.requires.settled c.requires.lawful c.advance.new.store c.in-Ok.ensures.advances in
     IfOk-weaker c.resources_fit_since.result
     (λ fit. MatchBool fit (IsLeast model decisions (seen_state c.advance.new.store)) (IsCollapsed model decisions))
     (λ fit. LeavesLeast model decisions fit c.advance.new.store)
@@ -59,7 +59,7 @@ returns-in-Err-Collapsed-clause-taken c =
     let decisions = c.args.decisions.now in
     let decision = c.index-decisions-decisions.result in
     let at = read_item decisions (length decisions - 1) decision (last_within model decisions c.requires.admissible) c.index-decisions-decisions.is in
-    nothing_for_all model decisions c.requires.admissible decision at c.args.store.now c.is_sound.ensures c.requires.least c.requires.settled c.advance.new.store
+    nothing_for_all model decisions c.requires.admissible decision at c.args.store.now c.is_sound.ensures c.requires.least c.requires.settled c.requires.lawful c.advance.new.store
     (subst (λ (fault : NetFault). AdvancesBy model decision c.args.store.now (Err fault) c.advance.new.store) c.in-Err-Collapsed.field-0-is c.in-Err-Collapsed.ensures.advances)
 
 pub advance-requires-clause-marked : goal.advance-requires-clause-marked

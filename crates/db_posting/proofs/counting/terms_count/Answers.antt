@@ -13,6 +13,10 @@ loop-term-preserved c = λ decisions states.
     let counts = (c.if-not-term_counts.ensures decisions states).0 refl in
     all_more (TermCounts c.args.model.now (IsTaken decisions) context) c.args.terms.now c.loop-term.term-index _ c.loop-term-test.true (c.loop-term.invariant decisions states) counts
 
+pub returns-then-not-term_counts : goal.returns-then-not-term_counts
+returns-then-not-term_counts c = λ decisions states.
+    (λ yes. absurd (cc), λ all. (c.if-not-term_counts.ensures decisions states).1 (all c.loop-term.term-index _ c.loop-term-test.true))
+
 pub returns : goal.returns
 returns c = λ decisions states.
     let context = origin_context (content_now c.args.store.now).tokens c.args.origin in

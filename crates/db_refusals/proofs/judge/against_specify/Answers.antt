@@ -17,7 +17,7 @@ returns-then-not-has_variable c =
 pub returns-then-is_specified : goal.returns-then-is_specified
 returns-then-is_specified c =
     decided_first c.args.model.now c.args.decisions.now (shown (named_content (snapshot_of c.args.store.now))) (Specify c.args.name.now c.args.value)
-    c.if-not-has_variable.ensures c.if-is_specified.ensures
+    c.if-not-has_variable.ensures (λ h. h) c.if-is_specified.ensures
 
 pub returns-then-not-is_declared : goal.returns-then-not-is_declared
 returns-then-not-is_declared c =

@@ -36,3 +36,11 @@ pub returns-in-Order : goal.returns-in-Order
 returns-in-Order c =
     subst (λ (decision : Decision). IsFirstReason c.args.model.now c.args.decisions.now (shown (named_content (snapshot_of c.args.store.now))) decision c.against_order.result) (sym c.in-Order.is)
     (c.against_order.ensures c.args.model.now (rest_told c.args.model.now c.args.decisions.now c.args.store.now.net.tables (snapshot_of c.args.store.now) (c.settled_lists_decide_once.ensures c.args.model.now c.args.decisions.now c.requires.settled) c.requires.rest))
+
+pub against_constrain-requires-clause-told : goal.against_constrain-requires-clause-told
+against_constrain-requires-clause-told c =
+    rest_told c.args.model.now c.args.decisions.now c.args.store.now.net.tables (snapshot_of c.args.store.now) (c.settled_lists_decide_once.ensures c.args.model.now c.args.decisions.now c.requires.settled) c.requires.rest
+
+pub against_relate-requires-clause-told : goal.against_relate-requires-clause-told
+against_relate-requires-clause-told c =
+    rest_told c.args.model.now c.args.decisions.now c.args.store.now.net.tables (snapshot_of c.args.store.now) (c.settled_lists_decide_once.ensures c.args.model.now c.args.decisions.now c.requires.settled) c.requires.rest

@@ -1,4 +1,4 @@
-use Rattle.std.proofs.Common.{◌≡◌, ◌++◌, ◌∷◌, [], ap, sym, ◌∙◌, subst, length, arith}
+use Rattle.std.proofs.Common.{ap, sym, ◌∙◌, subst, length, arith}
 use Rattle.std.proofs.lemmas.List.Edits.{length-insert}
 use Rattle.decision_log.specs.Kept.{put_back, HavePlaces}
 use Rattle.decision_log.proofs.Places.{places_left, put_back-last}

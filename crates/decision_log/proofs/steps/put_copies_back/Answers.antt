@@ -1,4 +1,4 @@
-use Rattle.std.proofs.Common.{◌≡◌, ◌++◌, ◌∷◌, [], ap, sym, ◌∙◌, subst, insert, length, arith}
+use Rattle.std.proofs.Common.{◌≡◌, ap, sym, ◌∙◌, subst, insert, arith}
 use Rattle.decision_log.specs.Kept.{put_back, HavePlaces}
 use Rattle.decision_log.proofs.Places.{places_left, put_back-last}
 use Rattle.decision_log.proofs.steps.put_copies_back.Goals as goal

@@ -1,6 +1,6 @@
-use Rattle.std.proofs.Common.{◌≡◌, ◌+◌, ◌-◌, ◌<◌, ◌≤◌, false, true, not, count_by, drop, length, refl, ap, sym, ◌∙◌, subst, arith}
-use Rattle.decision_log.proofs.Places.{cut_at, IsCut}
-use Rattle.decision_log.proofs.Taking.{IsTaking, taking_none, taking_kept, taking_out, less_left}
+use Rattle.std.proofs.Common.{◌≡◌, ◌+◌, ◌-◌, ◌<◌, false, not, count_by, drop, length, ap, sym, ◌∙◌, subst, arith}
+use Rattle.decision_log.proofs.Places.{cut_at}
+use Rattle.decision_log.proofs.Taking.{IsTaking, taking_kept, taking_out, less_left}
 use Rattle.decision_log.proofs.steps.take_unflagged.Goals as goal
 
 pub loop-place-preserved-then-keep-place : goal.loop-place-preserved-then-keep-place

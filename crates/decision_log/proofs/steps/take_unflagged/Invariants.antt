@@ -1,4 +1,4 @@
-use Rattle.std.proofs.Common.{◌≡◌, ◌+◌, ◌≤◌, drop, count_by, not, length, vec_capacity}
+use Rattle.std.proofs.Common.{◌≡◌, ◌≤◌, count_by, not, vec_capacity}
 use Rattle.decision_log.proofs.Taking.{IsTaking}
 use Rattle.decision_log.proofs.steps.take_unflagged.Given as goal
 

@@ -1,4 +1,4 @@
-use Rattle.std.proofs.Common.{◌≡◌, ◌-◌, ◌++◌, ◌∷◌, [], Some, Ok, IfOk, slice_get, length, take, sym, ap, ◌∙◌, subst, arith}
+use Rattle.std.proofs.Common.{◌≡◌, ◌-◌, Some, slice_get, length, take, sym, ap, ◌∙◌}
 use Rattle.decision_log.specs.declared.steps.Step.TheVariants.{Push, Take}
 use Rattle.decision_log.specs.Kept.{put_back}
 use Rattle.decision_log.proofs.Lists.{ends_with, led_by, former_by, copies_former, ok_along}

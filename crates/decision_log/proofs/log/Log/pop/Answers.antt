@@ -1,4 +1,4 @@
-use Rattle.std.proofs.Common.{◌≡◌, ◌<◌, ◌+◌, ◌++◌, ◌∷◌, [], None, length, refl, sym, ap, ◌∙◌, subst, reverse, arith}
+use Rattle.std.proofs.Common.{◌≡◌, ◌+◌, ◌++◌, ◌∷◌, [], None, length, sym, ap, ◌∙◌, reverse, arith}
 use Rattle.decision_log.specs.declared.steps.Step.TheVariants.{Push, Take}
 use Rattle.decision_log.specs.Kept.{list_before, lists_of, put_back}
 use Rattle.decision_log.proofs.Lists.{led_by, pops_to, popped, not_pushed, lists_on}

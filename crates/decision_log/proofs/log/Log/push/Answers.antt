@@ -1,4 +1,4 @@
-use Rattle.std.proofs.Common.{◌≡◌, ◌++◌, ◌∷◌, [], ap, sym, length, arith}
+use Rattle.std.proofs.Common.{ap, length, arith}
 use Rattle.decision_log.proofs.Lists.{more_room, pushed_steps, pushed_lists}
 use Rattle.decision_log.proofs.log.Log.push.Goals as goal
 

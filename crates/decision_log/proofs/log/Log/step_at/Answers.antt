@@ -1,6 +1,5 @@
-use Rattle.std.proofs.Common.{◌≡◌, ◌+◌, ◌-◌, ◌<◌, ◌≤◌, length, reverse, refl, sym, ap, ◌∙◌, subst, arith, slice_index_or}
+use Rattle.std.proofs.Common.{◌≡◌, ◌-◌, ◌<◌, length, reverse, sym, ap, ◌∙◌, subst, arith, slice_index_or}
 use Rattle.std.proofs.lemmas.List.{length-reverse}
-use Rattle.decision_log.specs.declared.steps.Step.TheVariants.{Push, Take}
 use Rattle.decision_log.specs.Kept.{lists_of}
 use Rattle.decision_log.proofs.Places.{cut_at}
 use Rattle.decision_log.proofs.Lists.{length-lists_of}

@@ -1,9 +1,9 @@
-use Rattle.std.proofs.Common.{◌≡◌, ◌≤◌, ◌<◌, ◌++◌, ◌∷◌, [], not, false, count_by, length, ap, sym, ◌∙◌, reverse, arith}
+use Rattle.std.proofs.Common.{◌≡◌, ◌∷◌, length, ap, sym, ◌∙◌, reverse}
 use Rattle.model_core.specs.History.{standing}
 use Rattle.decision_log.specs.declared.steps.Step.TheVariants.{Take}
 use Rattle.decision_log.specs.Kept.{lists_of}
 use Rattle.decision_log.specs.Taking.{kept_of}
-use Rattle.decision_log.proofs.Lists.{standing-lists_of, taken_lists, taken_steps, room_for}
+use Rattle.decision_log.proofs.Lists.{standing-lists_of, taken_lists}
 use Rattle.decision_log.proofs.log.Log.take_out.Goals as goal
 
 pub take_unflagged-taken-requires-clause-flags : goal.take_unflagged-taken-requires-clause-flags
