@@ -23,7 +23,7 @@ use Rattle.token_store.specs.Tokens.{TokenPast, tokens_now, token_names, IsNamed
 use Rattle.db_edges.specs.declared.edge.NamedEdge.{NamedEdge}
 use Rattle.db_edges.specs.declared.walking.Sort.TheVariants.{Relations, Constraints}
 use Rattle.db_edges.specs.Adding.{AddsEdges, HaveDurations}
-use Rattle.db_edges.specs.Edges.{AppendsEach, HasLastingEdges, HasTimesGiven, HasConstraintEdges, HasOrderEdges}
+use Rattle.db_edges.specs.Edges.{AppendsEach, HasLastingEdges, HasTimesGiven, HasConstraintEdges, HasOrderEdges, HasPostedEdges}
 use Rattle.db_edges.specs.Whole.{AreTimeEdges, HasTokenEdges}
 
 -- each token has a duration in a state
@@ -46,23 +46,25 @@ seen_somewhere stored token past is same seen =
     let at = get_from_contains (token_names (tokens_now stored.past)) token there in
     (at.0, subst (λ (p : TokenPast). IsNamedAt (tokens_now p) at.0 token) (sym same) at.1)
 
-module _ (model : Model) (decisions : List Decision) (state : State) (old one two three four five six : List NamedEdge) where
+module _ (model : Model) (decisions : List Decision) (state : State) (old one two three four five six seven : List NamedEdge) where
   pub all_joined : AddsEdges (AppendsEach (HasLastingEdges model state decisions) state.tokens) old one
       → AddsEdges (AppendsEach (HasTimesGiven model decisions) state.tokens) one two
       → AddsEdges (AppendsEach (HasTokenEdges Relations model decisions state) state.tokens) two three
       → AddsEdges (AppendsEach (HasConstraintEdges model decisions InProblem) model.problem.items) three four
       → AddsEdges (AppendsEach (HasTokenEdges Constraints model decisions state) state.tokens) four five
       → AddsEdges (AppendsEach HasOrderEdges decisions) five six
-      → AddsEdges (AreTimeEdges model decisions state) old six
-  all_joined (a, is_a, at_a) (b, is_b, at_b) (c, is_c, at_c) (d, is_d, at_d) (e, is_e, at_e) (f, is_f, at_f) =
-      let all : six ≡ old ++ (a ++ (b ++ (c ++ (d ++ (e ++ f))))) =
-      at_f
-      ∙ (ap (λ x. x ++ f) at_e ∙ append_assoc four e f)
-      ∙ (ap (λ x. x ++ (e ++ f)) at_d ∙ append_assoc three d (e ++ f))
-      ∙ (ap (λ x. x ++ (d ++ (e ++ f))) at_c ∙ append_assoc two c (d ++ (e ++ f)))
-      ∙ (ap (λ x. x ++ (c ++ (d ++ (e ++ f)))) at_b ∙ append_assoc one b (c ++ (d ++ (e ++ f))))
-      ∙ (ap (λ x. x ++ (b ++ (c ++ (d ++ (e ++ f))))) at_a ∙ append_assoc old a (b ++ (c ++ (d ++ (e ++ f))))) in (
-        a ++ (b ++ (c ++ (d ++ (e ++ f)))),
+      → AddsEdges (AppendsEach (HasPostedEdges model decisions) decisions) six seven
+      → AddsEdges (AreTimeEdges model decisions state) old seven
+  all_joined (a, is_a, at_a) (b, is_b, at_b) (c, is_c, at_c) (d, is_d, at_d) (e, is_e, at_e) (f, is_f, at_f) (g, is_g, at_g) =
+      let all : seven ≡ old ++ (a ++ (b ++ (c ++ (d ++ (e ++ (f ++ g)))))) =
+      at_g
+      ∙ (ap (λ x. x ++ g) at_f ∙ append_assoc five f g)
+      ∙ (ap (λ x. x ++ (f ++ g)) at_e ∙ append_assoc four e (f ++ g))
+      ∙ (ap (λ x. x ++ (e ++ (f ++ g))) at_d ∙ append_assoc three d (e ++ (f ++ g)))
+      ∙ (ap (λ x. x ++ (d ++ (e ++ (f ++ g)))) at_c ∙ append_assoc two c (d ++ (e ++ (f ++ g))))
+      ∙ (ap (λ x. x ++ (c ++ (d ++ (e ++ (f ++ g))))) at_b ∙ append_assoc one b (c ++ (d ++ (e ++ (f ++ g)))))
+      ∙ (ap (λ x. x ++ (b ++ (c ++ (d ++ (e ++ (f ++ g)))))) at_a ∙ append_assoc old a (b ++ (c ++ (d ++ (e ++ (f ++ g)))))) in (
+        a ++ (b ++ (c ++ (d ++ (e ++ (f ++ g))))),
         record {
           lasting = a;
           given = b;
@@ -70,12 +72,14 @@ module _ (model : Model) (decisions : List Decision) (state : State) (old one tw
           problem = d;
           constrained = e;
           ordered = f;
+          posted = g;
           lasting_are = is_a;
           given_are = is_b;
           related_are = is_c;
           problem_are = is_d;
           constrained_are = is_e;
           ordered_are = is_f;
+          posted_are = is_g;
           all = refl;
         },
         all,

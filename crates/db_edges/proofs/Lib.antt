@@ -4,4 +4,5 @@ pub mod Pointing
 pub mod Falling
 pub mod Going
 pub mod Joining
+pub mod Posted
 pub mod Settled

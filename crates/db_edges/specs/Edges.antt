@@ -7,7 +7,7 @@ use Rattle.eu_name.specs.declared.name.Part.TheVariants as part
 use Rattle.eu_name.specs.declared.name.TokenName.{TokenName}
 use Rattle.eu_name.specs.declared.name.VarName.TheVariants.{Token}
 use Rattle.model_core.specs.declared.decision.Decision.{Decision}
-use Rattle.model_core.specs.declared.decision.Decision.TheVariants.{Specify, Order}
+use Rattle.model_core.specs.declared.decision.Decision.TheVariants.{Specify, Order, Constrain, Relate}
 use Rattle.model_core.specs.declared.item.Item.{Item}
 use Rattle.model_core.specs.declared.item.Item.TheVariants.{Constraint, Relation}
 use Rattle.domain_core.specs.declared.kind.Kind.{Kind}
@@ -17,7 +17,7 @@ use Rattle.model_core.specs.declared.model.Problem.{Problem}
 use Rattle.model_core.specs.Decided.{IsActive, IsTaken}
 use Rattle.model_core.specs.State.{State, Gives}
 use Rattle.model_core.specs.Tokens.{slot_token}
-use Rattle.plan_defs.specs.Claims.{Claim, ItemSays, relates}
+use Rattle.plan_defs.specs.Claims.{Claim, ItemSays, relates, posted_claim}
 use Rattle.plan_defs.specs.Terms.{Context, Argument}
 use Rattle.db_edges.specs.declared.edge.NamedEdge.{NamedEdge}
 use Rattle.db_edges.specs.declared.edge.Point.{Point}
@@ -122,3 +122,10 @@ HasConstraintEdges model decisions context (Relation rel slot) edges = edges ≡
 abbrev pub HasOrderEdges : Decision → List NamedEdge → Type 0
 HasOrderEdges (Order one other) edges = edges ≡ edge_from (End one) (pos 0) (Start other) ∷ []
 HasOrderEdges decision edges = edges ≡ []
+
+-- the edges of a decision that posts something: a constraint, or all that a relation says; what is said of points counts
+abbrev pub HasPostedEdges : Model → List Decision → Decision → List NamedEdge → Type 0
+HasPostedEdges model decisions (Constrain kind arguments) edges = HasClaimEdges model decisions (posted_claim kind arguments) edges
+HasPostedEdges model decisions (Relate relation one other) edges =
+    AppendsEach (HasClaimEdges model decisions) (relates relation one other) edges
+HasPostedEdges model decisions decision edges = edges ≡ []

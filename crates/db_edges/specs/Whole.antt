@@ -13,6 +13,7 @@ use Rattle.db_edges.specs.declared.edge.NamedEdge.{NamedEdge}
 use Rattle.db_edges.specs.declared.walking.Sort.{Sort}
 use Rattle.db_edges.specs.declared.walking.Sort.TheVariants.{Relations, Constraints}
 use Rattle.db_edges.specs.Edges.{AppendsEach, HasLastingEdges, HasTimesGiven, HasRelationEdges, HasConstraintEdges, HasOrderEdges}
+use Rattle.db_edges.specs.Edges.{HasPostedEdges}
 
 -- an item of a token: the number of the rule, and where the item stands in it
 pub record TokenItem : Type 0 where
@@ -52,7 +53,8 @@ HasTokenEdges sort model decisions state token edges =
     × AppendsEach (HasOpenEdges sort model decisions state token) (items_of_rules 0 rules) edges
 
 -- all time edges of the decisions, read from the state that all but the last of them leave: those of each token by itself, of
--- the times that are given, of relations in open blocks, of constraints of the problem and in open blocks, and of orders
+-- the times that are given, of relations in open blocks, of constraints of the problem and in open blocks, of orders, and of what
+-- is posted
 pub record AreTimeEdges (model : Model) (decisions : List Decision) (state : State) (edges : List NamedEdge) : Type 0 where
   pub lasting : List NamedEdge
   pub given : List NamedEdge
@@ -60,10 +62,12 @@ pub record AreTimeEdges (model : Model) (decisions : List Decision) (state : Sta
   pub problem : List NamedEdge
   pub constrained : List NamedEdge
   pub ordered : List NamedEdge
+  pub posted : List NamedEdge
   pub lasting_are : AppendsEach (HasLastingEdges model state decisions) state.tokens lasting
   pub given_are : AppendsEach (HasTimesGiven model decisions) state.tokens given
   pub related_are : AppendsEach (HasTokenEdges Relations model decisions state) state.tokens related
   pub problem_are : AppendsEach (HasConstraintEdges model decisions InProblem) model.problem.items problem
   pub constrained_are : AppendsEach (HasTokenEdges Constraints model decisions state) state.tokens constrained
   pub ordered_are : AppendsEach HasOrderEdges decisions ordered
-  pub all : edges ≡ lasting ++ (given ++ (related ++ (problem ++ (constrained ++ ordered))))
+  pub posted_are : AppendsEach (HasPostedEdges model decisions) decisions posted
+  pub all : edges ≡ lasting ++ (given ++ (related ++ (problem ++ (constrained ++ (ordered ++ posted)))))

@@ -102,8 +102,8 @@ fn push_between(
     push_if_both(kind, from, to, edges)
 }
 
-// The edges of two points that are compared, where both are there.
-fn push_if_both(
+/// The edges of two points that are compared, where both are there.
+pub fn push_if_both(
     kind: Kind,
     from: Option<Point>,
     to: Option<Point>,
@@ -189,6 +189,21 @@ fn push_comparisons(
     Ok(())
 }
 
+/// The edges of a relation between the two tokens.
+pub fn push_relation(
+    at: Listed<'_>,
+    rel: Rel,
+    one: &TokenName,
+    other: &TokenName,
+    edges: &mut Vec<NamedEdge>,
+) -> Result<(), AllocError>
+    ensures { OnOk result (AddsEdges
+        (AppendsEach (HasClaimEdges at.entry.model.now at.entry.decisions.now) (relates rel one.now other.now))
+        edges.old.items edges.new.items) }
+{
+    push_comparisons(at, one, other, comparisons(rel), edges)
+}
+
 // The edges of a relation between the token and that of a slot of its rule.
 fn relation_edges(
     at: Listed<'_>,
@@ -203,7 +218,7 @@ fn relation_edges(
         edges.old.items edges.new.items) }
 {
     let other = slot_name(token, rule, slot)?;
-    push_comparisons(at, token, &other, comparisons(rel), edges)
+    push_relation(at, rel, token, &other, edges)
 }
 
 // The part of a token that the term means in a rule.

@@ -9,10 +9,12 @@ pub mod edge;
 mod gathering;
 mod lasting;
 mod points;
+mod posting;
 mod walking;
 mod whole;
 
 pub use comparing::{Listed, Site, constrained, related};
 pub use edge::{NamedEdge, Point};
 pub use gathering::{orders_hold, problem_constrains, times_are_given, tokens_last};
+pub use posting::postings_hold;
 pub use whole::time_edges;

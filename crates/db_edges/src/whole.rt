@@ -15,6 +15,7 @@ ghost use Rattle.db_edges.specs.Whole.{AreTimeEdges, HasTokenEdges};
 use super::comparing::Listed;
 use super::edge::NamedEdge;
 use super::gathering::{orders_hold, problem_constrains, times_are_given, tokens_last};
+use super::posting::postings_hold;
 use super::walking::{Sort, Walk, edges_of_token};
 use db_refusals::StoreView;
 use db_store::Store;
@@ -112,7 +113,8 @@ fn all_hold(
         Sort::Constraints,
         edges,
     )?;
-    orders_hold(decisions, edges)
+    orders_hold(decisions, edges)?;
+    postings_hold(listed, edges)
 }
 
 // The edges, behind what gathering them answered.

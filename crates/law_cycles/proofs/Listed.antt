@@ -18,7 +18,7 @@ use Rattle.model_core.specs.Decided.{IsActive}
 use Rattle.model_core.specs.Lawful.{IsLawful}
 use Rattle.model_core.specs.State.{State, IsState}
 use Rattle.model_core.specs.Tokens.{HasToken, slot_token}
-use Rattle.plan_defs.specs.Claims.{Claim, relates}
+use Rattle.plan_defs.specs.Claims.{Claim, relates, posted_claim}
 use Rattle.plan_defs.specs.Terms.{Context, InProblem, InRule}
 use Rattle.law_states.specs.Undeniable.{Undeniable}
 use Rattle.law_states.proofs.Denying.{is_or_not}
@@ -28,7 +28,7 @@ use Rattle.db_edges.specs.declared.edge.Point.TheVariants.{Origin, Start, End}
 use Rattle.db_edges.specs.declared.walking.Sort.{Sort}
 use Rattle.db_edges.specs.declared.walking.Sort.TheVariants.{Relations, Constraints}
 use Rattle.db_edges.specs.Edges.{AppendsEach, IsLastOf, LastsBetween, HasLastingEdges, lasting_edges, IsGivenPoint, HasGivenEdges, HasTimesGiven}
-use Rattle.db_edges.specs.Edges.{edge_from, comparing_edges, ComparesPoints, HasClaimEdges, HasRelationEdges, SaysOfPoints, HasConstraintEdges, HasOrderEdges}
+use Rattle.db_edges.specs.Edges.{edge_from, comparing_edges, ComparesPoints, HasClaimEdges, HasRelationEdges, SaysOfPoints, HasConstraintEdges, HasOrderEdges, HasPostedEdges}
 use Rattle.db_edges.specs.Whole.{TokenItem, items_of_rules, IsItemOpen, HasSortEdges, HasOpenEdges, HasTokenEdges, AreTimeEdges}
 use Rattle.db_edges.proofs.Going.{has_rules}
 use Rattle.db_edges.proofs.Joining.{have_durations}
@@ -75,6 +75,18 @@ module _ (model : Model) (decisions : List Decision) where
   order_has (decision.Activate token) = ([], refl)
   order_has (decision.Merge token target) = ([], refl)
   order_has (decision.Reject token) = ([], refl)
+  order_has (decision.Constrain kind arguments) = ([], refl)
+  order_has (decision.Relate relation one other) = ([], refl)
+
+  posted_has : (each : Decision) → Undeniable ((edges : List NamedEdge) × HasPostedEdges model decisions each edges)
+  posted_has (decision.Constrain kind arguments) none = claim_has (posted_claim kind arguments) none
+  posted_has (decision.Relate relation one other) none =
+      each_appends (HasClaimEdges model decisions) (relates relation one other) (λ claim there. claim_has claim) none
+  posted_has (decision.Specify name value) none = none ([], refl)
+  posted_has (decision.Activate token) none = none ([], refl)
+  posted_has (decision.Merge token target) none = none ([], refl)
+  posted_has (decision.Reject token) none = none ([], refl)
+  posted_has (decision.Order one other) none = none ([], refl)
 
   given_has : (token : TokenName) (which : Part) → Undeniable ((edges : List NamedEdge) × HasGivenEdges model decisions token which edges)
   given_has token which none = is_or_not ((value : ℤ) × (point : Point) × IsGivenPoint model decisions token which value point) (λ told. elim told [
@@ -127,8 +139,9 @@ module _ (model : Model) (decisions : List Decision) where
         each_appends (HasConstraintEdges model decisions InProblem) model.problem.items (λ item there. constraint_has InProblem item) (λ problem.
         each_appends (HasTokenEdges Constraints model decisions state) state.tokens (token_has Constraints) (λ constrained.
         each_appends HasOrderEdges decisions (λ each there some. some (order_has each)) (λ ordered.
+        each_appends (HasPostedEdges model decisions) decisions (λ each there. posted_has each) (λ posted.
         none (
-          lasting.0 ++ (given.0 ++ (related.0 ++ (problem.0 ++ (constrained.0 ++ ordered.0)))),
+          lasting.0 ++ (given.0 ++ (related.0 ++ (problem.0 ++ (constrained.0 ++ (ordered.0 ++ posted.0))))),
           record {
             lasting = lasting.0;
             given = given.0;
@@ -136,12 +149,14 @@ module _ (model : Model) (decisions : List Decision) where
             problem = problem.0;
             constrained = constrained.0;
             ordered = ordered.0;
+            posted = posted.0;
             lasting_are = lasting.1;
             given_are = given.1;
             related_are = related.1;
             problem_are = problem.1;
             constrained_are = constrained.1;
             ordered_are = ordered.1;
+            posted_are = posted.1;
             all = refl;
           },
-        )))))))
+        ))))))))

@@ -25,6 +25,7 @@ pub only_memory : (old new : Held) (decision : Decision) (why : DbFault) → Ans
 only_memory old new decision fault.Behind answers ready may = absurd (true_false (sym answers.before ∙ ready))
 only_memory old new decision fault.InInconsistent answers ready may = absurd (least_not_collapsed old.database.model (standing old.database.history) may.state may.least answers.1.1)
 only_memory old new decision fault.Unknown answers ready may = absurd (not_refused old.database.model (standing old.database.history) decision _ may answers.1.1)
+only_memory old new decision fault.WrongType answers ready may = absurd (not_refused old.database.model (standing old.database.history) decision _ may answers.1.1)
 only_memory old new decision fault.Decided answers ready may = absurd (not_refused old.database.model (standing old.database.history) decision _ may answers.1.1)
 only_memory old new decision fault.NotInDomain answers ready may = absurd (not_refused old.database.model (standing old.database.history) decision _ may answers.1.1)
 only_memory old new decision fault.NotActive answers ready may = absurd (not_refused old.database.model (standing old.database.history) decision _ may answers.1.1)

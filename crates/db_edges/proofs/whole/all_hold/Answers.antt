@@ -32,7 +32,7 @@ returns c =
     c.requires.same c.in_ok-tokens_last.ensures in
     let given = subst (λ (stored : Stored). AddsEdges (AppendsEach (HasTimesGiven model decisions) (seen_state stored).tokens) one two) c.requires.same c.in_ok-times_are_given.ensures in
     let problem = subst (λ (items : List Item). AddsEdges (AppendsEach (HasConstraintEdges model decisions InProblem) items) three four) c.as_slice.ensures c.in_ok-problem_constrains.ensures in
-    on_ok_weaker c.orders_hold.result
+    on_ok_weaker c.postings_hold.result
     (all_joined model decisions state c.args.edges.now.items one two three four c.blocks_hold-2.new.edges.items c.orders_hold.new.edges.items
-    lasting given c.in_ok-blocks_hold.ensures problem c.in_ok-blocks_hold-2.ensures)
-    c.orders_hold.ensures
+    c.postings_hold.new.edges.items lasting given c.in_ok-blocks_hold.ensures problem c.in_ok-blocks_hold-2.ensures c.in_ok-orders_hold.ensures)
+    c.postings_hold.ensures
